@@ -1,0 +1,22 @@
+//! What a program may ask while it runs.
+
+use crate::maps::MapOp;
+
+/// A helper whose answer comes from outside.
+#[derive(Clone, Copy, Debug, PartialEq, Eq)]
+pub enum Helper {
+    /// Helper 2: the shard's clock, any number below 2^64.
+    Now,
+    /// Helper 3: how many stations are associated, 0 to 2007.
+    Stations,
+    /// Helper 4: a number below 2^64 from a sequence.
+    Draw,
+}
+
+/// One ask: an access to a word of a map, or a helper's answer.
+#[derive(Clone, Copy, Debug, PartialEq, Eq)]
+pub enum Ask {
+    /// `word` is the entry's index times the words of an entry, plus the word's place in the entry.
+    Access { map: u32, word: u32, op: MapOp },
+    Help(Helper),
+}

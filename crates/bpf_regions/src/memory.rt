@@ -1,0 +1,33 @@
+//! Values, and the regions of memory that pointers lead into.
+
+/// A piece of memory that a pointer may lead into.
+#[derive(Clone, Copy, Debug, PartialEq, Eq)]
+pub enum Region {
+    /// The received frame, read-only.
+    Frame,
+    /// The hook's context of 32 bytes, read-only.
+    Context,
+    /// The 512 bytes of a live stack frame; the main function's is number 0.
+    Stack(u8),
+    /// The value at an index of a map.
+    Entry { map: u32, index: u32 },
+}
+
+/// What a register or a spilled stack slot holds.
+#[derive(Clone, Copy, Debug, PartialEq, Eq)]
+pub enum Value {
+    Unset,
+    Number(u64),
+    /// An offset from the start of a region, mod 2^64.
+    Pointer { region: Region, offset: u64 },
+    /// The end of the received frame.
+    FrameEnd,
+    /// The map of that number.
+    MapReference(u32),
+}
+
+impl Default for Value {
+    fn default() -> Self {
+        Value::Unset
+    }
+}
