@@ -1,0 +1,76 @@
+-- What a contract sees of an agreement, and how that stands to its window and its scoreboard over whole numbers.
+use Rattle.std.specs.Prelude.{◌≡◌, ℕ, ◌+◌, ◌-◌, ◌%◌, ◌<◌, ◌↔◌, IsTrue, nat_lt, cond, Option, None, List, Bool, slice_index_or}
+use Rattle.blockack.specs.Window.{Items, Window, Brings, DataStep, RequestStep, EndStep}
+use Rattle.blockack.specs.Passed.{PassesUp}
+use Rattle.blockack.specs.Scoreboard.{DataMarks, RequestMarks}
+use Rattle.blockack.specs.Ring.{ahead}
+
+-- the window's start modulo 4096, its size, what is held from its start on, and the scoreboard: its first number
+-- modulo 4096, and a bit for each number from there on
+pub record Reading (F : Type 0) : Type 0 where
+  pub start : ℕ
+  pub size : ℕ
+  pub held : List (Option (Option F))
+  pub scoreboard_start : ℕ
+  pub scoreboard_bits : ℕ
+
+module _ {F : Type 0} where
+  -- what is held i places after the window's start
+  unfoldable pub held_at : Reading F → Items F
+  held_at v i = slice_index_or v.held i None
+
+  -- the reading is one of this window
+  pub record Reads (window : Window F) (v : Reading F) : Type 0 where
+    pub residue : v.start ≡ window.start % 4096
+    pub held : (i : ℕ) → window.taken (window.start + i) ≡ held_at v i
+
+  -- one of the windows that a reading is of: the one that took just what is held
+  abbrev pub window_of : Reading F → Window F
+  window_of v = record { taken = λ k. cond (nat_lt k v.start) None (held_at v (k - v.start)); start = v.start }
+
+  -- data with this sequence number lies in the window or after it, and nothing is held for it
+  pub record IsWanted (v : Reading F) (number : ℕ) : Type 0 where
+    pub near : ahead v.start number < 2048
+    pub free : held_at v (ahead v.start number) ≡ None
+
+  -- the answer to whether data would be taken is right, of whatever window the reading is of
+  abbrev pub TellsWanted : Bool → Reading F → ℕ → Type 0
+  TellsWanted answer v number = (window : Window F) → Reads window v → (IsTrue answer ↔ ((n : ℕ) × Brings window number n))
+
+  -- what data makes of a window of this size reads as `new`, and passes up `out`
+  pub record AfterData (took : Bool) (size number : ℕ) (item : Option F) (window : Window F) (new : Reading F) (out : List (ℕ × F)) : Type 0 where
+    pub next : Window F
+    pub step : DataStep took size number item window next
+    pub reads : Reads next new
+    pub passes : PassesUp window next out
+
+  -- what a BlockAckReq makes of it reads so, and passes this up
+  pub record AfterRequest (number : ℕ) (window : Window F) (new : Reading F) (out : List (ℕ × F)) : Type 0 where
+    pub next : Window F
+    pub step : RequestStep number window next
+    pub reads : Reads next new
+    pub passes : PassesUp window next out
+
+  -- what the end makes of it passes this up
+  pub record AfterEnd (window : Window F) (out : List (ℕ × F)) : Type 0 where
+    pub next : Window F
+    pub step : EndStep window next
+    pub passes : PassesUp window next out
+
+  -- the calls, to whatever window and whatever scoreboard the reading is of
+  abbrev pub DataMovesWindow : Bool → ℕ → Option F → Reading F → Reading F → List (ℕ × F) → Type 0
+  DataMovesWindow took number item old new out = (window : Window F) → Reads window old → AfterData took old.size number item window new out
+
+  abbrev pub RequestMovesWindow : ℕ → Reading F → Reading F → List (ℕ × F) → Type 0
+  RequestMovesWindow number old new out = (window : Window F) → Reads window old → AfterRequest number window new out
+
+  abbrev pub EndPassesUp : Reading F → List (ℕ × F) → Type 0
+  EndPassesUp old out = (window : Window F) → Reads window old → AfterEnd window out
+
+  abbrev pub DataMarksScoreboard : ℕ → Reading F → Reading F → Type 0
+  DataMarksScoreboard number old new =
+      DataMarks old.size number old.scoreboard_start old.scoreboard_bits new.scoreboard_start new.scoreboard_bits
+
+  abbrev pub RequestMovesScoreboard : ℕ → Reading F → Reading F → Type 0
+  RequestMovesScoreboard number old new =
+      RequestMarks old.size number old.scoreboard_start old.scoreboard_bits new.scoreboard_start new.scoreboard_bits

@@ -1,0 +1,87 @@
+-- The scoreboard of an agreement in full-state operation, over whole numbers that never wrap (IEEE 802.11-2016, 10.24.7.3).
+use Rattle.std.specs.Prelude.{◌≡◌, ℕ, ◌+◌, ◌-◌, ◌^◌, ◌%◌, ◌<◌, ◌≤◌, ◌==◌, max, Bool, true, false, cond, ◌⊎◌}
+use Rattle.std.specs.Int.{bit_at}
+use Rattle.blockack.specs.Window.{IsUnwrapped}
+
+-- the set of the numbers that came, and the last number of the scoreboard's window
+pub record Scoreboard : Type 0 where
+  pub came : ℕ → Bool
+  pub end : ℕ
+
+-- a scoreboard that nothing came to yet, of an agreement that starts here
+abbrev pub blank : ℕ → ℕ → Scoreboard
+blank start size = record { came = λ _. false; end = start + size - 1 }
+
+-- the first number of the scoreboard's window
+abbrev pub first_number : ℕ → Scoreboard → ℕ
+first_number size board = board.end + 1 - size
+
+-- the set with n
+abbrev pub with_number : (ℕ → Bool) → ℕ → ℕ → Bool
+with_number came n k = cond (k == n) true (came k)
+
+-- bit i of `bits` says whether the number i places after the first one came, and `start` is the first one modulo 4096
+pub record ReadsScoreboard (board : Scoreboard) (size start bits : ℕ) : Type 0 where
+  pub begins : size ≤ board.end + 1
+  pub residue : start ≡ first_number size board % 4096
+  pub numbers : (i : ℕ) → board.came (first_number size board + i) ≡ (bit_at bits i == 1)
+
+-- data in the scoreboard's window or after it: its number came, and the window ends at it if it lay after the end
+pub record Marks (size number : ℕ) (old new : Scoreboard) : Type 0 where
+  pub n : ℕ
+  pub is : IsUnwrapped (first_number size old) number n
+  pub from_start : first_number size old ≤ n
+  pub gains : new.came ≡ with_number old.came n
+  pub ends : new.end ≡ max old.end n
+
+-- data before it
+pub record Ignores (size number : ℕ) (old new : Scoreboard) : Type 0 where
+  pub other : (n : ℕ) → IsUnwrapped (first_number size old) number n → first_number size old ≤ n → ⊥
+  pub stays : new ≡ old
+
+-- a request beyond the first number makes its number the first one
+pub record Begins (size number : ℕ) (old new : Scoreboard) : Type 0 where
+  pub n : ℕ
+  pub is : IsUnwrapped (first_number size old) number n
+  pub beyond : first_number size old < n
+  pub same : new.came ≡ old.came
+  pub ends : new.end + 1 ≡ n + size
+
+-- a request that isn't beyond it
+pub record Keeps (size number : ℕ) (old new : Scoreboard) : Type 0 where
+  pub other : (n : ℕ) → IsUnwrapped (first_number size old) number n → first_number size old < n → ⊥
+  pub stays : new ≡ old
+
+-- the step that data is to a scoreboard of this size
+abbrev pub DataMark : ℕ → ℕ → Scoreboard → Scoreboard → Type 0
+DataMark size number old new = Marks size number old new ⊎ Ignores size number old new
+
+-- the step that a BlockAckReq is to it
+abbrev pub RequestMark : ℕ → ℕ → Scoreboard → Scoreboard → Type 0
+RequestMark size number old new = Begins size number old new ⊎ Keeps size number old new
+
+-- what data makes of a scoreboard that reads so reads as `start` and `bits`
+pub record AfterDataMark (size number : ℕ) (old : Scoreboard) (start bits : ℕ) : Type 0 where
+  pub next : Scoreboard
+  pub step : DataMark size number old next
+  pub reads : ReadsScoreboard next size start bits
+
+-- what a BlockAckReq makes of it reads so
+pub record AfterRequestMark (size number : ℕ) (old : Scoreboard) (start bits : ℕ) : Type 0 where
+  pub next : Scoreboard
+  pub step : RequestMark size number old next
+  pub reads : ReadsScoreboard next size start bits
+
+-- the calls, to whatever scoreboard reads as `start` and `bits`
+abbrev pub DataMarks : ℕ → ℕ → ℕ → ℕ → ℕ → ℕ → Type 0
+DataMarks size number start bits start2 bits2 =
+    (board : Scoreboard) → ReadsScoreboard board size start bits → AfterDataMark size number board start2 bits2
+
+abbrev pub RequestMarks : ℕ → ℕ → ℕ → ℕ → ℕ → ℕ → Type 0
+RequestMarks size number start bits start2 bits2 =
+    (board : Scoreboard) → ReadsScoreboard board size start bits → AfterRequestMark size number board start2 bits2
+
+-- what a bitmap keeps: no bit is set beyond the window
+pub record IsSoundBitmap (size start bits : ℕ) : Type 0 where
+  pub start_fits : start < 4096
+  pub bits_fit : bits < 2 ^ size
