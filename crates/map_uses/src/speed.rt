@@ -1,0 +1,115 @@
+//! How many accesses a second threads make. It is measured, and no test depends on it.
+
+ghost use Rattle.std.specs.Prelude.{◌≡◌, ◌*◌, ◌<◌, ◌≤◌};
+ghost use Rattle.std.specs.Thread.{IsSync};
+ghost use Rattle.bpf_regions.specs.Maps.{word_count};
+
+use bpf_regions::{MapOp, Scope, Shape, WordWidth};
+use shared_maps::{MapSeat, MapTable};
+use std::alloc::Global;
+use std::rt::Clock;
+use std::test::Fail;
+use std::thread::{Threads, join};
+use std::time::{Duration, Instant};
+
+const ACCESSES: u32 = 1_000_000;
+
+fn add_many(table: &MapTable, word: u32, mut seat: MapSeat)
+    requires own { seat.table ≡ table.now.table }
+    requires inside { word < word_count table.now.shape }
+{
+    for _ in 0..ACCESSES {
+        table.access(&mut seat, word, MapOp::Add(1));
+    }
+}
+
+fn add_by_two<R: Threads + Sync>(
+    rt: &R,
+    table: &MapTable,
+    words: (u32, u32),
+    one: MapSeat,
+    other: MapSeat,
+)
+    requires one { one.table ≡ table.now.table }
+    requires other { other.table ≡ table.now.table }
+    requires word { words.0 < word_count table.now.shape }
+    requires other_word { words.1 < word_count table.now.shape }
+{
+    join(
+        rt,
+        || add_many(table, words.0, one),
+        || add_many(table, words.1, other),
+    );
+}
+
+fn add_by_four<R: Threads + Sync>(
+    rt: &R,
+    table: &MapTable,
+    apart: u32,
+    first: (MapSeat, MapSeat),
+    second: (MapSeat, MapSeat),
+)
+    requires first { (first.0.table ≡ table.now.table) × (first.1.table ≡ table.now.table) }
+    requires second { (second.0.table ≡ table.now.table) × (second.1.table ≡ table.now.table) }
+    requires words { 3 * apart < word_count table.now.shape }
+    requires few { word_count table.now.shape ≤ 4096 }
+{
+    let (one, two) = first;
+    let (three, four) = second;
+    let near = (0, apart);
+    let far = (2 * apart, 3 * apart);
+    join(
+        rt,
+        || -> ()
+            requires { IsSync R.row × (one.table ≡ table.now.table) × (two.table ≡ table.now.table) × (near.0 < word_count table.now.shape) × (near.1 < word_count table.now.shape) }
+        { add_by_two(rt, table, near, one, two) },
+        || -> ()
+            requires { IsSync R.row × (three.table ≡ table.now.table) × (four.table ≡ table.now.table) × (far.0 < word_count table.now.shape) × (far.1 < word_count table.now.shape) }
+        { add_by_two(rt, table, far, three, four) },
+    );
+}
+
+fn rate(threads: u32, spent: Duration) -> u128 {
+    let micros = spent.as_micros().max(1);
+    u128::from(threads) * u128::from(ACCESSES) * 1_000_000 / micros
+}
+
+/// The rates of 1, 2 and 4 threads on words that lie so far apart.
+fn rates_on_words<R: Threads + Clock + Sync>(
+    rt: &R,
+    alloc: Global,
+    apart: u32,
+) -> Result<(u128, u128, u128), Fail>
+    requires near { apart ≤ 64 }
+{
+    let shape = Shape {
+        entries: 256,
+        words: 1,
+        width: WordWidth::Eight,
+        scope: Scope::Shared,
+    };
+    let mut table = MapTable::new(alloc, shape, 7)?;
+    let alone = table.seat()?;
+    let pair = (table.seat()?, table.seat()?);
+    let first = (table.seat()?, table.seat()?);
+    let second = (table.seat()?, table.seat()?);
+    let start = Instant::now(rt)?;
+    add_many(&table, 0, alone);
+    let by_one = rate(1, start.elapsed(rt)?);
+    let start = Instant::now(rt)?;
+    add_by_two(rt, &table, (0, apart), pair.0, pair.1);
+    let by_two = rate(2, start.elapsed(rt)?);
+    let start = Instant::now(rt)?;
+    add_by_four(rt, &table, apart, first, second);
+    let by_four = rate(4, start.elapsed(rt)?);
+    Ok((by_one, by_two, by_four))
+}
+
+#[test]
+fn accesses_in_a_second(rt: HostRuntime) -> Result<(), Fail> {
+    let (one, two, four) = rates_on_words(&rt, rt.alloc(), 0)?;
+    println!(rt; "on one word: {one} by 1 thread, {two} by 2, {four} by 4")?;
+    let (one, two, four) = rates_on_words(&rt, rt.alloc(), 64)?;
+    println!(rt; "on words apart: {one} by 1 thread, {two} by 2, {four} by 4")?;
+    Ok(())
+}

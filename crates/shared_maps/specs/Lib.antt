@@ -1,0 +1,5 @@
+pub mod History
+pub mod Seats
+pub mod Kept
+pub mod Tables
+pub mod Faults
