@@ -1,7 +1,7 @@
 //! The points at which the access point asks a program.
 
-ghost use Rattle.std.specs.Prelude.{◌≡◌};
-ghost use Rattle.bpf_regions.specs.Hooks.{number_of};
+ghost use Rattle.std.specs.Prelude.{◌≡◌, Some};
+ghost use Rattle.bpf_regions.specs.Hooks.{number_of, name_of};
 
 use std::fmt;
 
@@ -30,6 +30,8 @@ impl Hook {
 }
 
 impl fmt::Display for Hook {
+    ghost output = { λ hook. Some (name_of hook) };
+
     fn fmt<W: fmt::Write>(&self, f: &mut fmt::Formatter<W>) -> fmt::Result {
         f.write_str(match self {
             Hook::Association => "assoc",

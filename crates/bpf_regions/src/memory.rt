@@ -1,5 +1,8 @@
 //! Values, and the regions of memory that pointers lead into.
 
+ghost use Rattle.std.specs.Prelude.{◌≡◌};
+ghost use Rattle.bpf_regions.specs.declared.memory.Value.TheVariants.{Unset};
+
 /// A piece of memory that a pointer may lead into.
 #[derive(Clone, Copy, Debug, PartialEq, Eq)]
 pub enum Region {
@@ -27,6 +30,8 @@ pub enum Value {
 }
 
 impl Default for Value {
+    ghost is_default = { λ v. v ≡ Unset };
+
     fn default() -> Self {
         Value::Unset
     }
