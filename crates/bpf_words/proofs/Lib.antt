@@ -1,0 +1,5 @@
+pub mod Table
+pub mod Bits
+pub mod Carry
+pub mod Multiple
+pub mod Swap

@@ -1,0 +1,268 @@
+//! The machine's operations on words of 64 and of 32 bits (RFC 9669, section 4): what each gives stands in
+//! `specs/Word.antt`. A signed number is its word in two's complement. `proofs/` has lemmas on the bits of words.
+#![tactic(auto)]
+
+ghost use Rattle.std.specs.Prelude.{◌≡◌, ◌<◌, ◌≤◌, ◌^◌, ◌%◌, ◌*◌, ℕ};
+ghost use Rattle.bpf_words.specs.Word.{word_of, negated, magnitude, quotient, remainder, with_sign, signed_quotient, signed_remainder, shifted_right_signed, sign_extended, signed_place, swapped};
+
+/// A signed immediate of 32 bits, extended to 64 bits (RFC 9669, section 4.1).
+pub fn word_of_int(number: i32) -> u64
+    ensures { result ≡ word_of number }
+{
+    i64::from(number).cast_unsigned()
+}
+
+/// The low 32 bits, as ALU and JMP32 instructions take them (RFC 9669, sections 4.1 and 4.3).
+pub fn low_half(x: u64) -> u32
+    ensures { result ≡ x % 2 ^ 32 }
+{
+    (x % 0x1_0000_0000) as u32
+}
+
+/// DIV on 64 bits: the unsigned quotient, and 0 where `y` is 0 (RFC 9669, section 4.1).
+pub fn quotient_64(x: u64, y: u64) -> u64
+    ensures { result ≡ quotient x y }
+{
+    if y == 0 { 0 } else { x / y }
+}
+
+/// MOD on 64 bits: the unsigned remainder, and `x` where `y` is 0 (RFC 9669, section 4.1).
+pub fn remainder_64(x: u64, y: u64) -> u64
+    ensures { result ≡ remainder x y }
+{
+    if y == 0 { x } else { x % y }
+}
+
+/// DIV on 32 bits: the unsigned quotient, and 0 where `y` is 0 (RFC 9669, section 4.1).
+pub fn quotient_32(x: u32, y: u32) -> u32
+    ensures { result ≡ quotient x y }
+{
+    match y {
+        0 => 0,
+        _ => x / y,
+    }
+}
+
+/// MOD on 32 bits: the unsigned remainder, and `x` where `y` is 0 (RFC 9669, section 4.1).
+pub fn remainder_32(x: u32, y: u32) -> u32
+    ensures { result ≡ remainder x y }
+{
+    match y {
+        0 => x,
+        _ => x % y,
+    }
+}
+
+/// NEG on 64 bits (RFC 9669, section 4.1).
+pub fn negated_64(x: u64) -> u64
+    ensures { result ≡ negated 64 x }
+{
+    0u64.wrapping_sub(x)
+}
+
+/// NEG on 32 bits (RFC 9669, section 4.1).
+pub fn negated_32(x: u32) -> u32
+    ensures { result ≡ negated 32 x }
+{
+    0u32.wrapping_sub(x)
+}
+
+fn magnitude_64(x: u64) -> u64
+    ensures { result ≡ magnitude 64 x }
+{
+    if x < 1 << 63 { x } else { negated_64(x) }
+}
+
+fn magnitude_32(x: u32) -> u32
+    ensures { result ≡ magnitude 32 x }
+{
+    if x < 1 << 31 { x } else { negated_32(x) }
+}
+
+/// SDIV on 64 bits: truncates toward zero, and is 0 where `y` is 0 (RFC 9669, section 4.1).
+/// The least signed number divided by -1 is itself.
+pub fn signed_quotient_64(x: u64, y: u64) -> u64
+    ensures { result ≡ signed_quotient 64 x y }
+{
+    let sizes = quotient_64(magnitude_64(x), magnitude_64(y));
+    if (x < 1 << 63) == (y < 1 << 63) {
+        sizes
+    } else {
+        negated_64(sizes)
+    }
+}
+
+/// SDIV on 32 bits: truncates toward zero, and is 0 where `y` is 0 (RFC 9669, section 4.1).
+/// The least signed number divided by -1 is itself.
+pub fn signed_quotient_32(x: u32, y: u32) -> u32
+    ensures { result ≡ signed_quotient 32 x y }
+{
+    let sizes = quotient_32(magnitude_32(x), magnitude_32(y));
+    if (x < 1 << 31) == (y < 1 << 31) {
+        sizes
+    } else {
+        negated_32(sizes)
+    }
+}
+
+/// SMOD on 64 bits: has the sign of `x`, and is `x` where `y` is 0 (RFC 9669, section 4.1).
+pub fn signed_remainder_64(x: u64, y: u64) -> u64
+    ensures { result ≡ signed_remainder 64 x y }
+{
+    let sizes = remainder_64(magnitude_64(x), magnitude_64(y));
+    if x < 1 << 63 {
+        sizes
+    } else {
+        negated_64(sizes)
+    }
+}
+
+/// SMOD on 32 bits: has the sign of `x`, and is `x` where `y` is 0 (RFC 9669, section 4.1).
+pub fn signed_remainder_32(x: u32, y: u32) -> u32
+    ensures { result ≡ signed_remainder 32 x y }
+{
+    let sizes = remainder_32(magnitude_32(x), magnitude_32(y));
+    if x < 1 << 31 {
+        sizes
+    } else {
+        negated_32(sizes)
+    }
+}
+
+/// ARSH on 64 bits: copies the sign bit, with the count taken mod 64 (RFC 9669, section 4.1).
+pub fn arithmetic_shift_right_64(x: u64, count: u64) -> u64
+    ensures { result ≡ shifted_right_signed 64 x count }
+{
+    let by = (count % 64) as u32;
+    if x < 1 << 63 { x >> by } else { !(!x >> by) }
+}
+
+/// ARSH on 32 bits: copies the sign bit, with the count taken mod 32 (RFC 9669, section 4.1).
+pub fn arithmetic_shift_right_32(x: u32, count: u32) -> u32
+    ensures { result ≡ shifted_right_signed 32 x count }
+{
+    let by = count % 32;
+    if x < 1 << 31 { x >> by } else { !(!x >> by) }
+}
+
+/// MOVSX into 64 bits: the low `bits` bits, 1 to 32, as a signed number (RFC 9669, section 4.1).
+pub fn sign_extended_64(bits: u8, x: u64) -> u64
+    requires low { 0 < bits }
+    requires high { bits ≤ 32 }
+    ensures { result ≡ sign_extended 64 bits x }
+{
+    let modulus = 1u64 << bits;
+    let low = x % modulus;
+    if low < modulus / 2 {
+        low
+    } else {
+        low + (u64::MAX - modulus + 1)
+    }
+}
+
+/// MOVSX into 32 bits: the low `bits` bits, 1 to 16, as a signed number (RFC 9669, section 4.1).
+pub fn sign_extended_32(bits: u8, x: u32) -> u32
+    requires low { 0 < bits }
+    requires high { bits ≤ 16 }
+    ensures { result ≡ sign_extended 32 bits x }
+{
+    let modulus = 1u32 << bits;
+    let low = x % modulus;
+    if low < modulus / 2 {
+        low
+    } else {
+        low + (u32::MAX - modulus + 1)
+    }
+}
+
+/// A word with its sign bit flipped: signed words of 64 bits stand in the order of these, which is how the signed
+/// jumps compare them (RFC 9669, section 4.3).
+pub fn signed_order_64(x: u64) -> u64
+    ensures { result ≡ signed_place 64 x }
+{
+    x.wrapping_add(1 << 63)
+}
+
+/// A word with its sign bit flipped: signed words of 32 bits stand in the order of these, which is how the signed
+/// jumps compare them (RFC 9669, section 4.3).
+pub fn signed_order_32(x: u32) -> u32
+    ensures { result ≡ signed_place 32 x }
+{
+    x.wrapping_add(1 << 31)
+}
+
+/// The low `bits` bits with their bytes turned round, where `bits` is 16 or 32, and else all 64 (RFC 9669, section 4.2).
+pub fn bytes_swapped(bits: u8, x: u64) -> u64
+    ensures { result ≡ swapped bits x }
+{
+    if bits == 16 {
+        u64::from(((x % 0x1_0000) as u16).swap_bytes())
+    } else if bits == 32 {
+        u64::from(low_half(x).swap_bytes())
+    } else {
+        x.swap_bytes()
+    }
+}
+
+#[cfg(test)]
+mod tests {
+    use super::*;
+
+    const MINUS_ONE: u64 = u64::MAX;
+
+    const LEAST: u64 = 1 << 63;
+
+    #[test]
+    fn words_of_numbers(rt: HostRuntime) {
+        assert_eq!(rt; word_of_int(-1), MINUS_ONE);
+        assert_eq!(rt; low_half(0x1_2345_6789), 0x2345_6789);
+        assert_eq!(rt; negated_64(1), MINUS_ONE);
+        assert_eq!(rt; negated_32(1), u32::MAX);
+    }
+
+    #[test]
+    fn division_by_zero(rt: HostRuntime) {
+        assert_eq!(rt; quotient_64(7, 0), 0);
+        assert_eq!(rt; remainder_64(7, 0), 7);
+        assert_eq!(rt; quotient_32(7, 2), 3);
+        assert_eq!(rt; remainder_32(7, 2), 1);
+        assert_eq!(rt; signed_quotient_64(7, 0), 0);
+        assert_eq!(rt; signed_remainder_64(7, 0), 7);
+    }
+
+    #[test]
+    fn signed_division_truncates(rt: HostRuntime) {
+        assert_eq!(rt; signed_quotient_64(LEAST, MINUS_ONE), LEAST);
+        assert_eq!(rt; signed_remainder_64(LEAST, MINUS_ONE), 0);
+        assert_eq!(rt; signed_remainder_64(word_of_int(-13), 3), MINUS_ONE);
+        assert_eq!(rt; signed_quotient_32(negated_32(13), 3), negated_32(4));
+        assert_eq!(rt; signed_remainder_32(negated_32(13), 3), u32::MAX);
+    }
+
+    #[test]
+    fn shifts_copy_the_sign(rt: HostRuntime) {
+        assert_eq!(rt;
+            arithmetic_shift_right_64(word_of_int(-8), 65),
+            word_of_int(-4)
+        );
+        assert_eq!(rt; arithmetic_shift_right_32(negated_32(8), 33), negated_32(4));
+        assert_eq!(rt; sign_extended_64(8, 0xff80), word_of_int(-128));
+        assert_eq!(rt; sign_extended_32(16, 0x1_8000), 0xffff_8000);
+    }
+
+    #[test]
+    fn signed_words_in_order(rt: HostRuntime) {
+        assert!(rt; signed_order_64(MINUS_ONE) < signed_order_64(0));
+        assert!(rt; signed_order_32(u32::MAX) < signed_order_32(0));
+    }
+
+    #[test]
+    fn bytes_turned_round(rt: HostRuntime) {
+        assert_eq!(rt; bytes_swapped(16, 0x1122_3344_5566_7788), 34935);
+        assert_eq!(rt; bytes_swapped(32, 0x0000_0000_5566_7788), 0x8877_6655);
+        assert_eq!(rt;
+            bytes_swapped(64, 0x1122_3344_5566_7788),
+            0x8877_6655_4433_2211
+        );
+    }
+}
