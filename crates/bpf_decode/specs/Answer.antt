@@ -1,0 +1,57 @@
+-- What decoding answers where the bytes are no code.
+use Rattle.std.specs.Prelude.{◌≡◌, ◌≢◌, ℕ, ◌*◌, ◌<◌, ◌≤◌, List, ◌++◌, length, codes, decimal}
+use Rattle.bpf_insn.specs.Faults as field
+use Rattle.bpf_regions.specs.declared.maps.Shape.{Shape}
+use Rattle.bpf_decode.specs.declared.fault.SlotFault.{SlotFault}
+use Rattle.bpf_decode.specs.declared.fault.SlotFault.TheVariants as slot
+use Rattle.bpf_decode.specs.declared.fault.DecodeFault.{DecodeFault}
+use Rattle.bpf_decode.specs.declared.fault.DecodeFault.TheVariants as fault
+use Rattle.bpf_decode.specs.Code.{count, IsFirst}
+
+abbrev pub slot_number : SlotFault → ℕ
+slot_number (slot.Field e) = field.number_of e
+slot_number slot.JumpAstray = 15
+slot_number slot.PastEnd = 16
+slot_number slot.FrameWritten = 17
+slot_number slot.UnknownHelper = 18
+slot_number slot.UnknownMap = 19
+
+-- want of memory has the number 40
+abbrev pub fault_number : DecodeFault → ℕ
+fault_number fault.NoMemory = 40
+fault_number fault.Length = 1
+fault_number fault.Empty = 2
+fault_number fault.Long = 3
+fault_number (fault.At k e) = slot_number e
+
+-- where it stands; the first slot, if it isn't at one
+abbrev pub fault_slot : DecodeFault → ℕ
+fault_slot (fault.At k e) = k
+fault_slot _ = 0
+
+abbrev pub fault_text : DecodeFault → List ℕ
+fault_text fault.NoMemory = codes "out of memory"
+fault_text e = codes "fault " ++ decimal (fault_number e) ++ codes " at " ++ decimal (fault_slot e)
+
+-- the least pair of slot and number, in code of as many slots as may be
+pub record HasPlace (code : List ℕ) (shapes : List Shape) (k n : ℕ) : Type 0 where
+  pub some : 0 < length code
+  pub whole : length code ≡ 8 * count code
+  pub short : count code ≤ 16384
+  pub first : IsFirst code shapes k n
+
+-- Which fault the code has. Of memory nothing is said.
+abbrev pub Refuses : List ℕ → List Shape → DecodeFault → Type 0
+Refuses code shapes fault.NoMemory = Unit {0}
+Refuses code shapes fault.Length = length code ≢ 8 * count code
+Refuses code shapes fault.Empty = length code ≡ 0
+Refuses code shapes fault.Long = (length code ≡ 8 * count code) × (16384 < count code)
+Refuses code shapes (fault.At k e) = HasPlace code shapes k (slot_number e)
+
+-- a fault at a slot, or want of memory
+abbrev pub FindsFirst : List ℕ → List Shape → DecodeFault → Type 0
+FindsFirst code shapes fault.NoMemory = Unit {0}
+FindsFirst code shapes fault.Length = ⊥
+FindsFirst code shapes fault.Empty = ⊥
+FindsFirst code shapes fault.Long = ⊥
+FindsFirst code shapes (fault.At k e) = IsFirst code shapes k (slot_number e)

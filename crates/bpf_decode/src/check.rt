@@ -1,0 +1,134 @@
+//! What is wrong with one instruction at its slot.
+
+ghost use Rattle.std.specs.Prelude.{◌≡◌, ◌<◌, ◌≤◌, ◌+◌, ◌↔◌, ℤ, ℕ, Bool, false, IsTrue, IfNone, IfSome, Some, length, slice_index_or};
+ghost use Rattle.bpf_decode.specs.Flow.{HasByte, KnowsHelper, KnowsMap, ends, jump_of, size_of, written};
+ghost use Rattle.bpf_decode.specs.Code.{JumpsInside, Leads, RuleFault, count, starts};
+ghost use Rattle.bpf_decode.specs.Checks.{lowest_fault};
+ghost use Rattle.bpf_decode.specs.Answer.{slot_number};
+
+use crate::fault::SlotFault;
+use crate::flow::{is_end, jump_offset, jump_target, slot_count, written_register};
+use bpf_insn::{Insn, Wide};
+use bpf_regions::Shapes;
+
+/// Whether a helper that is called is one of 1 to 5.
+fn knows_helper(insn: &Insn) -> bool
+    ensures is { IsTrue result ↔ KnowsHelper insn.now }
+{
+    match insn {
+        Insn::Call { helper } => *helper >= 1 && *helper <= 5,
+        _ => true,
+    }
+}
+
+/// Whether a map is there, with an entry longer than the offset.
+fn has_byte(shapes: &Shapes, map: u32, offset: u32) -> bool
+    ensures is { IsTrue result ↔ HasByte shapes.now map offset }
+{
+    match shapes.get(map) {
+        Some(shape) => offset < shape.entry_bytes(),
+        None => false,
+    }
+}
+
+/// Whether a map that is named is there, and an offset into its first entry too.
+fn knows_map(shapes: &Shapes, insn: &Insn) -> bool
+    ensures is { IsTrue result ↔ KnowsMap shapes.now insn.now }
+{
+    match insn {
+        Insn::LoadWide { value, .. } => match *value {
+            Wide::Number(_) => true,
+            Wide::Map(map) => (map as usize) < shapes.len(),
+            Wide::MapValue { map, offset } => has_byte(shapes, map, offset),
+        },
+        _ => true,
+    }
+}
+
+/// Whether a jump leads to the start of an instruction.
+fn leads(code: &[u8], heads: &[bool], at: usize, by: i32) -> bool
+    requires count { length heads.now ≡ count code.now }
+    requires small { count code.now ≤ 16384 }
+    requires place { at < count code.now }
+    requires heads { (k : ℕ) → k < length heads.now → slice_index_or heads.now k false ≡ starts code.now k }
+    ensures is { IsTrue result ↔ Leads code.now at by }
+{
+    match jump_target(at, by) {
+        Some(target) => target < heads.len() && heads[target],
+        None => false,
+    }
+}
+
+/// Whether an instruction that jumps leads to the start of one.
+fn jumps_inside(code: &[u8], heads: &[bool], at: usize, insn: &Insn) -> bool
+    requires count { length heads.now ≡ count code.now }
+    requires small { count code.now ≤ 16384 }
+    requires place { at < count code.now }
+    requires heads { (k : ℕ) → k < length heads.now → slice_index_or heads.now k false ≡ starts code.now k }
+    ensures is { IsTrue result ↔ JumpsInside code.now at (jump_of insn.now) }
+{
+    match jump_offset(insn) {
+        Some(by) => leads(code, heads, at, by),
+        None => true,
+    }
+}
+
+/// Whether an instruction is the last, and goes on past the end.
+fn goes_past_end(heads: &[bool], at: usize, insn: &Insn) -> bool
+    requires place { at < length heads.now }
+    ensures is { IsTrue result ↔ ((at + size_of insn.now ≡ length heads.now) × (ends insn.now ≡ false)) }
+{
+    at + slot_count(insn) == heads.len() && !is_end(insn)
+}
+
+fn writes_frame(insn: &Insn) -> bool
+    ensures is { IsTrue result ↔ (written insn.now ≡ Some 10) }
+{
+    match written_register(insn) {
+        Some(register) => register == 10,
+        None => false,
+    }
+}
+
+/// The fault with the lowest number.
+fn lowest(astray: bool, past: bool, frame: bool, helper: bool, map: bool) -> Option<SlotFault>
+    ensures is { result ≡ lowest_fault astray past frame helper map }
+{
+    if astray {
+        Some(SlotFault::JumpAstray)
+    } else if past {
+        Some(SlotFault::PastEnd)
+    } else if frame {
+        Some(SlotFault::FrameWritten)
+    } else if helper {
+        Some(SlotFault::UnknownHelper)
+    } else if map {
+        Some(SlotFault::UnknownMap)
+    } else {
+        None
+    }
+}
+
+/// The lowest of the faults 15 to 19 of an instruction that stands at a slot.
+pub(crate) fn rule_fault(
+    code: &[u8],
+    heads: &[bool],
+    shapes: &Shapes,
+    at: usize,
+    insn: &Insn,
+) -> Option<SlotFault>
+    requires count { length heads.now ≡ count code.now }
+    requires small { count code.now ≤ 16384 }
+    requires place { at < count code.now }
+    requires heads { (k : ℕ) → k < length heads.now → slice_index_or heads.now k false ≡ starts code.now k }
+    ensures none { IfNone result ((n : ℕ) → RuleFault code.now shapes.now at insn.now n → ⊥) }
+    ensures some { IfSome result (λ e. RuleFault code.now shapes.now at insn.now (slot_number e)) }
+    ensures least { IfSome result (λ e. (m : ℕ) → RuleFault code.now shapes.now at insn.now m → slot_number e ≤ m) }
+{
+    let inside = jumps_inside(code, heads, at, insn);
+    let past = goes_past_end(heads, at, insn);
+    let frame = writes_frame(insn);
+    let helper = knows_helper(insn);
+    let map = knows_map(shapes, insn);
+    lowest(!inside, past, frame, !helper, !map)
+}

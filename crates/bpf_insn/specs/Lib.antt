@@ -1,0 +1,8 @@
+pub mod Slot
+pub mod Widths
+pub mod Opcodes
+pub mod Kinds
+pub mod Uses
+pub mod Spelled
+pub mod Faults
+pub mod Reading
