@@ -1,0 +1,4 @@
+pub mod Verified
+pub mod Runs
+pub mod SoFar
+pub mod Listed

@@ -1,0 +1,120 @@
+//! Jumps.
+
+ghost use Rattle.std.specs.Prelude.{◌≡◌, ◌<◌, [], length};
+ghost use Rattle.bpf_insn.specs.declared.insn.Insn.TheVariants.{Branch, Jump, JumpLong, CallLocal};
+ghost use Rattle.bpf_model.specs.State.{Setting, reg};
+ghost use Rattle.bpf_model.specs.Alu.{source_value, is_zero};
+ghost use Rattle.bpf_model.specs.Step.{next_of, jump, target};
+ghost use Rattle.bpf_tagged.specs.Took.{Moves, IsPaired, at};
+
+use crate::calls::perform_call;
+use crate::machine::read;
+use crate::{Machine, Stepped};
+use bpf_insn::{Compare, Reg, Source};
+use bpf_regions::Value;
+use bpf_values::comparisons::is_taken;
+use bpf_words::word_of_int;
+
+/// Where a jump at `pc` leads.
+fn jump_target(pc: usize, offset: i32) -> Option<usize>
+    requires { pc < 65536 }
+    ensures { result ≡ target pc offset }
+{
+    let to = pc as i64 + 1 + i64::from(offset);
+    if to < 0 { None } else { Some(to as usize) }
+}
+
+/// A source's value, and whether it is the immediate 0.
+#[derive(Clone, Copy)]
+struct Operand {
+    value: Value,
+    zero: bool,
+}
+
+fn operand_of(machine: &Machine, source: Source) -> Operand
+    ensures value { result.value ≡ source_value (at machine.now []) source }
+    ensures zero { result.zero ≡ is_zero source }
+{
+    match source {
+        Source::Imm(number) => {
+            let word = word_of_int(number);
+            Operand {
+                value: Value::Number(word),
+                zero: word == 0,
+            }
+        }
+        Source::Reg(register) => Operand {
+            value: read(machine, register),
+            zero: false,
+        },
+    }
+}
+
+fn perform_jump(machine: &mut Machine, to: Option<usize>) -> Stepped
+    ensures { Moves (λ s. jump s to) result machine.old machine.new }
+{
+    match to {
+        Some(to) => {
+            machine.pc = to;
+            return Stepped::On(None);
+        }
+        None => return Stepped::Faulted(15),
+    }
+}
+
+/// A jump by an offset of 16 bits.
+pub fn perform_goto(machine: &mut Machine, offset: i16) -> Stepped
+    requires { machine.old.pc < 65536 }
+    ensures { (p : Setting) → Moves (next_of p (Jump offset)) result machine.old machine.new }
+{
+    let to = jump_target(machine.pc, i32::from(offset));
+    return perform_jump(machine, to);
+}
+
+/// A jump by an offset of 32 bits.
+pub fn perform_goto_long(machine: &mut Machine, offset: i32) -> Stepped
+    requires { machine.old.pc < 65536 }
+    ensures { (p : Setting) → Moves (next_of p (JumpLong offset)) result machine.old machine.new }
+{
+    let to = jump_target(machine.pc, offset);
+    return perform_jump(machine, to);
+}
+
+/// A call of the local function at an offset.
+pub fn perform_call_local(machine: &mut Machine, offset: i32) -> Stepped
+    requires here { machine.old.pc < 65536 }
+    requires paired { IsPaired machine.old }
+    ensures { (p : Setting) → Moves (next_of p (CallLocal offset)) result machine.old machine.new }
+{
+    let to = jump_target(machine.pc, offset);
+    return perform_call(machine, to);
+}
+
+/// A conditional jump.
+pub fn perform_branch(
+    machine: &mut Machine,
+    frame_length: usize,
+    compare: Compare,
+    wide: bool,
+    dst: Reg,
+    source: Source,
+    offset: i16,
+) -> Stepped
+    requires { machine.old.pc < 65536 }
+    ensures { (p : Setting) → length p.frame ≡ frame_length →
+        Moves (next_of p (Branch compare wide dst source offset)) result machine.old machine.new }
+{
+    let a = read(machine, dst);
+    let Operand { value, zero } = operand_of(machine, source);
+    match is_taken(compare, wide, frame_length, zero, a, value) {
+        Ok(jumps) => {
+            if jumps {
+                let to = jump_target(machine.pc, i32::from(offset));
+                return perform_jump(machine, to);
+            }
+            machine.pc += 1;
+            return Stepped::On(None);
+        }
+        Err(cause) => return Stepped::Faulted(cause),
+    }
+}

@@ -1,0 +1,184 @@
+//! One instruction.
+
+ghost use Rattle.std.specs.Prelude.{◌≡◌, ◌<◌, [], IfSome};
+ghost use Rattle.bpf_model.specs.Memory.{compared};
+ghost use Rattle.bpf_model.specs.Step.{next_of, next_at};
+ghost use Rattle.bpf_model.specs.Run.{setting};
+ghost use Rattle.bpf_tagged.specs.Took.{Performs, IsPaired};
+
+use crate::atomics::perform_atomic;
+use crate::calls::perform_exit;
+use crate::helpers::perform_help;
+use crate::jumps::{perform_branch, perform_call_local, perform_goto, perform_goto_long};
+use crate::loads::perform_load;
+use crate::machine::read;
+use crate::operations::{
+    perform_alu, perform_extension, perform_negation, perform_order, perform_wide_load, source_of,
+};
+use crate::stores::perform_store;
+use crate::{Machine, Port, Stepped};
+use bpf_insn::{AtomicOp, Insn};
+use bpf_regions::{Shapes, Value};
+use bpf_values::bytes::size_in_bytes;
+use bpf_words::word_of_int;
+
+/// CMPXCHG alone reads R0.
+fn compared_with(op: AtomicOp, r0: Value) -> Value
+    ensures { result ≡ compared op r0 }
+{
+    match op {
+        AtomicOp::Cmpxchg => r0,
+        _ => Value::Number(0),
+    }
+}
+
+/// Performs one instruction.
+pub fn perform<P: Port>(
+    shapes: &Shapes,
+    frame: &[u8],
+    context: &[u8],
+    insn: Insn,
+    machine: &mut Machine,
+    port: &mut P,
+) -> Stepped
+    requires here { machine.old.pc < 65536 }
+    requires shapes { P.shapes port.old ≡ shapes.now }
+    requires paired { IsPaired machine.old }
+    ensures performs { Performs P.gives shapes.now (next_of (setting [] shapes.now frame.now context.now) insn)
+        result port.old port.new machine.old machine.new }
+    ensures shapes { P.shapes port.new ≡ P.shapes port.old }
+    ensures paired { IsPaired machine.new }
+{
+    match insn {
+        Insn::Alu {
+            op,
+            wide,
+            dst,
+            source,
+        } => {
+            return perform_alu(machine, op, wide, dst, source);
+        }
+        Insn::MovSx {
+            from,
+            wide,
+            dst,
+            src,
+        } => {
+            return perform_extension(machine, from, wide, dst, src);
+        }
+        Insn::Neg { wide, dst } => {
+            return perform_negation(machine, wide, dst);
+        }
+        Insn::End { order, width, dst } => {
+            return perform_order(machine, order, width, dst);
+        }
+        Insn::Jump { offset } => {
+            return perform_goto(machine, offset);
+        }
+        Insn::JumpLong { offset } => {
+            return perform_goto_long(machine, offset);
+        }
+        Insn::Branch {
+            compare,
+            wide,
+            dst,
+            source,
+            offset,
+        } => {
+            return perform_branch(machine, frame.len(), compare, wide, dst, source, offset);
+        }
+        Insn::Call { helper } => {
+            return perform_help(shapes, machine, port, word_of_int(helper));
+        }
+        Insn::CallLocal { offset } => {
+            return perform_call_local(machine, offset);
+        }
+        Insn::Exit => {
+            return perform_exit(machine);
+        }
+        Insn::Load {
+            size,
+            signed,
+            dst,
+            src,
+            offset,
+        } => {
+            let from = read(machine, src);
+            return perform_load(
+                shapes,
+                frame,
+                context,
+                machine,
+                port,
+                size_in_bytes(size),
+                signed,
+                dst,
+                from,
+                offset,
+            );
+        }
+        Insn::Store {
+            size,
+            dst,
+            offset,
+            source,
+        } => {
+            let to = read(machine, dst);
+            let value = source_of(machine, source);
+            return perform_store(
+                shapes,
+                frame,
+                context,
+                machine,
+                port,
+                size_in_bytes(size),
+                value,
+                to,
+                offset,
+            );
+        }
+        Insn::Atomic {
+            op,
+            wide,
+            dst,
+            src,
+            offset,
+        } => {
+            let to = read(machine, dst);
+            let value = read(machine, src);
+            let compared = compared_with(op, machine.regs[0]);
+            return perform_atomic(
+                shapes, frame, context, machine, port, wide, op, src, offset, to, value, compared,
+            );
+        }
+        Insn::LoadWide { dst, value } => {
+            return perform_wide_load(machine, dst, value);
+        }
+    }
+}
+
+/// Performs what a slot of the code holds: None outside the code, `Some(None)` in a second half.
+pub fn perform_slot<P: Port>(
+    shapes: &Shapes,
+    frame: &[u8],
+    context: &[u8],
+    slot: Option<Option<Insn>>,
+    machine: &mut Machine,
+    port: &mut P,
+) -> Stepped
+    requires here { IfSome slot (λ held. machine.old.pc < 65536) }
+    requires shapes { P.shapes port.old ≡ shapes.now }
+    requires paired { IsPaired machine.old }
+    ensures performs { Performs P.gives shapes.now (next_at (setting [] shapes.now frame.now context.now) slot)
+        result port.old port.new machine.old machine.new }
+    ensures shapes { P.shapes port.new ≡ P.shapes port.old }
+    ensures paired { IsPaired machine.new }
+{
+    match slot {
+        Some(held) => match held {
+            Some(insn) => return perform(shapes, frame, context, insn, machine, port),
+            None => return Stepped::Faulted(15),
+        },
+        None => return Stepped::Faulted(16),
+    }
+}

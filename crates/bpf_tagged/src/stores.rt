@@ -1,0 +1,122 @@
+//! Stores.
+
+ghost use Rattle.std.specs.Prelude.{◌≡◌, ◌<◌, ◌≤◌, ℕ, ℤ, [], length, IfOk, IfErr, false};
+ghost use Rattle.bpf_values.specs.Inside.{IsStorable, IsSize};
+ghost use Rattle.bpf_model.specs.Alu.{is_unset};
+ghost use Rattle.bpf_model.specs.State.{Setting, State, Fault};
+ghost use Rattle.bpf_model.specs.Memory.{store_at, store, number_or_zero};
+ghost use Rattle.bpf_model.specs.Run.{setting};
+ghost use Rattle.bpf_tagged.specs.Took.{Performs, IsPaired};
+
+use crate::loads::Target;
+use crate::{Machine, Port, Stepped};
+use bpf_model::Place;
+use bpf_regions::{MapOp, Shapes, Value};
+use bpf_values::arithmetic::{unset, wrong_kind};
+use bpf_values::bytes::store_in;
+use bpf_values::places::{place_of, points_elsewhere, taken_by, with_offset};
+
+fn number_of(value: Value) -> u64
+    ensures { result ≡ number_or_zero value }
+{
+    match value {
+        Value::Number(x) => x,
+        _ => 0,
+    }
+}
+
+fn store_placed<P: Port>(
+    machine: &mut Machine,
+    port: &mut P,
+    size: usize,
+    value: Value,
+    place: Place,
+) -> Stepped
+    requires here { machine.old.pc < 65536 }
+    requires size { IsSize size }
+    requires inside { IsStorable (P.shapes port.old) (length machine.old.stack.items) size value place }
+    ensures performs { Performs P.gives (P.shapes port.old) (λ s. store_at s size value place)
+        result port.old port.new machine.old machine.new }
+    ensures shapes { P.shapes port.new ≡ P.shapes port.old }
+    ensures paired { IsPaired machine.old → IsPaired machine.new }
+{
+    match place {
+        Place::Frame(_) => return Stepped::Faulted(31),
+        Place::Context(_) => return Stepped::Faulted(31),
+        Place::Stack { frame, at } => {
+            if points_elsewhere(frame, value) {
+                return Stepped::Faulted(37);
+            }
+            store_in(machine.stack.as_mut_slice(), frame, at, size, value);
+            machine.pc += 1;
+            return Stepped::On(None);
+        }
+        Place::Word { map, word } => {
+            let _nothing = port.access(map, word, MapOp::Store(number_of(value)));
+            machine.pc += 1;
+            return Stepped::On(None);
+        }
+    }
+}
+
+/// The pointer that a store goes through, or the store's fault.
+fn store_target(value: Value, to: Value) -> Result<Target, u8>
+    ensures ok { IfOk result (λ t. to ≡ Value.Pointer t.region t.base) }
+    ensures set { IfOk result (λ t. is_unset value ≡ false) }
+    ensures err { IfErr result (λ cause. (p : Setting) (s : State) (n : ℕ) (offset : ℤ) →
+        store p s n value to offset ≡ Fault cause) }
+{
+    match to {
+        Value::Unset => Err(30),
+        Value::Pointer { region, offset } => {
+            if unset(value) {
+                return Err(30);
+            }
+            Ok(Target {
+                region,
+                base: offset,
+            })
+        }
+        Value::Number(_) => Err(wrong_kind(value)),
+        Value::FrameEnd => Err(wrong_kind(value)),
+        Value::MapReference(_) => Err(wrong_kind(value)),
+    }
+}
+
+/// A store of a value through one that has to be a pointer.
+pub fn perform_store<P: Port>(
+    shapes: &Shapes,
+    frame: &[u8],
+    context: &[u8],
+    machine: &mut Machine,
+    port: &mut P,
+    size: usize,
+    value: Value,
+    to: Value,
+    offset: i16,
+) -> Stepped
+    requires here { machine.old.pc < 65536 }
+    requires size { IsSize size }
+    requires shapes { P.shapes port.old ≡ shapes.now }
+    ensures performs { Performs P.gives shapes.now (λ s. store (setting [] shapes.now frame.now context.now) s size value to offset)
+        result port.old port.new machine.old machine.new }
+    ensures shapes { P.shapes port.new ≡ P.shapes port.old }
+    ensures paired { IsPaired machine.old → IsPaired machine.new }
+{
+    let target = match store_target(value, to) {
+        Ok(target) => target,
+        Err(cause) => return Stepped::Faulted(cause),
+    };
+    let at = with_offset(target.base, offset);
+    let taken = match taken_by(target.region, at, size, value) {
+        Ok(taken) => taken,
+        Err(refused) => return Stepped::Faulted(refused),
+    };
+    let depth = machine.stack.len();
+    match place_of(shapes, frame, context, depth, target.region, at, size) {
+        Ok(place) => {
+            return store_placed(machine, port, size, taken, place);
+        }
+        Err(other) => return Stepped::Faulted(other),
+    }
+}

@@ -1,0 +1,124 @@
+//! Comparisons.
+
+ghost use Rattle.std.specs.Prelude.{◌≡◌, ◌<◌, ◌≤◌, ℕ};
+ghost use Rattle.bpf_model.specs.Alu.{holds, end_test, null_test, wide_test, narrow_test, taken};
+
+use crate::arithmetic::wrong_kinds;
+use bpf_insn::Compare;
+use bpf_regions::{Region, Value};
+use bpf_words::{low_half, signed_order_32, signed_order_64};
+
+fn compares(compare: Compare, x: u64, y: u64) -> bool
+    ensures { result ≡ holds 64 compare x y }
+{
+    match compare {
+        Compare::Eq => x == y,
+        Compare::Ne => x != y,
+        Compare::Gt => x > y,
+        Compare::Ge => x >= y,
+        Compare::Lt => x < y,
+        Compare::Le => x <= y,
+        Compare::Set => x & y != 0,
+        Compare::Sgt => signed_order_64(x) > signed_order_64(y),
+        Compare::Sge => signed_order_64(x) >= signed_order_64(y),
+        Compare::Slt => signed_order_64(x) < signed_order_64(y),
+        Compare::Sle => signed_order_64(x) <= signed_order_64(y),
+    }
+}
+
+fn compares_32(compare: Compare, x: u32, y: u32) -> bool
+    ensures { result ≡ holds 32 compare x y }
+{
+    match compare {
+        Compare::Eq => x == y,
+        Compare::Ne => x != y,
+        Compare::Gt => x > y,
+        Compare::Ge => x >= y,
+        Compare::Lt => x < y,
+        Compare::Le => x <= y,
+        Compare::Set => x & y != 0,
+        Compare::Sgt => signed_order_32(x) > signed_order_32(y),
+        Compare::Sge => signed_order_32(x) >= signed_order_32(y),
+        Compare::Slt => signed_order_32(x) < signed_order_32(y),
+        Compare::Sle => signed_order_32(x) <= signed_order_32(y),
+    }
+}
+
+fn against_end(compare: Compare, x: u64, y: u64) -> Result<bool, u8>
+    ensures { result ≡ end_test compare x y }
+{
+    match compare {
+        Compare::Gt => Ok(x > y),
+        Compare::Ge => Ok(x >= y),
+        Compare::Lt => Ok(x < y),
+        Compare::Le => Ok(x <= y),
+        _ => Err(31),
+    }
+}
+
+fn against_null(compare: Compare, zero: bool) -> Result<bool, u8>
+    ensures { result ≡ null_test compare zero }
+{
+    match compare {
+        Compare::Eq => { if zero { Ok(false) } else { Err(31) } }
+        Compare::Ne => { if zero { Ok(true) } else { Err(31) } }
+        _ => Err(31),
+    }
+}
+
+fn test_wide(compare: Compare, length: usize, zero: bool, a: Value, b: Value) -> Result<bool, u8>
+    ensures { result ≡ wide_test compare length zero a b }
+{
+    match a {
+        Value::Number(x) => match b {
+            Value::Number(y) => Ok(compares(compare, x, y)),
+            _ => Err(wrong_kinds(a, b)),
+        },
+        Value::Pointer { region, offset } => match b {
+            Value::Number(_) => against_null(compare, zero),
+            Value::FrameEnd => match region {
+                Region::Frame => against_end(compare, offset, length as u64),
+                _ => Err(wrong_kinds(a, b)),
+            },
+            _ => Err(wrong_kinds(a, b)),
+        },
+        Value::FrameEnd => match b {
+            Value::Pointer { region, offset } => match region {
+                Region::Frame => against_end(compare, length as u64, offset),
+                _ => Err(wrong_kinds(a, b)),
+            },
+            _ => Err(wrong_kinds(a, b)),
+        },
+        _ => Err(wrong_kinds(a, b)),
+    }
+}
+
+fn test_narrow(compare: Compare, a: Value, b: Value) -> Result<bool, u8>
+    ensures { result ≡ narrow_test compare a b }
+{
+    match a {
+        Value::Number(x) => match b {
+            Value::Number(y) => Ok(compares_32(compare, low_half(x), low_half(y))),
+            _ => Err(wrong_kinds(a, b)),
+        },
+        _ => Err(wrong_kinds(a, b)),
+    }
+}
+
+/// Whether a conditional jump is taken.
+pub fn is_taken(
+    compare: Compare,
+    wide: bool,
+    length: usize,
+    zero: bool,
+    a: Value,
+    b: Value,
+) -> Result<bool, u8>
+    ensures { result ≡ taken compare wide length zero a b }
+{
+    if wide {
+        test_wide(compare, length, zero, a, b)
+    } else {
+        test_narrow(compare, a, b)
+    }
+}

@@ -1,0 +1,173 @@
+//! Where an access lies.
+
+ghost use Rattle.std.specs.Prelude.{◌≡◌, ◌<◌, ◌≤◌, ◌+◌, ◌*◌, ◌/◌, ◌⊎◌, ℕ, [], length, nat_le, IfOk, IfSome};
+ghost use Rattle.bpf_regions.specs.Maps.{IsShape, word_count};
+ghost use Rattle.bpf_words.specs.Word.{word_add, word_of};
+ghost use Rattle.bpf_model.specs.Memory.{place, place_in_map, storable, storable_in_stack, storable_in_map, strays, atomic_region};
+ghost use Rattle.bpf_model.specs.Run.{setting};
+ghost use Rattle.bpf_values.specs.Inside.{IsInside, IsWordIn};
+
+use bpf_model::Place;
+use bpf_regions::{Region, Shape, Shapes, Value};
+use bpf_words::word_of_int;
+
+/// An address with an instruction's offset.
+pub fn with_offset(base: u64, offset: i16) -> u64
+    ensures { result ≡ word_add base (word_of offset) }
+{
+    base.wrapping_add(word_of_int(i32::from(offset)))
+}
+
+/// How far a word lies in a map of valid shape.
+fn word_at(index: u32, at: u64, width: u64, shape: Shape) -> u32
+    requires valid { IsShape shape }
+    requires index { index < shape.entries }
+    requires width { (width ≡ 4) ⊎ (width ≡ 8) }
+    requires inside { at + width ≤ shape.words * width }
+    ensures is { result ≡ index * shape.words + at / width }
+    ensures there { result < word_count shape }
+{
+    index * shape.words + (at / width) as u32
+}
+
+fn in_map(map: u32, index: u32, at: u64, size: usize, shape: Option<Shape>) -> Result<Place, u8>
+    requires size { size ≤ 8 }
+    requires valid { IfSome shape IsShape }
+    ensures is { result ≡ place_in_map map index at size shape }
+    ensures there { IfOk result (λ place. IsWordIn shape place) }
+{
+    let Some(shape) = shape else {
+        return Err(32);
+    };
+    let width = u64::from(shape.width.bytes());
+    if size as u64 != width || at % width != 0 {
+        return Err(33);
+    }
+    let bytes = u64::from(shape.entry_bytes());
+    if index < shape.entries && width <= bytes && at <= bytes - width {
+        return Ok(Place::Word {
+            map,
+            word: word_at(index, at, width, shape),
+        });
+    }
+    Err(32)
+}
+
+fn fits(at: u64, size: usize, length: usize) -> bool
+    requires { size ≤ 8 }
+    ensures { result ≡ nat_le (at + size) length }
+{
+    size <= length && at <= (length - size) as u64
+}
+
+/// Where `size` bytes at an offset lie in their region.
+pub fn place_of(
+    shapes: &Shapes,
+    frame: &[u8],
+    context: &[u8],
+    depth: usize,
+    region: Region,
+    at: u64,
+    size: usize,
+) -> Result<Place, u8>
+    requires { size ≤ 8 }
+    ensures is { result ≡ place (setting [] shapes.now frame.now context.now) depth region at size }
+    ensures inside { IfOk result (λ p. IsInside shapes.now (length frame.now) (length context.now) depth size p) }
+{
+    match region {
+        Region::Frame => {
+            if fits(at, size, frame.len()) {
+                return Ok(Place::Frame(at as usize));
+            }
+            return Err(32);
+        }
+        Region::Context => {
+            if fits(at, size, context.len()) {
+                return Ok(Place::Context(at as usize));
+            }
+            return Err(32);
+        }
+        Region::Stack(k) => {
+            if (k as usize) < depth && fits(at, size, 512) {
+                return Ok(Place::Stack {
+                    frame: k as usize,
+                    at: at as usize,
+                });
+            }
+            return Err(32);
+        }
+        Region::Entry { map, index } => {
+            return in_map(map, index, at, size, shapes.get(map));
+        }
+    }
+}
+
+fn for_stack(at: u64, size: usize, value: Value) -> Result<Value, u8>
+    ensures { result ≡ storable_in_stack at size value }
+{
+    match value {
+        Value::Number(x) => Ok(Value::Number(x)),
+        _ => {
+            if size != 8 {
+                Err(31)
+            } else if at % 8 == 0 {
+                Ok(value)
+            } else {
+                Err(33)
+            }
+        }
+    }
+}
+
+fn for_map(value: Value) -> Result<Value, u8>
+    ensures { result ≡ storable_in_map value }
+{
+    match value {
+        Value::Number(x) => Ok(Value::Number(x)),
+        _ => Err(31),
+    }
+}
+
+/// The value, where a store takes it.
+pub fn taken_by(region: Region, at: u64, size: usize, value: Value) -> Result<Value, u8>
+    ensures { result ≡ storable region at size value }
+{
+    match region {
+        Region::Frame => Err(31),
+        Region::Context => Err(31),
+        Region::Stack(_) => for_stack(at, size, value),
+        Region::Entry { .. } => for_map(value),
+    }
+}
+
+/// Whether a value is a pointer to another stack frame.
+pub fn points_elsewhere(frame: usize, value: Value) -> bool
+    ensures { result ≡ strays frame value }
+{
+    match value {
+        Value::Pointer { region, .. } => match region {
+            Region::Stack(k) => k as usize != frame,
+            _ => false,
+        },
+        _ => false,
+    }
+}
+
+/// The region, where an atomic may go.
+pub fn for_atomic(region: Region, at: u64, size: usize) -> Result<Region, u8>
+    requires { 1 ≤ size }
+    ensures { result ≡ atomic_region region at size }
+{
+    match region {
+        Region::Frame => Err(31),
+        Region::Context => Err(31),
+        Region::Stack(k) => {
+            if at % size as u64 == 0 {
+                Ok(Region::Stack(k))
+            } else {
+                Err(33)
+            }
+        }
+        Region::Entry { map, index } => Ok(Region::Entry { map, index }),
+    }
+}

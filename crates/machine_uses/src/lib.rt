@@ -1,0 +1,5 @@
+//! Programs on the machine: what whole runs come to, shown by tests.
+#![tactic(auto)]
+
+#[cfg(test)]
+mod tests;
