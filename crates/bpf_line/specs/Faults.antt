@@ -1,0 +1,8 @@
+-- The numbers of a line's faults.
+use Rattle.std.specs.Prelude.{ℕ}
+use Rattle.bpf_line.specs.declared.fault.LineFault.{LineFault}
+use Rattle.bpf_line.specs.declared.fault.LineFault.TheVariants.{Grammar, Range}
+
+abbrev pub number_of : LineFault → ℕ
+number_of Grammar = 20
+number_of Range = 21
