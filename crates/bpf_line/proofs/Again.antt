@@ -1,5 +1,5 @@
 -- The text of an instruction is read as that instruction.
-use Rattle.std.specs.Prelude.{◌≡◌, ◌<◌, ◌≤◌, ◌^◌, ℕ, ℤ, pos, negsuc, suc, List, [], ◌∷◌, ◌++◌, codes, refl, Ok, Some, FitsSigned}
+use Rattle.std.specs.Prelude.{◌≡◌, ◌≢◌, length, slice_index, ◌<◌, ◌≤◌, ◌^◌, ℕ, ℤ, pos, negsuc, suc, List, [], ◌∷◌, ◌++◌, codes, refl, Ok, Some, FitsSigned}
 use Rattle.std.proofs.Common.{rules, arith, ◌∙◌, ap}
 use Rattle.std.specs.Int.{w16, w32, cast_signed, cast_unsigned}
 use Rattle.std.specs.Fmt.{decimal, signed_decimal}
@@ -12,7 +12,7 @@ use Rattle.bpf_insn.specs.Spelled.{IsInsn, IsSource}
 use Rattle.bpf_line.specs.Words.{words}
 use Rattle.bpf_line.specs.Lines.{said, line_said}
 use Rattle.bpf_line.specs.Spellings.{text_of, alu_name, compare_name, atomic_name, extension_name, order_name, load_name, size_name, suffix, register_text, offset_text, source_text, memory_text, two_text, one_text}
-use Rattle.bpf_line.proofs.Plain.{Small, IsWord, IsWord-test, IsWord-decimal, IsWord-register, IsWord-offset, IsWord-signed, IsWord-memory, words-one, words-rest, words-spaced, words-two, words-three, words-alone}
+use Rattle.bpf_line.proofs.Plain.{NoFeed, NoFeed-word, NoFeed-one, NoFeed-two, NoFeed-comma, NoFeed-at, Small, IsWord, IsWord-test, IsWord-decimal, IsWord-register, IsWord-offset, IsWord-signed, IsWord-memory, words-one, words-rest, words-spaced, words-two, words-three, words-alone}
 use Rattle.bpf_line.proofs.Named.{IsWord-alu, two_said-alu, IsWord-compare, said-branch, IsWord-atomic, two_said-atomic, IsWord-extension, two_said-extension, IsWord-order, one_said-order, IsWord-load, two_said-load, IsWord-store, two_said-store, IsWord-store_register, two_said-store_register, IsWord-neg, one_said-neg}
 use Rattle.bpf_line.proofs.Operand.{register-text, wide_number-decimal, imm-signed, imm-word, offset-text, long_offset-text, source-text, memory-text}
 
@@ -107,3 +107,51 @@ line_said-text (insn.LoadWide d (wide.MapValue m o)) h =
     ∙ ap (λ ws. codes "value" ∷ ws) (words-spaced (decimal m) (decimal o) (word-of_u32 m h.1.0)
     ∙ ap (λ ws. decimal m ∷ ws) (of_word (decimal o) (word-of_u32 o h.1.1)))) in
     rw (split, register-text d h.0, imm-word m h.1.0, imm-word o h.1.1, unsigned_of m h.1.0, unsigned_of o h.1.1) refl
+
+feedless : (w : List ℕ) → IsWord w → NoFeed w
+feedless w h = NoFeed-word w h
+
+flat_one : (name a : List ℕ) → IsWord name → IsWord a → NoFeed (one_text name a)
+flat_one name a n w = NoFeed-one name a (feedless name n) (feedless a w)
+
+flat_two : (name a b : List ℕ) → IsWord name → IsWord a → IsWord b → NoFeed (two_text name a b)
+flat_two name a b n w v = NoFeed-two name a b (feedless name n) (feedless a w) (feedless b v)
+
+NoFeed-text : (i : Insn) → IsInsn i → NoFeed (text_of i)
+NoFeed-text (insn.Alu op w d s) h =
+    flat_two _ _ _ ((IsWord-alu op w)) ((word-of_register d h.0)) ((word-of_source s h.1))
+NoFeed-text (insn.MovSx e w d s) h =
+    flat_two _ _ _ ((IsWord-extension e w)) ((word-of_register d h.1)) ((word-of_register s h.2))
+NoFeed-text (insn.Neg w d) h = flat_one _ _ ((IsWord-neg w)) ((word-of_register d h))
+NoFeed-text (insn.End o width d) h = flat_one _ _ ((IsWord-order o width)) ((word-of_register d h))
+NoFeed-text (insn.Jump x) h = flat_one (codes "ja") _ (IsWord-test _ refl) ((IsWord-offset x (Small-16 x h)))
+NoFeed-text (insn.JumpLong x) h = flat_one (codes "ja32") _ (IsWord-test _ refl) ((IsWord-offset x (Small-32 x h)))
+NoFeed-text (insn.Branch c w d s x) h =
+    NoFeed-two (compare_name c ++ suffix w) (register_text d) (source_text s ++ (codes ", " ++ offset_text x)) (feedless _ (IsWord-compare c w)) (feedless _ (word-of_register d h.0))
+    (NoFeed-comma (source_text s) (offset_text x) (feedless _ (word-of_source s h.1)) (feedless _ (IsWord-offset x (Small-16 x h.2))))
+NoFeed-text (insn.Call helper) h = flat_one (codes "call") _ (IsWord-test _ refl) ((IsWord-signed helper (Small-32 helper h)))
+NoFeed-text (insn.CallLocal x) h =
+    NoFeed-one (codes "call") (codes "local" ++ (32 ∷ offset_text x)) (feedless (codes "call") (IsWord-test _ refl))
+    (NoFeed-one (codes "local") (offset_text x) (feedless (codes "local") (IsWord-test _ refl)) (feedless _ (IsWord-offset x (Small-32 x h))))
+NoFeed-text insn.Exit h = feedless (codes "exit") (IsWord-test _ refl)
+NoFeed-text (insn.Load z signed d s x) h =
+    flat_two _ _ _ ((IsWord-load z signed)) ((word-of_register d h.1)) ((word-of_memory s x h.2 h.3))
+NoFeed-text (insn.Store z d x (source.Imm n)) h =
+    flat_two _ _ _ ((IsWord-store z)) ((word-of_memory d x h.0 h.2)) ((IsWord-signed n (Small-32 n h.1)))
+NoFeed-text (insn.Store z d x (source.Reg r)) h =
+    flat_two _ _ _ ((IsWord-store_register z)) ((word-of_memory d x h.0 h.2)) ((word-of_register r h.1))
+NoFeed-text (insn.Atomic op w d s x) h =
+    flat_two _ _ _ ((IsWord-atomic op w)) ((word-of_memory d x h.0 h.2)) ((word-of_register s h.1))
+NoFeed-text (insn.LoadWide d (wide.Number n)) h =
+    flat_two (codes "lddw") _ _ (IsWord-test _ refl) ((word-of_register d h.0)) ((IsWord-decimal n h.1))
+NoFeed-text (insn.LoadWide d (wide.Map m)) h =
+    NoFeed-two (codes "lddw") (register_text d) (codes "map " ++ decimal m) (feedless (codes "lddw") (IsWord-test _ refl)) (feedless _ (word-of_register d h.0))
+    (NoFeed-one (codes "map") (decimal m) (feedless (codes "map") (IsWord-test _ refl)) (feedless _ (word-of_u32 m h.1)))
+NoFeed-text (insn.LoadWide d (wide.MapValue m o)) h =
+    NoFeed-two (codes "lddw") (register_text d) (codes "value " ++ (decimal m ++ (codes " " ++ decimal o))) (feedless (codes "lddw") (IsWord-test _ refl)) (feedless _ (word-of_register d h.0))
+    (NoFeed-one (codes "value") (decimal m ++ (32 ∷ decimal o)) (feedless (codes "value") (IsWord-test _ refl))
+    (NoFeed-one (decimal m) (decimal o) (feedless _ (word-of_u32 m h.1.0)) (feedless _ (word-of_u32 o h.1.1))))
+
+-- the text of an instruction is one line
+pub text_of-one_line : (i : Insn) → IsInsn i → (k : ℕ) → k < length (text_of i) → slice_index (text_of i) k ≢ 10
+text_of-one_line i h = NoFeed-at (text_of i) (NoFeed-text i h)

@@ -1,1 +1,3 @@
 mod Cuts
+mod Texts
+mod Spelt

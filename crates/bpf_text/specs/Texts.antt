@@ -14,7 +14,7 @@ use Rattle.bpf_line.specs.Spellings.{text_of}
 abbrev pub lines_of : List ℕ → List (List ℕ)
 lines_of text = slice_split (λ b. b == 10) text
 
-abbrev second_bytes : Option Fields → List ℕ
+abbrev pub second_bytes : Option Fields → List ℕ
 second_bytes None = []
 second_bytes (Some f) = slot_of f
 

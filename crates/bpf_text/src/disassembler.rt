@@ -1,9 +1,10 @@
 //! Text from programs.
 
-ghost use Rattle.std.specs.Prelude.{◌≡◌, ◌++◌, ◌∷◌, [], IfOk};
+ghost use Rattle.std.specs.Prelude.{◌≡◌, ◌++◌, ◌∷◌, [], ℕ, List, IfOk, Ok};
 ghost use Rattle.std.specs.String.{string_bytes};
+ghost use Rattle.bpf_decode.specs.Program.{Spells};
 ghost use Rattle.bpf_line.specs.Spellings.{text_of};
-ghost use Rattle.bpf_text.specs.Texts.{disassembled};
+ghost use Rattle.bpf_text.specs.Texts.{assembled, disassembled, lines_of};
 
 use bpf_decode::Program;
 use bpf_insn::Insn;
@@ -18,15 +19,24 @@ fn append_line(text: &mut String, insn: Insn) -> Result<(), AllocError>
     Ok(())
 }
 
-/// The text of a program: one instruction a line, each with its line feed.
-pub fn disassemble(alloc: Global, program: &Program) -> Result<String, AllocError>
-    ensures ok { IfOk result (λ text. string_bytes text ≡ disassembled program.now.slots) }
+fn text_of_slots(alloc: Global, slots: &[Option<Insn>]) -> Result<String, AllocError>
+    ensures ok { IfOk result (λ text. string_bytes text ≡ disassembled slots.now) }
 {
     let mut text = String::new(alloc);
-    for slot in program.slots() {
+    for slot in slots {
         if let Some(insn) = slot {
             append_line(&mut text, *insn)?;
         }
     }
+    Ok(text)
+}
+
+/// The text of a program: one instruction a line, each with its line feed. The assembler gives back
+/// the bytes that the program was decoded from.
+pub fn disassemble(alloc: Global, program: &Program) -> Result<String, AllocError>
+    ensures ok { IfOk result (λ text. string_bytes text ≡ disassembled program.now.slots) }
+    ensures again { IfOk result (λ text. (bytes : List ℕ) → Spells bytes program.now → assembled 1 [] (lines_of (string_bytes text)) ≡ Ok bytes) }
+{
+    let text = text_of_slots(alloc, program.slots())?;
     Ok(text)
 }
