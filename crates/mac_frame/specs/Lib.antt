@@ -1,0 +1,10 @@
+pub use Rattle.mac_types.specs.Bits
+pub use Rattle.mac_types.specs.Numbers
+pub use Rattle.mac_types.specs.Fields
+pub mod Elements
+pub mod Kinds
+pub mod Faults
+pub mod Spelling
+pub mod Frames
+pub mod Reading
+pub mod Writing

@@ -1,0 +1,85 @@
+//! Why bytes are no frame.
+
+ghost use Rattle.std.specs.Prelude.{◌≡◌};
+ghost use Rattle.mac_frame.specs.Faults.{number_of_fault};
+ghost use Rattle.mac_frame.specs.declared.fault.FrameFault.TheVariants.{Memory};
+
+use std::alloc::AllocError;
+use std::error::Error;
+use std::fmt;
+
+/// What is wrong with the bytes: the first fault.
+#[derive(Clone, Copy, Debug, PartialEq, Eq)]
+pub enum Fault {
+    /// 50: the bytes end before the header does.
+    TooShort,
+    /// 51: the protocol version is not 0.
+    WrongVersion,
+    /// 52: a type, subtype, category or action that the link does not have.
+    Unsupported,
+    /// 53: a field holds what it may not.
+    ReservedUse,
+    /// 54: an element ends behind the frame.
+    ElementCut,
+    /// 55: the body is longer or shorter than its kind, or the frame longer than 2400 bytes.
+    BodyLength,
+}
+
+impl Fault {
+    /// The number that stands for it in what is printed.
+    pub fn number(self) -> u8
+        ensures { result ≡ number_of_fault self }
+    {
+        match self {
+            Fault::TooShort => 50,
+            Fault::WrongVersion => 51,
+            Fault::Unsupported => 52,
+            Fault::ReservedUse => 53,
+            Fault::ElementCut => 54,
+            Fault::BodyLength => 55,
+        }
+    }
+}
+
+impl fmt::Display for Fault {
+    fn fmt<W: fmt::Write>(&self, f: &mut fmt::Formatter<W>) -> fmt::Result {
+        f.write_str(match self {
+            Fault::TooShort => "the frame ends within its header",
+            Fault::WrongVersion => "the protocol version is not 0",
+            Fault::Unsupported => "the type, subtype, category or action is not supported",
+            Fault::ReservedUse => "a field holds a reserved value",
+            Fault::ElementCut => "an element is cut",
+            Fault::BodyLength => "the body has the wrong length",
+        })
+    }
+}
+
+impl Error for Fault {}
+
+/// Why there is no frame.
+#[derive(Clone, Copy, Debug, PartialEq, Eq)]
+pub enum FrameFault {
+    /// There was no memory for the frame. Nothing is said of the bytes.
+    Memory,
+    /// The bytes are no frame.
+    Fault(Fault),
+}
+
+impl fmt::Display for FrameFault {
+    fn fmt<W: fmt::Write>(&self, f: &mut fmt::Formatter<W>) -> fmt::Result {
+        match self {
+            FrameFault::Memory => f.write_str("out of memory"),
+            FrameFault::Fault(fault) => write!(f, "{fault}"),
+        }
+    }
+}
+
+impl Error for FrameFault {}
+
+impl From<AllocError> for FrameFault {
+    ghost from_gives = { λ _ e. e ≡ Memory };
+
+    fn from(_e: AllocError) -> FrameFault {
+        FrameFault::Memory
+    }
+}

@@ -1,0 +1,54 @@
+//! Laws of the grammar.
+
+ghost use Rattle.std.specs.Prelude.{◌≡◌, None, MatchResult};
+ghost use Rattle.mac_frame.specs.Elements.{CutsNone, ReadsElements};
+ghost use Rattle.mac_frame.specs.Faults.{first_fault};
+ghost use Rattle.mac_frame.specs.Spelling.{Frame, IsFrame, AreSpelled, spelling};
+
+use crate::contents::parts_from;
+use crate::fault::FrameFault;
+use crate::fields::{address_from, word_from};
+use crate::frame::{MacFrame, parse, write};
+
+/// What the grammar spells has no fault.
+pub fn spelled_without_fault()
+    ensures { (f : Frame) → IsFrame f → first_fault (spelling f) ≡ None }
+{}
+
+/// Bytes without a fault are the spelling of a frame of the grammar.
+pub fn faultless_is_spelled(bytes: &[u8])
+    ensures { first_fault bytes.now ≡ None → AreSpelled bytes.now }
+{
+    let Ok(_parts) = parts_from(bytes) else {
+        return;
+    };
+    let _duration = word_from(bytes, 2);
+    let _receiver = address_from(bytes, 4);
+    let _sender = address_from(bytes, 10);
+}
+
+/// What is read of the bytes that `write` appended is the frame that was written.
+pub fn written_is_read(frame: &MacFrame, out: &mut Vec<u8>) -> Result<MacFrame, FrameFault>
+    ensures { MatchResult result (λ read. read ≡ frame.now) (λ e. e ≡ FrameFault.Memory) }
+{
+    frame.known();
+    let alloc = *out.allocator();
+    let start = out.len();
+    write(frame, out)?;
+    parse(alloc, &out[start..])
+}
+
+/// No two frames have one spelling.
+pub fn one_frame()
+    ensures { (f g : Frame) → IsFrame f → IsFrame g → spelling f ≡ spelling g → f ≡ g }
+{}
+
+/// Bytes in which no element is cut are spelled by elements, and no others are.
+pub fn cut_where_not_elements()
+    ensures { CutsNone }
+{}
+
+/// What elements spell is read as these elements.
+pub fn elements_are_read()
+    ensures { ReadsElements }
+{}

@@ -1,0 +1,5 @@
+pub mod Bits
+pub mod Numbers
+pub mod Fields
+pub mod Spelled
+pub mod Texts

@@ -1,0 +1,78 @@
+//! Status codes.
+
+ghost use Rattle.std.specs.Prelude.{◌≡◌, ◌==◌, ℕ, Some};
+ghost use Rattle.std.specs.Fmt.{decimal};
+ghost use Rattle.mac_types.specs.Numbers.{IsWord};
+
+use std::fmt;
+use std::marker::Model;
+
+/// A status code: what was answered to a request (IEEE 802.11-2016, 9.4.1.9). The constants
+/// have the names of Table 9-46. A clause sees the code.
+#[derive(Clone, Copy, Debug, PartialEq, Eq)]
+pub struct Status {
+    code: u16,
+}
+
+impl Model for Status {
+    ghost Value = { ℕ };
+
+    ghost view = { λ s. s.code };
+
+    ghost inverse = { λ code. record { code = code } };
+}
+
+impl Status {
+    /// 0: what was asked is granted.
+    pub const SUCCESS: Status = Status { code: 0 };
+    /// 1: for a reason that is not said.
+    pub const REFUSED_REASON_UNSPECIFIED: Status = Status { code: 1 };
+    /// 10: the station lacks a capability.
+    pub const REFUSED_CAPABILITIES_MISMATCH: Status = Status { code: 10 };
+    /// 12: for a reason that the standard does not know.
+    pub const DENIED_OTHER_REASON: Status = Status { code: 12 };
+    /// 13: the authentication algorithm is not supported.
+    pub const UNSUPPORTED_AUTH_ALGORITHM: Status = Status { code: 13 };
+    /// 14: the transaction sequence number is not the expected one.
+    pub const TRANSACTION_SEQUENCE_ERROR: Status = Status { code: 14 };
+    /// 17: there is no room for another station.
+    pub const DENIED_NO_MORE_STAS: Status = Status { code: 17 };
+    /// 37: what was asked is declined.
+    pub const REQUEST_DECLINED: Status = Status { code: 37 };
+
+    /// The status with this code.
+    pub fn new(code: u16) -> Self
+        ensures { result ≡ code }
+    {
+        Status { code }
+    }
+
+    /// The code.
+    pub fn code(self) -> u16
+        ensures value { result ≡ self }
+        ensures fits { IsWord self }
+    {
+        self.code
+    }
+
+    /// Whether the request was granted.
+    pub fn is_success(self) -> bool
+        ensures { result ≡ (self == 0) }
+    {
+        self == Status::SUCCESS
+    }
+
+    /// Tells a proof what each value of the type keeps, and does nothing.
+    pub fn known(self)
+        ensures { IsWord self }
+    {}
+}
+
+/// The code in decimal.
+impl fmt::Display for Status {
+    ghost output = { λ s. Some (decimal s) };
+
+    fn fmt<W: fmt::Write>(&self, f: &mut fmt::Formatter<W>) -> fmt::Result {
+        write!(f, "{}", self.code)
+    }
+}
