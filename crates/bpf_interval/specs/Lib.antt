@@ -1,0 +1,3 @@
+pub mod Interval
+pub mod Signed
+pub mod Laws

@@ -1,0 +1,4 @@
+pub mod Contains
+pub mod Low
+pub mod Meet
+pub mod Sound

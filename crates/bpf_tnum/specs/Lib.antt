@@ -1,0 +1,2 @@
+pub mod Tnum
+pub mod Laws
