@@ -1,0 +1,33 @@
+-- Inclusion of two lists, from a place on.
+use Rattle.std.proofs.Common.{◌≡◌, ℕ, ◌+◌, ◌<◌, ◌≤◌, List, length, drop, true, false, refl, ap, arith, ◌∙◌, sym, drop-cons, get_or, suc}
+use Rattle.std.specs.Prelude.{◌&&◌}
+use Rattle.std.proofs.lemmas.List.{drop_all}
+use Rattle.bpf_absstate.specs.declared.value.AbsVal.{AbsVal}
+use Rattle.bpf_absstate.specs.Inclusion.{value_included, values_included}
+
+next : (k : ℕ) → suc k ≡ k + 1
+next k = omega arith
+
+from_here : (a b : List AbsVal) (k : ℕ) (x y : AbsVal) → k < length a → k < length b →
+    values_included (drop k a) (drop k b) ≡ (value_included (get_or a k x) (get_or b k y) && values_included (drop (k + 1) a) (drop (k + 1) b))
+unfolding values_included
+from_here a b k x y h g =
+    rw (drop-cons a k x h, drop-cons b k y g)
+        (ap (λ n. value_included (get_or a k x) (get_or b k y) && values_included (drop n a) (drop n b)) (next k))
+
+past_end : (a b : List AbsVal) (k : ℕ) → length a ≤ k → length a ≡ length b → values_included (drop k a) (drop k b) ≡ true
+unfolding values_included
+past_end a b k h same = rw (drop_all k a h, drop_all k b (omega (arith, h, same))) refl
+
+pub differs : (a b : List AbsVal) (k : ℕ) (x y : AbsVal) → k < length a → length a ≡ length b → false ≡ value_included (get_or a k x) (get_or b k y) →
+    values_included a b ≡ values_included (drop k a) (drop k b) → false ≡ values_included a b
+differs a b k x y h same found so_far =
+    sym (so_far ∙ from_here a b k x y h (omega (arith, h, same)) ∙ ap (λ t. t && values_included (drop (k + 1) a) (drop (k + 1) b)) (sym found))
+
+pub goes_on : (a b : List AbsVal) (k : ℕ) (x y : AbsVal) → k < length a → length a ≡ length b → true ≡ value_included (get_or a k x) (get_or b k y) →
+    values_included a b ≡ values_included (drop k a) (drop k b) → values_included a b ≡ values_included (drop (k + 1) a) (drop (k + 1) b)
+goes_on a b k x y h same so so_far =
+    so_far ∙ from_here a b k x y h (omega (arith, h, same)) ∙ ap (λ t. t && values_included (drop (k + 1) a) (drop (k + 1) b)) (sym so)
+
+pub ends : (a b : List AbsVal) (k : ℕ) → length a ≤ k → length a ≡ length b → values_included a b ≡ values_included (drop k a) (drop k b) → true ≡ values_included a b
+ends a b k h same so_far = sym (so_far ∙ past_end a b k h same)

@@ -1,0 +1,2 @@
+mod FromHere
+mod Keeps

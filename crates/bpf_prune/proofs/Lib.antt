@@ -1,0 +1,2 @@
+mod Newest
+mod Rotated

@@ -1,0 +1,64 @@
+//! The finished states of every slot.
+
+ghost use Rattle.std.specs.Prelude.{◌≡◌, [], replicate, OnOk, OnErr, IfOk, IfSome};
+ghost use Rattle.bpf_prune.specs.Covering.{newest_covering, with_entry, Covers, kept_at};
+
+use crate::kept::{Entry, Kept};
+use bpf_absstate::AbsState;
+use std::alloc::{AllocError, Global};
+use std::marker::Model;
+
+/// For each slot of a code its newest finished states.
+#[derive(Drop)]
+pub struct Finished {
+    slots: Vec<Kept>,
+}
+
+impl Model for Finished {
+    ghost use Rattle.std.specs.Prelude.{List};
+    ghost use Rattle.bpf_prune.specs.declared.kept.Entry.{Entry};
+
+    ghost Value = { List (List Entry) };
+
+    ghost view = { λ a. a.slots.items };
+}
+
+impl Finished {
+    /// Nothing is finished, in a code of so many slots.
+    pub fn new(alloc: Global, slots: usize) -> Result<Finished, AllocError>
+        ensures is { IfOk result (λ finished. finished ≡ replicate slots []) }
+    {
+        let mut table = Vec::with_capacity(alloc, slots)?;
+        for _slot in 0..slots {
+            table.push(Kept::none(alloc))?;
+        }
+        Ok(Finished { slots: table })
+    }
+
+    /// Keeps a state at its slot; of 64 there the oldest is given up. Where memory is wanting nothing changes, nor
+    /// does anything for a slot outside the code.
+    pub fn keep(&mut self, entry: Entry) -> Result<(), AllocError>
+        ensures ok { OnOk result (self.new ≡ with_entry self.old entry) }
+        ensures err { OnErr result (self.new ≡ self.old) }
+    {
+        let pc = entry.state.pc();
+        if pc < self.slots.len() {
+            let kept = &mut self.slots[pc];
+            kept.keep(entry)?;
+        }
+        Ok(())
+    }
+
+    /// The budget of the newest state kept at this one's slot in which it lies.
+    pub fn covering(&self, state: &AbsState) -> Option<u32>
+        ensures is { result ≡ newest_covering (kept_at self.now state.now.pc) state.now }
+        ensures covers { IfSome result (Covers (kept_at self.now state.now.pc) state.now) }
+    {
+        let pc = state.pc();
+        if pc < self.slots.len() {
+            let kept = &self.slots[pc];
+            return kept.covering(state);
+        }
+        None
+    }
+}

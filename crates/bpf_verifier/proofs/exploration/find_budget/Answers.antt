@@ -1,0 +1,77 @@
+use Rattle.std.proofs.Common.{rules, ◌≡◌, ◌≤◌, ◌-◌, ◌+◌, ◌^◌, [], ℕ, List, length, None, Some, refl, sym, subst, ap, ◌∙◌, arith}
+use Rattle.std.proofs.lemmas.Grind.{common_steps}
+use Rattle.std.specs.List.{All}
+use Rattle.std.proofs.lemmas.List.Elements.{All-nil}
+use Rattle.bpf_decode.specs.Program.{Begins}
+use Rattle.bpf_model.specs.Run.{setting}
+use Rattle.bpf_model.specs.State.{entry}
+use Rattle.bpf_absstate.specs.View.{View, entry_view}
+use Rattle.bpf_prune.specs.declared.kept.Entry.{Entry}
+use Rattle.bpf_verifier.specs.declared.exploration.Frame.{Frame}
+use Rattle.bpf_verifier.specs.Clear.{IsClear}
+use Rattle.bpf_verifier.specs.Path.{Linked}
+use Rattle.bpf_verifier.specs.Safety.{IsSetting, IsExplored, AllSafe}
+use Rattle.bpf_verifier.specs.Walked.{IsWalked, Reaches}
+use Rattle.bpf_verifier.proofs.Clears.{AreClear-none, clear_some}
+use Rattle.bpf_verifier.proofs.Graph.{reaches_walk}
+use Rattle.bpf_verifier.proofs.Paths.{Linked-empty}
+use Rattle.bpf_verifier.proofs.Tables.{none}
+use Rattle.bpf_verifier.proofs.exploration.find_budget.Goals as goal
+
+pub visit-init : goal.visit-init
+visit-init c =
+    let fs : List Frame = c.in_ok-exploration.exploration.path.items in
+    let table : List (List Entry) = c.in_ok-exploration.exploration.finished in
+    let empty : fs ≡ [] = c.in_ok-exploration.ensures.path in
+    let size : length fs ≡ 0 = ap length empty in
+    let same : c.in_ok-current.current ≡ entry_view = c.in_ok-current.ensures.is in
+    record {
+      counted = record { frames = rw empty (All-nil _); finished = none (λ e. e.budget + length fs ≤ c.in_ok-exploration.exploration.visits) table _ c.in_ok-exploration.ensures.finished };
+      paid = omega (arith, size);
+      begins = rw same c.whole.ensures.is.first;
+      begun = rw empty (All-nil _);
+      path = λ p set. rw same (Linked-empty (IsExplored p) fs entry_view empty);
+      safe = λ p set. none (λ e. AllSafe p e.budget e.state) table _ c.in_ok-exploration.ensures.finished;
+      walks = λ plain. rw same (Linked-empty (IsWalked c.args.program.now.slots) fs entry_view empty);
+      walked = λ plain. none (λ e. Reaches c.args.program.now.slots e.state.pc e.budget) table _ c.in_ok-exploration.ensures.finished;
+      clear = λ clear. (2 ^ 22, 0, rw same clear, AreClear-none c.args.program.now.slots fs empty, omega (arith, c.in_ok-exploration.ensures.visits));
+    }
+
+pub visit-preserved : goal.visit-preserved
+visit-preserved c =
+    let h = c.visit.invariant in
+    record {
+      counted = c.in-Ok-Onward.ensures.counted;
+      paid = rw c.in-Ok-Onward.field-0-is at c.in-Ok-Onward.ensures.paid;
+      begins = (rw c.in-Ok-Onward.field-0-is at c.in-Ok-Onward.ensures.begun h.begun).1;
+      begun = (c.in-Ok-Onward.ensures.begun h.begun).0;
+      path = λ p set. (rw c.in-Ok-Onward.field-0-is at c.in-Ok-Onward.ensures.safe p entry_view set (h.path p set, h.safe p set)).0;
+      safe = λ p set. (c.in-Ok-Onward.ensures.safe p entry_view set (h.path p set, h.safe p set)).1;
+      walks = λ plain. (rw c.in-Ok-Onward.field-0-is at c.in-Ok-Onward.ensures.walked entry_view plain (h.walks plain, h.walked plain)).0;
+      walked = λ plain. (c.in-Ok-Onward.ensures.walked entry_view plain (h.walks plain, h.walked plain)).1;
+      clear = λ clear.
+        let k = h.clear clear in
+        let left : ℕ = 2 ^ 22 - (c.visit.exploration.visits + 1) in
+        let r = rw c.in-Ok-Onward.field-0-is at c.in-Ok-Onward.ensures.clear k.0 k.1 left k.2 k.3 (omega (arith, k.4, c.visit-test.true)) in
+        (r.0, r.1, r.2, r.3, omega (arith, r.4, c.in-Ok-Onward.ensures.visits, c.visit-test.true));
+    }
+
+pub returns-in-Ok-Over-clause-safe : goal.returns-in-Ok-Over-clause-safe
+returns-in-Ok-Over-clause-safe c =
+    c.within_law.ensures c.args.program.now.slots c.args.program.now.shapes c.in-Ok-Over.budget (λ frame context short long bytes bytes2.
+        let p = setting c.args.program.now.slots c.args.program.now.shapes frame context in
+        let set : IsSetting c.args.program.now p = record { code = refl; shapes = refl; frame = short; context = long; frame_bytes = bytes; context_bytes = bytes2 } in
+        let h = c.visit.invariant in
+        (rw c.in-Ok-Over.field-0-is at c.in-Ok-Over.ensures.safe p entry_view set (h.path p set, h.safe p set)).0 entry (c.entry_law.ensures.contains p))
+
+pub returns-in-Ok-Over-clause-walk : goal.returns-in-Ok-Over-clause-walk
+returns-in-Ok-Over-clause-walk c = λ plain.
+    let h = c.visit.invariant in
+    let r = (rw c.in-Ok-Over.field-0-is at c.in-Ok-Over.ensures.walked entry_view plain (h.walks plain, h.walked plain)).0 in
+    reaches_walk c.args.program.now.slots c.in-Ok-Over.budget r
+
+pub returns-clause-clear : goal.returns-clause-clear
+returns-clause-clear c = λ clear.
+    let k = c.visit.invariant.clear clear in
+    let some = clear_some c.args.program.now.slots c.visit.current k.0 k.2 in
+    absurd (omega (arith, some, k.4, c.visit-test.false))
