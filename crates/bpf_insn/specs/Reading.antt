@@ -5,6 +5,8 @@ use Rattle.bpf_insn.specs.declared.fields.Fields.{Fields}
 use Rattle.bpf_insn.specs.declared.fault.FieldFault.{FieldFault}
 use Rattle.bpf_insn.specs.declared.insn.AluOp.{AluOp}
 use Rattle.bpf_insn.specs.declared.insn.AluOp.TheVariants as alu
+use Rattle.bpf_insn.specs.declared.insn.Compare.{Compare}
+use Rattle.bpf_insn.specs.declared.insn.Size.{Size}
 use Rattle.bpf_insn.specs.declared.insn.AtomicOp.{AtomicOp}
 use Rattle.bpf_insn.specs.declared.insn.AtomicOp.TheVariants as atomic
 use Rattle.bpf_insn.specs.declared.insn.Extension.{Extension}
@@ -93,20 +95,29 @@ wide_at f high =
     (if nat_eq f.src 0 then wide.Number (cast_unsigned w32 f.imm + 2 ^ 32 * cast_unsigned w32 high) else
     (if nat_eq f.src 5 then wide.Map (cast_unsigned w32 f.imm) else wide.MapValue (cast_unsigned w32 f.imm) (cast_unsigned w32 high)))
 
+abbrev pub read_alu : AluOp → Bool → Bool → Fields → Insn
+read_alu op w false f = insn.Alu (signed_op op (unsigned_abs f.offset)) w f.dst (source.Imm f.imm)
+read_alu op w true f = register_alu op w f
+
+abbrev pub read_branch : Compare → Bool → Bool → Fields → Insn
+read_branch c w false f = insn.Branch c w f.dst (source.Imm f.imm) f.offset
+read_branch c w true f = insn.Branch c w f.dst (source.Reg f.src) f.offset
+
+abbrev pub read_store : Size → Bool → Fields → Insn
+read_store z false f = insn.Store z f.dst f.offset (source.Imm f.imm)
+read_store z true f = insn.Store z f.dst f.offset (source.Reg f.src)
+
 abbrev pub insn_at : Kind → Fields → ℤ → Insn
-insn_at (kind.Alu op w false) f high = insn.Alu (signed_op op (unsigned_abs f.offset)) w f.dst (source.Imm f.imm)
-insn_at (kind.Alu op w true) f high = register_alu op w f
+insn_at (kind.Alu op w r) f high = read_alu op w r f
 insn_at (kind.Neg w) f high = insn.Neg w f.dst
 insn_at (kind.End o) f high = insn.End o (order_width_at (unsigned_abs f.imm)) f.dst
-insn_at (kind.Branch c w false) f high = insn.Branch c w f.dst (source.Imm f.imm) f.offset
-insn_at (kind.Branch c w true) f high = insn.Branch c w f.dst (source.Reg f.src) f.offset
+insn_at (kind.Branch c w r) f high = read_branch c w r f
 insn_at kind.Jump f high = insn.Jump f.offset
 insn_at kind.JumpLong f high = insn.JumpLong f.imm
 insn_at kind.Call f high = (if nat_eq f.src 0 then insn.Call f.imm else insn.CallLocal f.imm)
 insn_at kind.Exit f high = insn.Exit
 insn_at (kind.Load z s) f high = insn.Load z s f.dst f.src f.offset
-insn_at (kind.Store z false) f high = insn.Store z f.dst f.offset (source.Imm f.imm)
-insn_at (kind.Store z true) f high = insn.Store z f.dst f.offset (source.Reg f.src)
+insn_at (kind.Store z r) f high = read_store z r f
 insn_at (kind.Atomic w) f high = insn.Atomic (update_at (unsigned_abs f.imm)) w f.dst f.src f.offset
 insn_at kind.LoadWide f high = insn.LoadWide f.dst (wide_at f high)
 

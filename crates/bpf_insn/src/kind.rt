@@ -1,6 +1,7 @@
 //! Opcodes, and what each allows in the fields.
 
 ghost use Rattle.std.specs.Prelude.{◌≡◌, ◌<◌, ◌↔◌, IsTrue, IfNone, IfSome};
+ghost use Rattle.bpf_insn.specs.declared.kind.Kind.TheVariants as kind;
 ghost use Rattle.bpf_insn.specs.Kinds.{kind_at, arithmetic_at, op_at, branch_at, compare_at, size_at, load_at, store_at};
 ghost use Rattle.bpf_insn.specs.Uses.{Meets, uses_of, fault_of};
 ghost use Rattle.bpf_insn.specs.Faults.{Broken};
@@ -324,35 +325,31 @@ fn fields_use(dst: Use, src: Use, offset: Use, imm: Use) -> Uses
     }
 }
 
-/// What a slot of this kind uses its fields for.
-pub(crate) fn uses_in(kind: Kind) -> Uses
-    ensures { result ≡ uses_of kind }
+fn alu_uses(op: AluOp, wide: bool, register: bool) -> Uses
+    ensures is { result ≡ uses_of (kind.Alu op wide register) }
 {
     use Use::*;
-    match kind {
-        Kind::Alu {
-            op,
-            register: false,
-            ..
-        } => match op {
+    if !register {
+        return match op {
             AluOp::Div | AluOp::Mod => fields_use(Register, Unused, Sign, Free),
             _ => fields_use(Register, Unused, Unused, Free),
-        },
-        Kind::Alu {
-            op,
-            wide,
-            register: true,
-        } => match op {
-            AluOp::Div | AluOp::Mod => fields_use(Register, Register, Sign, Unused),
-            AluOp::Mov => {
-                if wide {
-                    fields_use(Register, Register, WideMove, Unused)
-                } else {
-                    fields_use(Register, Register, NarrowMove, Unused)
-                }
-            }
-            _ => fields_use(Register, Register, Unused, Unused),
-        },
+        };
+    }
+    match op {
+        AluOp::Div | AluOp::Mod => fields_use(Register, Register, Sign, Unused),
+        AluOp::Mov if wide => fields_use(Register, Register, WideMove, Unused),
+        AluOp::Mov => fields_use(Register, Register, NarrowMove, Unused),
+        _ => fields_use(Register, Register, Unused, Unused),
+    }
+}
+
+/// What a slot of this kind uses its fields for.
+pub(crate) fn uses_in(k: Kind) -> Uses
+    ensures { result ≡ uses_of k }
+{
+    use Use::*;
+    match k {
+        Kind::Alu { op, wide, register } => alu_uses(op, wide, register),
         Kind::Neg { .. } => fields_use(Register, Unused, Unused, Unused),
         Kind::End { .. } => fields_use(Register, Unused, Unused, Width),
         Kind::Branch {

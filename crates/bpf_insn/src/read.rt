@@ -5,13 +5,14 @@ ghost use Rattle.std.specs.Int.{w32, cast_unsigned};
 ghost use Rattle.bpf_insn.specs.Kinds.{kind_at};
 ghost use Rattle.bpf_insn.specs.Uses.{Meets, uses_of};
 ghost use Rattle.bpf_insn.specs.Faults.{InFields, InSecond, InHalf, IsHalf, HasFault, IsLeast, number_of};
-ghost use Rattle.bpf_insn.specs.Reading.{Fine, IsFineHalf, HalfFine, ReadAs, least_of, ReadsFault, half_imm, IsHalfOf, signed_op, extension_at, order_width_at, register_alu, update_at, wide_at, insn_at};
+ghost use Rattle.bpf_insn.specs.Reading.{Fine, IsFineHalf, HalfFine, ReadAs, least_of, ReadsFault, half_imm, IsHalfOf, signed_op, extension_at, order_width_at, register_alu, update_at, wide_at, insn_at, read_alu, read_branch, read_store};
+ghost use Rattle.bpf_insn.specs.declared.kind.Kind.TheVariants as kind;
 ghost use Rattle.bpf_insn.specs.Spelled.{Spelled};
 ghost use Rattle.bpf_insn.specs.Slot.{fields_at, half_at, FitsSlot};
 
 use crate::fault::FieldFault;
 use crate::fields::{Fields, fields_in};
-use crate::insn::{AluOp, AtomicOp, Extension, Insn, OrderWidth, Reg, Source, Wide};
+use crate::insn::{AluOp, AtomicOp, Compare, Extension, Insn, OrderWidth, Reg, Size, Source, Wide};
 use crate::kind::{Kind, kind_of, uses_in};
 
 /// The operation of an opcode's code and the offset, which tells a signed division.
@@ -114,24 +115,99 @@ fn wide_of(fields: Fields, high: i32) -> Wide
     }
 }
 
-/// The instruction of fields in which nothing is wrong.
-fn insn_of(kind: Kind, fields: Fields, high: i32) -> Insn
-    requires { Fine (uses_of kind) fields }
-    ensures { result ≡ insn_at kind fields high }
+fn alu_of(op: AluOp, wide: bool, register: bool, fields: Fields) -> Insn
+    requires fine { Fine (uses_of (kind.Alu op wide register)) fields }
+    ensures is { result ≡ read_alu op wide register fields }
 {
-    match kind {
-        Kind::Alu { op, wide, register } => {
-            if register {
-                on_registers(op, wide, fields)
-            } else {
-                Insn::Alu {
-                    op: signed(op, fields.offset.unsigned_abs()),
-                    wide,
-                    dst: Reg::new(fields.dst),
-                    source: Source::Imm(fields.imm),
-                }
-            }
-        }
+    if register {
+        return on_registers(op, wide, fields);
+    }
+    Insn::Alu {
+        op: signed(op, fields.offset.unsigned_abs()),
+        wide,
+        dst: Reg::new(fields.dst),
+        source: Source::Imm(fields.imm),
+    }
+}
+
+fn branch_of(compare: Compare, wide: bool, register: bool, fields: Fields) -> Insn
+    requires fine { Fine (uses_of (kind.Branch compare wide register)) fields }
+    ensures is { result ≡ read_branch compare wide register fields }
+{
+    let source = if register {
+        Source::Reg(Reg::new(fields.src))
+    } else {
+        Source::Imm(fields.imm)
+    };
+    Insn::Branch {
+        compare,
+        wide,
+        dst: Reg::new(fields.dst),
+        source,
+        offset: fields.offset,
+    }
+}
+
+fn store_of(size: Size, register: bool, fields: Fields) -> Insn
+    requires fine { Fine (uses_of (kind.Store size register)) fields }
+    ensures is { result ≡ read_store size register fields }
+{
+    let source = if register {
+        Source::Reg(Reg::new(fields.src))
+    } else {
+        Source::Imm(fields.imm)
+    };
+    Insn::Store {
+        size,
+        dst: Reg::new(fields.dst),
+        offset: fields.offset,
+        source,
+    }
+}
+
+fn call_of(fields: Fields) -> Insn
+    ensures is { result ≡ insn_at kind.Call fields (pos 0) }
+{
+    if fields.src == 0 {
+        Insn::Call { helper: fields.imm }
+    } else {
+        Insn::CallLocal { offset: fields.imm }
+    }
+}
+
+fn load_of(size: Size, signed: bool, fields: Fields) -> Insn
+    requires fine { Fine (uses_of (kind.Load size signed)) fields }
+    ensures is { result ≡ insn_at (kind.Load size signed) fields (pos 0) }
+{
+    Insn::Load {
+        size,
+        signed,
+        dst: Reg::new(fields.dst),
+        src: Reg::new(fields.src),
+        offset: fields.offset,
+    }
+}
+
+fn atomic_of(wide: bool, fields: Fields) -> Insn
+    requires fine { Fine (uses_of (kind.Atomic wide)) fields }
+    ensures is { result ≡ insn_at (kind.Atomic wide) fields (pos 0) }
+{
+    Insn::Atomic {
+        op: update_of(fields.imm.unsigned_abs()),
+        wide,
+        dst: Reg::new(fields.dst),
+        src: Reg::new(fields.src),
+        offset: fields.offset,
+    }
+}
+
+/// The instruction of fields in which nothing is wrong.
+fn insn_of(k: Kind, fields: Fields, high: i32) -> Insn
+    requires { Fine (uses_of k) fields }
+    ensures { result ≡ insn_at k fields high }
+{
+    match k {
+        Kind::Alu { op, wide, register } => alu_of(op, wide, register, fields),
         Kind::Neg { wide } => Insn::Neg {
             wide,
             dst: Reg::new(fields.dst),
@@ -145,53 +221,16 @@ fn insn_of(kind: Kind, fields: Fields, high: i32) -> Insn
             compare,
             wide,
             register,
-        } => Insn::Branch {
-            compare,
-            wide,
-            dst: Reg::new(fields.dst),
-            source: if register {
-                Source::Reg(Reg::new(fields.src))
-            } else {
-                Source::Imm(fields.imm)
-            },
-            offset: fields.offset,
-        },
+        } => branch_of(compare, wide, register, fields),
         Kind::Jump => Insn::Jump {
             offset: fields.offset,
         },
         Kind::JumpLong => Insn::JumpLong { offset: fields.imm },
-        Kind::Call => {
-            if fields.src == 0 {
-                Insn::Call { helper: fields.imm }
-            } else {
-                Insn::CallLocal { offset: fields.imm }
-            }
-        }
+        Kind::Call => call_of(fields),
         Kind::Exit => Insn::Exit,
-        Kind::Load { size, signed } => Insn::Load {
-            size,
-            signed,
-            dst: Reg::new(fields.dst),
-            src: Reg::new(fields.src),
-            offset: fields.offset,
-        },
-        Kind::Store { size, register } => Insn::Store {
-            size,
-            dst: Reg::new(fields.dst),
-            offset: fields.offset,
-            source: if register {
-                Source::Reg(Reg::new(fields.src))
-            } else {
-                Source::Imm(fields.imm)
-            },
-        },
-        Kind::Atomic { wide } => Insn::Atomic {
-            op: update_of(fields.imm.unsigned_abs()),
-            wide,
-            dst: Reg::new(fields.dst),
-            src: Reg::new(fields.src),
-            offset: fields.offset,
-        },
+        Kind::Load { size, signed } => load_of(size, signed, fields),
+        Kind::Store { size, register } => store_of(size, register, fields),
+        Kind::Atomic { wide } => atomic_of(wide, fields),
         Kind::LoadWide => Insn::LoadWide {
             dst: Reg::new(fields.dst),
             value: wide_of(fields, high),

@@ -70,6 +70,11 @@ fn arithmetic_is_read_as_the_tables_say(rt: HostRuntime) {
         [0xc7, 0x01, 0, 0, 63, 0, 0, 0],
         alu(AluOp::Arsh, true, Source::Imm(63)),
     );
+}
+
+#[test]
+fn moves_and_byte_orders_are_read_as_the_tables_say(rt: HostRuntime) {
+    let (r1, r2) = (Reg::new(1), Reg::new(2));
     // movsx32 r1, r2; movsx16_32 r1, r2; neg r1; be16 r1; swap64 r1
     reads(
         &rt,
@@ -120,8 +125,8 @@ fn arithmetic_is_read_as_the_tables_say(rt: HostRuntime) {
 }
 
 #[test]
-fn jumps_and_accesses_are_read_as_the_tables_say(rt: HostRuntime) {
-    let (r1, r2) = (Reg::new(1), Reg::new(2));
+fn jumps_are_read_as_the_tables_say(rt: HostRuntime) {
+    let r1 = Reg::new(1);
     // ja -1; ja32 +65536; jsgt32 r1, -1, +2; call 5; call local +1; exit
     reads(
         &rt,
@@ -149,6 +154,11 @@ fn jumps_and_accesses_are_read_as_the_tables_say(rt: HostRuntime) {
         Insn::CallLocal { offset: 1 },
     );
     reads(&rt, [0x95, 0, 0, 0, 0, 0, 0, 0], Insn::Exit);
+}
+
+#[test]
+fn accesses_are_read_as_the_tables_say(rt: HostRuntime) {
+    let (r1, r2) = (Reg::new(1), Reg::new(2));
     // ldsxh r1, [r2-8]; stw [r1+4], 7; stxdw [r1+8], r2; cmpxchg [r1+0], r2; fetch_and32 [r1+0], r2
     reads(
         &rt,

@@ -1,14 +1,15 @@
 //! Slots from instructions.
 
 ghost use Rattle.std.specs.Prelude.{◌≡◌, ◌≤◌, ◌+◌, ◌*◌, ◌↔◌, pos, Option, Some, None};
+ghost use Rattle.bpf_insn.specs.declared.insn.Insn.TheVariants as insn;
 ghost use Rattle.bpf_insn.specs.Slot.{slot_of, FitsSlot};
 ghost use Rattle.bpf_insn.specs.Widths.{extension_bits, order_bits};
-ghost use Rattle.bpf_insn.specs.Opcodes.{alu_code, alu_class, compare_code, size_code};
+ghost use Rattle.bpf_insn.specs.Opcodes.{alu_code, alu_class, compare_code, size_code, end_code};
 ghost use Rattle.bpf_insn.specs.Spelled.{alu_sign, atomic_code, wide_kind, wide_low, wide_high, fields_of, second_of, IsInsn, IsWide, IsSecond, Spelled, second_slot_of};
 
 use crate::fields::{Fields, slot_with};
 use crate::insn::{
-    AluOp, AtomicOp, ByteOrder, Compare, Extension, Insn, OrderWidth, Size, Source, Wide,
+    AluOp, AtomicOp, ByteOrder, Compare, Extension, Insn, OrderWidth, Reg, Size, Source, Wide,
 };
 
 fn alu_bits(op: AluOp) -> u8
@@ -145,54 +146,117 @@ fn wide_fields(value: Wide) -> (u8, i32, i32)
     }
 }
 
-/// The fields of an instruction's first slot.
-fn first_fields(insn: Insn) -> Fields
-    requires { IsInsn insn }
-    ensures { result ≡ fields_of insn }
+fn alu_fields(op: AluOp, wide: bool, dst: Reg, source: Source) -> Fields
+    ensures is { result ≡ fields_of (insn.Alu op wide dst source) }
 {
-    match insn {
+    let (code, class, sign) = (alu_bits(op), class_of(wide), sign_of(op));
+    match source {
+        Source::Imm(imm) => fields(code + class, dst.number(), 0, sign, imm),
+        Source::Reg(src) => fields(code + 8 + class, dst.number(), src.number(), sign, 0),
+    }
+}
+
+fn branch_fields(compare: Compare, wide: bool, dst: Reg, source: Source, offset: i16) -> Fields
+    ensures is { result ≡ fields_of (insn.Branch compare wide dst source offset) }
+{
+    let (code, class) = (compare_bits(compare), if wide { 5 } else { 6 });
+    match source {
+        Source::Imm(imm) => fields(code + class, dst.number(), 0, offset, imm),
+        Source::Reg(src) => fields(code + 8 + class, dst.number(), src.number(), offset, 0),
+    }
+}
+
+fn store_fields(size: Size, dst: Reg, offset: i16, source: Source) -> Fields
+    ensures is { result ≡ fields_of (insn.Store size dst offset source) }
+{
+    match source {
+        Source::Imm(imm) => fields(0x62 + size_bits(size), dst.number(), 0, offset, imm),
+        Source::Reg(src) => fields(
+            0x63 + size_bits(size),
+            dst.number(),
+            src.number(),
+            offset,
+            0,
+        ),
+    }
+}
+
+fn end_bits(order: ByteOrder) -> u8
+    ensures is { result ≡ end_code order }
+{
+    match order {
+        ByteOrder::Little => 0xd4,
+        ByteOrder::Big => 0xdc,
+        ByteOrder::Swap => 0xd7,
+    }
+}
+
+fn load_fields(size: Size, signed: bool, dst: Reg, src: Reg, offset: i16) -> Fields
+    ensures is { result ≡ fields_of (insn.Load size signed dst src offset) }
+{
+    let mode = if signed { 0x81 } else { 0x61 };
+    fields(
+        mode + size_bits(size),
+        dst.number(),
+        src.number(),
+        offset,
+        0,
+    )
+}
+
+fn atomic_fields(op: AtomicOp, wide: bool, dst: Reg, src: Reg, offset: i16) -> Fields
+    ensures is { result ≡ fields_of (insn.Atomic op wide dst src offset) }
+{
+    let opcode = if wide { 0xdb } else { 0xc3 };
+    fields(opcode, dst.number(), src.number(), offset, update_imm(op))
+}
+
+fn move_fields(from: Extension, wide: bool, dst: Reg, src: Reg) -> Fields
+    ensures is { result ≡ fields_of (insn.MovSx from wide dst src) }
+{
+    fields(
+        0xb8 + class_of(wide),
+        dst.number(),
+        src.number(),
+        extension_offset(from),
+        0,
+    )
+}
+
+fn load_wide_fields(dst: Reg, value: Wide) -> Fields
+    requires valid { IsWide value }
+    ensures is { result ≡ fields_of (insn.LoadWide dst value) }
+{
+    let (kind, low, _) = wide_fields(value);
+    fields(0x18, dst.number(), kind, 0, low)
+}
+
+/// The fields of an instruction's first slot.
+fn first_fields(i: Insn) -> Fields
+    requires { IsInsn i }
+    ensures { result ≡ fields_of i }
+{
+    match i {
         Insn::Alu {
             op,
             wide,
             dst,
             source,
-        } => match source {
-            Source::Imm(imm) => fields(
-                alu_bits(op) + class_of(wide),
-                dst.number(),
-                0,
-                sign_of(op),
-                imm,
-            ),
-            Source::Reg(src) => fields(
-                alu_bits(op) + 8 + class_of(wide),
-                dst.number(),
-                src.number(),
-                sign_of(op),
-                0,
-            ),
-        },
+        } => alu_fields(op, wide, dst, source),
         Insn::MovSx {
             from,
             wide,
             dst,
             src,
-        } => fields(
-            0xb8 + class_of(wide),
-            dst.number(),
-            src.number(),
-            extension_offset(from),
-            0,
-        ),
+        } => move_fields(from, wide, dst, src),
         Insn::Neg { wide, dst } => fields(0x80 + class_of(wide), dst.number(), 0, 0, 0),
-        Insn::End { order, width, dst } => {
-            let opcode = match order {
-                ByteOrder::Little => 0xd4,
-                ByteOrder::Big => 0xdc,
-                ByteOrder::Swap => 0xd7,
-            };
-            fields(opcode, dst.number(), 0, 0, width_imm(width))
-        }
+        Insn::End { order, width, dst } => fields(
+            end_bits(order),
+            dst.number(),
+            0,
+            0,
+            width_imm(width),
+        ),
         Insn::Jump { offset } => fields(0x05, 0, 0, offset, 0),
         Insn::JumpLong { offset } => fields(0x06, 0, 0, 0, offset),
         Insn::Branch {
@@ -201,21 +265,7 @@ fn first_fields(insn: Insn) -> Fields
             dst,
             source,
             offset,
-        } => {
-            let class = if wide { 5 } else { 6 };
-            match source {
-                Source::Imm(imm) => {
-                    fields(compare_bits(compare) + class, dst.number(), 0, offset, imm)
-                }
-                Source::Reg(src) => fields(
-                    compare_bits(compare) + 8 + class,
-                    dst.number(),
-                    src.number(),
-                    offset,
-                    0,
-                ),
-            }
-        }
+        } => branch_fields(compare, wide, dst, source, offset),
         Insn::Call { helper } => fields(0x85, 0, 0, 0, helper),
         Insn::CallLocal { offset } => fields(0x85, 0, 1, 0, offset),
         Insn::Exit => fields(0x95, 0, 0, 0, 0),
@@ -225,53 +275,29 @@ fn first_fields(insn: Insn) -> Fields
             dst,
             src,
             offset,
-        } => {
-            let mode = if signed { 0x81 } else { 0x61 };
-            fields(
-                mode + size_bits(size),
-                dst.number(),
-                src.number(),
-                offset,
-                0,
-            )
-        }
+        } => load_fields(size, signed, dst, src, offset),
         Insn::Store {
             size,
             dst,
             offset,
             source,
-        } => match source {
-            Source::Imm(imm) => fields(0x62 + size_bits(size), dst.number(), 0, offset, imm),
-            Source::Reg(src) => fields(
-                0x63 + size_bits(size),
-                dst.number(),
-                src.number(),
-                offset,
-                0,
-            ),
-        },
+        } => store_fields(size, dst, offset, source),
         Insn::Atomic {
             op,
             wide,
             dst,
             src,
             offset,
-        } => {
-            let opcode = if wide { 0xdb } else { 0xc3 };
-            fields(opcode, dst.number(), src.number(), offset, update_imm(op))
-        }
-        Insn::LoadWide { dst, value } => {
-            let (kind, low, _) = wide_fields(value);
-            fields(0x18, dst.number(), kind, 0, low)
-        }
+        } => atomic_fields(op, wide, dst, src, offset),
+        Insn::LoadWide { dst, value } => load_wide_fields(dst, value),
     }
 }
 
-fn second_fields(insn: &Insn) -> Option<Fields>
-    requires { IsInsn insn.now }
-    ensures { result ≡ second_of insn.now }
+fn second_fields(i: &Insn) -> Option<Fields>
+    requires { IsInsn i.now }
+    ensures { result ≡ second_of i.now }
 {
-    match insn {
+    match i {
         Insn::LoadWide { value, .. } => {
             let (_, _, high) = wide_fields(*value);
             Some(fields(0, 0, 0, 0, high))
@@ -280,11 +306,11 @@ fn second_fields(insn: &Insn) -> Option<Fields>
     }
 }
 
-fn first_slot(insn: Insn) -> [u8; 8]
-    requires { IsInsn insn }
-    ensures { result ≡ slot_of (fields_of insn) }
+fn first_slot(i: Insn) -> [u8; 8]
+    requires { IsInsn i }
+    ensures { result ≡ slot_of (fields_of i) }
 {
-    slot_with(first_fields(insn))
+    slot_with(first_fields(i))
 }
 
 fn half_slot(half: Fields) -> Option<[u8; 8]>
@@ -294,11 +320,11 @@ fn half_slot(half: Fields) -> Option<[u8; 8]>
     Some(slot_with(half))
 }
 
-fn second_slot(insn: &Insn) -> Option<[u8; 8]>
-    requires { IsInsn insn.now }
-    ensures { result ≡ second_slot_of (second_of insn.now) }
+fn second_slot(i: &Insn) -> Option<[u8; 8]>
+    requires { IsInsn i.now }
+    ensures { result ≡ second_slot_of (second_of i.now) }
 {
-    match second_fields(insn) {
+    match second_fields(i) {
         Some(half) => half_slot(half),
         None => None,
     }
