@@ -1,0 +1,2 @@
+pub mod TableKeys
+pub mod MapLemmas

@@ -1,0 +1,24 @@
+//! What an access point is configured with.
+
+ghost use Rattle.std.specs.Prelude.{◌≤◌, ◌<◌, ◌^◌, vec_len};
+
+use bpf_regions::Shapes;
+
+/// What an access point is configured with.
+#[derive(Debug, Drop)]
+pub struct Configuration {
+    /// The access point's address.
+    pub bssid: [u8; 6],
+    /// The network's name: at most 32 bytes of UTF-8.
+    pub ssid: Vec<u8>,
+    /// The rates of the Supported Rates element: 1 to 8 bytes (IEEE 802.11-2016, 9.4.2.3).
+    pub rates: Vec<u8>,
+    /// The draw word that each worker begins with, below 2^63.
+    pub draw: u64,
+    /// The maps' shapes, by number.
+    pub maps: Shapes,
+    ghost ssid_fits: { vec_len ssid ≤ 32 },
+    ghost some_rates: { 1 ≤ vec_len rates },
+    ghost rates_fit: { vec_len rates ≤ 8 },
+    ghost draw_fits: { draw < 2 ^ 63 },
+}

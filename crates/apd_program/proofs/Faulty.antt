@@ -1,0 +1,48 @@
+-- What is at fault in files.
+use Rattle.std.proofs.Common.{◌≡◌, ◌≢◌, ◌⊎◌, List, ℕ, Result, Ok, Err, Option, Some, None, inl, inr, refl, subst}
+use Rattle.hex.specs.declared.error.FromHexError.{FromHexError}
+use Rattle.hex.specs.declared.error.FromHexError.TheVariants.{OutOfMemory}
+use Rattle.bpf_regions.specs.declared.maps.Shape.{Shape}
+use Rattle.apd_config.specs.Text.{TellsOfText}
+use Rattle.apd_config.specs.declared.fault.ConfigFault.{ConfigFault}
+use Rattle.apd_config.specs.declared.fault.ConfigFault.TheVariants as config
+use Rattle.apd_program.specs.declared.fault.ProgramFault.{ProgramFault}
+use Rattle.apd_program.specs.declared.fault.ProgramFault.TheVariants.{NoMemory}
+use Rattle.apd_program.specs.Held.{Held, Holds, Configures, code_of}
+use Rattle.apd_program.specs.Faults.{HasBadCode, NoCode, HasBadConfiguration, NoConfiguration, IsBadConfig, IsAtFault, OfConfiguration, OfCode}
+
+pub code_at_fault : (files : Held) (path text slice : List ℕ) (e : FromHexError) (f : ProgramFault) → Holds files path text → slice ≡ text → (e ≡ OutOfMemory) ⊎ (code_of slice ≡ Err e) → (e ≡ OutOfMemory → f ≡ NoMemory)
+    → (f ≡ NoMemory) ⊎ HasBadCode files path
+code_at_fault files path text slice e f there same (inl memory) m = inl (m memory)
+code_at_fault files path text slice e f there same (inr fault) m = inr (NoCode text e there (rw (← same) fault))
+
+known : (e : ConfigFault) → (e ≡ config.NoMemory) ⊎ (e ≢ config.NoMemory)
+known config.NoMemory = inl refl
+known config.Encoding = inr (λ h. cc)
+known (config.Syntax text) = inr (λ h. cc)
+known (config.UnknownKey key) = inr (λ h. cc)
+known (config.Missing key) = inr (λ h. cc)
+known (config.Value key) = inr (λ h. cc)
+known (config.UnknownMapKey map key) = inr (λ h. cc)
+known (config.MissingInMap map key) = inr (λ h. cc)
+known (config.ValueInMap map key) = inr (λ h. cc)
+
+configuration_by : (files : Held) (path text slice : List ℕ) (e : ConfigFault) (f : ProgramFault) → Holds files path text → slice ≡ text → TellsOfText slice e → (e ≡ config.NoMemory → f ≡ NoMemory) → (e ≡ config.NoMemory) ⊎ (e ≢ config.NoMemory)
+    → (f ≡ NoMemory) ⊎ HasBadConfiguration files path
+configuration_by files path text slice e f there same tells m (inl memory) = inl (m memory)
+configuration_by files path text slice e f there same tells m (inr other) =
+    inr (NoConfiguration text e there other (let P : List ℕ → Type 0 = λ t. TellsOfText t e in subst P same tells))
+
+pub configuration_at_fault : (files : Held) (path text slice : List ℕ) (e : ConfigFault) (f : ProgramFault) → Holds files path text → slice ≡ text → TellsOfText slice e → (e ≡ config.NoMemory → f ≡ NoMemory)
+    → (f ≡ NoMemory) ⊎ HasBadConfiguration files path
+configuration_at_fault files path text slice e f there same tells m = configuration_by files path text slice e f there same tells m (known e)
+
+pub IsAtFault-configuration : (files : Held) (file : List ℕ) (config : Option (List ℕ)) (e : ProgramFault) → (e ≡ NoMemory) ⊎ IsBadConfig files config → (e ≡ NoMemory) ⊎ IsAtFault files file config
+IsAtFault-configuration files file config e (inl memory) = inl memory
+IsAtFault-configuration files file config e (inr bad) = inr (OfConfiguration config bad)
+
+pub IsAtFault-code : (files later : Held) (file : List ℕ) (config : Option (List ℕ)) (shapes : List Shape) (e : ProgramFault) → later ≡ files → Configures files config shapes → (e ≡ NoMemory) ⊎ HasBadCode later file
+    → (e ≡ NoMemory) ⊎ IsAtFault files file config
+IsAtFault-code files later file config shapes e same fine (inl memory) = inl memory
+IsAtFault-code files later file config shapes e same fine (inr bad) =
+    inr (OfCode config shapes fine (let P : Held → Type 0 = λ f. HasBadCode f file in subst P same bad))

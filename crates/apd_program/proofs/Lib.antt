@@ -1,0 +1,3 @@
+pub mod Faulty
+pub mod Kept
+pub mod Performing

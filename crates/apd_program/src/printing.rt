@@ -1,0 +1,48 @@
+//! What is written for an answer, a text of help, or a fault.
+
+ghost use Rattle.std.specs.Prelude.{◌≡◌, Some};
+ghost use Rattle.apd_program.specs.Printed.{Prints, PrintsText, fault_status};
+
+use crate::answer::Answer;
+use crate::fault::ProgramFault;
+use apd_output::write_whole;
+use std::alloc::Global;
+use std::io::Write;
+
+/// Prints an answer, and answers the program's status: the answer's where its whole line was
+/// written, 2 where a write failed, 3 where memory ran out before the first.
+pub(crate) fn print<W: Write>(alloc: Global, answer: Answer, out: &mut W) -> u8
+    ensures is { Prints answer (W.contents out.old) (W.contents out.new) result }
+{
+    let Ok(line) = answer.line(alloc) else {
+        return 3;
+    };
+    match write_whole(out, line.as_bytes()) {
+        Ok(()) => answer.status(),
+        Err(_) => 2,
+    }
+}
+
+/// Prints a text that was asked for, as help, and answers the status 0, or 2 where a write failed.
+pub(crate) fn print_text<W: Write>(text: &str, out: &mut W) -> u8
+    ensures is { PrintsText text.now (W.contents out.old) (W.contents out.new) result }
+{
+    match write_whole(out, text.as_bytes()) {
+        Ok(()) => 0,
+        Err(_) => 2,
+    }
+}
+
+/// Tells a fault, and answers its status: 3 where memory ran out, else 2. What is written of its
+/// text doesn't change the status.
+pub(crate) fn complain<W: Write>(alloc: Global, fault: &ProgramFault, err: &mut W) -> u8
+    ensures is { result ≡ fault_status fault.now }
+{
+    if let Ok(text) = format!(in alloc; "{fault}\n") {
+        let _ = write_whole(err, text.as_bytes());
+    }
+    match fault {
+        ProgramFault::NoMemory => 3,
+        _ => 2,
+    }
+}

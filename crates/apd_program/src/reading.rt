@@ -1,0 +1,97 @@
+//! Configurations and code from files.
+
+ghost use Rattle.std.specs.Prelude.{◌≡◌, ◌⊎◌, Ok, Err, [], IfOk, IfErr, option_map};
+ghost use Rattle.apd_program.specs.Held.{Holds, Lacks, HoldsShapes, HoldsCode, Configures, code_of};
+ghost use Rattle.apd_program.specs.Faults.{HasBadCode, HasBadConfiguration, IsBadConfig};
+
+use crate::fault::{ProgramFault, of_configuration, of_digits};
+use crate::files::{FileFault, Files};
+use apd_config::read_configuration;
+use bpf_regions::Shapes;
+use hex::FromHexError;
+use std::alloc::Global;
+
+/// The bytes of a file.
+fn read<F: Files>(alloc: Global, path: &str, files: &mut F) -> Result<Vec<u8>, ProgramFault>
+    ensures there { IfOk result (λ bytes. Holds (F.held files.old) path.now bytes.items) }
+    ensures fault { IfErr result (λ e. (e ≡ ProgramFault.NoMemory) ⊎ Lacks (F.held files.old) path.now) }
+    ensures same { F.held files.new ≡ F.held files.old }
+{
+    match files.read(path) {
+        Ok(bytes) => Ok(bytes),
+        Err(FileFault::NoMemory) => Err(ProgramFault::NoMemory),
+        Err(FileFault::Missing) => {
+            let path = String::from_str(alloc, path)?;
+            Err(ProgramFault::Unreadable(path))
+        }
+    }
+}
+
+/// No maps.
+fn no_shapes(alloc: Global) -> Shapes
+    ensures is { result ≡ [] }
+{
+    match Shapes::new(Vec::new(alloc)) {
+        Some(shapes) => shapes,
+        None => unreachable!(),
+    }
+}
+
+/// The shapes of the maps of a configuration.
+fn configured<F: Files>(alloc: Global, path: &str, files: &mut F) -> Result<Shapes, ProgramFault>
+    ensures shapes { IfOk result (λ shapes. HoldsShapes (F.held files.old) path.now shapes) }
+    ensures fault { IfErr result (λ e. (e ≡ ProgramFault.NoMemory) ⊎ HasBadConfiguration (F.held files.old) path.now) }
+    ensures same { F.held files.new ≡ F.held files.old }
+{
+    let text = read(alloc, path, files)?;
+    match read_configuration(alloc, text.as_slice()) {
+        Ok(configuration) => Ok(configuration.maps),
+        Err(fault) => Err(of_configuration(alloc, path, fault)),
+    }
+}
+
+/// The shapes of the maps: none without a configuration.
+pub(crate) fn shapes<F: Files>(
+    alloc: Global,
+    config: Option<&str>,
+    files: &mut F,
+) -> Result<Shapes, ProgramFault>
+    ensures shapes { IfOk result (λ shapes. Configures (F.held files.old) (option_map (λ path. path.now) config.entry) shapes) }
+    ensures fault { IfErr result (λ e. (e ≡ ProgramFault.NoMemory) ⊎ IsBadConfig (F.held files.old) (option_map (λ path. path.now) config.entry)) }
+    ensures same { F.held files.new ≡ F.held files.old }
+{
+    match config {
+        Some(path) => configured(alloc, path, files),
+        None => Ok(no_shapes(alloc)),
+    }
+}
+
+/// The code that hex digits with white space between them spell.
+fn code_in(alloc: Global, text: &[u8]) -> Result<Vec<u8>, FromHexError>
+    ensures code { IfOk result (λ code. code_of text.now ≡ Ok code.items) }
+    ensures fault { IfErr result (λ e. (e ≡ FromHexError.OutOfMemory) ⊎ (code_of text.now ≡ Err e)) }
+{
+    let digits: Vec<u8> = text
+        .iter()
+        .copied()
+        .filter(|byte| !byte.is_ascii_whitespace())
+        .collect(alloc)?;
+    hex::decode(alloc, digits)
+}
+
+/// The code that a file spells.
+pub(crate) fn code<F: Files>(
+    alloc: Global,
+    path: &str,
+    files: &mut F,
+) -> Result<Vec<u8>, ProgramFault>
+    ensures code { IfOk result (λ code. HoldsCode (F.held files.old) path.now code.items) }
+    ensures fault { IfErr result (λ e. (e ≡ ProgramFault.NoMemory) ⊎ HasBadCode (F.held files.old) path.now) }
+    ensures same { F.held files.new ≡ F.held files.old }
+{
+    let text = read(alloc, path, files)?;
+    match code_in(alloc, text.as_slice()) {
+        Ok(code) => Ok(code),
+        Err(fault) => Err(of_digits(alloc, path, fault)),
+    }
+}

@@ -1,0 +1,104 @@
+-- What words ask for.
+use Rattle.std.specs.Prelude.{◌≡◌, ℕ, ◌-◌, ◌&&◌, nat_le, List, [], ◌∷◌, codes, Option, Some, None, option_map, option_and_then, if◌then◌else◌}
+use Rattle.std.specs.Str.{bytes_eq}
+use Rattle.clap.specs.Words.{Row, Text, first_of}
+use Rattle.bpf_regions.specs.declared.hooks.Hook.{Hook}
+use Rattle.bpf_regions.specs.declared.hooks.Hook.TheVariants.{Association, Addba, Data}
+use Rattle.apd_words.specs.declared.Request.{Request}
+use Rattle.apd_words.specs.declared.Request.TheVariants as request
+
+-- a request, with its words as texts
+pub data Asked : Type 0 where
+  Verify : Hook → Text → Option Text → Asked
+  Assemble : Text → Asked
+  Disassemble : Text → Option Text → Asked
+  Trace : Hook → Text → Text → Option Text → Asked
+  Run : Text → Text → ℕ → Asked
+  Certify : Hook → Text → Option Text → Asked
+  Check : Hook → Text → Text → Option Text → Asked
+
+abbrev pub asked_of : Request → Asked
+asked_of (request.Verify hook file config) = Verify hook file.now (option_map (λ s. s.now) config)
+asked_of (request.Assemble file) = Assemble file.now
+asked_of (request.Disassemble file config) = Disassemble file.now (option_map (λ s. s.now) config)
+asked_of (request.Trace hook file frame config) = Trace hook file.now frame.now (option_map (λ s. s.now) config)
+asked_of (request.Run config script workers) = Run config.now script.now workers
+asked_of (request.Certify hook file config) = Certify hook file.now (option_map (λ s. s.now) config)
+asked_of (request.Check hook file certificate config) = Check hook file.now certificate.now (option_map (λ s. s.now) config)
+
+infixl 10 ◌>>=◌
+abbrev pub ◌>>=◌ : {A B : Type 0} → Option A → (A → Option B) → Option B
+o >>= f = option_and_then f o
+
+abbrev pub hook_named : Text → Option Hook
+hook_named text =
+    (if bytes_eq text (codes "assoc") then Some Association
+    else (if bytes_eq text (codes "addba") then Some Addba
+    else (if bytes_eq text (codes "data") then Some Data else None)))
+
+-- one digit from 1 to 8 (as text, 49 to 56)
+abbrev pub workers_named : Text → Option ℕ
+workers_named (digit ∷ []) = (if nat_le 49 digit && nat_le digit 56 then Some (digit - 48) else None)
+workers_named _ = None
+
+-- ---- what the arguments of a command ask for; `first_of id rows` is the value of an argument
+
+abbrev pub hook_at : List Row → Option Hook
+hook_at rows = option_and_then hook_named (first_of (codes "HOOK") rows)
+
+abbrev pub verify_of : List Row → Option Asked
+verify_of rows = do
+  hook ← hook_at rows
+  file ← first_of (codes "FILE") rows
+  Some (Verify hook file (first_of (codes "config") rows))
+
+abbrev pub assemble_of : List Row → Option Asked
+assemble_of rows = do
+  file ← first_of (codes "FILE") rows
+  Some (Assemble file)
+
+abbrev pub disassemble_of : List Row → Option Asked
+disassemble_of rows = do
+  file ← first_of (codes "FILE") rows
+  Some (Disassemble file (first_of (codes "config") rows))
+
+abbrev pub trace_of : List Row → Option Asked
+trace_of rows = do
+  hook ← hook_at rows
+  file ← first_of (codes "FILE") rows
+  frame ← first_of (codes "FRAME") rows
+  Some (Trace hook file frame (first_of (codes "config") rows))
+
+abbrev pub run_of : List Row → Option Asked
+run_of rows = do
+  config ← first_of (codes "C") rows
+  script ← first_of (codes "SCRIPT") rows
+  workers ← option_and_then workers_named (first_of (codes "workers") rows)
+  Some (Run config script workers)
+
+abbrev pub certify_of : List Row → Option Asked
+certify_of rows = do
+  hook ← hook_at rows
+  file ← first_of (codes "FILE") rows
+  Some (Certify hook file (first_of (codes "config") rows))
+
+abbrev pub check_of : List Row → Option Asked
+check_of rows = do
+  hook ← hook_at rows
+  file ← first_of (codes "FILE") rows
+  certificate ← first_of (codes "CERT") rows
+  Some (Check hook file certificate (first_of (codes "config") rows))
+
+-- what a command with these arguments asks for
+abbrev pub command_asks : Text → List Row → Option Asked
+command_asks name rows =
+    (if bytes_eq name (codes "verify") then verify_of rows
+    else (if bytes_eq name (codes "asm") then assemble_of rows
+    else (if bytes_eq name (codes "disasm") then disassemble_of rows
+    else (if bytes_eq name (codes "trace") then trace_of rows
+    else (if bytes_eq name (codes "run") then run_of rows
+    else (if bytes_eq name (codes "cert") then certify_of rows
+    else (if bytes_eq name (codes "check") then check_of rows else None)))))))
+
+abbrev pub asked_in : Option (Text × List Row) → Option Asked
+asked_in = option_and_then (λ c. command_asks c.0 c.1)

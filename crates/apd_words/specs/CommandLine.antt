@@ -1,0 +1,94 @@
+-- The commands of `apd`, with their arguments in order.
+use Rattle.std.specs.Prelude.{◌≡◌, ℕ, true, false, List, [], ◌∷◌, map, codes, Some, None}
+use Rattle.std.specs.Borrow.{Bor}
+use Rattle.clap.specs.Words.{App, Rule, Shape, Text, new_rule, with_subcommand}
+use Rattle.clap.specs.Simple.{new_shape}
+use Rattle.clap.specs.declared.builder.action.ArgAction.TheVariants.{Set}
+use Rattle.clap.specs.declared.builder.value_parser.ValueParser.{ValueParser}
+use Rattle.clap.specs.declared.builder.value_parser.ValueParser.TheVariants.{Names}
+
+abbrev pub hook_names : List Text
+hook_names = codes "assoc" ∷ codes "addba" ∷ codes "data" ∷ []
+
+abbrev pub worker_names : List Text
+worker_names = codes "1" ∷ codes "2" ∷ codes "3" ∷ codes "4" ∷ codes "5" ∷ codes "6" ∷ codes "7" ∷ codes "8" ∷ []
+
+-- a value is one of these names
+pub record TakesNames (parser : ValueParser) (names : List Text) : Type 0 where
+  pub given : Bor (List (Bor Text))
+  pub is : parser ≡ Names given
+  pub spelled : map (λ s. s.now) given.now ≡ names
+
+-- an argument that has to be there, and is known by its place
+abbrev pub required : Text → Rule
+required id = record (new_rule id) { required = true }
+
+-- `--NAME VALUE`
+abbrev pub option : Text → Rule
+option name = record (new_rule name) { long = Some name; value_names = 1; action = Some Set }
+
+abbrev pub file : Rule
+file = required (codes "FILE")
+
+abbrev pub config : Rule
+config = option (codes "config")
+
+abbrev pub hook : ValueParser → Rule
+hook hooks = record (required (codes "HOOK")) { parser = Some hooks }
+
+abbrev pub workers : ValueParser → Rule
+workers numbers = record (option (codes "workers")) { parser = Some numbers; defaults = codes "2" ∷ [] }
+
+abbrev pub command : Text → List Rule → Shape
+command name rules = record (new_shape name) { rules = rules }
+
+-- a command on code for a hook, with more arguments after the code
+abbrev pub hook_command : Text → ValueParser → List Rule → Shape
+hook_command name hooks more = command name (hook hooks ∷ file ∷ more)
+
+abbrev pub verify : ValueParser → Shape
+verify hooks = hook_command (codes "verify") hooks (config ∷ [])
+
+abbrev pub assemble : Shape
+assemble = command (codes "asm") (file ∷ [])
+
+abbrev pub disassemble : Shape
+disassemble = command (codes "disasm") (file ∷ config ∷ [])
+
+abbrev pub trace : ValueParser → Shape
+trace hooks = hook_command (codes "trace") hooks (required (codes "FRAME") ∷ config ∷ [])
+
+abbrev pub run : ValueParser → Shape
+run numbers = command (codes "run") (required (codes "C") ∷ required (codes "SCRIPT") ∷ workers numbers ∷ [])
+
+abbrev pub certify : ValueParser → Shape
+certify hooks = hook_command (codes "cert") hooks (config ∷ [])
+
+abbrev pub check : ValueParser → Shape
+check hooks = hook_command (codes "check") hooks (required (codes "CERT") ∷ config ∷ [])
+
+-- the program without its commands: one has to be given
+abbrev pub program : App
+program = record {
+  top = record (new_shape (codes "apd")) {
+    disable_help_subcommand = true;
+    has_version = true;
+    arg_required_else_help = true;
+    subcommand_required = true;
+  };
+  subs = [];
+}
+
+abbrev pub with_code_commands : ValueParser → App → App
+with_code_commands hooks a = with_subcommand (with_subcommand (with_subcommand a (verify hooks)) assemble) disassemble
+
+abbrev pub with_run_commands : ValueParser → ValueParser → App → App
+with_run_commands hooks numbers a = with_subcommand (with_subcommand a (trace hooks)) (run numbers)
+
+abbrev pub with_certificate_commands : ValueParser → App → App
+with_certificate_commands hooks a = with_subcommand (with_subcommand a (certify hooks)) (check hooks)
+
+-- the whole command line, by what reads a hook and a number of workers
+abbrev pub command_line : ValueParser → ValueParser → App
+command_line hooks numbers =
+    with_certificate_commands hooks (with_run_commands hooks numbers (with_code_commands hooks program))

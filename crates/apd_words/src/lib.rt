@@ -1,0 +1,48 @@
+//! The command line of `apd`: what the words ask for, or the text that answers them.
+#![tactic(auto)]
+
+ghost use Rattle.std.specs.Prelude.{◌≡◌};
+ghost use Rattle.apd_words.specs.declared.Told.TheVariants.{NoMemory};
+
+mod command;
+pub mod laws;
+mod reading;
+mod words;
+#[cfg(test)]
+mod tests;
+
+use bpf_regions::Hook;
+use std::alloc::AllocError;
+pub use words::read_words;
+
+/// What the words ask for. Paths and frames are as they were written.
+#[derive(Clone, Copy, Debug, PartialEq, Eq)]
+pub enum Request<'a> {
+    Verify { hook: Hook, file: &'a str, config: Option<&'a str> },
+    Assemble { file: &'a str },
+    Disassemble { file: &'a str, config: Option<&'a str> },
+    Trace { hook: Hook, file: &'a str, frame: &'a str, config: Option<&'a str> },
+    /// The workers are 1 to 8.
+    Run { config: &'a str, script: &'a str, workers: u8 },
+    Certify { hook: Hook, file: &'a str, config: Option<&'a str> },
+    Check { hook: Hook, file: &'a str, certificate: &'a str, config: Option<&'a str> },
+}
+
+/// Words that ask for nothing to be done: what is printed in place of an answer.
+#[derive(Debug, Drop)]
+pub enum Told {
+    /// Help or the version, for standard output.
+    Help(String),
+    /// A fault of the words, for standard error.
+    Fault(String),
+    /// Memory ran out.
+    NoMemory,
+}
+
+impl From<AllocError> for Told {
+    ghost from_gives = { λ _ told. told ≡ NoMemory };
+
+    fn from(_error: AllocError) -> Told {
+        Told::NoMemory
+    }
+}

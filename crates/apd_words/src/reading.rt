@@ -1,0 +1,136 @@
+//! What the matches ask for.
+
+ghost use Rattle.std.specs.Prelude.{◌≡◌, ◌≤◌, IfSome, option_map};
+ghost use Rattle.clap.specs.Matches.{found_of};
+ghost use Rattle.clap.specs.Simple.{subcommand_rows_of};
+ghost use Rattle.clap.specs.Walk.{first_of, rows_of};
+ghost use Rattle.apd_words.specs.Asked.{asked_of, asked_in, hook_named, hook_at, workers_named, verify_of, assemble_of, disassemble_of, trace_of, run_of, certify_of, check_of};
+
+use crate::Request;
+use bpf_regions::Hook;
+use clap::ArgMatches;
+
+/// The request of the matches. None comes only where the parser left out what it requires.
+pub(crate) fn request<'a>(matches: &ArgMatches<'a>) -> Option<Request<'a>>
+    ensures is { option_map asked_of result ≡ asked_in (subcommand_rows_of matches.now) }
+{
+    let (name, matches) = matches.subcommand()?;
+    match name {
+        "verify" => verify(matches),
+        "asm" => assemble(matches),
+        "disasm" => disassemble(matches),
+        "trace" => trace(matches),
+        "run" => run(matches),
+        "cert" => certify(matches),
+        "check" => check(matches),
+        _ => None,
+    }
+}
+
+fn verify<'a>(matches: &ArgMatches<'a>) -> Option<Request<'a>>
+    ensures is { option_map asked_of result ≡ verify_of (rows_of (found_of matches.now)) }
+{
+    let hook = hook(matches)?;
+    let file = value(matches, "FILE")?;
+    let config = value(matches, "config");
+    Some(Request::Verify { hook, file, config })
+}
+
+fn assemble<'a>(matches: &ArgMatches<'a>) -> Option<Request<'a>>
+    ensures is { option_map asked_of result ≡ assemble_of (rows_of (found_of matches.now)) }
+{
+    let file = value(matches, "FILE")?;
+    Some(Request::Assemble { file })
+}
+
+fn disassemble<'a>(matches: &ArgMatches<'a>) -> Option<Request<'a>>
+    ensures is { option_map asked_of result ≡ disassemble_of (rows_of (found_of matches.now)) }
+{
+    let file = value(matches, "FILE")?;
+    let config = value(matches, "config");
+    Some(Request::Disassemble { file, config })
+}
+
+fn trace<'a>(matches: &ArgMatches<'a>) -> Option<Request<'a>>
+    ensures is { option_map asked_of result ≡ trace_of (rows_of (found_of matches.now)) }
+{
+    let hook = hook(matches)?;
+    let file = value(matches, "FILE")?;
+    let frame = value(matches, "FRAME")?;
+    let config = value(matches, "config");
+    Some(Request::Trace { hook, file, frame, config })
+}
+
+fn run<'a>(matches: &ArgMatches<'a>) -> Option<Request<'a>>
+    ensures is { option_map asked_of result ≡ run_of (rows_of (found_of matches.now)) }
+{
+    let config = value(matches, "C")?;
+    let script = value(matches, "SCRIPT")?;
+    let workers = workers_named(value(matches, "workers")?)?;
+    Some(Request::Run { config, script, workers })
+}
+
+fn certify<'a>(matches: &ArgMatches<'a>) -> Option<Request<'a>>
+    ensures is { option_map asked_of result ≡ certify_of (rows_of (found_of matches.now)) }
+{
+    let hook = hook(matches)?;
+    let file = value(matches, "FILE")?;
+    let config = value(matches, "config");
+    Some(Request::Certify { hook, file, config })
+}
+
+fn check<'a>(matches: &ArgMatches<'a>) -> Option<Request<'a>>
+    ensures is { option_map asked_of result ≡ check_of (rows_of (found_of matches.now)) }
+{
+    let hook = hook(matches)?;
+    let file = value(matches, "FILE")?;
+    let certificate = value(matches, "CERT")?;
+    let config = value(matches, "config");
+    Some(Request::Check { hook, file, certificate, config })
+}
+
+/// The value of an argument.
+fn value<'a>(matches: &ArgMatches<'a>, name: &str) -> Option<&'a str>
+    ensures is { option_map (λ text. text.now) result ≡ first_of name.now (rows_of (found_of matches.now)) }
+{
+    matches.get_str(name)
+}
+
+fn hook(matches: &ArgMatches<'_>) -> Option<Hook>
+    ensures is { result ≡ hook_at (rows_of (found_of matches.now)) }
+{
+    let name = value(matches, "HOOK")?;
+    hook_named(name)
+}
+
+fn hook_named(text: &str) -> Option<Hook>
+    ensures is { result ≡ hook_named text.now }
+{
+    if text == "assoc" {
+        Some(Hook::Association)
+    } else if text == "addba" {
+        Some(Hook::Addba)
+    } else if text == "data" {
+        Some(Hook::Data)
+    } else {
+        None
+    }
+}
+
+fn workers_named(text: &str) -> Option<u8>
+    ensures is { result ≡ workers_named text.now }
+    ensures from { IfSome result (λ workers. 1 ≤ workers) }
+    ensures to { IfSome result (λ workers. workers ≤ 8) }
+{
+    match text {
+        "1" => Some(1),
+        "2" => Some(2),
+        "3" => Some(3),
+        "4" => Some(4),
+        "5" => Some(5),
+        "6" => Some(6),
+        "7" => Some(7),
+        "8" => Some(8),
+        _ => None,
+    }
+}
