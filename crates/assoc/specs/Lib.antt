@@ -1,0 +1,3 @@
+pub mod Standings
+pub mod Classes
+pub mod Sound

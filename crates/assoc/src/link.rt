@@ -1,0 +1,217 @@
+//! The stations of one shard.
+
+ghost use Rattle.std.specs.Prelude.{◌≡◌, ◌≢◌, ℕ, true, false, ◌+◌, ◌*◌, ◌<◌, ◌≤◌, ◌↔◌, IsTrue, None, Some, IsSome, OnOk, OnErr, MatchOption, ◌⊎◌, List};
+ghost use Rattle.assoc.specs.declared.standing.Known.{Known};
+ghost use Rattle.assoc.specs.Standings.{IsFull, IsFree, IsLeastFree, NoneTwice, HoldsAsTheyStand, standing, IsMoved, disassociated, associated_count};
+
+use crate::standing::{Known, Standing};
+use mac_frame::Address;
+use std::alloc::{AllocError, Global};
+use std::array;
+use std::collections::HashMap;
+use std::marker::Model;
+
+/// How many stations a shard can know.
+const KNOWN_STATIONS: usize = 512;
+
+/// The greatest association identifier (IEEE 802.11-2016, 9.4.1.8).
+const GREATEST_AID: u16 = 2007;
+
+/// The stations that a shard knows, at most 512, and the association identifiers that it has
+/// granted. Shard s of 0 to 7 grants identifiers from 1 to 2007 that are s modulo 8.
+#[derive(Drop)]
+pub struct Link {
+    shard: u16,
+    stations: HashMap<Address, Known>,
+    /// At place k the station that has the identifier 8 k + shard.
+    holders: [Option<Address>; 251],
+}
+
+impl Model for Link {
+    ghost use Rattle.std.specs.HashMap.{get, hash_map_len};
+    ghost use Rattle.assoc.specs.Standings.{Linked, same_address};
+    ghost use Rattle.assoc.specs.Sound.{IsSound};
+
+    ghost Value = { Linked };
+
+    ghost view = { λ l. record { shard = l.shard; stations = l.stations.entries; holders = l.holders } };
+
+    ghost invariant = { λ l. IsSound l.shard (λ a. get same_address l.stations a) (hash_map_len l.stations) l.holders };
+}
+
+/// Whether an identifier with this holder is free for the station.
+fn is_open(holder: Option<Address>, station: Address) -> bool
+    ensures free { result ≡ true → (b : List ℕ) → holder ≡ Some b → b ≡ station }
+    ensures taken { result ≡ false → (b : List ℕ) × (holder ≡ Some b) × (b ≢ station) }
+{
+    match holder {
+        None => true,
+        Some(holder) => holder == station,
+    }
+}
+
+impl Link {
+    /// No station is known.
+    pub fn new(alloc: Global, shard: u16) -> Self
+        requires { shard < 8 }
+        ensures shard { result.shard ≡ shard }
+        ensures unknown { (a : List ℕ) → standing result a ≡ None }
+    {
+        Link {
+            shard,
+            stations: HashMap::new(alloc),
+            holders: array::from_fn(|_| None),
+        }
+    }
+
+    /// The number of the shard, below 8.
+    pub fn shard(&self) -> u16
+        ensures is { result ≡ self.now.shard }
+        ensures fits { self.now.shard < 8 }
+    {
+        self.shard
+    }
+
+    /// Where a station stands.
+    pub fn standing(&self, station: Address) -> Standing
+        ensures { result ≡ standing self.now station }
+    {
+        self.stations.get(&station).copied()
+    }
+
+    /// Whether no further station can be known: 512 are.
+    pub fn is_full(&self) -> bool
+        ensures { IsTrue result ↔ IsFull (standing self.now) }
+    {
+        self.stations.len() >= KNOWN_STATIONS
+    }
+
+    /// How many stations are associated.
+    pub fn associated(&self) -> u16
+        ensures { result ≡ associated_count self.now }
+    {
+        self.holders.iter().filter(|holder| holder.is_some()).count() as u16
+    }
+
+    /// Tells a proof that the identifiers are held as the stations stand, each once, and does
+    /// nothing.
+    pub fn known(&self)
+        ensures holds { HoldsAsTheyStand self.now }
+        ensures once { NoneTwice (standing self.now) }
+    {
+        let _ = &self.shard;
+    }
+
+    /// The station is disassociated (IEEE 802.11-2016, 11.3.5.8): an associated one goes to State 2
+    /// and its identifier is free. Nothing else changes.
+    pub fn on_disassoc(&mut self, station: Address)
+        ensures shard { self.new.shard ≡ self.old.shard }
+        ensures moves { IsMoved (standing self.old) station (disassociated (standing self.old station)) (standing self.new) }
+    {
+        if let Some(Known::Associated(aid)) = self.standing(station) {
+            self.take_back(station, aid);
+        }
+    }
+
+    fn take_back(&mut self, station: Address, aid: u16)
+        requires { standing self.old station ≡ Some (Known.Associated aid) }
+        ensures shard { self.new.shard ≡ self.old.shard }
+        ensures moves { IsMoved (standing self.old) station (Some Known.Authenticated) (standing self.new) }
+    {
+        self.holders[(aid / 8) as usize] = None;
+        match self.stations.insert(station, Known::Authenticated) {
+            Ok(_) => {}
+            Err(_) => unreachable!(),
+        }
+    }
+
+    /// The station is authenticated (11.3.4.3): it goes to State 2 from any state, and keeps no
+    /// identifier. Where memory runs out nothing changes; a known station needs none.
+    pub fn on_auth(&mut self, station: Address) -> Result<(), AllocError>
+        requires { IsSome (standing self.old station) ⊎ (IsFull (standing self.old) → ⊥) }
+        ensures moves { OnOk result (IsMoved (standing self.old) station (Some Known.Authenticated) (standing self.new)) }
+        ensures shard { self.new.shard ≡ self.old.shard }
+        ensures known { OnErr result (standing self.old station ≡ None) }
+        ensures refused { OnErr result (self.new ≡ self.old) }
+    {
+        match self.standing(station) {
+            Some(_) => {
+                self.on_disassoc(station);
+                Ok(())
+            }
+            None => self.admit(station),
+        }
+    }
+
+    fn admit(&mut self, station: Address) -> Result<(), AllocError>
+        requires unknown { standing self.old station ≡ None }
+        requires room { IsFull (standing self.old) → ⊥ }
+        ensures moves { OnOk result (IsMoved (standing self.old) station (Some Known.Authenticated) (standing self.new)) }
+        ensures shard { self.new.shard ≡ self.old.shard }
+        ensures refused { OnErr result (self.new ≡ self.old) }
+    {
+        let room = self.stations.len() < KNOWN_STATIONS;
+        prove!(room);
+        match self.stations.insert(station, Known::Authenticated) {
+            Ok(_) => return Ok(()),
+            Err(_) => return Err(AllocError),
+        }
+    }
+
+    /// The station is deauthenticated (11.3.4.5): it is unknown from now on, and its identifier is
+    /// free.
+    pub fn on_deauth(&mut self, station: Address)
+        ensures shard { self.new.shard ≡ self.old.shard }
+        ensures moves { IsMoved (standing self.old) station None (standing self.new) }
+    {
+        self.on_disassoc(station);
+        self.strike(station);
+    }
+
+    fn strike(&mut self, station: Address)
+        requires { (n : ℕ) → standing self.old station ≡ Some (Known.Associated n) → ⊥ }
+        ensures shard { self.new.shard ≡ self.old.shard }
+        ensures moves { IsMoved (standing self.old) station None (standing self.new) }
+    {
+        let _ = self.stations.remove(&station);
+    }
+
+    /// The least identifier that may be granted to the station; its own counts as free. None where
+    /// others have all.
+    pub fn free_aid(&self, station: Address) -> Option<u16>
+        ensures { MatchOption result ((n : ℕ) → IsFree self.now.shard (standing self.now) station n → ⊥) (IsLeastFree self.now.shard (standing self.now) station) }
+    {
+        for place in 0..251u16 {
+            let aid = 8 * place + self.shard;
+            if aid > 0 && aid <= GREATEST_AID && is_open(self.holders[place as usize], station) {
+                return Some(aid);
+            }
+        }
+        None
+    }
+
+    /// The station is associated (11.3.5.3, 11.3.5.5): it has this identifier from now on, and no
+    /// other.
+    pub fn on_assoc(&mut self, station: Address, aid: u16)
+        requires known { IsSome (standing self.old station) }
+        requires free { IsFree self.old.shard (standing self.old) station aid }
+        ensures shard { self.new.shard ≡ self.old.shard }
+        ensures moves { IsMoved (standing self.old) station (Some (Known.Associated aid)) (standing self.new) }
+    {
+        self.on_disassoc(station);
+        self.grant(station, aid);
+    }
+
+    fn grant(&mut self, station: Address, aid: u16)
+        requires known { standing self.old station ≡ Some Known.Authenticated }
+        requires free { IsFree self.old.shard (standing self.old) station aid }
+        ensures shard { self.new.shard ≡ self.old.shard }
+        ensures moves { IsMoved (standing self.old) station (Some (Known.Associated aid)) (standing self.new) }
+    {
+        self.holders[(aid / 8) as usize] = Some(station);
+        match self.stations.insert(station, Known::Associated(aid)) {
+            Ok(_) => {}
+            Err(_) => unreachable!(),
+        }
+    }
+}
