@@ -13,7 +13,7 @@ from_here : (a b : List AbsVal) (k : ℕ) (x y : AbsVal) → k < length a → k 
 unfolding values_included
 from_here a b k x y h g =
     rw (drop-cons a k x h, drop-cons b k y g)
-        (ap (λ n. value_included (get_or a k x) (get_or b k y) && values_included (drop n a) (drop n b)) (next k))
+    (ap (λ n. value_included (get_or a k x) (get_or b k y) && values_included (drop n a) (drop n b)) (next k))
 
 past_end : (a b : List AbsVal) (k : ℕ) → length a ≤ k → length a ≡ length b → values_included (drop k a) (drop k b) ≡ true
 unfolding values_included

@@ -1,12 +1,12 @@
 -- What lies in a state lies in each state that includes it, and stays so when both change alike.
-use Rattle.std.proofs.Common.{◌≡◌, ℕ, zero, suc, List, [], ◌∷◌, Bool, true, false, refl, sym, ◌∙◌, slice_set, slice_index_or}
+use Rattle.std.proofs.Common.{◌≡◌, ℕ, zero, suc, List, [], ◌∷◌, Bool, true, false, refl, ◌∙◌, slice_set, slice_index_or}
 use Rattle.std.specs.Prelude.{◌&&◌, ◌==◌}
 use Rattle.std.proofs.lemmas.Bool.{false≢true, eqb-true}
 use Rattle.bpf_regions.specs.declared.memory.Value.{Value}
 use Rattle.bpf_regions.specs.declared.memory.Value.TheVariants as value
 use Rattle.bpf_absstate.specs.declared.value.AbsVal.{AbsVal}
 use Rattle.bpf_absstate.specs.declared.value.AbsVal.TheVariants.{Unset, Number, Reference}
-use Rattle.bpf_absstate.specs.Contains.{Contains, ValuesHold}
+use Rattle.bpf_absstate.specs.Contains.{ValuesHold}
 use Rattle.bpf_absstate.specs.Inclusion.{value_included, values_included}
 use Rattle.bpf_absstate.specs.Laws.{InclusionKeeps, EntryContains, RegistersHold, GoingContains, ChangesContain}
 use Rattle.bpf_absstate.specs.Meaning.{Holds}

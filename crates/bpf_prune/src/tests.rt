@@ -35,7 +35,10 @@ fn the_newest_that_includes_covers(rt: HostRuntime) -> Result<(), Fail> {
         budget: 9,
     })?;
     assert_eq!(rt; finished.covering(&number), Some(7));
-    assert_eq!(rt; finished.covering(&state(alloc, 1, AbsVal::Reference)?), Some(5));
+    assert_eq!(rt;
+        finished.covering(&state(alloc, 1, AbsVal::Reference)?),
+        Some(5)
+    );
     assert_eq!(rt; finished.covering(&state(alloc, 0, AbsVal::Number)?), None);
     assert_eq!(rt; finished.covering(&state(alloc, 2, AbsVal::Number)?), None);
     Ok(())
@@ -62,6 +65,9 @@ fn of_64_the_oldest_is_given_up(rt: HostRuntime) -> Result<(), Fail> {
         budget: 2,
     })?;
     assert_eq!(rt; finished.covering(&reference), None);
-    assert_eq!(rt; finished.covering(&state(alloc, 1, AbsVal::Number)?), Some(2));
+    assert_eq!(rt;
+        finished.covering(&state(alloc, 1, AbsVal::Number)?),
+        Some(2)
+    );
     Ok(())
 }

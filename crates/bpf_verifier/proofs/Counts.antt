@@ -1,5 +1,6 @@
 -- Budgets and frames are paid by visits.
-use Rattle.std.proofs.Common.{◌≡◌, ℕ, ◌+◌, ◌≤◌, List, [], ◌∷◌, ◌++◌, length, ap, ◌∙◌, sym, subst, arith, Some, max}
+use Rattle.std.proofs.Common.{◌≡◌, ℕ, ◌+◌, ◌≤◌, List, [], ◌∷◌, ◌++◌, length, ap, ◌∙◌, sym, subst, arith, Some, max, Option}
+use Rattle.bpf_insn.specs.declared.insn.Insn.{Insn}
 use Rattle.std.specs.List.{All}
 use Rattle.std.proofs.lemmas.List.{length_push}
 use Rattle.std.proofs.lemmas.List.Elements.{All-push, All-pop, All-weaker}
@@ -14,11 +15,13 @@ pub Counted-pop : (items fs : List Frame) (f : Frame) (table : List (List Entry)
     IsCounted fs table visits × (f.best + (length fs + 1) ≤ visits)
 Counted-pop items fs f table visits e h =
     let n : length items ≡ length fs + 1 = ap length e ∙ length_push fs f in
-    let k = All-pop (λ g. g.best + length items ≤ visits) items fs (Some f) e h.frames in
-    (record {
-      frames = All-weaker (λ g. g.best + length items ≤ visits) (λ g. g.best + length fs ≤ visits) (λ g le. omega (arith, le, n)) fs k.0;
-      finished = weaker (λ g. g.budget + length items ≤ visits) (λ g. g.budget + length fs ≤ visits) (λ g le. omega (arith, le, n)) table h.finished;
-    }, subst (λ m. f.best + m ≤ visits) n k.1)
+    let k = All-pop (λ g. g.best + length items ≤ visits) items fs (Some f) e h.frames in (
+      record {
+        frames = All-weaker (λ g. g.best + length items ≤ visits) (λ g. g.best + length fs ≤ visits) (λ g le. omega (arith, le, n)) fs k.0;
+        finished = weaker (λ g. g.budget + length items ≤ visits) (λ g. g.budget + length fs ≤ visits) (λ g le. omega (arith, le, n)) table h.finished;
+      },
+      subst (λ m. f.best + m ≤ visits) n k.1,
+    )
 
 -- a path of items that fits so many visits, with its last frame changed
 pub Counted-over : (items fs new : List Frame) (f g : Frame) (table : List (List Entry)) (visits : ℕ) → items ≡ fs ++ f ∷ [] → new ≡ fs ++ g ∷ [] → IsCounted items table visits →
@@ -43,7 +46,7 @@ Counted-push fs new f table visits e none h le =
     record {
       frames = subst (All (λ x. x.best + length new ≤ visits + 1)) (sym e)
           (All-push (λ x. x.best + length new ≤ visits + 1) fs f
-              (All-weaker (λ x. x.best + length fs ≤ visits) (λ x. x.best + length new ≤ visits + 1) (λ x k. omega (arith, k, n)) fs h.frames) small);
+          (All-weaker (λ x. x.best + length fs ≤ visits) (λ x. x.best + length new ≤ visits + 1) (λ x k. omega (arith, k, n)) fs h.frames) small);
       finished = weaker (λ x. x.budget + length fs ≤ visits) (λ x. x.budget + length new ≤ visits + 1) (λ x k. omega (arith, k, n)) table h.finished;
     }
 
@@ -55,9 +58,9 @@ Counted-more fs table visits h =
     }
 
 -- one more finished state
-pub Counted-kept : (fs : List Frame) (old new : List (List Entry)) (e : Entry) (visits : ℕ) → IsKept old new e → IsCounted fs old visits → e.budget + length fs ≤ visits →
+pub Counted-kept : (slots : List (Option Insn)) (fs : List Frame) (old new : List (List Entry)) (e : Entry) (visits : ℕ) → IsKept slots old new e → IsCounted fs old visits → e.budget + length fs ≤ visits →
     IsCounted fs new visits
-Counted-kept fs old new e visits k h le = record { frames = h.frames; finished = kept (λ x. x.budget + length fs ≤ visits) old new e k h.finished le }
+Counted-kept slots fs old new e visits k h le = record { frames = h.frames; finished = kept (λ x. x.budget + length fs ≤ visits) slots old new e k h.finished le }
 
 -- the greater budget of the last frame is paid, too
 pub Counted-best : (items fs : List Frame) (f : Frame) (table : List (List Entry)) (visits done best : ℕ) → items ≡ fs ++ f ∷ [] → IsCounted items table visits →

@@ -1,5 +1,5 @@
 -- A state that lies in a finished one has its budget.
-use Rattle.std.proofs.Common.{◌≡◌, ℕ, ◌+◌, ◌≤◌, List, length, Option, Bool, true, false, refl, sym, subst, arith}
+use Rattle.std.proofs.Common.{◌≡◌, ℕ, ◌+◌, ◌≤◌, List, length, Option, Bool, true, false, refl, sym, subst}
 use Rattle.std.specs.Prelude.{◌&&◌, ◌==◌}
 use Rattle.std.proofs.lemmas.Bool.{false≢true, eqb-true}
 use Rattle.bpf_insn.specs.declared.insn.Insn.{Insn}
@@ -28,7 +28,7 @@ pub covered_walked : (slots : List (Option Insn)) (table : List (List Entry)) (a
 covered_walked slots table a budget walked c =
     let same : a.pc ≡ c.entry.state.pc = eqb-true a.pc c.entry.state.pc (first_true (a.pc == c.entry.state.pc) (values_included a.registers c.entry.state.registers) c.included) in
     subst (λ k. Reaches slots k budget) (sym same)
-        (subst (Reaches slots c.entry.state.pc) c.budget_is (covering (λ e. Reaches slots e.state.pc e.budget) table a budget walked c))
+    (subst (Reaches slots c.entry.state.pc) c.budget_is (covering (λ e. Reaches slots e.state.pc e.budget) table a budget walked c))
 
 pub covered_paid : (fs : List Frame) (table : List (List Entry)) (a : View) (budget visits : ℕ) → IsCounted fs table visits → Covers (kept_at table a.pc) a budget → budget + length fs ≤ visits
 covered_paid fs table a budget visits h c =

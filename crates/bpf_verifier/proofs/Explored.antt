@@ -1,5 +1,5 @@
 -- The safety of runs, as a path is explored.
-use Rattle.std.proofs.Common.{◌≡◌, ℕ, ◌+◌, ◌≤◌, ◌⊎◌, List, [], ◌∷◌, ◌++◌, inl, inr, refl, sym, subst, arith, Option, Some, None}
+use Rattle.std.proofs.Common.{◌≡◌, ℕ, ◌+◌, ◌≤◌, ◌⊎◌, List, [], ◌∷◌, ◌++◌, inl, inr, sym, subst, Some, None}
 use Rattle.bpf_model.specs.State.{Setting, State}
 use Rattle.bpf_model.specs.Step.{next}
 use Rattle.bpf_model.specs.Run.{IsFine, SafeWithin}
@@ -7,7 +7,6 @@ use Rattle.bpf_model.proofs.Within.{IsFine-weaken, SafeWithin-step, SafeWithin-l
 use Rattle.bpf_absstate.specs.Contains.{Contains}
 use Rattle.bpf_absstate.specs.View.{View}
 use Rattle.bpf_verifier.specs.declared.exploration.Frame.{Frame}
-use Rattle.bpf_verifier.specs.declared.ways.Ways.{Ways}
 use Rattle.bpf_verifier.specs.declared.ways.Ways.TheVariants.{Nowhere, One, Two}
 use Rattle.bpf_verifier.specs.Path.{Linked}
 use Rattle.bpf_verifier.specs.Safety.{InWay, InWays, Covers, AllSafe, IsExplored}
@@ -19,28 +18,28 @@ module _ (p : Setting) where
       (s : State) → Contains p f.state s → IsFine p.shapes (next p s) (λ t. InWay p f.pending t ⊎ SafeWithin p best t)
   child_done f a done best le le2 h safe s w =
       IsFine-weaken p.shapes (next p s) (λ t. Contains p a t ⊎ (InWay p f.pending t ⊎ SafeWithin p f.best t)) (λ t. InWay p f.pending t ⊎ SafeWithin p best t)
-          (λ t. elim [
-            inl x ↦ inr (SafeWithin-le p done best t le (safe t x))
-          | inr y ↦ elim y [ inl x ↦ inl x | inr z ↦ inr (SafeWithin-le p f.best best t le2 z) ]
-          ])
-          (h s w)
+      (λ t. elim [
+        | inl x ↦ inr (SafeWithin-le p done best t le (safe t x))
+        | inr y ↦ elim y [ inl x ↦ inl x | inr z ↦ inr (SafeWithin-le p f.best best t le2 z) ]
+      ])
+      (h s w)
 
   -- the pending way is explored
   goes_to_pending : (f g : Frame) (a b : View) (done : ℕ) → g.state ≡ f.state → f.pending ≡ Some b → g.pending ≡ None → done ≤ g.best → f.best ≤ g.best →
       IsExplored p f a → AllSafe p done a → IsExplored p g b
   goes_to_pending f g a b done same e none le le2 h safe s w =
       IsFine-weaken p.shapes (next p s) (λ t. InWay p f.pending t ⊎ SafeWithin p g.best t) (λ t. Contains p b t ⊎ (InWay p g.pending t ⊎ SafeWithin p g.best t))
-          (λ t. elim [ inl x ↦ inl (subst (λ o. InWay p o t) e x) | inr z ↦ inr (inr z) ])
-          (child_done f a done g.best le le2 h safe s (subst (λ x. Contains p x s) same w))
+      (λ t. elim [ inl x ↦ inl (subst (λ o. InWay p o t) e x) | inr z ↦ inr (inr z) ])
+      (child_done f a done g.best le le2 h safe s (subst (λ x. Contains p x s) same w))
 
   -- all ways are done
   frame_done : (f : Frame) (a : View) (done best : ℕ) → f.pending ≡ None → done ≤ best → f.best ≤ best → IsExplored p f a → AllSafe p done a →
       AllSafe p (best + 1) f.state
   frame_done f a done best none le le2 h safe s w =
       SafeWithin-step p best s
-          (IsFine-weaken p.shapes (next p s) (λ t. InWay p f.pending t ⊎ SafeWithin p best t) (SafeWithin p best)
-              (λ t. elim [ inl x ↦ absurd (subst (λ o. InWay p o t) none x) | inr z ↦ z ])
-              (child_done f a done best le le2 h safe s w))
+      (IsFine-weaken p.shapes (next p s) (λ t. InWay p f.pending t ⊎ SafeWithin p best t) (SafeWithin p best)
+      (λ t. elim [ inl x ↦ absurd (subst (λ o. InWay p o t) none x) | inr z ↦ z ])
+      (child_done f a done best le le2 h safe s w))
 
   -- a state with no way on
   pub leaf_done : (a : View) → Covers p a Nowhere → AllSafe p 1 a
@@ -53,8 +52,8 @@ module _ (p : Setting) where
   pub opens_two : (f : Frame) (a b : View) → f.pending ≡ Some b → Covers p f.state (Two a b) → IsExplored p f a
   opens_two f a b some h s x =
       IsFine-weaken p.shapes (next p s) (InWays p (Two a b)) (λ t. Contains p a t ⊎ (InWay p f.pending t ⊎ SafeWithin p f.best t))
-          (λ t. elim [ inl y ↦ inl y | inr y ↦ inr (inl (subst (λ o. InWay p o t) (sym some) y)) ])
-          (h s x)
+      (λ t. elim [ inl y ↦ inl y | inr y ↦ inr (inl (subst (λ o. InWay p o t) (sym some) y)) ])
+      (h s x)
 
   -- the frame on top is done
   pub goes_back : (items fs : List Frame) (f : Frame) (start a : View) (done best : ℕ) → items ≡ fs ++ f ∷ [] → f.pending ≡ None → done ≤ best → f.best ≤ best →

@@ -1,10 +1,9 @@
 -- The graph of a plain program.
-use Rattle.std.proofs.Common.{◌≡◌, ℕ, zero, suc, ◌+◌, ◌<◌, ◌≤◌, ◌⊎◌, inl, inr, ℤ, pos, negsuc, ◌≤ℤ◌, List, [], ◌∷◌, ◌++◌, length, refl, sym, ◌∙◌, ap, subst, arith, Option, Some, None, slice_get, false, true, add-one}
+use Rattle.std.proofs.Common.{◌≡◌, ℕ, zero, suc, ◌+◌, ◌<◌, ◌≤◌, ◌⊎◌, inl, inr, ℤ, pos, negsuc, ◌≤ℤ◌, List, [], ◌∷◌, length, refl, sym, ◌∙◌, ap, subst, arith, Option, Some, None, slice_get, add-one}
 use Rattle.std.proofs.lemmas.Option.{slice_get_within}
 use Rattle.bpf_insn.specs.declared.insn.Insn.{Insn}
 use Rattle.bpf_insn.specs.declared.insn.Insn.TheVariants as insn
-use Rattle.bpf_insn.specs.declared.insn.Wide.TheVariants as wide
-use Rattle.bpf_decode.specs.Flow.{jump_of, IsJump, size_of, ends}
+use Rattle.bpf_decode.specs.Flow.{jump_of, IsJump, size_of}
 use Rattle.bpf_decode.specs.Program.{Code, Holds, Begins, IsWhole}
 use Rattle.bpf_verifier.specs.Walked.{IsPath, Reaches}
 use Rattle.bpf_verifier.specs.Walks.{Follows, Falls, Jumps, IsPlain, IsPlainInsn, IsWalk, HasWalk}
@@ -66,11 +65,11 @@ unfolding IsPath
 exits_by c whole plain zero k le b = let w = begins_within c.slots k b in absurd (omega (arith, le, w))
 exits_by c whole plain (suc fuel) k le b =
     elim (goes c whole k b.0 b.1) [
-      inl at ↦ ([], at)
-    | inr f ↦
-        let ahead = forward c.slots plain k f.0 f.1 in
-        let r = exits_by c whole plain fuel f.0 (omega (arith, le, ahead)) (follows_begins c whole k f.0 f.1) in
-        (f.0 ∷ r.0, (f.1, r.1))
+      | inl at ↦ ([], at)
+      | inr f ↦
+          let ahead = forward c.slots plain k f.0 f.1 in
+          let r = exits_by c whole plain fuel f.0 (omega (arith, le, ahead)) (follows_begins c whole k f.0 f.1) in
+          (f.0 ∷ r.0, (f.1, r.1))
     ]
 
 -- from each instruction of a plain program some path leads to an EXIT

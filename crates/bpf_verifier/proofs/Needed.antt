@@ -1,5 +1,5 @@
 -- Registers that are read on some way before they are written.
-use Rattle.std.specs.Prelude.{◌≡◌, ℕ, List, [], ◌∷◌, length, Option, Some}
+use Rattle.std.specs.Prelude.{◌≡◌, ℕ, List, [], ◌∷◌, length, Option}
 use Rattle.bpf_insn.specs.declared.insn.Insn.{Insn}
 use Rattle.bpf_decode.specs.Program.{Holds, Begins}
 use Rattle.bpf_absstate.specs.declared.value.AbsVal.TheVariants.{Number}

@@ -1,9 +1,6 @@
 -- Plain programs are clear: few abstract states, and no fault.
-use Rattle.std.proofs.Common.{◌≡◌, ◌≢◌, ℕ, zero, suc, ◌+◌, ◌-◌, ◌*◌, ◌^◌, ◌<◌, ◌≤◌, ◌⊎◌, inl, inr, List, [], ◌∷◌, ◌++◌, length, refl, sym, ◌∙◌, ap, subst, arith, Option, Some, None, slice_get, slice_set, slice_index_or, false, true, Bool, ℤ, add-one, drop, get_or, get_or-set_same, get_or-set_other, Result, Ok, Err, length-set}
-use Rattle.std.specs.Prelude.{count_by}
+use Rattle.std.proofs.Common.{◌≡◌, ℕ, zero, suc, ◌+◌, ◌^◌, ◌<◌, ◌≤◌, inl, inr, List, [], ◌∷◌, ◌++◌, length, refl, sym, ◌∙◌, ap, subst, arith, Option, Some, None, slice_get, slice_set, slice_index_or, false, true, Bool, ℤ, get_or-set_same, get_or-set_other, Ok, length-set}
 use Rattle.std.proofs.lemmas.Bool.{cases_eq}
-use Rattle.std.proofs.lemmas.List.{drop_all}
-use Rattle.std.proofs.lemmas.Option.{slice_get_within, get_or_from_slice_get}
 use Rattle.bpf_insn.specs.declared.insn.AluOp.{AluOp}
 use Rattle.bpf_insn.specs.declared.insn.AluOp.TheVariants as alu
 use Rattle.bpf_insn.specs.declared.insn.Insn.{Insn}
@@ -12,13 +9,10 @@ use Rattle.bpf_insn.specs.declared.insn.Source.{Source}
 use Rattle.bpf_insn.specs.declared.insn.Source.TheVariants as source
 use Rattle.bpf_insn.specs.declared.insn.Wide.TheVariants as wide
 use Rattle.bpf_insn.specs.Spelled.{IsInsn}
-use Rattle.bpf_decode.specs.Flow.{jump_of, IsJump, size_of, ends, written}
+use Rattle.bpf_decode.specs.Flow.{jump_of, size_of, ends}
 use Rattle.bpf_decode.specs.Program.{Code, Holds, Begins, IsWhole}
-use Rattle.bpf_absstate.specs.declared.value.AbsVal.{AbsVal}
-use Rattle.bpf_absstate.specs.declared.value.AbsVal.TheVariants.{Unset, Number, Reference}
+use Rattle.bpf_absstate.specs.declared.value.AbsVal.TheVariants.{Unset, Number}
 use Rattle.bpf_absstate.specs.View.{View, entry_view, at_slot}
-use Rattle.bpf_verifier.specs.declared.refusal.Fault.{Fault}
-use Rattle.bpf_verifier.specs.declared.ways.Ways.{Ways}
 use Rattle.bpf_verifier.specs.declared.ways.Ways.TheVariants.{Nowhere, One, Two}
 use Rattle.bpf_verifier.specs.Clear.{IsClear, Ends, Goes, Parts}
 use Rattle.bpf_verifier.specs.Examined.{register, source_value, operand_fault, operands_fault, alu_fault, exit_fault, unless, puts_number, parts, examined}
@@ -26,7 +20,7 @@ use Rattle.bpf_verifier.specs.Landing.{landing}
 use Rattle.bpf_verifier.proofs.Steps.{lands_there}
 use Rattle.bpf_verifier.proofs.Needed.{IsNeeded, IsReady}
 use Rattle.bpf_verifier.specs.Walked.{IsPath}
-use Rattle.bpf_verifier.specs.Walks.{Follows, Falls, Jumps, IsPlain, IsPlainInsn, IsWalk, Reads, Writes, ReadsSource, ReadsAt, WritesAt, is_conditional}
+use Rattle.bpf_verifier.specs.Walks.{Follows, Falls, IsPlain, IsPlainInsn, Reads, Writes, ReadsSource, WritesAt, is_conditional}
 use Rattle.bpf_verifier.proofs.Clears.{IsClear-le}
 use Rattle.bpf_verifier.proofs.Rooms.{room, room_one, room_two, room_some, room_start}
 use Rattle.bpf_verifier.proofs.Graph.{follows_begins, begins_within, forward, exits_from, path_walk}
@@ -124,8 +118,8 @@ module _ (c : Code) (whole : IsWhole c) (plain : IsPlain c.slots) where
           begins = follows_begins c whole a.pc t f;
           size = length-set a.registers d Number ∙ ready.size;
           knows = λ r rest needed. elim (cases_eq r d) [
-            inl same ↦ subst (λ x. slice_index_or (slice_set a.registers d Number) x Unset ≡ Number) (sym same) (get_or-set_same a.registers d Number Unset (omega (arith, ready.size, small)))
-          | inr other ↦ get_or-set_other a.registers d r Number Unset other ∙ ready.knows r (t ∷ rest) (needed_before c.slots r a.pc t i rest at f (λ w. other (only r w)) needed)
+            | inl same ↦ subst (λ x. slice_index_or (slice_set a.registers d Number) x Unset ≡ Number) (sym same) (get_or-set_same a.registers d Number Unset (omega (arith, ready.size, small)))
+            | inr other ↦ get_or-set_other a.registers d r Number Unset other ∙ ready.knows r (t ∷ rest) (needed_before c.slots r a.pc t i rest at f (λ w. other (only r w)) needed)
           ];
         };
         ahead = forward c.slots plain a.pc t f;
@@ -156,7 +150,7 @@ module _ (c : Code) (whole : IsWhole c) (plain : IsPlain c.slots) where
       examined i a ≡ Ok (puts_number a d n) → Step c.slots a
   puts a i d n ready at go size small only e =
       Straight i (record { pc = a.pc + n; registers = slice_set a.registers d Number }) at e
-          (goes_with a i d (a.pc + n) ready at (Falls i at go (ap (λ m. a.pc + m) (sym size))) small only)
+      (goes_with a i d (a.pc + n) ready at (Falls i at go (ap (λ m. a.pc + m) (sym size))) small only)
 
   -- a jump that is always taken
   jumps : (a : View) (i : Insn) (x : ℤ) → IsReady c.slots a → Holds c.slots a.pc i → jump_of i ≡ Some x → ((r : ℕ) → Writes i r → ⊥) →
@@ -197,10 +191,10 @@ module _ (c : Code) (whole : IsWhole c) (plain : IsPlain c.slots) where
       let i : Insn = insn.Branch compare w d from x in
       let to = whole.jumps a.pc i x at refl in
       Parted i (at_slot a (a.pc + 1)) (at_slot a (landing a.pc x)) at
-          (ap (λ o. unless o (parts a x)) (ap (λ v. operands_fault v (source_value a from)) (reads_number a i d ready at (inl refl)) ∙ ap (operands_fault Number) (source_number a i from ready at (λ r h. inr h))))
-          refl
-          (goes_same a i (a.pc + 1) ready at (Falls i at refl refl) (λ r h. no_place-place r h))
-          (goes_same a i (landing a.pc x) ready at (lands_there c.slots i a.pc to.0 x at refl to.1) (λ r h. no_place-place r h))
+      (ap (λ o. unless o (parts a x)) (ap (λ v. operands_fault v (source_value a from)) (reads_number a i d ready at (inl refl)) ∙ ap (operands_fault Number) (source_number a i from ready at (λ r h. inr h))))
+      refl
+      (goes_same a i (a.pc + 1) ready at (Falls i at refl refl) (λ r h. no_place-place r h))
+      (goes_same a i (landing a.pc x) ready at (lands_there c.slots i a.pc to.0 x at refl to.1) (λ r h. no_place-place r h))
   steps a insn.Exit ready at valid allowed =
       Last insn.Exit at (ap (λ v. unless (exit_fault v) Nowhere) (reads_number a insn.Exit 0 ready at refl))
   steps a i ready at valid allowed = absurd allowed
@@ -210,18 +204,18 @@ module _ (c : Code) (whole : IsWhole c) (plain : IsPlain c.slots) where
   clear_by (suc fuel) a le ready =
       let b = ready.begins in
       elim (steps a b.0 ready b.1 (whole.insns a.pc b.0 b.1) (plain.operations a.pc b.0 b.1)) [
-        Last i at e ↦ Ends a (room c.slots a.pc) i at e (room_some c.slots a.pc (begins_within c.slots a.pc b))
-      | Straight i x at e g ↦
-          Goes a (room c.slots a.pc) i x (room c.slots x.pc) at e (clear_by fuel x (let h = g.ahead in omega (arith, le, h)) g.ready)
-              (room_one c.slots a.pc x.pc g.ahead (begins_within c.slots x.pc g.ready.begins))
-      | Parted i x y at e one g h ↦
-          Parts a (room c.slots a.pc) i x y (room c.slots x.pc) (room c.slots y.pc) at e
-              (clear_by fuel x (let k = g.ahead in omega (arith, le, k)) g.ready) (clear_by fuel y (let k = h.ahead in omega (arith, le, k)) h.ready)
-              (room_two c.slots a.pc x.pc y.pc (Some i) at one g.ahead h.ahead (begins_within c.slots x.pc g.ready.begins) (begins_within c.slots y.pc h.ready.begins))
+        | Last i at e ↦ Ends a (room c.slots a.pc) i at e (room_some c.slots a.pc (begins_within c.slots a.pc b))
+        | Straight i x at e g ↦
+            Goes a (room c.slots a.pc) i x (room c.slots x.pc) at e (clear_by fuel x (let h = g.ahead in omega (arith, le, h)) g.ready)
+            (room_one c.slots a.pc x.pc g.ahead (begins_within c.slots x.pc g.ready.begins))
+        | Parted i x y at e one g h ↦
+            Parts a (room c.slots a.pc) i x y (room c.slots x.pc) (room c.slots y.pc) at e
+            (clear_by fuel x (let k = g.ahead in omega (arith, le, k)) g.ready) (clear_by fuel y (let k = h.ahead in omega (arith, le, k)) h.ready)
+            (room_two c.slots a.pc x.pc y.pc (Some i) at one g.ahead h.ahead (begins_within c.slots x.pc g.ready.begins) (begins_within c.slots y.pc h.ready.begins))
       ]
 
 -- a plain program meets at most 2^22 states, and no fault
 pub plain_clear : (c : Code) → IsWhole c → IsPlain c.slots → IsClear c.slots entry_view (2 ^ 22)
 plain_clear c whole plain =
     IsClear-le c.slots entry_view (room c.slots 0) (2 ^ 22) (room_start c.slots plain.few whole.short)
-        (clear_by c whole plain (length c.slots) entry_view (omega arith) (start_ready c whole plain))
+    (clear_by c whole plain (length c.slots) entry_view (omega arith) (start_ready c whole plain))

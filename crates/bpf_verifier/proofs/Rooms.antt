@@ -1,5 +1,5 @@
 -- A bound on the states that are met from a slot of a program whose jumps lead forward.
-use Rattle.std.proofs.Common.{◌≡◌, ℕ, zero, suc, ◌+◌, ◌-◌, ◌*◌, ◌^◌, ◌<◌, ◌≤◌, List, [], ◌∷◌, length, refl, sym, ◌∙◌, ap, subst, arith, Option, Some, None, slice_get, true, Bool, cond, drop, get_or}
+use Rattle.std.proofs.Common.{◌≡◌, ℕ, zero, suc, ◌+◌, ◌-◌, ◌*◌, ◌^◌, ◌<◌, ◌≤◌, List, [], ◌∷◌, length, sym, ◌∙◌, ap, subst, arith, Option, Some, None, slice_get, true, cond, drop, get_or}
 use Rattle.std.specs.Prelude.{count_by}
 use Rattle.std.proofs.lemmas.List.Sums.{sum_by-drop_more, sum_by-take-drop}
 use Rattle.std.proofs.lemmas.Option.{get_or_from_slice_get, slice_get_within}
@@ -56,7 +56,7 @@ power_some n = pow_mono {i = 0} {j = n} (omega arith)
 pub room_one : (slots : List (Option Insn)) (k t : ℕ) → k < t → t < length slots → 1 + room slots t ≤ room slots k
 room_one slots k t ahead inside =
     grows (2 ^ conditionals slots t) (2 ^ conditionals slots k) (length slots - t) (length slots - k)
-        (pow_mono (fewer slots k t (omega (arith, ahead)))) (power_some (conditionals slots k)) (omega (arith, ahead, inside))
+    (pow_mono (fewer slots k t (omega (arith, ahead)))) (power_some (conditionals slots k)) (omega (arith, ahead, inside))
 
 pub room_two : (slots : List (Option Insn)) (k t u : ℕ) (o : Option Insn) → slice_get slots k ≡ Some o → is_conditional o ≡ true → k < t → k < u → t < length slots → u < length slots →
     1 + (room slots t + room slots u) ≤ room slots k
@@ -64,9 +64,9 @@ room_two slots k t u o at one ahead ahead2 inside inside2 =
     let c = conditionals slots (k + 1) in
     let twice : 2 ^ conditionals slots k ≡ 2 * 2 ^ c = ap (λ n. 2 ^ n) (one_more slots k o at one) ∙ twice_power c in
     subst (λ n. 1 + (room slots t + room slots u) ≤ n * (length slots - k)) (sym twice)
-        (grows_two (2 ^ conditionals slots t) (2 ^ conditionals slots u) (2 ^ c) (length slots - t) (length slots - u) (length slots - k)
-            (pow_mono (fewer slots (k + 1) t (omega (arith, ahead)))) (pow_mono (fewer slots (k + 1) u (omega (arith, ahead2)))) (power_some c)
-            (omega (arith, ahead, inside)) (omega (arith, ahead2, inside2)))
+    (grows_two (2 ^ conditionals slots t) (2 ^ conditionals slots u) (2 ^ c) (length slots - t) (length slots - u) (length slots - k)
+    (pow_mono (fewer slots (k + 1) t (omega (arith, ahead)))) (pow_mono (fewer slots (k + 1) u (omega (arith, ahead2)))) (power_some c)
+    (omega (arith, ahead, inside)) (omega (arith, ahead2, inside2)))
 
 pub room_some : (slots : List (Option Insn)) (k : ℕ) → k < length slots → 1 ≤ room slots k
 room_some slots k inside =

@@ -1,5 +1,5 @@
 -- Whatever an instruction does in a state, the examination of its abstract state covers.
-use Rattle.std.proofs.Common.{◌≡◌, ◌+◌, ◌-◌, ℕ, ℤ, List, [], Option, Some, None, Result, Ok, Err, Bool, true, false, refl, sym, ◌∙◌, ap, subst, inl, inr, slice_get, length, slice_set}
+use Rattle.std.proofs.Common.{◌≡◌, ◌+◌, ◌-◌, ℕ, ℤ, List, Option, Some, None, Result, Ok, Err, Bool, true, false, refl, sym, ◌∙◌, ap, subst, inl, inr, slice_get, length, slice_set}
 use Rattle.bpf_insn.specs.declared.insn.AluOp.{AluOp}
 use Rattle.bpf_insn.specs.declared.insn.AluOp.TheVariants as alu
 use Rattle.bpf_insn.specs.declared.insn.Compare.{Compare}
@@ -15,7 +15,7 @@ use Rattle.bpf_decode.specs.Flow.{IsJump, ends, jump_of, size_of}
 use Rattle.bpf_decode.specs.Program.{Code, IsWhole}
 use Rattle.bpf_decode.specs.Program as program
 use Rattle.bpf_model.specs.Alu.{alu as alu_value, source_value as source_of, is_zero, taken, number, wide_value}
-use Rattle.bpf_model.specs.State.{Setting, State, Next, Goes, put, goto, on, reg}
+use Rattle.bpf_model.specs.State.{Setting, State, Goes, put, goto, on, reg}
 use Rattle.bpf_model.specs.Step.{next, next_at, next_of, exit_number, return, target, jump, branch, put_number, put_wide}
 use Rattle.bpf_model.specs.Run.{IsFine}
 use Rattle.bpf_absstate.specs.declared.value.AbsVal.{AbsVal}
@@ -26,11 +26,11 @@ use Rattle.bpf_absstate.specs.Meaning.{Holds}
 use Rattle.bpf_absstate.specs.View.{View, at_slot}
 use Rattle.bpf_verifier.specs.declared.refusal.Fault.{Fault}
 use Rattle.bpf_verifier.specs.declared.ways.Ways.{Ways}
-use Rattle.bpf_verifier.specs.declared.ways.Ways.TheVariants.{Nowhere, One, Two}
+use Rattle.bpf_verifier.specs.declared.ways.Ways.TheVariants.{Nowhere, One}
 use Rattle.bpf_verifier.specs.Examined.{register, source_value, operand_fault, operands_fault, alu_fault, exit_fault, unless, puts_number, parts, wide_loaded, examined, EachWay}
 use Rattle.bpf_verifier.specs.Landing.{landing}
 use Rattle.bpf_verifier.specs.Laws.{ExaminedCovers, ExaminedFollows}
-use Rattle.bpf_verifier.specs.Safety.{IsSetting, InWays, Covers}
+use Rattle.bpf_verifier.specs.Safety.{IsSetting, InWays}
 use Rattle.bpf_verifier.specs.Walks.{Follows, Falls, Jumps}
 use Rattle.bpf_verifier.proofs.Landings.{lands, target_is}
 
@@ -102,9 +102,9 @@ module _ (holds : RegistersHold) (goes : GoingContains) (changes : ChangesContai
   puts : (d k n : ℕ) (w : Ways) → puts_number a d k ≡ w → InWays p w (record s { pc = s.pc + k; regs = slice_set s.regs d (value.Number n) })
   puts d k n w e =
       let c : Contains p (record { pc = s.pc + k; registers = slice_set a.registers d Number }) (record s { pc = s.pc + k; regs = slice_set s.regs d (value.Number n) }) =
-          changes p a s (s.pc + k) d Number (value.Number n) h tt in
+      changes p a s (s.pc + k) d Number (value.Number n) h tt in
       subst (λ x. InWays p x (record s { pc = s.pc + k; regs = slice_set s.regs d (value.Number n) })) e
-          (subst (λ pc. Contains p (record { pc = pc + k; registers = slice_set a.registers d Number }) (record s { pc = s.pc + k; regs = slice_set s.regs d (value.Number n) })) h.pc c)
+      (subst (λ pc. Contains p (record { pc = pc + k; registers = slice_set a.registers d Number }) (record s { pc = s.pc + k; regs = slice_set s.regs d (value.Number n) })) h.pc c)
 
   source_holds : (from : Source) → Holds (source_value a from) (source_of s from)
   source_holds (source.Imm n) = tt
@@ -152,7 +152,7 @@ module _ (holds : RegistersHold) (goes : GoingContains) (changes : ChangesContai
   jumps : (x : ℤ) (t : ℕ) → IsJump a.pc x t → IsFine p.shapes (jump s (target s.pc x)) (λ r. Contains p (at_slot a (landing a.pc x)) r)
   jumps x t leads =
       subst (λ o. IsFine p.shapes (jump s o) (λ r. Contains p (at_slot a (landing a.pc x)) r)) (sym (ap (λ k. target k x) h.pc ∙ target_is a.pc t x leads))
-          (stands (landing a.pc x) (landing a.pc x) refl)
+      (stands (landing a.pc x) (landing a.pc x) refl)
 
   jump_covers : (x : ℤ) (t : ℕ) (w : Ways) → IsJump a.pc x t → okay (One (at_slot a (landing a.pc x))) ≡ okay w → IsFine p.shapes (jump s (target s.pc x)) (InWays p w)
   jump_covers x t w leads e = subst (λ y. IsFine p.shapes (jump s (target s.pc x)) (InWays p y)) (okay-same _ w e) (jumps x t leads)
@@ -160,7 +160,7 @@ module _ (holds : RegistersHold) (goes : GoingContains) (changes : ChangesContai
   parted : (x : ℤ) (t : ℕ) (b : Bool) → IsJump a.pc x t → IsFine p.shapes (branch s (target s.pc x) b) (InWays p (parts a x))
   parted x t true leads =
       subst (λ o. IsFine p.shapes (jump s o) (InWays p (parts a x))) (sym (ap (λ k. target k x) h.pc ∙ target_is a.pc t x leads))
-          (inr (stands (landing a.pc x) (landing a.pc x) refl))
+      (inr (stands (landing a.pc x) (landing a.pc x) refl))
   parted x t false leads = inl (stands (s.pc + 1) (a.pc + 1) (ap (λ k. k + 1) h.pc))
 
   branch_covers : (compare : Compare) (wide : Bool) (d : ℕ) (from : Source) (x : ℤ) (t : ℕ) (w : Ways) → IsJump a.pc x t →
@@ -174,7 +174,7 @@ module _ (holds : RegistersHold) (goes : GoingContains) (changes : ChangesContai
       let r = comparison compare wide (length p.frame) (is_zero from) m.0 n.0 in
       let same = ap (λ v. taken compare wide (length p.frame) (is_zero from) v (source_of s from)) m.1 ∙ ap (taken compare wide (length p.frame) (is_zero from) (value.Number m.0)) n.1 ∙ r.1 in
       subst (λ q. IsFine p.shapes (on q (branch s (target s.pc x))) (InWays p w)) (sym same)
-          (subst (λ y. IsFine p.shapes (branch s (target s.pc x) r.0) (InWays p y)) k.1 (parted x t r.0 leads))
+      (subst (λ y. IsFine p.shapes (branch s (target s.pc x) r.0) (InWays p y)) k.1 (parted x t r.0 leads))
 
   wide_covers : (d : ℕ) (v : Wide) (w : Ways) → wide_loaded a d v ≡ okay w → IsFine p.shapes (Goes (put_wide s d (wide_value v))) (InWays p w)
   wide_covers d (wide.Number n) w e = puts d 2 n w (okay-same _ w e)
@@ -220,7 +220,7 @@ leads_inside c whole k i at x j = let r = whole.jumps k i x at j in (r.0, r.1)
 pub examined_covers : RegistersHold → GoingContains → ChangesContain → ExaminedCovers
 examined_covers holds goes changes c p i a w whole set at e s h =
     subst (λ x. IsFine p.shapes x (InWays p w)) (sym (next_is c p i a s set at h))
-        (covers_insn holds goes changes p i a w s (leads_inside c whole a.pc i at) e h)
+    (covers_insn holds goes changes p i a w s (leads_inside c whole a.pc i at) e h)
 
 abbrev AreNext : List (Option Insn) → View → Ways → Type 0
 AreNext slots a w = EachWay w (λ x. Follows slots a.pc x.pc)

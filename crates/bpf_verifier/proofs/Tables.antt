@@ -1,5 +1,6 @@
 -- What holds of all finished states.
-use Rattle.std.proofs.Common.{◌≡◌, ℕ, ◌+◌, ◌≤◌, ◌<◌, ◌⊎◌, inl, inr, List, [], ◌∷◌, ◌++◌, length, drop, Bool, true, false, cond, sym, subst, arith, get_or}
+use Rattle.std.proofs.Common.{◌≡◌, ℕ, inl, inr, List, [], length, drop, Bool, true, false, cond, sym, subst, Option}
+use Rattle.bpf_insn.specs.declared.insn.Insn.{Insn}
 use Rattle.std.specs.Prelude.{◌==◌, replicate}
 use Rattle.std.specs.List.{All}
 use Rattle.std.proofs.lemmas.List.{get_or_past}
@@ -7,15 +8,15 @@ use Rattle.std.proofs.lemmas.List.Elements.{All-push, All-drop, All-set, All-nil
 use Rattle.std.proofs.lemmas.Bool.{cases_lt}
 use Rattle.bpf_absstate.specs.View.{View}
 use Rattle.bpf_prune.specs.declared.kept.Entry.{Entry}
-use Rattle.bpf_prune.specs.Covering.{with_newest, kept_at, with_entry, Covers}
+use Rattle.bpf_prune.specs.Covering.{with_newest, kept_at, Covers}
 use Rattle.bpf_verifier.specs.Path.{IsKept}
 
 module _ (P : Entry → Type 0) where
   pub at_slot : (table : List (List Entry)) (pc : ℕ) → All (All P) table → All P (kept_at table pc)
   at_slot table pc h =
       elim (cases_lt pc (length table)) [
-        inl within ↦ All-get_or (All P) table pc [] within h
-      | inr past ↦ subst (All P) (sym (get_or_past table pc [] past)) (All-nil P)
+        | inl within ↦ All-get_or (All P) table pc [] within h
+        | inr past ↦ subst (All P) (sym (get_or_past table pc [] past)) (All-nil P)
       ]
 
   newest : (es : List Entry) (e : Entry) → All P es → P e → All P (with_newest es e)
@@ -25,10 +26,10 @@ module _ (P : Entry → Type 0) where
     rest true = All-drop P 1 es h
     rest false = h
 
-  pub kept : (old new : List (List Entry)) (e : Entry) → IsKept old new e → All (All P) old → P e → All (All P) new
-  kept old new e (inl same) h k = subst (All (All P)) (sym same) h
-  kept old new e (inr set) h k =
-      subst (All (All P)) (sym set) (All-set (All P) old e.state.pc (with_newest (kept_at old e.state.pc) e) (newest (kept_at old e.state.pc) e (at_slot old e.state.pc h) k) h)
+  pub kept : (slots : List (Option Insn)) (old new : List (List Entry)) (e : Entry) → IsKept slots old new e → All (All P) old → P e → All (All P) new
+  kept slots old new e (inr elsewhere) h k = subst (All (All P)) (sym elsewhere.1) h
+  kept slots old new e (inl target) h k =
+      subst (All (All P)) (sym target.1) (All-set (All P) old e.state.pc (with_newest (kept_at old e.state.pc) e) (newest (kept_at old e.state.pc) e (at_slot old e.state.pc h) k) h)
 
   pub none : (table : List (List Entry)) (n : ℕ) → table ≡ replicate n [] → All (All P) table
   none table n e = subst (All (All P)) (sym e) (All-replicate (All P) n [] (All-nil P))

@@ -1,5 +1,5 @@
 -- Budgets are lengths of paths.
-use Rattle.std.proofs.Common.{◌≡◌, ℕ, ◌+◌, ◌≤◌, List, [], ◌∷◌, ◌++◌, length, refl, sym, subst, arith, Option, Some, None, IfSome, max, inl, inr}
+use Rattle.std.proofs.Common.{◌≡◌, ℕ, ◌+◌, ◌≤◌, List, [], ◌∷◌, ◌++◌, length, sym, subst, arith, Option, Some, None, IfSome, max, inl, inr}
 use Rattle.std.proofs.lemmas.Bool.{cases_lt}
 use Rattle.bpf_insn.specs.declared.insn.Insn.{Insn}
 use Rattle.bpf_absstate.specs.View.{View}
@@ -18,8 +18,8 @@ Reaches-more slots k t n follows r =
 Reaches-max : (slots : List (Option Insn)) (k m n : ℕ) → Reaches slots k (m + 1) → Reaches slots k (n + 1) → Reaches slots k (max m n + 1)
 Reaches-max slots k m n r q =
     elim (cases_lt m n) [
-      inl less ↦ subst (λ x. Reaches slots k (x + 1)) (let e : n ≡ max m n = omega arith in e) q
-    | inr not_less ↦ subst (λ x. Reaches slots k (x + 1)) (let e : m ≡ max m n = omega arith in e) r
+      | inl less ↦ subst (λ x. Reaches slots k (x + 1)) (let e : n ≡ max m n = omega arith in e) q
+      | inr not_less ↦ subst (λ x. Reaches slots k (x + 1)) (let e : m ≡ max m n = omega arith in e) r
     ]
 
 module _ (slots : List (Option Insn)) where
@@ -43,8 +43,8 @@ module _ (slots : List (Option Insn)) where
       let follows : Follows slots f.state.pc b.pc = subst (λ o. IfSome o (λ x. Follows slots f.state.pc x.pc)) some w.pending in
       let longest : Reaches slots f.state.pc (g.best + 1) = subst (λ n. Reaches slots f.state.pc (n + 1)) (sym best) (child_done f a done w r) in
       Linked-push (IsWalked slots) fs g start b (subst (Linked (IsWalked slots) fs start) (sym same) k.0)
-          (record {
-            follows = subst (λ x. Follows slots x.pc b.pc) (sym same) follows;
-            pending = subst (λ o. IfSome o (λ x. Follows slots g.state.pc x.pc)) (sym none) tt;
-            best = subst (λ x. Reaches slots x.pc (g.best + 1)) (sym same) longest;
-          })
+      (record {
+        follows = subst (λ x. Follows slots x.pc b.pc) (sym same) follows;
+        pending = subst (λ o. IfSome o (λ x. Follows slots g.state.pc x.pc)) (sym none) tt;
+        best = subst (λ x. Reaches slots x.pc (g.best + 1)) (sym same) longest;
+      })

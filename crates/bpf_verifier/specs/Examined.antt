@@ -1,5 +1,5 @@
 -- What one instruction makes of an abstract state: the ways on, or the fault that is met first.
-use Rattle.std.specs.Prelude.{◌≡◌, ℕ, ◌+◌, ◌⊎◌, ℤ, Bool, true, false, ◌||◌, ◌&&◌, if◌then◌else◌, List, slice_set, slice_index_or, Option, Some, None, Result, Ok, Err}
+use Rattle.std.specs.Prelude.{◌≡◌, ℕ, ◌+◌, ◌⊎◌, ℤ, Bool, true, false, ◌||◌, ◌&&◌, if◌then◌else◌, slice_set, slice_index_or, Option, Some, None, Result, Ok, Err}
 use Rattle.bpf_insn.specs.declared.insn.AluOp.{AluOp}
 use Rattle.bpf_insn.specs.declared.insn.AluOp.TheVariants as alu
 use Rattle.bpf_insn.specs.declared.insn.Insn.{Insn}

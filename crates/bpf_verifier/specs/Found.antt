@@ -1,5 +1,5 @@
 -- What an exploration has found so far.
-use Rattle.std.specs.Prelude.{◌≡◌, ℕ, ◌+◌, ◌≤◌, List, length, Option}
+use Rattle.std.specs.Prelude.{ℕ, List, Option}
 use Rattle.bpf_insn.specs.declared.insn.Insn.{Insn}
 use Rattle.bpf_model.specs.State.{Setting}
 use Rattle.bpf_absstate.specs.View.{View}
@@ -7,7 +7,7 @@ use Rattle.bpf_verifier.specs.declared.exploration.Exploration.{Exploration}
 use Rattle.bpf_verifier.specs.declared.exploration.Unwound.{Unwound}
 use Rattle.bpf_verifier.specs.Clear.{AreClear, IsClearOn}
 use Rattle.bpf_verifier.specs.Counting.{IsCounted, IsPaid}
-use Rattle.bpf_verifier.specs.Path.{Linked, AreBegun, IsBegun}
+use Rattle.bpf_verifier.specs.Path.{Linked, AreBegun}
 use Rattle.bpf_verifier.specs.Safety.{IsExplored, AreSafe, IsOngoing}
 use Rattle.bpf_verifier.specs.Walked.{IsWalked, AreWalked, IsWalkedOn}
 

@@ -1,8 +1,8 @@
 -- The path that is being explored, from the start to the state that is examined next.
-use Rattle.std.specs.Prelude.{◌≡◌, ℕ, ◌⊎◌, List, [], ◌∷◌, Option, IfSome}
+use Rattle.std.specs.Prelude.{◌≡◌, ◌⊎◌, List, [], ◌∷◌, Option, IfSome}
 use Rattle.std.specs.List.{All}
 use Rattle.bpf_insn.specs.declared.insn.Insn.{Insn}
-use Rattle.bpf_decode.specs.Program.{Begins}
+use Rattle.bpf_decode.specs.Program.{Begins, IsTarget}
 use Rattle.bpf_absstate.specs.View.{View}
 use Rattle.bpf_prune.specs.Covering.{with_entry}
 use Rattle.bpf_prune.specs.declared.kept.Entry.{Entry}
@@ -24,6 +24,6 @@ abbrev pub IsBegun : List (Option Insn) → Unwound → Type 0
 IsBegun slots (Onward a) = Begins slots a.pc
 IsBegun slots (Over b) = Unit {0}
 
--- the table of finished states, which may have got an entry
-abbrev pub IsKept : List (List Entry) → List (List Entry) → Entry → Type 0
-IsKept old new e = (new ≡ old) ⊎ (new ≡ with_entry old e)
+-- a state that is done is kept where it stands at a target
+abbrev pub IsKept : List (Option Insn) → List (List Entry) → List (List Entry) → Entry → Type 0
+IsKept slots old new e = IsTarget slots e.state.pc × (new ≡ with_entry old e) ⊎ (IsTarget slots e.state.pc → ⊥) × (new ≡ old)

@@ -1,5 +1,5 @@
 -- Walks through a program, and plain programs.
-use Rattle.std.specs.Prelude.{◌≡◌, ℕ, ◌+◌, ◌<◌, ◌≤◌, ◌⊎◌, ℤ, pos, ◌≤ℤ◌, Bool, true, false, List, length, slice_get, Option, Some, None, count_by}
+use Rattle.std.specs.Prelude.{◌≡◌, ℕ, ◌+◌, ◌<◌, ◌≤◌, ◌⊎◌, ℤ, pos, ◌≤ℤ◌, Bool, true, false, List, length, slice_get, Option, Some, count_by}
 use Rattle.bpf_insn.specs.declared.insn.AluOp.TheVariants as alu
 use Rattle.bpf_insn.specs.declared.insn.AtomicOp.{AtomicOp}
 use Rattle.bpf_insn.specs.declared.insn.AtomicOp.TheVariants as atomic
@@ -7,7 +7,6 @@ use Rattle.bpf_insn.specs.declared.insn.Insn.{Insn}
 use Rattle.bpf_insn.specs.declared.insn.Insn.TheVariants as insn
 use Rattle.bpf_insn.specs.declared.insn.Source.{Source}
 use Rattle.bpf_insn.specs.declared.insn.Source.TheVariants as source
-use Rattle.bpf_insn.specs.declared.insn.Wide.{Wide}
 use Rattle.bpf_insn.specs.declared.insn.Wide.TheVariants as wide
 use Rattle.bpf_decode.specs.Flow.{jump_of, IsJump, size_of, ends, written}
 use Rattle.bpf_decode.specs.Program.{Holds}

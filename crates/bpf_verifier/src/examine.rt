@@ -50,7 +50,7 @@ fn operands(a: AbsVal, b: AbsVal) -> Option<Fault>
     Some(Fault::WrongOperand)
 }
 
-/// What a register holds in no run is the fault of an operation that reads it.
+/// The fault of an arithmetic operation's operands; MOV doesn't read its destination.
 fn alu_operands(state: &AbsState, op: AluOp, dst: Reg, source: Source) -> Option<Fault>
     ensures is { result ≡ alu_fault op (register state.now dst) (source_value state.now source) }
 {
@@ -151,7 +151,10 @@ fn examine_insn(insn: Insn, state: &AbsState) -> Result<Ways, Fault>
 {
     match insn {
         Insn::Alu {
-            op, dst, source, ..
+            op,
+            dst,
+            source,
+            ..
         } => number_in(state, dst, 1, alu_operands(state, op, dst, source)),
         Insn::MovSx { dst, src, .. } => number_in(state, dst, 1, operand(state.register(src))),
         Insn::Neg { dst, .. } => number_in(state, dst, 1, operand(state.register(dst))),

@@ -69,8 +69,13 @@ impl Exploration {
         })
     }
 
-    /// The state's way that is explored next is left out; `pending` is explored after it.
-    fn push(&mut self, state: AbsState, pending: Option<AbsState>, best: u32) -> Result<(), AllocError>
+    /// Puts a state on the path. One of its ways is explored next, and then `pending`.
+    fn push(
+        &mut self,
+        state: AbsState,
+        pending: Option<AbsState>,
+        best: u32,
+    ) -> Result<(), AllocError>
         ensures path { OnOk result (self.new.path.items ≡ self.old.path.items ++ (record { state = state; pending = pending; best = best }) ∷ []) }
         ensures finished { self.new.finished ≡ self.old.finished }
         ensures visits { self.new.visits ≡ self.old.visits }
@@ -85,7 +90,7 @@ impl Exploration {
 
     /// Keeps a state that is done, where it stands at a target slot.
     fn finish(&mut self, program: &Program, state: AbsState, budget: u32) -> Result<(), AllocError>
-        ensures finished { OnOk result (IsKept self.old.finished self.new.finished (record { state = state; budget = budget })) }
+        ensures finished { OnOk result (IsKept program.now.slots self.old.finished self.new.finished (record { state = state; budget = budget })) }
         ensures path { self.new.path ≡ self.old.path }
         ensures visits { self.new.visits ≡ self.old.visits }
     {

@@ -54,7 +54,10 @@ fn straight_arithmetic_has_its_length_as_budget(rt: HostRuntime) -> Result<(), F
     // mov r0, 7; mov r1, 0; div r0, r1; exit
     let seven = [0xb7, 0, 0, 0, 7, 0, 0, 0];
     let zero = [0xb7, 1, 0, 0, 0, 0, 0, 0];
-    let accepted = ask(rt.alloc(), &[seven, zero, [0x3f, 0x10, 0, 0, 0, 0, 0, 0], EXIT])??;
+    let accepted = ask(
+        rt.alloc(),
+        &[seven, zero, [0x3f, 0x10, 0, 0, 0, 0, 0, 0], EXIT],
+    )??;
     assert_eq!(rt; accepted.budget(), 4);
     assert_eq!(rt; outcome_of(&accepted)?, (0, 4));
     // lddw r0, 0x100000002; neg32 r0; movsx32 8 r0, r0; le16 r0; exit
@@ -77,7 +80,15 @@ fn straight_arithmetic_has_its_length_as_budget(rt: HostRuntime) -> Result<(), F
 #[test]
 fn a_jump_passes_over_slots(rt: HostRuntime) -> Result<(), Fail> {
     // mov r0, 1; ja +1; add r0, r0; exit
-    let accepted = ask(rt.alloc(), &[ONE, [5, 0, 1, 0, 0, 0, 0, 0], [0x0f, 0, 0, 0, 0, 0, 0, 0], EXIT])??;
+    let accepted = ask(
+        rt.alloc(),
+        &[
+            ONE,
+            [5, 0, 1, 0, 0, 0, 0, 0],
+            [0x0f, 0, 0, 0, 0, 0, 0, 0],
+            EXIT,
+        ],
+    )??;
     assert_eq!(rt; accepted.budget(), 3);
     assert_eq!(rt; outcome_of(&accepted)?, (1, 3));
     Ok(())
@@ -132,10 +143,16 @@ fn the_fall_through_is_refused_before_the_jump(rt: HostRuntime) -> Result<(), Fa
     // mov r0, 1; jeq r0, 0, +2; mov r0, r4; exit; mov r0, r5; exit
     let first = [0xbf, 0x40, 0, 0, 0, 0, 0, 0];
     let second = [0xbf, 0x50, 0, 0, 0, 0, 0, 0];
-    match ask(rt.alloc(), &[ONE, jump_if_zero(2), first, EXIT, second, EXIT])? {
+    match ask(
+        rt.alloc(),
+        &[ONE, jump_if_zero(2), first, EXIT, second, EXIT],
+    )? {
         Ok(_) => return Err("admitted".into()),
         Err(refusal) => {
-            assert_eq!(rt; format!(in rt.alloc(); "{refusal}")?.as_str(), "refused 30 at 2");
+            assert_eq!(rt;
+                format!(in rt.alloc(); "{refusal}")?.as_str(),
+                "refused 30 at 2"
+            );
         }
     }
     Ok(())
@@ -175,7 +192,7 @@ fn ways_that_no_finished_state_covers_are_all_explored(rt: HostRuntime) -> Resul
         slots.push(jump_if_zero(1))?;
         slots.push([0xb7, register, 0, 0, 0, 0, 0, 0])?;
     }
-    while slots.len() < 16383 {
+    for _move in slots.len()..16383 {
         slots.push(ONE)?;
     }
     slots.push(EXIT)?;

@@ -1,4 +1,4 @@
-use Rattle.std.proofs.Common.{◌<◌, ◌≡◌, length, arith, sym, ◌∙◌}
+use Rattle.std.proofs.Common.{◌<◌, length, arith, sym, ◌∙◌}
 use Rattle.bpf_absstate.proofs.FromHere.{differs, goes_on, ends}
 use Rattle.bpf_absstate.proofs.state.are_included.Goals as goal
 

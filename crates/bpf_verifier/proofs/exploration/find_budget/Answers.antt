@@ -1,15 +1,12 @@
-use Rattle.std.proofs.Common.{rules, ◌≡◌, ◌≤◌, ◌-◌, ◌+◌, ◌^◌, [], ℕ, List, length, None, Some, refl, sym, subst, ap, ◌∙◌, arith}
-use Rattle.std.proofs.lemmas.Grind.{common_steps}
+use Rattle.std.proofs.Common.{IfSome, ◌≡◌, ◌≤◌, ◌-◌, ◌+◌, ◌^◌, [], ℕ, List, length, refl, sym, subst, ap, arith}
 use Rattle.std.specs.List.{All}
 use Rattle.std.proofs.lemmas.List.Elements.{All-nil}
 use Rattle.bpf_decode.specs.Program.{Begins}
 use Rattle.bpf_model.specs.Run.{setting}
 use Rattle.bpf_model.specs.State.{entry}
-use Rattle.bpf_absstate.specs.View.{View, entry_view}
+use Rattle.bpf_absstate.specs.View.{entry_view}
 use Rattle.bpf_prune.specs.declared.kept.Entry.{Entry}
 use Rattle.bpf_verifier.specs.declared.exploration.Frame.{Frame}
-use Rattle.bpf_verifier.specs.Clear.{IsClear}
-use Rattle.bpf_verifier.specs.Path.{Linked}
 use Rattle.bpf_verifier.specs.Safety.{IsSetting, IsExplored, AllSafe}
 use Rattle.bpf_verifier.specs.Walked.{IsWalked, Reaches}
 use Rattle.bpf_verifier.proofs.Clears.{AreClear-none, clear_some}
@@ -26,10 +23,10 @@ visit-init c =
     let size : length fs ≡ 0 = ap length empty in
     let same : c.in_ok-current.current ≡ entry_view = c.in_ok-current.ensures.is in
     record {
-      counted = record { frames = rw empty (All-nil _); finished = none (λ e. e.budget + length fs ≤ c.in_ok-exploration.exploration.visits) table _ c.in_ok-exploration.ensures.finished };
+      counted = record { frames = subst (All (λ f. f.best + length fs ≤ c.in_ok-exploration.exploration.visits)) (sym empty) (All-nil (λ f. f.best + length fs ≤ c.in_ok-exploration.exploration.visits)); finished = none (λ e. e.budget + length fs ≤ c.in_ok-exploration.exploration.visits) table _ c.in_ok-exploration.ensures.finished };
       paid = omega (arith, size);
       begins = rw same c.whole.ensures.is.first;
-      begun = rw empty (All-nil _);
+      begun = rw empty (All-nil (λ f. IfSome f.pending (λ a. Begins c.args.program.now.slots a.pc)));
       path = λ p set. rw same (Linked-empty (IsExplored p) fs entry_view empty);
       safe = λ p set. none (λ e. AllSafe p e.budget e.state) table _ c.in_ok-exploration.ensures.finished;
       walks = λ plain. rw same (Linked-empty (IsWalked c.args.program.now.slots) fs entry_view empty);
@@ -50,19 +47,19 @@ visit-preserved c =
       walks = λ plain. (rw c.in-Ok-Onward.field-0-is at c.in-Ok-Onward.ensures.walked entry_view plain (h.walks plain, h.walked plain)).0;
       walked = λ plain. (c.in-Ok-Onward.ensures.walked entry_view plain (h.walks plain, h.walked plain)).1;
       clear = λ clear.
-        let k = h.clear clear in
-        let left : ℕ = 2 ^ 22 - (c.visit.exploration.visits + 1) in
-        let r = rw c.in-Ok-Onward.field-0-is at c.in-Ok-Onward.ensures.clear k.0 k.1 left k.2 k.3 (omega (arith, k.4, c.visit-test.true)) in
-        (r.0, r.1, r.2, r.3, omega (arith, r.4, c.in-Ok-Onward.ensures.visits, c.visit-test.true));
+          let k = h.clear clear in
+          let left : ℕ = 2 ^ 22 - (c.visit.exploration.visits + 1) in
+          let r = rw c.in-Ok-Onward.field-0-is at c.in-Ok-Onward.ensures.clear k.0 k.1 left k.2 k.3 (omega (arith, k.4, c.visit-test.true)) in
+          (r.0, r.1, r.2, r.3, omega (arith, r.4, c.in-Ok-Onward.ensures.visits, c.visit-test.true));
     }
 
 pub returns-in-Ok-Over-clause-safe : goal.returns-in-Ok-Over-clause-safe
 returns-in-Ok-Over-clause-safe c =
     c.within_law.ensures c.args.program.now.slots c.args.program.now.shapes c.in-Ok-Over.budget (λ frame context short long bytes bytes2.
-        let p = setting c.args.program.now.slots c.args.program.now.shapes frame context in
-        let set : IsSetting c.args.program.now p = record { code = refl; shapes = refl; frame = short; context = long; frame_bytes = bytes; context_bytes = bytes2 } in
-        let h = c.visit.invariant in
-        (rw c.in-Ok-Over.field-0-is at c.in-Ok-Over.ensures.safe p entry_view set (h.path p set, h.safe p set)).0 entry (c.entry_law.ensures.contains p))
+    let p = setting c.args.program.now.slots c.args.program.now.shapes frame context in
+    let set : IsSetting c.args.program.now p = record { code = refl; shapes = refl; frame = short; context = long; frame_bytes = bytes; context_bytes = bytes2 } in
+    let h = c.visit.invariant in
+    (rw c.in-Ok-Over.field-0-is at c.in-Ok-Over.ensures.safe p entry_view set (h.path p set, h.safe p set)).0 entry (c.entry_law.ensures.contains p))
 
 pub returns-in-Ok-Over-clause-walk : goal.returns-in-Ok-Over-clause-walk
 returns-in-Ok-Over-clause-walk c = λ plain.

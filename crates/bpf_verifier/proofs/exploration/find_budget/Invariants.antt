@@ -1,4 +1,4 @@
-use Rattle.std.proofs.Common.{◌≡◌, ◌≤◌, ◌-◌, ◌+◌, ◌^◌, ℕ, length}
+use Rattle.std.proofs.Common.{◌≤◌, ◌-◌, ◌+◌, ◌^◌, ℕ, length}
 use Rattle.bpf_verifier.specs.declared.exploration.TheConstants.{VISITS}
 use Rattle.bpf_decode.specs.Program.{Begins}
 use Rattle.bpf_model.specs.State.{Setting}
@@ -22,7 +22,7 @@ invariant-visit l = record {
   walks : IsPlain l.program.slots → Linked (IsWalked l.program.slots) l.exploration.path.items entry_view l.current;
   walked : IsPlain l.program.slots → AreWalked l.program.slots l.exploration.finished;
   clear : IsClear l.program.slots entry_view (2 ^ 22) →
-    (m n : ℕ) × IsClear l.program.slots l.current m × AreClear l.program.slots l.exploration.path.items n × (l.exploration.visits + (m + n) ≤ 2 ^ 22);
+      (m n : ℕ) × IsClear l.program.slots l.current m × AreClear l.program.slots l.exploration.path.items n × (l.exploration.visits + (m + n) ≤ 2 ^ 22);
 }
 
 abbrev pub decreases-visit : goal.decreases-visit

@@ -8,5 +8,5 @@ unfolding newest_covering
 returns-clause-is c =
     let size : length c.args.self.now ≡ length c.self.inside.slots.items = ap length (sym c.self.view_is) in
     let none : kept_at c.args.self.now c.args.state.now.pc ≡ [] =
-        get_or_past c.args.self.now c.args.state.now.pc [] (omega (arith, size, c.len.ensures, c.pc-pc.ensures.is, c.if-pc-len.false)) in
+    get_or_past c.args.self.now c.args.state.now.pc [] (omega (arith, size, c.len.ensures, c.pc-pc.ensures.is, c.if-pc-len.false)) in
     rw none refl

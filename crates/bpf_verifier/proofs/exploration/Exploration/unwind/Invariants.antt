@@ -14,7 +14,7 @@ invariant-loop-frame l = record {
   begun : IsBegunSoFar l.program.slots l.initial.self → IsBegunSoFar l.program.slots l.self;
   safe : (p : Setting) (start a : View) → IsSafeSoFar p start a l.initial.self → AllSafe p l.initial.done a → (now : View) × IsSafeSoFar p start now l.self × AllSafe p l.done now;
   walked : (start a : View) → IsWalkedSoFar l.program.slots start a l.initial.self → Reaches l.program.slots a.pc l.initial.done →
-    (now : View) × IsWalkedSoFar l.program.slots start now l.self × Reaches l.program.slots now.pc l.done;
+      (now : View) × IsWalkedSoFar l.program.slots start now l.self × Reaches l.program.slots now.pc l.done;
   clear : (n : ℕ) → IsClearSoFar l.program.slots n l.initial.self → IsClearSoFar l.program.slots n l.self;
 }
 

@@ -1,14 +1,10 @@
-use Rattle.std.proofs.Common.{rules, ◌≡◌, ◌≤◌, ◌+◌, ◌++◌, ◌∷◌, [], ℕ, List, length, None, Some, Ok, Err, inl, inr, refl, sym, subst, ◌∙◌, arith, IfSome}
+use Rattle.std.proofs.Common.{◌+◌, None, Some, inl, inr, refl, arith}
 use Rattle.std.proofs.lemmas.Result.{err_from_is_err_and}
 use Rattle.bpf_absstate.specs.View.{View}
 use Rattle.bpf_prune.specs.declared.kept.Entry.{Entry}
 use Rattle.bpf_decode.specs.Program.{Begins}
 use Rattle.bpf_verifier.specs.declared.exploration.Frame.{Frame}
-use Rattle.bpf_verifier.specs.declared.refusal.Fault.TheVariants.{NoMemory}
 use Rattle.bpf_verifier.specs.declared.ways.Ways.TheVariants.{Nowhere, One, Two}
-use Rattle.bpf_verifier.specs.Clear.{AreClear, IsClearWay}
-use Rattle.bpf_verifier.specs.Examined.{examined, EachWay}
-use Rattle.bpf_verifier.specs.Path.{Linked}
 use Rattle.bpf_verifier.specs.Safety.{AllSafe, IsExplored, Covers}
 use Rattle.bpf_verifier.specs.Walks.{Follows}
 use Rattle.bpf_verifier.specs.Walked.{Reaches, IsWalked}
@@ -38,17 +34,17 @@ pub returns-in_err-examine-clause-refuses : goal.returns-in_err-examine-clause-r
 returns-in_err-examine-clause-refuses c =
     let p = err_from_is_err_and c.from_residual-in_err-examine.result c.from_residual-in_err-examine.ensures.1 in
     rw (p.1, p.2) (λ n clear.
-        let b : Begins c.args.program.now.slots c.args.state.pc = c.requires.begins in
-        elim (c.in_err-examine.ensures.is b.0 b.1) [
-          inl memory ↦ memory
-        | inr fault ↦ absurd (not_refused c.args.program.now.slots c.args.state n b.0 c.in_err-examine.field-0.0 b.1 fault clear)
-        ])
+    let b : Begins c.args.program.now.slots c.args.state.pc = c.requires.begins in
+    elim (c.in_err-examine.ensures.is b.0 b.1) [
+      | inl memory ↦ memory
+      | inr fault ↦ absurd (not_refused c.args.program.now.slots c.args.state n b.0 c.in_err-examine.field-0.0 b.1 fault clear)
+    ])
 
 pub unwind-requires-in-Nowhere-clause-counted : goal.unwind-requires-in-Nowhere-clause-counted
 unwind-requires-in-Nowhere-clause-counted c =
     let e : Entry = record { state = c.args.state; budget = 1 } in
-    let kept = Counted-kept c.args.self.now.path.items c.args.self.now.finished c.finish.new.self.finished e (c.args.self.now.visits + 1) c.in_ok-finish-in-Nowhere.ensures.finished
-        (Counted-more c.args.self.now.path.items c.args.self.now.finished c.args.self.now.visits c.requires.counted) (omega (arith, c.requires.paid)) in
+    let kept = Counted-kept c.args.program.now.slots c.args.self.now.path.items c.args.self.now.finished c.finish.new.self.finished e (c.args.self.now.visits + 1) c.in_ok-finish-in-Nowhere.ensures.finished
+    (Counted-more c.args.self.now.path.items c.args.self.now.finished c.args.self.now.visits c.requires.counted) (omega (arith, c.requires.paid)) in
     rw (c.in_ok-finish-in-Nowhere.ensures.path, c.in_ok-finish-in-Nowhere.ensures.visits) kept
 
 pub returns-in_ok-unwound-in-Nowhere-clause-safe : goal.returns-in_ok-unwound-in-Nowhere-clause-safe
@@ -56,16 +52,20 @@ returns-in_ok-unwound-in-Nowhere-clause-safe c = λ p start set found.
     let b : Begins c.args.program.now.slots c.args.state.pc = c.requires.begins in
     let e : Entry = record { state = c.args.state; budget = 1 } in
     let done : AllSafe p 1 c.args.state =
-        leaf_done p c.args.state (c.examination_law.ensures.covers c.args.program.now p b.0 c.args.state Nowhere c.whole.ensures.is set b.1 (rw c.in-Nowhere.is at c.in_ok-examine.ensures.is b.0 b.1)) in
-    c.in_ok-unwound-in-Nowhere.ensures.safe p start c.args.state (rw c.in_ok-finish-in-Nowhere.ensures.path found.0,
-        kept (λ x. AllSafe p x.budget x.state) c.args.self.now.finished c.finish.new.self.finished e c.in_ok-finish-in-Nowhere.ensures.finished found.1 done) done
+    leaf_done p c.args.state (c.examination_law.ensures.covers c.args.program.now p b.0 c.args.state Nowhere c.whole.ensures.is set b.1 (rw c.in-Nowhere.is at c.in_ok-examine.ensures.is b.0 b.1)) in
+    c.in_ok-unwound-in-Nowhere.ensures.safe p start c.args.state (
+      rw c.in_ok-finish-in-Nowhere.ensures.path found.0,
+      kept (λ x. AllSafe p x.budget x.state) c.args.program.now.slots c.args.self.now.finished c.finish.new.self.finished e c.in_ok-finish-in-Nowhere.ensures.finished found.1 done,
+    ) done
 
 pub returns-in_ok-unwound-in-Nowhere-clause-walked : goal.returns-in_ok-unwound-in-Nowhere-clause-walked
 returns-in_ok-unwound-in-Nowhere-clause-walked c = λ start plain found.
     let e : Entry = record { state = c.args.state; budget = 1 } in
     let done : Reaches c.args.program.now.slots c.args.state.pc 1 = Reaches-one c.args.program.now c.whole.ensures.is plain c.args.state.pc c.requires.begins in
-    c.in_ok-unwound-in-Nowhere.ensures.walked start c.args.state (rw c.in_ok-finish-in-Nowhere.ensures.path found.0,
-        kept (λ x. Reaches c.args.program.now.slots x.state.pc x.budget) c.args.self.now.finished c.finish.new.self.finished e c.in_ok-finish-in-Nowhere.ensures.finished found.1 done) done
+    c.in_ok-unwound-in-Nowhere.ensures.walked start c.args.state (
+      rw c.in_ok-finish-in-Nowhere.ensures.path found.0,
+      kept (λ x. Reaches c.args.program.now.slots x.state.pc x.budget) c.args.program.now.slots c.args.self.now.finished c.finish.new.self.finished e c.in_ok-finish-in-Nowhere.ensures.finished found.1 done,
+    ) done
 
 pub returns-in_ok-unwound-in-Nowhere-clause-clear : goal.returns-in_ok-unwound-in-Nowhere-clause-clear
 returns-in_ok-unwound-in-Nowhere-clause-clear c = λ l m n state others le.
@@ -77,10 +77,11 @@ returns-in_ok-push-in-One-clause-begun c = λ begun.
     let b : Begins c.args.program.now.slots c.args.state.pc = c.requires.begins in
     let next : View = c.in-One.next in
     let f : Follows c.args.program.now.slots c.args.state.pc next.pc =
-        c.examination_law.ensures.follows c.args.program.now b.0 c.args.state (One next) c.whole.ensures.is b.1 (rw c.in-One.is at c.in_ok-examine.ensures.is b.0 b.1) in
-    let g : Frame = record { state = c.args.state; pending = None; best = 0 } in
-    (rw c.in_ok-push-in-One.ensures.path (AreBegun-push c.args.program.now.slots c.args.self.now.path.items g begun tt),
-        follows_begins c.args.program.now c.whole.ensures.is c.args.state.pc next.pc f)
+    c.examination_law.ensures.follows c.args.program.now b.0 c.args.state (One next) c.whole.ensures.is b.1 (rw c.in-One.is at c.in_ok-examine.ensures.is b.0 b.1) in
+    let g : Frame = record { state = c.args.state; pending = None; best = 0 } in (
+      rw c.in_ok-push-in-One.ensures.path (AreBegun-push c.args.program.now.slots c.args.self.now.path.items g begun tt),
+      follows_begins c.args.program.now c.whole.ensures.is c.args.state.pc next.pc f,
+    )
 
 pub returns-in_ok-push-in-One-clause-safe : goal.returns-in_ok-push-in-One-clause-safe
 returns-in_ok-push-in-One-clause-safe c = λ p start set found.
@@ -88,9 +89,10 @@ returns-in_ok-push-in-One-clause-safe c = λ p start set found.
     let next : View = c.in-One.next in
     let g : Frame = record { state = c.args.state; pending = None; best = 0 } in
     let covers : Covers p c.args.state (One next) =
-        c.examination_law.ensures.covers c.args.program.now p b.0 c.args.state (One next) c.whole.ensures.is set b.1 (rw c.in-One.is at c.in_ok-examine.ensures.is b.0 b.1) in
-    (rw c.in_ok-push-in-One.ensures.path (Linked-push (IsExplored p) c.args.self.now.path.items g start next found.0 (opens_one p g next refl covers)),
-        rw c.in_ok-push-in-One.ensures.finished found.1)
+    c.examination_law.ensures.covers c.args.program.now p b.0 c.args.state (One next) c.whole.ensures.is set b.1 (rw c.in-One.is at c.in_ok-examine.ensures.is b.0 b.1) in (
+      rw c.in_ok-push-in-One.ensures.path (Linked-push (IsExplored p) c.args.self.now.path.items g start next found.0 (opens_one p g next refl covers)),
+      rw c.in_ok-push-in-One.ensures.finished found.1,
+    )
 
 pub returns-in_ok-push-in-One-clause-walked : goal.returns-in_ok-push-in-One-clause-walked
 returns-in_ok-push-in-One-clause-walked c = λ start plain found.
@@ -98,11 +100,15 @@ returns-in_ok-push-in-One-clause-walked c = λ start plain found.
     let next : View = c.in-One.next in
     let g : Frame = record { state = c.args.state; pending = None; best = 0 } in
     let f : Follows c.args.program.now.slots c.args.state.pc next.pc =
-        c.examination_law.ensures.follows c.args.program.now b.0 c.args.state (One next) c.whole.ensures.is b.1 (rw c.in-One.is at c.in_ok-examine.ensures.is b.0 b.1) in
+    c.examination_law.ensures.follows c.args.program.now b.0 c.args.state (One next) c.whole.ensures.is b.1 (rw c.in-One.is at c.in_ok-examine.ensures.is b.0 b.1) in
     let walked : IsWalked c.args.program.now.slots g next = record {
-        follows = f; pending = tt; best = Reaches-one c.args.program.now c.whole.ensures.is plain c.args.state.pc b } in
-    (rw c.in_ok-push-in-One.ensures.path (Linked-push (IsWalked c.args.program.now.slots) c.args.self.now.path.items g start next found.0 walked),
-        rw c.in_ok-push-in-One.ensures.finished found.1)
+      follows = f;
+      pending = tt;
+      best = Reaches-one c.args.program.now c.whole.ensures.is plain c.args.state.pc b;
+    } in (
+      rw c.in_ok-push-in-One.ensures.path (Linked-push (IsWalked c.args.program.now.slots) c.args.self.now.path.items g start next found.0 walked),
+      rw c.in_ok-push-in-One.ensures.finished found.1,
+    )
 
 pub returns-in_ok-push-in-One-clause-clear : goal.returns-in_ok-push-in-One-clause-clear
 returns-in_ok-push-in-One-clause-clear c = λ l m n state others le.
@@ -116,7 +122,7 @@ pub returns-in_ok-push-in-Two-clause-counted : goal.returns-in_ok-push-in-Two-cl
 returns-in_ok-push-in-Two-clause-counted c =
     let g : Frame = record { state = c.args.state; pending = Some c.in-Two.second; best = 0 } in
     rw (c.in_ok-push-in-Two.ensures.finished, c.in_ok-push-in-Two.ensures.visits)
-        (Counted-push c.args.self.now.path.items c.push-in-Two.new.self.path.items g c.args.self.now.finished c.args.self.now.visits c.in_ok-push-in-Two.ensures.path refl c.requires.counted c.requires.paid)
+    (Counted-push c.args.self.now.path.items c.push-in-Two.new.self.path.items g c.args.self.now.finished c.args.self.now.visits c.in_ok-push-in-Two.ensures.path refl c.requires.counted c.requires.paid)
 
 pub returns-in_ok-push-in-Two-clause-begun : goal.returns-in_ok-push-in-Two-clause-begun
 returns-in_ok-push-in-Two-clause-begun c = λ begun.
@@ -124,10 +130,11 @@ returns-in_ok-push-in-Two-clause-begun c = λ begun.
     let first : View = c.in-Two.first in
     let second : View = c.in-Two.second in
     let f : Follows c.args.program.now.slots c.args.state.pc first.pc × Follows c.args.program.now.slots c.args.state.pc second.pc =
-        c.examination_law.ensures.follows c.args.program.now b.0 c.args.state (Two first second) c.whole.ensures.is b.1 (rw c.in-Two.is at c.in_ok-examine.ensures.is b.0 b.1) in
-    let g : Frame = record { state = c.args.state; pending = Some second; best = 0 } in
-    (rw c.in_ok-push-in-Two.ensures.path (AreBegun-push c.args.program.now.slots c.args.self.now.path.items g begun (follows_begins c.args.program.now c.whole.ensures.is c.args.state.pc second.pc f.1)),
-        follows_begins c.args.program.now c.whole.ensures.is c.args.state.pc first.pc f.0)
+    c.examination_law.ensures.follows c.args.program.now b.0 c.args.state (Two first second) c.whole.ensures.is b.1 (rw c.in-Two.is at c.in_ok-examine.ensures.is b.0 b.1) in
+    let g : Frame = record { state = c.args.state; pending = Some second; best = 0 } in (
+      rw c.in_ok-push-in-Two.ensures.path (AreBegun-push c.args.program.now.slots c.args.self.now.path.items g begun (follows_begins c.args.program.now c.whole.ensures.is c.args.state.pc second.pc f.1)),
+      follows_begins c.args.program.now c.whole.ensures.is c.args.state.pc first.pc f.0,
+    )
 
 pub returns-in_ok-push-in-Two-clause-safe : goal.returns-in_ok-push-in-Two-clause-safe
 returns-in_ok-push-in-Two-clause-safe c = λ p start set found.
@@ -136,9 +143,10 @@ returns-in_ok-push-in-Two-clause-safe c = λ p start set found.
     let second : View = c.in-Two.second in
     let g : Frame = record { state = c.args.state; pending = Some second; best = 0 } in
     let covers : Covers p c.args.state (Two first second) =
-        c.examination_law.ensures.covers c.args.program.now p b.0 c.args.state (Two first second) c.whole.ensures.is set b.1 (rw c.in-Two.is at c.in_ok-examine.ensures.is b.0 b.1) in
-    (rw c.in_ok-push-in-Two.ensures.path (Linked-push (IsExplored p) c.args.self.now.path.items g start first found.0 (opens_two p g first second refl covers)),
-        rw c.in_ok-push-in-Two.ensures.finished found.1)
+    c.examination_law.ensures.covers c.args.program.now p b.0 c.args.state (Two first second) c.whole.ensures.is set b.1 (rw c.in-Two.is at c.in_ok-examine.ensures.is b.0 b.1) in (
+      rw c.in_ok-push-in-Two.ensures.path (Linked-push (IsExplored p) c.args.self.now.path.items g start first found.0 (opens_two p g first second refl covers)),
+      rw c.in_ok-push-in-Two.ensures.finished found.1,
+    )
 
 pub returns-in_ok-push-in-Two-clause-walked : goal.returns-in_ok-push-in-Two-clause-walked
 returns-in_ok-push-in-Two-clause-walked c = λ start plain found.
@@ -147,11 +155,15 @@ returns-in_ok-push-in-Two-clause-walked c = λ start plain found.
     let second : View = c.in-Two.second in
     let g : Frame = record { state = c.args.state; pending = Some second; best = 0 } in
     let f : Follows c.args.program.now.slots c.args.state.pc first.pc × Follows c.args.program.now.slots c.args.state.pc second.pc =
-        c.examination_law.ensures.follows c.args.program.now b.0 c.args.state (Two first second) c.whole.ensures.is b.1 (rw c.in-Two.is at c.in_ok-examine.ensures.is b.0 b.1) in
+    c.examination_law.ensures.follows c.args.program.now b.0 c.args.state (Two first second) c.whole.ensures.is b.1 (rw c.in-Two.is at c.in_ok-examine.ensures.is b.0 b.1) in
     let walked : IsWalked c.args.program.now.slots g first = record {
-        follows = f.0; pending = f.1; best = Reaches-one c.args.program.now c.whole.ensures.is plain c.args.state.pc b } in
-    (rw c.in_ok-push-in-Two.ensures.path (Linked-push (IsWalked c.args.program.now.slots) c.args.self.now.path.items g start first found.0 walked),
-        rw c.in_ok-push-in-Two.ensures.finished found.1)
+      follows = f.0;
+      pending = f.1;
+      best = Reaches-one c.args.program.now c.whole.ensures.is plain c.args.state.pc b;
+    } in (
+      rw c.in_ok-push-in-Two.ensures.path (Linked-push (IsWalked c.args.program.now.slots) c.args.self.now.path.items g start first found.0 walked),
+      rw c.in_ok-push-in-Two.ensures.finished found.1,
+    )
 
 pub returns-in_ok-push-in-Two-clause-clear : goal.returns-in_ok-push-in-Two-clause-clear
 returns-in_ok-push-in-Two-clause-clear c = λ l m n state others le.
