@@ -28,7 +28,13 @@ fn run(rt: &HostRuntime) -> io::Result<u8> {
     }
     let mut out = rt.stdout();
     let mut err = rt.stderr();
-    Ok(apd_main(alloc, words.as_slice(), &mut RealFiles(rt), &mut out, &mut err))
+    Ok(apd_main(
+        alloc,
+        words.as_slice(),
+        &mut RealFiles(rt),
+        &mut out,
+        &mut err,
+    ))
 }
 
 /// The words that the program was started with, its own name first.

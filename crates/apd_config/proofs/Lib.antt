@@ -1,2 +1,3 @@
 pub mod TableKeys
 pub mod MapLemmas
+pub mod Faultless

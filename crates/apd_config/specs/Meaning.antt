@@ -1,10 +1,10 @@
 -- What a configuration's TOML says.
-use Rattle.std.specs.Prelude.{◌≡◌, ℕ, ◌≤◌, ◌==◌, ◌&&◌, ◌||◌, Bool, true, false, if◌then◌else◌, nat_le, pos, negsuc, List, [], ◌∷◌, length, codes, Option, Some, None, option_and_then, filter as list_filter}
+use Rattle.std.specs.Prelude.{◌≡◌, ℕ, ◌≤◌, ◌==◌, ◌&&◌, ◌||◌, Bool, true, if◌then◌else◌, nat_le, pos, List, [], ◌∷◌, length, codes, Option, Some, None, option_and_then}
 use Rattle.std.specs.Str.{bytes_eq}
 use Rattle.std.specs.List.{list_all}
 use Rattle.std.specs.Result.{result_ok}
 use Rattle.hex.specs.Hex.{decode_of, decode_sized}
-use Rattle.toml.specs.Data.{Data, string, integer, float, boolean, datetime, array, table, Items, no_items, item, Members, no_members, member, get_member, get_item}
+use Rattle.toml.specs.Data.{Data, string, integer, array, table, Items, no_items, item, Members, no_members, member, get_member}
 use Rattle.bpf_regions.specs.declared.maps.WordWidth.{WordWidth}
 use Rattle.bpf_regions.specs.declared.maps.WordWidth.TheVariants.{Four, Eight}
 use Rattle.bpf_regions.specs.declared.maps.Scope.{Scope}

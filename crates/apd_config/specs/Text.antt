@@ -1,7 +1,7 @@
 -- Which text is a configuration, and what its faults say of it.
-use Rattle.std.specs.Prelude.{◌≡◌, ◌≢◌, ℕ, ◌&&◌, Bool, true, false, nat_le, List, length, codes, zero, suc, Option, Some, None, option_and_then, string_bytes, Contains, IsUtf8}
+use Rattle.std.specs.Prelude.{◌≡◌, ◌≢◌, ℕ, ◌&&◌, Bool, true, false, nat_le, List, codes, suc, Some, None, option_and_then, string_bytes, Contains, IsUtf8}
 use Rattle.std.specs.List.{list_all}
-use Rattle.toml.specs.Data.{Data, string, integer, float, boolean, datetime, array, table, Items, no_items, item, Members, get_member, get_item}
+use Rattle.toml.specs.Data.{Data, array, table, Items, no_items, item, Members, get_member, get_item}
 use Rattle.toml.specs.Parse.{parse_document}
 use Rattle.toml.specs.Errors.{IsMemory}
 use Rattle.toml.specs.declared.de.error.Error.{Error}

@@ -4,12 +4,13 @@
 mod configuration;
 mod fault;
 mod keys;
+pub mod laws;
 mod maps;
 mod reading;
 mod tables;
-mod values;
 #[cfg(test)]
 mod tests;
+mod values;
 
 pub use configuration::Configuration;
 pub use fault::ConfigFault;

@@ -10,8 +10,8 @@ ghost use Rattle.apd_config.specs.Meaning.{count_of, width_of, scope_of, scope_o
 ghost use Rattle.apd_config.specs.Text.{are_maps, Tells, TellsOfItems, TellsOfItem, TellsOfMap, LacksKey};
 
 use crate::fault::ConfigFault;
-use crate::tables::value_at;
 use crate::keys::{Key, MapKey};
+use crate::tables::value_at;
 use bpf_regions::{Scope, Shape, Shapes, WordWidth};
 use std::alloc::Global;
 use toml::value::Array;
@@ -71,7 +71,10 @@ fn entries(map: usize, table: &Table) -> Result<u32, ConfigFault>
     let value = value(map, table, MapKey::Entries)?;
     match as_count(value, 4096) {
         Some(entries) => Ok(entries),
-        None => Err(ConfigFault::ValueInMap { map, key: MapKey::Entries }),
+        None => Err(ConfigFault::ValueInMap {
+            map,
+            key: MapKey::Entries,
+        }),
     }
 }
 
@@ -82,7 +85,10 @@ fn words(map: usize, table: &Table) -> Result<u32, ConfigFault>
     let value = value(map, table, MapKey::Words)?;
     match as_count(value, 8) {
         Some(words) => Ok(words),
-        None => Err(ConfigFault::ValueInMap { map, key: MapKey::Words }),
+        None => Err(ConfigFault::ValueInMap {
+            map,
+            key: MapKey::Words,
+        }),
     }
 }
 
@@ -93,7 +99,10 @@ fn width(map: usize, table: &Table) -> Result<WordWidth, ConfigFault>
     let value = value(map, table, MapKey::Width)?;
     match as_width(value) {
         Some(width) => Ok(width),
-        None => Err(ConfigFault::ValueInMap { map, key: MapKey::Width }),
+        None => Err(ConfigFault::ValueInMap {
+            map,
+            key: MapKey::Width,
+        }),
     }
 }
 
@@ -107,7 +116,10 @@ fn scope(map: usize, table: &Table) -> Result<Scope, ConfigFault>
     };
     match as_scope(value) {
         Some(scope) => Ok(scope),
-        None => Err(ConfigFault::ValueInMap { map, key: MapKey::Scope }),
+        None => Err(ConfigFault::ValueInMap {
+            map,
+            key: MapKey::Scope,
+        }),
     }
 }
 
@@ -148,7 +160,12 @@ fn shape(map: usize, table: &Table) -> Result<Shape, ConfigFault>
     let words = words(map, table)?;
     let width = width(map, table)?;
     let scope = scope(map, table)?;
-    Ok(Shape { entries, words, width, scope })
+    Ok(Shape {
+        entries,
+        words,
+        width,
+        scope,
+    })
 }
 
 /// The array of a value that is one, unless it has too many items.

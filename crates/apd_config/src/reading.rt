@@ -38,7 +38,13 @@ fn from_table(alloc: Global, table: &Table) -> Result<Configuration, ConfigFault
     let rates = values::rates(alloc, table)?;
     let draw = values::draw(table)?;
     let maps = maps::shapes(alloc, table)?;
-    Ok(Configuration { bssid, ssid, rates, draw, maps })
+    Ok(Configuration {
+        bssid,
+        ssid,
+        rates,
+        draw,
+        maps,
+    })
 }
 
 fn is_key(text: &str) -> bool

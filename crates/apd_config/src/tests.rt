@@ -9,7 +9,8 @@ const BASE: &str = "bssid = \"02000000000A\"\nssid = \"lab\"\nrates = \"82848b96
 #[test]
 fn reads_each_key(rt: HostRuntime) -> Result<(), Fail> {
     let alloc = rt.alloc();
-    let maps = "[[map]]\nentries = 4096\nwords = 8\nwidth = 4\nscope = \"worker\"\n[[map]]\nentries = 1\nwords = 1\nwidth = 8\n";
+    let maps =
+        "[[map]]\nentries = 4096\nwords = 8\nwidth = 4\nscope = \"worker\"\n[[map]]\nentries = 1\nwords = 1\nwidth = 8\n";
     let text = format!(in alloc; "{BASE}{maps}")?;
     let read = read_configuration(alloc, text.as_bytes())?;
     assert!(rt; read.bssid == [2, 0, 0, 0, 0, 10]);
@@ -35,7 +36,8 @@ fn reads_each_key(rt: HostRuntime) -> Result<(), Fail> {
 #[test]
 fn reads_values_at_their_limits(rt: HostRuntime) -> Result<(), Fail> {
     let alloc = rt.alloc();
-    let text = "draw = 9223372036854775807\nrates = \"0102030405060708\"\nssid = \"0123456789abcdef0123456789abcdef\"\nbssid = 'ffFFffFFffFF'\n";
+    let text =
+        "draw = 9223372036854775807\nrates = \"0102030405060708\"\nssid = \"0123456789abcdef0123456789abcdef\"\nbssid = 'ffFFffFFffFF'\n";
     let read = read_configuration(alloc, text.as_bytes())?;
     assert!(rt; read.bssid == [255; 6] && read.draw == 9223372036854775807);
     assert!(rt; read.rates.len() == 8 && read.ssid.len() == 32 && read.maps.is_empty());
@@ -64,19 +66,69 @@ fn names_the_key_at_the_top(rt: HostRuntime) -> Result<(), Fail> {
     let rates = "rates = \"01\"\n";
     let texts = [
         ("", "", "", "`bssid` is missing"),
-        ("bssid = \"0200000000\"\n", "", "", "`bssid` must be 12 hex digits"),
-        ("bssid = \"02000000000g\"\n", "", "", "`bssid` must be 12 hex digits"),
-        ("bssid = 20000000001\n", "", "", "`bssid` must be 12 hex digits"),
+        (
+            "bssid = \"0200000000\"\n",
+            "",
+            "",
+            "`bssid` must be 12 hex digits",
+        ),
+        (
+            "bssid = \"02000000000g\"\n",
+            "",
+            "",
+            "`bssid` must be 12 hex digits",
+        ),
+        (
+            "bssid = 20000000001\n",
+            "",
+            "",
+            "`bssid` must be 12 hex digits",
+        ),
         (bssid, "", "", "`ssid` is missing"),
-        (bssid, "ssid = false\n", "", "`ssid` must be text of 0 to 32 bytes"),
-        (bssid, "ssid = \"0123456789abcdef0123456789abcde\u{e9}\"\n", "", "`ssid` must be text of 0 to 32 bytes"),
+        (
+            bssid,
+            "ssid = false\n",
+            "",
+            "`ssid` must be text of 0 to 32 bytes",
+        ),
+        (
+            bssid,
+            "ssid = \"0123456789abcdef0123456789abcde\u{e9}\"\n",
+            "",
+            "`ssid` must be text of 0 to 32 bytes",
+        ),
         (bssid, ssid, "", "`rates` is missing"),
-        (bssid, ssid, "rates = \"\"\n", "`rates` must be 1 to 8 bytes in hex"),
-        (bssid, ssid, "rates = \"010203040506070809\"\n", "`rates` must be 1 to 8 bytes in hex"),
-        (bssid, ssid, "rates = \"012\"\n", "`rates` must be 1 to 8 bytes in hex"),
+        (
+            bssid,
+            ssid,
+            "rates = \"\"\n",
+            "`rates` must be 1 to 8 bytes in hex",
+        ),
+        (
+            bssid,
+            ssid,
+            "rates = \"010203040506070809\"\n",
+            "`rates` must be 1 to 8 bytes in hex",
+        ),
+        (
+            bssid,
+            ssid,
+            "rates = \"012\"\n",
+            "`rates` must be 1 to 8 bytes in hex",
+        ),
         (bssid, ssid, rates, "`draw` is missing"),
-        (bssid, ssid, "rates = \"01\"\ndraw = -1\n", "`draw` must be an integer of 0 or more"),
-        (bssid, ssid, "rates = \"01\"\ndraw = \"0\"\n", "`draw` must be an integer of 0 or more"),
+        (
+            bssid,
+            ssid,
+            "rates = \"01\"\ndraw = -1\n",
+            "`draw` must be an integer of 0 or more",
+        ),
+        (
+            bssid,
+            ssid,
+            "rates = \"01\"\ndraw = \"0\"\n",
+            "`draw` must be an integer of 0 or more",
+        ),
     ];
     for (bssid, ssid, rates, want) in texts {
         let text = format!(in alloc; "{bssid}{ssid}{rates}")?;
@@ -95,15 +147,39 @@ fn names_the_key_in_a_map(rt: HostRuntime) -> Result<(), Fail> {
         ("map = 1\n", maps),
         ("map = [1]\n", maps),
         ("[[map]]\n", "map 0: `entries` is missing"),
-        ("[[map]]\nentries = 0\n", "map 0: `entries` must be 1 to 4096"),
-        ("[[map]]\nentries = 4097\n", "map 0: `entries` must be 1 to 4096"),
+        (
+            "[[map]]\nentries = 0\n",
+            "map 0: `entries` must be 1 to 4096",
+        ),
+        (
+            "[[map]]\nentries = 4097\n",
+            "map 0: `entries` must be 1 to 4096",
+        ),
         ("[[map]]\nentries = 1\n", "map 0: `words` is missing"),
-        ("[[map]]\nentries = 1\nwords = 9\n", "map 0: `words` must be 1 to 8"),
-        ("[[map]]\nentries = 1\nwords = 1\n", "map 0: `width` is missing"),
-        ("[[map]]\nentries = 1\nwords = 1\nwidth = 2\n", "map 0: `width` must be 4 or 8"),
-        ("[[map]]\nentries = 1\nwords = 1\nwidth = 4\nscope = \"own\"\n", "map 0: `scope` must be \"shared\" or \"worker\""),
-        ("[[map]]\nentries = 1\nwords = 1\nwidth = 4\n[[map]]\nentires = 1\n", "map 1: unknown key `entires`"),
-        ("draw = 1\n", "TOML parse error at line 5, column 1: duplicate key"),
+        (
+            "[[map]]\nentries = 1\nwords = 9\n",
+            "map 0: `words` must be 1 to 8",
+        ),
+        (
+            "[[map]]\nentries = 1\nwords = 1\n",
+            "map 0: `width` is missing",
+        ),
+        (
+            "[[map]]\nentries = 1\nwords = 1\nwidth = 2\n",
+            "map 0: `width` must be 4 or 8",
+        ),
+        (
+            "[[map]]\nentries = 1\nwords = 1\nwidth = 4\nscope = \"own\"\n",
+            "map 0: `scope` must be \"shared\" or \"worker\"",
+        ),
+        (
+            "[[map]]\nentries = 1\nwords = 1\nwidth = 4\n[[map]]\nentires = 1\n",
+            "map 1: unknown key `entires`",
+        ),
+        (
+            "draw = 1\n",
+            "TOML parse error at line 5, column 1: duplicate key",
+        ),
     ];
     for (tail, want) in tails {
         let text = format!(in alloc; "{BASE}{tail}")?;
@@ -122,5 +198,10 @@ fn takes_sixteen_maps_and_no_more(rt: HostRuntime) -> Result<(), Fail> {
     }
     assert!(rt; read_configuration(alloc, text.as_bytes())?.maps.len() == 16);
     text.push_str(map)?;
-    faulty(&rt, alloc, text.as_bytes(), "`map` must be tables `[[map]]`, at most 16")
+    faulty(
+        &rt,
+        alloc,
+        text.as_bytes(),
+        "`map` must be tables `[[map]]`, at most 16",
+    )
 }

@@ -9,8 +9,8 @@ ghost use Rattle.apd_config.specs.Meaning.{bssid_of, ssid_of, draw_of, rates_of}
 ghost use Rattle.apd_config.specs.Text.{Tells, LacksKey};
 
 use crate::fault::ConfigFault;
-use crate::tables::value_at;
 use crate::keys::Key;
+use crate::tables::value_at;
 use hex::{FromHex, FromHexError};
 use std::alloc::Global;
 use toml::{Table, Value};

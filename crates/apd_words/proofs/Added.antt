@@ -1,5 +1,5 @@
 -- A command with one more subcommand.
-use Rattle.std.proofs.Common.{◌≡◌, ◌||◌, Bool, false, ap₂, ◌∙◌}
+use Rattle.std.proofs.Common.{◌≡◌, ◌||◌, false, ap₂, ◌∙◌}
 use Rattle.clap.specs.Words.{App, Shape, AddsSubcommand, app_of, with_subcommand}
 use Rattle.clap.specs.Simple.{shape_of}
 use Rattle.clap.specs.declared.builder.command.Command.{Command}

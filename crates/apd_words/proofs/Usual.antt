@@ -1,5 +1,5 @@
 -- Words in their usual order are taken, and ask for what they spell.
-use Rattle.std.proofs.Common.{◌≡◌, ◌==◌, ◌∙◌, ℕ, Bool, true, false, List, [], ◌∷◌, Option, Some, None, refl, ap, codes}
+use Rattle.std.proofs.Common.{◌≡◌, ◌==◌, ◌∙◌, true, false, List, [], ◌∷◌, Some, None, refl, ap, codes}
 use Rattle.std.specs.Str.{bytes_eq}
 use Rattle.std.specs.List.{list_any}
 use Rattle.std.proofs.lemmas.Bool.{ne_eqb}
@@ -12,7 +12,7 @@ use Rattle.clap.proofs.WalkLemmas.{list_any-map}
 use Rattle.bpf_regions.specs.Hooks.{name_of}
 use Rattle.bpf_regions.specs.declared.hooks.Hook.{Hook}
 use Rattle.bpf_regions.specs.declared.hooks.Hook.TheVariants.{Association, Addba, Data}
-use Rattle.apd_words.specs.CommandLine.{command_line, hook_names, worker_names, TakesNames}
+use Rattle.apd_words.specs.CommandLine.{command_line, hook_names, TakesNames}
 use Rattle.apd_words.specs.Asked.{Verify, Assemble, Disassemble, asked_in}
 use Rattle.apd_words.specs.Spells.{IsOperand, Spells}
 

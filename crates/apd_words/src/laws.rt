@@ -13,16 +13,14 @@ pub fn verify_law()
         → Spells (program ∷ codes "verify" ∷ name_of hook ∷ file ∷ []) (Verify hook file None) }
     ensures configured { (program file config : List ℕ) (hook : Hook) → IsOperand file → IsOperand config
         → Spells (program ∷ codes "verify" ∷ name_of hook ∷ file ∷ codes "--config" ∷ config ∷ []) (Verify hook file (Some config)) }
-{
-}
+{}
 
 /// The law of `apd asm FILE`: the words ask for what they say, unless a FILE
 /// or C begins with a hyphen.
 pub fn assemble_law()
     ensures plain { (program file : List ℕ) → IsOperand file
         → Spells (program ∷ codes "asm" ∷ file ∷ []) (Assemble file) }
-{
-}
+{}
 
 /// The law of `apd disasm FILE [--config C]`: the words ask for what they say, unless a FILE
 /// or C begins with a hyphen.
@@ -31,5 +29,4 @@ pub fn disassemble_law()
         → Spells (program ∷ codes "disasm" ∷ file ∷ []) (Disassemble file None) }
     ensures configured { (program file config : List ℕ) → IsOperand file → IsOperand config
         → Spells (program ∷ codes "disasm" ∷ file ∷ codes "--config" ∷ config ∷ []) (Disassemble file (Some config)) }
-{
-}
+{}

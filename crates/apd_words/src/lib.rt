@@ -7,9 +7,9 @@ ghost use Rattle.apd_words.specs.declared.Told.TheVariants.{NoMemory};
 mod command;
 pub mod laws;
 mod reading;
-mod words;
 #[cfg(test)]
 mod tests;
+mod words;
 
 use bpf_regions::Hook;
 use std::alloc::AllocError;
@@ -18,14 +18,41 @@ pub use words::read_words;
 /// What the words ask for. Paths and frames are as they were written.
 #[derive(Clone, Copy, Debug, PartialEq, Eq)]
 pub enum Request<'a> {
-    Verify { hook: Hook, file: &'a str, config: Option<&'a str> },
-    Assemble { file: &'a str },
-    Disassemble { file: &'a str, config: Option<&'a str> },
-    Trace { hook: Hook, file: &'a str, frame: &'a str, config: Option<&'a str> },
+    Verify {
+        hook: Hook,
+        file: &'a str,
+        config: Option<&'a str>,
+    },
+    Assemble {
+        file: &'a str,
+    },
+    Disassemble {
+        file: &'a str,
+        config: Option<&'a str>,
+    },
+    Trace {
+        hook: Hook,
+        file: &'a str,
+        frame: &'a str,
+        config: Option<&'a str>,
+    },
     /// The workers are 1 to 8.
-    Run { config: &'a str, script: &'a str, workers: u8 },
-    Certify { hook: Hook, file: &'a str, config: Option<&'a str> },
-    Check { hook: Hook, file: &'a str, certificate: &'a str, config: Option<&'a str> },
+    Run {
+        config: &'a str,
+        script: &'a str,
+        workers: u8,
+    },
+    Certify {
+        hook: Hook,
+        file: &'a str,
+        config: Option<&'a str>,
+    },
+    Check {
+        hook: Hook,
+        file: &'a str,
+        certificate: &'a str,
+        config: Option<&'a str>,
+    },
 }
 
 /// Words that ask for nothing to be done: what is printed in place of an answer.

@@ -58,7 +58,12 @@ fn trace<'a>(matches: &ArgMatches<'a>) -> Option<Request<'a>>
     let file = value(matches, "FILE")?;
     let frame = value(matches, "FRAME")?;
     let config = value(matches, "config");
-    Some(Request::Trace { hook, file, frame, config })
+    Some(Request::Trace {
+        hook,
+        file,
+        frame,
+        config,
+    })
 }
 
 fn run<'a>(matches: &ArgMatches<'a>) -> Option<Request<'a>>
@@ -67,7 +72,11 @@ fn run<'a>(matches: &ArgMatches<'a>) -> Option<Request<'a>>
     let config = value(matches, "C")?;
     let script = value(matches, "SCRIPT")?;
     let workers = workers_named(value(matches, "workers")?)?;
-    Some(Request::Run { config, script, workers })
+    Some(Request::Run {
+        config,
+        script,
+        workers,
+    })
 }
 
 fn certify<'a>(matches: &ArgMatches<'a>) -> Option<Request<'a>>
@@ -86,7 +95,12 @@ fn check<'a>(matches: &ArgMatches<'a>) -> Option<Request<'a>>
     let file = value(matches, "FILE")?;
     let certificate = value(matches, "CERT")?;
     let config = value(matches, "config");
-    Some(Request::Check { hook, file, certificate, config })
+    Some(Request::Check {
+        hook,
+        file,
+        certificate,
+        config,
+    })
 }
 
 /// The value of an argument.

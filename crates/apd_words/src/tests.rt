@@ -7,24 +7,49 @@ use std::test::Fail;
 fn reads_each_command(rt: HostRuntime) -> Result<(), Fail> {
     let alloc = rt.alloc();
     let words = ["apd", "verify", "data", "a.hex", "--config", "c.toml"];
-    let want = Request::Verify { hook: Hook::Data, file: "a.hex", config: Some("c.toml") };
+    let want = Request::Verify {
+        hook: Hook::Data,
+        file: "a.hex",
+        config: Some("c.toml"),
+    };
     assert!(rt; read_words(alloc, &words).is_ok_and(|r| r == want));
     let words = ["apd", "verify", "--config=c.toml", "--", "assoc", "-a.hex"];
-    let want = Request::Verify { hook: Hook::Association, file: "-a.hex", config: Some("c.toml") };
+    let want = Request::Verify {
+        hook: Hook::Association,
+        file: "-a.hex",
+        config: Some("c.toml"),
+    };
     assert!(rt; read_words(alloc, &words).is_ok_and(|r| r == want));
     let want = Request::Assemble { file: "a.asm" };
     assert!(rt; read_words(alloc, &["apd", "asm", "a.asm"]).is_ok_and(|r| r == want));
     let words = ["apd", "disasm", "--config", "c.toml", "a.hex"];
-    let want = Request::Disassemble { file: "a.hex", config: Some("c.toml") };
+    let want = Request::Disassemble {
+        file: "a.hex",
+        config: Some("c.toml"),
+    };
     assert!(rt; read_words(alloc, &words).is_ok_and(|r| r == want));
     let words = ["apd", "trace", "addba", "a.hex", ""];
-    let want = Request::Trace { hook: Hook::Addba, file: "a.hex", frame: "", config: None };
+    let want = Request::Trace {
+        hook: Hook::Addba,
+        file: "a.hex",
+        frame: "",
+        config: None,
+    };
     assert!(rt; read_words(alloc, &words).is_ok_and(|r| r == want));
     let words = ["apd", "cert", "assoc", "a.hex"];
-    let want = Request::Certify { hook: Hook::Association, file: "a.hex", config: None };
+    let want = Request::Certify {
+        hook: Hook::Association,
+        file: "a.hex",
+        config: None,
+    };
     assert!(rt; read_words(alloc, &words).is_ok_and(|r| r == want));
     let words = ["apd", "check", "addba", "a.hex", "a.cert"];
-    let want = Request::Check { hook: Hook::Addba, file: "a.hex", certificate: "a.cert", config: None };
+    let want = Request::Check {
+        hook: Hook::Addba,
+        file: "a.hex",
+        certificate: "a.cert",
+        config: None,
+    };
     assert!(rt; read_words(alloc, &words).is_ok_and(|r| r == want));
     Ok(())
 }
@@ -33,14 +58,25 @@ fn reads_each_command(rt: HostRuntime) -> Result<(), Fail> {
 fn reads_the_number_of_workers(rt: HostRuntime) {
     let alloc = rt.alloc();
     let words = ["apd", "run", "c.toml", "s.txt"];
-    let want = Request::Run { config: "c.toml", script: "s.txt", workers: 2 };
+    let want = Request::Run {
+        config: "c.toml",
+        script: "s.txt",
+        workers: 2,
+    };
     assert!(rt; read_words(alloc, &words).is_ok_and(|r| r == want));
     let words = ["apd", "run", "--workers=8", "c.toml", "s.txt"];
-    let want = Request::Run { config: "c.toml", script: "s.txt", workers: 8 };
+    let want = Request::Run {
+        config: "c.toml",
+        script: "s.txt",
+        workers: 8,
+    };
     assert!(rt; read_words(alloc, &words).is_ok_and(|r| r == want));
     for number in ["0", "9", "10", "02", "+2", "two", ""] {
         let words = ["apd", "run", "c.toml", "s.txt", "--workers", number];
-        assert!(rt; matches!(&read_words(alloc, &words), Err(Told::Fault(_))), "{number}");
+        assert!(rt;
+            matches!(&read_words(alloc, &words), Err(Told::Fault(_))),
+            "{number}"
+        );
     }
 }
 
@@ -118,31 +154,48 @@ Exit status:
 #[test]
 fn tells_what_is_wrong(rt: HostRuntime) {
     let alloc = rt.alloc();
-    let told = read_words(alloc, &["apd", "run", "c", "s", "--workers", "2", "--workers", "3"]);
-    shows(&rt, &told, "error: the argument '--workers <N>' cannot be used multiple times
+    let told = read_words(
+        alloc,
+        &["apd", "run", "c", "s", "--workers", "2", "--workers", "3"],
+    );
+    shows(
+        &rt,
+        &told,
+        "error: the argument '--workers <N>' cannot be used multiple times
 
 Usage: apd run [OPTIONS] <C> <SCRIPT>
 
 For more information, try '--help'.
-");
+",
+    );
     let told = read_words(alloc, &["apd", "verify", "dat", "a.hex"]);
-    shows(&rt, &told, "error: invalid value 'dat' for '<HOOK>'
+    shows(
+        &rt,
+        &told,
+        "error: invalid value 'dat' for '<HOOK>'
   [possible values: assoc, addba, data]
 
   tip: a similar value exists: 'data'
 
 For more information, try '--help'.
-");
+",
+    );
     let told = read_words(alloc, &["apd", "verify", "data"]);
-    shows(&rt, &told, "error: the following required arguments were not provided:
+    shows(
+        &rt,
+        &told,
+        "error: the following required arguments were not provided:
   <FILE>
 
 Usage: apd verify <HOOK> <FILE>
 
 For more information, try '--help'.
-");
+",
+    );
     let faulty: [&[&str]; 9] = [
-        &["apd", "verify", "data", "a", "--config", "c", "--config", "d"],
+        &[
+            "apd", "verify", "data", "a", "--config", "c", "--config", "d",
+        ],
         &["apd", "verify", "data", "a", "--hook", "c"],
         &["apd", "verify", "data", "a", "b"],
         &["apd", "verify", "data", "a", "--config"],
@@ -153,6 +206,9 @@ For more information, try '--help'.
         &[],
     ];
     for words in faulty {
-        assert!(rt; matches!(&read_words(alloc, words), Err(Told::Fault(_))), "{words:?}");
+        assert!(rt;
+            matches!(&read_words(alloc, words), Err(Told::Fault(_))),
+            "{words:?}"
+        );
     }
 }

@@ -1,5 +1,5 @@
 -- Where the stations of a shard stand (IEEE 802.11-2016, 11.3.1), and the association identifiers.
-use Rattle.std.specs.Prelude.{◌≡◌, ℕ, ◌+◌, ◌*◌, ◌/◌, ◌%◌, ◌<◌, ◌≤◌, Option, None, Some, cond, nat_eq, List, length, true, Bool, IsSome, is_some, count_by, slice_index_or, ◌↔◌}
+use Rattle.std.specs.Prelude.{◌≡◌, ℕ, ◌+◌, ◌*◌, ◌/◌, ◌%◌, ◌≤◌, Option, None, Some, cond, nat_eq, List, length, true, Bool, IsSome, is_some, count_by, slice_index_or}
 use Rattle.std.specs.List.{IsDistinct, list_any}
 use Rattle.std.specs.Cmp.Lexicographic.{pointwise}
 use Rattle.std.specs.Map.{lookup}

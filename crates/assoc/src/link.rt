@@ -90,7 +90,10 @@ impl Link {
     pub fn associated(&self) -> u16
         ensures { result ≡ associated_count self.now }
     {
-        self.holders.iter().filter(|holder| holder.is_some()).count() as u16
+        self.holders
+            .iter()
+            .filter(|holder| holder.is_some())
+            .count() as u16
     }
 
     /// Tells a proof that the identifiers are held as the stations stand, each once, and does

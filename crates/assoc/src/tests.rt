@@ -62,7 +62,10 @@ fn departures_free_the_identifier(rt: HostRuntime) -> Result<(), Fail> {
 fn shard_0_has_250_identifiers(rt: HostRuntime) -> Result<(), Fail> {
     let mut link = Link::new(rt.alloc(), 0);
     for number in 0..250u16 {
-        assert_eq!(rt; associated(&mut link, station(number)), Some(8 * number + 8));
+        assert_eq!(rt;
+            associated(&mut link, station(number)),
+            Some(8 * number + 8)
+        );
     }
     assert_eq!(rt; link.associated(), 250);
     assert_eq!(rt; associated(&mut link, station(250)), None);
@@ -76,7 +79,14 @@ fn shard_1_has_251_identifiers_and_512_stations(rt: HostRuntime) -> Result<(), F
     for number in 0..512u16 {
         assert!(rt; !link.is_full());
         let aid = associated(&mut link, station(number));
-        assert_eq!(rt; aid, if number < 251 { Some(8 * number + 1) } else { None });
+        assert_eq!(rt;
+            aid,
+            if number < 251 {
+                Some(8 * number + 1)
+            } else {
+                None
+            }
+        );
     }
     assert!(rt; link.is_full());
     Ok(())
@@ -103,7 +113,13 @@ fn classes_are_checked_by_state(rt: HostRuntime) -> Result<(), Fail> {
         ClassAnswer::Disassociate(Reason::new(7))
     );
     assert_eq!(rt; class_check(None, Class::One), ClassAnswer::Permitted);
-    assert_eq!(rt; class_check(authenticated, Class::Two), ClassAnswer::Permitted);
-    assert_eq!(rt; class_check(associated, Class::Three), ClassAnswer::Permitted);
+    assert_eq!(rt;
+        class_check(authenticated, Class::Two),
+        ClassAnswer::Permitted
+    );
+    assert_eq!(rt;
+        class_check(associated, Class::Three),
+        ClassAnswer::Permitted
+    );
     Ok(())
 }

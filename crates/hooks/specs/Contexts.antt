@@ -1,7 +1,6 @@
 -- The 32 bytes that tell a program of a station and its frame; numbers of two bytes have the low one first. The layout
 -- is our own.
 use Rattle.std.specs.Prelude.{ℕ, List, [], ◌∷◌, ◌++◌, Bool, true, false, Option, Some, None}
-use Rattle.std.specs.List.{repeat}
 use Rattle.std.specs.Int.{w16, to_le_bytes}
 use Rattle.bpf_regions.specs.declared.hooks.Hook.{Hook}
 use Rattle.bpf_regions.specs.declared.hooks.Hook.TheVariants as hook

@@ -19,7 +19,16 @@ fn asker() -> Asker {
 
 #[test]
 fn association_verdicts_are_statuses(rt: HostRuntime) -> Result<(), Fail> {
-    let cases = [(0, 0), (1, 1), (10, 10), (12, 12), (17, 17), (37, 37), (5, 1), (u64::MAX, 1)];
+    let cases = [
+        (0, 0),
+        (1, 1),
+        (10, 10),
+        (12, 12),
+        (17, 17),
+        (37, 37),
+        (5, 1),
+        (u64::MAX, 1),
+    ];
     for (r0, status) in cases {
         assert_eq!(rt; assoc_verdict(r0).code(), status);
     }

@@ -1,4 +1,4 @@
-use Rattle.std.proofs.Common.{◌≡◌, ◌<◌, Some, None, ap, sym, ◌∙◌, option_map, arith}
+use Rattle.std.proofs.Common.{◌≡◌, ◌<◌, Some, ap, sym, ◌∙◌, option_map, arith}
 use Rattle.toml.specs.Data.{as_array}
 use Rattle.toml.specs.View.{view, array_view}
 use Rattle.apd_config.specs.Text.{count_items}

@@ -1,4 +1,4 @@
-use Rattle.std.proofs.Common.{rules, ◌≡◌, Some, ap, sym, ◌∙◌, codes}
+use Rattle.std.proofs.Common.{rules, ◌≡◌, Some, codes}
 use Rattle.std.proofs.lemmas.Result.{IfErr-weaker}
 use Rattle.std.specs.Result.{IfErr}
 use Rattle.toml.specs.Data.{array, get_member}

@@ -1,6 +1,6 @@
 use Rattle.std.proofs.Common.{refl}
 use Rattle.std.proofs.lemmas.Result.{IfOk-weaker}
-use Rattle.apd_words.proofs.Added.{app-added, local-added}
+use Rattle.apd_words.proofs.Added.{app-added}
 use Rattle.apd_words.proofs.command.with_certificate_commands.Goals as goal
 
 pub returns : goal.returns
