@@ -21,7 +21,9 @@ fn admitted(alloc: Global, program: Program, hook: Hook) -> Result<Answer, Progr
     ensures memory { IfErr result (λ e. e ≡ ProgramFault.NoMemory) }
 {
     match bpf_verifier::verify(alloc, program, hook) {
-        Ok(accepted) => Ok(Answer::Accepted { budget: accepted.budget() }),
+        Ok(accepted) => Ok(Answer::Accepted {
+            budget: accepted.budget(),
+        }),
         Err(refusal) => match refusal.fault {
             Fault::NoMemory => Err(ProgramFault::NoMemory),
             _ => Ok(Answer::Refused(refusal)),
