@@ -1,0 +1,5 @@
+pub mod Tighten
+pub mod Rows
+pub mod Instructions
+pub mod Branches
+pub mod Inclusion

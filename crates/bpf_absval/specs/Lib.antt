@@ -1,0 +1,4 @@
+pub mod Number
+pub mod Transfer
+pub mod Branch
+pub mod Laws
