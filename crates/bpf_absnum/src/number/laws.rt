@@ -1,0 +1,39 @@
+//! What the operations on abstract numbers keep, each law on a function with nothing to do.
+
+ghost use Rattle.std.specs.Prelude.{ℕ, ◌≡◌};
+ghost use Rattle.bpf_absnum.specs.Laws.{IsNum, TightenKeeps, IncludedKeeps, FullContains, SingleContains, CutContains, AluContains, NegatedContains, ExtendedContains, OrderedContains, WithinContains, LoadedContains, LoadedSignedContains, BranchKeeps};
+
+use crate::number::AbsNum;
+
+/// Tightening loses no member. Where a number is included in another, each of its members is one of that. All words, one
+/// word, and the low halves are what they say.
+pub fn number_law()
+    ensures tighten { TightenKeeps }
+    ensures included { IncludedKeeps }
+    ensures full { FullContains }
+    ensures single { SingleContains }
+    ensures cut { CutContains }
+{}
+
+/// Every abstract number is well formed: its ends and bits are words, and no bit is both known and unknown.
+pub fn well_formed_law(number: AbsNum)
+    ensures { IsNum number }
+{
+    let _parts = (number.range(), number.signed(), number.bits());
+}
+
+/// Each instruction's result on members is a member of its result, and what is loaded is a member of the load's.
+pub fn transfer_law()
+    ensures alu { AluContains }
+    ensures negated { NegatedContains }
+    ensures extended { ExtendedContains }
+    ensures ordered { OrderedContains }
+    ensures within { WithinContains }
+    ensures loaded { LoadedContains }
+    ensures loaded_signed { LoadedSignedContains }
+{}
+
+/// On each way of a conditional jump the members that take it are kept, so a way is left out only where none takes it.
+pub fn branch_law()
+    ensures { BranchKeeps }
+{}
