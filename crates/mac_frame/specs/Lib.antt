@@ -8,3 +8,4 @@ pub mod Spelling
 pub mod Frames
 pub mod Reading
 pub mod Writing
+pub mod Texts

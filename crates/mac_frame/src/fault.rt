@@ -1,6 +1,6 @@
 //! Why bytes are no frame.
 
-ghost use Rattle.std.specs.Prelude.{◌≡◌};
+ghost use Rattle.std.specs.Prelude.{◌≡◌, Some};
 ghost use Rattle.mac_frame.specs.Faults.{number_of_fault};
 ghost use Rattle.mac_frame.specs.declared.fault.FrameFault.TheVariants.{Memory};
 
@@ -42,6 +42,10 @@ impl Fault {
 }
 
 impl fmt::Display for Fault {
+    ghost use Rattle.mac_frame.specs.Texts.{fault_text};
+
+    ghost output = { λ f. Some (fault_text f) };
+
     fn fmt<W: fmt::Write>(&self, f: &mut fmt::Formatter<W>) -> fmt::Result {
         f.write_str(match self {
             Fault::TooShort => "the frame ends within its header",
@@ -66,6 +70,10 @@ pub enum FrameFault {
 }
 
 impl fmt::Display for FrameFault {
+    ghost use Rattle.mac_frame.specs.Texts.{frame_fault_text};
+
+    ghost output = { λ f. Some (frame_fault_text f) };
+
     fn fmt<W: fmt::Write>(&self, f: &mut fmt::Formatter<W>) -> fmt::Result {
         match self {
             FrameFault::Memory => f.write_str("out of memory"),

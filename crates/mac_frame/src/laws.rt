@@ -1,6 +1,6 @@
 //! Laws of the grammar.
 
-ghost use Rattle.std.specs.Prelude.{◌≡◌, None, MatchResult};
+ghost use Rattle.std.specs.Prelude.{◌≡◌, ◌++◌, None, OnOk, MatchResult};
 ghost use Rattle.mac_frame.specs.Elements.{CutsNone, ReadsElements};
 ghost use Rattle.mac_frame.specs.Faults.{first_fault};
 ghost use Rattle.mac_frame.specs.Spelling.{Frame, IsFrame, AreSpelled, spelling};
@@ -15,7 +15,8 @@ pub fn spelled_without_fault()
     ensures { (f : Frame) → IsFrame f → first_fault (spelling f) ≡ None }
 {}
 
-/// Bytes without a fault are the spelling of a frame of the grammar.
+/// Bytes without a fault are the spelling of a frame of the grammar. Its calls are those that find the
+/// frame's fields.
 pub fn faultless_is_spelled(bytes: &[u8])
     ensures { first_fault bytes.now ≡ None → AreSpelled bytes.now }
 {
@@ -29,7 +30,8 @@ pub fn faultless_is_spelled(bytes: &[u8])
 
 /// What is read of the bytes that `write` appended is the frame that was written.
 pub fn written_is_read(frame: &MacFrame, out: &mut Vec<u8>) -> Result<MacFrame, FrameFault>
-    ensures { MatchResult result (λ read. read ≡ frame.now) (λ e. e ≡ FrameFault.Memory) }
+    ensures appended { OnOk result (out.new.items ≡ out.old.items ++ spelling frame.now) }
+    ensures read { MatchResult result (λ read. read ≡ frame.now) (λ e. e ≡ FrameFault.Memory) }
 {
     frame.known();
     let alloc = *out.allocator();

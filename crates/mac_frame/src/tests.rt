@@ -623,15 +623,44 @@ fn is_read_or_refused(
     }
 }
 
+/// Of each kind: how long its header is, how long it is with its fixed fields, and at which lengths the
+/// frame above ends with an element or within its data.
+const CUTS: [(usize, usize, &[usize]); 16] = [
+    (24, 28, &[28, 33, 39]),
+    (24, 30, &[30, 36]),
+    (24, 34, &[34, 37, 41]),
+    (24, 30, &[30, 34]),
+    (24, 26, &[26]),
+    (24, 30, &[30]),
+    (24, 26, &[26]),
+    (24, 33, &[33]),
+    (24, 33, &[33]),
+    (24, 30, &[30]),
+    (16, 20, &[20]),
+    (16, 28, &[28]),
+    (24, 24, &[24, 25, 26, 27, 28, 29, 30, 31, 32]),
+    (24, 24, &[24]),
+    (26, 26, &[26, 27]),
+    (26, 26, &[26]),
+];
+
 #[test]
 fn every_kind_cut_at_every_length(rt: HostRuntime) -> Result<(), Fail> {
     let alloc = rt.alloc();
-    for digits in KINDS {
+    for (digits, (header, fixed, whole)) in KINDS.into_iter().zip(CUTS) {
         let bytes = hex(alloc, digits)?;
-        for len in 0..bytes.len() {
+        for len in 0..=bytes.len() {
+            let wanted = match len {
+                _ if len < header => 50,
+                _ if len < fixed => 55,
+                _ if whole.contains(&len) => 0,
+                _ => 54,
+            };
+            let read = parse(alloc, &bytes[..len]);
+            assert_eq!(rt; number_of(&read), wanted, "{len} bytes of {digits}");
             let _ = is_read_or_refused(&rt, alloc, &bytes[..len])?;
         }
-        assert!(rt; is_read_or_refused(&rt, alloc, &bytes)?, "{digits}");
+        assert!(rt; whole.contains(&bytes.len()), "{digits}");
     }
     Ok(())
 }

@@ -1,0 +1,18 @@
+-- How faults are shown.
+use Rattle.std.specs.Prelude.{ℕ, List, codes}
+use Rattle.mac_frame.specs.declared.fault.Fault.{Fault}
+use Rattle.mac_frame.specs.declared.fault.Fault.TheVariants.{TooShort, WrongVersion, Unsupported, ReservedUse, ElementCut, BodyLength}
+use Rattle.mac_frame.specs.declared.fault.FrameFault.{FrameFault}
+use Rattle.mac_frame.specs.declared.fault.FrameFault.TheVariants as answers
+
+abbrev pub fault_text : Fault → List ℕ
+fault_text TooShort = codes "the frame ends within its header"
+fault_text WrongVersion = codes "the protocol version is not 0"
+fault_text Unsupported = codes "the type, subtype, category or action is not supported"
+fault_text ReservedUse = codes "a field holds a reserved value"
+fault_text ElementCut = codes "an element is cut"
+fault_text BodyLength = codes "the body has the wrong length"
+
+abbrev pub frame_fault_text : FrameFault → List ℕ
+frame_fault_text answers.Memory = codes "out of memory"
+frame_fault_text (answers.Fault fault) = fault_text fault
