@@ -1,0 +1,3 @@
+pub mod Handles
+pub mod Settled
+pub mod Shards

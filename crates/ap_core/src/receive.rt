@@ -1,0 +1,124 @@
+//! Bytes that came.
+
+ghost use Rattle.std.specs.Prelude.{◌≡◌, ℕ, [], ◌∷◌, IfOk, IfErr};
+ghost use Rattle.ap_model.specs.declared.event.Out.{Out};
+ghost use Rattle.mac_frame.specs.Spelling.{spelling};
+ghost use Rattle.ap_model.specs.Steps.{FrameComes, Checked, check_of};
+ghost use Rattle.ap_core.specs.Handles.{Handled, reading, rules};
+ghost use Rattle.ap_core.specs.Settled.{IsSetup, IsNoSetup, IsNoted};
+
+use crate::room::Room;
+use crate::rules::{follow, is_ours};
+use ap_model::{Judge, LinkConfig, Out};
+use assoc::{ClassAnswer, Link, class_check, class_of};
+use bpf_regions::Frame;
+use mac_frame::{FrameFault, MacFrame, parse};
+use std::alloc::{AllocError, Global};
+
+/// The note of a frame for another access point, or from a group.
+const NOT_OURS: u8 = 56;
+
+/// A note, and nothing else.
+fn noted(alloc: Global, number: u8) -> Result<Vec<Out>, AllocError>
+    ensures { IfOk result (λ outs. outs.items ≡ Out.Note number ∷ []) }
+{
+    let room = Room::new(alloc)?;
+    Ok(room.note(number))
+}
+
+/// Bytes that were not read: want of memory, or the note of their fault.
+fn unread(alloc: Global, fault: FrameFault) -> Result<Vec<Out>, AllocError>
+    ensures { IfOk result (λ outs. IsNoted fault outs.items) }
+{
+    match fault {
+        FrameFault::Memory => return Err(AllocError),
+        FrameFault::Fault(fault) => {
+            let note = noted(alloc, fault.number())?;
+            return Ok(note);
+        }
+    }
+}
+
+/// A frame for this access point.
+fn check<J: Judge>(
+    alloc: Global,
+    link: &mut Link,
+    config: &LinkConfig,
+    frame: &MacFrame,
+    bytes: &Frame<'_>,
+    judge: &mut J,
+) -> Result<Vec<Out>, AllocError>
+    requires bytes { bytes.now ≡ spelling frame.now }
+    ensures step { IfOk result (λ outs. (IsSetup frame.now.content → ⊥) → (clock : ℕ) → Handled J.gives (λ asks outs. Checked (rules link.old.shard config.now) (reading link.old clock) frame.now (check_of (rules link.old.shard config.now) (reading link.old clock) frame.now) asks outs (reading link.new clock)) judge.old outs.items judge.new) }
+    ensures shard { link.new.shard ≡ link.old.shard }
+    ensures refused { IfErr result (λ _. (link.new ≡ link.old) × (judge.new ≡ judge.old)) }
+{
+    let station = frame.sender();
+    match class_check(link.standing(station), class_of(frame.subtype())) {
+        ClassAnswer::Permitted => {
+            let outs = follow(alloc, link, config, frame, bytes, judge)?;
+            return Ok(outs);
+        }
+        ClassAnswer::Deauthenticate(reason) => {
+            let room = Room::new(alloc)?;
+            let answer = MacFrame::deauthentication(alloc, station, config.bssid(), reason);
+            return Ok(room.send(&answer));
+        }
+        ClassAnswer::Disassociate(reason) => {
+            let room = Room::new(alloc)?;
+            let answer = MacFrame::disassociation(alloc, station, config.bssid(), reason);
+            return Ok(room.send(&answer));
+        }
+    }
+}
+
+/// A frame of the grammar.
+fn on_frame<J: Judge>(
+    alloc: Global,
+    link: &mut Link,
+    config: &LinkConfig,
+    frame: &MacFrame,
+    bytes: &[u8],
+    judge: &mut J,
+) -> Result<Vec<Out>, AllocError>
+    requires bytes { bytes.now ≡ spelling frame.now }
+    ensures step { IfOk result (λ outs. IsNoSetup bytes.now → (clock : ℕ) → Handled J.gives (λ asks outs. FrameComes (rules link.old.shard config.now) (reading link.old clock) bytes.now asks outs (reading link.new clock)) judge.old outs.items judge.new) }
+    ensures shard { link.new.shard ≡ link.old.shard }
+    ensures refused { IfErr result (λ _. (link.new ≡ link.old) × (judge.new ≡ judge.old)) }
+{
+    frame.known();
+    if !is_ours(config, frame) {
+        let note = noted(alloc, NOT_OURS)?;
+        return Ok(note);
+    }
+    let seen = match Frame::new(bytes) {
+        Some(seen) => seen,
+        None => unreachable!(),
+    };
+    let outs = check(alloc, link, config, frame, &seen, judge)?;
+    Ok(outs)
+}
+
+/// Bytes that came.
+pub(crate) fn receive<J: Judge>(
+    alloc: Global,
+    link: &mut Link,
+    config: &LinkConfig,
+    bytes: &[u8],
+    judge: &mut J,
+) -> Result<Vec<Out>, AllocError>
+    ensures step { IfOk result (λ outs. IsNoSetup bytes.now → (clock : ℕ) → Handled J.gives (λ asks outs. FrameComes (rules link.old.shard config.now) (reading link.old clock) bytes.now asks outs (reading link.new clock)) judge.old outs.items judge.new) }
+    ensures shard { link.new.shard ≡ link.old.shard }
+    ensures refused { IfErr result (λ _. (link.new ≡ link.old) × (judge.new ≡ judge.old)) }
+{
+    match parse(alloc, bytes) {
+        Ok(frame) => {
+            let outs = on_frame(alloc, link, config, &frame, bytes, judge)?;
+            return Ok(outs);
+        }
+        Err(fault) => {
+            let note = unread(alloc, fault)?;
+            return Ok(note);
+        }
+    }
+}

@@ -1,0 +1,84 @@
+//! Room for what an event leads to, made before the event is handled.
+
+ghost use Rattle.std.specs.Prelude.{◌≡◌, ◌≤◌, ◌<◌, [], ◌∷◌, length, vec_len, vec_capacity};
+ghost use Rattle.ap_model.specs.declared.event.Out.{Out};
+ghost use Rattle.ap_model.specs.Changes.{sends};
+
+use ap_model::{Octets, Out, Up};
+use mac_frame::{LONGEST_HEAD, MacFrame, write};
+use std::alloc::{AllocError, Global};
+
+/// The longest tail of a frame that is sent: a rates element.
+const LONGEST_TAIL: usize = 12;
+
+/// Room for one out, and for the frame that it may send.
+#[derive(Drop)]
+pub(crate) struct Room {
+    outs: Vec<Out>,
+    bytes: Vec<u8>,
+    ghost no_outs: { vec_len outs ≡ 0 },
+    ghost one_out: { 1 ≤ vec_capacity outs },
+    ghost no_bytes: { vec_len bytes ≡ 0 },
+    ghost a_frame: { 46 ≤ vec_capacity bytes },
+}
+
+/// The list with this out, for which there is room.
+fn with_out(outs: Vec<Out>, out: Out) -> Vec<Out>
+    requires empty { vec_len outs ≡ 0 }
+    requires room { 1 ≤ vec_capacity outs }
+    ensures { result.items ≡ out ∷ [] }
+{
+    let mut outs = outs;
+    outs.push_reserved(out);
+    outs
+}
+
+/// The bytes of a frame, for which there is room.
+fn spelled(bytes: Vec<u8>, frame: &MacFrame) -> Octets
+    requires empty { vec_len bytes ≡ 0 }
+    requires room { 46 ≤ vec_capacity bytes }
+    requires short { length frame.now.tail ≤ 12 }
+    ensures { Out.Send result ≡ sends frame.now }
+{
+    let mut bytes = bytes;
+    match write(frame, &mut bytes) {
+        Ok(()) => return Octets::new(bytes),
+        Err(_) => unreachable!(),
+    }
+}
+
+impl Room {
+    pub(crate) fn new(alloc: Global) -> Result<Self, AllocError> {
+        let outs = Vec::with_capacity(alloc, 1)?;
+        let bytes = Vec::with_capacity(alloc, LONGEST_HEAD + LONGEST_TAIL)?;
+        Ok(Room { outs, bytes })
+    }
+
+    /// A frame is sent.
+    pub(crate) fn send(self, frame: &MacFrame) -> Vec<Out>
+        requires { length frame.now.tail ≤ 12 }
+        ensures { result.items ≡ sends frame.now ∷ [] }
+    {
+        let octets = spelled(self.bytes, frame);
+        with_out(self.outs, Out::Send(octets))
+    }
+
+    pub(crate) fn note(self, number: u8) -> Vec<Out>
+        ensures { result.items ≡ Out.Note number ∷ [] }
+    {
+        with_out(self.outs, Out::Note(number))
+    }
+
+    /// Data is passed up.
+    pub(crate) fn pass(self, up: Up) -> Vec<Out>
+        ensures { result.items ≡ Out.Up up ∷ [] }
+    {
+        with_out(self.outs, Out::Up(up))
+    }
+
+    pub(crate) fn nothing(self) -> Vec<Out>
+        ensures { result.items ≡ [] }
+    {
+        self.outs
+    }
+}

@@ -1,0 +1,18 @@
+//! What the link of an access point is: its events, what they lead to, who judges, and the relation
+//! that says which outs an event may have (IEEE 802.11-2016, 10.24, 11.3 and 11.5).
+#![tactic(auto)]
+
+mod config;
+mod event;
+mod held;
+mod judge;
+mod octets;
+
+pub use config::LinkConfig;
+pub use event::{Event, Out, Up};
+pub use held::Held;
+pub use judge::{Judge, ListJudge};
+pub use octets::Octets;
+
+#[cfg(test)]
+mod tests;

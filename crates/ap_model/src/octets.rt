@@ -1,0 +1,42 @@
+//! Bytes in memory of their own.
+
+ghost use Rattle.std.specs.Prelude.{◌≡◌, IfOk};
+
+use std::alloc::{AllocError, Global};
+use std::marker::Model;
+
+/// Bytes: of a frame, or of its data. A clause sees the list.
+#[derive(Debug, Drop)]
+pub struct Octets {
+    bytes: Vec<u8>,
+}
+
+impl Model for Octets {
+    ghost use Rattle.std.specs.Prelude.{List, ℕ};
+
+    ghost Value = { List ℕ };
+
+    ghost view = { λ o. o.bytes.items };
+}
+
+impl Octets {
+    pub fn new(bytes: Vec<u8>) -> Self
+        ensures { result ≡ bytes.items }
+    {
+        Octets { bytes }
+    }
+
+    /// A copy of the bytes.
+    pub fn copy(alloc: Global, bytes: &[u8]) -> Result<Self, AllocError>
+        ensures { IfOk result (λ o. o ≡ bytes.now) }
+    {
+        let bytes = Vec::from_slice(alloc, bytes)?;
+        Ok(Octets { bytes })
+    }
+
+    pub fn bytes(&self) -> &[u8]
+        ensures { result.now ≡ self.now }
+    {
+        &self.bytes
+    }
+}
