@@ -1,0 +1,29 @@
+-- Association identifiers (IEEE 802.11-2016, 9.4.1.8).
+use Rattle.std.specs.Prelude.{◌≡◌, ℕ, ◌<◌, Some, List}
+use Rattle.assoc.specs.declared.standing.Known.TheVariants.{Associated}
+use Rattle.assoc.specs.Standings.{IsOwn, NoneTwice}
+use Rattle.ap_model.specs.Readings.{Config, Readings, Rules}
+use Rattle.ap_laws.specs.Runs.{Entry, Run, opening}
+use Rattle.ap_laws.specs.AccessPoint.{Turn, LinkRun, rules}
+
+-- the identifiers in use are the shard's own, and none is in use twice
+pub record HoldsOnce (c : Rules) (r : Readings) : Type 0 where
+  pub own : (a : List ℕ) (n : ℕ) → r.standing a ≡ Some (Associated n) → IsOwn c.shard n
+  pub once : NoneTwice r.standing
+
+-- no two stations of eight shards hold one identifier
+abbrev pub NoTwoHold : (ℕ → Readings) → Type 0
+NoTwoHold r =
+    (s t : ℕ) (a b : List ℕ) (n : ℕ) → s < 8 → t < 8 →
+    (r s).standing a ≡ Some (Associated n) → (r t).standing b ≡ Some (Associated n) → (s ≡ t) × (a ≡ b)
+
+abbrev pub OpeningHoldsOnce : Type 0
+OpeningHoldsOnce = (c : Rules) → HoldsOnce c opening
+
+abbrev pub RunHoldsOnce : Type 0
+RunHoldsOnce = (c : Rules) (r r2 : Readings) (entries : List Entry) → HoldsOnce c r → Run c r entries r2 → HoldsOnce c r2
+
+abbrev pub AccessPointHoldsOnce : Type 0
+AccessPointHoldsOnce =
+    (config : Config) (r r2 : ℕ → Readings) (turns : List Turn) →
+    ((s : ℕ) → s < 8 → HoldsOnce (rules config s) (r s)) → LinkRun config r turns r2 → NoTwoHold r2

@@ -1,0 +1,4 @@
+pub mod Runs
+pub mod AccessPoint
+pub mod Identifiers
+pub mod Origins

@@ -1,0 +1,22 @@
+//! Laws of runs.
+ghost use Rattle.ap_laws.specs.Origins.{OpeningHoldsAgreements, RunHoldsAgreements, FromAnyReadings, FromTheOpening};
+ghost use Rattle.ap_laws.specs.Identifiers.{OpeningHoldsOnce, RunHoldsOnce, AccessPointHoldsOnce};
+
+/// No two stations of an access point hold one association identifier (IEEE 802.11-2016, 9.4.1.8).
+/// In a shard that knows no station none is held twice, whatever is handled keeps that, and the
+/// identifiers of different shards differ.
+pub fn identifiers_law()
+    ensures opening { OpeningHoldsOnce }
+    ensures run { RunHoldsOnce }
+    ensures access_point { AccessPointHoldsOnce }
+{}
+
+/// Data that is passed up came in a frame whose source was associated when it arrived and before
+/// each entry since (IEEE 802.11-2016, 11.3), and was let through with its mark. Where a run goes on
+/// from readings that hold data already, that data's source was associated all the time.
+pub fn origin_law()
+    ensures opening { OpeningHoldsAgreements }
+    ensures run { RunHoldsAgreements }
+    ensures held { FromAnyReadings }
+    ensures came { FromTheOpening }
+{}
