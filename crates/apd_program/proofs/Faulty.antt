@@ -1,15 +1,17 @@
 -- What is at fault in files.
-use Rattle.std.proofs.Common.{◌≡◌, ◌≢◌, ◌⊎◌, List, ℕ, Result, Ok, Err, Option, Some, None, inl, inr, refl, subst}
+use Rattle.std.proofs.Math.Nat.{lt_of_not-le}
+use Rattle.std.proofs.Common.{◌≡◌, ◌≢◌, ◌⊎◌, ◌<◌, ◌≤◌, true, false, length, List, ℕ, Err, Option, inl, inr, refl, subst}
+use Rattle.hex.specs.Hex.{decode_of}
 use Rattle.hex.specs.declared.error.FromHexError.{FromHexError}
 use Rattle.hex.specs.declared.error.FromHexError.TheVariants.{OutOfMemory}
-use Rattle.bpf_regions.specs.declared.maps.Shape.{Shape}
 use Rattle.apd_config.specs.Text.{TellsOfText}
 use Rattle.apd_config.specs.declared.fault.ConfigFault.{ConfigFault}
 use Rattle.apd_config.specs.declared.fault.ConfigFault.TheVariants as config
 use Rattle.apd_program.specs.declared.fault.ProgramFault.{ProgramFault}
 use Rattle.apd_program.specs.declared.fault.ProgramFault.TheVariants.{NoMemory}
-use Rattle.apd_program.specs.Held.{Held, Holds, Configures, code_of}
-use Rattle.apd_program.specs.Faults.{HasBadCode, NoCode, HasBadConfiguration, NoConfiguration, IsBadConfig, IsAtFault, OfConfiguration, OfCode}
+use Rattle.apd_program.specs.declared.reading.Setup.{Setup}
+use Rattle.apd_program.specs.Held.{Held, Holds, HoldsCode, Configures, code_of}
+use Rattle.apd_program.specs.Faults.{HasBadCode, NoCode, HasBadConfiguration, NoConfiguration, IsBadConfig, IsAtFault, OfConfiguration, OfCode, IsNoFrame, NoDigits, HasNoFrame, OfFiles, OfWord}
 
 pub code_at_fault : (files : Held) (path text slice : List ℕ) (e : FromHexError) (f : ProgramFault) → Holds files path text → slice ≡ text → (e ≡ OutOfMemory) ⊎ (code_of slice ≡ Err e) → (e ≡ OutOfMemory → f ≡ NoMemory)
     → (f ≡ NoMemory) ⊎ HasBadCode files path
@@ -41,8 +43,25 @@ pub IsAtFault-configuration : (files : Held) (file : List ℕ) (config : Option 
 IsAtFault-configuration files file config e (inl memory) = inl memory
 IsAtFault-configuration files file config e (inr bad) = inr (OfConfiguration config bad)
 
-pub IsAtFault-code : (files later : Held) (file : List ℕ) (config : Option (List ℕ)) (shapes : List Shape) (e : ProgramFault) → later ≡ files → Configures files config shapes → (e ≡ NoMemory) ⊎ HasBadCode later file
+pub IsAtFault-code : (files later : Held) (file : List ℕ) (config : Option (List ℕ)) (setup : Setup) (e : ProgramFault) → later ≡ files → Configures files config setup → (e ≡ NoMemory) ⊎ HasBadCode later file
     → (e ≡ NoMemory) ⊎ IsAtFault files file config
-IsAtFault-code files later file config shapes e same fine (inl memory) = inl memory
-IsAtFault-code files later file config shapes e same fine (inr bad) =
-    inr (OfCode config shapes fine (let P : Held → Type 0 = λ f. HasBadCode f file in subst P same bad))
+IsAtFault-code files later file config setup e same fine (inl memory) = inl memory
+IsAtFault-code files later file config setup e same fine (inr bad) =
+    inr (OfCode config setup fine (let P : Held → Type 0 = λ f. HasBadCode f file in subst P same bad))
+
+pub HasNoFrame-files : (files : Held) (file word : List ℕ) (config : Option (List ℕ)) (e : ProgramFault) → (e ≡ NoMemory) ⊎ IsAtFault files file config → (e ≡ NoMemory) ⊎ HasNoFrame files file word config
+HasNoFrame-files files file word config e (inl memory) = inl memory
+HasNoFrame-files files file word config e (inr fault) = inr (OfFiles fault)
+
+pub HasNoFrame-word : (files later : Held) (file word code : List ℕ) (config : Option (List ℕ)) (setup : Setup) (e : ProgramFault) → later ≡ files → Configures files config setup → HoldsCode later file code → (e ≡ NoMemory) ⊎ IsNoFrame word
+    → (e ≡ NoMemory) ⊎ HasNoFrame files file word config
+HasNoFrame-word files later file word code config setup e same fine held (inl memory) = inl memory
+HasNoFrame-word files later file word code config setup e same fine held (inr bad) =
+    inr (OfWord setup code fine (let P : Held → Type 0 = λ f. HoldsCode f file code in subst P same held) bad)
+
+pub frame_at_fault : (word : List ℕ) (e : FromHexError) (f : ProgramFault) → (e ≡ OutOfMemory) ⊎ (decode_of word ≡ Err e) → (e ≡ OutOfMemory → f ≡ NoMemory) → (f ≡ NoMemory) ⊎ IsNoFrame word
+frame_at_fault word e f (inl memory) m = inl (m memory)
+frame_at_fault word e f (inr fault) m = inr (NoDigits e fault)
+
+pub too_long : (slice bytes : List ℕ) → slice ≡ bytes → (length slice ≤ 2400 → false ≡ true) → 2400 < length bytes
+too_long slice bytes same short = lt_of_not-le (λ h. let no : false ≡ true = short (rw same h) in cc)

@@ -1,14 +1,14 @@
 -- From what was printed to what the program did.
-use Rattle.std.proofs.Common.{◌≡◌, ◌≢◌, ◌⊎◌, ◌≤◌, ℕ, List, Option, Some, None, inl, inr, refl, sym, ap, ◌∙◌, subst, arith}
-use Rattle.std.specs.Io.KnownBytes.{Keeps, Appends}
+use Rattle.std.proofs.Common.{◌≡◌, ◌⊎◌, ◌≤◌, ℕ, List, Option, inl, inr, arith}
+use Rattle.std.specs.Io.KnownBytes.{Keeps}
 use Rattle.clap.specs.declared.builder.value_parser.ValueParser.{ValueParser}
-use Rattle.apd_words.specs.Asked.{Asked, asked_of}
-use Rattle.apd_words.specs.Reads.{AsksFor, IsHelp}
+use Rattle.apd_words.specs.Asked.{Asked}
+use Rattle.apd_words.specs.Reads.{IsHelp}
 use Rattle.apd_program.specs.declared.answer.Answer.{Answer}
-use Rattle.apd_program.specs.declared.answer.Answer.TheVariants.{Accepted, Fault, Refused}
+use Rattle.apd_program.specs.declared.answer.Answer.TheVariants.{Accepted, Code, Instructions, Run, Fault, Refused, LineFault}
 use Rattle.apd_program.specs.declared.fault.ProgramFault.{ProgramFault}
 use Rattle.apd_program.specs.declared.fault.ProgramFault.TheVariants as fault
-use Rattle.apd_program.specs.Lines.{line_of, status_of}
+use Rattle.apd_program.specs.Lines.{status_of}
 use Rattle.apd_program.specs.Held.{Held}
 use Rattle.apd_program.specs.Answers.{IsAnswer, HasNoAnswer}
 use Rattle.apd_program.specs.Printed.{Prints, Whole, Beginning, Nothing, PrintsText, WholeText, BeginningOfText, fault_status}
@@ -26,11 +26,13 @@ complained files a o (fault.Unreadable path) (inl memory) = cc
 complained files a o (fault.NoDigits path) (inl memory) = cc
 complained files a o (fault.OddDigits path) (inl memory) = cc
 complained files a o (fault.Config path f) (inl memory) = cc
+complained files a o fault.LongFrame (inl memory) = cc
 complained files a o (fault.NotThere name) (inl memory) = cc
 complained files a o (fault.Unreadable path) (inr h) = Refrained h (Keeps-same o)
 complained files a o (fault.NoDigits path) (inr h) = Refrained h (Keeps-same o)
 complained files a o (fault.OddDigits path) (inr h) = Refrained h (Keeps-same o)
 complained files a o (fault.Config path f) (inr h) = Refrained h (Keeps-same o)
+complained files a o fault.LongFrame (inr h) = Refrained h (Keeps-same o)
 complained files a o (fault.NotThere name) (inr h) = Refrained h (Keeps-same o)
 
 pub Performs-complained : (files : Held) (a : Asked) (o : Option (List ℕ)) (f : ProgramFault) (status : ℕ) → (f ≡ fault.NoMemory) ⊎ HasNoAnswer files a → status ≡ fault_status f → Performs files a o o status
@@ -38,8 +40,12 @@ Performs-complained files a o f status h is = rw is (complained files a o f h)
 
 status_within : (answer : Answer) → status_of answer ≤ 1
 status_within (Accepted budget) = omega arith
+status_within (Code code) = omega arith
+status_within (Instructions text) = omega arith
+status_within (Run text) = omega arith
 status_within (Fault e) = omega arith
 status_within (Refused e) = omega arith
+status_within (LineFault e) = omega arith
 
 pub Performs-status : (files : Held) (a : Asked) (old new : Option (List ℕ)) (status : ℕ) → Performs files a old new status → status ≤ 3
 Performs-status files a old new status (Wrote answer is written) = omega (arith, status_within answer)

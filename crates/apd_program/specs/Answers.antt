@@ -1,25 +1,47 @@
 -- What the program answers to what is asked of it.
-use Rattle.std.specs.Prelude.{◌≡◌, List, ℕ, Option}
-use Rattle.bpf_regions.specs.declared.maps.Shape.{Shape}
-use Rattle.apd_words.specs.Asked.{Asked, Verify, Assemble, Disassemble, Trace, Run, Certify, Check}
+use Rattle.std.specs.Prelude.{List, ℕ, Option}
+use Rattle.bpf_regions.specs.declared.hooks.Hook.{Hook}
+use Rattle.bpf_decode.specs.Program.{Code}
+use Rattle.apd_words.specs.Asked.{Asked, Verify, Assemble, Disassemble, Trace}
 use Rattle.apd_program.specs.declared.answer.Answer.{Answer}
-use Rattle.apd_program.specs.Held.{Held, HoldsCode, Configures}
-use Rattle.apd_program.specs.Faults.{IsAtFault}
-use Rattle.apd_program.specs.Verifying.{IsVerdict}
+use Rattle.apd_program.specs.declared.reading.Setup.{Setup}
+use Rattle.apd_program.specs.Held.{Held, Holds, Lacks, HoldsCode, IsFrame, Configures}
+use Rattle.apd_program.specs.Faults.{IsAtFault, HasNoFrame}
+use Rattle.apd_program.specs.Programs.{IsOfProgram}
+use Rattle.apd_program.specs.Verifying.{IsVerdict, IsBudget, IsRun}
+use Rattle.apd_program.specs.Texts.{IsAssembly, IsListing}
 
--- the verdict on the file's code, for the maps of the configuration
-pub record IsVerdictOn (files : Held) (file : List ℕ) (config : Option (List ℕ)) (a : Answer) : Type 0 where
-  pub shapes : List Shape
-  pub configured : Configures files config shapes
+-- what is said of the program in the file, with the configuration
+pub record IsOfCode (says : Setup → Code → Answer → Type 0) (files : Held) (file : List ℕ) (config : Option (List ℕ)) (a : Answer) : Type 0 where
+  pub setup : Setup
+  pub configured : Configures files config setup
   pub code : List ℕ
   pub held : HoldsCode files file code
-  pub verdict : IsVerdict code shapes a
+  pub said : IsOfProgram (says setup) code setup.shapes a
+
+-- what is said of the text in the file
+pub record IsOfText (says : List ℕ → Answer → Type 0) (files : Held) (file : List ℕ) (a : Answer) : Type 0 where
+  pub text : List ℕ
+  pub there : Holds files file text
+  pub said : says text a
+
+-- the run of the program in the file on the frame that the word spells
+pub record IsTraced (files : Held) (hook : Hook) (file word : List ℕ) (config : Option (List ℕ)) (a : Answer) : Type 0 where
+  pub frame : List ℕ
+  pub spelled : IsFrame word frame
+  pub said : IsOfCode (λ setup. IsVerdict (IsRun hook frame setup.draw)) files file config a
 
 abbrev pub IsAnswer : Held → Asked → Answer → Type 0
-IsAnswer files (Verify hook file config) a = IsVerdictOn files file config a
+IsAnswer files (Verify hook file config) a = IsOfCode (λ setup. IsVerdict IsBudget) files file config a
+IsAnswer files (Assemble file) a = IsOfText IsAssembly files file a
+IsAnswer files (Disassemble file config) a = IsOfCode (λ setup. IsListing) files file config a
+IsAnswer files (Trace hook file word config) a = IsTraced files hook file word config a
 IsAnswer files _ a = ⊥
 
--- there is no answer: a file is at fault, or the command isn't there yet
+-- there is no answer: a file or a word is at fault, or the command isn't there yet
 abbrev pub HasNoAnswer : Held → Asked → Type 0
 HasNoAnswer files (Verify hook file config) = IsAtFault files file config
+HasNoAnswer files (Assemble file) = Lacks files file
+HasNoAnswer files (Disassemble file config) = IsAtFault files file config
+HasNoAnswer files (Trace hook file word config) = HasNoFrame files file word config
 HasNoAnswer files _ = Unit {0}

@@ -1,11 +1,12 @@
 -- What is at fault where there is no answer.
-use Rattle.std.specs.Prelude.{◌≡◌, ◌≢◌, List, ℕ, Option, None, Some, Err}
+use Rattle.std.specs.Prelude.{◌≡◌, ◌≢◌, ◌<◌, List, ℕ, length, Option, None, Some, Ok, Err}
+use Rattle.hex.specs.Hex.{decode_of}
 use Rattle.hex.specs.declared.error.FromHexError.{FromHexError}
-use Rattle.bpf_regions.specs.declared.maps.Shape.{Shape}
 use Rattle.apd_config.specs.Text.{TellsOfText}
 use Rattle.apd_config.specs.declared.fault.ConfigFault.{ConfigFault}
 use Rattle.apd_config.specs.declared.fault.ConfigFault.TheVariants as config
-use Rattle.apd_program.specs.Held.{Held, Holds, Lacks, Configures, code_of}
+use Rattle.apd_program.specs.declared.reading.Setup.{Setup}
+use Rattle.apd_program.specs.Held.{Held, Holds, Lacks, HoldsCode, Configures, code_of}
 
 -- the file can't be read, or doesn't hold hex digits in pairs
 pub data HasBadCode (files : Held) (path : List ℕ) : Type 0 where
@@ -24,4 +25,14 @@ IsBadConfig files (Some path) = HasBadConfiguration files path
 -- the configuration is at fault, or it isn't and the code is
 pub data IsAtFault (files : Held) (file : List ℕ) : Option (List ℕ) → Type 0 where
   OfConfiguration : (path : Option (List ℕ)) → IsBadConfig files path → IsAtFault files file path
-  OfCode : (path : Option (List ℕ)) (shapes : List Shape) → Configures files path shapes → HasBadCode files file → IsAtFault files file path
+  OfCode : (path : Option (List ℕ)) (setup : Setup) → Configures files path setup → HasBadCode files file → IsAtFault files file path
+
+-- the word isn't hex digits in pairs, or they spell more than 2400 bytes
+pub data IsNoFrame (word : List ℕ) : Type 0 where
+  NoDigits : (e : FromHexError) → decode_of word ≡ Err e → IsNoFrame word
+  TooLong : (bytes : List ℕ) → decode_of word ≡ Ok bytes → 2400 < length bytes → IsNoFrame word
+
+-- a file is at fault, or none is and the word spells no frame
+pub data HasNoFrame (files : Held) (file word : List ℕ) (config : Option (List ℕ)) : Type 0 where
+  OfFiles : IsAtFault files file config → HasNoFrame files file word config
+  OfWord : (setup : Setup) (code : List ℕ) → Configures files config setup → HoldsCode files file code → IsNoFrame word → HasNoFrame files file word config

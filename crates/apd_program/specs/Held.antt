@@ -1,13 +1,11 @@
 -- Files, and the code and the maps that they spell.
-use Rattle.std.specs.Prelude.{◌≡◌, ℕ, List, [], Option, Some, None, Result, Ok, Err, IfSome, not, filter}
+use Rattle.std.specs.Prelude.{◌≡◌, ◌≤◌, ℕ, List, [], length, Option, Some, None, Result, Ok, IfSome, not, filter}
 use Rattle.std.specs.Char.{is_ascii_whitespace}
 use Rattle.hex.specs.Hex.{decode_of}
 use Rattle.hex.specs.declared.error.FromHexError.{FromHexError}
-use Rattle.bpf_regions.specs.declared.maps.Shape.{Shape}
-use Rattle.apd_config.specs.Text.{IsTextOf, TellsOfText}
+use Rattle.apd_config.specs.Text.{IsTextOf}
 use Rattle.apd_config.specs.declared.configuration.Configuration.{Configuration}
-use Rattle.apd_config.specs.declared.fault.ConfigFault.{ConfigFault}
-use Rattle.apd_config.specs.declared.fault.ConfigFault.TheVariants as config
+use Rattle.apd_program.specs.declared.reading.Setup.{Setup}
 
 -- What is known of files, by their paths: nothing, or the file's bytes, or that there is none.
 abbrev pub Held : Type 0
@@ -31,15 +29,21 @@ pub record HoldsCode (files : Held) (path code : List ℕ) : Type 0 where
   pub there : Holds files path text
   pub spelled : code_of text ≡ Ok code
 
--- the file is a configuration with maps of these shapes
-pub record HoldsShapes (files : Held) (path : List ℕ) (shapes : List Shape) : Type 0 where
+-- the word's hex digits of either case spell the frame
+pub record IsFrame (word frame : List ℕ) : Type 0 where
+  pub spelled : decode_of word ≡ Ok frame
+  pub short : length frame ≤ 2400
+
+-- the file is a configuration with this setup
+pub record HoldsSetup (files : Held) (path : List ℕ) (setup : Setup) : Type 0 where
   pub text : List ℕ
   pub there : Holds files path text
   pub configuration : Configuration
   pub is : IsTextOf text configuration
-  pub maps : configuration.maps ≡ shapes
+  pub maps : setup.shapes ≡ configuration.maps
+  pub draw : setup.draw ≡ configuration.draw
 
--- no maps without a configuration
-abbrev pub Configures : Held → Option (List ℕ) → List Shape → Type 0
-Configures files None shapes = shapes ≡ []
-Configures files (Some path) shapes = HoldsShapes files path shapes
+-- without a configuration no maps, and 0 to draw first
+abbrev pub Configures : Held → Option (List ℕ) → Setup → Type 0
+Configures files None setup = setup ≡ record { shapes = []; draw = 0 }
+Configures files (Some path) setup = HoldsSetup files path setup

@@ -1,7 +1,10 @@
+pub mod Slots
 pub mod Lines
 pub mod Held
 pub mod Faults
+pub mod Programs
 pub mod Verifying
+pub mod Texts
 pub mod Answers
 pub mod Printed
 pub mod Program

@@ -1,22 +1,27 @@
--- The line that is written for an answer, and its status.
-use Rattle.std.specs.Prelude.{ℕ, List, [], ◌∷◌, ◌++◌, codes, decimal}
+-- What is printed for an answer, and its status.
+use Rattle.std.specs.Prelude.{ℕ, ◌/◌, List, ◌++◌, length, codes, decimal, string_bytes}
 use Rattle.bpf_decode.specs.Answer.{fault_text}
 use Rattle.bpf_verifier.specs.Refusals.{refusal_text}
+use Rattle.bpf_text.specs.Refusals as line
+use Rattle.apd_program.specs.Slots.{line_of, slot_lines}
 use Rattle.apd_program.specs.declared.answer.Answer.{Answer}
-use Rattle.apd_program.specs.declared.answer.Answer.TheVariants.{Accepted, Fault, Refused}
+use Rattle.apd_program.specs.declared.answer.Answer.TheVariants.{Accepted, Code, Instructions, Run, Fault, Refused, LineFault}
 
--- the line, without its end
-abbrev pub text_of : Answer → List ℕ
-text_of (Accepted budget) = codes "accepted budget " ++ decimal budget
-text_of (Fault e) = fault_text e
-text_of (Refused e) = refusal_text e
-
--- the line with its end, a line feed
-abbrev pub line_of : Answer → List ℕ
-line_of a = text_of a ++ 10 ∷ []
+abbrev pub printed : Answer → List ℕ
+printed (Accepted budget) = line_of (codes "accepted budget " ++ decimal budget)
+printed (Code code) = slot_lines (length code.items / 8) code.items
+printed (Instructions text) = string_bytes text
+printed (Run text) = string_bytes text
+printed (Fault e) = line_of (fault_text e)
+printed (Refused e) = line_of (refusal_text e)
+printed (LineFault e) = line_of (line.text_of e)
 
 -- 0 for a success, 1 for a refusal
 abbrev pub status_of : Answer → ℕ
 status_of (Accepted budget) = 0
+status_of (Code code) = 0
+status_of (Instructions text) = 0
+status_of (Run text) = 0
 status_of (Fault e) = 1
 status_of (Refused e) = 1
+status_of (LineFault e) = 1

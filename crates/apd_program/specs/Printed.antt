@@ -1,16 +1,16 @@
 -- What is written for an answer or a text, and the status.
-use Rattle.std.specs.Prelude.{◌≡◌, ◌⊎◌, ℕ, List, Option}
+use Rattle.std.specs.Prelude.{ℕ, List, Option}
 use Rattle.std.specs.Io.KnownBytes.{Appends, Keeps}
 use Rattle.apd_output.specs.Beginning.{AppendsBeginning}
 use Rattle.apd_program.specs.declared.answer.Answer.{Answer}
 use Rattle.apd_program.specs.declared.fault.ProgramFault.{ProgramFault}
 use Rattle.apd_program.specs.declared.fault.ProgramFault.TheVariants.{NoMemory}
-use Rattle.apd_program.specs.Lines.{line_of, status_of}
+use Rattle.apd_program.specs.Lines.{printed, status_of}
 
--- the whole line with the answer's status, or a beginning of it with 2, or nothing with 3
+-- the whole text with the answer's status, or a beginning of it with 2, or nothing with 3
 pub data Prints (a : Answer) (old new : Option (List ℕ)) : ℕ → Type 0 where
-  Whole : Appends old new (line_of a) → Prints a old new (status_of a)
-  Beginning : AppendsBeginning old new (line_of a) → Prints a old new 2
+  Whole : Appends old new (printed a) → Prints a old new (status_of a)
+  Beginning : AppendsBeginning old new (printed a) → Prints a old new 2
   Nothing : Keeps old new → Prints a old new 3
 
 -- the whole text with 0, or a beginning of it with 2

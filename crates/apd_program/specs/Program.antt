@@ -1,5 +1,5 @@
 -- What a run of the program does.
-use Rattle.std.specs.Prelude.{◌≡◌, ℕ, List, Option}
+use Rattle.std.specs.Prelude.{ℕ, List, Option}
 use Rattle.std.specs.Io.KnownBytes.{Appends, Keeps}
 use Rattle.clap.specs.declared.builder.value_parser.ValueParser.{ValueParser}
 use Rattle.apd_output.specs.Beginning.{AppendsBeginning}
@@ -8,14 +8,14 @@ use Rattle.apd_words.specs.CommandLine.{TakesNames, hook_names, worker_names}
 use Rattle.apd_words.specs.Reads.{AsksFor, IsHelp}
 use Rattle.apd_program.specs.declared.answer.Answer.{Answer}
 use Rattle.apd_program.specs.Held.{Held}
-use Rattle.apd_program.specs.Lines.{line_of, status_of}
+use Rattle.apd_program.specs.Lines.{printed, status_of}
 use Rattle.apd_program.specs.Answers.{IsAnswer, HasNoAnswer}
 
 -- What is written to standard output where this is asked, and the status. Want of memory and all
 -- that is at fault leave standard output as it was.
 pub data Performs (files : Held) (a : Asked) (old new : Option (List ℕ)) : ℕ → Type 0 where
-  Wrote : (answer : Answer) → IsAnswer files a answer → Appends old new (line_of answer) → Performs files a old new (status_of answer)
-  Stopped : (answer : Answer) → IsAnswer files a answer → AppendsBeginning old new (line_of answer) → Performs files a old new 2
+  Wrote : (answer : Answer) → IsAnswer files a answer → Appends old new (printed answer) → Performs files a old new (status_of answer)
+  Stopped : (answer : Answer) → IsAnswer files a answer → AppendsBeginning old new (printed answer) → Performs files a old new 2
   Refrained : HasNoAnswer files a → Keeps old new → Performs files a old new 2
   Exhausted : Keeps old new → Performs files a old new 3
 

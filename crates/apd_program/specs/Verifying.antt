@@ -1,22 +1,28 @@
--- What `verify` answers for code.
-use Rattle.std.specs.Prelude.{◌≡◌, ◌≢◌, ℕ, ◌≤◌, ◌^◌, List}
-use Rattle.bpf_regions.specs.declared.maps.Shape.{Shape}
-use Rattle.bpf_decode.specs.Program.{Code, Spells}
-use Rattle.bpf_decode.specs.Answer.{Refuses}
-use Rattle.bpf_decode.specs.declared.fault.DecodeFault.{DecodeFault}
-use Rattle.bpf_decode.specs.declared.fault.DecodeFault.TheVariants as decoding
+-- What `verify` and `trace` answer for a program.
+use Rattle.std.specs.Prelude.{◌≡◌, ◌≢◌, ℕ, ◌≤◌, ◌^◌, List, string_bytes}
+use Rattle.bpf_regions.specs.declared.hooks.Hook.{Hook}
+use Rattle.bpf_decode.specs.Program.{Code}
 use Rattle.bpf_model.specs.Run.{Safe}
 use Rattle.bpf_verifier.specs.Walks.{IsPlain, HasWalk}
 use Rattle.bpf_verifier.specs.declared.refusal.Refusal.{Refusal}
-use Rattle.bpf_verifier.specs.declared.refusal.Fault.TheVariants as verifying
+use Rattle.bpf_verifier.specs.declared.refusal.Fault.TheVariants.{NoMemory}
+use Rattle.apd_trace.specs.Trace.{IsTrace}
 use Rattle.apd_program.specs.declared.answer.Answer.{Answer}
-use Rattle.apd_program.specs.declared.answer.Answer.TheVariants.{Accepted, Fault, Refused}
+use Rattle.apd_program.specs.declared.answer.Answer.TheVariants.{Accepted, Run, Refused}
 
--- Decoding decides first. A program is accepted with a budget within which it is safe, a plain one
--- with no more than its longest walk; and no plain program is refused.
-pub data IsVerdict (code : List ℕ) (shapes : List Shape) : Answer → Type 0 where
-  Undecoded : (e : DecodeFault) → e ≢ decoding.NoMemory → Refuses code shapes e → IsVerdict code shapes (Fault e)
-  Admitted : (p : Code) (budget : ℕ) → Spells code p → p.shapes ≡ shapes → Safe p.slots p.shapes budget → budget ≤ 2 ^ 22 →
-      (IsPlain p.slots → HasWalk p.slots budget) → IsVerdict code shapes (Accepted budget)
-  NotAdmitted : (p : Code) (e : Refusal) → Spells code p → p.shapes ≡ shapes → e.fault ≢ verifying.NoMemory →
-      (IsPlain p.slots → ⊥) → IsVerdict code shapes (Refused e)
+-- The verdict on a program: a refusal, which no plain program gets, or what is said of it with a budget within which
+-- it is safe, and which for a plain program is no more than its longest walk.
+pub data IsVerdict (says : Code → ℕ → Answer → Type 0) (p : Code) : Answer → Type 0 where
+  Admitted : (budget : ℕ) (a : Answer) → Safe p.slots p.shapes budget → budget ≤ 2 ^ 22 →
+      (IsPlain p.slots → HasWalk p.slots budget) → says p budget a → IsVerdict says p a
+  NotAdmitted : (e : Refusal) → e.fault ≢ NoMemory → (IsPlain p.slots → ⊥) → IsVerdict says p (Refused e)
+
+-- `verify` says the budget
+abbrev pub IsBudget : Code → ℕ → Answer → Type 0
+IsBudget p budget a = a ≡ Accepted budget
+
+-- `trace` says the run on a frame
+abbrev pub IsRun : Hook → List ℕ → ℕ → Code → ℕ → Answer → Type 0
+IsRun hook frame draw p budget (Run text) =
+    IsTrace (record { code = p; hook = hook; budget = budget }) frame draw (string_bytes text)
+IsRun hook frame draw p budget _ = ⊥

@@ -1,54 +1,105 @@
 //! What a command answers.
 
-ghost use Rattle.std.specs.Prelude.{◌≡◌, Some, IfOk, string_bytes};
+ghost use Rattle.std.specs.Prelude.{◌≡◌, ◌≢◌, ◌/◌, ◌++◌, IfOk, IfErr, string_bytes, length};
+ghost use Rattle.hex.specs.Hex.{encode_lower};
+ghost use Rattle.apd_program.specs.Slots.{line_of, slot_lines};
 
+use crate::fault::ProgramFault;
 use bpf_decode::DecodeFault;
-use bpf_verifier::Refusal;
+use bpf_text::AsmFault;
+use bpf_verifier::{Fault, Refusal};
 use std::alloc::{AllocError, Global};
-use std::fmt;
 
 /// What a command answers on standard output.
-#[derive(Clone, Copy, Debug, PartialEq, Eq)]
+#[derive(Debug, Drop)]
 pub enum Answer {
     /// The program is safe within the budget.
     Accepted { budget: u32 },
+    /// The code of a text.
+    Code(Vec<u8>),
+    /// The text of a program: a line for each instruction.
+    Instructions(String),
+    /// The text of a run: a line for each step and each note, and what the run came to.
+    Run(String),
     /// The code isn't well formed.
     Fault(DecodeFault),
     /// The verifier doesn't admit the program.
     Refused(Refusal),
-}
-
-impl fmt::Display for Answer {
-    ghost use Rattle.apd_program.specs.Lines.{text_of};
-
-    ghost output = { λ a. Some (text_of a) };
-
-    fn fmt<W: fmt::Write>(&self, f: &mut fmt::Formatter<W>) -> fmt::Result {
-        match self {
-            Answer::Accepted { budget } => write!(f, "accepted budget {budget}"),
-            Answer::Fault(fault) => write!(f, "{fault}"),
-            Answer::Refused(refusal) => write!(f, "{refusal}"),
-        }
-    }
+    /// A line of the text is no instruction.
+    LineFault(AsmFault),
 }
 
 impl Answer {
-    ghost use Rattle.apd_program.specs.Lines.{status_of, line_of};
+    ghost use Rattle.apd_program.specs.Lines.{status_of, printed};
 
     /// The program's status after the answer: 0 for a success, 1 for a refusal.
-    pub fn status(self) -> u8
-        ensures is { result ≡ status_of self }
+    pub fn status(&self) -> u8
+        ensures is { result ≡ status_of self.now }
     {
         match self {
-            Answer::Accepted { .. } => 0,
-            Answer::Fault(_) | Answer::Refused(_) => 1,
+            Answer::Accepted { .. } | Answer::Code(_) | Answer::Instructions(_) | Answer::Run(_) =>
+                0,
+            Answer::Fault(_) | Answer::Refused(_) | Answer::LineFault(_) => 1,
         }
     }
 
-    /// The answer's line, with its end.
-    pub fn line(&self, alloc: Global) -> Result<String, AllocError>
-        ensures is { IfOk result (λ line. string_bytes line ≡ line_of self.now) }
+    /// What is printed for the answer, with the ends of its lines.
+    pub fn printed(self, alloc: Global) -> Result<String, AllocError>
+        ensures is { IfOk result (λ text. string_bytes text ≡ printed self) }
     {
-        format!(in alloc; "{self}\n")
+        match self {
+            Answer::Accepted { budget } => format!(in alloc; "accepted budget {budget}\n"),
+            Answer::Code(code) => slot_lines(alloc, code.as_slice()),
+            Answer::Instructions(text) | Answer::Run(text) => Ok(text),
+            Answer::Fault(fault) => format!(in alloc; "{fault}\n"),
+            Answer::Refused(refusal) => format!(in alloc; "{refusal}\n"),
+            Answer::LineFault(fault) => format!(in alloc; "{fault}\n"),
+        }
     }
+}
+
+/// The answer to code that isn't well formed.
+pub(crate) fn undecoded(fault: DecodeFault) -> Result<Answer, ProgramFault>
+    ensures fault { IfOk result (λ a. (a ≡ Answer.Fault fault) × (fault ≢ DecodeFault.NoMemory)) }
+    ensures memory { IfErr result (λ e. e ≡ ProgramFault.NoMemory) }
+{
+    match fault {
+        DecodeFault::NoMemory => Err(ProgramFault::NoMemory),
+        _ => Ok(Answer::Fault(fault)),
+    }
+}
+
+/// The answer to a program that isn't admitted.
+pub(crate) fn refused(refusal: Refusal) -> Result<Answer, ProgramFault>
+    ensures refusal { IfOk result (λ a. (a ≡ Answer.Refused refusal) × (refusal.fault ≢ Fault.NoMemory)) }
+    ensures memory { IfErr result (λ e. e ≡ ProgramFault.NoMemory) }
+{
+    match refusal.fault {
+        Fault::NoMemory => Err(ProgramFault::NoMemory),
+        _ => Ok(Answer::Refused(refusal)),
+    }
+}
+
+/// Adds the line of a slot.
+fn append_slot(alloc: Global, text: &mut String, slot: &[u8]) -> Result<(), AllocError>
+    ensures ok { IfOk result (λ _. string_bytes text.new ≡ string_bytes text.old ++ line_of (encode_lower slot.now)) }
+{
+    let digits = hex::encode(alloc, slot)?;
+    text.push_str(digits.as_str())?;
+    text.push('\n')?;
+    Ok(())
+}
+
+/// Code in hex digits, a line for each slot.
+fn slot_lines(alloc: Global, code: &[u8]) -> Result<String, AllocError>
+    ensures is { IfOk result (λ text. string_bytes text ≡ slot_lines (length code.now / 8) code.now) }
+{
+    let mut text = String::new(alloc);
+    let mut rest = code;
+    while rest.len() >= 8 {
+        let (slot, left) = rest.split_at(8);
+        append_slot(alloc, &mut text, slot)?;
+        rest = left;
+    }
+    Ok(text)
 }

@@ -19,6 +19,8 @@ pub(crate) enum ProgramFault {
     OddDigits(String),
     #[error("apd: {path}: {fault}")]
     Config { path: String, fault: ConfigFault },
+    #[error("apd: FRAME: more than 2400 bytes")]
+    LongFrame,
     #[error("apd: `{0}` is not there yet")]
     NotThere(&'static str),
     #[error("apd: out of memory")]
@@ -33,17 +35,17 @@ impl From<AllocError> for ProgramFault {
     }
 }
 
-/// The fault of a file whose digits don't spell code.
-pub(crate) fn of_digits(alloc: Global, path: &str, fault: FromHexError) -> ProgramFault
+/// The fault of what doesn't spell bytes, by its name.
+pub(crate) fn of_digits(alloc: Global, name: &str, fault: FromHexError) -> ProgramFault
     ensures memory { fault ≡ FromHexError.OutOfMemory → result ≡ ProgramFault.NoMemory }
 {
-    let Ok(path) = String::from_str(alloc, path) else {
+    let Ok(name) = String::from_str(alloc, name) else {
         return ProgramFault::NoMemory;
     };
     match fault {
         FromHexError::OutOfMemory => ProgramFault::NoMemory,
-        FromHexError::OddLength => ProgramFault::OddDigits(path),
-        _ => ProgramFault::NoDigits(path),
+        FromHexError::OddLength => ProgramFault::OddDigits(name),
+        _ => ProgramFault::NoDigits(name),
     }
 }
 

@@ -9,6 +9,7 @@ mod program;
 mod reading;
 #[cfg(test)]
 mod tests;
+mod texts;
 mod verifying;
 
 pub use answer::Answer;

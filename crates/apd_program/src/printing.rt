@@ -9,16 +9,17 @@ use apd_output::write_whole;
 use std::alloc::Global;
 use std::io::Write;
 
-/// Prints an answer, and answers the program's status: the answer's where its whole line was
+/// Prints an answer, and answers the program's status: the answer's where its whole text was
 /// written, 2 where a write failed, 3 where memory ran out before the first.
 pub(crate) fn print<W: Write>(alloc: Global, answer: Answer, out: &mut W) -> u8
     ensures is { Prints answer (W.contents out.old) (W.contents out.new) result }
 {
-    let Ok(line) = answer.line(alloc) else {
+    let status = answer.status();
+    let Ok(text) = answer.printed(alloc) else {
         return 3;
     };
-    match write_whole(out, line.as_bytes()) {
-        Ok(()) => answer.status(),
+    match write_whole(out, text.as_bytes()) {
+        Ok(()) => status,
         Err(_) => 2,
     }
 }

@@ -1,18 +1,24 @@
 //! The program as a function of its words and files.
 
-ghost use Rattle.std.specs.Prelude.{◌≡◌, ◌≤◌, ◌⊎◌, IfOk, IfErr, map};
+ghost use Rattle.std.specs.Prelude.{◌≡◌, ◌≤◌, ◌⊎◌, IfOk, IfErr, map, option_map};
 ghost use Rattle.std.specs.Io.KnownBytes.{Keeps};
 ghost use Rattle.apd_words.specs.Asked.{Asked, asked_of};
 ghost use Rattle.apd_words.specs.Spells.{Spells};
-ghost use Rattle.apd_program.specs.Answers.{IsAnswer, HasNoAnswer};
+ghost use Rattle.apd_program.specs.Held.{Lacks};
+ghost use Rattle.apd_program.specs.Faults.{IsAtFault, HasNoFrame};
+ghost use Rattle.apd_program.specs.Verifying.{IsVerdict, IsBudget};
+ghost use Rattle.apd_program.specs.Texts.{IsAssembly, IsListing};
+ghost use Rattle.apd_program.specs.Answers.{IsOfCode, IsOfText, IsTraced, IsAnswer, HasNoAnswer};
 ghost use Rattle.apd_program.specs.Program.{Performs, Runs};
 
 use crate::answer::Answer;
 use crate::fault::ProgramFault;
 use crate::files::Files;
 use crate::printing::{complain, print, print_text};
-use crate::verifying::verify;
+use crate::reading::{code, frame, read, setup_of};
+use crate::{texts, verifying};
 use apd_words::{Request, Told, read_words};
+use bpf_regions::{Frame, Hook};
 use std::alloc::Global;
 use std::io::Write;
 
@@ -69,11 +75,77 @@ fn answer<F: Files>(
 {
     match request {
         Request::Verify { hook, file, config } => verify(alloc, hook, file, config, files),
-        Request::Assemble { .. } => Err(ProgramFault::NotThere("asm")),
-        Request::Disassemble { .. } => Err(ProgramFault::NotThere("disasm")),
-        Request::Trace { .. } => Err(ProgramFault::NotThere("trace")),
+        Request::Assemble { file } => assemble(alloc, file, files),
+        Request::Disassemble { file, config } => disassemble(alloc, file, config, files),
+        Request::Trace {
+            hook,
+            file,
+            frame,
+            config,
+        } => trace(alloc, hook, file, frame, config, files),
         Request::Run { .. } => Err(ProgramFault::NotThere("run")),
         Request::Certify { .. } => Err(ProgramFault::NotThere("cert")),
         Request::Check { .. } => Err(ProgramFault::NotThere("check")),
     }
+}
+
+/// The verdict on the code of a file, for the maps of a configuration.
+fn verify<F: Files>(
+    alloc: Global,
+    hook: Hook,
+    file: &str,
+    config: Option<&str>,
+    files: &mut F,
+) -> Result<Answer, ProgramFault>
+    ensures verdict { IfOk result (λ a. IsOfCode (λ setup. IsVerdict IsBudget) (F.held files.old) file.now (option_map (λ path. path.now) config.entry) a) }
+    ensures fault { IfErr result (λ e. (e ≡ ProgramFault.NoMemory) ⊎ IsAtFault (F.held files.old) file.now (option_map (λ path. path.now) config.entry)) }
+{
+    let setup = setup_of(alloc, config, files)?;
+    let code = code(alloc, file, files)?;
+    verifying::verify(alloc, code.as_slice(), setup.shapes, hook)
+}
+
+/// The code of the text of a file.
+fn assemble<F: Files>(alloc: Global, file: &str, files: &mut F) -> Result<Answer, ProgramFault>
+    ensures assembly { IfOk result (λ a. IsOfText IsAssembly (F.held files.old) file.now a) }
+    ensures fault { IfErr result (λ e. (e ≡ ProgramFault.NoMemory) ⊎ Lacks (F.held files.old) file.now) }
+{
+    let text = read(alloc, file, files)?;
+    texts::assemble(alloc, text.as_slice())
+}
+
+/// The text of the code of a file, for the maps of a configuration.
+fn disassemble<F: Files>(
+    alloc: Global,
+    file: &str,
+    config: Option<&str>,
+    files: &mut F,
+) -> Result<Answer, ProgramFault>
+    ensures listing { IfOk result (λ a. IsOfCode (λ setup. IsListing) (F.held files.old) file.now (option_map (λ path. path.now) config.entry) a) }
+    ensures fault { IfErr result (λ e. (e ≡ ProgramFault.NoMemory) ⊎ IsAtFault (F.held files.old) file.now (option_map (λ path. path.now) config.entry)) }
+{
+    let setup = setup_of(alloc, config, files)?;
+    let code = code(alloc, file, files)?;
+    texts::disassemble(alloc, code.as_slice(), setup.shapes)
+}
+
+/// The run of the code of a file on the frame that a word spells.
+fn trace<F: Files>(
+    alloc: Global,
+    hook: Hook,
+    file: &str,
+    word: &str,
+    config: Option<&str>,
+    files: &mut F,
+) -> Result<Answer, ProgramFault>
+    ensures run { IfOk result (λ a. IsTraced (F.held files.old) hook file.now word.now (option_map (λ path. path.now) config.entry) a) }
+    ensures fault { IfErr result (λ e. (e ≡ ProgramFault.NoMemory) ⊎ HasNoFrame (F.held files.old) file.now word.now (option_map (λ path. path.now) config.entry)) }
+{
+    let setup = setup_of(alloc, config, files)?;
+    let code = code(alloc, file, files)?;
+    let bytes = frame(alloc, word)?;
+    let Some(frame) = Frame::new(bytes.as_slice()) else {
+        return Err(ProgramFault::LongFrame);
+    };
+    verifying::trace(alloc, code.as_slice(), setup, hook, &frame)
 }

@@ -1,8 +1,9 @@
-//! Configurations and code from files.
+//! Configurations and code from files, and frames from words.
 
 ghost use Rattle.std.specs.Prelude.{◌≡◌, ◌⊎◌, Ok, Err, [], IfOk, IfErr, option_map};
-ghost use Rattle.apd_program.specs.Held.{Holds, Lacks, HoldsShapes, HoldsCode, Configures, code_of};
-ghost use Rattle.apd_program.specs.Faults.{HasBadCode, HasBadConfiguration, IsBadConfig};
+ghost use Rattle.hex.specs.Hex.{decode_of};
+ghost use Rattle.apd_program.specs.Held.{Holds, Lacks, HoldsSetup, HoldsCode, Configures, code_of};
+ghost use Rattle.apd_program.specs.Faults.{HasBadCode, HasBadConfiguration, IsBadConfig, IsNoFrame};
 
 use crate::fault::{ProgramFault, of_configuration, of_digits};
 use crate::files::{FileFault, Files};
@@ -11,8 +12,21 @@ use bpf_regions::Shapes;
 use hex::FromHexError;
 use std::alloc::Global;
 
+/// What a configuration tells of the maps and the draws.
+#[derive(Debug, Drop)]
+pub(crate) struct Setup {
+    /// The maps' shapes, by number.
+    pub shapes: Shapes,
+    /// The word that is drawn first.
+    pub draw: u64,
+}
+
 /// The bytes of a file.
-fn read<F: Files>(alloc: Global, path: &str, files: &mut F) -> Result<Vec<u8>, ProgramFault>
+pub(crate) fn read<F: Files>(
+    alloc: Global,
+    path: &str,
+    files: &mut F,
+) -> Result<Vec<u8>, ProgramFault>
     ensures there { IfOk result (λ bytes. Holds (F.held files.old) path.now bytes.items) }
     ensures fault { IfErr result (λ e. (e ≡ ProgramFault.NoMemory) ⊎ Lacks (F.held files.old) path.now) }
     ensures same { F.held files.new ≡ F.held files.old }
@@ -37,32 +51,38 @@ fn no_shapes(alloc: Global) -> Shapes
     }
 }
 
-/// The shapes of the maps of a configuration.
-fn configured<F: Files>(alloc: Global, path: &str, files: &mut F) -> Result<Shapes, ProgramFault>
-    ensures shapes { IfOk result (λ shapes. HoldsShapes (F.held files.old) path.now shapes) }
+/// The setup of a configuration.
+fn configured<F: Files>(alloc: Global, path: &str, files: &mut F) -> Result<Setup, ProgramFault>
+    ensures setup { IfOk result (λ setup. HoldsSetup (F.held files.old) path.now setup) }
     ensures fault { IfErr result (λ e. (e ≡ ProgramFault.NoMemory) ⊎ HasBadConfiguration (F.held files.old) path.now) }
     ensures same { F.held files.new ≡ F.held files.old }
 {
     let text = read(alloc, path, files)?;
     match read_configuration(alloc, text.as_slice()) {
-        Ok(configuration) => Ok(configuration.maps),
+        Ok(configuration) => Ok(Setup {
+            draw: configuration.draw,
+            shapes: configuration.maps,
+        }),
         Err(fault) => Err(of_configuration(alloc, path, fault)),
     }
 }
 
-/// The shapes of the maps: none without a configuration.
-pub(crate) fn shapes<F: Files>(
+/// The setup of a configuration. Without one there are no maps, and 0 is drawn first.
+pub(crate) fn setup_of<F: Files>(
     alloc: Global,
     config: Option<&str>,
     files: &mut F,
-) -> Result<Shapes, ProgramFault>
-    ensures shapes { IfOk result (λ shapes. Configures (F.held files.old) (option_map (λ path. path.now) config.entry) shapes) }
+) -> Result<Setup, ProgramFault>
+    ensures setup { IfOk result (λ setup. Configures (F.held files.old) (option_map (λ path. path.now) config.entry) setup) }
     ensures fault { IfErr result (λ e. (e ≡ ProgramFault.NoMemory) ⊎ IsBadConfig (F.held files.old) (option_map (λ path. path.now) config.entry)) }
     ensures same { F.held files.new ≡ F.held files.old }
 {
     match config {
         Some(path) => configured(alloc, path, files),
-        None => Ok(no_shapes(alloc)),
+        None => Ok(Setup {
+            shapes: no_shapes(alloc),
+            draw: 0,
+        }),
     }
 }
 
@@ -93,5 +113,16 @@ pub(crate) fn code<F: Files>(
     match code_in(alloc, text.as_slice()) {
         Ok(code) => Ok(code),
         Err(fault) => Err(of_digits(alloc, path, fault)),
+    }
+}
+
+/// The bytes that the hex digits of a word spell.
+pub(crate) fn frame(alloc: Global, word: &str) -> Result<Vec<u8>, ProgramFault>
+    ensures frame { IfOk result (λ bytes. decode_of word.now ≡ Ok bytes.items) }
+    ensures fault { IfErr result (λ e. (e ≡ ProgramFault.NoMemory) ⊎ IsNoFrame word.now) }
+{
+    match hex::decode(alloc, word) {
+        Ok(bytes) => Ok(bytes),
+        Err(fault) => Err(of_digits(alloc, "FRAME", fault)),
     }
 }

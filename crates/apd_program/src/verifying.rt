@@ -1,62 +1,80 @@
-//! The command `verify`.
+//! The verdict on code, and the run of what is admitted: the commands `verify` and `trace`.
 
-ghost use Rattle.std.specs.Prelude.{◌≡◌, ◌⊎◌, ℕ, List, IfOk, IfErr, option_map};
-ghost use Rattle.bpf_decode.specs.Program.{Spells};
-ghost use Rattle.apd_program.specs.Faults.{IsAtFault};
-ghost use Rattle.apd_program.specs.Verifying.{IsVerdict};
-ghost use Rattle.apd_program.specs.Answers.{IsVerdictOn};
+ghost use Rattle.std.specs.Prelude.{◌≡◌, IfOk, IfErr};
+ghost use Rattle.apd_program.specs.Programs.{IsOfProgram};
+ghost use Rattle.apd_program.specs.Verifying.{IsVerdict, IsBudget, IsRun};
 
-use crate::answer::Answer;
+use crate::answer::{Answer, refused, undecoded};
 use crate::fault::ProgramFault;
-use crate::files::Files;
-use crate::reading::{code, shapes};
-use bpf_decode::{DecodeFault, Program, decode};
-use bpf_regions::{Hook, Shapes};
-use bpf_verifier::Fault;
+use crate::reading::Setup;
+use apd_trace::trace_text;
+use bpf_decode::{Program, decode};
+use bpf_regions::{Frame, Hook, Shapes};
 use std::alloc::Global;
 
 /// The verifier's verdict on a program.
 fn admitted(alloc: Global, program: Program, hook: Hook) -> Result<Answer, ProgramFault>
-    ensures verdict { IfOk result (λ a. (code : List ℕ) → Spells code program → IsVerdict code program.shapes a) }
+    ensures verdict { IfOk result (IsVerdict IsBudget program) }
     ensures memory { IfErr result (λ e. e ≡ ProgramFault.NoMemory) }
 {
     match bpf_verifier::verify(alloc, program, hook) {
         Ok(accepted) => Ok(Answer::Accepted {
             budget: accepted.budget(),
         }),
-        Err(refusal) => match refusal.fault {
-            Fault::NoMemory => Err(ProgramFault::NoMemory),
-            _ => Ok(Answer::Refused(refusal)),
-        },
+        Err(refusal) => refused(refusal),
     }
 }
 
-/// The verdict on code.
-fn judged(alloc: Global, code: &[u8], shapes: Shapes, hook: Hook) -> Result<Answer, ProgramFault>
-    ensures verdict { IfOk result (λ a. IsVerdict code.now shapes a) }
+/// The verdict on code, for maps of these shapes.
+pub(crate) fn verify(
+    alloc: Global,
+    code: &[u8],
+    shapes: Shapes,
+    hook: Hook,
+) -> Result<Answer, ProgramFault>
+    ensures verdict { IfOk result (IsOfProgram (IsVerdict IsBudget) code.now shapes) }
     ensures memory { IfErr result (λ e. e ≡ ProgramFault.NoMemory) }
 {
     match decode(alloc, code, shapes) {
         Ok(program) => admitted(alloc, program, hook),
-        Err(fault) => match fault {
-            DecodeFault::NoMemory => Err(ProgramFault::NoMemory),
-            _ => Ok(Answer::Fault(fault)),
-        },
+        Err(fault) => undecoded(fault),
     }
 }
 
-/// The verdict on the code of a file, for the maps of a configuration.
-pub(crate) fn verify<F: Files>(
+/// The run of a program on a frame, or the verifier's refusal.
+fn run(
     alloc: Global,
+    program: Program,
     hook: Hook,
-    file: &str,
-    config: Option<&str>,
-    files: &mut F,
+    frame: &Frame,
+    draw: u64,
 ) -> Result<Answer, ProgramFault>
-    ensures verdict { IfOk result (λ a. IsVerdictOn (F.held files.old) file.now (option_map (λ path. path.now) config.entry) a) }
-    ensures fault { IfErr result (λ e. (e ≡ ProgramFault.NoMemory) ⊎ IsAtFault (F.held files.old) file.now (option_map (λ path. path.now) config.entry)) }
+    ensures run { IfOk result (IsVerdict (IsRun hook frame.now draw) program) }
+    ensures memory { IfErr result (λ e. e ≡ ProgramFault.NoMemory) }
 {
-    let shapes = shapes(alloc, config, files)?;
-    let code = code(alloc, file, files)?;
-    judged(alloc, code.as_slice(), shapes, hook)
+    match bpf_verifier::verify(alloc, program, hook) {
+        Ok(accepted) => {
+            let text = trace_text(alloc, &accepted, frame, draw)?;
+            Ok(Answer::Run(text))
+        }
+        Err(refusal) => refused(refusal),
+    }
+}
+
+/// The run of the program that the code spells, on a frame.
+pub(crate) fn trace(
+    alloc: Global,
+    code: &[u8],
+    setup: Setup,
+    hook: Hook,
+    frame: &Frame,
+) -> Result<Answer, ProgramFault>
+    ensures run { IfOk result (IsOfProgram (IsVerdict (IsRun hook frame.now setup.draw)) code.now setup.shapes) }
+    ensures memory { IfErr result (λ e. e ≡ ProgramFault.NoMemory) }
+{
+    let Setup { shapes, draw } = setup;
+    match decode(alloc, code, shapes) {
+        Ok(program) => run(alloc, program, hook, frame, draw),
+        Err(fault) => undecoded(fault),
+    }
 }

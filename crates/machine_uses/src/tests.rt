@@ -1,8 +1,9 @@
 use bpf_decode::{Program, decode};
 use bpf_helpers::PlainPort;
 use bpf_machine::probing::probe;
-use bpf_machine::{ListPort, Outcome, Probe};
-use bpf_regions::{Context, Frame, Scope, Shape, Shapes, WordWidth};
+use bpf_machine::{Accepted, ListPort, Outcome, Probe, Step, run, trace};
+use bpf_regions::{Context, Frame, Hook, Scope, Shape, Shapes, WordWidth};
+use bpf_verifier::verify;
 use std::alloc::Global;
 use std::process::Abort;
 use std::test::Fail;
@@ -549,5 +550,80 @@ fn plain_maps_hold_what_was_stored(rt: HostRuntime) -> Result<(), Fail> {
         let answer = probe_plain(&rt, rt.alloc(), slots, map, draw)?;
         check(&rt, answer, want, slots.first().copied().unwrap_or(0));
     }
+    Ok(())
+}
+
+/// What the verifier admits of slots without maps.
+fn admit(rt: &impl Abort, alloc: Global, slots: &[u64]) -> Result<Accepted, Fail> {
+    let program = program_of(alloc, slots, shapes_of(rt, alloc, None)?)?;
+    Ok(verify(alloc, program, Hook::Data)?)
+}
+
+/// The slots where the steps of a log were made.
+fn slots_of(alloc: Global, log: &[Step]) -> Result<Vec<usize>, Fail> {
+    let mut slots = Vec::new(alloc);
+    for step in log {
+        slots.push(step.pc)?;
+    }
+    Ok(slots)
+}
+
+#[test]
+fn an_admitted_program_runs_within_its_budget(rt: HostRuntime) -> Result<(), Fail> {
+    const ONE: u64 = 0xb700000001000000;
+    const SEVEN: u64 = 0xb700000007000000;
+    const ZERO: u64 = 0xb701000000000000;
+    const JUMP_IF_SEVEN: u64 = 0x1500010007000000;
+    let rows: [(&[u64], (u64, u32), &[usize]); 3] = [
+        (&[ONE, EXIT], (1, 2), &[0, 1]),
+        (
+            &[SEVEN, ZERO, 0x3f10000000000000, EXIT],
+            (0, 4),
+            &[0, 1, 2, 3],
+        ),
+        (&[SEVEN, JUMP_IF_SEVEN, ONE, EXIT], (7, 3), &[0, 1, 3]),
+    ];
+    let alloc = rt.alloc();
+    let frame = Frame::new(&[]).expect(&rt, "the frame is short");
+    let context = Context::new([0; 32]);
+    for (slots, want, steps) in rows {
+        let accepted = admit(&rt, alloc, slots)?;
+        let mut port = ListPort::new(accepted.program().shapes(), &[]);
+        let outcome = run(&accepted, &frame, &context, &mut port);
+        assert_eq!(rt; (outcome.r0, outcome.steps), want);
+        let mut log = Vec::new(alloc);
+        let traced = trace(&accepted, &frame, &context, &mut port, &mut log)?;
+        assert_eq!(rt; (traced.r0, traced.steps), want);
+        assert_eq!(rt; slots_of(alloc, &log)?.as_slice(), steps);
+        assert!(rt; log.iter().all(|step| step.note.is_none()));
+        let limit = accepted.budget();
+        let probed = probe(accepted.program(), &frame, &context, &mut port, limit);
+        check(&rt, probed, Want::Ends(want.0, want.1), limit.into());
+    }
+    Ok(())
+}
+
+#[test]
+fn a_trace_is_appended_to_its_log(rt: HostRuntime) -> Result<(), Fail> {
+    let alloc = rt.alloc();
+    let accepted = admit(&rt, alloc, &[0xb700000001000000, EXIT])?;
+    let frame = Frame::new(&[1, 2, 3]).expect(&rt, "the frame is short");
+    let mut port = PlainPort::new(alloc, accepted.program().shapes(), 0, 0, 0)?;
+    let first = Step {
+        pc: 9,
+        note: Some(5),
+    };
+    let mut log = Vec::from_slice(alloc, &[first])?;
+    let outcome = trace(
+        &accepted,
+        &frame,
+        &Context::new([0; 32]),
+        &mut port,
+        &mut log,
+    )?;
+    assert_eq!(rt; outcome.r0, 1);
+    let second = Step { pc: 0, note: None };
+    let third = Step { pc: 1, note: None };
+    assert_eq!(rt; log.as_slice(), [first, second, third].as_slice());
     Ok(())
 }

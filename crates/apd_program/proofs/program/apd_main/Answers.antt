@@ -1,8 +1,8 @@
-use Rattle.std.proofs.Common.{◌≡◌, ◌≤◌, Option, Some, ℕ, List, map, refl, sym, subst, arith}
-use Rattle.apd_words.specs.Asked.{Asked, asked_of}
-use Rattle.apd_program.specs.Program.{Performs, Performed, Complained, Exhausted, Does}
+use Rattle.std.proofs.Common.{subst}
+use Rattle.apd_words.specs.Asked.{Asked}
+use Rattle.apd_program.specs.Program.{Performs, Performed, Complained, Exhausted}
 use Rattle.apd_program.proofs.Kept.{Keeps-same}
-use Rattle.apd_program.proofs.Performing.{Performs-status, Performs-memory, Does-text, PrintsText-status}
+use Rattle.apd_program.proofs.Performing.{Performs-status, Performs-memory, Does-text}
 use Rattle.apd_program.proofs.program.apd_main.Goals as goal
 
 pub returns-in-Ok-clause-status : goal.returns-in-Ok-clause-status

@@ -3,8 +3,8 @@ use Rattle.apd_config.specs.Text.{IsTextOf}
 use Rattle.apd_program.proofs.Faulty.{configuration_at_fault}
 use Rattle.apd_program.proofs.reading.configured.Goals as goal
 
-pub returns-in-Ok-clause-shapes : goal.returns-in-Ok-clause-shapes
-returns-in-Ok-clause-shapes g c =
+pub returns-in-Ok-clause-setup : goal.returns-in-Ok-clause-setup
+returns-in-Ok-clause-setup g c =
     let P : List ℕ → Type 0 = λ t. IsTextOf t c.in-Ok.configuration in
     record {
       text = c.in_ok-text.text.items;
@@ -12,6 +12,7 @@ returns-in-Ok-clause-shapes g c =
       configuration = c.in-Ok.configuration;
       is = subst P c.as_slice.ensures.value c.in-Ok.ensures.read;
       maps = refl;
+      draw = refl;
     }
 
 pub returns-clause-fault : goal.returns-clause-fault

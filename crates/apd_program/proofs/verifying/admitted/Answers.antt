@@ -1,10 +1,10 @@
 use Rattle.std.proofs.Common.{refl}
-use Rattle.apd_program.specs.Verifying.{Admitted, NotAdmitted}
+use Rattle.apd_program.specs.Verifying.{Admitted, IsBudget}
+use Rattle.apd_program.proofs.Said.{IsVerdict-refused}
 use Rattle.apd_program.proofs.verifying.admitted.Goals as goal
 
 pub returns-in-Ok-clause-verdict : goal.returns-in-Ok-clause-verdict
-returns-in-Ok-clause-verdict c = λ code spelled. Admitted c.args.program _ spelled refl (rw c.budget.ensures.is c.in-Ok.ensures.safe) c.budget.ensures.small (rw c.budget.ensures.is c.in-Ok.ensures.walk)
+returns-in-Ok-clause-verdict c = Admitted c.budget.result _ (rw c.budget.ensures.is c.in-Ok.ensures.safe) c.budget.ensures.small (rw c.budget.ensures.is c.in-Ok.ensures.walk) refl
 
-pub returns-in_default-clause-verdict : goal.returns-in_default-clause-verdict
-returns-in_default-clause-verdict c =
-    λ code spelled. NotAdmitted c.args.program _ spelled refl c.in_default.not-NoMemory (λ plain. c.in_default.not-NoMemory (c.in-Err.ensures.plain plain))
+pub returns-in-Err-clause-verdict : goal.returns-in-Err-clause-verdict
+returns-in-Err-clause-verdict c = IsVerdict-refused IsBudget _ _ c.in-Err.refusal c.in-Err.ensures.plain c.refused.ensures.refusal

@@ -1,17 +1,9 @@
-use Rattle.std.proofs.Common.{rules, ◌≡◌, ◌⊎◌, option_map}
-use Rattle.std.specs.Result.{IfErr}
-use Rattle.std.proofs.lemmas.Result.{IfErr-weaker}
-use Rattle.apd_program.specs.declared.fault.ProgramFault.TheVariants.{NoMemory}
-use Rattle.apd_program.specs.Faults.{IsBadConfig, HasBadCode}
-use Rattle.apd_program.proofs.Faulty.{IsAtFault-configuration, IsAtFault-code}
+use Rattle.apd_program.specs.Verifying.{IsVerdict, IsBudget}
+use Rattle.apd_program.proofs.Said.{IsOfProgram-decoded, IsOfProgram-undecoded}
 use Rattle.apd_program.proofs.verifying.verify.Goals as goal
 
-pub returns-in_err-shapes-clause-fault : goal.returns-in_err-shapes-clause-fault
-returns-in_err-shapes-clause-fault g c =
-    let bad : IfErr c.from_residual.result (λ e. (e ≡ NoMemory) ⊎ IsBadConfig (g.F.Files.held c.args.files.now) (option_map (λ path. path.now) c.args.config)) = search rules in
-    IfErr-weaker c.from_residual.result _ _ (λ e h. IsAtFault-configuration _ _ _ e h) bad
+pub returns-in-Ok-clause-verdict : goal.returns-in-Ok-clause-verdict
+returns-in-Ok-clause-verdict c = IsOfProgram-decoded (IsVerdict IsBudget) _ _ _ c.in-Ok.program c.in-Ok.ensures.ok c.in-Ok.ensures.shapes c.admitted.ensures.verdict
 
-pub returns-in_err-code-clause-fault : goal.returns-in_err-code-clause-fault
-returns-in_err-code-clause-fault g c =
-    let bad : IfErr c.from_residual-in_err-code.result (λ e. (e ≡ NoMemory) ⊎ HasBadCode (g.F.Files.held c.shapes.new.files) c.args.file.now) = search rules in
-    IfErr-weaker c.from_residual-in_err-code.result _ _ (λ e h. IsAtFault-code _ _ _ _ _ e c.shapes.ensures.same c.in_ok-shapes.ensures.shapes h) bad
+pub returns-in-Err-clause-verdict : goal.returns-in-Err-clause-verdict
+returns-in-Err-clause-verdict c = IsOfProgram-undecoded (IsVerdict IsBudget) _ _ _ c.in-Err.fault c.in-Err.ensures.err c.undecoded.ensures.fault

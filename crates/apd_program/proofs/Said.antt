@@ -1,0 +1,56 @@
+-- From parts of an answer to the answer.
+use Rattle.std.proofs.Common.{◌≡◌, ◌≢◌, ℕ, List, Result, IfOk, IsUtf8, take, sym, subst}
+use Rattle.std.specs.Str.Lossy.{utf8_valid_len}
+use Rattle.std.proofs.lemmas.Result.{IfOk-weaker}
+use Rattle.bpf_regions.specs.declared.hooks.Hook.{Hook}
+use Rattle.bpf_regions.specs.declared.maps.Shape.{Shape}
+use Rattle.bpf_decode.specs.Program as decoded
+use Rattle.bpf_decode.specs.Answer.{Refuses}
+use Rattle.bpf_decode.specs.declared.fault.DecodeFault.{DecodeFault}
+use Rattle.bpf_decode.specs.declared.fault.DecodeFault.TheVariants as decode_fault
+use Rattle.bpf_machine.specs.Verified.{Verified}
+use Rattle.bpf_text.specs.declared.fault.AsmFault.TheVariants as asm_fault
+use Rattle.bpf_verifier.specs.Walks.{IsPlain}
+use Rattle.bpf_verifier.specs.declared.refusal.Refusal.{Refusal}
+use Rattle.bpf_verifier.specs.declared.refusal.Fault.TheVariants as verify_fault
+use Rattle.apd_trace.specs.Trace.{IsTrace}
+use Rattle.apd_program.specs.declared.answer.Answer.{Answer}
+use Rattle.apd_program.specs.declared.answer.Answer.TheVariants.{Accepted, Code, Instructions, Run, Fault, Refused, LineFault}
+use Rattle.apd_program.specs.declared.fault.ProgramFault.{ProgramFault}
+use Rattle.apd_program.specs.Programs.{IsOfProgram, Undecoded, Decoded}
+use Rattle.apd_program.specs.Verifying.{IsVerdict, NotAdmitted}
+use Rattle.apd_program.specs.Texts.{BreaksOff, broken_off, IsAssembly, Broken}
+
+module _ (says : decoded.Code → Answer → Type 0) (code : List ℕ) (shapes : List Shape) (r : Result Answer ProgramFault) where
+  pub IsOfProgram-decoded : (p : decoded.Code) → decoded.Spells code p → p.shapes ≡ shapes → IfOk r (says p) → IfOk r (IsOfProgram says code shapes)
+  IsOfProgram-decoded p spelled same said = IfOk-weaker r (says p) (IsOfProgram says code shapes) (λ a h. Decoded p a spelled same h) said
+
+  pub IsOfProgram-undecoded : (e : DecodeFault) → Refuses code shapes e → IfOk r (λ a. (a ≡ Fault e) × (e ≢ decode_fault.NoMemory)) → IfOk r (IsOfProgram says code shapes)
+  IsOfProgram-undecoded e refuses told =
+      let P : Answer → Type 0 = IsOfProgram says code shapes in
+      IfOk-weaker r (λ a. (a ≡ Fault e) × (e ≢ decode_fault.NoMemory)) P (λ a h. subst P (sym h.0) (Undecoded e h.1 refuses)) told
+
+pub IsVerdict-refused : (says : decoded.Code → ℕ → Answer → Type 0) (p : decoded.Code) (r : Result Answer ProgramFault) (e : Refusal) → (IsPlain p.slots → e.fault ≡ verify_fault.NoMemory)
+    → IfOk r (λ a. (a ≡ Refused e) × (e.fault ≢ verify_fault.NoMemory)) → IfOk r (IsVerdict says p)
+IsVerdict-refused says p r e plain told =
+    let P : Answer → Type 0 = IsVerdict says p in
+    IfOk-weaker r (λ a. (a ≡ Refused e) × (e.fault ≢ verify_fault.NoMemory)) P (λ a h. subst P (sym h.0) (NotAdmitted e h.1 (λ is_plain. h.1 (plain is_plain)))) told
+
+pub IsTrace-of : (accepted : Verified) (p : decoded.Code) (hook : Hook) (frame : List ℕ) (draw : ℕ) (text : List ℕ) → accepted.code ≡ p → accepted.hook ≡ hook → IsTrace accepted frame draw text
+    → IsTrace (record { code = p; hook = hook; budget = accepted.budget }) frame draw text
+IsTrace-of accepted p hook frame draw text code served run =
+    let OfCode : decoded.Code → Type 0 = λ c. IsTrace (record { code = c; hook = accepted.hook; budget = accepted.budget }) frame draw text in
+    let OfHook : Hook → Type 0 = λ h. IsTrace (record { code = p; hook = h; budget = accepted.budget }) frame draw text in
+    subst OfHook served (subst OfCode code run)
+
+pub IsAssembly-broken : (text front : List ℕ) (a : Answer) → (IsUtf8 text → ⊥) → front ≡ take (utf8_valid_len text) text → BreaksOff front a → IsAssembly text a
+IsAssembly-broken text front (LineFault (asm_fault.Line line number)) bad same breaks =
+    let P : List ℕ → Type 0 = λ t. broken_off t ≡ (line, number) in
+    Broken line number bad (subst P same breaks)
+IsAssembly-broken text front (LineFault asm_fault.NoMemory) bad same breaks = absurd breaks
+IsAssembly-broken text front (Accepted budget) bad same breaks = absurd breaks
+IsAssembly-broken text front (Code code) bad same breaks = absurd breaks
+IsAssembly-broken text front (Instructions listing) bad same breaks = absurd breaks
+IsAssembly-broken text front (Run lines) bad same breaks = absurd breaks
+IsAssembly-broken text front (Fault e) bad same breaks = absurd breaks
+IsAssembly-broken text front (Refused e) bad same breaks = absurd breaks

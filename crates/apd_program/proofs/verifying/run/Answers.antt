@@ -1,0 +1,11 @@
+use Rattle.apd_program.specs.Verifying.{Admitted, IsRun}
+use Rattle.apd_program.proofs.Said.{IsVerdict-refused, IsTrace-of}
+use Rattle.apd_program.proofs.verifying.run.Goals as goal
+
+pub returns-in_ok-text-in-Ok-clause-run : goal.returns-in_ok-text-in-Ok-clause-run
+returns-in_ok-text-in-Ok-clause-run c =
+    Admitted c.in-Ok.accepted.budget _ c.in-Ok.ensures.safe c.in-Ok.ensures.small c.in-Ok.ensures.walk
+    (IsTrace-of c.in-Ok.accepted _ _ _ _ _ c.in-Ok.ensures.code c.in-Ok.ensures.hook c.in_ok-text-in-Ok.ensures.is)
+
+pub returns-in-Err-clause-run : goal.returns-in-Err-clause-run
+returns-in-Err-clause-run c = IsVerdict-refused (IsRun c.args.hook c.args.frame.now c.args.draw) _ _ c.in-Err.refusal c.in-Err.ensures.plain c.refused.ensures.refusal

@@ -1,0 +1,37 @@
+-- The lines of a run.
+use Rattle.std.specs.Prelude.{ℕ, List, [], ◌∷◌, ◌++◌, codes, decimal, Option, Some, None, slice_get}
+use Rattle.bpf_insn.specs.declared.insn.Insn.{Insn}
+use Rattle.bpf_line.specs.Spellings.{text_of}
+use Rattle.bpf_machine.specs.declared.outcome.Step.{Step}
+
+-- the slot, a space (32), the instruction's text and a line feed (10)
+abbrev pub insn_line : ℕ → Insn → List ℕ
+insn_line pc insn = decimal pc ++ (32 ∷ (text_of insn ++ 10 ∷ []))
+
+abbrev pub note_line : ℕ → List ℕ
+note_line n = codes "note " ++ (decimal n ++ 10 ∷ [])
+
+abbrev pub end_line : ℕ → ℕ → List ℕ
+end_line r0 steps = codes "r0 " ++ (decimal r0 ++ (codes " steps " ++ (decimal steps ++ 10 ∷ [])))
+
+-- nothing where no instruction starts; no step is made there
+abbrev pub line_at : ℕ → Option (Option Insn) → List ℕ
+line_at pc (Some (Some insn)) = insn_line pc insn
+line_at pc (Some None) = []
+line_at pc None = []
+
+abbrev pub noted_line : Option ℕ → List ℕ
+noted_line (Some n) = note_line n
+noted_line None = []
+
+-- a step: its instruction, and what it noted
+abbrev pub step_lines : List (Option Insn) → Step → List ℕ
+step_lines slots step = line_at step.pc (slice_get slots step.pc) ++ noted_line step.note
+
+abbrev pub steps_text : List (Option Insn) → List Step → List ℕ
+steps_text slots [] = []
+steps_text slots (step ∷ log) = step_lines slots step ++ steps_text slots log
+
+-- the steps one after another, and what the run came to
+abbrev pub run_text : List (Option Insn) → List Step → ℕ → ℕ → List ℕ
+run_text slots log r0 steps = steps_text slots log ++ end_line r0 steps
