@@ -5,7 +5,6 @@ use Rattle.assoc.specs.Standings.{Standings, Standing, IsOwn, IsFree, IsMoved, N
 use Rattle.assoc.proofs.Tables.{moved_cases}
 use Rattle.ap_model.specs.Readings.{Readings, Rules}
 use Rattle.ap_laws.specs.Runs.{Entry, Run, rests, goes_on}
-use Rattle.ap_laws.specs.AccessPoint.{rules}
 use Rattle.ap_laws.specs.Identifiers.{HoldsOnce, OpeningHoldsOnce, RunHoldsOnce, AccessPointHoldsOnce}
 use Rattle.ap_laws.proofs.StandingLaws.{StandingChange, same, moved, step_stands}
 
@@ -36,7 +35,7 @@ module _ (s : ℕ) (f : Standings) (a : List ℕ) (v : Standing) (g : Standings)
             ]
       ]
 
-change_holds : (c : Rules) (r r2 : Readings) → HoldsOnce c r → StandingChange c r r2 → HoldsOnce c r2
+pub change_holds : (c : Rules) (r r2 : Readings) → HoldsOnce c r → StandingChange c r r2 → HoldsOnce c r2
 change_holds c r r2 holds (same is) =
     record {
       own = λ a n e. holds.own a n (sym (is a) ∙ e);
@@ -57,9 +56,9 @@ runs_hold c r r2 entries holds run = run_holds c holds run
 
 -- identifiers of different shards differ
 pub access_points_hold : AccessPointHoldsOnce
-access_points_hold config r r2 turns holds runs s t a b n s_fits t_fits p q =
-    let one = run_holds (rules config s) (holds s s_fits) (runs s s_fits) in
-    let other = run_holds (rules config t) (holds t t_fits) (runs t t_fits) in
-    let same_shard : s ≡ t = sym (one.own a n p).mine ∙ (other.own b n q).mine in
+access_points_hold c r r2 turns places holds runs s t a b n s_fits t_fits p q =
+    let one = run_holds (c s) (holds s s_fits) (runs s s_fits) in
+    let other = run_holds (c t) (holds t t_fits) (runs t t_fits) in
+    let same_shard : s ≡ t = sym (places s s_fits) ∙ sym (one.own a n p).mine ∙ (other.own b n q).mine ∙ places t t_fits in
     let P : ℕ → Type 0 = λ x. (r2 x).standing b ≡ Some (Associated n) in
     (same_shard, one.once a b n p (subst P (sym same_shard) q))

@@ -4,3 +4,7 @@ pub mod Forms
 pub mod ChangeLaws
 pub mod OriginLaws
 pub mod IdentifierLaws
+pub mod Pigeonhole
+pub mod FreeLaws
+pub mod AlikeLaws
+pub mod AlongsideLaws

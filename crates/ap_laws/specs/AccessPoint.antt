@@ -4,11 +4,8 @@ use Rattle.ap_model.specs.declared.event.Event.{Event}
 use Rattle.ap_model.specs.declared.event.Event.TheVariants as event
 use Rattle.ap_model.specs.declared.event.Out.{Out}
 use Rattle.ap_model.specs.Asks.{Ask}
-use Rattle.ap_model.specs.Readings.{Config, Readings, Rules}
+use Rattle.ap_model.specs.Readings.{Readings, Rules}
 use Rattle.ap_laws.specs.Runs.{Entry, Run}
-
-abbrev pub rules : Config → ℕ → Rules
-rules config s = record { shard = s; config = config }
 
 -- the shard of an address: its last octet modulo 8
 abbrev pub shard_of_address : List ℕ → ℕ
@@ -55,6 +52,10 @@ pub data AreTurns : List Event → List (Option (List Out)) → List Turn → Ty
   ticked : (n : ℕ) (outs : ℕ → List Out) (events : List Event) (results : List (Option (List Out))) (turns : List Turn) →
       AreTurns events results turns → AreTurns (event.Tick n ∷ events) (Some (outs_of (Everywhere n outs)) ∷ results) (Everywhere n outs ∷ turns)
 
--- the link run of an access point: of each shard, by its number, the entries are a run
-abbrev pub LinkRun : Config → (ℕ → Readings) → List Turn → (ℕ → Readings) → Type 0
-LinkRun config r turns r2 = (s : ℕ) → s < 8 → Run (rules config s) (r s) (entries_of s turns) (r2 s)
+-- what the shards are made with, each at the place of its number
+abbrev pub InPlace : (ℕ → Rules) → Type 0
+InPlace c = (s : ℕ) → s < 8 → (c s).shard ≡ s
+
+-- the link run of an access point: the entries of each shard, by its place, are a run
+abbrev pub LinkRun : (ℕ → Rules) → (ℕ → Readings) → List Turn → (ℕ → Readings) → Type 0
+LinkRun c r turns r2 = (s : ℕ) → s < 8 → Run (c s) (r s) (entries_of s turns) (r2 s)

@@ -2,9 +2,9 @@
 use Rattle.std.specs.Prelude.{◌≡◌, ℕ, ◌<◌, Some, List}
 use Rattle.assoc.specs.declared.standing.Known.TheVariants.{Associated}
 use Rattle.assoc.specs.Standings.{IsOwn, NoneTwice}
-use Rattle.ap_model.specs.Readings.{Config, Readings, Rules}
+use Rattle.ap_model.specs.Readings.{Readings, Rules}
 use Rattle.ap_laws.specs.Runs.{Entry, Run, opening}
-use Rattle.ap_laws.specs.AccessPoint.{Turn, LinkRun, rules}
+use Rattle.ap_laws.specs.AccessPoint.{Turn, InPlace, LinkRun}
 
 -- the identifiers in use are the shard's own, and none is in use twice
 pub record HoldsOnce (c : Rules) (r : Readings) : Type 0 where
@@ -25,5 +25,5 @@ RunHoldsOnce = (c : Rules) (r r2 : Readings) (entries : List Entry) → HoldsOnc
 
 abbrev pub AccessPointHoldsOnce : Type 0
 AccessPointHoldsOnce =
-    (config : Config) (r r2 : ℕ → Readings) (turns : List Turn) →
-    ((s : ℕ) → s < 8 → HoldsOnce (rules config s) (r s)) → LinkRun config r turns r2 → NoTwoHold r2
+    (c : ℕ → Rules) (r r2 : ℕ → Readings) (turns : List Turn) →
+    InPlace c → ((s : ℕ) → s < 8 → HoldsOnce (c s) (r s)) → LinkRun c r turns r2 → NoTwoHold r2

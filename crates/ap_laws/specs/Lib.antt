@@ -2,3 +2,4 @@ pub mod Runs
 pub mod AccessPoint
 pub mod Identifiers
 pub mod Origins
+pub mod Alongside

@@ -4,4 +4,4 @@
 
 mod laws;
 
-pub use laws::{identifiers_law, origin_law};
+pub use laws::{identifiers_law, origin_law, window_law};
