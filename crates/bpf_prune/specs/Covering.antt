@@ -1,8 +1,8 @@
 -- Finished states, the oldest first, and which of them covers a state.
 use Rattle.std.specs.Prelude.{◌≡◌, ◌==◌, ℕ, List, [], ◌∷◌, ◌++◌, length, drop, Option, Some, None, if◌then◌else◌, slice_index_or, slice_set, true}
 use Rattle.std.specs.List.{Contains as Has}
-use Rattle.bpf_absstate.specs.View.{View}
-use Rattle.bpf_absstate.specs.Inclusion.{state_included}
+use Rattle.bpf_kinds.specs.View.{View}
+use Rattle.bpf_kinds.specs.Inclusion.{state_included}
 use Rattle.bpf_prune.specs.declared.kept.Entry.{Entry}
 
 -- a new entry comes last; of 64 the first makes room for it

@@ -3,7 +3,7 @@
 ghost use Rattle.std.specs.Prelude.{◌≡◌, [], OnOk, OnErr, IfSome};
 ghost use Rattle.bpf_prune.specs.Covering.{newest_covering, with_newest, Covers};
 
-use bpf_absstate::AbsState;
+use bpf_kinds::AbsState;
 use std::alloc::{AllocError, Global};
 use std::marker::Model;
 

@@ -1,8 +1,8 @@
 //! A table of two slots.
 
 use crate::{Entry, Finished};
-use bpf_absstate::{AbsState, AbsVal};
 use bpf_insn::Reg;
+use bpf_kinds::{AbsState, AbsVal};
 use std::alloc::{AllocError, Global};
 use std::test::Fail;
 

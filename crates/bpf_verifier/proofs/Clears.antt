@@ -1,7 +1,7 @@
 -- The states that are still to be explored.
 use Rattle.std.proofs.Common.{◌≡◌, ℕ, ◌+◌, ◌≤◌, List, [], ◌∷◌, ◌++◌, sym, ◌∙◌, ap, subst, arith, Option, Some, None, Result, Ok, Err}
 use Rattle.bpf_insn.specs.declared.insn.Insn.{Insn}
-use Rattle.bpf_absstate.specs.View.{View}
+use Rattle.bpf_kinds.specs.View.{View}
 use Rattle.bpf_verifier.specs.declared.exploration.Frame.{Frame}
 use Rattle.bpf_decode.specs.Program.{Holds}
 use Rattle.bpf_verifier.specs.declared.refusal.Fault.{Fault}

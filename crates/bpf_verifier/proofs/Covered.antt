@@ -5,9 +5,9 @@ use Rattle.std.proofs.lemmas.Bool.{false≢true, eqb-true}
 use Rattle.bpf_insn.specs.declared.insn.Insn.{Insn}
 use Rattle.bpf_model.specs.State.{Setting}
 use Rattle.bpf_model.specs.Run.{SafeWithin}
-use Rattle.bpf_absstate.specs.Inclusion.{values_included}
-use Rattle.bpf_absstate.specs.Laws.{InclusionKeeps}
-use Rattle.bpf_absstate.specs.View.{View}
+use Rattle.bpf_kinds.specs.Inclusion.{values_included}
+use Rattle.bpf_kinds.specs.Laws.{InclusionKeeps}
+use Rattle.bpf_kinds.specs.View.{View}
 use Rattle.bpf_prune.specs.declared.kept.Entry.{Entry}
 use Rattle.bpf_prune.specs.Covering.{kept_at, Covers}
 use Rattle.bpf_verifier.specs.declared.exploration.Frame.{Frame}

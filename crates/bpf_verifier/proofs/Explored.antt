@@ -4,8 +4,8 @@ use Rattle.bpf_model.specs.State.{Setting, State}
 use Rattle.bpf_model.specs.Step.{next}
 use Rattle.bpf_model.specs.Run.{IsFine, SafeWithin}
 use Rattle.bpf_model.proofs.Within.{IsFine-weaken, SafeWithin-step, SafeWithin-le}
-use Rattle.bpf_absstate.specs.Contains.{Contains}
-use Rattle.bpf_absstate.specs.View.{View}
+use Rattle.bpf_kinds.specs.Contains.{Contains}
+use Rattle.bpf_kinds.specs.View.{View}
 use Rattle.bpf_verifier.specs.declared.exploration.Frame.{Frame}
 use Rattle.bpf_verifier.specs.declared.ways.Ways.TheVariants.{Nowhere, One, Two}
 use Rattle.bpf_verifier.specs.Path.{Linked}

@@ -2,8 +2,8 @@
 use Rattle.std.specs.Prelude.{◌≡◌, ℕ, List, [], ◌∷◌, length, Option}
 use Rattle.bpf_insn.specs.declared.insn.Insn.{Insn}
 use Rattle.bpf_decode.specs.Program.{Holds, Begins}
-use Rattle.bpf_absstate.specs.declared.value.AbsVal.TheVariants.{Number}
-use Rattle.bpf_absstate.specs.View.{View}
+use Rattle.bpf_kinds.specs.declared.value.AbsVal.TheVariants.{Number}
+use Rattle.bpf_kinds.specs.View.{View}
 use Rattle.bpf_verifier.specs.Examined.{register}
 use Rattle.bpf_verifier.specs.Walks.{Follows, Reads, Writes}
 

@@ -3,7 +3,7 @@ use Rattle.std.proofs.Common.{◌≡◌, List, [], ◌∷◌, ◌++◌, refl, sy
 use Rattle.std.proofs.lemmas.List.Elements.{All-push, All-pop}
 use Rattle.bpf_insn.specs.declared.insn.Insn.{Insn}
 use Rattle.bpf_decode.specs.Program.{Begins}
-use Rattle.bpf_absstate.specs.View.{View}
+use Rattle.bpf_kinds.specs.View.{View}
 use Rattle.bpf_verifier.specs.declared.exploration.Frame.{Frame}
 use Rattle.bpf_verifier.specs.Path.{Linked, AreBegun}
 

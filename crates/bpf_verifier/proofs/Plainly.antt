@@ -11,8 +11,8 @@ use Rattle.bpf_insn.specs.declared.insn.Wide.TheVariants as wide
 use Rattle.bpf_insn.specs.Spelled.{IsInsn}
 use Rattle.bpf_decode.specs.Flow.{jump_of, size_of, ends}
 use Rattle.bpf_decode.specs.Program.{Code, Holds, Begins, IsWhole}
-use Rattle.bpf_absstate.specs.declared.value.AbsVal.TheVariants.{Unset, Number}
-use Rattle.bpf_absstate.specs.View.{View, entry_view, at_slot}
+use Rattle.bpf_kinds.specs.declared.value.AbsVal.TheVariants.{Unset, Number}
+use Rattle.bpf_kinds.specs.View.{View, entry_view, at_slot}
 use Rattle.bpf_verifier.specs.declared.ways.Ways.TheVariants.{Nowhere, One, Two}
 use Rattle.bpf_verifier.specs.Clear.{IsClear, Ends, Goes, Parts}
 use Rattle.bpf_verifier.specs.Examined.{register, source_value, operand_fault, operands_fault, alu_fault, exit_fault, unless, puts_number, parts, examined}

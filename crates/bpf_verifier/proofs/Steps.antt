@@ -18,12 +18,12 @@ use Rattle.bpf_model.specs.Alu.{alu as alu_value, source_value as source_of, is_
 use Rattle.bpf_model.specs.State.{Setting, State, Goes, put, goto, on, reg}
 use Rattle.bpf_model.specs.Step.{next, next_at, next_of, exit_number, return, target, jump, branch, put_number, put_wide}
 use Rattle.bpf_model.specs.Run.{IsFine}
-use Rattle.bpf_absstate.specs.declared.value.AbsVal.{AbsVal}
-use Rattle.bpf_absstate.specs.declared.value.AbsVal.TheVariants.{Unset, Number, Reference}
-use Rattle.bpf_absstate.specs.Contains.{Contains}
-use Rattle.bpf_absstate.specs.Laws.{RegistersHold, GoingContains, ChangesContain}
-use Rattle.bpf_absstate.specs.Meaning.{Holds}
-use Rattle.bpf_absstate.specs.View.{View, at_slot}
+use Rattle.bpf_kinds.specs.declared.value.AbsVal.{AbsVal}
+use Rattle.bpf_kinds.specs.declared.value.AbsVal.TheVariants.{Unset, Number, Reference}
+use Rattle.bpf_kinds.specs.Contains.{Contains}
+use Rattle.bpf_kinds.specs.Laws.{RegistersHold, GoingContains, ChangesContain}
+use Rattle.bpf_kinds.specs.Meaning.{Holds}
+use Rattle.bpf_kinds.specs.View.{View, at_slot}
 use Rattle.bpf_verifier.specs.declared.refusal.Fault.{Fault}
 use Rattle.bpf_verifier.specs.declared.ways.Ways.{Ways}
 use Rattle.bpf_verifier.specs.declared.ways.Ways.TheVariants.{Nowhere, One}

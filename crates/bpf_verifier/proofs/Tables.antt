@@ -6,7 +6,7 @@ use Rattle.std.specs.List.{All}
 use Rattle.std.proofs.lemmas.List.{get_or_past}
 use Rattle.std.proofs.lemmas.List.Elements.{All-push, All-drop, All-set, All-nil, All-get_or, All-replicate, All-contains, All-weaker}
 use Rattle.std.proofs.lemmas.Bool.{cases_lt}
-use Rattle.bpf_absstate.specs.View.{View}
+use Rattle.bpf_kinds.specs.View.{View}
 use Rattle.bpf_prune.specs.declared.kept.Entry.{Entry}
 use Rattle.bpf_prune.specs.Covering.{with_newest, kept_at, Covers}
 use Rattle.bpf_verifier.specs.Path.{IsKept}

@@ -2,7 +2,7 @@
 use Rattle.std.specs.Prelude.{◌≡◌, ℕ, ◌+◌, ◌≤◌, List, [], ◌∷◌, Option, Some, None, Ok}
 use Rattle.bpf_insn.specs.declared.insn.Insn.{Insn}
 use Rattle.bpf_decode.specs.Program.{Holds}
-use Rattle.bpf_absstate.specs.View.{View}
+use Rattle.bpf_kinds.specs.View.{View}
 use Rattle.bpf_verifier.specs.declared.exploration.Frame.{Frame}
 use Rattle.bpf_verifier.specs.declared.exploration.Unwound.{Unwound}
 use Rattle.bpf_verifier.specs.declared.exploration.Unwound.TheVariants.{Onward, Over}

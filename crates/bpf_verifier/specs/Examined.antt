@@ -8,9 +8,9 @@ use Rattle.bpf_insn.specs.declared.insn.Source.{Source}
 use Rattle.bpf_insn.specs.declared.insn.Source.TheVariants as source
 use Rattle.bpf_insn.specs.declared.insn.Wide.{Wide}
 use Rattle.bpf_insn.specs.declared.insn.Wide.TheVariants as wide
-use Rattle.bpf_absstate.specs.declared.value.AbsVal.{AbsVal}
-use Rattle.bpf_absstate.specs.declared.value.AbsVal.TheVariants.{Unset, Number, Reference}
-use Rattle.bpf_absstate.specs.View.{View, at_slot}
+use Rattle.bpf_kinds.specs.declared.value.AbsVal.{AbsVal}
+use Rattle.bpf_kinds.specs.declared.value.AbsVal.TheVariants.{Unset, Number, Reference}
+use Rattle.bpf_kinds.specs.View.{View, at_slot}
 use Rattle.bpf_verifier.specs.Landing.{landing}
 use Rattle.bpf_verifier.specs.declared.refusal.Fault.{Fault}
 use Rattle.bpf_verifier.specs.declared.refusal.Fault.TheVariants as fault

@@ -3,7 +3,7 @@ use Rattle.std.specs.Prelude.{◌≡◌, Ok}
 use Rattle.bpf_insn.specs.declared.insn.Insn.{Insn}
 use Rattle.bpf_decode.specs.Program.{Code, Holds, IsWhole}
 use Rattle.bpf_model.specs.State.{Setting}
-use Rattle.bpf_absstate.specs.View.{View}
+use Rattle.bpf_kinds.specs.View.{View}
 use Rattle.bpf_verifier.specs.declared.ways.Ways.{Ways}
 use Rattle.bpf_verifier.specs.Examined.{examined, EachWay}
 use Rattle.bpf_verifier.specs.Safety.{IsSetting, Covers}

@@ -5,8 +5,8 @@ use Rattle.bpf_decode.specs.Program.{Code}
 use Rattle.bpf_model.specs.State.{Setting, State}
 use Rattle.bpf_model.specs.Step.{next}
 use Rattle.bpf_model.specs.Run.{AreBytes, IsFine, SafeWithin}
-use Rattle.bpf_absstate.specs.Contains.{Contains}
-use Rattle.bpf_absstate.specs.View.{View}
+use Rattle.bpf_kinds.specs.Contains.{Contains}
+use Rattle.bpf_kinds.specs.View.{View}
 use Rattle.bpf_prune.specs.declared.kept.Entry.{Entry}
 use Rattle.bpf_verifier.specs.declared.exploration.Frame.{Frame}
 use Rattle.bpf_verifier.specs.declared.exploration.Unwound.{Unwound}

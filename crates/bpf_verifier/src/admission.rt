@@ -3,7 +3,7 @@
 ghost use Rattle.std.specs.Prelude.{◌≡◌, ◌≤◌, ◌^◌, IfOk, IfErr};
 ghost use Rattle.bpf_decode.specs.Program.{Begins};
 ghost use Rattle.bpf_model.specs.Run.{Safe};
-ghost use Rattle.bpf_absstate.specs.View.{entry_view};
+ghost use Rattle.bpf_kinds.specs.View.{entry_view};
 ghost use Rattle.bpf_verifier.specs.Clear.{IsClear};
 ghost use Rattle.bpf_verifier.specs.declared.refusal.Fault.{Fault};
 ghost use Rattle.bpf_verifier.specs.Walks.{IsPlain, HasWalk};

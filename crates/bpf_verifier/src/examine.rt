@@ -4,16 +4,16 @@ ghost use Rattle.std.specs.Prelude.{◌≡◌, ◌<◌, ◌≤◌, ℕ, ℤ, Ok,
 ghost use Rattle.bpf_insn.specs.declared.insn.Insn.{Insn};
 ghost use Rattle.bpf_decode.specs.Program.{Begins, Holds};
 ghost use Rattle.bpf_decode.specs.Flow.{IsJump, jump_of};
-ghost use Rattle.bpf_absstate.specs.View.{at_slot};
+ghost use Rattle.bpf_kinds.specs.View.{at_slot};
 ghost use Rattle.bpf_verifier.specs.Examined.{examined, IsOrNoMemory, register, source_value, operand_fault, operands_fault, alu_fault, puts_number, parts, unless, wide_loaded};
 ghost use Rattle.bpf_verifier.specs.Landing.{landing};
 ghost use Rattle.bpf_verifier.specs.declared.ways.Ways.{Ways};
 
 use crate::refusal::Fault;
 use crate::ways::Ways;
-use bpf_absstate::{AbsState, AbsVal};
 use bpf_decode::{Program, jump_target};
 use bpf_insn::{AluOp, Insn, Reg, Source, Wide};
+use bpf_kinds::{AbsState, AbsVal};
 use std::alloc::AllocError;
 
 /// What a register or an immediate may hold.

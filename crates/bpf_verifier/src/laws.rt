@@ -8,5 +8,5 @@ pub fn examination_law()
     ensures covers { ExaminedCovers }
     ensures follows { ExaminedFollows }
 {
-    bpf_absstate::laws::step_law();
+    bpf_kinds::laws::step_law();
 }

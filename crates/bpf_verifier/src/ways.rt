@@ -1,6 +1,6 @@
 //! Where an instruction leads.
 
-use bpf_absstate::AbsState;
+use bpf_kinds::AbsState;
 
 /// The states that come next: none after the main function's EXIT, two after a conditional jump both of whose ways
 /// may be taken.

@@ -4,7 +4,7 @@ use Rattle.std.proofs.lemmas.List.Elements.{All-nil}
 use Rattle.bpf_decode.specs.Program.{Begins}
 use Rattle.bpf_model.specs.Run.{setting}
 use Rattle.bpf_model.specs.State.{entry}
-use Rattle.bpf_absstate.specs.View.{entry_view}
+use Rattle.bpf_kinds.specs.View.{entry_view}
 use Rattle.bpf_prune.specs.declared.kept.Entry.{Entry}
 use Rattle.bpf_verifier.specs.declared.exploration.Frame.{Frame}
 use Rattle.bpf_verifier.specs.Safety.{IsSetting, IsExplored, AllSafe}

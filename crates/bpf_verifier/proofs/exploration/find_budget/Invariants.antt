@@ -2,7 +2,7 @@ use Rattle.std.proofs.Common.{◌≤◌, ◌-◌, ◌+◌, ◌^◌, ℕ, length}
 use Rattle.bpf_verifier.specs.declared.exploration.TheConstants.{VISITS}
 use Rattle.bpf_decode.specs.Program.{Begins}
 use Rattle.bpf_model.specs.State.{Setting}
-use Rattle.bpf_absstate.specs.View.{entry_view}
+use Rattle.bpf_kinds.specs.View.{entry_view}
 use Rattle.bpf_verifier.specs.Clear.{IsClear, AreClear}
 use Rattle.bpf_verifier.specs.Counting.{IsCounted}
 use Rattle.bpf_verifier.specs.Path.{Linked, AreBegun}

@@ -1,6 +1,6 @@
 use Rattle.std.proofs.Common.{◌≡◌, ◌≤◌, ◌+◌, ℕ, length, vec_len}
 use Rattle.bpf_model.specs.State.{Setting}
-use Rattle.bpf_absstate.specs.View.{View}
+use Rattle.bpf_kinds.specs.View.{View}
 use Rattle.bpf_verifier.specs.Found.{IsCountedSoFar, IsBegunSoFar, IsSafeSoFar, IsWalkedSoFar, IsClearSoFar}
 use Rattle.bpf_verifier.specs.Safety.{AllSafe}
 use Rattle.bpf_verifier.specs.Walked.{Reaches}

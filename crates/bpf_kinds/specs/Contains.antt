@@ -2,9 +2,9 @@
 use Rattle.std.specs.Prelude.{◌≡◌, List, [], ◌∷◌}
 use Rattle.bpf_regions.specs.declared.memory.Value.{Value}
 use Rattle.bpf_model.specs.State.{Setting, State}
-use Rattle.bpf_absstate.specs.declared.value.AbsVal.{AbsVal}
-use Rattle.bpf_absstate.specs.Meaning.{Holds}
-use Rattle.bpf_absstate.specs.View.{View}
+use Rattle.bpf_kinds.specs.declared.value.AbsVal.{AbsVal}
+use Rattle.bpf_kinds.specs.Meaning.{Holds}
+use Rattle.bpf_kinds.specs.View.{View}
 
 -- each value is one that the abstract one at its place contains
 unfoldable pub ValuesHold : List AbsVal → List Value → Type 0

@@ -1,8 +1,8 @@
 -- Which values an abstract value contains.
 use Rattle.bpf_regions.specs.declared.memory.Value.{Value}
 use Rattle.bpf_regions.specs.declared.memory.Value.TheVariants as value
-use Rattle.bpf_absstate.specs.declared.value.AbsVal.{AbsVal}
-use Rattle.bpf_absstate.specs.declared.value.AbsVal.TheVariants as abs
+use Rattle.bpf_kinds.specs.declared.value.AbsVal.{AbsVal}
+use Rattle.bpf_kinds.specs.declared.value.AbsVal.TheVariants as abs
 
 abbrev pub IsNumber : Value → Type 0
 IsNumber (value.Number n) = Unit {0}

@@ -1,7 +1,7 @@
 -- An abstract state as contracts see it.
 use Rattle.std.specs.Prelude.{ℕ, List, [], ◌∷◌, slice_set}
-use Rattle.bpf_absstate.specs.declared.value.AbsVal.{AbsVal}
-use Rattle.bpf_absstate.specs.declared.value.AbsVal.TheVariants.{Unset, Reference}
+use Rattle.bpf_kinds.specs.declared.value.AbsVal.{AbsVal}
+use Rattle.bpf_kinds.specs.declared.value.AbsVal.TheVariants.{Unset, Reference}
 
 -- the slot, and what R0 to R10 may hold
 pub record View : Type 0 where

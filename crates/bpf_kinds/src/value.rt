@@ -1,8 +1,8 @@
 //! Abstract values.
 
 ghost use Rattle.std.specs.Prelude.{◌≡◌, ◌↔◌, IsTrue};
-ghost use Rattle.bpf_absstate.specs.Meaning.{Holds};
-ghost use Rattle.bpf_absstate.specs.Inclusion.{value_included};
+ghost use Rattle.bpf_kinds.specs.Meaning.{Holds};
+ghost use Rattle.bpf_kinds.specs.Inclusion.{value_included};
 
 use bpf_regions::Value;
 

@@ -1,7 +1,7 @@
 //! What the operations on abstract states are good for. These functions do nothing; a caller's proof takes their
 //! promises.
 
-ghost use Rattle.bpf_absstate.specs.Laws.{InclusionKeeps, EntryContains, RegistersHold, GoingContains, ChangesContain};
+ghost use Rattle.bpf_kinds.specs.Laws.{InclusionKeeps, EntryContains, RegistersHold, GoingContains, ChangesContain};
 
 /// Each state of an included abstract state is one of the including one.
 pub fn inclusion_law()

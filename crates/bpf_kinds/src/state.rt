@@ -2,8 +2,8 @@
 
 ghost use Rattle.std.specs.Prelude.{◌≡◌, ◌<◌, ◌≤◌, slice_get, slice_set, OnOk, OnErr, IfOk};
 ghost use Rattle.std.specs.Prelude.{Some};
-ghost use Rattle.bpf_absstate.specs.View.{entry_view, with_register, at_slot};
-ghost use Rattle.bpf_absstate.specs.Inclusion.{state_included, values_included};
+ghost use Rattle.bpf_kinds.specs.View.{entry_view, with_register, at_slot};
+ghost use Rattle.bpf_kinds.specs.Inclusion.{state_included, values_included};
 
 use crate::value::AbsVal;
 use bpf_insn::Reg;
@@ -25,7 +25,7 @@ pub struct AbsState {
 }
 
 impl Model for AbsState {
-    ghost use Rattle.bpf_absstate.specs.View.{View};
+    ghost use Rattle.bpf_kinds.specs.View.{View};
 
     ghost Value = { View };
 

@@ -1,6 +1,6 @@
 use Rattle.std.proofs.Common.{◌<◌, length, arith, sym, ◌∙◌}
-use Rattle.bpf_absstate.proofs.FromHere.{differs, goes_on, ends}
-use Rattle.bpf_absstate.proofs.state.are_included.Goals as goal
+use Rattle.bpf_kinds.proofs.FromHere.{differs, goes_on, ends}
+use Rattle.bpf_kinds.proofs.state.are_included.Goals as goal
 
 pub returns-then-not-is_included : goal.returns-then-not-is_included
 returns-then-not-is_included c =

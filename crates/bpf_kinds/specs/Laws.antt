@@ -2,12 +2,12 @@
 use Rattle.std.specs.Prelude.{◌≡◌, ℕ, true, slice_set, slice_index_or}
 use Rattle.bpf_regions.specs.declared.memory.Value.{Value}
 use Rattle.bpf_model.specs.State.{Setting, State, entry, reg, goto}
-use Rattle.bpf_absstate.specs.declared.value.AbsVal.{AbsVal}
-use Rattle.bpf_absstate.specs.declared.value.AbsVal.TheVariants.{Unset}
-use Rattle.bpf_absstate.specs.Contains.{Contains}
-use Rattle.bpf_absstate.specs.Inclusion.{state_included}
-use Rattle.bpf_absstate.specs.Meaning.{Holds}
-use Rattle.bpf_absstate.specs.View.{View, entry_view, at_slot}
+use Rattle.bpf_kinds.specs.declared.value.AbsVal.{AbsVal}
+use Rattle.bpf_kinds.specs.declared.value.AbsVal.TheVariants.{Unset}
+use Rattle.bpf_kinds.specs.Contains.{Contains}
+use Rattle.bpf_kinds.specs.Inclusion.{state_included}
+use Rattle.bpf_kinds.specs.Meaning.{Holds}
+use Rattle.bpf_kinds.specs.View.{View, entry_view, at_slot}
 
 -- each state of an included abstract state is one of the including one
 abbrev pub InclusionKeeps : Type 0

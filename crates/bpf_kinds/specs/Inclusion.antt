@@ -1,8 +1,8 @@
 -- When one abstract state lies in another.
 use Rattle.std.specs.Prelude.{◌==◌, ◌&&◌, List, [], ◌∷◌, Bool, true, false}
-use Rattle.bpf_absstate.specs.declared.value.AbsVal.{AbsVal}
-use Rattle.bpf_absstate.specs.declared.value.AbsVal.TheVariants.{Unset, Number, Reference}
-use Rattle.bpf_absstate.specs.View.{View}
+use Rattle.bpf_kinds.specs.declared.value.AbsVal.{AbsVal}
+use Rattle.bpf_kinds.specs.declared.value.AbsVal.TheVariants.{Unset, Number, Reference}
+use Rattle.bpf_kinds.specs.View.{View}
 
 -- what may be unset includes anything
 abbrev pub value_included : AbsVal → AbsVal → Bool

@@ -4,12 +4,12 @@ use Rattle.std.specs.Prelude.{◌&&◌, ◌==◌}
 use Rattle.std.proofs.lemmas.Bool.{false≢true, eqb-true}
 use Rattle.bpf_regions.specs.declared.memory.Value.{Value}
 use Rattle.bpf_regions.specs.declared.memory.Value.TheVariants as value
-use Rattle.bpf_absstate.specs.declared.value.AbsVal.{AbsVal}
-use Rattle.bpf_absstate.specs.declared.value.AbsVal.TheVariants.{Unset, Number, Reference}
-use Rattle.bpf_absstate.specs.Contains.{ValuesHold}
-use Rattle.bpf_absstate.specs.Inclusion.{value_included, values_included}
-use Rattle.bpf_absstate.specs.Laws.{InclusionKeeps, EntryContains, RegistersHold, GoingContains, ChangesContain}
-use Rattle.bpf_absstate.specs.Meaning.{Holds}
+use Rattle.bpf_kinds.specs.declared.value.AbsVal.{AbsVal}
+use Rattle.bpf_kinds.specs.declared.value.AbsVal.TheVariants.{Unset, Number, Reference}
+use Rattle.bpf_kinds.specs.Contains.{ValuesHold}
+use Rattle.bpf_kinds.specs.Inclusion.{value_included, values_included}
+use Rattle.bpf_kinds.specs.Laws.{InclusionKeeps, EntryContains, RegistersHold, GoingContains, ChangesContain}
+use Rattle.bpf_kinds.specs.Meaning.{Holds}
 
 both_true : (x y : Bool) → (x && y) ≡ true → (x ≡ true) × (y ≡ true)
 both_true true y h = (refl, h)
