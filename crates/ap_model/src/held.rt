@@ -1,9 +1,11 @@
 //! Frames that wait in a window.
 
-ghost use Rattle.std.specs.Prelude.{◌≡◌};
+ghost use Rattle.std.specs.Prelude.{◌≡◌, None, Some};
+ghost use Rattle.std.specs.Option.{option_map};
 
+use crate::event::Up;
 use crate::octets::Octets;
-use mac_frame::Address;
+use mac_frame::{Address, SequenceNumber, Tid};
 use std::marker::Model;
 
 /// What a window holds of a data frame that was let through: its destination, its mark and its data.
@@ -19,4 +21,39 @@ impl Model for Held {
     ghost Value = { Option (List ℕ × ℕ × List ℕ) };
 
     ghost view = { λ h. h.frame };
+}
+
+/// The place of none.
+impl Default for Held {
+    ghost is_default = { λ h. h ≡ None };
+
+    fn default() -> Self {
+        Held { frame: None }
+    }
+}
+
+impl Held {
+    /// What is held of a frame.
+    pub fn new(destination: Address, mark: u8, body: Octets) -> Self
+        ensures { result ≡ Some (destination, mark, body) }
+    {
+        Held {
+            frame: Some((destination, mark, body)),
+        }
+    }
+
+    /// The frame with its source, its TID and its number, passed up. None of the place of none.
+    pub fn up(self, source: Address, tid: Tid, number: SequenceNumber) -> Option<Up>
+        ensures { result ≡ option_map (λ h. record { source = source; destination = h.0; tid = Some tid; number = number; mark = h.1; body = h.2 }) self }
+    {
+        let (destination, mark, body) = self.frame?;
+        Some(Up {
+            source,
+            destination,
+            tid: Some(tid),
+            number,
+            mark,
+            body,
+        })
+    }
 }

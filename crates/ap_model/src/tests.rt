@@ -1,8 +1,8 @@
 //! Configurations, and a judge that answers from a list.
 
-use crate::{Judge, LinkConfig, ListJudge, Octets};
+use crate::{Held, Judge, LinkConfig, ListJudge, Octets};
 use bpf_regions::{Context, Frame, Hook};
-use mac_frame::Address;
+use mac_frame::{Address, SequenceNumber, Tid};
 use std::alloc::{AllocError, Global};
 use std::test::Fail;
 
@@ -44,5 +44,23 @@ fn list_judge_answers_in_order_and_then_0(rt: HostRuntime) -> Result<(), Fail> {
 fn octets_keep_their_bytes(rt: HostRuntime) -> Result<(), Fail> {
     let bytes = Vec::from_slice(rt.alloc(), b"abc")?;
     assert_eq!(rt; Octets::new(bytes).bytes(), b"abc".as_slice());
+    Ok(())
+}
+
+#[test]
+fn held_frames_are_passed_up(rt: HostRuntime) -> Result<(), Fail> {
+    let source = Address::new([2, 0, 0, 0, 0, 10]);
+    let destination = Address::new([2, 0, 0, 0, 0, 255]);
+    let tid = Tid::new(5).ok_or("a TID")?;
+    let number = SequenceNumber::new(7).ok_or("a number")?;
+    let held = Held::new(destination, 3, Octets::copy(rt.alloc(), b"abc")?);
+    let up = held.up(source, tid, number).ok_or("a frame")?;
+    assert_eq!(rt; up.source, source);
+    assert_eq!(rt; up.destination, destination);
+    assert_eq!(rt; up.tid, Some(tid));
+    assert_eq!(rt; up.number, number);
+    assert_eq!(rt; up.mark, 3);
+    assert_eq!(rt; up.body.bytes(), b"abc".as_slice());
+    assert!(rt; Held::default().up(source, tid, number).is_none());
     Ok(())
 }

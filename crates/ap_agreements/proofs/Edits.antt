@@ -1,0 +1,48 @@
+-- Edits of a table, as a call sees them: `ks` is what it holds, `now` is its value.
+use Rattle.std.proofs.Common.{◌≡◌, ℕ, List, Option, Some, None, sym, ap, subst, ◌∙◌}
+use Rattle.std.specs.Prelude.{IsSome, slice_index_or, slice_set, remove, insert}
+use Rattle.ap_model.specs.Readings.{Using}
+use Rattle.ap_agreements.specs.Tables.{Kept, key_of, agreement_in, IsRising, IsPlaceOf, IsPlaceFor, Sets}
+use Rattle.ap_agreements.proofs.Places.{found, removed, replaced, rises_replaced, inserted, rises_inserted}
+
+one_using : (u v : Using) → Some u ≡ Some v → u ≡ v
+one_using u v e = cc
+
+module _ (ks now : List Kept) (e : ks ≡ now) (rising : IsRising ks) (a : List ℕ) (tid : ℕ) (at : ℕ) (place : IsPlaceOf now (a, tid) at) where
+  inside : IsPlaceOf ks (a, tid) at
+  inside = subst (λ (l : List Kept). IsPlaceOf l (a, tid) at) (sym e) place
+
+  -- what stands there
+  pub got : (x : Kept) → x ≡ slice_index_or ks at x → agreement_in now a tid ≡ Some x.using
+  got x f =
+      subst (λ (l : List Kept). agreement_in l a tid ≡ Some x.using) e
+      (found ks rising (a, tid) at inside x ∙ ap (λ (k : Kept). Some k.using) (sym f))
+
+  pub was : (x : Kept) → x ≡ slice_index_or ks at x → (u : Using) → agreement_in now a tid ≡ Some u → x.using ≡ u
+  was x f u g = one_using x.using u (sym (got x f) ∙ g)
+
+  pub key_there : (x : Kept) → x ≡ slice_index_or ks at x → key_of x ≡ (a, tid)
+  key_there x f = ap key_of f ∙ inside.is x
+
+  pub after_remove : (d : Kept) → Sets now a tid None (remove ks at)
+  after_remove d = subst (λ (l : List Kept). Sets l a tid None (remove ks at)) e (removed ks rising (a, tid) at inside d)
+
+  pub after_set : (y : Kept) → key_of y ≡ (a, tid) → Sets now a tid (Some y.using) (slice_set ks at y)
+  after_set y f = subst (λ (l : List Kept). Sets l a tid (Some y.using) (slice_set ks at y)) e (replaced ks rising (a, tid) at inside y y f)
+
+  pub rises_set : (y : Kept) → key_of y ≡ (a, tid) → IsRising (slice_set ks at y)
+  rises_set y f = rises_replaced ks rising (a, tid) at inside y y f
+
+module _ (ks now : List Kept) (e : ks ≡ now) (rising : IsRising ks) (a : List ℕ) (tid : ℕ) (at : ℕ) (place : IsPlaceFor now (a, tid) at) where
+  there : IsPlaceFor ks (a, tid) at
+  there = subst (λ (l : List Kept). IsPlaceFor l (a, tid) at) (sym e) place
+
+  pub after_insert : (x : Kept) → key_of x ≡ (a, tid) → Sets now a tid (Some x.using) (insert ks at x)
+  after_insert x f = subst (λ (l : List Kept). Sets l a tid (Some x.using) (insert ks at x)) e (inserted ks rising (a, tid) at there x f)
+
+  pub rises_insert : (x : Kept) → key_of x ≡ (a, tid) → IsRising (insert ks at x)
+  rises_insert x f = rises_inserted ks rising (a, tid) at there x f
+
+pub not_some : (o : Option Using) → o ≡ None → IsSome o → ⊥
+not_some None e h = absurd (cc)
+not_some (Some u) e h = absurd (cc)

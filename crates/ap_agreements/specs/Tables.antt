@@ -1,0 +1,85 @@
+-- The agreements of a shard: what a contract sees of them, and how they are looked up.
+use Rattle.std.specs.Prelude.{◌≡◌, ℕ, ◌+◌, ◌<◌, ◌≤◌, nat_le, Bool, true, cond, Option, Some, None, List, [], ◌∷◌, length, slice_index_or, ◌==◌, ◌&&◌, if◌then◌else◌, AllPairs}
+use Rattle.std.specs.Ordering.{nat_cmp, ordering_then}
+use Rattle.std.specs.declared.cmp.Ordering.{Ordering}
+use Rattle.std.specs.declared.cmp.Ordering.TheVariants.{Less, Greater}
+use Rattle.std.specs.Cmp.Lexicographic.{slice_cmp}
+use Rattle.assoc.specs.Standings.{same_address}
+use Rattle.ap_model.specs.Readings.{Using, Held}
+use Rattle.ap_agreements.specs.Uses.{DataUse, RequestUse}
+
+-- an agreement, with its station and TID
+pub record Kept : Type 0 where
+  pub station : List ℕ
+  pub tid : ℕ
+  pub using : Using
+
+abbrev pub key_of : Kept → List ℕ × ℕ
+key_of k = (k.station, k.tid)
+
+-- by the first octet in which the addresses differ, and then by the TID
+abbrev pub key_cmp : List ℕ × ℕ → List ℕ × ℕ → Ordering
+key_cmp p q = ordering_then (slice_cmp nat_cmp p.0 q.0) (nat_cmp p.1 q.1)
+
+-- they stand in rising order, each once
+abbrev pub IsRising : List Kept → Type 0
+IsRising ks = AllPairs (λ p q. key_cmp (key_of p) (key_of q) ≡ Less) ks
+
+-- the agreement of this key stands there
+pub record IsPlaceOf (ks : List Kept) (key : List ℕ × ℕ) (at : ℕ) : Type 0 where
+  pub inside : at < length ks
+  pub is : (d : Kept) → key_of (slice_index_or ks at d) ≡ key
+
+-- there is none, and one would stand there
+pub record IsPlaceFor (ks : List Kept) (key : List ℕ × ℕ) (at : ℕ) : Type 0 where
+  pub inside : at ≤ length ks
+  pub below : (k : ℕ) (d : Kept) → k < at → key_cmp (key_of (slice_index_or ks k d)) key ≡ Less
+  pub above : (k : ℕ) (d : Kept) → at ≤ k → k < length ks → key_cmp (key_of (slice_index_or ks k d)) key ≡ Greater
+
+-- what a contract sees of a table: its agreements, and how many more it has room for
+pub record Table : Type 0 where
+  pub kept : List Kept
+  pub room : ℕ
+
+-- whether it is the agreement of station a for a TID
+abbrev pub is_for : List ℕ → ℕ → Kept → Bool
+is_for a tid k = same_address k.station a && (k.tid == tid)
+
+-- the agreement of station a for a TID
+abbrev pub agreement_in : List Kept → List ℕ → ℕ → Option Using
+agreement_in [] a tid = None
+agreement_in (k ∷ ks) a tid = if is_for a tid k then Some k.using else agreement_in ks a tid
+
+-- the agreement of station a for a TID is so afterwards, and no other changes
+abbrev pub Sets : List Kept → List ℕ → ℕ → Option Using → List Kept → Type 0
+Sets old a tid u new = (q : List ℕ) (t : ℕ) → agreement_in new q t ≡ cond (same_address a q && (tid == t)) u (agreement_in old q t)
+
+-- station a has none afterwards, and no other changes
+abbrev pub Discards : List Kept → List ℕ → List Kept → Type 0
+Discards old a new = (q : List ℕ) (t : ℕ) → agreement_in new q t ≡ cond (same_address a q) None (agreement_in old q t)
+
+-- data that came under the agreement made of it what the events of a window say
+abbrev pub UsesData : Bool → List Kept → List ℕ → ℕ → ℕ → Option Held → ℕ → List Kept → List (ℕ × Held) → Type 0
+UsesData took old a tid number item clock new passed =
+    (u : Using) → agreement_in old a tid ≡ Some u → (u2 : Using) × DataUse took number item clock u u2 passed × Sets old a tid (Some u2) new
+
+-- so did a BlockAckReq, and this is the scoreboard afterwards
+abbrev pub UsesRequest : List Kept → List ℕ → ℕ → ℕ → ℕ → List Kept → List (ℕ × Held) → ℕ × ℕ → Type 0
+UsesRequest old a tid start clock new passed board =
+    (u : Using) → agreement_in old a tid ≡ Some u →
+    (u2 : Using) × RequestUse start clock u u2 passed × Sets old a tid (Some u2) new
+    × (board.0 ≡ u2.window.scoreboard_start) × (board.1 ≡ u2.window.scoreboard_bits)
+
+-- it was not used for as long as its timeout says, if it has one
+abbrev pub is_late : ℕ → Using → Bool
+is_late clock u = nat_le 1 u.timeout && nat_le (u.last_use + u.timeout) clock
+
+-- it is in the table, and late
+pub record IsLateIn (clock : ℕ) (ks : List Kept) (k : Kept) : Type 0 where
+  pub is : agreement_in ks k.station k.tid ≡ Some k.using
+  pub late : is_late clock k.using ≡ true
+
+-- an agreement, unless it is late
+abbrev pub unless_late : ℕ → Option Using → Option Using
+unless_late clock None = None
+unless_late clock (Some u) = if is_late clock u then None else Some u

@@ -1,0 +1,30 @@
+-- What becomes of an agreement at an event of its own.
+use Rattle.std.specs.Prelude.{◌≡◌, ℕ, Bool, Option, List}
+use Rattle.blockack.specs.Window.{opening}
+use Rattle.blockack.specs.Scoreboard.{ReadsScoreboard, blank}
+use Rattle.blockack.specs.Reading.{Reads, DataMovesWindow, RequestMovesWindow, DataMarksScoreboard, RequestMovesScoreboard}
+use Rattle.ap_model.specs.Readings.{Using, Held}
+
+-- it was opened at this time, and nothing came to it yet
+pub record Opens (start size asked now : ℕ) (u : Using) : Type 0 where
+  pub sized : u.window.size ≡ size
+  pub opens : Reads (opening start) u.window
+  pub blanks : ReadsScoreboard (blank start size) size u.window.scoreboard_start u.window.scoreboard_bits
+  pub timeout : u.timeout ≡ asked
+  pub last_use : u.last_use ≡ now
+
+-- data came at this time, and its item was taken or not
+pub record DataUse (took : Bool) (number : ℕ) (item : Option Held) (clock : ℕ) (old new : Using) (passed : List (ℕ × Held)) : Type 0 where
+  pub size : new.window.size ≡ old.window.size
+  pub moves : DataMovesWindow took number item old.window new.window passed
+  pub marks : DataMarksScoreboard number old.window new.window
+  pub timeout : new.timeout ≡ old.timeout
+  pub last_use : new.last_use ≡ clock
+
+-- a BlockAckReq came at this time
+pub record RequestUse (start clock : ℕ) (old new : Using) (passed : List (ℕ × Held)) : Type 0 where
+  pub size : new.window.size ≡ old.window.size
+  pub moves : RequestMovesWindow start old.window new.window passed
+  pub marks : RequestMovesScoreboard start old.window new.window
+  pub timeout : new.timeout ≡ old.timeout
+  pub last_use : new.last_use ≡ clock

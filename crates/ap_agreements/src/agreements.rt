@@ -1,0 +1,212 @@
+//! The agreements of a shard.
+
+ghost use Rattle.std.specs.Prelude.{◌≡◌, ◌≤◌, ◌<◌, ◌↔◌, ℕ, List, true, false, IfOk, IfErr, OnOk, OnErr, MatchOption, IsSome, IsSomeAnd, None, Some, [], All, AllPairs, Contains, count_by, map, filter, not, vec_capacity};
+ghost use Rattle.arrayvec.specs.ArrayVec.{array_vec_len};
+ghost use Rattle.blockack.specs.Reading.{IsWanted};
+ghost use Rattle.ap_model.specs.Steps.{IsBefore};
+ghost use Rattle.ap_model.specs.Readings.{Using};
+ghost use Rattle.ap_agreements.specs.Tables.{Kept, key_of, agreement_in, is_late, IsRising, IsPlaceOf, IsPlaceFor, IsLateIn, unless_late, Sets, Discards, UsesData, UsesRequest};
+
+use crate::entry::{Entry, Released};
+use ap_model::Held;
+use mac_types::{Address, SequenceNumber, Tid};
+use std::alloc::{AllocError, Global};
+use std::marker::Model;
+use std::mem;
+
+/// The agreements of a shard, by rising address and then TID, each once.
+#[derive(Drop)]
+pub struct Agreements {
+    entries: Vec<Entry>,
+}
+
+impl Model for Agreements {
+    ghost use Rattle.std.specs.Prelude.{◌-◌, vec_len, vec_capacity};
+    ghost use Rattle.ap_agreements.specs.Tables.{Table, IsRising};
+
+    ghost Value = { Table };
+
+    ghost view = { λ a. record { kept = a.entries.items; room = vec_capacity a.entries - vec_len a.entries } };
+
+    ghost invariant = { λ a. IsRising a.entries.items };
+}
+
+impl Agreements {
+    pub fn new(alloc: Global) -> Self
+        ensures { result.kept ≡ [] }
+    {
+        Agreements {
+            entries: Vec::new(alloc),
+        }
+    }
+
+    /// Makes room for one more. Where memory runs out, nothing changes.
+    pub fn reserve(&mut self) -> Result<(), AllocError>
+        ensures kept { self.new.kept ≡ self.old.kept }
+        ensures room { OnOk result (1 ≤ self.new.room) }
+        ensures refused { OnErr result (self.new ≡ self.old) }
+    {
+        self.entries.reserve(1)?;
+        Ok(())
+    }
+
+    /// Where the agreement stands, or where it would.
+    fn find(&self, station: Address, tid: Tid) -> Result<usize, usize>
+        ensures found { IfOk result (IsPlaceOf self.now.kept (station, tid)) }
+        ensures absent { IfErr result (IsPlaceFor self.now.kept (station, tid)) }
+        ensures rising { IsRising self.now.kept }
+    {
+        self.entries
+            .binary_search_by(|entry| entry.compare(station, tid))
+    }
+
+    /// The agreement of a station for a TID.
+    pub fn get(&self, station: Address, tid: Tid) -> Option<&Entry>
+        ensures { MatchOption result (agreement_in self.now.kept station tid ≡ None) (λ e. agreement_in self.now.kept station tid ≡ Some e.now.using) }
+    {
+        match self.find(station, tid) {
+            Ok(at) => Some(&self.entries[at]),
+            Err(_) => None,
+        }
+    }
+
+    /// Data that the agreement's window wants came at this time. The window takes its item, None
+    /// where it was dropped.
+    pub fn take(
+        &mut self,
+        station: Address,
+        tid: Tid,
+        number: SequenceNumber,
+        item: Option<Held>,
+        clock: u64,
+        out: &mut Released,
+    )
+        requires wanted { IsSomeAnd (agreement_in self.old.kept station tid) (λ u. IsWanted u.window number) }
+        requires empty { array_vec_len out.old ≡ 0 }
+        ensures uses { UsesData true self.old.kept station tid number item clock self.new.kept out.new.items }
+        ensures numbers { All (λ p. p.0 < 4096) out.new.items }
+    {
+        match self.find(station, tid) {
+            Ok(at) => {
+                let entry = &mut self.entries[at];
+                entry.take(number, item, clock, out);
+            }
+            Err(_) => unreachable!(),
+        }
+    }
+
+    /// Data that the agreement's window doesn't want came at this time.
+    pub fn leave(&mut self, station: Address, tid: Tid, number: SequenceNumber, clock: u64)
+        requires { IsSomeAnd (agreement_in self.old.kept station tid) (λ u. IsWanted u.window number → ⊥) }
+        ensures { UsesData false self.old.kept station tid number None clock self.new.kept [] }
+    {
+        match self.find(station, tid) {
+            Ok(at) => {
+                let entry = &mut self.entries[at];
+                entry.leave(number, clock);
+            }
+            Err(_) => unreachable!(),
+        }
+    }
+
+    /// A BlockAckReq with this start came at this time: answers the scoreboard afterwards, its first
+    /// number and a bit for each number from there on.
+    pub fn request(
+        &mut self,
+        station: Address,
+        tid: Tid,
+        start: SequenceNumber,
+        clock: u64,
+        out: &mut Released,
+    ) -> (SequenceNumber, u64)
+        requires there { IsSome (agreement_in self.old.kept station tid) }
+        requires empty { array_vec_len out.old ≡ 0 }
+        ensures uses { UsesRequest self.old.kept station tid start clock self.new.kept out.new.items result }
+        ensures numbers { All (λ p. p.0 < 4096) out.new.items }
+    {
+        match self.find(station, tid) {
+            Ok(at) => {
+                let entry = &mut self.entries[at];
+                entry.request(start, clock, out);
+                entry.scoreboard()
+            }
+            Err(_) => unreachable!(),
+        }
+    }
+
+    /// Takes the agreement of a station for a TID out.
+    pub fn remove(&mut self, station: Address, tid: Tid) -> Option<Entry>
+        ensures was { MatchOption result (agreement_in self.old.kept station tid ≡ None) (λ e. (agreement_in self.old.kept station tid ≡ Some e.using) × (key_of e ≡ (station, tid))) }
+        ensures sets { Sets self.old.kept station tid None self.new.kept }
+    {
+        match self.find(station, tid) {
+            Ok(at) => Some(self.entries.remove(at)),
+            Err(_) => None,
+        }
+    }
+
+    /// Puts an agreement in, for which there is room, and answers the one that it replaces.
+    pub fn put(&mut self, entry: Entry) -> Option<Entry>
+        requires { 1 ≤ self.old.room }
+        ensures was { MatchOption result (agreement_in self.old.kept entry.station entry.tid ≡ None) (λ e. agreement_in self.old.kept entry.station entry.tid ≡ Some e.using) }
+        ensures sets { Sets self.old.kept entry.station entry.tid (Some entry.using) self.new.kept }
+    {
+        match self.find(entry.station(), entry.tid()) {
+            Ok(at) => {
+                let place = &mut self.entries[at];
+                Some(mem::replace(place, entry))
+            }
+            Err(at) => match self.entries.insert(at, entry) {
+                Ok(()) => None,
+                Err(_) => unreachable!(),
+            },
+        }
+    }
+
+    /// Drops all agreements of a station, with what they hold.
+    pub fn discard(&mut self, station: Address)
+        ensures { Discards self.old.kept station self.new.kept }
+    {
+        self.entries.retain(|entry| entry.station() != station);
+    }
+
+    /// How many agreements were not used for as long as their timeouts say.
+    pub fn late(&self, clock: u64) -> usize
+        ensures { result ≡ count_by (λ k. is_late clock k.using) self.now.kept }
+    {
+        self.entries
+            .iter()
+            .filter(|entry| entry.is_late(clock))
+            .count()
+    }
+
+    /// Moves the agreements that were not used for as long as their timeouts say to `ended`, by
+    /// rising address and then TID.
+    pub fn take_late(&mut self, clock: u64, ended: &mut Vec<Entry>)
+        requires empty { ended.old.items ≡ [] }
+        requires room { count_by (λ k. is_late clock k.using) self.old.kept ≤ vec_capacity ended.old }
+        ensures rising { AllPairs IsBefore (map key_of ended.new.items) }
+        ensures exact { (k : Kept) → Contains ended.new.items k ↔ IsLateIn clock self.old.kept k }
+        ensures others { (a : List ℕ) (tid : ℕ) → agreement_in self.new.kept a tid ≡ unless_late clock (agreement_in self.old.kept a tid) }
+    {
+        split_late(&mut self.entries, clock, ended);
+    }
+}
+
+/// Moves the late ones to `ended`.
+fn split_late(entries: &mut Vec<Entry>, clock: u64, ended: &mut Vec<Entry>)
+    requires empty { ended.old.items ≡ [] }
+    requires room { count_by (λ k. is_late clock k.using) entries.old.items ≤ vec_capacity ended.old }
+    ensures kept { entries.new.items ≡ filter (λ k. not (is_late clock k.using)) entries.old.items }
+    ensures ended { ended.new.items ≡ filter (λ k. is_late clock k.using) entries.old.items }
+{
+    let mut at = 0;
+    while at < entries.len() {
+        if !entries[at].is_late(clock) {
+            at += 1;
+            continue;
+        }
+        let entry = entries.remove(at);
+        ended.push_reserved(entry);
+    }
+}

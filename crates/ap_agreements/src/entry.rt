@@ -1,0 +1,199 @@
+//! One agreement.
+
+ghost use Rattle.std.specs.Prelude.{◌≡◌, ◌<◌, ◌≤◌, ◌↔◌, ℕ, IsTrue, IfOk, None, [], true, false, All};
+ghost use Rattle.arrayvec.specs.ArrayVec.{array_vec_len};
+ghost use Rattle.blockack.specs.Reading.{IsWanted, EndPassesUp};
+ghost use Rattle.ap_agreements.specs.Tables.{key_cmp, key_of, is_late};
+ghost use Rattle.ap_agreements.specs.Uses.{Opens, DataUse, RequestUse};
+
+use ap_model::Held;
+use arrayvec::ArrayVec;
+use blockack::{Agreement, Placed, reading_law};
+use mac_types::{Address, SequenceNumber, Tid};
+use std::alloc::{AllocError, Global};
+use std::cmp::Ordering;
+use std::marker::Model;
+
+/// What a window hands up at once: frames with their sequence numbers, in their order.
+pub type Released = ArrayVec<(u16, Held), 64>;
+
+/// Whose agreement it is. They are ordered by address, and then by TID.
+#[derive(Clone, Copy, PartialEq, Eq, PartialOrd, Ord)]
+struct Key {
+    station: Address,
+    tid: Tid,
+}
+
+/// The agreement of a station for a TID: its window, the timeout that was asked, and when it was
+/// last used.
+#[derive(Drop)]
+pub struct Entry {
+    key: Key,
+    timeout: u16,
+    last_use: u64,
+    window: Box<Agreement<Held>>,
+}
+
+impl Model for Entry {
+    ghost use Rattle.ap_agreements.specs.Tables.{Kept};
+
+    ghost Value = { Kept };
+
+    ghost view = { λ e. record {
+      station = e.key.station;
+      tid = e.key.tid;
+      using = record { window = e.window.value; timeout = e.timeout; last_use = e.last_use };
+    } };
+}
+
+impl Entry {
+    /// Room for the agreement of a station for a TID, which is yet to be opened.
+    pub fn new(alloc: Global, station: Address, tid: Tid) -> Result<Self, AllocError>
+        ensures { IfOk result (λ e. key_of e ≡ (station, tid)) }
+    {
+        let window = Box::new(alloc, Agreement::open(0, 1))?;
+        Ok(Entry {
+            key: Key { station, tid },
+            timeout: 0,
+            last_use: 0,
+            window,
+        })
+    }
+
+    /// The same, opened anew at this time: its window starts at this number and has this size.
+    pub fn opened(mut self, start: SequenceNumber, size: u8, timeout: u16, clock: u64) -> Self
+        requires some { 1 ≤ size }
+        requires fits { size ≤ 64 }
+        ensures key { key_of result ≡ key_of self }
+        ensures opens { Opens start size timeout clock result.using }
+    {
+        *self.window = Agreement::open(start.number(), u16::from(size));
+        self.timeout = timeout;
+        self.last_use = clock;
+        self
+    }
+
+    pub fn station(&self) -> Address
+        ensures { result ≡ self.now.station }
+    {
+        self.key.station
+    }
+
+    pub fn tid(&self) -> Tid
+        ensures { result ≡ self.now.tid }
+    {
+        self.key.tid
+    }
+
+    /// How its station and TID compare with others.
+    pub(crate) fn compare(&self, station: Address, tid: Tid) -> Ordering
+        ensures { result ≡ key_cmp (key_of self.now) (station, tid) }
+    {
+        self.key.cmp(&Key { station, tid })
+    }
+
+    /// The first sequence number of the window.
+    pub fn start(&self) -> SequenceNumber
+        ensures { result ≡ self.now.using.window.start }
+    {
+        match SequenceNumber::new(self.window.start()) {
+            Some(start) => start,
+            None => unreachable!(),
+        }
+    }
+
+    /// Whether the window would take data with this number.
+    pub fn wants(&self, number: SequenceNumber) -> bool
+        ensures { IsTrue result ↔ IsWanted self.now.using.window number }
+    {
+        self.window.wants(number.number())
+    }
+
+    /// Whether it was not used for as long as its timeout says, if it has one.
+    pub fn is_late(&self, clock: u64) -> bool
+        ensures { result ≡ is_late clock self.now.using }
+    {
+        self.timeout > 0 && clock.saturating_sub(self.last_use) >= u64::from(self.timeout)
+    }
+
+    /// Data that is wanted came at this time. The window takes its item, None where it was dropped.
+    pub fn take(
+        &mut self,
+        number: SequenceNumber,
+        item: Option<Held>,
+        clock: u64,
+        out: &mut Released,
+    )
+        requires wanted { IsWanted self.old.using.window number }
+        requires empty { array_vec_len out.old ≡ 0 }
+        ensures key { key_of self.new ≡ key_of self.old }
+        ensures uses { DataUse true number item clock self.old.using self.new.using out.new.items }
+        ensures numbers { All (λ p. p.0 < 4096) out.new.items }
+    {
+        reading_law::<Held>();
+        self.last_use = clock;
+        let _start = self.window.start();
+        match self.window.on_data(number.number(), item, out) {
+            Placed::Taken => {}
+            Placed::Back(_) => unreachable!(),
+        }
+    }
+
+    /// Data that isn't wanted came at this time.
+    pub fn leave(&mut self, number: SequenceNumber, clock: u64)
+        requires { IsWanted self.old.using.window number → ⊥ }
+        ensures key { key_of self.new ≡ key_of self.old }
+        ensures uses { DataUse false number None clock self.old.using self.new.using [] }
+    {
+        reading_law::<Held>();
+        self.last_use = clock;
+        let mut none = Released::new();
+        match self.window.on_data(number.number(), None, &mut none) {
+            Placed::Taken => unreachable!(),
+            Placed::Back(_) => {}
+        }
+    }
+
+    /// A BlockAckReq with this start came at this time.
+    pub fn request(&mut self, start: SequenceNumber, clock: u64, out: &mut Released)
+        requires empty { array_vec_len out.old ≡ 0 }
+        ensures key { key_of self.new ≡ key_of self.old }
+        ensures uses { RequestUse start clock self.old.using self.new.using out.new.items }
+        ensures numbers { All (λ p. p.0 < 4096) out.new.items }
+    {
+        reading_law::<Held>();
+        self.last_use = clock;
+        let _start = self.window.start();
+        self.window.on_bar(start.number(), out);
+    }
+
+    /// What a BlockAck says: the scoreboard's first number, and a bit for each number from there on.
+    pub fn scoreboard(&self) -> (SequenceNumber, u64)
+        ensures start { result.0 ≡ self.now.using.window.scoreboard_start }
+        ensures bits { result.1 ≡ self.now.using.window.scoreboard_bits }
+    {
+        let (start, bits) = self.window.bitmap();
+        match SequenceNumber::new(start) {
+            Some(start) => (start, bits),
+            None => unreachable!(),
+        }
+    }
+
+    /// The agreement ends: hands up all that it holds.
+    pub fn close(self, out: &mut Released)
+        requires empty { array_vec_len out.old ≡ 0 }
+        ensures passes { EndPassesUp self.using.window out.new.items }
+        ensures numbers { All (λ p. p.0 < 4096) out.new.items }
+    {
+        reading_law::<Held>();
+        let Entry {
+            key: _,
+            timeout: _,
+            last_use: _,
+            window,
+        } = self;
+        let agreement = Box::into_inner(window);
+        let _start = agreement.start();
+        agreement.close(out);
+    }
+}
