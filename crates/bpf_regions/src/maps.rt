@@ -94,6 +94,13 @@ impl Shapes {
         }
     }
 
+    /// All shapes are within the limits.
+    pub fn whole(&self)
+        ensures is { AreShapes self.now }
+    {
+        let _ = &self.shapes;
+    }
+
     pub fn len(&self) -> usize
         ensures is { result ≡ length self.now }
     {

@@ -1,0 +1,12 @@
+mod Callers
+mod Calls
+mod Followed
+mod Kept
+mod Known
+mod Slots
+mod Stacks
+mod Values
+pub mod FromHere
+pub mod Chained
+pub mod Whole
+pub mod Returned

@@ -1,0 +1,17 @@
+use Rattle.std.proofs.Common.{rules, ◌≡◌, ◌+◌, ◌<◌, ◌∷◌, ◌++◌, [], length, sym, ◌∙◌, ap, subst, arith}
+use Rattle.bpf_absstate.specs.View.{View, called, kept_registers, empty_stack}
+use Rattle.bpf_absstate.specs.WellFormed.{IsView, IsState}
+use Rattle.bpf_absstate.proofs.Chained.{one_more}
+use Rattle.bpf_absstate.proofs.Whole.{whole_called}
+use Rattle.bpf_absstate.proofs.state.AbsState.call.Goals as goal
+
+pub invariant_of-self-2 : goal.invariant_of-self-2
+invariant_of-self-2 c =
+    let a = c.self.inside in
+    let old : View = record { pc = a.pc; registers = a.registers.value.values; frames = a.frames.value; least = a.least; rooms = a.rooms.value } in
+    let new : View = record { pc = c.args.to; registers = (c.make_mut.follows.lender c.enter.new.self).value.values; frames = c.in_ok-frames.frames.value; least = a.least; rooms = a.rooms.value } in
+    let few : length a.frames.value < 8 = search rules in
+    let same : called old c.args.to c.args.back ≡ new = search rules in
+    let count = c.self.invariant.count in
+    let more = one_more a.frames.value (record { return_slot = c.args.back; kept = kept_registers old; stack = empty_stack }) in
+    subst (IsState (a.depth + 1)) same (record { view = whole_called old c.args.to c.args.back few c.self.invariant.view; count = omega (arith, count, more) })

@@ -1,0 +1,248 @@
+//! The call frames of a state: a chain behind shared pointers, the newest first in memory, the main function's first in
+//! definitions.
+
+ghost use Rattle.std.specs.Prelude.{◌≡◌, ◌<◌, ◌+◌, [], ◌∷◌, ◌++◌, length, map, slice_index_or, slice_set, take, OnOk, OnErr, IfOk};
+ghost use Rattle.bpf_absval.specs.declared.slot.AbsSlot.TheVariants.{Unset};
+ghost use Rattle.bpf_absstate.specs.View.{main_frame, empty_stack, frame_unlabelled, with_frame_slot};
+ghost use Rattle.bpf_absstate.specs.Popped.{Popped};
+ghost use Rattle.bpf_absstate.specs.Inclusion.{frame_included, frames_included};
+
+use crate::registers::Kept;
+use bpf_absval::{AbsSlot, Rooms};
+use bpf_stack::Stack;
+use std::alloc::{AllocError, Global};
+use std::marker::Model;
+use std::rc::Rc;
+
+/// A function's frame: where it returns to, the caller's R6 to R9, its stack.
+#[derive(Drop)]
+pub struct CallFrame {
+    /// The slot at which the caller goes on; 0 for the main function.
+    pub return_slot: u16,
+    /// What the caller has in R6 to R9; nothing for the main function.
+    pub kept: Kept,
+    pub stack: Stack,
+}
+
+/// What a frame keeps for its caller.
+#[derive(Clone, Copy)]
+pub struct Left {
+    pub return_slot: u16,
+    pub kept: Kept,
+}
+
+impl Clone for CallFrame {
+    ghost is_clone = { λ a b. b ≡ a };
+
+    fn clone(&self) -> Result<CallFrame, AllocError> {
+        let stack = self.stack.clone()?;
+        let kept = self.kept;
+        Ok(CallFrame {
+            return_slot: self.return_slot,
+            kept,
+            stack,
+        })
+    }
+}
+
+impl CallFrame {
+    /// A frame with an unset stack.
+    pub fn new(alloc: Global, return_slot: u16, kept: Kept) -> CallFrame
+        ensures is { result ≡ record { return_slot = return_slot; kept = kept; stack = empty_stack } }
+    {
+        CallFrame {
+            return_slot,
+            kept,
+            stack: Stack::unset(alloc),
+        }
+    }
+
+    fn is_included(&self, other: &CallFrame, rooms: &Rooms, others: &Rooms) -> bool
+        ensures is { result ≡ frame_included rooms.now others.now self.now other.now }
+    {
+        self.return_slot == other.return_slot
+            && self.kept.is_included(&other.kept, rooms, others)
+            && self.stack.is_included(&other.stack, rooms, others)
+    }
+
+    /// The frame without a label.
+    fn without_label(&self, label: u16) -> Result<CallFrame, AllocError>
+        ensures is { IfOk result (λ frame. frame ≡ frame_unlabelled label self.now) }
+    {
+        let mut frame = self.clone()?;
+        frame.kept.forget_label(label);
+        frame.stack.forget(label)?;
+        Ok(frame)
+    }
+}
+
+#[cycle(chain)]
+#[derive(Drop)]
+pub struct Chain {
+    link: Link,
+}
+
+#[cycle(chain)]
+#[derive(Drop)]
+enum Link {
+    End,
+    More(CallFrame, Rc<Chain>),
+}
+
+impl Model for Chain {
+    ghost use Rattle.std.specs.Prelude.{List, length};
+    ghost use Rattle.bpf_absstate.specs.declared.frames.CallFrame.{CallFrame};
+
+    ghost Value = { List CallFrame };
+
+    ghost use Rattle.bpf_absstate.specs.Linked.{linked};
+
+    ghost view = { λ a. linked a.link };
+
+    ghost size = { length };
+
+    ghost use Rattle.bpf_absstate.specs.Fall.{fall};
+
+    ghost size_decreases = { λ a h. fall a.link };
+}
+
+impl Clone for Chain {
+    ghost is_clone = { λ a b. b ≡ a };
+
+    fn clone(&self) -> Result<Chain, AllocError> {
+        match &self.link {
+            Link::End => Ok(Chain { link: Link::End }),
+            Link::More(frame, below) => {
+                let frame = frame.clone()?;
+                let below = below.clone()?;
+                Ok(Chain {
+                    link: Link::More(frame, below),
+                })
+            }
+        }
+    }
+}
+
+impl Chain {
+    /// The chain of no frame.
+    pub fn empty() -> Chain
+        ensures is { result ≡ [] }
+    {
+        Chain { link: Link::End }
+    }
+
+    /// Those frames, and this one behind them.
+    pub fn with_newest(below: Rc<Chain>, frame: CallFrame) -> Chain
+        ensures is { result ≡ below.value ++ frame ∷ [] }
+    {
+        Chain {
+            link: Link::More(frame, below),
+        }
+    }
+
+    /// What the newest frame keeps for its caller, and the frames below it.
+    pub fn below(&self) -> Result<Option<(Left, Rc<Chain>)>, AllocError>
+        ensures is { IfOk result (Popped self.now) }
+    {
+        match &self.link {
+            Link::End => Ok(None),
+            Link::More(frame, below) => {
+                let below = below.clone()?;
+                let kept = frame.kept;
+                let left = Left {
+                    return_slot: frame.return_slot,
+                    kept,
+                };
+                Ok(Some((left, below)))
+            }
+        }
+    }
+
+    #[tactic(auto, using(crate::proofs::Chained::get_before, crate::proofs::Chained::get_last, crate::proofs::Chained::one_more))]
+    /// Slot `index` of the stack of frame `k`, of so many frames.
+    pub fn slot(&self, count: usize, k: usize, index: usize) -> AbsSlot
+        requires whole { count ≡ length self.now }
+        requires within { k < count }
+        requires inside { index < 64 }
+        ensures is { result ≡ slice_index_or (slice_index_or self.now k main_frame).stack index Unset }
+    {
+        match &self.link {
+            Link::End => AbsSlot::Unset,
+            Link::More(frame, below) => {
+                if k + 1 == count {
+                    return frame.stack.get(index);
+                }
+                below.slot(count - 1, k, index)
+            }
+        }
+    }
+
+    #[tactic(auto, using(crate::proofs::Chained::set_before, crate::proofs::Chained::set_last, crate::proofs::Chained::get_before, crate::proofs::Chained::get_last, crate::proofs::Chained::one_more))]
+    /// Puts a slot into the stack of frame `k`, of so many frames. Where memory is wanting the frames stay as they are.
+    pub fn set_slot(
+        &mut self,
+        count: usize,
+        k: usize,
+        index: usize,
+        slot: AbsSlot,
+    ) -> Result<(), AllocError>
+        requires whole { count ≡ length self.old }
+        requires within { k < count }
+        requires inside { index < 64 }
+        ensures ok { OnOk result (self.new ≡ with_frame_slot self.old k index slot) }
+        ensures err { OnErr result (self.new ≡ self.old) }
+    {
+        match &mut self.link {
+            Link::End => {
+                return Ok(());
+            }
+            Link::More(frame, below) => {
+                if k + 1 == count {
+                    frame.stack.set(index, slot)?;
+                    return Ok(());
+                }
+                let below = Rc::make_mut(below)?;
+                below.set_slot(count - 1, k, index, slot)?;
+                return Ok(());
+            }
+        }
+    }
+
+    #[tactic(auto, using(crate::proofs::Chained::map_more))]
+    /// The chain without a label.
+    pub fn without_label(&self, alloc: Global, label: u16) -> Result<Chain, AllocError>
+        ensures is { IfOk result (λ chain. chain ≡ map (frame_unlabelled label) self.now) }
+    {
+        match &self.link {
+            Link::End => Ok(Chain::empty()),
+            Link::More(frame, below) => {
+                let rest = below.without_label(alloc, label)?;
+                let below = Rc::new(alloc, rest)?;
+                let frame = frame.without_label(label)?;
+                Ok(Chain::with_newest(below, frame))
+            }
+        }
+    }
+
+    #[tactic(auto, using(crate::proofs::Chained::included_more, crate::proofs::Chained::none_included, crate::proofs::Chained::not_in_none), unfolding(crate::specs::Inclusion::frames_included))]
+    /// Whether there are as many frames, each in the other's of its number.
+    pub fn is_included(&self, other: &Chain, rooms: &Rooms, others: &Rooms) -> bool
+        ensures is { result ≡ frames_included rooms.now others.now self.now other.now }
+    {
+        match &self.link {
+            Link::End => match &other.link {
+                Link::End => true,
+                Link::More(_, _) => false,
+            },
+            Link::More(frame, below) => match &other.link {
+                Link::End => false,
+                Link::More(other_frame, other_below) => {
+                    if !frame.is_included(other_frame, rooms, others) {
+                        return false;
+                    }
+                    return below.is_included(other_below, rooms, others);
+                }
+            },
+        }
+    }
+}

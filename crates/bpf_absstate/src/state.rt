@@ -1,0 +1,265 @@
+//! A state as contracts see it: plain lists. In memory, copies share what none of them has written.
+
+ghost use Rattle.std.specs.Prelude.{◌≡◌, ◌<◌, ◌≤◌, length, slice_index_or, OnOk, OnErr, IfOk};
+ghost use Rattle.bpf_absval.specs.Rooms.{find_room};
+ghost use Rattle.bpf_absval.specs.declared.slot.AbsSlot.TheVariants.{Unset};
+ghost use Rattle.bpf_absstate.specs.Inclusion.{state_included};
+ghost use Rattle.bpf_absstate.specs.View.{entry_view, register, stack_of, at_slot, with_register, with_slot, with_least, with_room, without_label, without_arguments, called, returned};
+ghost use Rattle.bpf_absstate.specs.WellFormed.{IsView};
+
+use crate::frames::{CallFrame, Chain};
+use crate::registers::{Kept, Registers, are_included, forget_label};
+use bpf_absval::{AbsSlot, AbsVal, Rooms};
+use bpf_insn::Reg;
+use std::alloc::{AllocError, Global};
+use std::marker::Model;
+use std::rc::Rc;
+
+/// A set of states of a run, all at one slot and with the same call chain.
+#[derive(Drop)]
+pub struct AbsState {
+    pc: usize,
+    registers: Rc<Registers>,
+    frames: Rc<Chain>,
+    rooms: Rc<Rooms>,
+    least: u16,
+    /// How many call frames there are.
+    depth: usize,
+}
+
+impl Model for AbsState {
+    ghost use Rattle.bpf_absstate.specs.View.{View};
+    ghost use Rattle.bpf_absstate.specs.WellFormed.{IsState};
+
+    ghost Value = { View };
+
+    ghost view = { λ a. record { pc = a.pc; registers = a.registers.value.values; frames = a.frames.value; least = a.least; rooms = a.rooms.value } };
+
+    ghost invariant = { λ a. IsState a.depth (record { pc = a.pc; registers = a.registers.value.values; frames = a.frames.value; least = a.least; rooms = a.rooms.value }) };
+}
+
+impl Clone for AbsState {
+    ghost is_clone = { λ a b. b ≡ a };
+
+    fn clone(&self) -> Result<AbsState, AllocError> {
+        let registers = self.registers.clone()?;
+        let frames = self.frames.clone()?;
+        let rooms = self.rooms.clone()?;
+        Ok(AbsState {
+            pc: self.pc,
+            registers,
+            frames,
+            rooms,
+            least: self.least,
+            depth: self.depth,
+        })
+    }
+}
+
+impl AbsState {
+    /// What is known where a run begins.
+    #[tactic(auto, using(crate::proofs::Whole::whole_entry))]
+    pub fn entry(alloc: Global) -> Result<AbsState, AllocError>
+        ensures is { IfOk result (λ state. state ≡ entry_view) }
+    {
+        let none = Rc::new(alloc, Chain::empty())?;
+        let main = CallFrame::new(alloc, 0, Kept::none());
+        let frames = Rc::new(alloc, Chain::with_newest(none, main))?;
+        let registers = Rc::new(alloc, Registers::entry())?;
+        let rooms = Rc::new(alloc, Rooms::new(alloc))?;
+        Ok(AbsState {
+            pc: 0,
+            registers,
+            frames,
+            rooms,
+            least: 0,
+            depth: 1,
+        })
+    }
+
+    /// What a state of the code is.
+    pub fn whole(&self)
+        ensures is { IsView self.now }
+    {
+        let _ = &self.registers;
+    }
+
+    /// The slot at which it stands.
+    pub fn pc(&self) -> usize
+        ensures is { result ≡ self.now.pc }
+    {
+        self.pc
+    }
+
+    /// Goes to a slot.
+    pub fn go_to(&mut self, pc: usize)
+        ensures is { self.new ≡ at_slot self.old pc }
+    {
+        self.pc = pc;
+    }
+
+    /// How many call frames there are, 1 to 8.
+    pub fn depth(&self) -> usize
+        ensures is { result ≡ length self.now.frames }
+        ensures some { 1 ≤ result }
+        ensures few { result ≤ 8 }
+    {
+        self.depth
+    }
+
+    /// What a register may hold.
+    #[tactic(auto, using(crate::proofs::Whole::same_within))]
+    pub fn register(&self, number: Reg) -> AbsVal
+        ensures is { result ≡ register self.now number }
+    {
+        self.registers.values[number.number() as usize]
+    }
+
+    /// Puts a value into a register, in this state alone. Where memory is wanting the state stays as it is.
+    #[tactic(auto, using(crate::proofs::Whole::whole_register))]
+    pub fn set_register(&mut self, number: Reg, value: AbsVal) -> Result<(), AllocError>
+        ensures ok { OnOk result (self.new ≡ with_register self.old number value) }
+        ensures err { OnErr result (self.new ≡ self.old) }
+    {
+        value.whole();
+        let registers = Rc::make_mut(&mut self.registers)?;
+        registers.values[number.number() as usize] = value;
+        Ok(())
+    }
+
+    /// The known least length of the received frame.
+    pub fn least(&self) -> u16
+        ensures is { result ≡ self.now.least }
+    {
+        self.least
+    }
+
+    /// The frame has at least so many bytes.
+    pub fn raise_least(&mut self, least: u16)
+        ensures is { self.new ≡ with_least self.old least }
+    {
+        self.least = self.least.max(least);
+    }
+
+    /// How many bytes are known to lie behind the label's place.
+    pub fn room(&self, label: u16) -> Option<u16>
+        ensures is { result ≡ find_room self.now.rooms label }
+    {
+        self.rooms.find(label)
+    }
+
+    /// At least so many bytes lie behind the label's place. Where memory is wanting the state stays as it is.
+    pub fn raise_room(&mut self, label: u16, size: u16) -> Result<(), AllocError>
+        ensures ok { OnOk result (self.new ≡ with_room self.old label size) }
+        ensures err { OnErr result (self.new ≡ self.old) }
+    {
+        let rooms = Rc::make_mut(&mut self.rooms)?;
+        rooms.raise(label, size)?;
+        Ok(())
+    }
+
+    /// Slot `index` of the stack of call frame `k`, the main function's being number 0.
+    pub fn slot(&self, k: usize, index: usize) -> AbsSlot
+        requires lives { k < length self.now.frames }
+        requires inside { index < 64 }
+        ensures is { result ≡ slice_index_or (stack_of self.now k) index Unset }
+    {
+        self.frames.slot(self.depth, k, index)
+    }
+
+    /// Puts a slot into the stack of call frame `k`, in this state alone. Where memory is wanting the state stays as it is.
+    #[tactic(auto, using(crate::proofs::Whole::whole_slot))]
+    pub fn set_slot(&mut self, k: usize, index: usize, slot: AbsSlot) -> Result<(), AllocError>
+        requires lives { k < length self.old.frames }
+        requires inside { index < 64 }
+        ensures ok { OnOk result (self.new ≡ with_slot self.old k index slot) }
+        ensures err { OnErr result (self.new ≡ self.old) }
+    {
+        slot.whole();
+        let frames = Rc::make_mut(&mut self.frames)?;
+        frames.set_slot(self.depth, k, index, slot)?;
+        Ok(())
+    }
+
+    /// R1 to R5 are unset after a call. Where memory is wanting the state stays as it is.
+    pub fn clear_arguments(&mut self) -> Result<(), AllocError>
+        ensures ok { OnOk result (self.new ≡ record self.old { registers = without_arguments self.old.registers }) }
+        ensures err { OnErr result (self.new ≡ self.old) }
+    {
+        let registers = Rc::make_mut(&mut self.registers)?;
+        registers.clear_arguments();
+        Ok(())
+    }
+
+    /// A function is called at slot `to`, and returns to `back`. Where memory is wanting the state stays as it is.
+    pub fn call(&mut self, alloc: Global, to: usize, back: u16) -> Result<(), AllocError>
+        requires few { length self.old.frames < 8 }
+        ensures ok { OnOk result (self.new ≡ called self.old to back) }
+        ensures err { OnErr result (self.new ≡ self.old) }
+    {
+        let kept = Kept::of(&self.registers);
+        let frame = CallFrame::new(alloc, back, kept);
+        let below = self.frames.clone()?;
+        let frames = Rc::new(alloc, Chain::with_newest(below, frame))?;
+        let registers = Rc::make_mut(&mut self.registers)?;
+        registers.enter(self.depth as u8);
+        self.frames = frames;
+        self.depth += 1;
+        self.pc = to;
+        Ok(())
+    }
+
+    /// The newest function returns to its caller. Where memory is wanting the state stays as it is.
+    pub fn return_to_caller(&mut self) -> Result<(), AllocError>
+        requires called { 1 < length self.old.frames }
+        ensures ok { OnOk result (self.new ≡ returned self.old) }
+        ensures err { OnErr result (self.new ≡ self.old) }
+    {
+        match self.frames.below()? {
+            None => unreachable!(),
+            Some((left, below)) => {
+                let registers = Rc::make_mut(&mut self.registers)?;
+                registers.leave(&left.kept, self.depth as u8 - 2);
+                self.frames = below;
+                self.depth -= 1;
+                self.pc = left.return_slot as usize;
+                Ok(())
+            }
+        }
+    }
+
+    /// Takes a label from every value, and its room. Where memory is wanting the state stays as it is.
+    pub fn forget_label(&mut self, alloc: Global, label: u16) -> Result<(), AllocError>
+        ensures ok { OnOk result (self.new ≡ without_label self.old label) }
+        ensures err { OnErr result (self.new ≡ self.old) }
+    {
+        let chain = self.frames.without_label(alloc, label)?;
+        let frames = Rc::new(alloc, chain)?;
+        let mut rooms = self.rooms.clone()?;
+        let left = Rc::make_mut(&mut rooms)?;
+        left.forget(label);
+        let registers = Rc::make_mut(&mut self.registers)?;
+        forget_label(&mut registers.values, label);
+        self.frames = frames;
+        self.rooms = rooms;
+        Ok(())
+    }
+
+    /// Whether each state of this one is one of the other, as far as values tell: both stand at one slot with the same call
+    /// chain, and each value lies in the other's.
+    pub fn is_included(&self, other: &AbsState) -> bool
+        ensures is { result ≡ state_included self.now other.now }
+    {
+        let rooms = &self.rooms;
+        let others = &other.rooms;
+        self.pc == other.pc
+            && other.least <= self.least
+            && are_included(
+                &self.registers.values,
+                &other.registers.values,
+                rooms,
+                others,
+            )
+            && self.frames.is_included(&other.frames, rooms, others)
+    }
+}

@@ -1,0 +1,4 @@
+mod Keeps
+mod Forgets
+mod Raised
+mod Raises

@@ -1,0 +1,6 @@
+pub mod Rooms
+pub mod Meaning
+pub mod WellFormed
+pub mod Unlabelled
+pub mod Inclusion
+pub mod Laws

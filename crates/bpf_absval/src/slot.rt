@@ -1,0 +1,49 @@
+//! What eight bytes of a stack frame may hold.
+
+ghost use Rattle.std.specs.Prelude.{◌≡◌};
+ghost use Rattle.bpf_absval.specs.WellFormed.{IsSlot};
+ghost use Rattle.bpf_absval.specs.Unlabelled.{slot_unlabelled, slot_has_label};
+
+use crate::value::AbsVal;
+
+/// What eight bytes of a stack frame may hold.
+#[derive(Clone, Copy, Debug, PartialEq, Eq)]
+pub enum AbsSlot {
+    /// Anything, and also nothing.
+    Unset,
+    /// A value that was stored whole.
+    Stored(AbsVal),
+    /// Byte i is set where bit i is 1.
+    Bytes(u8),
+}
+
+impl AbsSlot {
+    /// The numbers of what is stored are abstract numbers.
+    pub fn whole(&self)
+        ensures { IsSlot self.now }
+    {
+        if let AbsSlot::Stored(value) = self {
+            value.whole();
+        }
+    }
+
+    /// Whether a frame pointer with that label is stored.
+    pub fn has_label(&self, label: u16) -> bool
+        ensures { result ≡ slot_has_label label self.now }
+    {
+        match self {
+            AbsSlot::Stored(value) => value.has_label(label),
+            _ => false,
+        }
+    }
+
+    /// What is stored without the label, and all else as it is.
+    pub fn without_label(self, label: u16) -> AbsSlot
+        ensures { result ≡ slot_unlabelled label self }
+    {
+        match self {
+            AbsSlot::Stored(value) => AbsSlot::Stored(value.without_label(label)),
+            other => other,
+        }
+    }
+}

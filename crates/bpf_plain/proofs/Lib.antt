@@ -1,0 +1,9 @@
+pub mod Landings
+pub mod Rooms
+pub mod Graph
+pub mod Needed
+pub mod Outcomes
+pub mod Chains
+pub mod Standing
+pub mod Plainly
+pub mod Following

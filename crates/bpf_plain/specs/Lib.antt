@@ -1,0 +1,5 @@
+pub mod Walks
+pub mod Paths
+pub mod Clear
+pub mod Standing
+pub mod Laws

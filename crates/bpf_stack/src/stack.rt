@@ -1,0 +1,103 @@
+//! The stack of one call frame: 64 slots.
+
+ghost use Rattle.std.specs.Prelude.{◌≡◌, ◌<◌, map, slice_set, slice_get, OnOk, OnErr, replicate};
+ghost use Rattle.bpf_absval.specs.Unlabelled.{slot_unlabelled};
+ghost use Rattle.bpf_absval.specs.declared.slot.AbsSlot.TheVariants as cell;
+ghost use Rattle.bpf_stack.specs.Included.{slots_included};
+ghost use Rattle.bpf_stack.specs.Leaves.{IsStack};
+
+use crate::tree::Slots;
+use bpf_absval::{AbsSlot, Rooms};
+use std::alloc::{AllocError, Global};
+use std::marker::Model;
+
+/// The 512 bytes of a call frame's stack (RFC 9669, section 4.3.2 speaks of such frames; their size is this machine's):
+/// slot i has the bytes from 8 * i on. A copy shares with the first what neither has written since.
+#[derive(Drop)]
+pub struct Stack {
+    alloc: Global,
+    slots: Slots,
+}
+
+impl Model for Stack {
+    ghost use Rattle.std.specs.Prelude.{List};
+    ghost use Rattle.bpf_absval.specs.declared.slot.AbsSlot.{AbsSlot};
+
+    ghost Value = { List AbsSlot };
+
+    ghost use Rattle.bpf_stack.specs.Leaves.{slots_of, IsStack};
+
+    ghost view = { λ a. slots_of a.slots };
+
+    ghost invariant = { λ a. IsStack (slots_of a.slots) };
+}
+
+impl Clone for Stack {
+    ghost is_clone = { λ a b. b ≡ a };
+
+    fn clone(&self) -> Result<Stack, AllocError> {
+        let slots = self.slots.clone()?;
+        Ok(Stack {
+            alloc: self.alloc,
+            slots,
+        })
+    }
+}
+
+impl Stack {
+    /// A stack of which nothing is known.
+    pub fn unset(alloc: Global) -> Stack
+        ensures { result ≡ replicate 64 cell.Unset }
+    {
+        Stack {
+            alloc,
+            slots: Slots::Unset(6),
+        }
+    }
+
+    /// There are 64 slots, and the numbers of what is stored are abstract numbers.
+    pub fn whole(&self)
+        ensures { IsStack self.now }
+    {
+        let _slots = &self.slots;
+    }
+
+    /// The slot at `index`.
+    pub fn get(&self, index: usize) -> AbsSlot
+        requires { index < 64 }
+        ensures { slice_get self.now index ≡ Some result }
+    {
+        self.slots.get(64, index)
+    }
+
+    /// Puts a slot at `index`, in this stack alone. Where memory is wanting the stack stays as it is.
+    pub fn set(&mut self, index: usize, slot: AbsSlot) -> Result<(), AllocError>
+        requires { index < 64 }
+        ensures ok { OnOk result (self.new ≡ slice_set self.old index slot) }
+        ensures err { OnErr result (self.new ≡ self.old) }
+    {
+        slot.whole();
+        let alloc = self.alloc;
+        self.slots.set(alloc, 64, index, slot)
+    }
+
+    /// Whether each slot of this stack, in a state with `rooms`, lies in the other's at the same place, in a state with
+    /// `others`.
+    pub fn is_included(&self, other: &Stack, rooms: &Rooms, others: &Rooms) -> bool
+        ensures { result ≡ slots_included rooms.now others.now self.now other.now }
+    {
+        let _other = &other.slots;
+        self.slots.is_included(&other.slots, rooms, others)
+    }
+
+    /// Takes the label from each slot. Where memory is wanting the stack stays as it is.
+    pub fn forget(&mut self, label: u16) -> Result<(), AllocError>
+        ensures ok { OnOk result (self.new ≡ map (slot_unlabelled label) self.old) }
+        ensures err { OnErr result (self.new ≡ self.old) }
+    {
+        let alloc = self.alloc;
+        let slots = self.slots.without_label(alloc, label)?;
+        self.slots = slots;
+        Ok(())
+    }
+}

@@ -1,0 +1,268 @@
+//! A row of slots as a binary tree, which copies share until one of them is written. Unset slots side by side take no
+//! memory.
+
+ghost use Rattle.std.specs.Prelude.{◌≡◌, ◌^◌, ◌<◌, ◌++◌, length, map, slice_set, slice_get, OnOk, OnErr, IfOk, replicate};
+ghost use Rattle.std.specs.List.{list_any, list_all};
+ghost use Rattle.bpf_absval.specs.Unlabelled.{slot_unlabelled, slot_has_label};
+ghost use Rattle.bpf_absval.specs.Inclusion.{slot_included};
+ghost use Rattle.bpf_absval.specs.declared.slot.AbsSlot.TheVariants as cell;
+ghost use Rattle.bpf_stack.specs.Included.{slots_included};
+ghost use Rattle.bpf_stack.specs.Leaves.{slots_of, IsEven};
+
+use bpf_absval::{AbsSlot, Rooms};
+use std::alloc::{AllocError, Global};
+use std::marker::Model;
+use std::rc::Rc;
+
+/// A row of slots; how many is a power of two.
+#[cycle(slots)]
+#[derive(Drop)]
+pub enum Slots {
+    /// Two to this power, all unset.
+    Unset(u32),
+    /// One.
+    Leaf(Rc<AbsSlot>),
+    /// The slots of two rows, one after the other.
+    Fork(Rc<Pair>),
+}
+
+/// Two rows with as many slots each.
+#[cycle(slots)]
+#[derive(Drop)]
+pub struct Pair {
+    left: Slots,
+    right: Slots,
+}
+
+impl Model for Pair {
+    ghost use Rattle.std.specs.Prelude.{List, length, ◌++◌};
+    ghost use Rattle.bpf_absval.specs.declared.slot.AbsSlot.{AbsSlot};
+
+    ghost Value = { List AbsSlot };
+
+    ghost use Rattle.bpf_stack.specs.Leaves.{slots_of, IsEven};
+
+    ghost view = { λ a. slots_of a.left ++ slots_of a.right };
+
+    ghost invariant = { λ a. IsEven (slots_of a.left) (slots_of a.right) };
+
+    ghost size = { length };
+
+    ghost use Rattle.bpf_stack.specs.Fall.{fall};
+
+    ghost size_decreases = { λ a h. fall a.left a.right h };
+}
+
+impl Clone for Slots {
+    ghost use Rattle.bpf_stack.specs.Leaves.{slots_of};
+
+    ghost is_clone = { λ a b. slots_of b ≡ slots_of a };
+
+    fn clone(&self) -> Result<Slots, AllocError> {
+        match self {
+            Slots::Unset(depth) => Ok(Slots::Unset(*depth)),
+            Slots::Leaf(slot) => {
+                let slot = slot.clone()?;
+                Ok(Slots::Leaf(slot))
+            }
+            Slots::Fork(pair) => {
+                let pair = pair.clone()?;
+                Ok(Slots::Fork(pair))
+            }
+        }
+    }
+}
+
+impl Clone for Pair {
+    ghost is_clone = { λ a b. b ≡ a };
+
+    fn clone(&self) -> Result<Pair, AllocError> {
+        let left = self.left.clone()?;
+        let right = self.right.clone()?;
+        Ok(Pair { left, right })
+    }
+}
+
+impl Slots {
+    /// Two rows, one after the other.
+    fn joined(alloc: Global, left: Slots, right: Slots) -> Result<Slots, AllocError>
+        requires even { IsEven (slots_of left) (slots_of right) }
+        ensures { IfOk result (λ slots. slots_of slots ≡ slots_of left ++ slots_of right) }
+    {
+        let pair = Rc::new(alloc, Pair { left, right })?;
+        Ok(Slots::Fork(pair))
+    }
+
+    /// A row of `count` slots, two to the power of `depth`, of which the one at `index` is known.
+    fn with_one(
+        alloc: Global,
+        depth: u32,
+        count: usize,
+        index: usize,
+        slot: AbsSlot,
+    ) -> Result<Slots, AllocError>
+        requires whole { count ≡ 2 ^ depth }
+        requires within { index < count }
+        ensures { IfOk result (λ slots. slots_of slots ≡ slice_set (replicate count cell.Unset) index slot) }
+    {
+        if depth == 0 {
+            let leaf = Rc::new(alloc, slot)?;
+            return Ok(Slots::Leaf(leaf));
+        }
+        let half = count / 2;
+        let unset = Slots::Unset(depth - 1);
+        if index < half {
+            let left = Slots::with_one(alloc, depth - 1, half, index, slot)?;
+            let slots = Slots::joined(alloc, left, unset)?;
+            return Ok(slots);
+        }
+        let right = Slots::with_one(alloc, depth - 1, half, index - half, slot)?;
+        let slots = Slots::joined(alloc, unset, right)?;
+        return Ok(slots);
+    }
+
+    /// The slot at place `index` of `count`.
+    pub fn get(&self, count: usize, index: usize) -> AbsSlot
+        requires whole { count ≡ length (slots_of self.now) }
+        requires within { index < count }
+        ensures { slice_get (slots_of self.now) index ≡ Some result }
+    {
+        match self {
+            Slots::Unset(_) => AbsSlot::Unset,
+            Slots::Leaf(slot) => **slot,
+            Slots::Fork(pair) => {
+                let half = count / 2;
+                let pair: &Pair = pair;
+                if index < half {
+                    return pair.left.get(half, index);
+                }
+                pair.right.get(half, index - half)
+            }
+        }
+    }
+
+    /// Puts `slot` at place `index` of `count`; what others share is copied along the way to it.
+    pub fn set(
+        &mut self,
+        alloc: Global,
+        count: usize,
+        index: usize,
+        slot: AbsSlot,
+    ) -> Result<(), AllocError>
+        requires whole { count ≡ length (slots_of self.old) }
+        requires within { index < count }
+        ensures ok { OnOk result (slots_of self.new ≡ slice_set (slots_of self.old) index slot) }
+        ensures err { OnErr result (slots_of self.new ≡ slots_of self.old) }
+    {
+        match self {
+            Slots::Unset(depth) => {
+                let slots = Slots::with_one(alloc, *depth, count, index, slot)?;
+                *self = slots;
+                return Ok(());
+            }
+            Slots::Leaf(old) => {
+                let old = Rc::make_mut(old)?;
+                *old = slot;
+                return Ok(());
+            }
+            Slots::Fork(pair) => {
+                let half = count / 2;
+                let pair = Rc::make_mut(pair)?;
+                if index < half {
+                    pair.left.set(alloc, half, index, slot)?;
+                    return Ok(());
+                }
+                pair.right.set(alloc, half, index - half, slot)?;
+                return Ok(());
+            }
+        }
+    }
+
+    /// Whether unset slots lie in this row.
+    fn admits_unset(&self, rooms: &Rooms, others: &Rooms) -> bool
+        ensures { result ≡ list_all (slot_included rooms.now others.now cell.Unset) (slots_of self.now) }
+    {
+        match self {
+            Slots::Unset(_) => true,
+            Slots::Leaf(slot) => AbsSlot::Unset.is_included(slot, rooms, others),
+            Slots::Fork(pair) => {
+                let pair: &Pair = pair;
+                pair.left.admits_unset(rooms, others) && pair.right.admits_unset(rooms, others)
+            }
+        }
+    }
+
+    /// Whether each slot of this row lies in the other's at the same place.
+    pub fn is_included(&self, other: &Slots, rooms: &Rooms, others: &Rooms) -> bool
+        requires { length (slots_of self.now) ≡ length (slots_of other.now) }
+        ensures { result ≡ slots_included rooms.now others.now (slots_of self.now) (slots_of other.now) }
+    {
+        match self {
+            Slots::Unset(_) => other.admits_unset(rooms, others),
+            Slots::Leaf(a) => match other {
+                Slots::Unset(_) => true,
+                Slots::Leaf(b) => a.is_included(b, rooms, others),
+                Slots::Fork(b) => {
+                    let b: &Pair = b;
+                    let _half = &b.left;
+                    return false;
+                }
+            },
+            Slots::Fork(a) => {
+                let a: &Pair = a;
+                match other {
+                    Slots::Unset(_) => true,
+                    Slots::Leaf(_) => {
+                        let _half = &a.left;
+                        return false;
+                    }
+                    Slots::Fork(b) => {
+                        let b: &Pair = b;
+                        if !a.left.is_included(&b.left, rooms, others) {
+                            return false;
+                        }
+                        return a.right.is_included(&b.right, rooms, others);
+                    }
+                }
+            }
+        }
+    }
+
+    /// Whether some slot has the label.
+    pub fn has_label(&self, label: u16) -> bool
+        ensures { result ≡ list_any (slot_has_label label) (slots_of self.now) }
+    {
+        match self {
+            Slots::Unset(_) => false,
+            Slots::Leaf(slot) => slot.has_label(label),
+            Slots::Fork(pair) => {
+                let pair: &Pair = pair;
+                pair.left.has_label(label) || pair.right.has_label(label)
+            }
+        }
+    }
+
+    /// The row without a label; parts that do not have it are shared.
+    pub fn without_label(&self, alloc: Global, label: u16) -> Result<Slots, AllocError>
+        ensures { IfOk result (λ slots. slots_of slots ≡ map (slot_unlabelled label) (slots_of self.now)) }
+    {
+        if !self.has_label(label) {
+            let slots = self.clone()?;
+            return Ok(slots);
+        }
+        match self {
+            Slots::Unset(depth) => Ok(Slots::Unset(*depth)),
+            Slots::Leaf(slot) => {
+                let slot = Rc::new(alloc, slot.without_label(label))?;
+                Ok(Slots::Leaf(slot))
+            }
+            Slots::Fork(pair) => {
+                let pair: &Pair = pair;
+                let left = pair.left.without_label(alloc, label)?;
+                let right = pair.right.without_label(alloc, label)?;
+                let slots = Slots::joined(alloc, left, right)?;
+                Ok(slots)
+            }
+        }
+    }
+}
