@@ -18,9 +18,7 @@ pub fn number_law()
 /// Every abstract number is well formed: its ends and bits are words, and no bit is both known and unknown.
 pub fn well_formed_law(number: AbsNum)
     ensures { IsNum number }
-{
-    let _parts = (number.range(), number.signed(), number.bits());
-}
+{}
 
 /// Each instruction's result on members is a member of its result, and what is loaded is a member of the load's.
 pub fn transfer_law()
