@@ -1,0 +1,9 @@
+mod Outcomes
+mod States
+mod Labels
+mod Alu
+mod Landings
+mod Branches
+mod Steps
+mod Calls
+mod Flow

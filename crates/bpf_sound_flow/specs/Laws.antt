@@ -1,0 +1,55 @@
+-- What each kind of instruction's examination is good for.
+use Rattle.std.specs.Prelude.{ℕ, ℤ, Bool}
+use Rattle.bpf_insn.specs.declared.insn.AluOp.{AluOp}
+use Rattle.bpf_insn.specs.declared.insn.ByteOrder.{ByteOrder}
+use Rattle.bpf_insn.specs.declared.insn.Compare.{Compare}
+use Rattle.bpf_insn.specs.declared.insn.Extension.{Extension}
+use Rattle.bpf_insn.specs.declared.insn.OrderWidth.{OrderWidth}
+use Rattle.bpf_insn.specs.declared.insn.Insn.{Insn}
+use Rattle.bpf_insn.specs.declared.insn.Insn.TheVariants as insn
+use Rattle.bpf_insn.specs.declared.insn.Source.{Source}
+use Rattle.bpf_insn.specs.declared.insn.Wide.{Wide}
+use Rattle.bpf_rules.specs.Covers.{InsnCovers}
+
+abbrev pub AluCovers : Type 0
+AluCovers = (op : AluOp) (wide : Bool) (dst : ℕ) (s : Source) → InsnCovers (insn.Alu op wide dst s)
+
+abbrev pub MovSxCovers : Type 0
+MovSxCovers = (from : Extension) (wide : Bool) (dst src : ℕ) → InsnCovers (insn.MovSx from wide dst src)
+
+abbrev pub NegCovers : Type 0
+NegCovers = (wide : Bool) (dst : ℕ) → InsnCovers (insn.Neg wide dst)
+
+abbrev pub EndCovers : Type 0
+EndCovers = (order : ByteOrder) (width : OrderWidth) (dst : ℕ) → InsnCovers (insn.End order width dst)
+
+abbrev pub LoadWideCovers : Type 0
+LoadWideCovers = (dst : ℕ) (v : Wide) → InsnCovers (insn.LoadWide dst v)
+
+abbrev pub JumpCovers : Type 0
+JumpCovers = (by : ℤ) → InsnCovers (insn.Jump by)
+
+abbrev pub JumpLongCovers : Type 0
+JumpLongCovers = (by : ℤ) → InsnCovers (insn.JumpLong by)
+
+abbrev pub BranchCovers : Type 0
+BranchCovers = (compare : Compare) (wide : Bool) (dst : ℕ) (s : Source) (by : ℤ) → InsnCovers (insn.Branch compare wide dst s by)
+
+abbrev pub CallCovers : Type 0
+CallCovers = (helper : ℤ) → InsnCovers (insn.Call helper)
+
+abbrev pub CallLocalCovers : Type 0
+CallLocalCovers = (by : ℤ) → InsnCovers (insn.CallLocal by)
+
+abbrev pub ExitCovers : Type 0
+ExitCovers = InsnCovers insn.Exit
+
+-- all but loads, stores and atomics
+abbrev pub IsFlow : Insn → Type 0
+IsFlow (insn.Load size signed dst src by) = ⊥
+IsFlow (insn.Store size dst by s) = ⊥
+IsFlow (insn.Atomic op wide dst src by) = ⊥
+IsFlow i = Unit {0}
+
+abbrev pub FlowCovers : Type 0
+FlowCovers = (i : Insn) → IsFlow i → InsnCovers i

@@ -1,0 +1,13 @@
+pub mod Bytes
+pub mod StackFrames
+pub mod Held
+pub mod Touched
+pub mod Outcomes
+pub mod Offsets
+pub mod States
+pub mod StackReads
+pub mod Loads
+pub mod StackStores
+pub mod Stores
+pub mod Atomics
+pub mod Insns
