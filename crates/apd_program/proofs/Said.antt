@@ -30,11 +30,11 @@ module _ (says : decoded.Code → Answer → Type 0) (code : List ℕ) (shapes :
       let P : Answer → Type 0 = IsOfProgram says code shapes in
       IfOk-weaker r (λ a. (a ≡ Fault e) × (e ≢ decode_fault.NoMemory)) P (λ a h. subst P (sym h.0) (Undecoded e h.1 refuses)) told
 
-pub IsVerdict-refused : (says : decoded.Code → ℕ → Answer → Type 0) (p : decoded.Code) (r : Result Answer ProgramFault) (e : Refusal) → (IsPlain p.slots → e.fault ≡ verify_fault.NoMemory)
+pub IsVerdict-refused : (says : decoded.Code → ℕ → Answer → Type 0) (p : decoded.Code) (r : Result Answer ProgramFault) (e : Refusal) → (IsPlain p.slots → e.fault ≡ verify_fault.NoMemory) → decoded.Begins p.slots e.pc
     → IfOk r (λ a. (a ≡ Refused e) × (e.fault ≢ verify_fault.NoMemory)) → IfOk r (IsVerdict says p)
-IsVerdict-refused says p r e plain told =
+IsVerdict-refused says p r e plain begins told =
     let P : Answer → Type 0 = IsVerdict says p in
-    IfOk-weaker r (λ a. (a ≡ Refused e) × (e.fault ≢ verify_fault.NoMemory)) P (λ a h. subst P (sym h.0) (NotAdmitted e h.1 (λ is_plain. h.1 (plain is_plain)))) told
+    IfOk-weaker r (λ a. (a ≡ Refused e) × (e.fault ≢ verify_fault.NoMemory)) P (λ a h. subst P (sym h.0) (NotAdmitted e h.1 begins (λ is_plain. h.1 (plain is_plain)))) told
 
 pub IsTrace-of : (accepted : Verified) (p : decoded.Code) (hook : Hook) (frame : List ℕ) (draw : ℕ) (text : List ℕ) → accepted.code ≡ p → accepted.hook ≡ hook → IsTrace accepted frame draw text
     → IsTrace (record { code = p; hook = hook; budget = accepted.budget }) frame draw text
