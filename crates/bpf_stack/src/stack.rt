@@ -11,8 +11,8 @@ use bpf_absval::{AbsSlot, Rooms};
 use std::alloc::{AllocError, Global};
 use std::marker::Model;
 
-/// The 512 bytes of a call frame's stack (RFC 9669, section 4.3.2 speaks of such frames; their size is this machine's):
-/// slot i has the bytes from 8 * i on. A copy shares with the first what neither has written since.
+/// What is known of the 512 bytes of a call frame's stack: slot i has the bytes from 8 * i on. A copy shares with the
+/// first what neither has written since.
 #[derive(Drop)]
 pub struct Stack {
     alloc: Global,
@@ -45,7 +45,7 @@ impl Clone for Stack {
 }
 
 impl Stack {
-    /// A stack of which nothing is known.
+    /// A stack of which nothing is known. It takes no memory.
     pub fn unset(alloc: Global) -> Stack
         ensures { result ≡ replicate 64 cell.Unset }
     {
@@ -90,7 +90,7 @@ impl Stack {
         self.slots.is_included(&other.slots, rooms, others)
     }
 
-    /// Takes the label from each slot. Where memory is wanting the stack stays as it is.
+    /// Takes the label from each slot; what has none stays shared. Where memory is wanting the stack stays as it is.
     pub fn forget(&mut self, label: u16) -> Result<(), AllocError>
         ensures ok { OnOk result (self.new ≡ map (slot_unlabelled label) self.old) }
         ensures err { OnErr result (self.new ≡ self.old) }

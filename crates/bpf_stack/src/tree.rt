@@ -202,6 +202,7 @@ impl Slots {
             Slots::Leaf(a) => match other {
                 Slots::Unset(_) => true,
                 Slots::Leaf(b) => a.is_included(b, rooms, others),
+                // The rows of a fork have more than one slot.
                 Slots::Fork(b) => {
                     let b: &Pair = b;
                     let _half = &b.left;
