@@ -1,0 +1,57 @@
+//! How long `parse` takes for a data frame of 1500 bytes and for an association request, on standard error.
+#![tactic(auto)]
+
+use anyhow::Result;
+use mac_frame::parse;
+use std::alloc::{AllocError, Global};
+use std::rt::Runtime;
+use std::time::Instant;
+
+/// How often a frame is read.
+const TIMES: u64 = 1_000_000;
+
+/// An association request: SSID `lab` and four rates.
+const REQUEST: [u8; 39] = [
+    0x00, 0x00, 0x00, 0x00, 0x02, 0, 0, 0, 0, 0x01, 0x02, 0, 0, 0, 0, 0x0a, 0x02, 0, 0, 0, 0, 0x01,
+    0x20, 0x00, 0x01, 0x00, 0x0a, 0x00, 0x00, 0x03, 0x6c, 0x61, 0x62, 0x01, 0x04, 0x82, 0x84, 0x8b,
+    0x96,
+];
+
+/// The header of a data frame.
+const DATA: [u8; 24] = [
+    0x08, 0x01, 0x00, 0x00, 0x02, 0, 0, 0, 0, 0x01, 0x02, 0, 0, 0, 0, 0x0a, 0x02, 0, 0, 0, 0, 0xff,
+    0x30, 0x00,
+];
+
+/// A data frame of 1500 bytes.
+fn data_frame(alloc: Global) -> Result<Vec<u8>, AllocError> {
+    let mut bytes = Vec::from_slice(alloc, &DATA)?;
+    bytes.resize(1500, 0x5a)?;
+    Ok(bytes)
+}
+
+/// How many of so many readings found a frame.
+fn readings(alloc: Global, bytes: &[u8]) -> u64 {
+    let mut found = 0u64;
+    for _ in 0..TIMES {
+        if parse(alloc, bytes).is_ok() {
+            found = found.wrapping_add(1);
+        }
+    }
+    found
+}
+
+/// Reads a frame many times, and prints how long one reading took.
+fn report<R: Runtime>(rt: &R, alloc: Global, name: &str, bytes: &[u8]) -> Result<()> {
+    let start = Instant::now(rt)?;
+    let found = readings(alloc, bytes);
+    let spent = start.elapsed(rt)?.as_nanos() / u128::from(TIMES);
+    eprintln!(rt; "{name}: {found} read, {spent} ns each")?;
+    Ok(())
+}
+
+fn main(rt: HostRuntime) -> Result<()> {
+    let alloc = rt.alloc();
+    report(&rt, alloc, "data of 1500 bytes", &data_frame(alloc)?)?;
+    report(&rt, alloc, "association request", &REQUEST)
+}
