@@ -3,10 +3,10 @@ mod Calls
 mod Followed
 mod Kept
 mod Known
+mod Pointers
 mod Slots
 mod Stacks
 mod Values
-pub mod FromHere
 pub mod Chained
 pub mod Whole
 pub mod Returned

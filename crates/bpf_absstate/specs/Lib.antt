@@ -1,4 +1,5 @@
 pub mod View
+pub mod Shared
 pub mod WellFormed
 pub mod Contains
 pub mod Inclusion

@@ -95,9 +95,14 @@ callee_registers rs depth =
     slice_set (slice_set (slice_set (slice_set (slice_set (slice_set rs 0 abs.Unset) 6 abs.Unset) 7 abs.Unset) 8 abs.Unset) 9 abs.Unset)
     10 (stack_end depth)
 
+-- R6 to R9
+abbrev pub kept_of : List AbsVal → List AbsVal
+kept_of rs =
+    slice_index_or rs 6 abs.Unset ∷ slice_index_or rs 7 abs.Unset ∷ slice_index_or rs 8 abs.Unset ∷ slice_index_or rs 9 abs.Unset ∷ []
+
 -- what the caller keeps
 abbrev pub kept_registers : View → List AbsVal
-kept_registers a = register a 6 ∷ register a 7 ∷ register a 8 ∷ register a 9 ∷ []
+kept_registers a = kept_of a.registers
 
 -- a function is called at slot `to`, and returns to `back`
 abbrev pub called : View → ℕ → ℕ → View

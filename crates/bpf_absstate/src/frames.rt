@@ -25,7 +25,7 @@ pub struct CallFrame {
 }
 
 /// What a frame keeps for its caller.
-#[derive(Clone, Copy)]
+#[derive(Drop)]
 pub struct Left {
     pub return_slot: u16,
     pub kept: Kept,
@@ -36,7 +36,7 @@ impl Clone for CallFrame {
 
     fn clone(&self) -> Result<CallFrame, AllocError> {
         let stack = self.stack.clone()?;
-        let kept = self.kept;
+        let kept = self.kept.clone()?;
         Ok(CallFrame {
             return_slot: self.return_slot,
             kept,
@@ -69,10 +69,14 @@ impl CallFrame {
     fn without_label(&self, label: u16) -> Result<CallFrame, AllocError>
         ensures is { IfOk result (λ frame. frame ≡ frame_unlabelled label self.now) }
     {
-        let mut frame = self.clone()?;
-        frame.kept.forget_label(label);
-        frame.stack.forget(label)?;
-        Ok(frame)
+        let kept = self.kept.without_label(label)?;
+        let mut stack = self.stack.clone()?;
+        stack.forget(label)?;
+        Ok(CallFrame {
+            return_slot: self.return_slot,
+            kept,
+            stack,
+        })
     }
 }
 
@@ -148,7 +152,7 @@ impl Chain {
             Link::End => Ok(None),
             Link::More(frame, below) => {
                 let below = below.clone()?;
-                let kept = frame.kept;
+                let kept = frame.kept.clone()?;
                 let left = Left {
                     return_slot: frame.return_slot,
                     kept,

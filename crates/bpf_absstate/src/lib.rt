@@ -8,3 +8,6 @@ pub mod state;
 
 pub use frames::CallFrame;
 pub use state::AbsState;
+
+#[cfg(test)]
+mod tests;

@@ -1,153 +1,141 @@
-//! Lists of values.
+//! What registers may hold. Copies share each value until one of them writes it.
 
-ghost use Rattle.std.specs.Prelude.{◌≡◌, ◌+◌, ◌∷◌, [], map, length, slice_index_or};
+ghost use Rattle.std.specs.Prelude.{◌≡◌, ◌+◌, ◌<◌, [], ◌∷◌, length, map, replicate, slice_get, slice_set, Some, OnOk, OnErr, IfOk};
+ghost use Rattle.bpf_absval.specs.declared.value.AbsVal.TheVariants.{Unset};
 ghost use Rattle.bpf_absval.specs.Unlabelled.{unlabelled};
 ghost use Rattle.bpf_absstate.specs.Inclusion.{values_included};
-ghost use Rattle.bpf_absstate.specs.View.{stack_end, main_frame, entry_registers, callee_registers, caller_registers, without_arguments};
-ghost use Rattle.bpf_absval.specs.declared.value.AbsVal.TheVariants.{Unset};
+ghost use Rattle.bpf_absstate.specs.Shared.{held_by};
+ghost use Rattle.bpf_absstate.specs.View.{entry_registers, stack_end, main_frame, callee_registers, caller_registers, kept_of, without_arguments};
 
 use bpf_absnum::AbsNum;
 use bpf_absval::{AbsRegion, AbsVal, Rooms};
+use std::alloc::{AllocError, Global};
 use std::marker::Model;
+use std::rc::Rc;
 
-/// The eleven registers.
-#[derive(Clone, Copy)]
+/// Eleven values, each behind a shared pointer.
+#[derive(Drop)]
+struct Values {
+    values: [Rc<AbsVal>; 11],
+}
+
+impl Model for Values {
+    ghost use Rattle.std.specs.Prelude.{◌≡◌, List, length};
+    ghost use Rattle.bpf_absval.specs.declared.value.AbsVal.{AbsVal};
+    ghost use Rattle.bpf_absstate.specs.Shared.{held_by};
+
+    ghost Value = { List AbsVal };
+
+    ghost view = { λ a. held_by a.values };
+
+    ghost invariant = { λ a. length a.values ≡ 11 };
+}
+
+impl Clone for Values {
+    ghost is_clone = { λ a b. b ≡ a };
+
+    fn clone(&self) -> Result<Values, AllocError> {
+        let values = self.values.clone()?;
+        Ok(Values { values })
+    }
+}
+
+/// What R0 to R10 may hold.
+#[derive(Drop)]
 pub struct Registers {
-    pub values: [AbsVal; 11],
+    shared: Rc<Values>,
 }
 
-/// What a caller has in R6 to R9.
-#[derive(Clone, Copy)]
-pub struct Kept {
-    values: [AbsVal; 4],
-}
-
-impl Model for Kept {
+impl Model for Registers {
     ghost use Rattle.std.specs.Prelude.{List};
     ghost use Rattle.bpf_absval.specs.declared.value.AbsVal.{AbsVal};
 
     ghost Value = { List AbsVal };
 
-    ghost view = { λ a. a.values };
-
-    ghost inverse = { λ b. record { values = b } };
+    ghost view = { λ a. a.shared.value };
 }
 
-impl Kept {
-    /// What the main function's caller has.
-    pub fn none() -> Kept
-        ensures is { result ≡ main_frame.kept }
-    {
-        Kept {
-            values: [AbsVal::Unset; 4],
-        }
-    }
+impl Clone for Registers {
+    ghost is_clone = { λ a b. b ≡ a };
 
-    /// What a caller with these registers has.
-    #[tactic(auto, using(crate::proofs::Whole::same_within))]
-    pub fn of(registers: &Registers) -> Kept
-        ensures is { result ≡ slice_index_or registers.now.values 6 Unset ∷ slice_index_or registers.now.values 7 Unset ∷ slice_index_or registers.now.values 8 Unset ∷ slice_index_or registers.now.values 9 Unset ∷ [] }
-    {
-        let values = &registers.values;
-        Kept {
-            values: [values[6], values[7], values[8], values[9]],
-        }
-    }
-
-    /// Whether each value lies in the other's at its place.
-    pub fn is_included(&self, other: &Kept, rooms: &Rooms, others: &Rooms) -> bool
-        ensures is { result ≡ values_included rooms.now others.now self.now other.now }
-    {
-        are_included(&self.values, &other.values, rooms, others)
-    }
-
-    /// Takes a label from each value.
-    pub fn forget_label(&mut self, label: u16)
-        ensures is { self.new ≡ map (unlabelled label) self.old }
-    {
-        forget_label(&mut self.values, label);
+    fn clone(&self) -> Result<Registers, AllocError> {
+        let shared = self.shared.clone()?;
+        Ok(Registers { shared })
     }
 }
 
-/// The end of the stack of that number.
-pub fn end_of_stack(k: u8) -> AbsVal
-    ensures is { result ≡ stack_end k }
+/// What a caller has in R6 to R9.
+#[derive(Drop)]
+pub struct Kept {
+    values: [Rc<AbsVal>; 4],
+}
+
+impl Model for Kept {
+    ghost use Rattle.std.specs.Prelude.{◌≡◌, List, length};
+    ghost use Rattle.bpf_absval.specs.declared.value.AbsVal.{AbsVal};
+    ghost use Rattle.bpf_absstate.specs.Shared.{held_by};
+
+    ghost Value = { List AbsVal };
+
+    ghost view = { λ a. held_by a.values };
+
+    ghost invariant = { λ a. length a.values ≡ 4 };
+}
+
+impl Clone for Kept {
+    ghost is_clone = { λ a b. b ≡ a };
+
+    fn clone(&self) -> Result<Kept, AllocError> {
+        let values = self.values.clone()?;
+        Ok(Kept { values })
+    }
+}
+
+/// The end of the stack of that number, to which R10 points.
+fn end_of_stack(number: u8) -> AbsVal
+    ensures is { result ≡ stack_end number }
 {
     AbsVal::Pointer {
-        region: AbsRegion::Stack(k),
+        region: AbsRegion::Stack(number),
         offset: AbsNum::single(512),
     }
 }
 
-impl Registers {
-    /// What a run has in its registers at its begin.
-    pub fn entry() -> Registers
-        ensures is { result.values ≡ entry_registers }
-    {
-        let mut values = [AbsVal::Unset; 11];
-        values[1] = AbsVal::Frame {
-            offset: AbsNum::single(0),
-            label: None,
-        };
-        values[2] = AbsVal::FrameEnd;
-        values[3] = AbsVal::Pointer {
-            region: AbsRegion::Context,
-            offset: AbsNum::single(0),
-        };
-        values[10] = end_of_stack(0);
-        Registers { values }
-    }
+/// Writes the value behind a shared pointer, for this owner alone. Where memory is wanting it stays as it is.
+fn write(held: &mut Rc<AbsVal>, value: AbsVal) -> Result<(), AllocError>
+    ensures ok { OnOk result (held.new.value ≡ value) }
+    ensures err { OnErr result (held.new.value ≡ held.old.value) }
+{
+    let held = Rc::make_mut(held)?;
+    *held = value;
+    Ok(())
+}
 
-    /// What the called function has, whose stack has that number.
-    pub fn enter(&mut self, k: u8)
-        ensures is { self.new.values ≡ callee_registers self.old.values k }
-    {
-        self.values[0] = AbsVal::Unset;
-        self.values[6] = AbsVal::Unset;
-        self.values[7] = AbsVal::Unset;
-        self.values[8] = AbsVal::Unset;
-        self.values[9] = AbsVal::Unset;
-        self.values[10] = end_of_stack(k);
+/// Takes a label from the value behind a shared pointer.
+fn take_label(held: &mut Rc<AbsVal>, label: u16) -> Result<(), AllocError>
+    ensures is { OnOk result (held.new.value ≡ unlabelled label held.old.value) }
+{
+    let value = **held;
+    if value.has_label(label) {
+        write(held, value.without_label(label))?;
     }
-
-    /// What the caller has again, whose stack has that number.
-    pub fn leave(&mut self, kept: &Kept, k: u8)
-        ensures is { self.new.values ≡ caller_registers self.old.values kept.now (k + 1) }
-    {
-        self.clear_arguments();
-        self.values[6] = kept.values[0];
-        self.values[7] = kept.values[1];
-        self.values[8] = kept.values[2];
-        self.values[9] = kept.values[3];
-        self.values[10] = end_of_stack(k);
-    }
-
-    /// R1 to R5 are unset after a call.
-    pub fn clear_arguments(&mut self)
-        ensures is { self.new.values ≡ without_arguments self.old.values }
-    {
-        self.values[1] = AbsVal::Unset;
-        self.values[2] = AbsVal::Unset;
-        self.values[3] = AbsVal::Unset;
-        self.values[4] = AbsVal::Unset;
-        self.values[5] = AbsVal::Unset;
-    }
+    Ok(())
 }
 
 /// Takes a label from each value.
-pub fn forget_label(values: &mut [AbsVal], label: u16)
-    ensures is { values.new ≡ map (unlabelled label) values.old }
+fn take_labels(values: &mut [Rc<AbsVal>], label: u16) -> Result<(), AllocError>
+    ensures is { OnOk result (held_by values.new ≡ map (unlabelled label) (held_by values.old)) }
 {
     for k in 0..values.len() {
-        let value = values[k];
-        values[k] = value.without_label(label);
+        take_label(&mut values[k], label)?;
     }
+    Ok(())
 }
 
 /// Whether each value of `a` lies in that of `b` at the same place.
-pub fn are_included(a: &[AbsVal], b: &[AbsVal], rooms: &Rooms, others: &Rooms) -> bool
+fn are_included(a: &[Rc<AbsVal>], b: &[Rc<AbsVal>], rooms: &Rooms, others: &Rooms) -> bool
     requires { length a.now ≡ length b.now }
-    ensures is { result ≡ values_included rooms.now others.now a.now b.now }
+    ensures is { result ≡ values_included rooms.now others.now (held_by a.now) (held_by b.now) }
 {
     for k in 0..a.len() {
         if !a[k].is_included(&b[k], rooms, others) {
@@ -155,4 +143,280 @@ pub fn are_included(a: &[AbsVal], b: &[AbsVal], rooms: &Rooms, others: &Rooms) -
         }
     }
     true
+}
+
+impl Values {
+    /// Registers that may all be unset.
+    fn unset(alloc: Global) -> Result<Values, AllocError>
+        ensures is { IfOk result (λ values. values ≡ replicate 11 Unset) }
+    {
+        let none = Rc::new(alloc, AbsVal::Unset)?;
+        let values = [
+            none.clone()?,
+            none.clone()?,
+            none.clone()?,
+            none.clone()?,
+            none.clone()?,
+            none.clone()?,
+            none.clone()?,
+            none.clone()?,
+            none.clone()?,
+            none.clone()?,
+            none,
+        ];
+        Ok(Values { values })
+    }
+
+    /// What registers hold where a run begins.
+    fn entry(alloc: Global) -> Result<Values, AllocError>
+        ensures is { IfOk result (λ values. values ≡ entry_registers) }
+    {
+        let mut values = Values::unset(alloc)?;
+        let start = AbsNum::single(0);
+        values.set(
+            1,
+            AbsVal::Frame {
+                offset: start,
+                label: None,
+            },
+        )?;
+        values.set(2, AbsVal::FrameEnd)?;
+        values.set(
+            3,
+            AbsVal::Pointer {
+                region: AbsRegion::Context,
+                offset: start,
+            },
+        )?;
+        values.set(10, end_of_stack(0))?;
+        Ok(values)
+    }
+
+    /// What a register may hold.
+    fn get(&self, number: usize) -> AbsVal
+        requires { number < 11 }
+        ensures is { slice_get self.now number ≡ Some result }
+    {
+        *self.values[number]
+    }
+
+    /// The shared pointer to what a register may hold.
+    fn pointer(&self, number: usize) -> Result<Rc<AbsVal>, AllocError>
+        requires { number < 11 }
+        ensures is { IfOk result (λ held. slice_get self.now number ≡ Some held.value) }
+    {
+        let held = self.values[number].clone()?;
+        Ok(held)
+    }
+
+    /// Puts a value into a register, in these registers alone. Where memory is wanting they stay as they are.
+    fn set(&mut self, number: usize, value: AbsVal) -> Result<(), AllocError>
+        requires { number < 11 }
+        ensures ok { OnOk result (self.new ≡ slice_set self.old number value) }
+        ensures err { OnErr result (self.new ≡ self.old) }
+    {
+        write(&mut self.values[number], value)?;
+        Ok(())
+    }
+
+    /// Lets a register hold what is behind a shared pointer.
+    fn share(&mut self, number: usize, held: &Rc<AbsVal>) -> Result<(), AllocError>
+        requires { number < 11 }
+        ensures is { OnOk result (self.new ≡ slice_set self.old number held.now.value) }
+    {
+        let held = held.clone()?;
+        self.values[number] = held;
+        Ok(())
+    }
+
+    /// Takes a label from each register.
+    fn forget_label(&mut self, label: u16) -> Result<(), AllocError>
+        ensures is { OnOk result (self.new ≡ map (unlabelled label) self.old) }
+    {
+        take_labels(&mut self.values, label)?;
+        Ok(())
+    }
+
+    /// Whether each register lies in the other's.
+    fn is_included(&self, other: &Values, rooms: &Rooms, others: &Rooms) -> bool
+        ensures is { result ≡ values_included rooms.now others.now self.now other.now }
+    {
+        are_included(&self.values, &other.values, rooms, others)
+    }
+
+    /// What a caller keeps: R6 to R9.
+    fn kept(&self) -> Result<Kept, AllocError>
+        ensures is { IfOk result (λ kept. kept ≡ kept_of self.now) }
+    {
+        let values = [
+            self.values[6].clone()?,
+            self.values[7].clone()?,
+            self.values[8].clone()?,
+            self.values[9].clone()?,
+        ];
+        Ok(Kept { values })
+    }
+
+    #[tactic(auto, using(crate::proofs::Pointers::got_set))]
+    /// What a called function begins with, in the stack frame of that number.
+    fn enter(&mut self, number: u8) -> Result<(), AllocError>
+        ensures is { OnOk result (self.new ≡ callee_registers self.old number) }
+    {
+        self.set(0, AbsVal::Unset)?;
+        let none = self.pointer(0)?;
+        self.share(6, &none)?;
+        self.share(7, &none)?;
+        self.share(8, &none)?;
+        self.share(9, &none)?;
+        self.set(10, end_of_stack(number))?;
+        Ok(())
+    }
+
+    #[tactic(auto, using(crate::proofs::Pointers::got_set))]
+    /// R1 to R5 are unset, as a call leaves them.
+    fn clear_arguments(&mut self) -> Result<(), AllocError>
+        ensures is { OnOk result (self.new ≡ without_arguments self.old) }
+    {
+        self.set(1, AbsVal::Unset)?;
+        let none = self.pointer(1)?;
+        self.share(2, &none)?;
+        self.share(3, &none)?;
+        self.share(4, &none)?;
+        self.share(5, &none)?;
+        Ok(())
+    }
+
+    #[tactic(auto, using(crate::proofs::Pointers::got_or))]
+    /// What a caller goes on with that kept those values and has the stack frame of that number.
+    fn leave(&mut self, kept: &Kept, number: u8) -> Result<(), AllocError>
+        ensures is { OnOk result (self.new ≡ caller_registers self.old kept.now (number + 1)) }
+    {
+        self.clear_arguments()?;
+        self.share(6, &kept.pointer(0)?)?;
+        self.share(7, &kept.pointer(1)?)?;
+        self.share(8, &kept.pointer(2)?)?;
+        self.share(9, &kept.pointer(3)?)?;
+        self.set(10, end_of_stack(number))?;
+        Ok(())
+    }
+}
+
+impl Kept {
+    /// What the main function's caller has: nothing.
+    pub fn none(alloc: Global) -> Result<Kept, AllocError>
+        ensures is { IfOk result (λ kept. kept ≡ main_frame.kept) }
+    {
+        let none = Rc::new(alloc, AbsVal::Unset)?;
+        let values = [none.clone()?, none.clone()?, none.clone()?, none];
+        Ok(Kept { values })
+    }
+
+    /// The shared pointer to one of the values.
+    fn pointer(&self, number: usize) -> Result<Rc<AbsVal>, AllocError>
+        requires { number < 4 }
+        ensures is { IfOk result (λ held. slice_get self.now number ≡ Some held.value) }
+    {
+        let held = self.values[number].clone()?;
+        Ok(held)
+    }
+
+    /// The values without a label.
+    pub fn without_label(&self, label: u16) -> Result<Kept, AllocError>
+        ensures is { IfOk result (λ kept. kept ≡ map (unlabelled label) self.now) }
+    {
+        let mut values = self.values.clone()?;
+        take_labels(&mut values, label)?;
+        Ok(Kept { values })
+    }
+
+    /// Whether each value lies in the other's.
+    pub fn is_included(&self, other: &Kept, rooms: &Rooms, others: &Rooms) -> bool
+        ensures is { result ≡ values_included rooms.now others.now self.now other.now }
+    {
+        are_included(&self.values, &other.values, rooms, others)
+    }
+}
+
+impl Registers {
+    /// What registers hold where a run begins.
+    pub fn entry(alloc: Global) -> Result<Registers, AllocError>
+        ensures is { IfOk result (λ registers. registers ≡ entry_registers) }
+    {
+        let values = Values::entry(alloc)?;
+        let shared = Rc::new(alloc, values)?;
+        Ok(Registers { shared })
+    }
+
+    /// What a register may hold.
+    pub fn get(&self, number: usize) -> AbsVal
+        requires { number < 11 }
+        ensures is { slice_get self.now number ≡ Some result }
+    {
+        self.shared.get(number)
+    }
+
+    /// Puts a value into a register, in these registers alone. Where memory is wanting they stay as they are.
+    pub fn set(&mut self, number: usize, value: AbsVal) -> Result<(), AllocError>
+        requires { number < 11 }
+        ensures ok { OnOk result (self.new ≡ slice_set self.old number value) }
+        ensures err { OnErr result (self.new ≡ self.old) }
+    {
+        let values = Rc::make_mut(&mut self.shared)?;
+        values.set(number, value)?;
+        Ok(())
+    }
+
+    /// What a caller keeps: R6 to R9.
+    pub fn kept(&self) -> Result<Kept, AllocError>
+        ensures is { IfOk result (λ kept. kept ≡ kept_of self.now) }
+    {
+        self.shared.kept()
+    }
+
+    /// What a called function begins with, in the stack frame of that number.
+    pub fn called(&self, number: u8) -> Result<Registers, AllocError>
+        ensures is { IfOk result (λ registers. registers ≡ callee_registers self.now number) }
+    {
+        let mut shared = self.shared.clone()?;
+        let values = Rc::make_mut(&mut shared)?;
+        values.enter(number)?;
+        Ok(Registers { shared })
+    }
+
+    /// What a caller goes on with that kept those values and has the stack frame of that number.
+    pub fn returned(&self, kept: &Kept, number: u8) -> Result<Registers, AllocError>
+        ensures is { IfOk result (λ registers. registers ≡ caller_registers self.now kept.now (number + 1)) }
+    {
+        let mut shared = self.shared.clone()?;
+        let values = Rc::make_mut(&mut shared)?;
+        values.leave(kept, number)?;
+        Ok(Registers { shared })
+    }
+
+    /// The registers as a call leaves them: R1 to R5 are unset.
+    pub fn without_arguments(&self) -> Result<Registers, AllocError>
+        ensures is { IfOk result (λ registers. registers ≡ without_arguments self.now) }
+    {
+        let mut shared = self.shared.clone()?;
+        let values = Rc::make_mut(&mut shared)?;
+        values.clear_arguments()?;
+        Ok(Registers { shared })
+    }
+
+    /// The registers without a label.
+    pub fn without_label(&self, label: u16) -> Result<Registers, AllocError>
+        ensures is { IfOk result (λ registers. registers ≡ map (unlabelled label) self.now) }
+    {
+        let mut shared = self.shared.clone()?;
+        let values = Rc::make_mut(&mut shared)?;
+        values.forget_label(label)?;
+        Ok(Registers { shared })
+    }
+
+    /// Whether each register lies in the other's.
+    pub fn is_included(&self, other: &Registers, rooms: &Rooms, others: &Rooms) -> bool
+        ensures is { result ≡ values_included rooms.now others.now self.now other.now }
+    {
+        self.shared.is_included(&other.shared, rooms, others)
+    }
 }

@@ -8,7 +8,7 @@ ghost use Rattle.bpf_absstate.specs.View.{entry_view, register, stack_of, at_slo
 ghost use Rattle.bpf_absstate.specs.WellFormed.{IsView};
 
 use crate::frames::{CallFrame, Chain};
-use crate::registers::{Kept, Registers, are_included, forget_label};
+use crate::registers::{Kept, Registers};
 use bpf_absval::{AbsSlot, AbsVal, Rooms};
 use bpf_insn::Reg;
 use std::alloc::{AllocError, Global};
@@ -19,7 +19,7 @@ use std::rc::Rc;
 #[derive(Drop)]
 pub struct AbsState {
     pc: usize,
-    registers: Rc<Registers>,
+    registers: Registers,
     frames: Rc<Chain>,
     rooms: Rc<Rooms>,
     least: u16,
@@ -33,9 +33,9 @@ impl Model for AbsState {
 
     ghost Value = { View };
 
-    ghost view = { λ a. record { pc = a.pc; registers = a.registers.value.values; frames = a.frames.value; least = a.least; rooms = a.rooms.value } };
+    ghost view = { λ a. record { pc = a.pc; registers = a.registers; frames = a.frames.value; least = a.least; rooms = a.rooms.value } };
 
-    ghost invariant = { λ a. IsState a.depth (record { pc = a.pc; registers = a.registers.value.values; frames = a.frames.value; least = a.least; rooms = a.rooms.value }) };
+    ghost invariant = { λ a. IsState a.depth (record { pc = a.pc; registers = a.registers; frames = a.frames.value; least = a.least; rooms = a.rooms.value }) };
 }
 
 impl Clone for AbsState {
@@ -63,9 +63,9 @@ impl AbsState {
         ensures is { IfOk result (λ state. state ≡ entry_view) }
     {
         let none = Rc::new(alloc, Chain::empty())?;
-        let main = CallFrame::new(alloc, 0, Kept::none());
+        let main = CallFrame::new(alloc, 0, Kept::none(alloc)?);
         let frames = Rc::new(alloc, Chain::with_newest(none, main))?;
-        let registers = Rc::new(alloc, Registers::entry())?;
+        let registers = Registers::entry(alloc)?;
         let rooms = Rc::new(alloc, Rooms::new(alloc))?;
         Ok(AbsState {
             pc: 0,
@@ -112,7 +112,7 @@ impl AbsState {
     pub fn register(&self, number: Reg) -> AbsVal
         ensures is { result ≡ register self.now number }
     {
-        self.registers.values[number.number() as usize]
+        self.registers.get(number.number() as usize)
     }
 
     /// Puts a value into a register, in this state alone. Where memory is wanting the state stays as it is.
@@ -122,8 +122,7 @@ impl AbsState {
         ensures err { OnErr result (self.new ≡ self.old) }
     {
         value.whole();
-        let registers = Rc::make_mut(&mut self.registers)?;
-        registers.values[number.number() as usize] = value;
+        self.registers.set(number.number() as usize, value)?;
         Ok(())
     }
 
@@ -186,8 +185,8 @@ impl AbsState {
         ensures ok { OnOk result (self.new ≡ record self.old { registers = without_arguments self.old.registers }) }
         ensures err { OnErr result (self.new ≡ self.old) }
     {
-        let registers = Rc::make_mut(&mut self.registers)?;
-        registers.clear_arguments();
+        let registers = self.registers.without_arguments()?;
+        self.registers = registers;
         Ok(())
     }
 
@@ -197,12 +196,12 @@ impl AbsState {
         ensures ok { OnOk result (self.new ≡ called self.old to back) }
         ensures err { OnErr result (self.new ≡ self.old) }
     {
-        let kept = Kept::of(&self.registers);
+        let kept = self.registers.kept()?;
         let frame = CallFrame::new(alloc, back, kept);
         let below = self.frames.clone()?;
         let frames = Rc::new(alloc, Chain::with_newest(below, frame))?;
-        let registers = Rc::make_mut(&mut self.registers)?;
-        registers.enter(self.depth as u8);
+        let registers = self.registers.called(self.depth as u8)?;
+        self.registers = registers;
         self.frames = frames;
         self.depth += 1;
         self.pc = to;
@@ -218,8 +217,8 @@ impl AbsState {
         match self.frames.below()? {
             None => unreachable!(),
             Some((left, below)) => {
-                let registers = Rc::make_mut(&mut self.registers)?;
-                registers.leave(&left.kept, self.depth as u8 - 2);
+                let registers = self.registers.returned(&left.kept, self.depth as u8 - 2)?;
+                self.registers = registers;
                 self.frames = below;
                 self.depth -= 1;
                 self.pc = left.return_slot as usize;
@@ -238,8 +237,8 @@ impl AbsState {
         let mut rooms = self.rooms.clone()?;
         let left = Rc::make_mut(&mut rooms)?;
         left.forget(label);
-        let registers = Rc::make_mut(&mut self.registers)?;
-        forget_label(&mut registers.values, label);
+        let registers = self.registers.without_label(label)?;
+        self.registers = registers;
         self.frames = frames;
         self.rooms = rooms;
         Ok(())
@@ -254,12 +253,7 @@ impl AbsState {
         let others = &other.rooms;
         self.pc == other.pc
             && other.least <= self.least
-            && are_included(
-                &self.registers.values,
-                &other.registers.values,
-                rooms,
-                others,
-            )
+            && self.registers.is_included(&other.registers, rooms, others)
             && self.frames.is_included(&other.frames, rooms, others)
     }
 }

@@ -1,8 +1,8 @@
 -- The search from the newest entry back.
 use Rattle.std.proofs.Common.{◌≡◌, ℕ, zero, suc, ◌-◌, ◌<◌, ◌≤◌, List, [], ◌∷◌, ◌++◌, length, take, get_or, true, false, Option, Some, None, refl, ap, arith, sym, ◌∙◌, cond, take-suc}
 use Rattle.std.specs.Prelude.{if◌then◌else◌}
-use Rattle.bpf_kinds.specs.View.{View}
-use Rattle.bpf_kinds.specs.Inclusion.{state_included}
+use Rattle.bpf_absstate.specs.View.{View}
+use Rattle.bpf_absstate.specs.Inclusion.{state_included}
 use Rattle.bpf_prune.specs.declared.kept.Entry.{Entry}
 use Rattle.bpf_prune.specs.Covering.{newest_covering, or_else}
 

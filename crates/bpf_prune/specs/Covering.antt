@@ -1,8 +1,9 @@
 -- Finished states, the oldest first, and which of them covers a state.
 use Rattle.std.specs.Prelude.{◌≡◌, ◌==◌, ℕ, List, [], ◌∷◌, ◌++◌, length, drop, Option, Some, None, if◌then◌else◌, slice_index_or, slice_set, true}
 use Rattle.std.specs.List.{Contains as Has}
-use Rattle.bpf_kinds.specs.View.{View}
-use Rattle.bpf_kinds.specs.Inclusion.{state_included}
+use Rattle.bpf_absstate.specs.View.{View}
+use Rattle.bpf_absstate.specs.Inclusion.{state_included}
+use Rattle.bpf_absstate.specs.WellFormed.{IsView}
 use Rattle.bpf_prune.specs.declared.kept.Entry.{Entry}
 
 -- a new entry comes last; of 64 the first makes room for it
@@ -18,12 +19,13 @@ unfoldable pub newest_covering : List Entry → View → Option ℕ
 newest_covering [] a = None
 newest_covering (e ∷ es) a = or_else (newest_covering es a) (if state_included a e.state then Some e.budget else None)
 
--- one of these entries has that budget, and the state lies in its state
+-- one of these entries has that budget, and the state lies in its state, which is well formed
 pub record Covers (es : List Entry) (a : View) (budget : ℕ) : Type 0 where
   pub entry : Entry
   pub kept : Has es entry
   pub budget_is : entry.budget ≡ budget
   pub included : state_included a entry.state ≡ true
+  pub whole : IsView entry.state
 
 -- what is kept at a slot; nothing outside the table
 abbrev pub kept_at : List (List Entry) → ℕ → List Entry

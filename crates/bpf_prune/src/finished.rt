@@ -4,7 +4,7 @@ ghost use Rattle.std.specs.Prelude.{◌≡◌, [], replicate, OnOk, OnErr, IfOk,
 ghost use Rattle.bpf_prune.specs.Covering.{newest_covering, with_entry, Covers, kept_at};
 
 use crate::kept::{Entry, Kept};
-use bpf_kinds::AbsState;
+use bpf_absstate::AbsState;
 use std::alloc::{AllocError, Global};
 use std::marker::Model;
 

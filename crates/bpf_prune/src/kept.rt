@@ -3,7 +3,7 @@
 ghost use Rattle.std.specs.Prelude.{◌≡◌, [], OnOk, OnErr, IfSome};
 ghost use Rattle.bpf_prune.specs.Covering.{newest_covering, with_newest, Covers};
 
-use bpf_kinds::AbsState;
+use bpf_absstate::AbsState;
 use std::alloc::{AllocError, Global};
 use std::marker::Model;
 
@@ -66,6 +66,7 @@ impl Kept {
             k -= 1;
             let entry = &self.entries[k];
             if state.is_included(&entry.state) {
+                entry.state.whole();
                 return Some(entry.budget);
             }
         }

@@ -2,12 +2,6 @@ pub mod Clears
 pub mod Counts
 pub mod Covered
 pub mod Explored
-pub mod Graph
-pub mod Landings
-pub mod Needed
 pub mod Paths
-pub mod Plainly
-pub mod Rooms
-pub mod Steps
 pub mod Tables
 pub mod Walking

@@ -1,12 +1,11 @@
 -- What holds of all finished states.
-use Rattle.std.proofs.Common.{◌≡◌, ℕ, inl, inr, List, [], length, drop, Bool, true, false, cond, sym, subst, Option}
-use Rattle.bpf_insn.specs.declared.insn.Insn.{Insn}
+use Rattle.std.proofs.Common.{◌≡◌, ℕ, inl, inr, List, [], length, drop, Bool, true, false, cond, sym, subst, Option, Some, None, IfSome}
 use Rattle.std.specs.Prelude.{◌==◌, replicate}
 use Rattle.std.specs.List.{All}
 use Rattle.std.proofs.lemmas.List.{get_or_past}
 use Rattle.std.proofs.lemmas.List.Elements.{All-push, All-drop, All-set, All-nil, All-get_or, All-replicate, All-contains, All-weaker}
 use Rattle.std.proofs.lemmas.Bool.{cases_lt}
-use Rattle.bpf_kinds.specs.View.{View}
+use Rattle.bpf_absstate.specs.View.{View}
 use Rattle.bpf_prune.specs.declared.kept.Entry.{Entry}
 use Rattle.bpf_prune.specs.Covering.{with_newest, kept_at, Covers}
 use Rattle.bpf_verifier.specs.Path.{IsKept}
@@ -26,10 +25,11 @@ module _ (P : Entry → Type 0) where
     rest true = All-drop P 1 es h
     rest false = h
 
-  pub kept : (slots : List (Option Insn)) (old new : List (List Entry)) (e : Entry) → IsKept slots old new e → All (All P) old → P e → All (All P) new
-  kept slots old new e (inr elsewhere) h k = subst (All (All P)) (sym elsewhere.1) h
-  kept slots old new e (inl target) h k =
-      subst (All (All P)) (sym target.1) (All-set (All P) old e.state.pc (with_newest (kept_at old e.state.pc) e) (newest (kept_at old e.state.pc) e (at_slot old e.state.pc h) k) h)
+  pub kept : (old new : List (List Entry)) (o : Option View) (budget : ℕ) → IsKept old new o budget → All (All P) old → IfSome o (λ a. P (record { state = a; budget = budget })) → All (All P) new
+  kept old new None budget k h each = subst (All (All P)) (sym k) h
+  kept old new (Some a) budget k h each =
+      let e : Entry = record { state = a; budget = budget } in
+      subst (All (All P)) (sym k) (All-set (All P) old a.pc (with_newest (kept_at old a.pc) e) (newest (kept_at old a.pc) e (at_slot old a.pc h) each) h)
 
   pub none : (table : List (List Entry)) (n : ℕ) → table ≡ replicate n [] → All (All P) table
   none table n e = subst (All (All P)) (sym e) (All-replicate (All P) n [] (All-nil P))

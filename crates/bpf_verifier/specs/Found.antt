@@ -1,22 +1,23 @@
 -- What an exploration has found so far.
 use Rattle.std.specs.Prelude.{ℕ, List, Option}
 use Rattle.bpf_insn.specs.declared.insn.Insn.{Insn}
+use Rattle.bpf_decode.specs.Program.{Code}
 use Rattle.bpf_model.specs.State.{Setting}
-use Rattle.bpf_kinds.specs.View.{View}
+use Rattle.bpf_absstate.specs.View.{View}
 use Rattle.bpf_verifier.specs.declared.exploration.Exploration.{Exploration}
 use Rattle.bpf_verifier.specs.declared.exploration.Unwound.{Unwound}
 use Rattle.bpf_verifier.specs.Clear.{AreClear, IsClearOn}
 use Rattle.bpf_verifier.specs.Counting.{IsCounted, IsPaid}
 use Rattle.bpf_verifier.specs.Path.{Linked, AreBegun}
-use Rattle.bpf_verifier.specs.Safety.{IsExplored, AreSafe, IsOngoing}
-use Rattle.bpf_verifier.specs.Walked.{IsWalked, AreWalked, IsWalkedOn}
+use Rattle.bpf_verifier.specs.Safety.{LeadsSafely, IsExplored, AreSafe, IsOngoing}
+use Rattle.bpf_verifier.specs.Walked.{LeadsBySlots, IsWalked, AreWalked, IsWalkedOn}
 
 -- its budgets are counted by its visits, and a budget that was found now is, too
 abbrev pub IsCountedSoFar : Exploration → Type 0
-IsCountedSoFar e = IsCounted e.path.items e.finished e.visits
+IsCountedSoFar e = IsCounted e.path.items e.after e.finished e.visits
 
 abbrev pub IsPaidSoFar : Exploration → Unwound → Type 0
-IsPaidSoFar e u = IsPaid e.path.items e.visits u
+IsPaidSoFar e u = IsPaid e.path.items e.after e.visits u
 
 -- what is still to be explored begins at instructions
 abbrev pub IsBegunSoFar : List (Option Insn) → Exploration → Type 0
@@ -24,21 +25,21 @@ IsBegunSoFar slots e = AreBegun slots e.path.items
 
 -- while a is explored the path from the start and the finished states say what is safe
 abbrev pub IsSafeSoFar : Setting → View → View → Exploration → Type 0
-IsSafeSoFar p start a e = Linked (IsExplored p) e.path.items start a × AreSafe p e.finished
+IsSafeSoFar p start a e = Linked (LeadsSafely p) (IsExplored p) e.path.items e.after start a × AreSafe p e.finished
 
 abbrev pub IsSafeAfter : Setting → View → Exploration → Unwound → Type 0
-IsSafeAfter p start e u = IsOngoing p e.path.items start u × AreSafe p e.finished
+IsSafeAfter p start e u = IsOngoing p e.path.items e.after start u × AreSafe p e.finished
 
 -- while a is explored the path from the start and the finished states have paths as long as their budgets
 abbrev pub IsWalkedSoFar : List (Option Insn) → View → View → Exploration → Type 0
-IsWalkedSoFar slots start a e = Linked (IsWalked slots) e.path.items start a × AreWalked slots e.finished
+IsWalkedSoFar slots start a e = Linked (LeadsBySlots slots) (IsWalked slots) e.path.items e.after start a × AreWalked slots e.finished
 
 abbrev pub IsWalkedAfter : List (Option Insn) → View → Exploration → Unwound → Type 0
-IsWalkedAfter slots start e u = IsWalkedOn slots e.path.items start u × AreWalked slots e.finished
+IsWalkedAfter slots start e u = IsWalkedOn slots e.path.items e.after start u × AreWalked slots e.finished
 
 -- what is still to be explored leads to at most n states
-abbrev pub IsClearSoFar : List (Option Insn) → ℕ → Exploration → Type 0
-IsClearSoFar slots n e = AreClear slots e.path.items n
+abbrev pub IsClearSoFar : Code → ℕ → Exploration → Type 0
+IsClearSoFar c n e = AreClear c e.path.items n
 
-abbrev pub IsClearAfter : List (Option Insn) → ℕ → Exploration → Unwound → Type 0
-IsClearAfter slots n e u = IsClearOn slots e.path.items n u
+abbrev pub IsClearAfter : Code → ℕ → Exploration → Unwound → Type 0
+IsClearAfter c n e u = IsClearOn c e.path.items n u

@@ -1,11 +1,8 @@
 pub mod Clear
 pub mod Counting
-pub mod Examined
 pub mod Found
-pub mod Landing
 pub mod Laws
 pub mod Path
 pub mod Refusals
 pub mod Safety
-pub mod Walks
 pub mod Walked

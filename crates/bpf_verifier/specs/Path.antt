@@ -1,29 +1,45 @@
 -- The path that is being explored, from the start to the state that is examined next.
-use Rattle.std.specs.Prelude.{◌≡◌, ◌⊎◌, List, [], ◌∷◌, Option, IfSome}
+use Rattle.std.specs.Prelude.{◌≡◌, ℕ, List, [], ◌∷◌, Option, Some, None, IfSome}
 use Rattle.std.specs.List.{All}
 use Rattle.bpf_insn.specs.declared.insn.Insn.{Insn}
-use Rattle.bpf_decode.specs.Program.{Begins, IsTarget}
-use Rattle.bpf_kinds.specs.View.{View}
+use Rattle.bpf_plain.specs.Standing.{Stands, IsMain}
+use Rattle.bpf_plain.specs.Walks.{IsPlain}
+use Rattle.bpf_absstate.specs.View.{View}
 use Rattle.bpf_prune.specs.Covering.{with_entry}
 use Rattle.bpf_prune.specs.declared.kept.Entry.{Entry}
 use Rattle.bpf_verifier.specs.declared.exploration.Frame.{Frame}
 use Rattle.bpf_verifier.specs.declared.exploration.Unwound.{Unwound}
 use Rattle.bpf_verifier.specs.declared.exploration.Unwound.TheVariants.{Onward, Over}
 
--- each frame stands so to the next one's state, and the last one to the state that is examined next
-unfoldable pub Linked : (Frame → View → Type 0) → List Frame → View → View → Type 0
-Linked R [] start current = start ≡ current
-Linked R (f ∷ fs) start current = (f.state ≡ start) × (child : View) × R f child × Linked R fs child current
+-- how a number of states with one way lead from one state to another
+abbrev pub Leads : Type 1
+Leads = ℕ → View → View → Type 0
 
--- the ways that are still to be explored begin at instructions
+-- how a frame stands to its own state and to the one that its way leads to
+abbrev pub Opens : Type 1
+Opens = Frame → View → View → Type 0
+
+-- from the start the path leads to the state that is examined next: to each frame by states with one way, from it by the
+-- way that is being explored, and from the newest frame by `after` states with one way
+unfoldable pub Linked : Leads → Opens → List Frame → ℕ → View → View → Type 0
+Linked L R [] after start current = L after start current
+Linked L R (f ∷ fs) after start current =
+    (own : View) × L f.before start own × IfSome f.state (λ a. a ≡ own) × (child : View) × R f own child × Linked L R fs after child current
+
+-- the state stands at an instruction, in a plain program in the main function
+abbrev pub StandsIn : List (Option Insn) → View → Type 0
+StandsIn slots a = Stands slots a × (IsPlain slots → IsMain a)
+
+-- the ways that are still to be explored stand at instructions
 abbrev pub AreBegun : List (Option Insn) → List Frame → Type 0
-AreBegun slots fs = All (λ f. IfSome f.pending (λ a. Begins slots a.pc)) fs
+AreBegun slots fs = All (λ f. IfSome f.pending (StandsIn slots)) fs
 
 -- so does what is explored next
 abbrev pub IsBegun : List (Option Insn) → Unwound → Type 0
-IsBegun slots (Onward a) = Begins slots a.pc
+IsBegun slots (Onward a) = StandsIn slots a
 IsBegun slots (Over b) = Unit {0}
 
--- a state that is done is kept where it stands at a target
-abbrev pub IsKept : List (Option Insn) → List (List Entry) → List (List Entry) → Entry → Type 0
-IsKept slots old new e = IsTarget slots e.state.pc × (new ≡ with_entry old e) ⊎ (IsTarget slots e.state.pc → ⊥) × (new ≡ old)
+-- a state that is done is kept with its budget
+abbrev pub IsKept : List (List Entry) → List (List Entry) → Option View → ℕ → Type 0
+IsKept old new None budget = new ≡ old
+IsKept old new (Some a) budget = new ≡ with_entry old (record { state = a; budget = budget })

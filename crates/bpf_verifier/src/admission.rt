@@ -3,15 +3,16 @@
 ghost use Rattle.std.specs.Prelude.{◌≡◌, ◌≤◌, ◌^◌, IfOk, IfErr};
 ghost use Rattle.bpf_decode.specs.Program.{Begins};
 ghost use Rattle.bpf_model.specs.Run.{Safe};
-ghost use Rattle.bpf_kinds.specs.View.{entry_view};
-ghost use Rattle.bpf_verifier.specs.Clear.{IsClear};
-ghost use Rattle.bpf_verifier.specs.declared.refusal.Fault.{Fault};
-ghost use Rattle.bpf_verifier.specs.Walks.{IsPlain, HasWalk};
+ghost use Rattle.bpf_absstate.specs.View.{entry_view};
+ghost use Rattle.bpf_plain.specs.Clear.{IsClear};
+ghost use Rattle.bpf_rules.specs.declared.fault.Fault.{Fault};
+ghost use Rattle.bpf_plain.specs.Walks.{IsPlain, HasWalk};
 
 use crate::exploration::find_budget;
 use crate::refusal::Refusal;
 use bpf_decode::Program;
 use bpf_machine::Accepted;
+use bpf_plain::laws::plain_law;
 use bpf_regions::Hook;
 use std::alloc::Global;
 
@@ -29,9 +30,10 @@ pub fn verify(alloc: Global, program: Program, hook: Hook) -> Result<Accepted, R
     ensures walk { IfOk result (λ accepted. IsPlain program.slots → HasWalk program.slots accepted.budget) }
     ensures plain { IfErr result (λ e. IsPlain program.slots → e.fault ≡ Fault.NoMemory) }
     ensures begins { IfErr result (λ e. Begins program.slots e.pc) }
-    ensures clear { IfErr result (λ e. IsClear program.slots entry_view (2 ^ 22) → e.fault ≡ Fault.NoMemory) }
+    ensures clear { IfErr result (λ e. IsClear program entry_view (2 ^ 22) → e.fault ≡ Fault.NoMemory) }
 {
     program.whole();
+    plain_law();
     let budget = find_budget(alloc, &program)?;
     Ok(Accepted::new(program, hook, budget))
 }

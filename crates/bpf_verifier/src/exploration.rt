@@ -1,35 +1,42 @@
 //! The exploration, path by path.
 
-ghost use Rattle.std.specs.Prelude.{◌≡◌, ◌<◌, ◌≤◌, ◌+◌, ◌++◌, ◌∷◌, [], ◌^◌, ℕ, length, replicate, IfOk, IfErr, OnOk};
-ghost use Rattle.bpf_decode.specs.Program.{Begins};
+ghost use Rattle.std.specs.Prelude.{◌≡◌, ◌<◌, ◌≤◌, ◌+◌, ◌++◌, ◌∷◌, [], ◌^◌, ℕ, List, Option, Some, length, replicate, IfOk, IfErr, IfSome, OnOk};
+ghost use Rattle.bpf_insn.specs.declared.insn.Insn.{Insn};
+ghost use Rattle.bpf_decode.specs.Program.{Begins, Code, IsTarget};
 ghost use Rattle.bpf_model.specs.Run.{Safe};
 ghost use Rattle.bpf_model.specs.State.{Setting};
-ghost use Rattle.bpf_kinds.specs.View.{View, entry_view};
-ghost use Rattle.bpf_verifier.specs.Clear.{IsClear};
+ghost use Rattle.bpf_absstate.specs.View.{View, entry_view};
+ghost use Rattle.bpf_plain.specs.Clear.{IsClear};
+ghost use Rattle.bpf_plain.specs.Paths.{Reaches};
+ghost use Rattle.bpf_rules.specs.Covers.{IsSetting};
+ghost use Rattle.bpf_verifier.specs.Counting.{weight};
 ghost use Rattle.bpf_verifier.specs.Found.{IsCountedSoFar, IsPaidSoFar, IsBegunSoFar, IsSafeSoFar, IsSafeAfter, IsWalkedSoFar, IsWalkedAfter, IsClearSoFar, IsClearAfter};
-ghost use Rattle.bpf_verifier.specs.Path.{IsBegun, IsKept};
-ghost use Rattle.bpf_verifier.specs.Safety.{IsSetting, AllSafe};
-ghost use Rattle.bpf_verifier.specs.Walked.{Reaches};
-ghost use Rattle.bpf_verifier.specs.Walks.{IsPlain, HasWalk};
+ghost use Rattle.bpf_verifier.specs.Path.{IsBegun, IsKept, StandsIn};
+ghost use Rattle.bpf_verifier.specs.Safety.{AllSafe};
+ghost use Rattle.bpf_plain.specs.Walks.{IsPlain, HasWalk};
 
-use crate::examine::examine;
 use crate::laws::examination_law;
-use crate::refusal::{Fault, Refusal};
-use crate::ways::Ways;
+use crate::refusal::Refusal;
+use bpf_absstate::AbsState;
+use bpf_absstate::laws::{entry_law, inclusion_law};
+use bpf_checks::examine;
 use bpf_decode::Program;
-use bpf_kinds::AbsState;
-use bpf_kinds::laws::{entry_law, inclusion_law};
 use bpf_model::laws::within_law;
+use bpf_plain::laws::{standing_law, walking_law};
 use bpf_prune::{Entry, Finished};
+use bpf_rules::{Fault, Ways};
 use std::alloc::{AllocError, Global};
 
 /// How many states are examined at most.
 const VISITS: u32 = 4194304;
 
-/// A state some of whose ways are being explored.
+/// A state some of whose ways are being explored: one that stands at a target slot, or has two ways.
 #[derive(Drop)]
 struct Frame {
-    state: AbsState,
+    /// How many states with one way come before it, since the frame below.
+    before: u32,
+    /// The state, where it stands at a target slot.
+    state: Option<AbsState>,
     /// The way that is still to be explored.
     pending: Option<AbsState>,
     /// The greatest budget of the ways that are done.
@@ -50,20 +57,35 @@ enum Unwound {
 struct Exploration {
     /// The path to the state that is examined next.
     path: Vec<Frame>,
+    /// How many states with one way come after the newest frame.
+    after: u32,
     finished: Finished,
     /// How many states were examined.
     visits: u32,
 }
 
+/// The state itself, where it stands at a target slot.
+fn at_target(program: &Program, state: AbsState) -> Option<AbsState>
+    ensures there { IsTarget program.now.slots state.pc → result ≡ Some state }
+    ensures elsewhere { IfSome result (λ a. (a ≡ state) × IsTarget program.now.slots a.pc) }
+{
+    if program.is_target(state.pc()) {
+        return Some(state);
+    }
+    None
+}
+
 impl Exploration {
     fn new(alloc: Global, program: &Program) -> Result<Exploration, AllocError>
         ensures path { IfOk result (λ e. e.path.items ≡ []) }
+        ensures after { IfOk result (λ e. e.after ≡ 0) }
         ensures finished { IfOk result (λ e. e.finished ≡ replicate (length program.now.slots) []) }
         ensures visits { IfOk result (λ e. e.visits ≡ 0) }
     {
         let finished = Finished::new(alloc, program.len())?;
         Ok(Exploration {
             path: Vec::new(alloc),
+            after: 0,
             finished,
             visits: 0,
         })
@@ -72,104 +94,121 @@ impl Exploration {
     /// Puts a state on the path. One of its ways is explored next, and then `pending`.
     fn push(
         &mut self,
-        state: AbsState,
+        before: u32,
+        state: Option<AbsState>,
         pending: Option<AbsState>,
         best: u32,
     ) -> Result<(), AllocError>
-        ensures path { OnOk result (self.new.path.items ≡ self.old.path.items ++ (record { state = state; pending = pending; best = best }) ∷ []) }
+        ensures path { OnOk result (self.new.path.items ≡ self.old.path.items ++ (record { before = before; state = state; pending = pending; best = best }) ∷ []) }
+        ensures after { OnOk result (self.new.after ≡ 0) }
         ensures finished { self.new.finished ≡ self.old.finished }
         ensures visits { self.new.visits ≡ self.old.visits }
     {
         self.path.push(Frame {
+            before,
             state,
             pending,
             best,
         })?;
+        self.after = 0;
         Ok(())
     }
 
-    /// Keeps a state that is done, where it stands at a target slot.
-    fn finish(&mut self, program: &Program, state: AbsState, budget: u32) -> Result<(), AllocError>
-        ensures finished { OnOk result (IsKept program.now.slots self.old.finished self.new.finished (record { state = state; budget = budget })) }
+    /// Keeps a state that is done.
+    fn finish(&mut self, state: Option<AbsState>, budget: u32) -> Result<(), AllocError>
+        ensures finished { OnOk result (IsKept self.old.finished self.new.finished state budget) }
         ensures path { self.new.path ≡ self.old.path }
+        ensures after { self.new.after ≡ self.old.after }
         ensures visits { self.new.visits ≡ self.old.visits }
     {
-        if program.is_target(state.pc()) {
+        if let Some(state) = state {
             self.finished.keep(Entry { state, budget })?;
         }
         Ok(())
     }
 
     /// The state under exploration is done within a budget: goes back to the newest way that is still to be explored.
-    fn unwind(&mut self, program: &Program, done: u32) -> Result<Unwound, AllocError>
+    fn unwind(&mut self, done: u32) -> Result<Unwound, AllocError>
         requires counted { IsCountedSoFar self.old }
-        requires paid { done + length self.old.path.items ≤ self.old.visits }
+        requires paid { done + weight self.old.path.items self.old.after ≤ self.old.visits }
         ensures visits { IfOk result (λ u. self.new.visits ≡ self.old.visits) }
         ensures counted { IfOk result (λ u. IsCountedSoFar self.new) }
         ensures paid { IfOk result (IsPaidSoFar self.new) }
-        ensures begun { IfOk result (λ u. IsBegunSoFar program.now.slots self.old → IsBegunSoFar program.now.slots self.new × IsBegun program.now.slots u) }
+        ensures begun { IfOk result (λ u. (slots : List (Option Insn)) → IsBegunSoFar slots self.old → IsBegunSoFar slots self.new × IsBegun slots u) }
         ensures safe { IfOk result (λ u. (p : Setting) (start a : View) → IsSafeSoFar p start a self.old → AllSafe p done a → IsSafeAfter p start self.new u) }
-        ensures walked { IfOk result (λ u. (start a : View) → IsWalkedSoFar program.now.slots start a self.old → Reaches program.now.slots a.pc done → IsWalkedAfter program.now.slots start self.new u) }
-        ensures clear { IfOk result (λ u. (n : ℕ) → IsClearSoFar program.now.slots n self.old → IsClearAfter program.now.slots n self.new u) }
+        ensures walked { IfOk result (λ u. (slots : List (Option Insn)) (start a : View) → IsWalkedSoFar slots start a self.old → Reaches slots a.pc done → IsWalkedAfter slots start self.new u) }
+        ensures clear { IfOk result (λ u. (c : Code) (n : ℕ) → IsClearSoFar c n self.old → IsClearAfter c n self.new u) }
     {
         let mut done = done;
         while let Some(frame) = self.path.pop() {
             let Frame {
+                before,
                 state,
                 pending,
                 best,
             } = frame;
-            let best = best.max(done);
+            let best = best.max(done + self.after);
             match pending {
                 Some(next) => {
-                    self.push(state, None, best)?;
+                    self.push(before, state, None, best)?;
                     return Ok(Unwound::Onward(next));
                 }
                 None => {
+                    self.after = before;
                     done = best + 1;
-                    self.finish(program, state, done)?;
+                    self.finish(state, done)?;
                 }
             }
         }
-        Ok(Unwound::Over(done))
+        Ok(Unwound::Over(done + self.after))
     }
 
     /// Examines a state, unless a finished one covers it. Its first way is explored next; where there is none it is
     /// done.
-    fn visit(&mut self, program: &Program, state: AbsState) -> Result<Unwound, Fault>
+    fn visit(&mut self, alloc: Global, program: &Program, state: AbsState) -> Result<Unwound, Fault>
         requires room { self.old.visits < VISITS }
         requires counted { IsCountedSoFar self.old }
-        requires paid { length self.old.path.items ≤ self.old.visits }
-        requires begins { Begins program.now.slots state.pc }
+        requires paid { weight self.old.path.items self.old.after ≤ self.old.visits }
+        requires stands { StandsIn program.now.slots state }
         ensures visits { IfOk result (λ u. self.new.visits ≡ self.old.visits + 1) }
         ensures counted { IfOk result (λ u. IsCountedSoFar self.new) }
         ensures paid { IfOk result (IsPaidSoFar self.new) }
         ensures begun { IfOk result (λ u. IsBegunSoFar program.now.slots self.old → IsBegunSoFar program.now.slots self.new × IsBegun program.now.slots u) }
         ensures safe { IfOk result (λ u. (p : Setting) (start : View) → IsSetting program.now p → IsSafeSoFar p start state self.old → IsSafeAfter p start self.new u) }
         ensures walked { IfOk result (λ u. (start : View) → IsPlain program.now.slots → IsWalkedSoFar program.now.slots start state self.old → IsWalkedAfter program.now.slots start self.new u) }
-        ensures clear { IfOk result (λ u. (l m n : ℕ) → IsClear program.now.slots state l → IsClearSoFar program.now.slots m self.old → l + m ≤ n + 1 → IsClearAfter program.now.slots n self.new u) }
-        ensures refuses { IfErr result (λ e. (n : ℕ) → IsClear program.now.slots state n → e ≡ Fault.NoMemory) }
+        ensures clear { IfOk result (λ u. (l m n : ℕ) → IsClear program.now state l → IsClearSoFar program.now m self.old → l + m ≤ n + 1 → IsClearAfter program.now n self.new u) }
+        ensures refuses { IfErr result (λ e. (n : ℕ) → IsClear program.now state n → e ≡ Fault.NoMemory) }
     {
         program.whole();
         examination_law();
         inclusion_law();
+        standing_law();
+        walking_law();
         self.visits += 1;
         if let Some(budget) = self.finished.covering(&state) {
-            let unwound = self.unwind(program, budget)?;
+            let unwound = self.unwind(budget)?;
             return Ok(unwound);
         }
-        match examine(program, &state)? {
+        match examine(alloc, program, &state)? {
             Ways::Nowhere => {
-                self.finish(program, state, 1)?;
-                let unwound = self.unwind(program, 1)?;
+                let leaf = at_target(program, state);
+                self.finish(leaf, 1)?;
+                let unwound = self.unwind(1)?;
                 Ok(unwound)
             }
             Ways::One(next) => {
-                self.push(state, None, 0)?;
+                if !program.is_target(state.pc()) {
+                    self.after += 1;
+                    return Ok(Unwound::Onward(next));
+                }
+                let before = self.after;
+                self.push(before, Some(state), None, 0)?;
                 Ok(Unwound::Onward(next))
             }
             Ways::Two(first, second) => {
-                self.push(state, Some(second), 0)?;
+                let before = self.after;
+                let kept = at_target(program, state);
+                self.push(before, kept, Some(second), 0)?;
                 Ok(Unwound::Onward(first))
             }
         }
@@ -181,17 +220,20 @@ pub(crate) fn find_budget(alloc: Global, program: &Program) -> Result<u32, Refus
     ensures safe { IfOk result (Safe program.now.slots program.now.shapes) }
     ensures small { IfOk result (λ budget. budget ≤ 2 ^ 22) }
     ensures walk { IfOk result (λ budget. IsPlain program.now.slots → HasWalk program.now.slots budget) }
-    ensures clear { IfErr result (λ e. IsClear program.now.slots entry_view (2 ^ 22) → e.fault ≡ Fault.NoMemory) }
+    ensures clear { IfErr result (λ e. IsClear program.now entry_view (2 ^ 22) → e.fault ≡ Fault.NoMemory) }
     ensures begins { IfErr result (λ e. Begins program.now.slots e.pc) }
 {
     program.whole();
+    program.shapes().whole();
     entry_law();
+    standing_law();
+    walking_law();
     within_law();
     let mut exploration = Exploration::new(alloc, program)?;
     let mut current = AbsState::entry(alloc)?;
     'visit: while exploration.visits < VISITS {
         let pc = current.pc();
-        match exploration.visit(program, current) {
+        match exploration.visit(alloc, program, current) {
             Ok(Unwound::Onward(next)) => current = next,
             Ok(Unwound::Over(budget)) => return Ok(budget),
             Err(fault) => return Err(Refusal { fault, pc }),

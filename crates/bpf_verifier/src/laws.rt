@@ -1,12 +1,16 @@
-//! What the examination of an instruction is good for. These functions do nothing; a caller's proof takes their
-//! promises.
+//! What the examination of an instruction is good for. This function does nothing; a caller's proof takes its promise.
 
-ghost use Rattle.bpf_verifier.specs.Laws.{ExaminedCovers, ExaminedFollows};
+ghost use Rattle.bpf_verifier.specs.Laws.{ExaminedCovers};
 
-/// Whatever comes next after a state lies in one of the ways, and each way follows the slot of the instruction.
+use bpf_sound_flow::laws::flow_law;
+use bpf_sound_memory::{atomic_law, load_law, store_law};
+
+/// Whatever comes next after a state lies in one of the ways.
 pub fn examination_law()
     ensures covers { ExaminedCovers }
-    ensures follows { ExaminedFollows }
 {
-    bpf_kinds::laws::step_law();
+    flow_law();
+    load_law();
+    store_law();
+    atomic_law();
 }

@@ -2,14 +2,13 @@
 #![tactic(auto)]
 
 pub mod admission;
-pub mod examine;
 mod exploration;
 pub mod laws;
 pub mod refusal;
-pub mod ways;
 
 pub use admission::verify;
-pub use refusal::{Fault, Refusal};
+pub use bpf_rules::Fault;
+pub use refusal::Refusal;
 
 #[cfg(test)]
 mod tests;

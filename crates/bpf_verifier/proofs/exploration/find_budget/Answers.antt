@@ -1,16 +1,22 @@
-use Rattle.std.proofs.Common.{IfSome, ◌≡◌, ◌≤◌, ◌-◌, ◌+◌, ◌^◌, [], ℕ, List, length, refl, sym, subst, ap, arith}
+use Rattle.std.proofs.Common.{IfSome, ◌≡◌, ◌≤◌, ◌-◌, ◌+◌, ◌^◌, [], ℕ, List, refl, sym, subst, arith}
 use Rattle.std.specs.List.{All}
 use Rattle.std.proofs.lemmas.List.Elements.{All-nil}
-use Rattle.bpf_decode.specs.Program.{Begins}
 use Rattle.bpf_model.specs.Run.{setting}
 use Rattle.bpf_model.specs.State.{entry}
-use Rattle.bpf_kinds.specs.View.{entry_view}
+use Rattle.bpf_absstate.specs.View.{entry_view}
 use Rattle.bpf_prune.specs.declared.kept.Entry.{Entry}
 use Rattle.bpf_verifier.specs.declared.exploration.Frame.{Frame}
-use Rattle.bpf_verifier.specs.Safety.{IsSetting, IsExplored, AllSafe}
-use Rattle.bpf_verifier.specs.Walked.{IsWalked, Reaches}
+use Rattle.bpf_regions.specs.Maps.{AreShapes}
+use Rattle.bpf_rules.specs.Covers.{IsSetting}
+use Rattle.bpf_plain.specs.Paths.{Reaches}
+use Rattle.bpf_verifier.specs.Path.{StandsIn}
+use Rattle.bpf_verifier.specs.Safety.{LeadsSafely, IsExplored, AllSafe}
+use Rattle.bpf_verifier.specs.Walked.{LeadsBySlots, IsWalked}
+use Rattle.bpf_verifier.specs.Counting.{weight}
+use Rattle.bpf_verifier.proofs.Counts.{weight_empty}
+use Rattle.bpf_verifier.proofs.Explored as explored
+use Rattle.bpf_verifier.proofs.Walking as walking
 use Rattle.bpf_verifier.proofs.Clears.{AreClear-none, clear_some}
-use Rattle.bpf_verifier.proofs.Graph.{reaches_walk}
 use Rattle.bpf_verifier.proofs.Paths.{Linked-empty}
 use Rattle.bpf_verifier.proofs.Tables.{none}
 use Rattle.bpf_verifier.proofs.exploration.find_budget.Goals as goal
@@ -18,20 +24,23 @@ use Rattle.bpf_verifier.proofs.exploration.find_budget.Goals as goal
 pub visit-init : goal.visit-init
 visit-init c =
     let fs : List Frame = c.in_ok-exploration.exploration.path.items in
+    let after : ℕ = c.in_ok-exploration.exploration.after in
+    let visits : ℕ = c.in_ok-exploration.exploration.visits in
     let table : List (List Entry) = c.in_ok-exploration.exploration.finished in
+    let slots = c.args.program.now.slots in
     let empty : fs ≡ [] = c.in_ok-exploration.ensures.path in
-    let size : length fs ≡ 0 = ap length empty in
+    let none_after : after ≡ 0 = c.in_ok-exploration.ensures.after in
     let same : c.in_ok-current.current ≡ entry_view = c.in_ok-current.ensures.is in
     record {
-      counted = record { frames = subst (All (λ f. f.best + length fs ≤ c.in_ok-exploration.exploration.visits)) (sym empty) (All-nil (λ f. f.best + length fs ≤ c.in_ok-exploration.exploration.visits)); finished = none (λ e. e.budget + length fs ≤ c.in_ok-exploration.exploration.visits) table _ c.in_ok-exploration.ensures.finished };
-      paid = omega (arith, size);
-      begins = rw same c.whole.ensures.is.first;
-      begun = rw empty (All-nil (λ f. IfSome f.pending (λ a. Begins c.args.program.now.slots a.pc)));
-      path = λ p set. rw same (Linked-empty (IsExplored p) fs entry_view empty);
+      counted = record { frames = subst (All (λ f. f.best + weight fs after ≤ visits)) (sym empty) (All-nil (λ f. f.best + weight fs after ≤ visits)); finished = none (λ e. e.budget + weight fs after ≤ visits) table _ c.in_ok-exploration.ensures.finished };
+      paid = let size = weight_empty fs after empty in omega (arith, size, none_after);
+      stands = rw same (c.standing_law.ensures.entry c.args.program.now c.whole.ensures.is, λ plain. refl);
+      begun = rw empty (All-nil (λ f. IfSome f.pending (StandsIn slots)));
+      path = λ p set. rw same (Linked-empty (LeadsSafely p) (IsExplored p) fs after entry_view empty none_after (explored.stays p entry_view));
       safe = λ p set. none (λ e. AllSafe p e.budget e.state) table _ c.in_ok-exploration.ensures.finished;
-      walks = λ plain. rw same (Linked-empty (IsWalked c.args.program.now.slots) fs entry_view empty);
-      walked = λ plain. none (λ e. Reaches c.args.program.now.slots e.state.pc e.budget) table _ c.in_ok-exploration.ensures.finished;
-      clear = λ clear. (2 ^ 22, 0, rw same clear, AreClear-none c.args.program.now.slots fs empty, omega (arith, c.in_ok-exploration.ensures.visits));
+      walks = λ plain. rw same (Linked-empty (LeadsBySlots slots) (IsWalked slots) fs after entry_view empty none_after (walking.stays slots entry_view));
+      walked = λ plain. none (λ e. Reaches slots e.state.pc e.budget) table _ c.in_ok-exploration.ensures.finished;
+      clear = λ clear. (2 ^ 22, 0, rw same clear, AreClear-none c.args.program.now fs empty, omega (arith, c.in_ok-exploration.ensures.visits));
     }
 
 pub visit-preserved : goal.visit-preserved
@@ -40,7 +49,7 @@ visit-preserved c =
     record {
       counted = c.in-Ok-Onward.ensures.counted;
       paid = rw c.in-Ok-Onward.field-0-is at c.in-Ok-Onward.ensures.paid;
-      begins = (rw c.in-Ok-Onward.field-0-is at c.in-Ok-Onward.ensures.begun h.begun).1;
+      stands = (rw c.in-Ok-Onward.field-0-is at c.in-Ok-Onward.ensures.begun h.begun).1;
       begun = (c.in-Ok-Onward.ensures.begun h.begun).0;
       path = λ p set. (rw c.in-Ok-Onward.field-0-is at c.in-Ok-Onward.ensures.safe p entry_view set (h.path p set, h.safe p set)).0;
       safe = λ p set. (c.in-Ok-Onward.ensures.safe p entry_view set (h.path p set, h.safe p set)).1;
@@ -57,7 +66,7 @@ pub returns-in-Ok-Over-clause-safe : goal.returns-in-Ok-Over-clause-safe
 returns-in-Ok-Over-clause-safe c =
     c.within_law.ensures c.args.program.now.slots c.args.program.now.shapes c.in-Ok-Over.budget (λ frame context short long bytes bytes2.
     let p = setting c.args.program.now.slots c.args.program.now.shapes frame context in
-    let set : IsSetting c.args.program.now p = record { code = refl; shapes = refl; frame = short; context = long; frame_bytes = bytes; context_bytes = bytes2 } in
+    let set : IsSetting c.args.program.now p = record { code = refl; shapes = refl; maps = subst AreShapes c.shapes.ensures.is c.whole-2.ensures.is; frame = short; context = long; frame_bytes = bytes; context_bytes = bytes2 } in
     let h = c.visit.invariant in
     (rw c.in-Ok-Over.field-0-is at c.in-Ok-Over.ensures.safe p entry_view set (h.path p set, h.safe p set)).0 entry (c.entry_law.ensures.contains p))
 
@@ -65,10 +74,10 @@ pub returns-in-Ok-Over-clause-walk : goal.returns-in-Ok-Over-clause-walk
 returns-in-Ok-Over-clause-walk c = λ plain.
     let h = c.visit.invariant in
     let r = (rw c.in-Ok-Over.field-0-is at c.in-Ok-Over.ensures.walked entry_view plain (h.walks plain, h.walked plain)).0 in
-    reaches_walk c.args.program.now.slots c.in-Ok-Over.budget r
+    c.walking_law.ensures.walks c.args.program.now c.in-Ok-Over.budget r
 
 pub returns-clause-clear : goal.returns-clause-clear
 returns-clause-clear c = λ clear.
     let k = c.visit.invariant.clear clear in
-    let some = clear_some c.args.program.now.slots c.visit.current k.0 k.2 in
+    let some = clear_some c.args.program.now c.visit.current k.0 k.2 in
     absurd (omega (arith, some, k.4, c.visit-test.false))

@@ -1,0 +1,277 @@
+//! What a run begins with, changes of a copy, calls and returns, labels, and inclusion.
+
+use crate::AbsState;
+use bpf_absnum::AbsNum;
+use bpf_absval::{AbsRegion, AbsSlot, AbsVal, Label};
+use bpf_insn::Reg;
+use std::alloc::{AllocError, Global};
+use std::test::Fail;
+
+/// That number alone.
+fn number(number: u64) -> AbsVal {
+    AbsVal::Number(AbsNum::single(number))
+}
+
+/// That number, stored whole.
+fn stored(value: u64) -> AbsSlot {
+    AbsSlot::Stored(number(value))
+}
+
+/// A pointer that far into a region.
+fn pointer(region: AbsRegion, offset: u64) -> AbsVal {
+    AbsVal::Pointer {
+        region,
+        offset: AbsNum::single(offset),
+    }
+}
+
+/// A frame pointer, at some offset, that lies behind the label's place.
+fn behind(label: u16) -> AbsVal {
+    AbsVal::Frame {
+        offset: AbsNum::full(),
+        label: Some(Label { label, distance: 3 }),
+    }
+}
+
+/// A frame pointer at some offset.
+fn anywhere() -> AbsVal {
+    AbsVal::Frame {
+        offset: AbsNum::full(),
+        label: None,
+    }
+}
+
+/// The entry, with the register's own number in each of R0 to R9.
+fn numbered(alloc: Global) -> Result<AbsState, AllocError> {
+    let mut state = AbsState::entry(alloc)?;
+    for register in 0..10 {
+        state.set_register(Reg::new(register), number(u64::from(register)))?;
+    }
+    Ok(state)
+}
+
+/// A state in a called function, with numbers in R0 to R9 of both functions and in a stack slot of each.
+fn in_a_call(alloc: Global) -> Result<AbsState, AllocError> {
+    let mut state = numbered(alloc)?;
+    state.set_slot(0, 5, stored(50))?;
+    state.call(alloc, 40, 3)?;
+    if state.depth() == 2 {
+        state.set_slot(1, 5, stored(51))?;
+    }
+    Ok(state)
+}
+
+#[test]
+fn a_run_begins_with_its_frame_and_context(rt: HostRuntime) -> Result<(), Fail> {
+    let entry = AbsState::entry(rt.alloc())?;
+    assert_eq!(rt; entry.pc(), 0);
+    assert_eq!(rt; entry.depth(), 1);
+    assert_eq!(rt; entry.least(), 0);
+    assert_eq!(rt; entry.room(1), None);
+    let start = AbsVal::Frame {
+        offset: AbsNum::single(0),
+        label: None,
+    };
+    assert_eq!(rt; entry.register(Reg::new(0)), AbsVal::Unset);
+    assert_eq!(rt; entry.register(Reg::new(1)), start);
+    assert_eq!(rt; entry.register(Reg::new(2)), AbsVal::FrameEnd);
+    assert_eq!(rt; entry.register(Reg::new(3)), pointer(AbsRegion::Context, 0));
+    for register in 4..10 {
+        assert_eq!(rt; entry.register(Reg::new(register)), AbsVal::Unset);
+    }
+    assert_eq!(rt;
+        entry.register(Reg::new(10)),
+        pointer(AbsRegion::Stack(0), 512)
+    );
+    assert_eq!(rt; entry.slot(0, 0), AbsSlot::Unset);
+    assert_eq!(rt; entry.slot(0, 63), AbsSlot::Unset);
+    Ok(())
+}
+
+#[test]
+fn a_copy_changes_alone(rt: HostRuntime) -> Result<(), Fail> {
+    let entry = AbsState::entry(rt.alloc())?;
+    let mut next = entry.clone()?;
+    next.set_register(Reg::new(0), number(7))?;
+    next.set_slot(0, 63, stored(8))?;
+    next.raise_least(24);
+    next.raise_least(20);
+    next.raise_room(5, 9)?;
+    next.go_to(6);
+    assert_eq!(rt; next.register(Reg::new(0)), number(7));
+    assert_eq!(rt; next.slot(0, 63), stored(8));
+    assert_eq!(rt; next.slot(0, 62), AbsSlot::Unset);
+    assert_eq!(rt; next.least(), 24);
+    assert_eq!(rt; next.room(5), Some(9));
+    assert_eq!(rt; next.pc(), 6);
+    assert_eq!(rt; entry.register(Reg::new(0)), AbsVal::Unset);
+    assert_eq!(rt; entry.slot(0, 63), AbsSlot::Unset);
+    assert_eq!(rt; entry.least(), 0);
+    assert_eq!(rt; entry.room(5), None);
+    assert_eq!(rt; entry.pc(), 0);
+    Ok(())
+}
+
+#[test]
+fn arguments_are_unset_after_a_helper(rt: HostRuntime) -> Result<(), Fail> {
+    let mut state = numbered(rt.alloc())?;
+    state.clear_arguments()?;
+    for register in 1..6 {
+        assert_eq!(rt; state.register(Reg::new(register)), AbsVal::Unset);
+    }
+    assert_eq!(rt; state.register(Reg::new(0)), number(0));
+    assert_eq!(rt; state.register(Reg::new(6)), number(6));
+    Ok(())
+}
+
+#[test]
+fn a_called_function_has_the_arguments_alone(rt: HostRuntime) -> Result<(), Fail> {
+    let state = in_a_call(rt.alloc())?;
+    assert_eq!(rt; state.pc(), 40);
+    assert_eq!(rt; state.depth(), 2);
+    assert_eq!(rt; state.register(Reg::new(0)), AbsVal::Unset);
+    for register in 1..6 {
+        assert_eq!(rt;
+            state.register(Reg::new(register)),
+            number(u64::from(register))
+        );
+    }
+    for register in 6..10 {
+        assert_eq!(rt; state.register(Reg::new(register)), AbsVal::Unset);
+    }
+    assert_eq!(rt;
+        state.register(Reg::new(10)),
+        pointer(AbsRegion::Stack(1), 512)
+    );
+    Ok(())
+}
+
+#[test]
+fn each_function_has_a_stack(rt: HostRuntime) -> Result<(), Fail> {
+    let state = in_a_call(rt.alloc())?;
+    if state.depth() == 2 {
+        assert_eq!(rt; state.slot(0, 5), stored(50));
+        assert_eq!(rt; state.slot(1, 5), stored(51));
+        assert_eq!(rt; state.slot(0, 4), AbsSlot::Unset);
+        assert_eq!(rt; state.slot(1, 4), AbsSlot::Unset);
+    }
+    Ok(())
+}
+
+#[test]
+fn a_caller_goes_on_with_what_it_kept(rt: HostRuntime) -> Result<(), Fail> {
+    let mut state = in_a_call(rt.alloc())?;
+    state.set_register(Reg::new(0), number(99))?;
+    state.set_register(Reg::new(6), number(66))?;
+    if state.depth() == 2 {
+        state.return_to_caller()?;
+    }
+    assert_eq!(rt; state.pc(), 3);
+    assert_eq!(rt; state.depth(), 1);
+    assert_eq!(rt; state.register(Reg::new(0)), number(99));
+    for register in 1..6 {
+        assert_eq!(rt; state.register(Reg::new(register)), AbsVal::Unset);
+    }
+    for register in 6..10 {
+        assert_eq!(rt;
+            state.register(Reg::new(register)),
+            number(u64::from(register))
+        );
+    }
+    assert_eq!(rt;
+        state.register(Reg::new(10)),
+        pointer(AbsRegion::Stack(0), 512)
+    );
+    assert_eq!(rt; state.slot(0, 5), stored(50));
+    Ok(())
+}
+
+#[test]
+fn eight_functions_are_called(rt: HostRuntime) -> Result<(), Fail> {
+    let alloc = rt.alloc();
+    let mut state = AbsState::entry(alloc)?;
+    for back in 0..20 {
+        if state.depth() < 8 {
+            state.call(alloc, 7, back)?;
+        }
+    }
+    assert_eq!(rt; state.depth(), 8);
+    assert_eq!(rt;
+        state.register(Reg::new(10)),
+        pointer(AbsRegion::Stack(7), 512)
+    );
+    Ok(())
+}
+
+#[test]
+fn a_label_is_forgotten_everywhere(rt: HostRuntime) -> Result<(), Fail> {
+    let alloc = rt.alloc();
+    let mut state = AbsState::entry(alloc)?;
+    state.set_register(Reg::new(1), behind(8))?;
+    state.set_register(Reg::new(6), behind(8))?;
+    state.set_register(Reg::new(7), behind(9))?;
+    state.set_slot(0, 2, AbsSlot::Stored(behind(8)))?;
+    state.raise_room(8, 5)?;
+    state.raise_room(9, 5)?;
+    state.call(alloc, 40, 3)?;
+    state.forget_label(alloc, 8)?;
+    assert_eq!(rt; state.register(Reg::new(1)), anywhere());
+    assert_eq!(rt; state.room(8), None);
+    assert_eq!(rt; state.room(9), Some(5));
+    assert_eq!(rt; state.slot(0, 2), AbsSlot::Stored(anywhere()));
+    if state.depth() == 2 {
+        state.return_to_caller()?;
+    }
+    assert_eq!(rt; state.register(Reg::new(6)), anywhere());
+    assert_eq!(rt; state.register(Reg::new(7)), behind(9));
+    Ok(())
+}
+
+#[test]
+fn what_may_be_more_includes(rt: HostRuntime) -> Result<(), Fail> {
+    let alloc = rt.alloc();
+    let state = in_a_call(alloc)?;
+    assert!(rt; state.is_included(&state));
+    let mut wider = state.clone()?;
+    wider.set_register(Reg::new(1), AbsVal::Number(AbsNum::full()))?;
+    assert!(rt; state.is_included(&wider));
+    assert!(rt; !wider.is_included(&state));
+    let mut further = state.clone()?;
+    further.raise_least(1);
+    assert!(rt; further.is_included(&state));
+    assert!(rt; !state.is_included(&further));
+    let mut elsewhere = state.clone()?;
+    elsewhere.go_to(41);
+    assert!(rt; !state.is_included(&elsewhere));
+    let mut deeper = state.clone()?;
+    if deeper.depth() < 8 {
+        deeper.call(alloc, 40, 3)?;
+    }
+    assert!(rt; !state.is_included(&deeper));
+    assert!(rt; !deeper.is_included(&state));
+    Ok(())
+}
+
+#[test]
+fn the_stacks_of_callers_count(rt: HostRuntime) -> Result<(), Fail> {
+    let state = in_a_call(rt.alloc())?;
+    let mut less = state.clone()?;
+    less.set_slot(0, 5, AbsSlot::Bytes(255))?;
+    assert!(rt; state.is_included(&less));
+    assert!(rt; !less.is_included(&state));
+    Ok(())
+}
+
+#[test]
+fn a_room_counts_where_its_label_is_carried(rt: HostRuntime) -> Result<(), Fail> {
+    let mut carried = AbsState::entry(rt.alloc())?;
+    carried.set_register(Reg::new(4), behind(8))?;
+    let mut known = carried.clone()?;
+    known.raise_room(8, 5)?;
+    assert!(rt; known.is_included(&carried));
+    assert!(rt; !carried.is_included(&known));
+    known.raise_room(9, 5)?;
+    carried.raise_room(8, 6)?;
+    assert!(rt; carried.is_included(&known));
+    Ok(())
+}

@@ -1,0 +1,3 @@
+pub mod Touched
+pub mod Outcomes
+pub mod Slots

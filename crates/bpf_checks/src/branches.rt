@@ -1,0 +1,411 @@
+//! Conditional jumps: which ways are visited, and what each teaches.
+
+ghost use Rattle.std.specs.Prelude.{◌≡◌, ◌≤◌, IfOk, IfSome};
+ghost use Rattle.bpf_absval.specs.declared.value.AbsVal.TheVariants.{Number};
+ghost use Rattle.bpf_checks.specs.Lessons.{lesson_of};
+ghost use Rattle.bpf_absstate.specs.View.{with_register};
+ghost use Rattle.bpf_model.specs.Alu.{is_zero};
+ghost use Rattle.bpf_rules.specs.Faults.{IsOrNoMemory};
+ghost use Rattle.bpf_rules.specs.Branches.{compared_value, is_itself, narrowed, narrowed_state, number_way, number_ways, null_test, lookup_ways, pointer_ways, turned, is_order, learnt, taught, lesson, end_test, wide_ways, narrow_ways, split};
+
+use crate::operands::fault_of_two;
+use bpf_absnum::AbsNum;
+use bpf_absstate::AbsState;
+use bpf_absval::{AbsRegion, AbsVal, Label};
+use bpf_insn::{Compare, Reg, Source};
+use bpf_rules::Fault;
+use bpf_words::word_of_int;
+use std::alloc::AllocError;
+
+/// The states on the way that isn't taken and on the way that is, at the jump itself; None where a way is not visited.
+pub type Split = (Option<AbsState>, Option<AbsState>);
+
+/// What is compared with; JMP32 compares the low 32 bits of an immediate.
+fn compared_with(state: &AbsState, wide: bool, source: Source) -> AbsVal
+    ensures is { result ≡ compared_value wide state.now source }
+{
+    match source {
+        Source::Imm(number) => {
+            let word = word_of_int(number);
+            let word = if wide { word } else { word % 4294967296 };
+            AbsVal::Number(AbsNum::single(word))
+        }
+        Source::Reg(register) => state.register(register),
+    }
+}
+
+/// Whether both sides are one register.
+fn same_register(dst: Reg, source: &Source) -> bool
+    ensures is { result ≡ is_itself dst source.now }
+{
+    match source {
+        Source::Imm(_) => false,
+        Source::Reg(register) => *register == dst,
+    }
+}
+
+/// What is left of both operands on a way.
+fn narrow(
+    wide: bool,
+    compare: Compare,
+    itself: bool,
+    taken: bool,
+    x: AbsNum,
+    y: AbsNum,
+) -> Option<(AbsNum, AbsNum)>
+    ensures is { result ≡ narrowed wide compare itself taken x y }
+{
+    if itself && !x.is_single() {
+        return Some((x, y));
+    }
+    x.branch(compare, wide, taken, y)
+}
+
+/// A copy of the state in which the operands are what is left of them.
+fn with_narrowed(
+    state: &AbsState,
+    dst: Reg,
+    source: &Source,
+    x: AbsNum,
+    y: AbsNum,
+) -> Result<AbsState, AllocError>
+    ensures is { IfOk result (λ next. next ≡ narrowed_state state.now dst source.now x y) }
+{
+    let mut next = state.clone()?;
+    next.set_register(dst, AbsVal::Number(x))?;
+    if let Source::Reg(register) = source {
+        next.set_register(*register, AbsVal::Number(y))?;
+    }
+    Ok(next)
+}
+
+/// A way of a comparison of numbers.
+fn way_of_numbers(
+    state: &AbsState,
+    wide: bool,
+    compare: Compare,
+    taken: bool,
+    dst: Reg,
+    source: &Source,
+    x: &AbsNum,
+    y: &AbsNum,
+) -> Result<Option<AbsState>, AllocError>
+    ensures is { IfOk result (λ way. way ≡ number_way state.now wide compare taken dst source.now x.now y.now) }
+{
+    let itself = same_register(dst, source);
+    match narrow(wide, compare, itself, taken, *x, *y) {
+        None => Ok(None),
+        Some((u, v)) => {
+            let next = with_narrowed(state, dst, source, u, v)?;
+            Ok(Some(next))
+        }
+    }
+}
+
+/// Both ways of a comparison of numbers.
+fn ways_of_numbers(
+    state: &AbsState,
+    wide: bool,
+    compare: Compare,
+    dst: Reg,
+    source: &Source,
+    x: &AbsNum,
+    y: &AbsNum,
+) -> Result<Split, AllocError>
+    ensures is { IfOk result (λ ways. ways ≡ number_ways state.now wide compare dst source.now x.now y.now) }
+{
+    let fall = way_of_numbers(state, wide, compare, false, dst, source, x, y)?;
+    let jump = way_of_numbers(state, wide, compare, true, dst, source, x, y)?;
+    Ok((fall, jump))
+}
+
+/// Whether the immediate 0 is tested for by JEQ or JNE, and then whether the jump is taken where the register isn't 0.
+fn taken_unless_null(compare: Compare, zero: bool) -> Option<bool>
+    ensures is { result ≡ null_test compare zero }
+{
+    match compare {
+        Compare::Eq => {
+            if zero {
+                return Some(false);
+            }
+            None
+        }
+        Compare::Ne => {
+            if zero {
+                return Some(true);
+            }
+            None
+        }
+        _ => None,
+    }
+}
+
+/// Whether a source is the immediate 0.
+fn is_zero_source(source: &Source) -> bool
+    ensures is { result ≡ is_zero source.now }
+{
+    match source {
+        Source::Imm(number) => word_of_int(*number) == 0,
+        Source::Reg(_) => false,
+    }
+}
+
+/// A copy of the state with a value in a register.
+fn with_value(state: &AbsState, dst: Reg, value: AbsVal) -> Result<AbsState, AllocError>
+    ensures is { IfOk result (λ next. next ≡ with_register state.now dst value) }
+{
+    let mut next = state.clone()?;
+    next.set_register(dst, value)?;
+    Ok(next)
+}
+
+/// The ways of a lookup's answer that is tested for null: it is 0, or points to the start of an entry.
+fn ways_of_lookup(state: &AbsState, dst: Reg, map: u32, test: Option<bool>) -> Result<Split, Fault>
+    ensures is { IsOrNoMemory result (lookup_ways state.now dst map test) }
+{
+    let Some(taken) = test else {
+        return Err(Fault::NotTested);
+    };
+    let pointer = AbsVal::Pointer {
+        region: AbsRegion::Entry(map),
+        offset: AbsNum::single(0),
+    };
+    let set = with_value(state, dst, pointer)?;
+    let null = with_value(state, dst, AbsVal::Number(AbsNum::single(0)))?;
+    if taken {
+        return Ok((Some(null), Some(set)));
+    }
+    Ok((Some(set), Some(null)))
+}
+
+/// The one way of a pointer that is tested for null.
+fn ways_of_pointer(state: &AbsState, test: Option<bool>) -> Result<Split, Fault>
+    ensures is { IsOrNoMemory result (pointer_ways state.now test) }
+{
+    let Some(taken) = test else {
+        return Err(Fault::WrongOperand);
+    };
+    let set = state.clone()?;
+    if taken {
+        return Ok((None, Some(set)));
+    }
+    Ok((Some(set), None))
+}
+
+/// A way on which the offset and `more` bytes are at most the frame's length; None where no frame is so long.
+fn with_learnt(
+    state: &AbsState,
+    offset: AbsNum,
+    label: &Option<Label>,
+    more: u16,
+) -> Result<Option<AbsState>, AllocError>
+    requires small { more ≤ 1 }
+    ensures is { IfOk result (λ way. way ≡ learnt state.now offset label.now more) }
+{
+    let low = offset.range().low();
+    if low > 2400 - u64::from(more) {
+        return Ok(None);
+    }
+    let mut next = state.clone()?;
+    next.raise_least(low as u16 + more);
+    if let Some(label) = label {
+        if u64::from(label.distance) <= low {
+            next.raise_room(label.label, label.distance + more)?;
+        }
+    }
+    Ok(Some(next))
+}
+
+/// How many bytes more than the offset a way teaches of a comparison of a pointer with the frame's end: none on the ways
+/// that teach nothing, 0 where the offset is at most the length, 1 where it is below it.
+fn taught_by(compare: Compare, taken: bool) -> Option<u16>
+    ensures is { lesson_of result ≡ lesson compare taken }
+    ensures small { IfSome result (λ more. more ≤ 1) }
+{
+    match compare {
+        Compare::Gt => {
+            if taken {
+                return None;
+            }
+            Some(0)
+        }
+        Compare::Ge => {
+            if taken {
+                return None;
+            }
+            Some(1)
+        }
+        Compare::Lt => {
+            if taken {
+                return Some(1);
+            }
+            None
+        }
+        Compare::Le => {
+            if taken {
+                return Some(0);
+            }
+            None
+        }
+        _ => None,
+    }
+}
+
+/// A way of a comparison of a pointer with the frame's end.
+fn way_of_end(
+    state: &AbsState,
+    offset: AbsNum,
+    label: &Option<Label>,
+    compare: Compare,
+    taken: bool,
+) -> Result<Option<AbsState>, AllocError>
+    ensures is { IfOk result (λ way. way ≡ taught state.now offset label.now (lesson compare taken)) }
+{
+    match taught_by(compare, taken) {
+        None => {
+            let next = state.clone()?;
+            Ok(Some(next))
+        }
+        Some(more) => {
+            let next = with_learnt(state, offset, label, more)?;
+            Ok(next)
+        }
+    }
+}
+
+/// Both ways of a comparison of a pointer with the frame's end.
+fn ways_of_end(
+    state: &AbsState,
+    offset: AbsNum,
+    label: Option<Label>,
+    compare: Option<Compare>,
+) -> Result<Split, Fault>
+    ensures is { IsOrNoMemory result (end_test state.now offset label compare) }
+{
+    let Some(compare) = compare else {
+        return Err(Fault::WrongOperand);
+    };
+    let place = &offset;
+    let fall = way_of_end(state, *place, &label, compare, false)?;
+    let jump = way_of_end(state, *place, &label, compare, true)?;
+    Ok((fall, jump))
+}
+
+/// The comparison with its sides turned, of the unsigned orders.
+fn turn(compare: Compare) -> Option<Compare>
+    ensures is { result ≡ turned compare }
+{
+    match compare {
+        Compare::Gt => Some(Compare::Lt),
+        Compare::Ge => Some(Compare::Le),
+        Compare::Lt => Some(Compare::Gt),
+        Compare::Le => Some(Compare::Ge),
+        _ => None,
+    }
+}
+
+/// The comparison, if it is an unsigned order.
+fn as_order(compare: Compare) -> Option<Compare>
+    ensures is { result ≡ is_order compare }
+{
+    match compare {
+        Compare::Gt => Some(Compare::Gt),
+        Compare::Ge => Some(Compare::Ge),
+        Compare::Lt => Some(Compare::Lt),
+        Compare::Le => Some(Compare::Le),
+        _ => None,
+    }
+}
+
+/// The ways of a comparison of 64 bits with a number.
+fn ways_against_number(
+    state: &AbsState,
+    compare: Compare,
+    dst: Reg,
+    source: &Source,
+    left: AbsVal,
+    y: AbsNum,
+) -> Result<Split, Fault>
+    ensures is { IsOrNoMemory result (wide_ways state.now compare dst source.now left (Number y)) }
+{
+    let test = taken_unless_null(compare, is_zero_source(source));
+    match left {
+        AbsVal::Number(x) => {
+            let ways = ways_of_numbers(state, true, compare, dst, source, &x, &y)?;
+            Ok(ways)
+        }
+        AbsVal::Lookup(map) => ways_of_lookup(state, dst, map, test),
+        AbsVal::Frame { .. } => ways_of_pointer(state, test),
+        AbsVal::Pointer { .. } => ways_of_pointer(state, test),
+        AbsVal::Unset => Err(Fault::Unset),
+        _ => Err(Fault::WrongOperand),
+    }
+}
+
+/// The ways of a comparison of 64 bits.
+fn ways_of_wide(
+    state: &AbsState,
+    compare: Compare,
+    dst: Reg,
+    source: &Source,
+    left: AbsVal,
+    right: AbsVal,
+) -> Result<Split, Fault>
+    ensures is { IsOrNoMemory result (wide_ways state.now compare dst source.now left right) }
+{
+    match right {
+        AbsVal::Number(y) => ways_against_number(state, compare, dst, source, left, y),
+        AbsVal::FrameEnd => match left {
+            AbsVal::Frame { offset, label } => {
+                ways_of_end(state, offset, label, as_order(compare))
+            }
+            _ => Err(fault_of_two(left, right)),
+        },
+        AbsVal::Frame { offset, label } => match left {
+            AbsVal::FrameEnd => ways_of_end(state, offset, label, turn(compare)),
+            _ => Err(fault_of_two(left, right)),
+        },
+        _ => Err(fault_of_two(left, right)),
+    }
+}
+
+/// The ways of a comparison of 32 bits.
+fn ways_of_narrow(
+    state: &AbsState,
+    compare: Compare,
+    dst: Reg,
+    source: &Source,
+    left: AbsVal,
+    right: AbsVal,
+) -> Result<Split, Fault>
+    ensures is { IsOrNoMemory result (narrow_ways state.now compare dst source.now left right) }
+{
+    match left {
+        AbsVal::Number(x) => match right {
+            AbsVal::Number(y) => {
+                let ways = ways_of_numbers(state, false, compare, dst, source, &x, &y)?;
+                Ok(ways)
+            }
+            _ => Err(fault_of_two(left, right)),
+        },
+        _ => Err(fault_of_two(left, right)),
+    }
+}
+
+/// The ways of a conditional jump, at the jump itself.
+pub fn split_ways(
+    state: &AbsState,
+    wide: bool,
+    compare: Compare,
+    dst: Reg,
+    source: &Source,
+) -> Result<Split, Fault>
+    ensures is { IsOrNoMemory result (split state.now wide compare dst source.now) }
+{
+    let left = state.register(dst);
+    let right = compared_with(state, wide, *source);
+    if wide {
+        return ways_of_wide(state, compare, dst, source, left, right);
+    }
+    ways_of_narrow(state, compare, dst, source, left, right)
+}

@@ -1,0 +1,128 @@
+//! Bytes of a stack that are read and set.
+
+ghost use Rattle.std.specs.Prelude.{◌≡◌, ◌+◌, ◌/◌, ◌%◌, ◌<◌, ◌≤◌, length, IfOk};
+ghost use Rattle.bpf_absstate.specs.View.{stack_of, with_slot};
+ghost use Rattle.bpf_rules.specs.Memory.{touched, slot_at, bytes_fault, is_unset_fault, worse, read_fault, with_bytes, bytes_stored, is_whole, stored};
+
+use bpf_absstate::AbsState;
+use bpf_absval::{AbsSlot, AbsVal};
+use bpf_rules::Fault;
+use std::alloc::AllocError;
+
+/// Which bytes of eight, and of the eight behind them, `n` bytes at an offset touch.
+#[tactic(auto, using(crate::proofs::Touched::touched_fits))]
+fn touched_bytes(at: usize, n: u32) -> u32
+    requires few { n ≤ 8 }
+    ensures is { result ≡ touched at n }
+    ensures fits { result < 65536 }
+{
+    ((1 << n) - 1) << (at % 8) as u32
+}
+
+/// The fault of reading bytes of a slot.
+fn fault_of_bytes(slot: AbsSlot, needed: u8) -> Option<Fault>
+    ensures is { result ≡ bytes_fault slot needed }
+{
+    if slot.set_bytes() & needed == needed {
+        return None;
+    }
+    match slot {
+        AbsSlot::Stored(_) => Some(Fault::WrongOperand),
+        _ => Some(Fault::Unset),
+    }
+}
+
+/// The fault that comes first.
+fn first_of(a: Option<Fault>, b: Option<Fault>) -> Option<Fault>
+    ensures is { result ≡ worse a b }
+{
+    match a {
+        None => b,
+        Some(fault) => {
+            if b == Some(Fault::Unset) {
+                return b;
+            }
+            Some(fault)
+        }
+    }
+}
+
+/// The fault of reading `n` bytes of a stack.
+#[tactic(auto, using(crate::proofs::Touched::touched_one, crate::proofs::Touched::none_read))]
+pub fn fault_of_reading(state: &AbsState, k: u8, at: usize, n: u32) -> Option<Fault>
+    requires lives { k < length state.now.frames }
+    requires few { n ≤ 8 }
+    requires inside { at + n ≤ 512 }
+    requires some { 1 ≤ n }
+    ensures is { result ≡ read_fault (stack_of state.now k) at n }
+{
+    let touched = touched_bytes(at, n);
+    let first = fault_of_bytes(state.slot(k as usize, at / 8), (touched % 256) as u8);
+    let second = (touched / 256) as u8;
+    if second == 0 {
+        return first_of(first, None);
+    }
+    first_of(
+        first,
+        fault_of_bytes(state.slot(k as usize, at / 8 + 1), second),
+    )
+}
+
+/// The slot with these bytes set.
+fn set_in(slot: AbsSlot, mask: u8) -> AbsSlot
+    ensures is { result ≡ with_bytes slot mask }
+{
+    AbsSlot::Bytes(slot.set_bytes() | mask)
+}
+
+/// A copy of the state with `n` bytes of a stack set.
+#[tactic(auto, using(crate::proofs::Touched::touched_one))]
+pub fn with_bytes_set(state: &AbsState, k: u8, at: usize, n: u32) -> Result<AbsState, AllocError>
+    requires lives { k < length state.now.frames }
+    requires few { n ≤ 8 }
+    requires inside { at + n ≤ 512 }
+    requires some { 1 ≤ n }
+    ensures is { IfOk result (λ next. next ≡ bytes_stored state.now k at n) }
+{
+    let touched = touched_bytes(at, n);
+    let first = set_in(state.slot(k as usize, at / 8), (touched % 256) as u8);
+    let mut next = state.clone()?;
+    next.set_slot(k as usize, at / 8, first)?;
+    let second = (touched / 256) as u8;
+    if second == 0 {
+        return Ok(next);
+    }
+    let slot = set_in(state.slot(k as usize, at / 8 + 1), second);
+    next.set_slot(k as usize, at / 8 + 1, slot)?;
+    Ok(next)
+}
+
+/// Whether an access is to eight bytes at a multiple of 8.
+pub fn is_whole_slot(at: usize, n: u32) -> bool
+    ensures is { result ≡ is_whole at n }
+{
+    n == 8 && at % 8 == 0
+}
+
+/// A copy of the state with a value stored: whole, or a number's bytes.
+pub fn with_stored(
+    state: &AbsState,
+    k: u8,
+    at: usize,
+    n: u32,
+    value: AbsVal,
+) -> Result<AbsState, AllocError>
+    requires lives { k < length state.now.frames }
+    requires few { n ≤ 8 }
+    requires inside { at + n ≤ 512 }
+    requires some { 1 ≤ n }
+    ensures is { IfOk result (λ next. next ≡ stored state.now k at n value) }
+{
+    if is_whole_slot(at, n) {
+        let mut next = state.clone()?;
+        next.set_slot(k as usize, at / 8, AbsSlot::Stored(value))?;
+        return Ok(next);
+    }
+    let next = with_bytes_set(state, k, at, n)?;
+    Ok(next)
+}

@@ -1,0 +1,399 @@
+//! Loads, stores and atomics.
+
+ghost use Rattle.std.specs.Prelude.{◌≡◌, ℕ, ◌+◌, ◌<◌, ◌≤◌, length, Option, IfOk};
+ghost use Rattle.bpf_regions.specs.declared.maps.Shape.{Shape};
+ghost use Rattle.bpf_absnum.specs.Number.{Num};
+ghost use Rattle.bpf_rules.specs.Faults.{IsOrNoMemory};
+ghost use Rattle.bpf_rules.specs.Memory.{offset_of, loaded, loaded_bytes, loaded_stack, loaded_from, load, spilled, stored_in_stack, stored_in_map, stored_into, store, with_old, atomic_on, atomic, strays, is_spill, read_only, entry_fault, operands_fault};
+ghost use Rattle.bpf_absstate.specs.View.{stack_of};
+ghost use Rattle.bpf_model.specs.Memory.{size_bytes, old_into};
+ghost use Rattle.bpf_model.specs.Step.{atomic_bytes};
+
+use crate::bytes::{fault_of_reading, is_whole_slot, with_bytes_set, with_stored};
+use crate::operands::{fault_of, fault_of_two};
+use crate::places::{
+    aligned_in_stack, fault_in_context, fault_in_entry, fault_in_frame, offset_by, place_in_stack,
+};
+use bpf_absnum::AbsNum;
+use bpf_absstate::AbsState;
+use bpf_absval::{AbsRegion, AbsSlot, AbsVal};
+use bpf_insn::{AtomicOp, Reg, Size};
+use bpf_regions::Shapes;
+use bpf_rules::Fault;
+use std::alloc::AllocError;
+
+/// How many bytes a load or store moves.
+pub fn bytes_of_size(size: Size) -> u32
+    ensures is { result ≡ size_bytes size }
+    ensures some { 1 ≤ result }
+    ensures few { result ≤ 8 }
+{
+    match size {
+        Size::Byte => 1,
+        Size::Half => 2,
+        Size::Word => 4,
+        Size::Double => 8,
+    }
+}
+
+/// A number of so many bytes, with sign or without.
+fn number_of_bytes(signed: bool, n: u32) -> AbsVal
+    requires some { 1 ≤ n }
+    requires few { n ≤ 8 }
+    ensures is { result ≡ loaded signed n }
+{
+    if signed {
+        return AbsVal::Number(AbsNum::loaded_signed(8 * n));
+    }
+    AbsVal::Number(AbsNum::loaded(8 * n))
+}
+
+/// A load of bytes of a stack.
+fn load_bytes(state: &AbsState, k: u8, at: usize, n: u32, signed: bool) -> Result<AbsVal, Fault>
+    requires lives { k < length state.now.frames }
+    requires few { n ≤ 8 }
+    requires inside { at + n ≤ 512 }
+    requires some { 1 ≤ n }
+    ensures is { result ≡ loaded_bytes (stack_of state.now k) at n signed }
+{
+    match fault_of_reading(state, k, at, n) {
+        Some(fault) => Err(fault),
+        None => Ok(number_of_bytes(signed, n)),
+    }
+}
+
+/// A load from a stack: what was stored whole, or a number's bytes.
+fn load_stack(state: &AbsState, k: u8, at: usize, n: u32, signed: bool) -> Result<AbsVal, Fault>
+    requires lives { k < length state.now.frames }
+    requires few { n ≤ 8 }
+    requires inside { at + n ≤ 512 }
+    requires some { 1 ≤ n }
+    ensures is { result ≡ loaded_stack (stack_of state.now k) at n signed }
+{
+    if !is_whole_slot(at, n) || signed {
+        return load_bytes(state, k, at, n, signed);
+    }
+    match state.slot(k as usize, at / 8) {
+        AbsSlot::Stored(value) => match value {
+            AbsVal::Unset => Err(Fault::Unset),
+            _ => Ok(value),
+        },
+        _ => load_bytes(state, k, at, n, signed),
+    }
+}
+
+/// A load from a region other than the frame.
+fn load_region(
+    shapes: &Shapes,
+    state: &AbsState,
+    region: AbsRegion,
+    at: AbsNum,
+    n: u32,
+    signed: bool,
+) -> Result<AbsVal, Fault>
+    requires few { n ≤ 8 }
+    requires some { 1 ≤ n }
+    ensures is { result ≡ loaded_from shapes.now state.now region at n signed }
+{
+    match region {
+        AbsRegion::Context => match fault_in_context(at, u64::from(n)) {
+            Some(fault) => Err(fault),
+            None => Ok(number_of_bytes(signed, n)),
+        },
+        AbsRegion::Entry(map) => match fault_in_entry(shapes.get(map), at, u64::from(n)) {
+            Some(fault) => Err(fault),
+            None => Ok(number_of_bytes(signed, n)),
+        },
+        AbsRegion::Stack(k) => match place_in_stack(state, k, at, n) {
+            Err(fault) => Err(fault),
+            Ok(place) => load_stack(state, k, place, n, signed),
+        },
+    }
+}
+
+/// What a load through a pointer gives.
+pub fn load_through(
+    shapes: &Shapes,
+    state: &AbsState,
+    n: u32,
+    signed: bool,
+    pointer: AbsVal,
+    by: i16,
+) -> Result<AbsVal, Fault>
+    requires few { n ≤ 8 }
+    requires some { 1 ≤ n }
+    ensures is { result ≡ load shapes.now state.now n signed pointer by }
+{
+    match pointer {
+        AbsVal::Frame { offset, label } => {
+            match fault_in_frame(state, offset, label, by, u64::from(n)) {
+                Some(fault) => Err(fault),
+                None => Ok(number_of_bytes(signed, n)),
+            }
+        }
+        AbsVal::Pointer { region, offset } => {
+            load_region(shapes, state, region, offset_by(offset, by), n, signed)
+        }
+        _ => Err(fault_of(pointer)),
+    }
+}
+
+/// Whether a value is a pointer to another stack frame than that of number `k`.
+fn leads_to_other_stack(k: u8, value: &AbsVal) -> bool
+    ensures is { result ≡ strays k value.now }
+{
+    match value {
+        AbsVal::Pointer { region, .. } => match region {
+            AbsRegion::Stack(j) => *j != k,
+            _ => false,
+        },
+        _ => false,
+    }
+}
+
+/// A copy of the state with a value other than a number stored: in 8 bytes at a multiple of 8, and a pointer to a stack
+/// frame into that frame alone.
+fn spill(state: &AbsState, k: u8, at: AbsNum, n: u32, value: AbsVal) -> Result<AbsState, Fault>
+    requires few { n ≤ 8 }
+    ensures is { IsOrNoMemory result (spilled state.now k at n value) }
+{
+    if n != 8 {
+        return Err(Fault::WrongOperand);
+    }
+    match aligned_in_stack(state, k, at, 8) {
+        Err(fault) => Err(fault),
+        Ok(place) => {
+            if leads_to_other_stack(k, &value) {
+                return Err(Fault::StackPointerStored);
+            }
+            let next = with_stored(state, k, place, 8, value)?;
+            Ok(next)
+        }
+    }
+}
+
+/// Whether a lookup's answer may be stored so.
+fn can_spill(at: AbsNum, n: u32) -> bool
+    ensures is { result ≡ is_spill at n }
+{
+    n == 8 && at.is_single() && at.range().low() % 8 == 0
+}
+
+/// A copy of the state with a value stored in a stack.
+fn store_in_stack(
+    state: &AbsState,
+    k: u8,
+    at: AbsNum,
+    n: u32,
+    value: AbsVal,
+) -> Result<AbsState, Fault>
+    requires few { n ≤ 8 }
+    requires some { 1 ≤ n }
+    ensures is { IsOrNoMemory result (stored_in_stack state.now k at n value) }
+{
+    match value {
+        AbsVal::Number(_) => match place_in_stack(state, k, at, n) {
+            Err(fault) => Err(fault),
+            Ok(place) => {
+                let next = with_stored(state, k, place, n, value)?;
+                Ok(next)
+            }
+        },
+        AbsVal::Lookup(_) => {
+            if can_spill(at, n) {
+                return spill(state, k, at, n, value);
+            }
+            Err(Fault::NotTested)
+        }
+        _ => spill(state, k, at, n, value),
+    }
+}
+
+/// A copy of the state with a number stored in a map, which is not followed.
+fn store_in_map(state: &AbsState, fault: Option<Fault>, value: AbsVal) -> Result<AbsState, Fault>
+    ensures is { (shape : Option Shape) (at : Num) (n : ℕ) → fault ≡ entry_fault shape at n → IsOrNoMemory result (stored_in_map state.now shape at n value) }
+{
+    match value {
+        AbsVal::Number(_) => match fault {
+            Some(fault) => Err(fault),
+            None => {
+                let next = state.clone()?;
+                Ok(next)
+            }
+        },
+        _ => Err(fault_of(value)),
+    }
+}
+
+/// The fault of storing into what is read-only.
+fn fault_of_read_only(value: AbsVal) -> Fault
+    ensures is { result ≡ read_only value }
+{
+    match value {
+        AbsVal::Lookup(_) => Fault::NotTested,
+        _ => Fault::WrongOperand,
+    }
+}
+
+/// A copy of the state with a value stored into a region other than the frame.
+fn store_in_region(
+    shapes: &Shapes,
+    state: &AbsState,
+    region: AbsRegion,
+    at: AbsNum,
+    n: u32,
+    value: AbsVal,
+) -> Result<AbsState, Fault>
+    requires few { n ≤ 8 }
+    requires some { 1 ≤ n }
+    ensures is { IsOrNoMemory result (stored_into shapes.now state.now region at n value) }
+{
+    match region {
+        AbsRegion::Context => Err(fault_of_read_only(value)),
+        AbsRegion::Stack(k) => store_in_stack(state, k, at, n, value),
+        AbsRegion::Entry(map) => {
+            let fault = fault_in_entry(shapes.get(map), at, u64::from(n));
+            store_in_map(state, fault, value)
+        }
+    }
+}
+
+/// What a store through a pointer leaves, at the same slot.
+pub fn store_through(
+    shapes: &Shapes,
+    state: &AbsState,
+    n: u32,
+    value: AbsVal,
+    pointer: AbsVal,
+    by: i16,
+) -> Result<AbsState, Fault>
+    requires few { n ≤ 8 }
+    requires some { 1 ≤ n }
+    ensures is { IsOrNoMemory result (store shapes.now state.now n value pointer by) }
+{
+    match value {
+        AbsVal::Unset => Err(Fault::Unset),
+        _ => match pointer {
+            AbsVal::Pointer { region, offset } => {
+                store_in_region(shapes, state, region, offset_by(offset, by), n, value)
+            }
+            _ => Err(fault_of_two(pointer, value)),
+        },
+    }
+}
+
+/// How many bytes an atomic works on.
+pub fn bytes_of_atomic(wide: bool) -> u32
+    ensures is { result ≡ atomic_bytes wide }
+    ensures some { 1 ≤ result }
+    ensures few { result ≤ 8 }
+{
+    if wide { 8 } else { 4 }
+}
+
+/// A copy of the state after an atomic at an offset of a region.
+fn atomic_in_region(
+    shapes: &Shapes,
+    state: &AbsState,
+    n: u32,
+    region: AbsRegion,
+    at: AbsNum,
+) -> Result<AbsState, Fault>
+    requires few { n ≤ 8 }
+    requires some { 1 ≤ n }
+    ensures is { IsOrNoMemory result (atomic_on shapes.now state.now n region at) }
+{
+    match region {
+        AbsRegion::Context => Err(Fault::WrongOperand),
+        AbsRegion::Stack(k) => match aligned_in_stack(state, k, at, n) {
+            Err(fault) => Err(fault),
+            Ok(place) => match fault_of_reading(state, k, place, n) {
+                Some(fault) => Err(fault),
+                None => {
+                    let next = with_bytes_set(state, k, place, n)?;
+                    Ok(next)
+                }
+            },
+        },
+        AbsRegion::Entry(map) => match fault_in_entry(shapes.get(map), at, u64::from(n)) {
+            Some(fault) => Err(fault),
+            None => {
+                let next = state.clone()?;
+                Ok(next)
+            }
+        },
+    }
+}
+
+/// Puts the old number of an atomic where it goes.
+fn put_old(mut state: AbsState, into: Option<Reg>, n: u32) -> Result<AbsState, AllocError>
+    requires few { n ≤ 8 }
+    requires some { 1 ≤ n }
+    ensures is { IfOk result (λ next. next ≡ with_old state into n) }
+{
+    if let Some(register) = into {
+        state.set_register(register, number_of_bytes(false, n))?;
+    }
+    Ok(state)
+}
+
+/// The register that gets the old number of an atomic.
+fn old_number_into(op: AtomicOp, src: Reg) -> Option<Reg>
+    ensures is { result ≡ old_into op src }
+{
+    match op {
+        AtomicOp::Add | AtomicOp::Or | AtomicOp::And | AtomicOp::Xor => None,
+        AtomicOp::Cmpxchg => Some(Reg::new(0)),
+        _ => Some(src),
+    }
+}
+
+/// The fault of an atomic's operands.
+fn fault_of_operands(pointer: AbsVal, number: AbsVal, expected: AbsVal) -> Fault
+    ensures is { result ≡ operands_fault pointer number expected }
+{
+    if matches!(pointer, AbsVal::Unset)
+        || matches!(number, AbsVal::Unset)
+        || matches!(expected, AbsVal::Unset)
+    {
+        return Fault::Unset;
+    }
+    if matches!(pointer, AbsVal::Lookup(_))
+        || matches!(number, AbsVal::Lookup(_))
+        || matches!(expected, AbsVal::Lookup(_))
+    {
+        return Fault::NotTested;
+    }
+    Fault::WrongOperand
+}
+
+/// What an atomic through a pointer leaves, at the same slot, with the source's value and, for CMPXCHG, R0's.
+pub fn atomic_through(
+    shapes: &Shapes,
+    state: &AbsState,
+    op: AtomicOp,
+    n: u32,
+    src: Reg,
+    by: i16,
+    pointer: AbsVal,
+    number: AbsVal,
+    expected: AbsVal,
+) -> Result<AbsState, Fault>
+    requires few { n ≤ 8 }
+    requires some { 1 ≤ n }
+    ensures is { IsOrNoMemory result (atomic shapes.now state.now n op src by pointer number expected) }
+{
+    let AbsVal::Pointer { region, offset } = pointer else {
+        return Err(fault_of_operands(pointer, number, expected));
+    };
+    if !matches!(number, AbsVal::Number(_)) || !matches!(expected, AbsVal::Number(_)) {
+        return Err(fault_of_operands(pointer, number, expected));
+    }
+    match atomic_in_region(shapes, state, n, region, offset_by(offset, by)) {
+        Err(fault) => Err(fault),
+        Ok(next) => {
+            let next = put_old(next, old_number_into(op, src), n)?;
+            Ok(next)
+        }
+    }
+}

@@ -1,2 +1,0 @@
-mod FromHere
-mod Keeps
