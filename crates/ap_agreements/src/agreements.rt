@@ -1,6 +1,6 @@
 //! The agreements of a shard.
 
-ghost use Rattle.std.specs.Prelude.{◌≡◌, ◌≤◌, ◌<◌, ◌↔◌, ℕ, List, true, false, IfOk, IfErr, OnOk, OnErr, MatchOption, IsSome, IsSomeAnd, None, Some, [], All, AllPairs, Contains, count_by, map, filter, not, vec_capacity};
+ghost use Rattle.std.specs.Prelude.{◌≡◌, ◌≤◌, ◌<◌, ◌↔◌, ℕ, List, true, false, IfOk, IfErr, OnOk, OnErr, MatchOption, IsSome, IsSomeAnd, None, Some, [], All, AllPairs, Contains, count_by, map, filter, not, vec_len, vec_capacity};
 ghost use Rattle.arrayvec.specs.ArrayVec.{array_vec_len};
 ghost use Rattle.blockack.specs.Reading.{IsWanted};
 ghost use Rattle.ap_model.specs.Steps.{IsBefore};
@@ -148,7 +148,7 @@ impl Agreements {
     /// Puts an agreement in, for which there is room, and answers the one that it replaces.
     pub fn put(&mut self, entry: Entry) -> Option<Entry>
         requires { 1 ≤ self.old.room }
-        ensures was { MatchOption result (agreement_in self.old.kept entry.station entry.tid ≡ None) (λ e. agreement_in self.old.kept entry.station entry.tid ≡ Some e.using) }
+        ensures was { MatchOption result (agreement_in self.old.kept entry.station entry.tid ≡ None) (λ e. (agreement_in self.old.kept entry.station entry.tid ≡ Some e.using) × (key_of e ≡ key_of entry)) }
         ensures sets { Sets self.old.kept entry.station entry.tid (Some entry.using) self.new.kept }
     {
         match self.find(entry.station(), entry.tid()) {
@@ -185,6 +185,7 @@ impl Agreements {
     pub fn take_late(&mut self, clock: u64, ended: &mut Vec<Entry>)
         requires empty { ended.old.items ≡ [] }
         requires room { count_by (λ k. is_late clock k.using) self.old.kept ≤ vec_capacity ended.old }
+        ensures many { vec_len ended.new ≡ count_by (λ k. is_late clock k.using) self.old.kept }
         ensures rising { AllPairs IsBefore (map key_of ended.new.items) }
         ensures exact { (k : Kept) → Contains ended.new.items k ↔ IsLateIn clock self.old.kept k }
         ensures others { (a : List ℕ) (tid : ℕ) → agreement_in self.new.kept a tid ≡ unless_late clock (agreement_in self.old.kept a tid) }

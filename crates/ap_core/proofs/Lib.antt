@@ -1,2 +1,11 @@
 pub mod Handling
 pub mod Authentications
+pub mod Lists
+pub mod AssociationLaws
+pub mod DataLaws
+pub mod RequestLaws
+pub mod EndLaws
+pub mod SetupLaws
+pub mod FrameLaws
+pub mod TickLaws
+pub mod AccessLaws

@@ -1,14 +1,22 @@
 -- What an event is to a shard and a judge.
-use Rattle.std.specs.Prelude.{ℕ, List, None}
-use Rattle.assoc.specs.Standings.{Linked, standing}
+use Rattle.std.specs.Prelude.{◌≡◌, ℕ, List, [], ◌∷◌, ◌++◌, Option, Some, None}
+use Rattle.assoc.specs.Standings.{standing}
+use Rattle.mac_frame.specs.Spelling.{Frame}
+use Rattle.blockack.specs.Reading.{EndPassesUp}
+use Rattle.hooks.specs.declared.verdicts.DataVerdict.{DataVerdict}
+use Rattle.hooks.specs.declared.verdicts.DataVerdict.TheVariants.{Pass, Discard}
 use Rattle.ap_model.specs.declared.event.Out.{Out}
 use Rattle.ap_model.specs.Asks.{Ask, Answered}
-use Rattle.mac_frame.specs.Spelling.{Frame}
-use Rattle.ap_model.specs.Readings.{Readings, Rules, Config}
+use Rattle.ap_model.specs.Readings.{Readings, Rules, Using, Config, Held}
+use Rattle.ap_model.specs.Changes.{Agrees}
 use Rattle.ap_model.specs.Associations.{Request}
-use Rattle.ap_model.specs.Agreements.{Packet}
+use Rattle.ap_model.specs.Agreements.{Packet, Setup, PassesHeld, ups, setup_answer}
+use Rattle.ap_agreements.specs.Tables.{Kept, agreement_in}
+use Rattle.ap_agreements.specs.Uses.{Opens}
+use Rattle.ap_core.specs.declared.state.State.{State}
 use Rattle.ap_core.specs.declared.management.Asked.{Asked}
 use Rattle.ap_core.specs.declared.packets.Read.{Read}
+use Rattle.ap_core.specs.declared.setups.SetupRequest.{SetupRequest}
 
 -- the relation holds, its asks being what the judge was asked and answered
 pub record Handled {S : Type 0} (R : S → Ask → ℕ → S → Type 0) (step : List (Ask × ℕ) → List Out → Type 0) (j : S) (outs : List Out) (j2 : S) : Type 0 where
@@ -16,8 +24,8 @@ pub record Handled {S : Type 0} (R : S → Ask → ℕ → S → Type 0) (step :
   pub listed : Answered R j asked j2
   pub does : step asked outs
 
-abbrev pub reading : Linked → ℕ → Readings
-reading v clock = record { standing = standing v; agreement = λ a tid. None; clock = clock }
+abbrev pub reading : State → Readings
+reading s = record { standing = standing s.link; agreement = agreement_in s.agreements.kept; clock = s.clock }
 
 abbrev pub rules : ℕ → Config → Rules
 rules shard config = record { shard = shard; config = config }
@@ -29,3 +37,27 @@ request frame asked = record { frame = frame; capability = asked.capability; lis
 -- a data frame, by its frame and what was read of it
 abbrev pub packet : Frame → Read → Packet
 packet frame read = record { frame = frame; destination = read.destination; tid = read.tid; number = read.number }
+
+-- all that the agreement held is passed up
+pub record PassesAll (k : Kept) (old new : List Out) : Type 0 where
+  pub passed : List (ℕ × Held)
+  pub ends : EndPassesUp k.using.window passed
+  pub is : new ≡ old ++ ups k.station k.tid passed
+
+-- what a window takes of data with this verdict
+abbrev pub held_item : List ℕ → List ℕ → DataVerdict → Option Held
+held_item destination body (Pass mark) = Some (Some (destination, mark, body))
+held_item destination body Discard = None
+
+-- an ADDBA request, by its frame and what was read of it
+abbrev pub setup : Frame → SetupRequest → Setup
+setup frame asked = record { frame = frame; token = asked.token; parameters = asked.parameters; timeout = asked.timeout; start = asked.start }
+
+-- a request that is granted: what comes out, and the agreement
+pub record IsGranted (c : Rules) (r : Readings) (a : List ℕ) (s : Setup) (size : ℕ) (outs : List Out) (r2 : Readings) : Type 0 where
+  pub first : List Out
+  pub passes : PassesHeld a s.parameters.tid (r.agreement a s.parameters.tid) first
+  pub is : outs ≡ first ++ setup_answer c a s 0 size ∷ []
+  pub using : Using
+  pub opens : Opens s.start size s.timeout r.clock using
+  pub agrees : Agrees r a s.parameters.tid (Some using) r2

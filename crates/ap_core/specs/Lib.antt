@@ -1,3 +1,5 @@
+pub mod AccessPoints
 pub mod Handles
-pub mod Settled
+pub mod Noted
 pub mod Shards
+pub mod Ticking

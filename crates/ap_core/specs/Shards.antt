@@ -1,27 +1,18 @@
 -- What a shard is to its callers.
 use Rattle.std.specs.Prelude.{ℕ, List}
 use Rattle.ap_model.specs.declared.event.Event.{Event}
-use Rattle.ap_model.specs.declared.event.Event.TheVariants as event
 use Rattle.ap_model.specs.declared.event.Out.{Out}
 use Rattle.ap_model.specs.Asks.{Ask}
 use Rattle.ap_model.specs.Readings.{Readings, Rules}
 use Rattle.ap_model.specs.Steps.{Step}
 use Rattle.ap_core.specs.declared.shard.Shard.{Shard}
-use Rattle.ap_core.specs.Settled.{IsNoSetup}
 use Rattle.ap_core.specs.Handles.{Handled, reading, rules}
 
 abbrev pub reads : Shard → Readings
-reads s = reading s.link s.clock
+reads s = reading s.state
 
 abbrev pub ruled : Shard → Rules
-ruled s = rules s.link.shard s.config
-
--- the event is no request for an agreement, which a shard does not grant yet
-abbrev pub IsSettled : Event → Type 0
-IsSettled (event.Frame bytes) = IsNoSetup bytes
-IsSettled (event.Tick n) = Unit {0}
-IsSettled (event.Kick a reason) = Unit {0}
-IsSettled (event.Close a tid) = Unit {0}
+ruled s = rules s.state.link.shard s.config
 
 -- the event is one step of the shard, whose verdicts are the judge's
 abbrev pub Handles : {S : Type 0} → (S → Ask → ℕ → S → Type 0) → Shard → Event → S → List Out → Shard → S → Type 0

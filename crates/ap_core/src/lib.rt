@@ -1,13 +1,23 @@
 //! The core of the access point: what each event leads to.
 #![tactic(auto)]
 
+mod access_point;
+mod ends;
 mod management;
+mod moves;
 mod packets;
+mod passing;
 mod receive;
+mod requests;
 mod room;
 mod rules;
+mod setups;
 mod shard;
+mod state;
+mod ticks;
 
+pub use access_point::handle_all;
+pub use ap_laws::window_law;
 pub use ap_model::{Event, Held, Judge, LinkConfig, ListJudge, Octets, Out, Up};
 pub use shard::Shard;
 

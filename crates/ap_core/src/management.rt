@@ -9,17 +9,23 @@ ghost use Rattle.ap_model.specs.Associations.{AuthenticationStatus, Authenticate
 ghost use Rattle.mac_frame.specs.Elements.{rates_text};
 ghost use Rattle.ap_core.specs.Handles.{Handled, reading, rules, request};
 
+use crate::moves::{associate, authenticate};
 use crate::room::Room;
+use crate::state::State;
 use ap_model::{Judge, LinkConfig, Out};
-use assoc::Link;
 use bpf_regions::{Context, Frame, Hook};
 use hooks::{Asker, assoc_verdict, association_context};
 use mac_frame::{Address, AidField, Capability, ElementsBuf, MacFrame, Status};
 use std::alloc::{AllocError, Global};
 
 /// The status that answers an authentication.
-fn authentication_status(link: &Link, station: Address, algorithm: u16, transaction: u16) -> Status
-    ensures { (clock : ℕ) → AuthenticationStatus (reading link.now clock) station algorithm transaction result }
+fn authentication_status(
+    state: &State,
+    station: Address,
+    algorithm: u16,
+    transaction: u16,
+) -> Status
+    ensures { AuthenticationStatus (reading state.now) station algorithm transaction result }
 {
     if algorithm != 0 {
         return Status::UNSUPPORTED_AUTH_ALGORITHM;
@@ -27,10 +33,10 @@ fn authentication_status(link: &Link, station: Address, algorithm: u16, transact
     if transaction != 1 {
         return Status::TRANSACTION_SEQUENCE_ERROR;
     }
-    match link.standing(station) {
+    match state.link.standing(station) {
         Some(_) => return Status::SUCCESS,
         None => {
-            if link.is_full() {
+            if state.link.is_full() {
                 return Status::DENIED_NO_MORE_STAS;
             }
             return Status::SUCCESS;
@@ -41,23 +47,23 @@ fn authentication_status(link: &Link, station: Address, algorithm: u16, transact
 /// An authentication.
 pub(crate) fn on_authentication(
     alloc: Global,
-    link: &mut Link,
+    state: &mut State,
     config: &LinkConfig,
     station: Address,
     algorithm: u16,
     transaction: u16,
 ) -> Result<Vec<Out>, AllocError>
-    ensures step { IfOk result (λ outs. (clock : ℕ) → Authenticates (rules link.old.shard config.now) (reading link.old clock) station algorithm transaction [] outs.items (reading link.new clock)) }
-    ensures shard { link.new.shard ≡ link.old.shard }
-    ensures refused { IfErr result (λ _. link.new ≡ link.old) }
+    ensures step { IfOk result (λ outs. Authenticates (rules state.old.link.shard config.now) (reading state.old) station algorithm transaction [] outs.items (reading state.new)) }
+    ensures shard { state.new.link.shard ≡ state.old.link.shard }
+    ensures refused { IfErr result (λ _. state.new ≡ state.old) }
 {
     let room = Room::new(alloc)?;
-    let status = authentication_status(link, station, algorithm, transaction);
+    let status = authentication_status(state, station, algorithm, transaction);
     let answer = MacFrame::authentication(alloc, station, config.bssid(), algorithm, status);
     if !status.is_success() {
         return Ok(room.send(&answer));
     }
-    link.on_auth(station)?;
+    authenticate(state, station)?;
     Ok(room.send(&answer))
 }
 
@@ -126,13 +132,13 @@ fn refuse(
 }
 
 /// What the hook is told of a request.
-fn context_of(link: &Link, frame: &MacFrame, asked: &Asked) -> Context
-    ensures { (clock : ℕ) → result ≡ (association_ask (reading link.now clock) frame.now.sender (request frame.now asked.now)).context }
+fn context_of(state: &State, frame: &MacFrame, asked: &Asked) -> Context
+    ensures { result ≡ (association_ask (reading state.now) frame.now.sender (request frame.now asked.now)).context }
 {
     let station = frame.sender();
     let asker = Asker {
         station,
-        standing: link.standing(station),
+        standing: state.link.standing(station),
     };
     let Asked {
         capability,
@@ -144,7 +150,7 @@ fn context_of(link: &Link, frame: &MacFrame, asked: &Asked) -> Context
 
 /// Answers a request, for which all room is made.
 fn answer_request<J: Judge>(
-    link: &mut Link,
+    state: &mut State,
     config: &LinkConfig,
     frame: &MacFrame,
     bytes: &Frame<'_>,
@@ -154,11 +160,11 @@ fn answer_request<J: Judge>(
     judge: &mut J,
 ) -> Vec<Out>
     requires bytes { bytes.now ≡ spelling frame.now }
-    requires known { IsSome (standing link.old frame.now.sender) }
+    requires known { IsSome (standing state.old.link frame.now.sender) }
     requires rates { rates ≡ rates_text config.now.rates }
     requires few { length config.now.rates ≤ 8 }
-    ensures step { (clock : ℕ) → Handled J.gives (λ asks outs. Associates (rules link.old.shard config.now) (reading link.old clock) frame.now.sender (request frame.now asked.now) asks outs (reading link.new clock)) judge.old result.items judge.new }
-    ensures shard { link.new.shard ≡ link.old.shard }
+    ensures step { Handled J.gives (λ asks outs. Associates (rules state.old.link.shard config.now) (reading state.old) frame.now.sender (request frame.now asked.now) asks outs (reading state.new)) judge.old result.items judge.new }
+    ensures shard { state.new.link.shard ≡ state.old.link.shard }
 {
     let station = frame.sender();
     let again = asked.again;
@@ -176,7 +182,7 @@ fn answer_request<J: Judge>(
             rates,
         );
     }
-    let Some(granted) = link.free_aid(station) else {
+    let Some(granted) = state.link.free_aid(station) else {
         return refuse(
             room,
             config,
@@ -186,13 +192,13 @@ fn answer_request<J: Judge>(
             rates,
         );
     };
-    let context = context_of(link, frame, asked);
+    let context = context_of(state, frame, asked);
     let verdict = judge.judge(Hook::Association, bytes, &context);
     let status = assoc_verdict(verdict);
     if !status.is_success() {
         return refuse(room, config, station, again, status, rates);
     }
-    link.on_assoc(station, granted);
+    associate(state, station, granted);
     let aid = AidField::granted(granted);
     let answer = response(config, station, again, status, aid, rates);
     room.send(&answer)
@@ -201,7 +207,7 @@ fn answer_request<J: Judge>(
 /// An association or reassociation request. All growths are made before the verdict is asked.
 pub(crate) fn on_association<J: Judge>(
     alloc: Global,
-    link: &mut Link,
+    state: &mut State,
     config: &LinkConfig,
     frame: &MacFrame,
     bytes: &Frame<'_>,
@@ -209,13 +215,13 @@ pub(crate) fn on_association<J: Judge>(
     judge: &mut J,
 ) -> Result<Vec<Out>, AllocError>
     requires bytes { bytes.now ≡ spelling frame.now }
-    requires known { IsSome (standing link.old frame.now.sender) }
-    ensures step { IfOk result (λ outs. (clock : ℕ) → Handled J.gives (λ asks outs. Associates (rules link.old.shard config.now) (reading link.old clock) frame.now.sender (request frame.now asked.now) asks outs (reading link.new clock)) judge.old outs.items judge.new) }
-    ensures shard { link.new.shard ≡ link.old.shard }
-    ensures refused { IfErr result (λ _. (link.new ≡ link.old) × (judge.new ≡ judge.old)) }
+    requires known { IsSome (standing state.old.link frame.now.sender) }
+    ensures step { IfOk result (λ outs. Handled J.gives (λ asks outs. Associates (rules state.old.link.shard config.now) (reading state.old) frame.now.sender (request frame.now asked.now) asks outs (reading state.new)) judge.old outs.items judge.new) }
+    ensures shard { state.new.link.shard ≡ state.old.link.shard }
+    ensures refused { IfErr result (λ _. (state.new ≡ state.old) × (judge.new ≡ judge.old)) }
 {
     let room = Room::new(alloc)?;
     let rates = ElementsBuf::rates(alloc, config.rates())?;
-    let outs = answer_request(link, config, frame, bytes, asked, room, rates, judge);
+    let outs = answer_request(state, config, frame, bytes, asked, room, rates, judge);
     Ok(outs)
 }

@@ -5,12 +5,13 @@ ghost use Rattle.ap_model.specs.declared.event.Out.{Out};
 ghost use Rattle.mac_frame.specs.Spelling.{spelling};
 ghost use Rattle.ap_model.specs.Steps.{FrameComes, Checked, check_of};
 ghost use Rattle.ap_core.specs.Handles.{Handled, reading, rules};
-ghost use Rattle.ap_core.specs.Settled.{IsSetup, IsNoSetup, IsNoted};
+ghost use Rattle.ap_core.specs.Noted.{IsNoted};
 
 use crate::room::Room;
 use crate::rules::{follow, is_ours};
+use crate::state::State;
 use ap_model::{Judge, LinkConfig, Out};
-use assoc::{ClassAnswer, Link, class_check, class_of};
+use assoc::{ClassAnswer, class_check, class_of};
 use bpf_regions::Frame;
 use mac_frame::{FrameFault, MacFrame, parse};
 use std::alloc::{AllocError, Global};
@@ -42,21 +43,21 @@ fn unread(alloc: Global, fault: FrameFault) -> Result<Vec<Out>, AllocError>
 /// A frame for this access point.
 fn check<J: Judge>(
     alloc: Global,
-    link: &mut Link,
+    state: &mut State,
     config: &LinkConfig,
     frame: &MacFrame,
     bytes: &Frame<'_>,
     judge: &mut J,
 ) -> Result<Vec<Out>, AllocError>
     requires bytes { bytes.now ≡ spelling frame.now }
-    ensures step { IfOk result (λ outs. (IsSetup frame.now.content → ⊥) → (clock : ℕ) → Handled J.gives (λ asks outs. Checked (rules link.old.shard config.now) (reading link.old clock) frame.now (check_of (rules link.old.shard config.now) (reading link.old clock) frame.now) asks outs (reading link.new clock)) judge.old outs.items judge.new) }
-    ensures shard { link.new.shard ≡ link.old.shard }
-    ensures refused { IfErr result (λ _. (link.new ≡ link.old) × (judge.new ≡ judge.old)) }
+    ensures step { IfOk result (λ outs. Handled J.gives (λ asks outs. Checked (rules state.old.link.shard config.now) (reading state.old) frame.now (check_of (rules state.old.link.shard config.now) (reading state.old) frame.now) asks outs (reading state.new)) judge.old outs.items judge.new) }
+    ensures shard { state.new.link.shard ≡ state.old.link.shard }
+    ensures refused { IfErr result (λ _. (state.new ≡ state.old) × (judge.new ≡ judge.old)) }
 {
     let station = frame.sender();
-    match class_check(link.standing(station), class_of(frame.subtype())) {
+    match class_check(state.link.standing(station), class_of(frame.subtype())) {
         ClassAnswer::Permitted => {
-            let outs = follow(alloc, link, config, frame, bytes, judge)?;
+            let outs = follow(alloc, state, config, frame, bytes, judge)?;
             return Ok(outs);
         }
         ClassAnswer::Deauthenticate(reason) => {
@@ -75,16 +76,16 @@ fn check<J: Judge>(
 /// A frame of the grammar.
 fn on_frame<J: Judge>(
     alloc: Global,
-    link: &mut Link,
+    state: &mut State,
     config: &LinkConfig,
     frame: &MacFrame,
     bytes: &[u8],
     judge: &mut J,
 ) -> Result<Vec<Out>, AllocError>
     requires bytes { bytes.now ≡ spelling frame.now }
-    ensures step { IfOk result (λ outs. IsNoSetup bytes.now → (clock : ℕ) → Handled J.gives (λ asks outs. FrameComes (rules link.old.shard config.now) (reading link.old clock) bytes.now asks outs (reading link.new clock)) judge.old outs.items judge.new) }
-    ensures shard { link.new.shard ≡ link.old.shard }
-    ensures refused { IfErr result (λ _. (link.new ≡ link.old) × (judge.new ≡ judge.old)) }
+    ensures step { IfOk result (λ outs. Handled J.gives (λ asks outs. FrameComes (rules state.old.link.shard config.now) (reading state.old) bytes.now asks outs (reading state.new)) judge.old outs.items judge.new) }
+    ensures shard { state.new.link.shard ≡ state.old.link.shard }
+    ensures refused { IfErr result (λ _. (state.new ≡ state.old) × (judge.new ≡ judge.old)) }
 {
     frame.known();
     if !is_ours(config, frame) {
@@ -95,25 +96,25 @@ fn on_frame<J: Judge>(
         Some(seen) => seen,
         None => unreachable!(),
     };
-    let outs = check(alloc, link, config, frame, &seen, judge)?;
+    let outs = check(alloc, state, config, frame, &seen, judge)?;
     Ok(outs)
 }
 
 /// Bytes that came.
 pub(crate) fn receive<J: Judge>(
     alloc: Global,
-    link: &mut Link,
+    state: &mut State,
     config: &LinkConfig,
     bytes: &[u8],
     judge: &mut J,
 ) -> Result<Vec<Out>, AllocError>
-    ensures step { IfOk result (λ outs. IsNoSetup bytes.now → (clock : ℕ) → Handled J.gives (λ asks outs. FrameComes (rules link.old.shard config.now) (reading link.old clock) bytes.now asks outs (reading link.new clock)) judge.old outs.items judge.new) }
-    ensures shard { link.new.shard ≡ link.old.shard }
-    ensures refused { IfErr result (λ _. (link.new ≡ link.old) × (judge.new ≡ judge.old)) }
+    ensures step { IfOk result (λ outs. Handled J.gives (λ asks outs. FrameComes (rules state.old.link.shard config.now) (reading state.old) bytes.now asks outs (reading state.new)) judge.old outs.items judge.new) }
+    ensures shard { state.new.link.shard ≡ state.old.link.shard }
+    ensures refused { IfErr result (λ _. (state.new ≡ state.old) × (judge.new ≡ judge.old)) }
 {
     match parse(alloc, bytes) {
         Ok(frame) => {
-            let outs = on_frame(alloc, link, config, &frame, bytes, judge)?;
+            let outs = on_frame(alloc, state, config, &frame, bytes, judge)?;
             return Ok(outs);
         }
         Err(fault) => {

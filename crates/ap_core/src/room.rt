@@ -11,15 +11,40 @@ use std::alloc::{AllocError, Global};
 /// The longest tail of a frame that is sent: a rates element.
 const LONGEST_TAIL: usize = 12;
 
+/// Room for a frame that is sent.
+#[derive(Drop)]
+pub(crate) struct FrameRoom {
+    bytes: Vec<u8>,
+    ghost no_bytes: { vec_len bytes ≡ 0 },
+    ghost a_frame: { 46 ≤ vec_capacity bytes },
+}
+
 /// Room for one out, and for the frame that it may send.
 #[derive(Drop)]
 pub(crate) struct Room {
     outs: Vec<Out>,
-    bytes: Vec<u8>,
+    frame: FrameRoom,
     ghost no_outs: { vec_len outs ≡ 0 },
     ghost one_out: { 1 ≤ vec_capacity outs },
-    ghost no_bytes: { vec_len bytes ≡ 0 },
-    ghost a_frame: { 46 ≤ vec_capacity bytes },
+}
+
+impl FrameRoom {
+    pub(crate) fn new(alloc: Global) -> Result<Self, AllocError> {
+        let bytes = Vec::with_capacity(alloc, LONGEST_HEAD + LONGEST_TAIL)?;
+        Ok(FrameRoom { bytes })
+    }
+
+    /// The frame is sent.
+    pub(crate) fn send(self, frame: &MacFrame) -> Out
+        requires { length frame.now.tail ≤ 12 }
+        ensures { result ≡ sends frame.now }
+    {
+        let mut bytes = self.bytes;
+        match write(frame, &mut bytes) {
+            Ok(()) => return Out::Send(Octets::new(bytes)),
+            Err(_) => unreachable!(),
+        }
+    }
 }
 
 /// The list with this out, for which there is room.
@@ -33,25 +58,11 @@ fn with_out(outs: Vec<Out>, out: Out) -> Vec<Out>
     outs
 }
 
-/// The bytes of a frame, for which there is room.
-fn spelled(bytes: Vec<u8>, frame: &MacFrame) -> Octets
-    requires empty { vec_len bytes ≡ 0 }
-    requires room { 46 ≤ vec_capacity bytes }
-    requires short { length frame.now.tail ≤ 12 }
-    ensures { Out.Send result ≡ sends frame.now }
-{
-    let mut bytes = bytes;
-    match write(frame, &mut bytes) {
-        Ok(()) => return Octets::new(bytes),
-        Err(_) => unreachable!(),
-    }
-}
-
 impl Room {
     pub(crate) fn new(alloc: Global) -> Result<Self, AllocError> {
         let outs = Vec::with_capacity(alloc, 1)?;
-        let bytes = Vec::with_capacity(alloc, LONGEST_HEAD + LONGEST_TAIL)?;
-        Ok(Room { outs, bytes })
+        let frame = FrameRoom::new(alloc)?;
+        Ok(Room { outs, frame })
     }
 
     /// A frame is sent.
@@ -59,8 +70,8 @@ impl Room {
         requires { length frame.now.tail ≤ 12 }
         ensures { result.items ≡ sends frame.now ∷ [] }
     {
-        let octets = spelled(self.bytes, frame);
-        with_out(self.outs, Out::Send(octets))
+        let out = self.frame.send(frame);
+        with_out(self.outs, out)
     }
 
     pub(crate) fn note(self, number: u8) -> Vec<Out>

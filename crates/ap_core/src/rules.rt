@@ -1,28 +1,25 @@
 //! Which rule a frame falls under.
 
 ghost use Rattle.std.specs.Prelude.{◌≡◌, ◌≢◌, ℕ, ◌↔◌, IsTrue, IfOk, IfErr, [], ◌∷◌, None, Some, IsSome};
-ghost use Rattle.mac_types.specs.declared.fields.BlockAckPolicy.{BlockAckPolicy};
 ghost use Rattle.mac_frame.specs.Spelling.{spelling, content_subtype, management_subtype};
 ghost use Rattle.mac_frame.specs.Spelling.{Frame as SpelledFrame};
 ghost use Rattle.ap_model.specs.Readings.{Rules};
-ghost use Rattle.ap_model.specs.Agreements.{setup_answer};
 ghost use Rattle.assoc.specs.Standings.{standing};
 ghost use Rattle.assoc.specs.Classes.{class_of, class_answer};
 ghost use Rattle.assoc.specs.declared.class.ClassAnswer.{ClassAnswer};
 ghost use Rattle.ap_model.specs.Steps.{IsOurs, ManagementComes, DataKindComes, ControlComes, Follows};
 ghost use Rattle.ap_core.specs.Handles.{Handled, reading, rules};
-ghost use Rattle.ap_core.specs.Settled.{IsSetupBody, IsSetup};
 
+use crate::ends::on_delba;
 use crate::management::{Asked, on_association, on_authentication};
-use crate::packets::{Read, on_data};
-use crate::room::Room;
+use crate::moves::{deauthenticate, disassociate};
+use crate::packets::{Read, on_plain_data, on_qos_data};
+use crate::requests::on_request;
+use crate::setups::{SetupRequest, on_setup};
+use crate::state::State;
 use ap_model::{Judge, LinkConfig, Out};
-use assoc::Link;
 use bpf_regions::Frame;
-use mac_frame::{
-    Address, BlockAckParameters, BufferSize, Content, DataKind, MacFrame, Management,
-    SequenceNumber, Status,
-};
+use mac_frame::{Address, Content, Control, DataKind, MacFrame, Management, SequenceNumber};
 use std::alloc::{AllocError, Global};
 
 /// Whether a frame is for this access point, and its sender is no group.
@@ -37,33 +34,10 @@ pub(crate) fn is_ours(config: &LinkConfig, frame: &MacFrame) -> bool
     frame.receiver() == bssid && named && !frame.sender().is_group()
 }
 
-/// An ADDBA request is declined.
-fn decline(
-    alloc: Global,
-    config: &LinkConfig,
-    station: Address,
-    token: u8,
-    parameters: BlockAckParameters,
-    timeout: u16,
-) -> Result<Vec<Out>, AllocError>
-    ensures { IfOk result (λ outs. (shard : ℕ) (frame : SpelledFrame) (start : ℕ) → outs.items ≡ setup_answer (rules shard config.now) station (record { frame = frame; token = token; parameters = parameters; timeout = timeout; start = start }) 37 0 ∷ []) }
-{
-    let room = Room::new(alloc)?;
-    let size = match BufferSize::new(0) {
-        Some(size) => size,
-        None => unreachable!(),
-    };
-    let bssid = config.bssid();
-    let granted = BlockAckParameters::immediate(parameters.tid, size);
-    let status = Status::REQUEST_DECLINED;
-    let answer = MacFrame::addba_response(alloc, station, bssid, token, status, granted, timeout);
-    Ok(room.send(&answer))
-}
-
 /// A management frame that its class permits.
 fn on_management<J: Judge>(
     alloc: Global,
-    link: &mut Link,
+    state: &mut State,
     config: &LinkConfig,
     frame: &MacFrame,
     bytes: &Frame<'_>,
@@ -71,10 +45,10 @@ fn on_management<J: Judge>(
     judge: &mut J,
 ) -> Result<Vec<Out>, AllocError>
     requires bytes { bytes.now ≡ spelling frame.now }
-    requires permitted { class_answer (standing link.old frame.now.sender) (class_of (management_subtype body)) ≡ ClassAnswer.Permitted }
-    ensures step { IfOk result (λ outs. (IsSetupBody body → ⊥) → (clock : ℕ) → Handled J.gives (λ asks outs. ManagementComes (rules link.old.shard config.now) (reading link.old clock) frame.now body asks outs (reading link.new clock)) judge.old outs.items judge.new) }
-    ensures shard { link.new.shard ≡ link.old.shard }
-    ensures refused { IfErr result (λ _. (link.new ≡ link.old) × (judge.new ≡ judge.old)) }
+    requires permitted { class_answer (standing state.old.link frame.now.sender) (class_of (management_subtype body)) ≡ ClassAnswer.Permitted }
+    ensures step { IfOk result (λ outs. Handled J.gives (λ asks outs. ManagementComes (rules state.old.link.shard config.now) (reading state.old) frame.now body asks outs (reading state.new)) judge.old outs.items judge.new) }
+    ensures shard { state.new.link.shard ≡ state.old.link.shard }
+    ensures refused { IfErr result (λ _. (state.new ≡ state.old) × (judge.new ≡ judge.old)) }
 {
     let station = frame.sender();
     match body {
@@ -83,7 +57,7 @@ fn on_management<J: Judge>(
             transaction,
             status: _,
         } => {
-            let outs = on_authentication(alloc, link, config, station, algorithm, transaction)?;
+            let outs = on_authentication(alloc, state, config, station, algorithm, transaction)?;
             return Ok(outs);
         }
         Management::AssociationRequest {
@@ -95,7 +69,7 @@ fn on_management<J: Judge>(
                 listen_interval,
                 again: false,
             };
-            let outs = on_association(alloc, link, config, frame, bytes, &asked, judge)?;
+            let outs = on_association(alloc, state, config, frame, bytes, &asked, judge)?;
             return Ok(outs);
         }
         Management::ReassociationRequest {
@@ -108,15 +82,15 @@ fn on_management<J: Judge>(
                 listen_interval,
                 again: true,
             };
-            let outs = on_association(alloc, link, config, frame, bytes, &asked, judge)?;
+            let outs = on_association(alloc, state, config, frame, bytes, &asked, judge)?;
             return Ok(outs);
         }
         Management::Disassociation { reason: _ } => {
-            link.on_disassoc(station);
+            disassociate(state, station);
             return Ok(Vec::new(alloc));
         }
         Management::Deauthentication { reason: _ } => {
-            link.on_deauth(station);
+            deauthenticate(state, station);
             let nothing = Vec::new(alloc);
             return Ok(nothing);
         }
@@ -124,17 +98,27 @@ fn on_management<J: Judge>(
             dialog_token,
             parameters,
             timeout,
-            start: _,
+            start,
         } => {
-            let declined = decline(alloc, config, station, dialog_token, parameters, timeout)?;
-            return Ok(declined);
+            let request = SetupRequest {
+                token: dialog_token,
+                parameters,
+                timeout,
+                start,
+            };
+            let outs = on_setup(alloc, state, config, frame, bytes, &request, judge)?;
+            return Ok(outs);
         }
         Management::Delba {
-            parameters: _,
+            parameters,
             reason: _,
         } => {
-            let no_outs = Vec::new(alloc);
-            return Ok(no_outs);
+            if !parameters.initiator {
+                let no_outs = Vec::new(alloc);
+                return Ok(no_outs);
+            }
+            let outs = on_delba(alloc, state, station, parameters.tid)?;
+            return Ok(outs);
         }
         Management::AssociationResponse { .. } => return Ok(Vec::new(alloc)),
         Management::ReassociationResponse { .. } => return Ok(Vec::new(alloc)),
@@ -142,10 +126,31 @@ fn on_management<J: Judge>(
     }
 }
 
+/// A control frame that its class permits.
+fn on_control(
+    alloc: Global,
+    state: &mut State,
+    config: &LinkConfig,
+    station: Address,
+    body: Control,
+) -> Result<Vec<Out>, AllocError>
+    ensures step { IfOk result (λ outs. (f : SpelledFrame) → f.sender ≡ station → ControlComes (rules state.old.link.shard config.now) (reading state.old) f body [] outs.items (reading state.new)) }
+    ensures shard { state.new.link.shard ≡ state.old.link.shard }
+    ensures refused { IfErr result (λ _. state.new ≡ state.old) }
+{
+    match body {
+        Control::BlockAckReq { tid, start } => {
+            let outs = on_request(alloc, state, config, station, tid, start)?;
+            return Ok(outs);
+        }
+        Control::BlockAck { .. } => return Ok(Vec::new(alloc)),
+    }
+}
+
 /// A data frame that its class permits.
 fn on_data_kind<J: Judge>(
     alloc: Global,
-    link: &Link,
+    state: &mut State,
     frame: &MacFrame,
     bytes: &Frame<'_>,
     destination: Address,
@@ -154,8 +159,9 @@ fn on_data_kind<J: Judge>(
     judge: &mut J,
 ) -> Result<Vec<Out>, AllocError>
     requires bytes { bytes.now ≡ spelling frame.now }
-    ensures step { IfOk result (λ outs. (c : Rules) (clock : ℕ) → Handled J.gives (λ asks outs. DataKindComes c (reading link.now clock) frame.now destination number kind asks outs (reading link.now clock)) judge.old outs.items judge.new) }
-    ensures refused { IfErr result (λ _. judge.new ≡ judge.old) }
+    ensures step { IfOk result (λ outs. (c : Rules) → Handled J.gives (λ asks outs. DataKindComes c (reading state.old) frame.now destination number kind asks outs (reading state.new)) judge.old outs.items judge.new) }
+    ensures shard { state.new.link.shard ≡ state.old.link.shard }
+    ensures refused { IfErr result (λ _. (state.new ≡ state.old) × (judge.new ≡ judge.old)) }
 {
     match kind {
         DataKind::Data => {
@@ -164,7 +170,7 @@ fn on_data_kind<J: Judge>(
                 tid: None,
                 number,
             };
-            let outs = on_data(alloc, link, frame, bytes, read, judge)?;
+            let outs = on_plain_data(alloc, state, frame, bytes, &read, judge)?;
             return Ok(outs);
         }
         DataKind::QosData { qos } => {
@@ -173,7 +179,7 @@ fn on_data_kind<J: Judge>(
                 tid: Some(qos.tid),
                 number,
             };
-            let outs = on_data(alloc, link, frame, bytes, read, judge)?;
+            let outs = on_qos_data(alloc, state, frame, bytes, &read, qos.tid, judge)?;
             return Ok(outs);
         }
         DataKind::Null => return Ok(Vec::new(alloc)),
@@ -184,24 +190,27 @@ fn on_data_kind<J: Judge>(
 /// A frame that its class permits.
 pub(crate) fn follow<J: Judge>(
     alloc: Global,
-    link: &mut Link,
+    state: &mut State,
     config: &LinkConfig,
     frame: &MacFrame,
     bytes: &Frame<'_>,
     judge: &mut J,
 ) -> Result<Vec<Out>, AllocError>
     requires bytes { bytes.now ≡ spelling frame.now }
-    requires permitted { class_answer (standing link.old frame.now.sender) (class_of (content_subtype frame.now.content)) ≡ ClassAnswer.Permitted }
-    ensures step { IfOk result (λ outs. (IsSetup frame.now.content → ⊥) → (clock : ℕ) → Handled J.gives (λ asks outs. Follows (rules link.old.shard config.now) (reading link.old clock) frame.now frame.now.content asks outs (reading link.new clock)) judge.old outs.items judge.new) }
-    ensures shard { link.new.shard ≡ link.old.shard }
-    ensures refused { IfErr result (λ _. (link.new ≡ link.old) × (judge.new ≡ judge.old)) }
+    requires permitted { class_answer (standing state.old.link frame.now.sender) (class_of (content_subtype frame.now.content)) ≡ ClassAnswer.Permitted }
+    ensures step { IfOk result (λ outs. Handled J.gives (λ asks outs. Follows (rules state.old.link.shard config.now) (reading state.old) frame.now frame.now.content asks outs (reading state.new)) judge.old outs.items judge.new) }
+    ensures shard { state.new.link.shard ≡ state.old.link.shard }
+    ensures refused { IfErr result (λ _. (state.new ≡ state.old) × (judge.new ≡ judge.old)) }
 {
     match frame.content() {
         Content::Management { body, .. } => {
-            let outs = on_management(alloc, link, config, frame, bytes, body, judge)?;
+            let outs = on_management(alloc, state, config, frame, bytes, body, judge)?;
             return Ok(outs);
         }
-        Content::Control { .. } => return Ok(Vec::new(alloc)),
+        Content::Control { body } => {
+            let outs = on_control(alloc, state, config, frame.sender(), body)?;
+            return Ok(outs);
+        }
         Content::Data {
             destination,
             sequence,
@@ -209,7 +218,7 @@ pub(crate) fn follow<J: Judge>(
         } => {
             let outs = on_data_kind(
                 alloc,
-                link,
+                state,
                 frame,
                 bytes,
                 destination,

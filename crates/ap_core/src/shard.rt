@@ -1,28 +1,30 @@
 //! A shard: the stations whose last address octet is its number modulo 8.
 
-ghost use Rattle.std.specs.Prelude.{◌≡◌, ℕ, ◌<◌, IfOk, IfErr, List, [], None};
-ghost use Rattle.assoc.specs.Standings.{standing, associated_count};
+ghost use Rattle.std.specs.Prelude.{◌≡◌, ℕ, ◌+◌, ◌*◌, ◌<◌, ◌≤◌, IfOk, IfErr, List, [], None, vec_len, vec_capacity};
+ghost use Rattle.assoc.specs.Standings.{associated_count};
 ghost use Rattle.ap_model.specs.declared.event.Event.{Event};
 ghost use Rattle.ap_model.specs.Steps.{Step};
 ghost use Rattle.ap_core.specs.Handles.{rules};
-ghost use Rattle.ap_core.specs.Shards.{reads, ruled, IsSettled, Handles};
+ghost use Rattle.ap_core.specs.Shards.{reads, ruled, Handles};
+ghost use Rattle.ap_core.specs.Ticking.{late_count, HasRoom, TickStep};
 
+use crate::ends::{UNKNOWN_STATION, on_close};
+use crate::moves::deauthenticate;
 use crate::receive::receive;
 use crate::room::Room;
+use crate::state::State;
+use crate::ticks::{TickRoom, most_outs, tick, tick_room};
+use ap_agreements::Agreements;
 use ap_model::{Event, Judge, LinkConfig, Out};
 use assoc::Link;
 use mac_frame::{Address, MacFrame, Reason};
 use std::alloc::{AllocError, Global};
 
-/// The note of an operator's command that names an unknown station.
-const UNKNOWN_STATION: u8 = 63;
-
 /// A shard of an access point's link.
 #[derive(Drop)]
 pub struct Shard {
-    link: Link,
+    state: State,
     config: LinkConfig,
-    clock: u64,
 }
 
 impl Shard {
@@ -31,67 +33,101 @@ impl Shard {
         requires { shard < 8 }
         ensures rules { ruled result ≡ rules shard config }
         ensures unknown { (a : List ℕ) → (reads result).standing a ≡ None }
+        ensures unagreed { (a : List ℕ) (tid : ℕ) → (reads result).agreement a tid ≡ None }
         ensures clock { (reads result).clock ≡ 0 }
     {
-        Shard {
+        let state = State {
             link: Link::new(alloc, shard),
-            config,
+            agreements: Agreements::new(alloc),
             clock: 0,
-        }
+        };
+        Shard { state, config }
     }
 
     /// The sum of the ticks so far, at most 2^64 - 1.
     pub fn clock(&self) -> u64
         ensures { result ≡ (reads self.now).clock }
     {
-        self.clock
+        self.state.clock
     }
 
     /// How many stations are associated.
     pub fn stations(&self) -> u16
-        ensures { result ≡ associated_count self.now.link }
+        ensures { result ≡ associated_count self.now.state.link }
     {
-        self.link.associated()
+        self.state.link.associated()
     }
 
-    /// Handles an event: what comes out is one step of the link, as long as the event asks for no
-    /// agreement. An event that is refused for memory changes nothing and asks nothing.
+    /// Handles an event: what comes out is one step of the link. An event that is refused for memory
+    /// changes nothing and asks nothing.
     pub fn handle<J: Judge>(
         &mut self,
         alloc: Global,
         event: &Event,
         judge: &mut J,
     ) -> Result<Vec<Out>, AllocError>
-        ensures step { IfOk result (λ outs. IsSettled event.now → Handles J.gives self.old event.now judge.old outs.items self.new judge.new) }
+        ensures step { IfOk result (λ outs. Handles J.gives self.old event.now judge.old outs.items self.new judge.new) }
         ensures rules { ruled self.new ≡ ruled self.old }
         ensures refused { IfErr result (λ _. (self.new ≡ self.old) × (judge.new ≡ judge.old)) }
     {
         match event {
             Event::Frame(bytes) => {
-                let outs = receive(alloc, &mut self.link, &self.config, bytes.bytes(), judge)?;
+                let bytes = bytes.bytes();
+                let outs = receive(alloc, &mut self.state, &self.config, bytes, judge)?;
                 return Ok(outs);
             }
             Event::Tick(units) => {
-                self.tick(*units);
-                return Ok(Vec::new(alloc));
+                let outs = self.on_tick(alloc, *units)?;
+                return Ok(outs);
             }
             Event::Kick { station, reason } => {
                 let outs = self.on_kick(alloc, *station, *reason)?;
                 return Ok(outs);
             }
-            Event::Close { station, tid: _ } => {
-                let outs = self.on_close(alloc, *station)?;
+            Event::Close { station, tid } => {
+                let outs = on_close(alloc, &mut self.state, &self.config, *station, *tid)?;
                 return Ok(outs);
             }
         }
     }
 
-    /// Time passes.
-    fn tick(&mut self, units: u32)
-        ensures step { Step (ruled self.old) (reads self.old) (Event.Tick units) [] [] (reads self.new) }
-        ensures rules { ruled self.new ≡ ruled self.old }
+    /// Makes room for a tick.
+    pub(crate) fn tick_room(&self, alloc: Global, units: u32) -> Result<TickRoom, AllocError>
+        ensures { IfOk result (λ room. HasRoom self.now.state units room) }
     {
-        self.clock = self.clock.saturating_add(u64::from(units));
+        tick_room(alloc, &self.state, units)
+    }
+
+    /// How many outs a tick leads to, at most.
+    pub(crate) fn most_outs(&self, units: u32) -> Result<usize, AllocError>
+        ensures { IfOk result (λ most. most ≡ 65 * late_count self.now.state units) }
+    {
+        most_outs(&self.state, units)
+    }
+
+    /// Time passes, for which all room is made.
+    pub(crate) fn tick(&mut self, alloc: Global, units: u32, room: TickRoom, outs: &mut Vec<Out>)
+        requires room { HasRoom self.old.state units room }
+        requires outs { vec_len outs.old + 65 * late_count self.old.state units ≤ vec_capacity outs.old }
+        ensures step { TickStep (ruled self.old) (reads self.old) units outs.old.items outs.new.items (reads self.new) }
+        ensures rules { ruled self.new ≡ ruled self.old }
+        ensures len { vec_len outs.new ≤ vec_len outs.old + 65 * late_count self.old.state units }
+        ensures capacity { vec_capacity outs.new ≡ vec_capacity outs.old }
+    {
+        tick(alloc, &mut self.state, &self.config, units, room, outs);
+    }
+
+    /// Time passes.
+    fn on_tick(&mut self, alloc: Global, units: u32) -> Result<Vec<Out>, AllocError>
+        ensures step { IfOk result (λ outs. Step (ruled self.old) (reads self.old) (Event.Tick units) [] outs.items (reads self.new)) }
+        ensures rules { ruled self.new ≡ ruled self.old }
+        ensures refused { IfErr result (λ _. self.new ≡ self.old) }
+    {
+        let room = self.tick_room(alloc, units)?;
+        let most = self.most_outs(units)?;
+        let mut outs = Vec::with_capacity(alloc, most)?;
+        self.tick(alloc, units, room, &mut outs);
+        Ok(outs)
     }
 
     fn on_kick(
@@ -105,25 +141,13 @@ impl Shard {
         ensures refused { IfErr result (λ _. self.new ≡ self.old) }
     {
         let room = Room::new(alloc)?;
-        match self.link.standing(station) {
+        match self.state.link.standing(station) {
             Some(_) => {
-                self.link.on_deauth(station);
+                deauthenticate(&mut self.state, station);
                 let bssid = self.config.bssid();
                 let answer = MacFrame::deauthentication(alloc, station, bssid, reason);
                 return Ok(room.send(&answer));
             }
-            None => return Ok(room.note(UNKNOWN_STATION)),
-        }
-    }
-
-    fn on_close(&mut self, alloc: Global, station: Address) -> Result<Vec<Out>, AllocError>
-        ensures step { IfOk result (λ outs. (tid : ℕ) → Step (ruled self.old) (reads self.old) (Event.Close station tid) [] outs.items (reads self.new)) }
-        ensures rules { ruled self.new ≡ ruled self.old }
-        ensures refused { IfErr result (λ _. self.new ≡ self.old) }
-    {
-        let room = Room::new(alloc)?;
-        match self.link.standing(station) {
-            Some(_) => return Ok(room.nothing()),
             None => return Ok(room.note(UNKNOWN_STATION)),
         }
     }

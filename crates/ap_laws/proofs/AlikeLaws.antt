@@ -155,7 +155,7 @@ disassociated_alike (Some k) (Some l) e = refl
 
 -- ---- time
 
-timed_tells : (c : Rules) (r : Readings) (clock : ℕ) (u : Using) → IsTimedOut c r clock u ⊎ (IsTimedOut c r clock u → ⊥)
+pub timed_tells : (c : Rules) (r : Readings) (clock : ℕ) (u : Using) → IsTimedOut c r clock u ⊎ (IsTimedOut c r clock u → ⊥)
 timed_tells c r clock u =
     ⊎_elim
     (λ none. inr (λ late. let limited = late.limited in omega arith))

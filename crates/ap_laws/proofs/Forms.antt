@@ -17,16 +17,17 @@ use Rattle.assoc.specs.declared.class.ClassAnswer.TheVariants.{Permitted, Deauth
 use Rattle.assoc.specs.Classes.{class_of, class_answer}
 use Rattle.assoc.specs.declared.standing.Known.TheVariants.{Authenticated, Associated}
 use Rattle.assoc.specs.Standings.{Standing, state_of, disassociated}
+use Rattle.blockack.specs.Reading.{Reading}
 use Rattle.ap_model.specs.declared.event.Event.{Event}
 use Rattle.ap_model.specs.declared.event.Event.TheVariants as event
 use Rattle.ap_model.specs.declared.event.Out.{Out}
 use Rattle.ap_model.specs.declared.event.Out.TheVariants as out
 use Rattle.ap_model.specs.declared.event.Up.{Up}
 use Rattle.ap_model.specs.Asks.{Ask}
-use Rattle.ap_model.specs.Readings.{Readings, Rules, Using}
+use Rattle.ap_model.specs.Readings.{Readings, Rules, Using, Held}
 use Rattle.ap_model.specs.Changes.{Stays, Moves, Nothing, Answers}
 use Rattle.ap_model.specs.Associations.{Authenticates, accepts, refuses, Associates, unsuited, elsewhere, exhausted, admitted, refused, Request}
-use Rattle.ap_model.specs.Agreements.{Packet, Delivers, Takes, Leaves, DataComes, plain, taken, left, RequestComes, unagreed, agreed, Reports, Ends, SetsUp, delayed, declined, granted, Setup, Grants, delba}
+use Rattle.ap_model.specs.Agreements.{Packet, Delivers, Takes, Leaves, DataComes, plain, taken, left, RequestComes, unagreed, agreed, Reports, Ends, SetsUp, delayed, declined, granted, Setup, Grants, setup_answer, block_ack, delba}
 use Rattle.ap_model.specs.Steps.{Step, FrameComes, faulty, foreign, ours, IsOurs, Checked, check_of, Follows, ManagementComes, ControlComes, DataKindComes, DelbaComes, Ticks, Kicks, kicked, not_kicked, Closes, closed, not_closed}
 use Rattle.ap_laws.specs.Origins.{IsAssociated, Carries}
 use Rattle.ap_laws.specs.Origins.Carries.{plain as plain_data, with_qos}
@@ -42,8 +43,18 @@ none_up d p = none_in_none (out.Up d) p
 pub one_send : (bytes : List ℕ) (d : Up) → Contains (out.Send bytes ∷ []) (out.Up d) → ⊥
 one_send bytes d p = ⊎_elim (λ none. none_in_none (out.Up d) none) (λ e. let f : out.Send bytes ≡ out.Up d = e in absurd cc) (Contains-push_cases [] (out.Send bytes) (out.Up d) p)
 
-one_note : (n : ℕ) (d : Up) → Contains (out.Note n ∷ []) (out.Up d) → ⊥
+pub one_note : (n : ℕ) (d : Up) → Contains (out.Note n ∷ []) (out.Up d) → ⊥
 one_note n d p = ⊎_elim (λ none. none_in_none (out.Up d) none) (λ e. let f : out.Note n ≡ out.Up d = e in absurd cc) (Contains-push_cases [] (out.Note n) (out.Up d) p)
+
+-- the frames that stand among what is passed up
+pub no_up_in_answer : (c : Rules) (a : List ℕ) (s : Setup) (status size : ℕ) → NoUp (setup_answer c a s status size ∷ [])
+no_up_in_answer c a s status size = one_send _
+
+pub no_up_in_block_ack : (c : Rules) (a : List ℕ) (tid : ℕ) (v : Reading Held) → NoUp (block_ack c a tid v ∷ [])
+no_up_in_block_ack c a tid v = one_send _
+
+pub no_up_in_delba : (c : Rules) (a : List ℕ) (tid reason : ℕ) → NoUp (delba c a tid reason ∷ [])
+no_up_in_delba c a tid reason = one_send _
 
 pub no_up_of : (outs effects : List Out) → outs ≡ effects → NoUp effects → NoUp outs
 no_up_of outs effects is none = subst NoUp (sym is) none
@@ -67,7 +78,7 @@ pub data Form (c : Rules) (r : Readings) (e : Event) (asked : List (Ask × ℕ))
   reports : (a : List ℕ) (tid start : ℕ) (u : Using) → r.agreement a tid ≡ Some u → Reports c r a tid start u asked outs r2 → Form c r e asked outs r2
   ends : (a : List ℕ) (tid : ℕ) (last : List Out) → NoUp last → Ends r a tid last asked outs r2 → Form c r e asked outs r2
   grants : (a : List ℕ) (s : Setup) (verdict : ℕ) → IsAssociated a r → Grants c r a s verdict asked outs r2 → Form c r e asked outs r2
-  ticks : (n : ℕ) → Ticks c r n asked outs r2 → Form c r e asked outs r2
+  ticks : (n : ℕ) → e ≡ event.Tick n → Ticks c r n asked outs r2 → Form c r e asked outs r2
 
 -- ---- the class check
 
@@ -188,6 +199,6 @@ module _ (c : Rules) (r : Readings) (e : Event) (asked : List (Ask × ℕ)) (out
 
 pub step_form : (c : Rules) (r : Readings) (e : Event) (asked : List (Ask × ℕ)) (outs : List Out) (r2 : Readings) → Step c r e asked outs r2 → Form c r e asked outs r2
 step_form c r (event.Frame bytes) asked outs r2 step = frame_form c r (event.Frame bytes) asked outs r2 bytes refl step
-step_form c r (event.Tick n) asked outs r2 step = ticks n step
+step_form c r (event.Tick n) asked outs r2 step = ticks n refl step
 step_form c r (event.Kick a reason) asked outs r2 step = kick_form c r (event.Kick a reason) asked outs r2 a reason step
 step_form c r (event.Close a tid) asked outs r2 step = close_form c r (event.Close a tid) asked outs r2 a tid step

@@ -8,3 +8,16 @@ pub mod Pigeonhole
 pub mod FreeLaws
 pub mod AlikeLaws
 pub mod AlongsideLaws
+pub mod FrameLaws
+pub mod UpLaws
+pub mod TellLaws
+pub mod ElsewhereLaws
+pub mod OwnLaws
+pub mod TurnLaws
+pub mod StepTells
+pub mod OnceLaws
+pub mod StandLaws
+pub mod OrderLaws
+pub mod RereadLaws
+pub mod HistoryLaws
+pub mod Example

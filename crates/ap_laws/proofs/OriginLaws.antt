@@ -190,7 +190,7 @@ form_holds c r r2 e asked outs holds (ends a tid last none ending) = with_none r
 form_holds c r r2 e asked outs holds (grants a s verdict associated g) =
     with_new r r2 holds a s.parameters.tid (record { window = g.window; timeout = s.timeout; last_use = r.clock }) g.agrees associated
     (let x = g.opens.residue in omega arith)
-form_holds c r r2 e asked outs holds (ticks n t) = as_before r r2 holds t.standing (ticked_agreement c r r2 n asked outs t)
+form_holds c r r2 e asked outs holds (ticks n is t) = as_before r r2 holds t.standing (ticked_agreement c r r2 n asked outs t)
 
 pub step_holds : (c : Rules) (r r2 : Readings) (e : Entry) → HoldsAgreements r → Handles c r e r2 → HoldsAgreements r2
 step_holds c r r2 e holds step = form_holds c r r2 e.event e.asked e.outs holds (step_form c r e.event e.asked e.outs r2 step)
@@ -215,7 +215,7 @@ item_is p (Pass mark) h e = (mark, refl, inner)
     inner = cc
 item_is p Discard h e = absurd (none_some (Some h) e)
 
-if_there : (b : Bool) (first last : List Out) (d : Up) → Contains (if b then first ++ last else []) (out.Up d) → Contains first (out.Up d) ⊎ Contains last (out.Up d)
+pub if_there : (b : Bool) (first last : List Out) (d : Up) → Contains (if b then first ++ last else []) (out.Up d) → Contains first (out.Up d) ⊎ Contains last (out.Up d)
 if_there true first last d inside = Contains-append_cases first last (out.Up d) inside
 if_there false first last d inside = absurd (none_in_none (out.Up d) inside)
 
@@ -313,7 +313,7 @@ module _ (c : Rules) (r0 : Readings) (entries : List Entry) (r r2 : Readings) (e
   form_backed (grants a s verdict associated g) =
       changed a s.parameters.tid (record { window = g.window; timeout = s.timeout; last_use = r.clock }) g.agrees
       (λ k h held. absurd (none_some (Some (Some h)) (holds_read (opening_window s.start) g.window k (Some h) g.opens held).is))
-  form_backed (ticks n t) = kept (ticked_agreement c r r2 n e.asked e.outs t)
+  form_backed (ticks n is t) = kept (ticked_agreement c r r2 n e.asked e.outs t)
 
   delivered : (f : Frame) (p : Packet) (ask : Ask) (verdict : ℕ) (d : Up) → IsPacket c e.event f p → IsAssociated f.sender r → e.asked ≡ (ask, verdict) ∷ [] →
       (v : DataVerdict) → data_verdict verdict ≡ v → Contains (let_through f.sender p v) (out.Up d) → Origin c r0 (entries ++ e ∷ []) r2 d
@@ -361,7 +361,7 @@ module _ (c : Rules) (r0 : Readings) (entries : List Entry) (r r2 : Readings) (e
       (λ head. passed_kept a s.parameters.tid g.first d g.passes head)
       (λ sent. absurd (one_send _ d sent))
       (Contains-append_cases g.first (setup_answer c a s 0 g.size ∷ []) (out.Up d) (subst P g.is inside))
-  form_ups d (ticks n t) inside = in_turn t.ending e.outs d t.ends inside
+  form_ups d (ticks n is t) inside = in_turn t.ending e.outs d t.ends inside
 
 -- ---- whole runs
 

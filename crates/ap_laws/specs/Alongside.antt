@@ -17,7 +17,8 @@ pub record AgreeButOnData (one other : Entry) : Type 0 where
 -- entry by entry
 pub data Alongside : List Entry → List Entry → Type 0 where
   both_end : Alongside [] []
-  both_go_on : (one other : Entry) (ones others : List Entry) → AgreeButOnData one other → Alongside ones others → Alongside (one ∷ ones) (other ∷ others)
+  both_go_on : (one other : Entry) (ones others : List Entry) →
+      AgreeButOnData one other → Alongside ones others → Alongside (one ∷ ones) (other ∷ others)
 
 -- where the window of a station's agreement for a TID starts, if there is one
 abbrev pub window_start : Readings → List ℕ → ℕ → Option ℕ

@@ -3,3 +3,7 @@ pub mod AccessPoint
 pub mod Identifiers
 pub mod Origins
 pub mod Alongside
+pub mod Exchanges
+pub mod Agreed
+pub mod InOrder
+pub mod Histories

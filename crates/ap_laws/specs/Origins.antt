@@ -94,3 +94,15 @@ FromTheOpening =
     (c : Rules) (at r2 : Readings) (entries : List Entry) (e : Entry) (d : Up) →
     Run c opening entries at → Handles c at e r2 → Contains e.outs (out.Up d) →
     ComesAssociated c opening (entries ++ e ∷ []) r2 d
+
+-- data is passed up in some run, so these laws speak of something
+pub record SomeIsPassedUp : Type 0 where
+  pub rules : Rules
+  pub entries : List Entry
+  pub at : Readings
+  pub last : Readings
+  pub passing : Entry
+  pub passed : Up
+  pub run : Run rules opening entries at
+  pub step : Handles rules at passing last
+  pub inside : Contains passing.outs (out.Up passed)

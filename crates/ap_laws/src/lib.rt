@@ -4,4 +4,4 @@
 
 mod laws;
 
-pub use laws::{identifiers_law, origin_law, window_law};
+pub use laws::{history_law, identifiers_law, order_law, origin_law, window_law};

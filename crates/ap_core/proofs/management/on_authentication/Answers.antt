@@ -9,15 +9,15 @@ use Rattle.ap_core.proofs.Handling.{settled}
 use Rattle.ap_core.proofs.management.on_authentication.Goals as goal
 
 pub returns-then-not-is_success-clause-step : goal.returns-then-not-is_success-clause-step
-returns-then-not-is_success-clause-step c = λ clock.
+returns-then-not-is_success-clause-step c =
     let e = c.is_success.ensures in
     let f = c.if-not-is_success.true in
     let ne : c.authentication_status-status.result ≢ 0 = grind (arith, nat_tests) in
-    refuses c.authentication_status-status.result ne (c.authentication_status-status.ensures clock)
+    refuses c.authentication_status-status.result ne c.authentication_status-status.ensures
     (settled _ _ _ (c.send.ensures ∙ ap (λ m. sends m ∷ []) c.authentication-answer.ensures ∙ ap (λ b. sends (sent_management c.args.station b (management.Authentication c.args.algorithm 2 c.authentication_status-status.result) []) ∷ []) c.bssid.ensures))
 
-pub on_auth-requires : goal.on_auth-requires
-on_auth-requires c =
+pub authenticate-requires : goal.authenticate-requires
+authenticate-requires c =
     let e = c.is_success.ensures in
     let f = c.if-not-is_success.false in
-    accepted_when (c.authentication_status-status.ensures 0) (grind (arith, nat_tests))
+    accepted_when c.authentication_status-status.ensures (grind (arith, nat_tests))

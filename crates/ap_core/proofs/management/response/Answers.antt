@@ -1,5 +1,5 @@
 use Rattle.std.proofs.Common.{◌≤◌, length, ap, ◌∙◌, sym, subst}
-use Rattle.ap_core.proofs.Handling.{length-rates_text}
+use Rattle.ap_core.proofs.Lists.{length-rates_text}
 use Rattle.ap_core.proofs.management.response.Goals as goal
 
 pub returns-then-again-clause-short : goal.returns-then-again-clause-short

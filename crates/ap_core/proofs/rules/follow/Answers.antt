@@ -1,13 +1,19 @@
 use Rattle.std.proofs.Common.{sym, ◌∙◌}
 use Rattle.ap_core.specs.Handles.{rules}
+use Rattle.ap_core.proofs.Handling.{silently}
 use Rattle.ap_core.proofs.rules.follow.Goals as goal
 
 pub returns-in-Management-clause-step : goal.returns-in-Management-clause-step
-returns-in-Management-clause-step g c = λ other clock.
+returns-in-Management-clause-step g c =
     let e = sym c.content.ensures ∙ c.in-Management.is in
-    rw e (c.in_ok-outs-in-Management.ensures.step (rw e at other) clock)
+    rw e c.in_ok-outs-in-Management.ensures.step
+
+pub returns-in-Control-clause-step : goal.returns-in-Control-clause-step
+returns-in-Control-clause-step g c =
+    let e = sym c.content.ensures ∙ c.in-Control.is in
+    rw e (silently g.J.Judge.gives _ _ _ (c.in_ok-outs-in-Control.ensures.step c.args.frame.now (sym c.sender.ensures)))
 
 pub returns-in-Data-clause-step : goal.returns-in-Data-clause-step
-returns-in-Data-clause-step g c = λ other clock.
+returns-in-Data-clause-step g c =
     let e = sym c.content.ensures ∙ c.in-Data.is in
-    rw e (c.in_ok-outs-in-Data.ensures.step (rules c.args.link.now.shard c.args.config.now) clock)
+    rw e (c.in_ok-outs-in-Data.ensures.step (rules c.args.state.now.link.shard c.args.config.now))

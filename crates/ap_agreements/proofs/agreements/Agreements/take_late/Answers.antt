@@ -1,8 +1,9 @@
-use Rattle.std.proofs.Common.{◌≡◌, List, ap, sym, subst, map}
-use Rattle.std.specs.Prelude.{AllPairs, Contains, ◌↔◌}
+use Rattle.std.proofs.Common.{◌≡◌, List, ap, sym, subst, ◌∙◌, map}
+use Rattle.std.proofs.lemmas.List.Sums.{length-filter}
+use Rattle.std.specs.Prelude.{length, count_by, AllPairs, Contains, ◌↔◌}
 use Rattle.ap_model.specs.Steps.{IsBefore}
 use Rattle.ap_agreements.specs.Tables.{Table, Kept, key_of, IsRising, IsLateIn, agreement_in, unless_late}
-use Rattle.ap_agreements.proofs.Filters.{timely, stay, exactly_late, late_rise, rises_kept}
+use Rattle.ap_agreements.proofs.Filters.{late, timely, stay, exactly_late, late_rise, rises_kept}
 use Rattle.ap_agreements.proofs.agreements.Agreements.take_late.Goals as goal
 
 pub invariant_of-self : goal.invariant_of-self
@@ -25,3 +26,8 @@ returns-clause-others c = λ a tid.
     subst (λ (l : List Kept). agreement_in c.split_late.new.entries.items a tid ≡ unless_late c.args.clock (agreement_in l a tid)) e
     (subst (λ (l : List Kept). agreement_in l a tid ≡ unless_late c.args.clock (agreement_in c.self.inside.entries.items a tid)) (sym c.split_late.ensures.kept)
     (stay c.args.clock c.self.inside.entries.items c.self.invariant a tid))
+
+pub returns-clause-many : goal.returns-clause-many
+returns-clause-many c =
+    let e = ap (λ (t : Table). t.kept) c.self.view_is in
+    c.split_late.new.ended.ok.0 ∙ ap length c.split_late.ensures.ended ∙ length-filter (late c.args.clock) c.self.inside.entries.items ∙ ap (λ (l : List Kept). count_by (late c.args.clock) l) e

@@ -1,0 +1,22 @@
+use Rattle.std.proofs.Common.{List, ℕ, [], ◌∷◌, ◌++◌, ◌∙◌, ap}
+use Rattle.mac_frame.specs.declared.content.Control.TheVariants as control
+use Rattle.mac_frame.specs.Frames.{sent_control}
+use Rattle.assoc.specs.Standings.{standing}
+use Rattle.ap_model.specs.declared.event.Out.{Out}
+use Rattle.ap_model.specs.Changes.{sends}
+use Rattle.ap_model.specs.Agreements.{ups}
+use Rattle.ap_core.specs.Handles.{rules}
+use Rattle.ap_core.proofs.RequestLaws.{reported_from}
+use Rattle.ap_core.proofs.requests.on_request.Goals as goal
+
+pub returns-in-Some-clause-step : goal.returns-in-Some-clause-step
+returns-in-Some-clause-step c =
+    let board = c.request-first.result in
+    let passed = c.request-first.new.out.items in
+    reported_from (rules c.args.state.now.link.shard c.args.config.now) (standing c.args.state.now.link) c.args.state.now.agreements.kept c.request-first.new.self.kept c.args.state.now.clock c.args.station c.args.tid c.args.start
+    c.in-Some.field-0.now.using board c.push_reserved.new.self.items passed c.in-Some.ensures c.request-first.ensures.uses
+    (c.push_reserved.ensures.items
+    ∙ ap (λ (t : List Out). t ++ c.send.result ∷ []) (c.pass_up.ensures.outs ∙ ap (λ (t : List Out). t ++ ups c.args.station c.args.tid passed) c.in_ok-outs-in-Some.ensures.items)
+    ∙ ap (λ (x : Out). ups c.args.station c.args.tid passed ++ x ∷ [])
+    (c.send.ensures ∙ ap sends c.block_ack-answer.ensures
+    ∙ ap (λ (b : List ℕ). sends (sent_control c.args.station b (control.BlockAck c.args.tid board.0 board.1))) c.bssid.ensures))

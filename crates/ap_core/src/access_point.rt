@@ -1,0 +1,142 @@
+//! Eight shards.
+
+ghost use Rattle.std.specs.Prelude.{◌≡◌, ◌+◌, ◌≤◌, ◌<◌, [], ◌∷◌, Some, IfOk, IfErr, MatchOption, vec_len, vec_capacity};
+ghost use Rattle.std.specs.Option.{option_map};
+ghost use Rattle.ap_laws.specs.AccessPoint.{shard_of, shard_of_address, InPlace};
+ghost use Rattle.ap_core.specs.AccessPoints.{rules_of, outs_in, shard_of_bytes, RunsAll, RunsOne, TickedBelow};
+
+use crate::shard::Shard;
+use ap_model::{Event, Judge, Out};
+use mac_frame::Address;
+use std::alloc::{AllocError, Global};
+
+/// The shard of an address.
+fn shard_of_address(station: Address) -> usize
+    ensures is { result ≡ shard_of_address station }
+    ensures fits { result < 8 }
+{
+    let [.., last] = station.octets();
+    usize::from(last % 8)
+}
+
+/// The shard of a frame's sender, 0 where the bytes are too short to name one.
+fn shard_of_bytes(bytes: &[u8]) -> usize
+    ensures is { result ≡ shard_of_bytes bytes.now }
+    ensures fits { result < 8 }
+{
+    match bytes.get(15) {
+        Some(last) => usize::from(*last % 8),
+        None => 0,
+    }
+}
+
+/// Ticks the first `count` shards, whose outs have room then, and as many outs beside them. All
+/// growths are made first, from the last shard down.
+fn tick_below(
+    alloc: Global,
+    shards: &mut [Shard; 8],
+    count: usize,
+    units: u32,
+    beside: usize,
+) -> Result<Vec<Out>, AllocError>
+    requires { count ≤ 8 }
+    ensures ticked { IfOk result (λ outs. TickedBelow count units shards.old shards.new outs.items) }
+    ensures room { IfOk result (λ outs. vec_len outs + beside ≤ vec_capacity outs) }
+    ensures refused { IfErr result (λ _. shards.new ≡ shards.old) }
+{
+    if count == 0 {
+        let outs = Vec::with_capacity(alloc, beside)?;
+        return Ok(outs);
+    }
+    let last = count - 1;
+    let room = shards[last].tick_room(alloc, units)?;
+    let most = shards[last].most_outs(units)?;
+    let needed = match beside.checked_add(most) {
+        Some(needed) => needed,
+        None => return Err(AllocError),
+    };
+    let mut outs = tick_below(alloc, shards, last, units, needed)?;
+    let shard = &mut shards[last];
+    shard.tick(alloc, units, room, &mut outs);
+    Ok(outs)
+}
+
+/// A tick of all eight shards, or of none.
+fn tick_all(alloc: Global, shards: &mut [Shard; 8], units: u32) -> Option<Vec<Out>>
+    ensures { MatchOption result (shards.new ≡ shards.old) (λ outs. TickedBelow 8 units shards.old shards.new outs.items) }
+{
+    match tick_below(alloc, shards, 8, units, 0) {
+        Ok(outs) => Some(outs),
+        Err(_) => None,
+    }
+}
+
+/// An event at its shard. None where it is refused for memory.
+fn handle_at<J: Judge>(
+    alloc: Global,
+    shards: &mut [Shard; 8],
+    at: usize,
+    event: &Event,
+    judge: &mut J,
+) -> Option<Vec<Out>>
+    requires fits { at < 8 }
+    requires concerns { shard_of event.now ≡ Some at }
+    ensures { RunsOne J.gives shards.old event.now judge.old (option_map (λ outs. outs.items) result) shards.new judge.new }
+{
+    let shard = &mut shards[at];
+    match shard.handle(alloc, event, judge) {
+        Ok(outs) => Some(outs),
+        Err(_) => None,
+    }
+}
+
+/// An event, at the shards that it concerns. None where it is refused for memory.
+fn handle_one<J: Judge>(
+    alloc: Global,
+    shards: &mut [Shard; 8],
+    event: &Event,
+    judge: &mut J,
+) -> Option<Vec<Out>>
+    ensures { RunsOne J.gives shards.old event.now judge.old (option_map (λ outs. outs.items) result) shards.new judge.new }
+{
+    match event {
+        Event::Frame(bytes) => {
+            let at = shard_of_bytes(bytes.bytes());
+            return handle_at(alloc, shards, at, event, judge);
+        }
+        Event::Tick(units) => return tick_all(alloc, shards, *units),
+        Event::Kick { station, reason: _ } => {
+            let at = shard_of_address(*station);
+            return handle_at(alloc, shards, at, event, judge);
+        }
+        Event::Close { station, tid: _ } => {
+            let at = shard_of_address(*station);
+            return handle_at(alloc, shards, at, event, judge);
+        }
+    }
+}
+
+/// Handles events in their order, each at the shard that it concerns: a frame at that of its sender,
+/// which bytes too short to name one leave at shard 0, an operator's command at its station's, and a
+/// tick at all eight, by rising shard, or at none. What came out of each is listed; None stands where
+/// an event was refused for memory, which changed nothing and asked nothing. Where the list itself
+/// is refused, no event is handled.
+pub fn handle_all<J: Judge>(
+    alloc: Global,
+    shards: &mut [Shard; 8],
+    events: &[Event],
+    judge: &mut J,
+) -> Result<Vec<Option<Vec<Out>>>, AllocError>
+    // Shard s stands at place s.
+    requires place { InPlace (rules_of shards.old) }
+    // The outs and the verdicts of each shard are a run of the link, from its readings on.
+    ensures run { IfOk result (λ results. RunsAll J.gives shards.old events.now judge.old (outs_in results.items) shards.new judge.new) }
+    ensures refused { IfErr result (λ _. (shards.new ≡ shards.old) × (judge.new ≡ judge.old)) }
+{
+    let mut results = Vec::with_capacity(alloc, events.len())?;
+    for event in events {
+        let result = handle_one(alloc, shards, event, judge);
+        results.push_reserved(result);
+    }
+    Ok(results)
+}

@@ -1,0 +1,71 @@
+//! What a window hands up, passed up.
+
+ghost use Rattle.std.specs.Prelude.{◌≡◌, ℕ, MatchOption, ◌+◌, ◌<◌, ◌≤◌, ◌++◌, All, vec_len, vec_capacity, List};
+ghost use Rattle.ap_model.specs.Agreements.{ups, up_held};
+ghost use Rattle.ap_core.specs.Handles.{PassesAll};
+
+use ap_agreements::{Entry, Released};
+use ap_model::{Held, Out};
+use mac_frame::{Address, SequenceNumber, Tid};
+
+/// How many frames a window hands up at once, at most.
+pub(crate) const MOST_RELEASED: usize = 64;
+
+/// Passes up a frame that was held.
+fn push_held(station: Address, tid: Tid, number: u16, held: Held, outs: &mut Vec<Out>)
+    requires number { number < 4096 }
+    requires room { vec_len outs.old < vec_capacity outs.old }
+    ensures outs { outs.new.items ≡ outs.old.items ++ up_held station tid number held }
+    ensures len { vec_len outs.new ≤ vec_len outs.old + 1 }
+    ensures capacity { vec_capacity outs.new ≡ vec_capacity outs.old }
+{
+    let number = match SequenceNumber::new(number) {
+        Some(number) => number,
+        None => unreachable!(),
+    };
+    match held.up(station, tid, number) {
+        Some(up) => outs.push_reserved(Out::Up(up)),
+        None => {}
+    }
+}
+
+/// Passes up what a window handed up.
+pub(crate) fn pass_up(station: Address, tid: Tid, passed: Released, outs: &mut Vec<Out>)
+    requires numbers { All (λ p. p.0 < 4096) passed.items }
+    requires room { vec_len outs.old + 64 ≤ vec_capacity outs.old }
+    ensures outs { outs.new.items ≡ outs.old.items ++ ups station tid passed.items }
+    ensures len { vec_len outs.new ≤ vec_len outs.old + 64 }
+    ensures capacity { vec_capacity outs.new ≡ vec_capacity outs.old }
+{
+    let _count = passed.len();
+    for (number, held) in passed {
+        push_held(station, tid, number, held, outs);
+    }
+}
+
+/// An agreement ends: passes up all that it held.
+pub(crate) fn pass_all(entry: Entry, outs: &mut Vec<Out>)
+    requires { vec_len outs.old + 64 ≤ vec_capacity outs.old }
+    ensures passes { PassesAll entry outs.old.items outs.new.items }
+    ensures len { vec_len outs.new ≤ vec_len outs.old + 64 }
+    ensures capacity { vec_capacity outs.new ≡ vec_capacity outs.old }
+{
+    let station = entry.station();
+    let tid = entry.tid();
+    let mut passed = Released::new();
+    entry.close(&mut passed);
+    pass_up(station, tid, passed, outs);
+}
+
+/// The same, if an agreement was replaced.
+pub(crate) fn pass_replaced(replaced: Option<Entry>, outs: &mut Vec<Out>)
+    requires { vec_len outs.old + 64 ≤ vec_capacity outs.old }
+    ensures passes { MatchOption replaced (outs.new.items ≡ outs.old.items) (λ e. PassesAll e outs.old.items outs.new.items) }
+    ensures len { vec_len outs.new ≤ vec_len outs.old + 64 }
+    ensures capacity { vec_capacity outs.new ≡ vec_capacity outs.old }
+{
+    match replaced {
+        Some(entry) => pass_all(entry, outs),
+        None => {}
+    }
+}

@@ -1,0 +1,44 @@
+//! BlockAckReq (IEEE 802.11-2016, 10.24.7.6.3): what the window passes up, and then the BlockAck.
+
+ghost use Rattle.std.specs.Prelude.{◌≡◌, [], IfOk, IfErr};
+ghost use Rattle.ap_model.specs.Agreements.{RequestComes};
+ghost use Rattle.ap_core.specs.Handles.{reading, rules};
+
+use crate::passing::{MOST_RELEASED, pass_up};
+use crate::room::FrameRoom;
+use crate::state::State;
+use ap_agreements::Released;
+use ap_model::{LinkConfig, Out};
+use mac_frame::{Address, MacFrame, SequenceNumber, Tid};
+use std::alloc::{AllocError, Global};
+
+/// A BlockAckReq of a station. Without an agreement it leads to nothing.
+pub(crate) fn on_request(
+    alloc: Global,
+    state: &mut State,
+    config: &LinkConfig,
+    station: Address,
+    tid: Tid,
+    start: SequenceNumber,
+) -> Result<Vec<Out>, AllocError>
+    ensures step { IfOk result (λ outs. RequestComes (rules state.old.link.shard config.now) (reading state.old) station tid start [] outs.items (reading state.new)) }
+    ensures shard { state.new.link.shard ≡ state.old.link.shard }
+    ensures refused { IfErr result (λ _. state.new ≡ state.old) }
+{
+    match state.agreements.get(station, tid) {
+        None => return Ok(Vec::new(alloc)),
+        Some(_) => {
+            let mut outs = Vec::with_capacity(alloc, MOST_RELEASED + 1)?;
+            let frame = FrameRoom::new(alloc)?;
+            let clock = state.clock;
+            let mut passed = Released::new();
+            let (first, bits) = state
+                .agreements
+                .request(station, tid, start, clock, &mut passed);
+            pass_up(station, tid, passed, &mut outs);
+            let answer = MacFrame::block_ack(alloc, station, config.bssid(), tid, first, bits);
+            outs.push_reserved(frame.send(&answer));
+            return Ok(outs);
+        }
+    }
+}

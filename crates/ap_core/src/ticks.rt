@@ -1,0 +1,126 @@
+//! Time: the agreements that were not used for as long as their timeouts say end (IEEE 802.11-2016,
+//! 11.5.4). All growths of a tick are made before it, so that several shards tick together or not
+//! at all.
+
+ghost use Rattle.std.specs.Prelude.{◌≡◌, ℕ, ◌+◌, ◌*◌, ◌≤◌, ◌<◌, List, [], ◌∷◌, ◌++◌, IfOk, OnOk, OnErr, vec_len, vec_capacity, length};
+ghost use Rattle.ap_model.specs.declared.event.Out.{Out};
+ghost use Rattle.ap_model.specs.Steps.{Ticks};
+ghost use Rattle.ap_core.specs.Handles.{reading, rules};
+ghost use Rattle.ap_core.specs.Ticking.{clock_after, late_count, HasRoom, EndsOne, EndsAll, TickStep};
+
+use crate::passing::pass_all;
+use crate::room::FrameRoom;
+use crate::state::State;
+use ap_agreements::Entry;
+use ap_model::{LinkConfig, Out};
+use mac_frame::{MacFrame, Reason};
+use std::alloc::{AllocError, Global};
+
+/// The outs that the end of an agreement leads to, at most: the frames that it held, and its DELBA.
+const OUTS_OF_AN_END: usize = 65;
+
+/// What a tick needs beside its outs, for the agreements that end.
+#[derive(Drop)]
+pub(crate) struct TickRoom {
+    ended: Vec<Entry>,
+    frames: Vec<FrameRoom>,
+}
+
+/// The sum of the ticks after this one.
+fn clock_after(state: &State, units: u32) -> u64
+    ensures { result ≡ clock_after state.now units }
+{
+    state.clock.saturating_add(u64::from(units))
+}
+
+/// Room for as many frames.
+fn frame_rooms(alloc: Global, count: usize) -> Result<Vec<FrameRoom>, AllocError>
+    ensures { IfOk result (λ frames. vec_len frames ≡ count) }
+{
+    let mut frames = Vec::with_capacity(alloc, count)?;
+    for _made in 0..count {
+        let frame = FrameRoom::new(alloc)?;
+        frames.push_reserved(frame);
+    }
+    Ok(frames)
+}
+
+/// Makes room for a tick.
+pub(crate) fn tick_room(alloc: Global, state: &State, units: u32) -> Result<TickRoom, AllocError>
+    ensures { IfOk result (λ room. HasRoom state.now units room) }
+{
+    let count = state.agreements.late(clock_after(state, units));
+    let ended = Vec::with_capacity(alloc, count)?;
+    let frames = frame_rooms(alloc, count)?;
+    Ok(TickRoom { ended, frames })
+}
+
+/// How many outs a tick leads to, at most. More than can be counted are more than memory has.
+pub(crate) fn most_outs(state: &State, units: u32) -> Result<usize, AllocError>
+    ensures { IfOk result (λ most. most ≡ 65 * late_count state.now units) }
+{
+    let count = state.agreements.late(clock_after(state, units));
+    match count.checked_mul(OUTS_OF_AN_END) {
+        Some(most) => return Ok(most),
+        None => return Err(AllocError),
+    }
+}
+
+/// Ends an agreement: all that it held is passed up, and then its DELBA is sent.
+fn end_one(alloc: Global, config: &LinkConfig, entry: Entry, frame: FrameRoom, outs: &mut Vec<Out>)
+    requires { vec_len outs.old + 65 ≤ vec_capacity outs.old }
+    ensures ends { (shard : ℕ) → EndsOne (rules shard config.now) entry outs.old.items outs.new.items }
+    ensures len { vec_len outs.new ≤ vec_len outs.old + 65 }
+    ensures capacity { vec_capacity outs.new ≡ vec_capacity outs.old }
+{
+    let station = entry.station();
+    let tid = entry.tid();
+    pass_all(entry, outs);
+    let delba = MacFrame::delba(alloc, station, config.bssid(), tid, Reason::TIMEOUT);
+    outs.push_reserved(frame.send(&delba));
+}
+
+/// Ends each of these agreements in turn.
+fn end_all(
+    alloc: Global,
+    config: &LinkConfig,
+    ended: Vec<Entry>,
+    mut frames: Vec<FrameRoom>,
+    outs: &mut Vec<Out>,
+)
+    requires frames { vec_len ended ≤ vec_len frames }
+    requires room { vec_len outs.old + 65 * vec_len ended ≤ vec_capacity outs.old }
+    ensures ends { (shard : ℕ) → EndsAll (rules shard config.now) ended.items outs.old.items outs.new.items }
+    ensures len { vec_len outs.new ≤ vec_len outs.old + 65 * vec_len ended }
+    ensures capacity { vec_capacity outs.new ≡ vec_capacity outs.old }
+{
+    for entry in ended {
+        match frames.pop() {
+            Some(frame) => end_one(alloc, config, entry, frame, outs),
+            None => unreachable!(),
+        }
+    }
+}
+
+/// Time passes, for which all room is made.
+pub(crate) fn tick(
+    alloc: Global,
+    state: &mut State,
+    config: &LinkConfig,
+    units: u32,
+    room: TickRoom,
+    outs: &mut Vec<Out>,
+)
+    requires room { HasRoom state.old units room }
+    requires outs { vec_len outs.old + 65 * late_count state.old units ≤ vec_capacity outs.old }
+    ensures step { TickStep (rules state.old.link.shard config.now) (reading state.old) units outs.old.items outs.new.items (reading state.new) }
+    ensures len { vec_len outs.new ≤ vec_len outs.old + 65 * late_count state.old units }
+    ensures capacity { vec_capacity outs.new ≡ vec_capacity outs.old }
+    ensures shard { state.new.link.shard ≡ state.old.link.shard }
+{
+    let clock = clock_after(state, units);
+    let TickRoom { mut ended, frames } = room;
+    state.clock = clock;
+    state.agreements.take_late(clock, &mut ended);
+    end_all(alloc, config, ended, frames, outs);
+}
