@@ -17,9 +17,10 @@ returns-in-Ok-clause-was c =
     let e = ap (λ (t : Table). t.kept) c.self.view_is in
     let place = (subst (λ (p : List ℕ × ℕ). IsPlaceOf c.args.self.now.kept p c.in-Ok.at) (λ i. (c.station.ensures i, c.tid.ensures i)) c.in-Ok.ensures.found) in
     let x = c.index_mut-place.result.now in
-    let f = c.index_mut-place.ensures.value in
-    (subst (λ (k : Kept). agreement_in c.args.self.now.kept c.args.entry.station c.args.entry.tid ≡ Some k.using) (sym c.replace.ensures.value) (got c.self.inside.entries.items c.args.self.now.kept e c.self.invariant c.args.entry.station c.args.entry.tid c.in-Ok.at place x f),
-    ap key_of c.replace.ensures.value ∙ key_there c.self.inside.entries.items c.args.self.now.kept e c.self.invariant c.args.entry.station c.args.entry.tid c.in-Ok.at place x f)
+    let f = c.index_mut-place.ensures.value in (
+      subst (λ (k : Kept). agreement_in c.args.self.now.kept c.args.entry.station c.args.entry.tid ≡ Some k.using) (sym c.replace.ensures.value) (got c.self.inside.entries.items c.args.self.now.kept e c.self.invariant c.args.entry.station c.args.entry.tid c.in-Ok.at place x f),
+      ap key_of c.replace.ensures.value ∙ key_there c.self.inside.entries.items c.args.self.now.kept e c.self.invariant c.args.entry.station c.args.entry.tid c.in-Ok.at place x f,
+    )
 
 pub returns-in-Ok-clause-sets : goal.returns-in-Ok-clause-sets
 returns-in-Ok-clause-sets c =

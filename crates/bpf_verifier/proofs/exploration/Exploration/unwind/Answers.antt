@@ -118,7 +118,7 @@ loop-frame-preserved c =
             (
               rw (c.in_ok-finish-in-None.ensures.path, c.in_ok-finish-in-None.ensures.after) back.2,
               kept (λ x. AllSafe p x.budget x.state) c.loop-frame.self.finished c.finish.new.self.finished f.state (c.max-best.result + 1) c.in_ok-finish-in-None.ensures.finished k.1.1
-              (of_own (AllSafe p (c.max-best.result + 1)) f.state back.0 back.1 back.3),
+                  (of_own (AllSafe p (c.max-best.result + 1)) f.state back.0 back.1 back.3),
             ),
             back.3,
           );
@@ -130,7 +130,7 @@ loop-frame-preserved c =
             (
               rw (c.in_ok-finish-in-None.ensures.path, c.in_ok-finish-in-None.ensures.after) back.2,
               kept (λ x. Reaches slots x.state.pc x.budget) c.loop-frame.self.finished c.finish.new.self.finished f.state (c.max-best.result + 1) c.in_ok-finish-in-None.ensures.finished k.1.1
-              (of_own (λ x. Reaches slots x.pc (c.max-best.result + 1)) f.state back.0 back.1 done),
+                  (of_own (λ x. Reaches slots x.pc (c.max-best.result + 1)) f.state back.0 back.1 done),
             ),
             done,
           );

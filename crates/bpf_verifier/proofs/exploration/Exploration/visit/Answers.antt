@@ -64,7 +64,7 @@ returns-in_ok-unwound-in-Nowhere-clause-safe c = λ p start set found.
     c.in_ok-unwound-in-Nowhere.ensures.safe p start c.args.state (
       rw (c.in_ok-finish-in-Nowhere.ensures.path, c.in_ok-finish-in-Nowhere.ensures.after) found.0,
       kept (λ x. AllSafe p x.budget x.state) c.args.self.now.finished c.finish.new.self.finished c.at_target-leaf.result 1 c.in_ok-finish-in-Nowhere.ensures.finished found.1
-      (of_own (AllSafe p 1) c.at_target-leaf.result c.args.state (the_state c.at_target-leaf.result c.args.state _ c.at_target-leaf.ensures.elsewhere) done),
+          (of_own (AllSafe p 1) c.at_target-leaf.result c.args.state (the_state c.at_target-leaf.result c.args.state _ c.at_target-leaf.ensures.elsewhere) done),
     ) done
 
 pub returns-in_ok-unwound-in-Nowhere-clause-walked : goal.returns-in_ok-unwound-in-Nowhere-clause-walked
@@ -73,7 +73,7 @@ returns-in_ok-unwound-in-Nowhere-clause-walked c = λ start plain found.
     c.in_ok-unwound-in-Nowhere.ensures.walked c.args.program.now.slots start c.args.state (
       rw (c.in_ok-finish-in-Nowhere.ensures.path, c.in_ok-finish-in-Nowhere.ensures.after) found.0,
       kept (λ x. Reaches c.args.program.now.slots x.state.pc x.budget) c.args.self.now.finished c.finish.new.self.finished c.at_target-leaf.result 1 c.in_ok-finish-in-Nowhere.ensures.finished found.1
-      (of_own (λ x. Reaches c.args.program.now.slots x.pc 1) c.at_target-leaf.result c.args.state (the_state c.at_target-leaf.result c.args.state _ c.at_target-leaf.ensures.elsewhere) done),
+          (of_own (λ x. Reaches c.args.program.now.slots x.pc 1) c.at_target-leaf.result c.args.state (the_state c.at_target-leaf.result c.args.state _ c.at_target-leaf.ensures.elsewhere) done),
     ) done
 
 pub returns-in_ok-unwound-in-Nowhere-clause-clear : goal.returns-in_ok-unwound-in-Nowhere-clause-clear
@@ -176,7 +176,7 @@ returns-in_ok-push-in-One-clause-safe c = λ p start set found.
     let covers : Covers p c.args.state (One next) =
     c.examination_law.ensures.covers b.0 c.args.program.now p c.args.state (One next) c.whole.ensures.is set b.1 (rw c.in-One.is at c.in_ok-examine.ensures.is b.0 b.1) in (
       rw (c.in_ok-push-in-One.ensures.path, c.in_ok-push-in-One.ensures.after)
-      (Linked-push (LeadsSafely p) (IsExplored p) c.args.self.now.path.items g start c.args.state next found.0 refl (opens_one p g c.args.state next refl covers) (explored.stays p next)),
+          (Linked-push (LeadsSafely p) (IsExplored p) c.args.self.now.path.items g start c.args.state next found.0 refl (opens_one p g c.args.state next refl covers) (explored.stays p next)),
       rw c.in_ok-push-in-One.ensures.finished found.1,
     )
 
@@ -194,7 +194,7 @@ returns-in_ok-push-in-One-clause-walked c = λ start plain found.
       best = c.walking_law.ensures.reaches c.args.program.now c.whole.ensures.is plain c.args.state.pc b;
     } in (
       rw (c.in_ok-push-in-One.ensures.path, c.in_ok-push-in-One.ensures.after)
-      (Linked-push (LeadsBySlots slots) (IsWalked slots) c.args.self.now.path.items g start c.args.state next found.0 refl walked (walking.stays slots next)),
+          (Linked-push (LeadsBySlots slots) (IsWalked slots) c.args.self.now.path.items g start c.args.state next found.0 refl walked (walking.stays slots next)),
       rw c.in_ok-push-in-One.ensures.finished found.1,
     )
 
@@ -234,8 +234,8 @@ returns-in_ok-push-in-Two-clause-safe c = λ p start set found.
     let covers : Covers p c.args.state (Two first second) =
     c.examination_law.ensures.covers b.0 c.args.program.now p c.args.state (Two first second) c.whole.ensures.is set b.1 (rw c.in-Two.is at c.in_ok-examine.ensures.is b.0 b.1) in (
       rw (c.in_ok-push-in-Two.ensures.path, c.in_ok-push-in-Two.ensures.after)
-      (Linked-push (LeadsSafely p) (IsExplored p) c.args.self.now.path.items g start c.args.state first found.0 (the_state c.at_target-kept.result c.args.state _ c.at_target-kept.ensures.elsewhere)
-      (opens_two p g c.args.state first second refl covers) (explored.stays p first)),
+          (Linked-push (LeadsSafely p) (IsExplored p) c.args.self.now.path.items g start c.args.state first found.0 (the_state c.at_target-kept.result c.args.state _ c.at_target-kept.ensures.elsewhere)
+          (opens_two p g c.args.state first second refl covers) (explored.stays p first)),
       rw c.in_ok-push-in-Two.ensures.finished found.1,
     )
 
@@ -253,8 +253,8 @@ returns-in_ok-push-in-Two-clause-walked c = λ start plain found.
       best = c.walking_law.ensures.reaches c.args.program.now c.whole.ensures.is plain c.args.state.pc b;
     } in (
       rw (c.in_ok-push-in-Two.ensures.path, c.in_ok-push-in-Two.ensures.after)
-      (Linked-push (LeadsBySlots slots) (IsWalked slots) c.args.self.now.path.items g start c.args.state first found.0 (the_state c.at_target-kept.result c.args.state _ c.at_target-kept.ensures.elsewhere)
-      walked (walking.stays slots first)),
+          (Linked-push (LeadsBySlots slots) (IsWalked slots) c.args.self.now.path.items g start c.args.state first found.0 (the_state c.at_target-kept.result c.args.state _ c.at_target-kept.ensures.elsewhere)
+          walked (walking.stays slots first)),
       rw c.in_ok-push-in-Two.ensures.finished found.1,
     )
 
