@@ -63,14 +63,14 @@ fn station() -> Address {
 fn spelled(alloc: Global, digits: &str) -> Result<Vec<u8>, Fail> {
     let mut bytes = Vec::new(alloc);
     let mut high = None;
-    for digit in digits.chars() {
-        let Some(value) = digit.to_digit(16) else {
+    for digit in digits.as_bytes() {
+        let Some(value) = char::from(*digit).to_digit(16) else {
             continue;
         };
         match high {
             None => high = Some(value),
             Some(first) => {
-                bytes.push(((first << 4) | value) as u8)?;
+                bytes.push(u8::try_from((first << 4) | value).unwrap_or(0))?;
                 high = None;
             }
         }
