@@ -54,7 +54,9 @@ fn numbered(alloc: Global) -> Result<AbsState, AllocError> {
 fn in_a_call(alloc: Global) -> Result<AbsState, AllocError> {
     let mut state = numbered(alloc)?;
     state.set_slot(0, 5, stored(50))?;
-    state.call(alloc, 40, 3)?;
+    if state.depth() < 8 {
+        state.call(alloc, 40, 3)?;
+    }
     if state.depth() == 2 {
         state.set_slot(1, 5, stored(51))?;
     }
