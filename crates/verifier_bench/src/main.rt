@@ -1,5 +1,5 @@
-//! How long programs take to be verified, on standard error. The arguments are the name of a shape of program and a
-//! number of turns:
+//! How long programs take to be verified, on standard error. The arguments are the name of a shape of program, a
+//! number of turns, and how many times it is verified in turn (once, if left out):
 //!
 //! - `loop`: a loop of three instructions, so many turns;
 //! - `joins`: two ways that join again, so many times one after another;
@@ -70,24 +70,34 @@ fn report<R: Runtime>(rt: &R, alloc: Global, name: &str, case: (String, u64)) ->
     Ok(())
 }
 
+/// Verifies a program of each shape that the name takes in.
+fn measure<R: Runtime>(rt: &R, alloc: Global, name: &str, turns: u64) -> Result<()> {
+    if name == "spin" {
+        return report(rt, alloc, "spin", spin(alloc)?);
+    }
+    if name != "joins" {
+        report(rt, alloc, "loop", turns_of_a_loop(alloc, turns)?)?;
+    }
+    if name != "loop" {
+        report(rt, alloc, "joins", joins(alloc, turns)?)?;
+    }
+    Ok(())
+}
+
 fn main(rt: HostRuntime) -> Result<()> {
     let alloc = rt.alloc();
     let mut name = String::new(alloc);
-    let mut turns = 1000u64;
+    let mut numbers = Vec::new(alloc);
     for word in env::args(&rt)? {
         match word.as_str().parse::<u64>() {
-            Ok(number) => turns = number,
+            Ok(number) => numbers.push(number)?,
             Err(_) => name = word,
         }
     }
-    if name.as_str() == "spin" {
-        return report(&rt, alloc, "spin", spin(alloc)?);
-    }
-    if name.as_str() != "joins" {
-        report(&rt, alloc, "loop", turns_of_a_loop(alloc, turns)?)?;
-    }
-    if name.as_str() != "loop" {
-        report(&rt, alloc, "joins", joins(alloc, turns)?)?;
+    let turns = numbers.first().copied().unwrap_or(1000);
+    let times = numbers.get(1).copied().unwrap_or(1);
+    for _time in 0..times {
+        measure(&rt, alloc, name.as_str(), turns)?;
     }
     Ok(())
 }
