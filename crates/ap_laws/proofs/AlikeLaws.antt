@@ -14,7 +14,7 @@ use Rattle.ap_model.specs.Readings.{Readings, Rules, Using, Held}
 use Rattle.ap_model.specs.Changes.{Stays, Moves, Agrees}
 use Rattle.ap_model.specs.Steps.{Ticks, IsTimedOut, EndsAt}
 use Rattle.ap_laws.specs.Alongside.{SameStarts}
-use Rattle.ap_laws.proofs.ChangeLaws.{none_some}
+use Rattle.std.proofs.lemmas.Option.{none-some, same_Some}
 
 -- two agreements whose windows start alike and hold the same numbers
 pub record AlikeUses (u v : Using) : Type 0 where
@@ -69,20 +69,20 @@ pub record There (u : Using) (p : Option Using) : Type 0 where
   pub alike : AlikeUses u using
 
 pub there : (o p : Option Using) (u : Using) → AlikeUsing o p → o ≡ Some u → There u p
-there None p u alike e = absurd (none_some u e)
+there None p u alike e = absurd (none-some u e)
 there (Some w) None u alike e = absurd alike
 there (Some w) (Some v) u alike e =
-    let same : w ≡ u = some_inj w u e in
+    let same : w ≡ u = same_Some w u e in
     let P : Using → Type 0 = λ x. AlikeUses x v in
     record { using = v; is = refl; alike = subst P same alike }
   where
-    some_inj : (x y : Using) → Some x ≡ Some y → x ≡ y
-    some_inj x y e = cc
+    same_Some : (x y : Using) → Some x ≡ Some y → x ≡ y
+    same_Some x y e = cc
 
 pub none_there : (o p : Option Using) → AlikeUsing o p → o ≡ None → p ≡ None
 none_there o None alike e = refl
 none_there None (Some v) alike e = absurd alike
-none_there (Some u) (Some v) alike e = absurd (none_some u (sym e))
+none_there (Some u) (Some v) alike e = absurd (none-some u (sym e))
 
 -- ---- changes that keep readings alike
 
@@ -182,16 +182,13 @@ timed_too c r s clock clock2 u v same alike late =
     let limited = late.limited in let idle = late.idle in let t = alike.timeout in let l = alike.last_use in
     record { limited = omega arith; idle = omega arith }
 
-some_same : (u v : Using) → Some u ≡ Some v → u ≡ v
-some_same u v e = cc
-
 both_ticked : (c : Rules) (r s r2 s2 : Readings) (n : ℕ) (asked asked2 : List (Ask × ℕ)) (outs outs2 : List Out) (a : List ℕ) (tid : ℕ) → r2.clock ≡ s2.clock → Ticks c r n asked outs r2 → Ticks c s n asked2 outs2 s2 →
     (o p : Option Using) → r.agreement a tid ≡ o → s.agreement a tid ≡ p → AlikeUsing o p → AlikeUsing (r2.agreement a tid) (s2.agreement a tid)
 both_ticked c r s r2 s2 n asked asked2 outs outs2 a tid clock one other None None none none2 alike =
     let P : Option Using → Type 0 = λ x. AlikeUsing x (s2.agreement a tid) in
     let Q : Option Using → Type 0 = λ x. AlikeUsing None x in
-    let left : r2.agreement a tid ≡ None = ticked_on c r r2 n asked outs a tid one (λ u is late. none_some u (sym none ∙ is)) ∙ none in
-    let right : s2.agreement a tid ≡ None = ticked_on c s s2 n asked2 outs2 a tid other (λ u is late. none_some u (sym none2 ∙ is)) ∙ none2 in
+    let left : r2.agreement a tid ≡ None = ticked_on c r r2 n asked outs a tid one (λ u is late. none-some u (sym none ∙ is)) ∙ none in
+    let right : s2.agreement a tid ≡ None = ticked_on c s s2 n asked2 outs2 a tid other (λ u is late. none-some u (sym none2 ∙ is)) ∙ none2 in
     subst P (sym left) (subst Q (sym right) tt)
 both_ticked c r s r2 s2 n asked asked2 outs outs2 a tid clock one other None (Some v) none is alike = absurd alike
 both_ticked c r s r2 s2 n asked asked2 outs outs2 a tid clock one other (Some u) None is none alike = absurd alike
@@ -207,11 +204,11 @@ both_ticked c r s r2 s2 n asked asked2 outs outs2 a tid clock one other (Some u)
     let Q : Option Using → Type 0 = λ x. AlikeUsing (Some u) x in
     let turned : AlikeUses v u = using_turned (Some u) (Some v) alike in
     let left : r2.agreement a tid ≡ Some u =
-    ticked_on c r r2 n asked outs a tid one (λ w at late. let R : Using → Type 0 = λ x. IsTimedOut c r r2.clock x in not (subst R (some_same w u (sym at ∙ is)) late)) ∙ is in
+    ticked_on c r r2 n asked outs a tid one (λ w at late. let R : Using → Type 0 = λ x. IsTimedOut c r r2.clock x in not (subst R (same_Some w u (sym at ∙ is)) late)) ∙ is in
     let right : s2.agreement a tid ≡ Some v =
     ticked_on c s s2 n asked2 outs2 a tid other (λ w at late.
     let R : Using → Type 0 = λ x. IsTimedOut c s s2.clock x in
-    not (timed_too c s r s2.clock r2.clock v u (sym clock) turned (subst R (some_same w v (sym at ∙ is2)) late))) ∙ is2 in
+    not (timed_too c s r s2.clock r2.clock v u (sym clock) turned (subst R (same_Some w v (sym at ∙ is2)) late))) ∙ is2 in
     subst P (sym left) (subst Q (sym right) alike))
     (timed_tells c r r2.clock u)
 

@@ -40,12 +40,12 @@ use Rattle.ap_laws.specs.AccessPoint.{entries_of}
 use Rattle.ap_laws.specs.Identifiers.{HoldsOnce}
 use Rattle.ap_laws.specs.Origins.{HoldsAgreements}
 use Rattle.ap_laws.specs.Alongside.{AgreeButOnData, Alongside, both_end, both_go_on, RunsLeaveSameStarts, LinkRunsLeaveSameStarts}
-use Rattle.ap_laws.proofs.ChangeLaws.{none_some}
 use Rattle.ap_laws.proofs.StandingLaws.{step_stands}
 use Rattle.ap_laws.proofs.IdentifierLaws.{change_holds}
 use Rattle.ap_laws.proofs.OriginLaws.{step_holds}
 use Rattle.ap_laws.proofs.FreeLaws.{some_free}
 use Rattle.ap_laws.proofs.AlikeLaws.{Alike, AlikeUses, there, none_there, alike_itself, alike_turned, both_stay, both_move, both_agree, both_tick, unknown_too, full_too, disassociated_alike, opened_alike, alike_starts}
+use Rattle.std.proofs.lemmas.Option.{none-some, same_Some}
 
 -- ---- verdicts
 
@@ -73,9 +73,6 @@ delayed_is_not_immediate e = cc
 
 true_is_not_false : true ≡ false → ⊥
 true_is_not_false e = cc
-
-some_size : (m n : ℕ) → Some m ≡ Some n → m ≡ n
-some_size m n e = cc
 
 -- ---- authentication
 
@@ -200,14 +197,14 @@ module _ (c : Rules) (r s : Readings) (alike : Alike r s) (one_once : HoldsOnce 
   setup_alike a q (declined v is declines) (declined w is2 declines2) = stay declines.stays declines2.stays
   setup_alike a q (declined v is declines) (granted w is2 grants2) =
       let same : v ≡ w = same_verdict asked asked2 (setup_ask r a q) (setup_ask s a q) v w agree declines.asks grants2.asks refl addba_is_not_data in
-      absurd (none_some grants2.size (sym declines.declines ∙ ap (λ x. agreement_size x q.parameters.buffer_size) same ∙ grants2.grants))
+      absurd (none-some grants2.size (sym declines.declines ∙ ap (λ x. agreement_size x q.parameters.buffer_size) same ∙ grants2.grants))
   setup_alike a q (granted v is grants) (delayed is2 answers2) = absurd (delayed_is_not_immediate (sym is2 ∙ is))
   setup_alike a q (granted v is grants) (declined w is2 declines2) =
       let same : v ≡ w = same_verdict asked asked2 (setup_ask r a q) (setup_ask s a q) v w agree grants.asks declines2.asks refl addba_is_not_data in
-      absurd (none_some grants.size (sym declines2.declines ∙ ap (λ x. agreement_size x q.parameters.buffer_size) (sym same) ∙ grants.grants))
+      absurd (none-some grants.size (sym declines2.declines ∙ ap (λ x. agreement_size x q.parameters.buffer_size) (sym same) ∙ grants.grants))
   setup_alike a q (granted v is grants) (granted w is2 grants2) =
       let same : v ≡ w = same_verdict asked asked2 (setup_ask r a q) (setup_ask s a q) v w agree grants.asks grants2.asks refl addba_is_not_data in
-      let size : grants.size ≡ grants2.size = some_size grants.size grants2.size (sym grants.grants ∙ ap (λ x. agreement_size x q.parameters.buffer_size) same ∙ grants2.grants) in
+      let size : grants.size ≡ grants2.size = same_Some grants.size grants2.size (sym grants.grants ∙ ap (λ x. agreement_size x q.parameters.buffer_size) same ∙ grants2.grants) in
       both_agree r s r2 s2 a q.parameters.tid
       (Some (record { window = grants.window; timeout = q.timeout; last_use = r.clock }))
       (Some (record { window = grants2.window; timeout = q.timeout; last_use = s.clock }))
@@ -219,20 +216,20 @@ module _ (c : Rules) (r s : Readings) (alike : Alike r s) (one_once : HoldsOnce 
   pair : (a : List ℕ) (tid : ℕ) (u v : Using) → r.agreement a tid ≡ Some u → s.agreement a tid ≡ Some v → AlikeUses u v
   pair a tid u v is is2 =
       let t = there (r.agreement a tid) (s.agreement a tid) u (alike.agreement a tid) is in
-      let same : t.using ≡ v = some_inj t.using v (sym t.is ∙ is2) in
+      let same : t.using ≡ v = same_Some t.using v (sym t.is ∙ is2) in
       let P : Using → Type 0 = λ x. AlikeUses u x in
       subst P same t.alike
     where
-      some_inj : (x y : Using) → Some x ≡ Some y → x ≡ y
-      some_inj x y e = cc
+      same_Some : (x y : Using) → Some x ≡ Some y → x ≡ y
+      same_Some x y e = cc
 
   request_alike : (a : List ℕ) (tid start : ℕ) → RequestComes c r a tid start asked outs r2 → RequestComes c s a tid start asked2 outs2 s2 → Alike r2 s2
   request_alike a tid start (unagreed none one) (unagreed none2 other) = stay one.stays other.stays
   request_alike a tid start (unagreed none one) (agreed v is2 other) =
-      absurd (none_some v (sym (none_there (r.agreement a tid) (s.agreement a tid) (alike.agreement a tid) none) ∙ is2))
+      absurd (none-some v (sym (none_there (r.agreement a tid) (s.agreement a tid) (alike.agreement a tid) none) ∙ is2))
   request_alike a tid start (agreed u is one) (unagreed none2 other) =
       let t = there (r.agreement a tid) (s.agreement a tid) u (alike.agreement a tid) is in
-      absurd (none_some t.using (sym none2 ∙ t.is))
+      absurd (none-some t.using (sym none2 ∙ t.is))
   request_alike a tid start (agreed u is one) (agreed v is2 other) =
       let p = pair a tid u v is is2 in
       both_agree r s r2 s2 a tid
@@ -294,7 +291,7 @@ module _ (c : Rules) (r s : Readings) (alike : Alike r s) (one_once : HoldsOnce 
   plain_used q q2 a p tid v same none e is =
       let P : Option ℕ → Type 0 = λ x. agreement_for q a x ≡ None in
       let gone : q.agreement a tid ≡ None = subst P e none in
-      none_some v (sym (none_there (q.agreement a tid) (q2.agreement a tid) (same.agreement a tid) gone) ∙ is)
+      none-some v (sym (none_there (q.agreement a tid) (q2.agreement a tid) (same.agreement a tid) gone) ∙ is)
 
   packet_alike : (a : List ℕ) (p : Packet) → DataComes r a p asked outs r2 → DataComes s a p asked2 outs2 s2 → Alike r2 s2
   packet_alike a p (plain one) (plain other) = stay one.stays other.stays
@@ -362,7 +359,7 @@ module _ (c : Rules) (r s : Readings) (alike : Alike r s) (one_once : HoldsOnce 
 
   -- bytes with a fault are no frame
   no_frame : (bytes : List ℕ) (fault : Fault) (f : Frame) → first_fault bytes ≡ Some fault → IsFrame f → bytes ≡ spelling f → ⊥
-  no_frame bytes fault f is grammar same = none_some fault (sym (fault_free f grammar) ∙ ap first_fault (sym same) ∙ is)
+  no_frame bytes fault f is grammar same = none-some fault (sym (fault_free f grammar) ∙ ap first_fault (sym same) ∙ is)
 
   one_frame : (bytes : List ℕ) (f g : Frame) → IsFrame f → IsFrame g → bytes ≡ spelling f → bytes ≡ spelling g → f ≡ g
   one_frame bytes f g grammar grammar2 is is2 = alone f g grammar grammar2 (sym is ∙ is2)

@@ -8,19 +8,14 @@ use Rattle.ap_model.specs.Asks.{Ask}
 use Rattle.ap_model.specs.Readings.{Readings, Rules, Using}
 use Rattle.ap_model.specs.Changes.{Moves, Agrees}
 use Rattle.ap_model.specs.Steps.{Ticks}
-
-pub none_some : {A : Type 0} (x : A) → None ≡ Some x → ⊥
-none_some x e = cc
-
-some_inj : {A : Type 0} (x y : A) → Some x ≡ Some y → x ≡ y
-some_inj x y e = cc
+use Rattle.std.proofs.lemmas.Option.{none-some}
 
 -- of a station that moved no agreement is left, and the others are as they were
 pub moved_agreement : (r r2 : Readings) (a : List ℕ) (s : Standing) → Moves r a s r2 → (q : List ℕ) (t : ℕ) (u : Using) → r2.agreement q t ≡ Some u → (same_address a q ≡ false) × (r.agreement q t ≡ Some u)
 moved_agreement r r2 a s moved q t u is = by_test (same_address a q) (r.agreement q t) (sym (moved.discards q t) ∙ is)
   where
     by_test : (b : Bool) (o : Option Using) → cond b None o ≡ Some u → (b ≡ false) × (o ≡ Some u)
-    by_test true o e = absurd (none_some u e)
+    by_test true o e = absurd (none-some u e)
     by_test false o e = (refl, e)
 
 pub moved_standing : (r r2 : Readings) (a : List ℕ) (s : Standing) → Moves r a s r2 → (q : List ℕ) → same_address a q ≡ false → r2.standing q ≡ r.standing q
@@ -43,4 +38,4 @@ agreed_cases r r2 a tid u agrees q t =
 pub ticked_agreement : (c : Rules) (r r2 : Readings) (n : ℕ) (asked : List (Ask × ℕ)) (outs : List Out) → Ticks c r n asked outs r2 → (q : List ℕ) (t : ℕ) (u : Using) → r2.agreement q t ≡ Some u → r.agreement q t ≡ Some u
 ticked_agreement c r r2 n asked outs ticks q t u is =
     let key : List ℕ × ℕ = (q, t) in
-    sym (ticks.others key (λ ends. none_some u (sym (ticks.gone key ends) ∙ is))) ∙ is
+    sym (ticks.others key (λ ends. none-some u (sym (ticks.gone key ends) ∙ is))) ∙ is

@@ -21,14 +21,12 @@ use Rattle.ap_model.specs.Associations.{authentication_answer, association_answe
 use Rattle.ap_model.specs.Steps.{deauthentication, disassociation}
 use Rattle.ap_laws.specs.Runs.{Entry}
 use Rattle.ap_laws.specs.Exchanges.{ComesFrom}
+use Rattle.ap_laws.proofs.Same.{bytes_of}
 
 -- ---- frames
 
-frame_bytes : (x y : List ℕ) → event.Frame x ≡ event.Frame y → x ≡ y
-frame_bytes x y e = cc
-
 pub same_frame : (c : Rules) (e : Entry) (a b : List ℕ) (f g : Frame) → ComesFrom c e a f → ComesFrom c e b g → f ≡ g
-same_frame c e a b f g one other = alone f g one.grammar other.grammar (frame_bytes (spelling f) (spelling g) (sym one.came ∙ other.came))
+same_frame c e a b f g one other = alone f g one.grammar other.grammar (bytes_of (spelling f) (spelling g) (sym one.came ∙ other.came))
 
 pub same_sender : (c : Rules) (e : Entry) (a b : List ℕ) (f g : Frame) → ComesFrom c e a f → ComesFrom c e b g → a ≡ b
 same_sender c e a b f g one other = sym one.sender ∙ ap (λ x. x.sender) (same_frame c e a b f g one other) ∙ other.sender

@@ -5,6 +5,7 @@ use Rattle.assoc.specs.declared.standing.Known.TheVariants.{Authenticated, Assoc
 use Rattle.assoc.specs.Standings.{Standings, Standing, IsOwn, IsFree, NoneTwice, state_of, aid_of}
 use Rattle.assoc.proofs.Tables.{address_tells}
 use Rattle.ap_laws.proofs.Pigeonhole.{KeepsApart, misses_none, all_at_once}
+use Rattle.ap_laws.proofs.Same.{same_number}
 
 own_tells : (s n : ℕ) → IsOwn s n ⊎ (IsOwn s n → ⊥)
 own_tells s n =
@@ -26,9 +27,6 @@ pub identifier_of : (x : Standing) → state_of x ≡ 3 → x ≡ Some (Associat
 identifier_of None e = absurd (omega arith)
 identifier_of (Some Authenticated) e = absurd (omega arith)
 identifier_of (Some (Associated n)) e = refl
-
-number_in : (m n : ℕ) → Some (Associated m) ≡ Some (Associated n) → m ≡ n
-number_in m n e = cc
 
 module _ (s : ℕ) (f g : Standings) (a : List ℕ) (n : ℕ)
     (same : (b : List ℕ) → state_of (f b) ≡ state_of (g b))
@@ -114,7 +112,7 @@ module _ (s : ℕ) (f g : Standings) (a : List ℕ) (n : ℕ)
     going_apart i j k (mine_to mine t is) (mine_to mine2 t2 is2) =
         let P : ℕ → Type 0 = λ x. f t2.station ≡ Some (Associated x) in
         let one : t.station ≡ t2.station = once t.station t2.station t.number t.has (subst P (sym is2 ∙ is) t2.has) in
-        number_in i j (sym t.was ∙ ap g one ∙ t2.was)
+        same_number i j (sym t.was ∙ ap g one ∙ t2.was)
     going_apart i j k (mine_to mine t is) (itself not is2) =
         let P : ℕ → Type 0 = λ x. IsOwn s x in absurd (not (subst P (sym is ∙ is2) (own t.station t.number t.has)))
     going_apart i j k (itself not is) (mine_to mine t is2) =

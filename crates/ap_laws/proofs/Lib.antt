@@ -1,3 +1,4 @@
+pub mod Same
 pub mod HeldLaws
 pub mod StandingLaws
 pub mod Forms

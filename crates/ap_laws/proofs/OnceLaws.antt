@@ -21,9 +21,10 @@ use Rattle.ap_model.specs.Agreements.{Packet, item}
 use Rattle.ap_laws.specs.Runs.{Entry}
 use Rattle.ap_laws.specs.Exchanges.{Exchange, IsExchange, authentication, association, disassociation, deauthentication, kick}
 use Rattle.ap_laws.specs.Agreed.{Agreement, Opens, IsItsData, IsUsed, Uses, takes, leaves, requests, Ends, deleted, closed, late, Drops, Agreed, never_yet, opened, used, ended, dropped, alone, clock_after}
-use Rattle.ap_laws.proofs.ChangeLaws.{none_some}
 use Rattle.ap_laws.proofs.FrameLaws.{same_frame, same_content, frame_no_tick, frame_no_close, tick_no_kick, kick_no_close}
 use Rattle.ap_laws.proofs.TellLaws.{UsesFor, DeletesFor, exchange_of, uses_for, ends_for, exchange_number, some_number}
+use Rattle.std.proofs.lemmas.Option.{none-some, same_Some}
+use Rattle.ap_laws.proofs.Same.{one_verdict}
 
 -- ---- windows
 
@@ -33,7 +34,7 @@ module _ {F : Type 0} where
 
   some_none : (o : Option (Option F)) → o ≡ None → IsSome o → ⊥
   some_none None e some = let f : false ≡ true = some in cc
-  some_none (Some x) e some = none_some x (sym e)
+  some_none (Some x) e some = none-some x (sym e)
 
   -- there is one least free number
   free_le : (taken : Items F) (from n m : ℕ) → IsNextFree taken from n → IsNextFree taken from m → m ≤ n
@@ -88,17 +89,8 @@ request_mark_once size number old one other (inr p) (inr q) = p.stays ∙ sym q.
 
 -- ---- one thing at most
 
-one_verdict : (x y : Ask) (v w : ℕ) (asked : List (Ask × ℕ)) → asked ≡ (x, v) ∷ [] → asked ≡ (y, w) ∷ [] → v ≡ w
-one_verdict x y v w asked p q = ap (λ z. z.1) (front (x, v) (y, w) (sym p ∙ q))
-  where
-    front : (z z2 : Ask × ℕ) → z ∷ [] ≡ z2 ∷ [] → z ≡ z2
-    front z z2 e = cc
-
 no_verdict : (x : Ask × ℕ) → [] ≡ x ∷ [] → ⊥
 no_verdict x e = cc
-
-some_size : (m n : ℕ) → Some m ≡ Some n → m ≡ n
-some_size m n e = cc
 
 module _ (c : Rules) (e : Entry) (a : List ℕ) (tid clock : ℕ) where
   pub opens_no_use : (new old next : Agreement) → Opens c e a tid clock new → Uses c e a tid clock old next → ⊥
@@ -156,7 +148,7 @@ module _ (c : Rules) (e : Entry) (a : List ℕ) (tid clock : ℕ) where
       (sym (same_content c e a a p.frame q.frame _ p.comes q.comes p.content) ∙ q.content) in
       let verdict : p.verdict ≡ q.verdict = one_verdict p.ask q.ask p.verdict q.verdict e.asked p.asked q.asked in
       let size : p.size ≡ q.size =
-      some_size p.size q.size (sym p.grants ∙ ap (λ v. agreement_size v p.parameters.buffer_size) verdict ∙ ap (λ x. agreement_size q.verdict x.buffer_size) both.parameters ∙ q.grants) in
+      same_Some p.size q.size (sym p.grants ∙ ap (λ v. agreement_size v p.parameters.buffer_size) verdict ∙ ap (λ x. agreement_size q.verdict x.buffer_size) both.parameters ∙ q.grants) in
       p.is ∙
       ap (λ x. record { window = opening x; size = p.size; board = blank x p.size; timeout = p.timeout; last_use = clock }) both.start ∙
       ap (λ x. record { window = opening q.start; size = x; board = blank q.start x; timeout = p.timeout; last_use = clock }) size ∙
@@ -240,9 +232,6 @@ module _ (c : Rules) (e : Entry) (a : List ℕ) (tid clock : ℕ) where
 
 -- ---- whole histories
 
-some_agreement : (x y : Agreement) → Some x ≡ Some y → x ≡ y
-some_agreement x y e = cc
-
 -- two tellings that are one
 pub record SameTelling (g g2 : Option Agreement) (since since2 : List Entry) : Type 0 where
   pub agreement : g ≡ g2
@@ -263,7 +252,7 @@ tells_once c a tid (opened e1 older1 since1 old1 new1 x1 tells1) (alone e2 older
 tells_once c a tid (used e1 older1 since1 old1 new1 x1 tells1) (opened e2 older2 since2 old2 new2 x2 tells2) =
     absurd (opens_no_use c e1 a tid (clock_after (e1 ∷ older1)) new2 old1 new1 x2 x1)
 tells_once c a tid (used e1 older1 since1 old1 new1 x1 tells1) (used e2 older2 since2 old2 new2 x2 tells2) =
-    let ih = tells_once c a tid tells1 tells2 in let same : old1 ≡ old2 = some_agreement old1 old2 ih.agreement in let P : Agreement → Type 0 = λ y. Uses c e1 a tid (clock_after (e1 ∷ older1)) y new2 in record { agreement = ap Some (uses_once c e1 a tid (clock_after (e1 ∷ older1)) old1 new1 new2 x1 (subst P (sym same) x2)); entries = ap (λ xs. e1 ∷ xs) ih.entries }
+    let ih = tells_once c a tid tells1 tells2 in let same : old1 ≡ old2 = same_Some old1 old2 ih.agreement in let P : Agreement → Type 0 = λ y. Uses c e1 a tid (clock_after (e1 ∷ older1)) y new2 in record { agreement = ap Some (uses_once c e1 a tid (clock_after (e1 ∷ older1)) old1 new1 new2 x1 (subst P (sym same) x2)); entries = ap (λ xs. e1 ∷ xs) ih.entries }
 tells_once c a tid (used e1 older1 since1 old1 new1 x1 tells1) (ended e2 older2 since2 old2 x2 tells2) =
     absurd (use_no_end c e1 a tid (clock_after (e1 ∷ older1)) old1 new1 old2 x1 x2)
 tells_once c a tid (used e1 older1 since1 old1 new1 x1 tells1) (dropped e2 older2 since2 old2 x2 tells2) =

@@ -22,7 +22,6 @@ use Rattle.ap_laws.specs.Agreed.{Agreement, Opens, Ends, Drops, Agreed, never_ye
 use Rattle.ap_laws.specs.InOrder.{ups_of, ups_since, AreBelow, PassedInOrder, GoesOnInOrder, EndsInOrder, DropsSilently, TellsOne}
 use Rattle.ap_laws.specs.Histories.{ReadsAgreed, StandsBy, IsReadingOf, RunsAreRead}
 use Rattle.ap_laws.proofs.HeldLaws.{none_in_none, frame_in}
-use Rattle.ap_laws.proofs.ChangeLaws.{none_some}
 use Rattle.ap_laws.proofs.Forms.{Form, quiet, moves, delivers, takes, leaves, reports, ends, grants, ticks, step_form}
 use Rattle.ap_laws.proofs.OriginLaws.{opening_agrees, step_holds}
 use Rattle.ap_laws.proofs.UpLaws.{ups-append}
@@ -30,6 +29,7 @@ use Rattle.ap_laws.proofs.TellLaws.{EndsUp, Telling, it_opens, it_is_used, it_en
 use Rattle.ap_laws.proofs.StepTells.{event_tells}
 use Rattle.ap_laws.proofs.OnceLaws.{opens_no_use, opens_no_drop, use_no_end, use_no_drop, end_no_drop, tells_once}
 use Rattle.ap_laws.proofs.StandLaws.{event_stands, stands_on}
+use Rattle.std.proofs.lemmas.Option.{none-some, same_Some}
 
 -- ---- the frames below a window's start
 
@@ -144,11 +144,8 @@ no_past c =
       holds = opening_agrees;
       clock = refl;
       stands = λ a. record { exchanges = []; are = none_yet; is = refl };
-      agrees = λ a tid. record { agreement = None; since = []; tells = never_yet; reads = tt; order = λ old there. absurd (none_some old there) };
+      agrees = λ a tid. record { agreement = None; since = []; tells = never_yet; reads = tt; order = λ old there. absurd (none-some old there) };
     }
-
-some_agreement : (x y : Agreement) → Some x ≡ Some y → x ≡ y
-some_agreement x y e = cc
 
 module _ (c : Rules) (h : List Entry) (e : Entry) (r2 : Readings) (a : List ℕ) (tid : ℕ) where
   told_on : (g : Option Agreement) (since : List Entry) → Agreed c a tid h g since → ((old : Agreement) → g ≡ Some old → ups_since a tid since ≡ ups a tid (numbered (passed old.window))) →
@@ -160,7 +157,7 @@ module _ (c : Rules) (h : List Entry) (e : Entry) (r2 : Readings) (a : List ℕ)
         tells = opened e h since g new opens tells;
         reads = reads;
         order = λ old there.
-            let same : new ≡ old = some_agreement new old there in
+            let same : new ≡ old = same_Some new old there in
             let P : Agreement → Type 0 = λ x. [] ≡ ups a tid (numbered (passed x.window)) in
             subst P (sym opens.is ∙ same) (ap (λ xs. ups a tid (numbered xs)) (sym (nothing_below opens.start)));
       }
@@ -173,16 +170,16 @@ module _ (c : Rules) (h : List Entry) (e : Entry) (r2 : Readings) (a : List ℕ)
         reads = reads;
         order = λ x at.
             let Q : Agreement → Type 0 = λ y. ups_since a tid since ++ ups_of a tid e.outs ≡ ups a tid (numbered (passed y.window)) in
-            subst Q (some_agreement new x at) (grown a tid old.window new.window out (ups_since a tid since) (ups_of a tid e.outs) passes (order old there) are);
+            subst Q (same_Some new x at) (grown a tid old.window new.window out (ups_since a tid since) (ups_of a tid e.outs) passes (order old there) are);
       }
   told_on g since tells order (it_ends old there ending after up) =
       let P : Option Agreement → Type 0 = λ o. Agreed c a tid h o since in
       let Q : Option Using → Type 0 = λ o. ReadsAgreed None o in
-      record { agreement = None; since = []; tells = ended e h since old ending (subst P there tells); reads = subst Q (sym after) tt; order = λ x at. absurd (none_some x at) }
+      record { agreement = None; since = []; tells = ended e h since old ending (subst P there tells); reads = subst Q (sym after) tt; order = λ x at. absurd (none-some x at) }
   told_on g since tells order (it_is_dropped old there drops after none) =
       let P : Option Agreement → Type 0 = λ o. Agreed c a tid h o since in
       let Q : Option Using → Type 0 = λ o. ReadsAgreed None o in
-      record { agreement = None; since = []; tells = dropped e h since old drops (subst P there tells); reads = subst Q (sym after) tt; order = λ x at. absurd (none_some x at) }
+      record { agreement = None; since = []; tells = dropped e h since old drops (subst P there tells); reads = subst Q (sym after) tt; order = λ x at. absurd (none-some x at) }
   told_on g since tells order (it_is_alone leaves_alone reads none) =
       record {
         agreement = g;
@@ -251,7 +248,7 @@ ended_up c e clock r2 a tid g o there (inl x) (it_is_used old new out at uses re
 ended_up c e clock r2 a tid g o there (inr x) (it_is_used old new out at uses reads passes are) = absurd (opens_no_use c e a tid clock x.0 old new x.1 uses)
 ended_up c e clock r2 a tid g o there how (it_ends old at x after up) =
     let P : Agreement → Type 0 = λ y. EndsUp c e clock r2 a tid y in
-    subst P (some_agreement old g (sym at ∙ there)) up
+    subst P (same_Some old g (sym at ∙ there)) up
 ended_up c e clock r2 a tid g o there (inl x) (it_is_dropped old at drops after none) = absurd (end_no_drop c e a tid clock g x drops)
 ended_up c e clock r2 a tid g o there (inr x) (it_is_dropped old at drops after none) = absurd (opens_no_drop c e a tid clock x.0 x.1 drops)
 ended_up c e clock r2 a tid g o there (inl x) (it_is_alone leaves_alone reads none) = absurd (leaves_alone.not_ended g there x)

@@ -22,8 +22,9 @@ use Rattle.ap_laws.specs.Runs.{Entry, Handles, Run, rests, goes_on, opening}
 use Rattle.ap_laws.specs.Origins.{IsAssociated, IsArrival, RunWhile, ComesAssociated, WaitsAssociated, HoldsAgreements, OpeningHoldsAgreements, RunHoldsAgreements, FromAnyReadings, FromTheOpening}
 use Rattle.ap_laws.specs.Origins.RunWhile.{rests as while_rests, goes_on as while_goes_on}
 use Rattle.ap_laws.proofs.HeldLaws.{none_in_none, HoldsAt, holds_read, CameOrHeld, taken_out, taken_held, taken_start, left_held, request_out, request_held, request_start, end_out}
-use Rattle.ap_laws.proofs.ChangeLaws.{none_some, moved_agreement, moved_standing, agreed_cases, ticked_agreement}
+use Rattle.ap_laws.proofs.ChangeLaws.{moved_agreement, moved_standing, agreed_cases, ticked_agreement}
 use Rattle.ap_laws.proofs.Forms.{Form, quiet, moves, delivers, takes, leaves, reports, ends, grants, ticks, IsPacket, one_send, step_form}
+use Rattle.std.proofs.lemmas.Option.{none-some, same_Some}
 
 -- ---- longer runs
 
@@ -134,10 +135,7 @@ passes_was_held a tid o first d fits (held_up u passed ending) inside =
 -- ---- the agreements of associated stations
 
 pub opening_agrees : OpeningHoldsAgreements
-opening_agrees = record { associated = λ a tid u is. absurd (none_some u is); start = λ a tid u is. absurd (none_some u is) }
-
-some_eq : (u v : Using) → Some u ≡ Some v → u ≡ v
-some_eq u v e = cc
+opening_agrees = record { associated = λ a tid u is. absurd (none-some u is); start = λ a tid u is. absurd (none-some u is) }
 
 module _ (r r2 : Readings) (holds : HoldsAgreements r) where
   as_before : ((q : List ℕ) → r2.standing q ≡ r.standing q) → ((q : List ℕ) (t : ℕ) (u : Using) → r2.agreement q t ≡ Some u → r.agreement q t ≡ Some u) → HoldsAgreements r2
@@ -157,7 +155,7 @@ module _ (r r2 : Readings) (holds : HoldsAgreements r) where
             (agreed_cases r r2 a tid (Some new) agrees q t);
         start = λ q t u is.
             ⊎_elim
-            (λ here. let P : Using → Type 0 = λ x. x.window.start < 4096 in subst P (some_eq new u (sym here.2 ∙ is)) fits)
+            (λ here. let P : Using → Type 0 = λ x. x.window.start < 4096 in subst P (same_Some new u (sym here.2 ∙ is)) fits)
             (λ other. holds.start q t u (sym other ∙ is))
             (agreed_cases r r2 a tid (Some new) agrees q t);
       }
@@ -165,7 +163,7 @@ module _ (r r2 : Readings) (holds : HoldsAgreements r) where
   with_none : (a : List ℕ) (tid : ℕ) → Agrees r a tid None r2 → HoldsAgreements r2
   with_none a tid agrees =
       as_before agrees.standing (λ q t u is.
-      ⊎_elim (λ here. absurd (none_some u (sym here.2 ∙ is))) (λ other. sym other ∙ is) (agreed_cases r r2 a tid None agrees q t))
+      ⊎_elim (λ here. absurd (none-some u (sym here.2 ∙ is))) (λ other. sym other ∙ is) (agreed_cases r r2 a tid None agrees q t))
 
 pub form_holds : (c : Rules) (r r2 : Readings) (e : Event) (asked : List (Ask × ℕ)) (outs : List Out) → HoldsAgreements r → Form c r e asked outs r2 → HoldsAgreements r2
 form_holds c r r2 e asked outs holds (quiet none stays) = as_before r r2 holds stays.standing (λ q t u is. sym (stays.agreement q t) ∙ is)
@@ -213,7 +211,7 @@ item_is p (Pass mark) h e = (mark, refl, inner)
   where
     inner : (p.destination, mark, p.frame.tail) ≡ h
     inner = cc
-item_is p Discard h e = absurd (none_some (Some h) e)
+item_is p Discard h e = absurd (none-some (Some h) e)
 
 pub if_there : (b : Bool) (first last : List Out) (d : Up) → Contains (if b then first ++ last else []) (out.Up d) → Contains first (out.Up d) ⊎ Contains last (out.Up d)
 if_there true first last d inside = Contains-append_cases first last (out.Up d) inside
@@ -266,7 +264,7 @@ module _ (c : Rules) (r0 : Readings) (entries : List Entry) (r r2 : Readings) (e
       (λ here.
       let P : List ℕ → ℕ → Type 0 = λ x y. Origin c r0 (entries ++ e ∷ []) r2 (data_of x y k h) in
       let Q : Using → Type 0 = λ x. HoldsAt x.window k (Some h) in
-      let o = comes k h (subst Q (sym (some_eq new u (sym here.2 ∙ is))) held) in
+      let o = comes k h (subst Q (sym (same_Some new u (sym here.2 ∙ is))) held) in
       let R : List ℕ → Type 0 = λ x. P x t in
       let S : ℕ → Type 0 = λ y. P a y in
       subst R here.0 (subst S here.1 o))
@@ -309,10 +307,10 @@ module _ (c : Rules) (r0 : Readings) (entries : List Entry) (r r2 : Readings) (e
       changed a tid (record { window = p.window; timeout = u.timeout; last_use = r.clock }) p.agrees
       (λ k h held. keep a tid u k h at (request_held start u.window p.window p.passed k (Some h) (holds.start a tid u at) p.moves held))
   form_backed (ends a tid last none ending) =
-      kept (λ q t u is. ⊎_elim (λ here. absurd (none_some u (sym here.2 ∙ is))) (λ other. sym other ∙ is) (agreed_cases r r2 a tid None ending.agrees q t))
+      kept (λ q t u is. ⊎_elim (λ here. absurd (none-some u (sym here.2 ∙ is))) (λ other. sym other ∙ is) (agreed_cases r r2 a tid None ending.agrees q t))
   form_backed (grants a s verdict associated g) =
       changed a s.parameters.tid (record { window = g.window; timeout = s.timeout; last_use = r.clock }) g.agrees
-      (λ k h held. absurd (none_some (Some (Some h)) (holds_read (opening_window s.start) g.window k (Some h) g.opens held).is))
+      (λ k h held. absurd (none-some (Some (Some h)) (holds_read (opening_window s.start) g.window k (Some h) g.opens held).is))
   form_backed (ticks n is t) = kept (ticked_agreement c r r2 n e.asked e.outs t)
 
   delivered : (f : Frame) (p : Packet) (ask : Ask) (verdict : ℕ) (d : Up) → IsPacket c e.event f p → IsAssociated f.sender r → e.asked ≡ (ask, verdict) ∷ [] →
@@ -390,5 +388,5 @@ pub from_the_opening : FromTheOpening
 from_the_opening c at r2 entries e d run step inside =
     ⊎_elim
     (λ comes. comes)
-    (λ waits. absurd (none_some waits.using waits.is))
+    (λ waits. absurd (none-some waits.using waits.is))
     (from_any_readings c opening at r2 entries e d opening_agrees run step inside)

@@ -32,7 +32,6 @@ use Rattle.hooks.specs.Verdicts.{association_status, agreement_size, data_verdic
 use Rattle.ap_model.specs.declared.event.Out.{Out}
 use Rattle.ap_model.specs.declared.event.Out.TheVariants as out
 use Rattle.ap_model.specs.declared.event.Up.{Up}
-use Rattle.ap_model.specs.Asks.{Ask}
 use Rattle.ap_model.specs.Readings.{Readings, Rules, Using, Held}
 use Rattle.ap_model.specs.Changes.{Stays, Moves, Agrees, Nothing, Answers}
 use Rattle.ap_model.specs.Associations.{AuthenticationStatus, other_algorithm, other_transaction, no_room, accepted, Authenticates, accepts, refuses, authentication_answer, Associates, unsuited, elsewhere, exhausted, admitted, refused, Request, association_answer, aid_field}
@@ -46,12 +45,14 @@ use Rattle.ap_laws.specs.Agreed.{Agreement, Opens, IsItsData, IsUsed, Uses, take
 use Rattle.ap_laws.specs.InOrder.{ups_of}
 use Rattle.ap_laws.specs.Histories.{ReadsAgreed}
 use Rattle.ap_laws.proofs.HeldLaws.{none_in_none}
-use Rattle.ap_laws.proofs.ChangeLaws.{none_some, agreed_cases}
+use Rattle.ap_laws.proofs.ChangeLaws.{agreed_cases}
 use Rattle.ap_laws.proofs.Forms.{NoUp, none_up, one_send, no_up_of, no_up_in_answer, no_up_in_block_ack}
 use Rattle.ap_laws.proofs.OriginLaws.{up_of, if_there}
 use Rattle.ap_laws.proofs.FrameLaws.{same_content, authentication_status_is, association_answer_is, small_status}
 use Rattle.ap_laws.proofs.UpLaws.{ups_of-append, none_of, none_of_no_up, other_tid, no_tid, own_ups}
 use Rattle.ap_laws.proofs.TellLaws.{SetsUpFor, UsesFor, DeletesFor, exchange_of, number_of, opens_for, exchange_number, There, told, not_told, read_of, Telling, it_opens, it_is_used, it_ends, it_is_alone, unchanged, gone, none_alone, ends_up, alone_but, alone_with, alone_by}
+use Rattle.std.proofs.lemmas.Option.{none-some}
+use Rattle.ap_laws.proofs.Same.{one_verdict, not_deauthenticated, not_disassociated}
 
 -- ---- what is passed up for one TID
 
@@ -79,12 +80,6 @@ silent_for a tid t outs ne all = none_of a tid outs (λ d inside. other_tid a ti
 no_asks : {A : Type 0} (x : A) → [] ≡ x ∷ [] → ⊥
 no_asks x e = cc
 
-one_ask : (x y : Ask) (v w : ℕ) (asked : List (Ask × ℕ)) → asked ≡ (x, v) ∷ [] → asked ≡ (y, w) ∷ [] → v ≡ w
-one_ask x y v w asked p q = ap (λ z. z.1) (front (x, v) (y, w) (sym p ∙ q))
-  where
-    front : (z z2 : Ask × ℕ) → z ∷ [] ≡ z2 ∷ [] → z ≡ z2
-    front z z2 e = cc
-
 same_parameters : (b b2 : List ℕ) (s s2 k k2 : ℕ) (p p2 : BlockAckParameters) (o o2 n n2 : ℕ) → content.Management b s (management.AddbaRequest k p o n) ≡ content.Management b2 s2 (management.AddbaRequest k2 p2 o2 n2) → p ≡ p2
 same_parameters b b2 s s2 k k2 p p2 o o2 n n2 e = cc
 
@@ -101,12 +96,6 @@ associated_may (Some known.Authenticated) k e = absurd (omega arith)
 associated_may (Some (known.Associated n)) One e = refl
 associated_may (Some (known.Associated n)) Two e = refl
 associated_may (Some (known.Associated n)) Three e = refl
-
-permitted_not_deauthenticated : (reason : ℕ) → Permitted ≡ Deauthenticate reason → ⊥
-permitted_not_deauthenticated reason e = cc
-
-permitted_not_disassociated : (reason : ℕ) → Permitted ≡ Disassociate reason → ⊥
-permitted_not_disassociated reason e = cc
 
 pub discarded_here : (r r2 : Readings) (a : List ℕ) (s : Standing) (tid : ℕ) → Moves r a s r2 → r2.agreement a tid ≡ None
 discarded_here r r2 a s tid moves =
@@ -146,7 +135,7 @@ module _ (c : Rules) (e : Entry) (clock : ℕ) (r r2 : Readings) (a : List ℕ) 
       by_case None there =
           let P : Option Agreement → Type 0 = λ o. ReadsAgreed o (r2.agreement a tid) in
           let Q : Option Using → Type 0 = λ o. ReadsAgreed None o in
-          it_is_alone (none_alone c e clock r2 a tid r g reads there not_opened) (subst P (sym there) (subst Q (sym (agreed_here r r2 a tid None x.agrees)) tt)) (λ old some. absurd (none_some old (sym there ∙ some)))
+          it_is_alone (none_alone c e clock r2 a tid r g reads there not_opened) (subst P (sym there) (subst Q (sym (agreed_here r r2 a tid None x.agrees)) tt)) (λ old some. absurd (none-some old (sym there ∙ some)))
 
 -- ---- a frame of the station
 
@@ -260,11 +249,11 @@ module _ (c : Rules) (e : Entry) (clock : ℕ) (r r2 : Readings) (now : r2.clock
 
     declines_it : (verdict : ℕ) → Declines c r f.sender setup verdict e.asked e.outs r2 → (new : Agreement) → Opens c e f.sender tid clock new → ⊥
     declines_it verdict d new o =
-        let same : verdict ≡ o.verdict = one_ask (setup_ask r f.sender setup) o.ask verdict o.verdict e.asked d.asks o.asked in
+        let same : verdict ≡ o.verdict = one_verdict (setup_ask r f.sender setup) o.ask verdict o.verdict e.asked d.asks o.asked in
         let alike : parameters ≡ o.parameters =
         same_parameters bssid o.bssid sequence o.sequence token o.token parameters o.parameters timeout o.timeout start o.start
         (sym is ∙ same_content c e f.sender f.sender o.frame f _ o.comes comes o.content) in
-        none_some o.size (sym d.declines ∙ ap (λ v. agreement_size v parameters.buffer_size) same ∙ ap (λ p. agreement_size o.verdict p.buffer_size) alike ∙ o.grants)
+        none-some o.size (sym d.declines ∙ ap (λ v. agreement_size v parameters.buffer_size) same ∙ ap (λ p. agreement_size o.verdict p.buffer_size) alike ∙ o.grants)
 
     granted_outs : (verdict : ℕ) (x : Grants c r f.sender setup verdict e.asked e.outs r2) → ups_of f.sender tid e.outs ≡ ups_of f.sender tid x.first
     granted_outs verdict x =
@@ -379,7 +368,7 @@ module _ (c : Rules) (e : Entry) (clock : ℕ) (r r2 : Readings) (now : r2.clock
     plain_packet = record { frame = f; destination = destination; tid = None; number = number }
 
     no_tid_here : (t : ℕ) → None ≡ Some t → ⊥
-    no_tid_here t e = none_some t e
+    no_tid_here t e = none-some t e
 
     plain_own : DataComes r f.sender plain_packet e.asked e.outs r2 → Telling c e clock r2 f.sender tid g
     plain_own (plain x) =
@@ -446,7 +435,7 @@ module _ (c : Rules) (e : Entry) (clock : ℕ) (r r2 : Readings) (now : r2.clock
         let none : g ≡ None = not_told g (r.agreement f.sender tid) reads (subst P same x.plain) in
         unchanged c e clock r2 f.sender tid r g reads
         (none_alone c e clock r2 f.sender tid r g reads none (never_opens (content.Data destination number (kinds.QosData qos)) is_qos (λ z. z)))
-        (x.stays.agreement f.sender tid) (λ old there. absurd (none_some old (sym none ∙ there))))
+        (x.stays.agreement f.sender tid) (λ old there. absurd (none-some old (sym none ∙ there))))
         (λ ne.
         unchanged c e clock r2 f.sender tid r g reads (alone_data ne) (x.stays.agreement f.sender tid)
         (λ old there. silent_for f.sender tid qos.tid e.outs ne (λ d inside. let P : List Out → Type 0 = λ xs. Contains xs (out.Up d) in by_verdict (data_verdict x.verdict) d (subst P x.is inside))))
@@ -531,5 +520,5 @@ module _ (c : Rules) (e : Entry) (clock : ℕ) (r r2 : Readings) (now : r2.clock
 
   pub checked_own : (answer : ClassAnswer) → check_of c r f ≡ answer → Checked c r f answer e.asked e.outs r2 → Telling c e clock r2 f.sender tid g
   checked_own Permitted is x = content_own f.content refl x
-  checked_own (Deauthenticate reason) is x = rejected_own _ (λ may. permitted_not_deauthenticated reason (sym may ∙ is)) x
-  checked_own (Disassociate reason) is x = rejected_own _ (λ may. permitted_not_disassociated reason (sym may ∙ is)) x
+  checked_own (Deauthenticate reason) is x = rejected_own _ (λ may. not_deauthenticated reason (sym may ∙ is)) x
+  checked_own (Disassociate reason) is x = rejected_own _ (λ may. not_disassociated reason (sym may ∙ is)) x

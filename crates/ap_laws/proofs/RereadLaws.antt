@@ -30,11 +30,8 @@ use Rattle.ap_model.specs.Changes.{Stays, Moves, Agrees, Settles, Nothing, Answe
 use Rattle.ap_model.specs.Associations.{AuthenticationStatus, other_algorithm, other_transaction, no_room, accepted, Authenticates, accepts, refuses, Associates, unsuited, elsewhere, exhausted, admitted, refused, Request, Departs}
 use Rattle.ap_model.specs.Agreements.{Packet, agreement_for, data_ask, DataComes, plain, taken, left, RequestComes, unagreed, agreed, Reports, PassesHeld, none_held, held_up, Ends, SetsUp, delayed, declined, granted, Setup}
 use Rattle.ap_model.specs.Steps.{Step, FrameComes, faulty, foreign, ours, Checked, check_of, Follows, ManagementComes, ControlComes, DataKindComes, DelbaComes, Ticks, IsTimedOut, EndsAt, EndInTurn, nobody_ends, one_end, Kicks, kicked, not_kicked, Closes, closed, not_closed}
-use Rattle.ap_laws.proofs.ChangeLaws.{none_some}
 use Rattle.ap_laws.proofs.AlikeLaws.{timed_tells}
-
-some_inj : (x y : Using) → Some x ≡ Some y → x ≡ y
-some_inj x y e = cc
+use Rattle.std.proofs.lemmas.Option.{none-some, same_Some}
 
 -- ---- readings that say the same
 
@@ -60,14 +57,14 @@ pub record There (u : Using) (p : Option Using) : Type 0 where
   pub same : SaysTheSame u using
 
 pub there : (o p : Option Using) (u : Using) → SayTheSame o p → o ≡ Some u → There u p
-there None p u same e = absurd (none_some u e)
+there None p u same e = absurd (none-some u e)
 there (Some w) None u same e = absurd same
-there (Some w) (Some v) u same e = record { using = v; is = refl; same = (let P : Using → Type 0 = λ x. SaysTheSame x v in subst P (some_inj w u e) same) }
+there (Some w) (Some v) u same e = record { using = v; is = refl; same = (let P : Using → Type 0 = λ x. SaysTheSame x v in subst P (same_Some w u e) same) }
 
 pub none_there : (o p : Option Using) → SayTheSame o p → o ≡ None → p ≡ None
 none_there o None same e = refl
 none_there None (Some v) same e = absurd same
-none_there (Some u) (Some v) same e = absurd (none_some u (sym e))
+none_there (Some u) (Some v) same e = absurd (none-some u (sym e))
 
 same_some : (o p : Option Using) → SayTheSame o p → is_some o ≡ is_some p
 same_some None None same = refl
@@ -376,7 +373,7 @@ module _ (c : Rules) (standing : Standings) (clock : ℕ) (one other : List ℕ 
       where
         by_test : (d : IsTimedOut c q time w ⊎ (IsTimedOut c q time w → ⊥)) → left_by time w d ≡ None
         by_test (inl late_now) = refl
-        by_test (inr not) = let P : Using → Type 0 = λ x. IsTimedOut c q time x in absurd (not (subst P (sym (some_inj w u e)) late))
+        by_test (inr not) = let P : Using → Type 0 = λ x. IsTimedOut c q time x in absurd (not (subst P (sym (same_Some w u e)) late))
 
     left_on : (time : ℕ) (o : Option Using) → ((u : Using) → o ≡ Some u → IsTimedOut c q time u → ⊥) → left_at time o ≡ o
     unfolding left_at left_by

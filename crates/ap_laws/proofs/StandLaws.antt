@@ -32,10 +32,11 @@ use Rattle.ap_model.specs.Steps.{Step, FrameComes, faulty, foreign, ours, IsOurs
 use Rattle.ap_laws.specs.Runs.{Entry}
 use Rattle.ap_laws.specs.Exchanges.{Exchange, Authenticated, Associated, Disassociated, Deauthenticated, standing_after, ComesFrom, IsRequest, first, again, IsExchange, authentication, association, disassociation, deauthentication, kick, one_more, other}
 use Rattle.ap_laws.specs.Histories.{StandsBy}
-use Rattle.ap_laws.proofs.ChangeLaws.{none_some}
 use Rattle.ap_laws.proofs.FrameLaws.{same_sender, frame_no_tick, frame_no_kick, frame_no_close, tick_no_kick, kick_no_close, kicked_one, authentication_status_is, association_answer_is, deauthentication_is_no_answer, disassociation_is_no_answer, small_status}
 use Rattle.ap_laws.proofs.TellLaws.{exchange_of, number_of, exchange_number, some_number}
 use Rattle.ap_laws.proofs.OwnLaws.{refusal_is_small}
+use Rattle.std.proofs.lemmas.Option.{none-some}
+use Rattle.ap_laws.proofs.Same.{bytes_of, not_deauthenticated, not_disassociated}
 
 -- where an exchange leads
 abbrev pub led_to : Exchange → Standing → Standing
@@ -143,12 +144,6 @@ module _ (c : Rules) (r r2 : Readings) (asked : List (Ask × ℕ)) (outs : List 
 
 -- ---- of the station itself
 
-permitted_is_not : (reason : ℕ) → Permitted ≡ Deauthenticate reason → ⊥
-permitted_is_not reason e = cc
-
-permitted_is_not_either : (reason : ℕ) → Permitted ≡ Disassociate reason → ⊥
-permitted_is_not_either reason e = cc
-
 -- class 1 is always permitted, and class 2 from a known station
 class_one : (s : Standing) → class_answer s One ≡ Permitted
 class_one None = refl
@@ -252,14 +247,11 @@ module _ (c : Rules) (e : Entry) (r r2 : Readings) (f : Frame) (comes : ComesFro
   checked_own : (answer : ClassAnswer) → check_of c r f ≡ answer → Checked c r f answer e.asked e.outs r2 → Led c e f.sender (r.standing f.sender) (r2.standing f.sender)
   checked_own Permitted is x = content_own f.content refl x
   checked_own (Deauthenticate reason) is x =
-      rejected (λ may. permitted_is_not reason (sym may ∙ is)) (λ repeated n at. deauthentication_is_no_answer c f.sender reason repeated 0 (aid_field n) (sym x.settles.is ∙ at)) (x.stays.standing f.sender) f.content refl
+      rejected (λ may. not_deauthenticated reason (sym may ∙ is)) (λ repeated n at. deauthentication_is_no_answer c f.sender reason repeated 0 (aid_field n) (sym x.settles.is ∙ at)) (x.stays.standing f.sender) f.content refl
   checked_own (Disassociate reason) is x =
-      rejected (λ may. permitted_is_not_either reason (sym may ∙ is)) (λ repeated n at. disassociation_is_no_answer c f.sender reason repeated 0 (aid_field n) (sym x.settles.is ∙ at)) (x.stays.standing f.sender) f.content refl
+      rejected (λ may. not_disassociated reason (sym may ∙ is)) (λ repeated n at. disassociation_is_no_answer c f.sender reason repeated 0 (aid_field n) (sym x.settles.is ∙ at)) (x.stays.standing f.sender) f.content refl
 
 -- ---- all events
-
-bytes_of : (x y : List ℕ) → event.Frame x ≡ event.Frame y → x ≡ y
-bytes_of x y e = cc
 
 module _ (c : Rules) (e : Entry) (r r2 : Readings) (a : List ℕ) where
   -- no exchange without a frame for us and without a kick
@@ -273,7 +265,7 @@ module _ (c : Rules) (e : Entry) (r r2 : Readings) (a : List ℕ) where
   frame_stands : (bytes : List ℕ) → e.event ≡ event.Frame bytes → FrameComes c r bytes e.asked e.outs r2 → Led c e a (r.standing a) (r2.standing a)
   frame_stands bytes is (faulty fault at answers) =
       as_before
-      (none_of_it (λ f comes. none_some fault (sym (fault_free f comes.grammar) ∙ ap first_fault (bytes_of (spelling f) bytes (sym comes.came ∙ is)) ∙ at)) (λ reason k. frame_no_kick bytes a reason e.event is k))
+      (none_of_it (λ f comes. none-some fault (sym (fault_free f comes.grammar) ∙ ap first_fault (bytes_of (spelling f) bytes (sym comes.came ∙ is)) ∙ at)) (λ reason k. frame_no_kick bytes a reason e.event is k))
       (answers.stays.standing a)
   frame_stands bytes is (foreign f grammar at not answers) =
       as_before

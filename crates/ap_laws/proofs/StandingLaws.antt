@@ -21,24 +21,20 @@ use Rattle.ap_model.specs.Readings.{Readings, Rules}
 use Rattle.ap_model.specs.Associations.{Authenticates, accepts, refuses, Associates, unsuited, elsewhere, exhausted, admitted, refused, Request}
 use Rattle.ap_model.specs.Agreements.{DataComes, plain, taken, left, Packet, RequestComes, unagreed, agreed, SetsUp, delayed, declined, granted, Setup}
 use Rattle.ap_model.specs.Steps.{Step, FrameComes, faulty, foreign, ours, Checked, check_of, Follows, ManagementComes, ControlComes, DataKindComes, DelbaComes, Kicks, kicked, not_kicked, Closes, closed, not_closed}
+use Rattle.std.proofs.lemmas.Option.{none-some}
+use Rattle.ap_laws.proofs.Same.{same_number}
 
 -- every station stands as before, or one moves; it gets no identifier but a free one
 pub data StandingChange (c : Rules) (r r2 : Readings) : Type 0 where
   same : ((q : List ℕ) → r2.standing q ≡ r.standing q) → StandingChange c r r2
   moved : (a : List ℕ) (s : Standing) → IsMoved r.standing a s r2.standing → ((n : ℕ) → s ≡ Some (Associated n) → IsFree c.shard r.standing a n) → StandingChange c r r2
 
-none_is_none : {A : Type 0} (x : A) → None ≡ Some x → ⊥
-none_is_none x e = cc
-
 authenticated_has_none : (n : ℕ) → Some Authenticated ≡ Some (Associated n) → ⊥
 authenticated_has_none n e = cc
 
 disassociated_has_none : (s : Standing) (n : ℕ) → disassociated s ≡ Some (Associated n) → ⊥
-disassociated_has_none None n e = none_is_none (Associated n) e
+disassociated_has_none None n e = none-some (Associated n) e
 disassociated_has_none (Some k) n e = authenticated_has_none n e
-
-same_number : (m n : ℕ) → Some (Associated m) ≡ Some (Associated n) → m ≡ n
-same_number m n e = cc
 
 module _ (c : Rules) (r : Readings) (asked : List (Ask × ℕ)) (outs : List Out) (r2 : Readings) where
   authentication_stands : (a : List ℕ) (algorithm transaction : ℕ) → Authenticates c r a algorithm transaction asked outs r2 → StandingChange c r r2
@@ -71,7 +67,7 @@ module _ (c : Rules) (r : Readings) (asked : List (Ask × ℕ)) (outs : List Out
       association_stands f.sender (record { frame = f; capability = capability; listen_interval = interval; again = true }) comes
   management_stands f (management.Disassociation reason) comes =
       moved f.sender (disassociated (r.standing f.sender)) comes.moves.moves (λ n e. absurd (disassociated_has_none (r.standing f.sender) n e))
-  management_stands f (management.Deauthentication reason) comes = moved f.sender None comes.moves.moves (λ n e. absurd (none_is_none (Associated n) e))
+  management_stands f (management.Deauthentication reason) comes = moved f.sender None comes.moves.moves (λ n e. absurd (none-some (Associated n) e))
   management_stands f (management.AddbaRequest token parameters timeout start) comes =
       setup_stands f.sender (record { frame = f; token = token; parameters = parameters; timeout = timeout; start = start }) comes
   management_stands f (management.Delba parameters reason) comes = delba_stands f.sender parameters.initiator parameters.tid comes
@@ -114,7 +110,7 @@ module _ (c : Rules) (r : Readings) (asked : List (Ask × ℕ)) (outs : List Out
   frame_stands bytes (ours f grammar is for_us checked) = answer_stands f (check_of c r f) checked
 
   kick_stands : (a : List ℕ) (reason : ℕ) → Kicks c r a reason asked outs r2 → StandingChange c r r2
-  kick_stands a reason (kicked known settles moves) = moved a None moves.moves (λ n e. absurd (none_is_none (Associated n) e))
+  kick_stands a reason (kicked known settles moves) = moved a None moves.moves (λ n e. absurd (none-some (Associated n) e))
   kick_stands a reason (not_kicked unknown answers) = same answers.stays.standing
 
   close_stands : (a : List ℕ) (tid : ℕ) → Closes c r a tid asked outs r2 → StandingChange c r r2

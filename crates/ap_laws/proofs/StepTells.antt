@@ -21,7 +21,6 @@ use Rattle.ap_laws.specs.Exchanges.{Deauthenticated, ComesFrom, kick}
 use Rattle.ap_laws.specs.Agreed.{Agreement, LeavesAlone, late}
 use Rattle.ap_laws.specs.Agreed.Ends.{closed as closing}
 use Rattle.ap_laws.specs.Histories.{ReadsAgreed}
-use Rattle.ap_laws.proofs.ChangeLaws.{none_some}
 use Rattle.ap_laws.proofs.Forms.{NoUp, none_up, one_send, one_note, no_up_of, no_up_in_delba}
 use Rattle.ap_laws.proofs.AlikeLaws.{timed_tells, ticked_out, ticked_on}
 use Rattle.ap_laws.proofs.FrameLaws.{frame_no_tick, frame_no_kick, frame_no_close, tick_no_kick, tick_no_close, kick_no_close, kicked_one, closed_one}
@@ -30,19 +29,12 @@ use Rattle.ap_laws.proofs.TellLaws.{Read, read_of, Telling, it_ends, unchanged, 
 use Rattle.ap_laws.proofs.ElsewhereLaws.{Elsewhere, checked_elsewhere, kick_elsewhere, close_elsewhere}
 use Rattle.ap_laws.proofs.OwnLaws.{AllFor, all_for_held, all_for_append, all_for_none, discarded_here, agreed_elsewhere, silent_for, ended, checked_own}
 use Rattle.ap_laws.proofs.TurnLaws.{none_in_turn, in_its_turn}
+use Rattle.std.proofs.lemmas.Option.{none-some, same_Some}
+use Rattle.ap_laws.proofs.Same.{bytes_of}
 
 none_read : (o : Option Using) → ReadsAgreed None o → o ≡ None
 none_read None reads = refl
 none_read (Some u) reads = absurd reads
-
-some_inj : (x y : Agreement) → Some x ≡ Some y → x ≡ y
-some_inj x y e = cc
-
-some_using : (x y : Using) → Some x ≡ Some y → x ≡ y
-some_using x y e = cc
-
-bytes_of : (x y : List ℕ) → event.Frame x ≡ event.Frame y → x ≡ y
-bytes_of x y e = cc
 
 not_unknown : (s : Standing) → s ≡ None → state_of s ≡ 3 → ⊥
 not_unknown s none e = let one : 1 ≡ state_of s = ap state_of (sym none) in omega arith
@@ -67,18 +59,18 @@ module _ (c : Rules) (e : Entry) (clock : ℕ) (r r2 : Readings) (now : r2.clock
         let P : Option Agreement → Type 0 = λ o. ReadsAgreed o (r.agreement a tid) in
         let before : r.agreement a tid ≡ None = none_read (r.agreement a tid) (subst P none reads) in
         unchanged c e clock r2 a tid r g reads
-        (tick_alone (λ old there some idle. none_some old (sym none ∙ there)))
-        (ticked_on c r r2 n e.asked e.outs a tid t (λ u at late. none_some u (sym before ∙ at)))
-        (λ old there. absurd (none_some old (sym none ∙ there)))
+        (tick_alone (λ old there some idle. none-some old (sym none ∙ there)))
+        (ticked_on c r r2 n e.asked e.outs a tid t (λ u at late. none-some u (sym before ∙ at)))
+        (λ old there. absurd (none-some old (sym none ∙ there)))
 
     module _ (old : Agreement) (there : g ≡ Some old) (at : Read old (r.agreement a tid)) where
       tick_in_time : (IsTimedOut c r r2.clock at.using → ⊥) → Telling c e clock r2 a tid g
       tick_in_time not =
           let one_only : (u : Using) → r.agreement a tid ≡ Some u → IsTimedOut c r r2.clock u → ⊥ =
-          λ u is_u late_u. let P : Using → Type 0 = λ x. IsTimedOut c r r2.clock x in not (subst P (some_using u at.using (sym is_u ∙ at.is)) late_u) in
+          λ u is_u late_u. let P : Using → Type 0 = λ x. IsTimedOut c r r2.clock x in not (subst P (same_Some u at.using (sym is_u ∙ at.is)) late_u) in
           unchanged c e clock r2 a tid r g reads
           (tick_alone (λ h is_h some idle.
-          let same : h ≡ old = some_inj h old (sym is_h ∙ there) in
+          let same : h ≡ old = same_Some h old (sym is_h ∙ there) in
           let p = ap (λ x. x.timeout) same in let q = ap (λ x. x.last_use) same in
           let t1 = at.reads.timeout in let l1 = at.reads.last_use in
           not (record { limited = omega arith; idle = omega arith })))
@@ -122,7 +114,7 @@ module _ (c : Rules) (e : Entry) (clock : ℕ) (r r2 : Readings) (now : r2.clock
   frame_tells : (bytes : List ℕ) → e.event ≡ event.Frame bytes → FrameComes c r bytes e.asked e.outs r2 → Telling c e clock r2 a tid g
   frame_tells bytes is (faulty fault at answers) =
       noted _
-      (no_frame_for_us bytes is (λ f comes. none_some fault (sym (fault_free f comes.grammar) ∙ ap first_fault (bytes_of (spelling f) bytes (sym comes.came ∙ is)) ∙ at)))
+      (no_frame_for_us bytes is (λ f comes. none-some fault (sym (fault_free f comes.grammar) ∙ ap first_fault (bytes_of (spelling f) bytes (sym comes.came ∙ is)) ∙ at)))
       answers
   frame_tells bytes is (foreign f grammar at not answers) =
       noted 56

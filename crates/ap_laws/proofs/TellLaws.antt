@@ -20,9 +20,9 @@ use Rattle.ap_laws.specs.Exchanges.{Exchange, Authenticated, Associated, Disasso
 use Rattle.ap_laws.specs.Agreed.{Agreement, Opens, Uses, takes, leaves, requests, Ends, deleted, closed, late, Drops, LeavesAlone}
 use Rattle.ap_laws.specs.InOrder.{ups_of}
 use Rattle.ap_laws.specs.Histories.{ReadsAgreement, ReadsAgreed}
-use Rattle.ap_laws.proofs.ChangeLaws.{none_some}
 use Rattle.ap_laws.proofs.FrameLaws.{same_frame, same_sender, same_content, frame_no_tick, frame_no_kick, frame_no_close}
 use Rattle.ap_laws.proofs.UpLaws.{own_ups}
+use Rattle.std.proofs.lemmas.Option.{none-some}
 
 -- ---- what a frame's content may be to an agreement
 
@@ -133,18 +133,18 @@ pub record There (g : Option Agreement) (u : Using) : Type 0 where
   pub reads : ReadsAgreement agreement u
 
 pub told : (g : Option Agreement) (o : Option Using) (u : Using) → ReadsAgreed g o → o ≡ Some u → There g u
-told None None u reads e = absurd (none_some u e)
+told None None u reads e = absurd (none-some u e)
 told None (Some v) u reads e = absurd reads
 told (Some g) None u reads e = absurd reads
-told (Some g) (Some v) u reads e = record { agreement = g; is = refl; reads = subst (ReadsAgreement g) (some_inj v u e) reads }
+told (Some g) (Some v) u reads e = record { agreement = g; is = refl; reads = subst (ReadsAgreement g) (same_Some v u e) reads }
   where
-    some_inj : (x y : Using) → Some x ≡ Some y → x ≡ y
-    some_inj x y e = cc
+    same_Some : (x y : Using) → Some x ≡ Some y → x ≡ y
+    same_Some x y e = cc
 
 pub not_told : (g : Option Agreement) (o : Option Using) → ReadsAgreed g o → o ≡ None → g ≡ None
 not_told None o reads e = refl
 not_told (Some g) None reads e = absurd reads
-not_told (Some g) (Some u) reads e = absurd (none_some u (sym e))
+not_told (Some g) (Some u) reads e = absurd (none-some u (sym e))
 
 pub record Read (g : Agreement) (o : Option Using) : Type 0 where
   pub using : Using
@@ -152,12 +152,12 @@ pub record Read (g : Agreement) (o : Option Using) : Type 0 where
   pub reads : ReadsAgreement g using
 
 pub read_of : (g : Option Agreement) (o : Option Using) (old : Agreement) → ReadsAgreed g o → g ≡ Some old → Read old o
-read_of None o old reads e = absurd (none_some old e)
+read_of None o old reads e = absurd (none-some old e)
 read_of (Some g) None old reads e = absurd reads
-read_of (Some g) (Some u) old reads e = record { using = u; is = refl; reads = (let P : Agreement → Type 0 = λ x. ReadsAgreement x u in subst P (some_inj g old e) reads) }
+read_of (Some g) (Some u) old reads e = record { using = u; is = refl; reads = (let P : Agreement → Type 0 = λ x. ReadsAgreement x u in subst P (same_Some g old e) reads) }
   where
-    some_inj : (x y : Agreement) → Some x ≡ Some y → x ≡ y
-    some_inj x y e = cc
+    same_Some : (x y : Agreement) → Some x ≡ Some y → x ≡ y
+    same_Some x y e = cc
 
 -- ---- what a step is to the agreement
 
@@ -195,21 +195,21 @@ module _ (c : Rules) (e : Entry) (clock : ℕ) (r2 : Readings) (a : List ℕ) (t
             it_is_alone
             (record {
               not_opened = not_opened;
-              not_used = λ h new there. absurd (none_some h (sym same ∙ there));
-              not_ended = λ h there. absurd (none_some h (sym same ∙ there));
-              not_dropped = λ h there. absurd (none_some h (sym same ∙ there));
+              not_used = λ h new there. absurd (none-some h (sym same ∙ there));
+              not_ended = λ h there. absurd (none-some h (sym same ∙ there));
+              not_dropped = λ h there. absurd (none-some h (sym same ∙ there));
             })
             (subst P (sym same) (subst Q (sym after) tt))
-            (λ old there. absurd (none_some old (sym same ∙ there)))
+            (λ old there. absurd (none-some old (sym same ∙ there)))
 
     -- nothing but a granted request is anything to an agreement that isn't there
     pub none_alone : g ≡ None → ((new : Agreement) → Opens c e a tid clock new → ⊥) → LeavesAlone c e a tid clock g
     none_alone none not_opened =
         record {
           not_opened = not_opened;
-          not_used = λ h new there. absurd (none_some h (sym none ∙ there));
-          not_ended = λ h there. absurd (none_some h (sym none ∙ there));
-          not_dropped = λ h there. absurd (none_some h (sym none ∙ there));
+          not_used = λ h new there. absurd (none-some h (sym none ∙ there));
+          not_ended = λ h there. absurd (none-some h (sym none ∙ there));
+          not_dropped = λ h there. absurd (none-some h (sym none ∙ there));
         }
 
     -- what it held is passed up first
@@ -220,14 +220,14 @@ module _ (c : Rules) (e : Entry) (clock : ℕ) (r2 : Readings) (a : List ℕ) (t
         by_case (Some at.using) at.using passed refl at.reads same (subst P at.is passes)
       where
         by_case : (o : Option Using) (u : Using) (xs : List Out) → o ≡ Some u → ReadsAgreement old u → ups_of a tid e.outs ≡ ups_of a tid xs → PassesHeld a tid o xs → EndsUp old
-        by_case o u xs is read alike none_held = absurd (none_some u is)
+        by_case o u xs is read alike none_held = absurd (none-some u is)
         by_case o u xs is read alike (held_up v frames ending) =
             let Q : Using → Type 0 = λ x. ReadsAgreement old x in
-            let after = ending old.window (subst Q (sym (some_inj v u is)) read).window in
+            let after = ending old.window (subst Q (sym (same_Some v u is)) read).window in
             record { last = after.next; passed = frames; ends = after.step; passes = after.passes; are = alike ∙ own_ups a tid frames }
           where
-            some_inj : (x y : Using) → Some x ≡ Some y → x ≡ y
-            some_inj x y e = cc
+            same_Some : (x y : Using) → Some x ≡ Some y → x ≡ y
+            same_Some x y e = cc
 
 -- a frame that is nothing to it, by its content
 module _ (c : Rules) (e : Entry) (b : List ℕ) (f : Frame) (comes : ComesFrom c e b f) (a : List ℕ) (tid clock : ℕ) (g : Option Agreement) where
