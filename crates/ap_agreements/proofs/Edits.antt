@@ -4,9 +4,7 @@ use Rattle.std.specs.Prelude.{IsSome, slice_index_or, slice_set, remove, insert}
 use Rattle.ap_model.specs.Readings.{Using}
 use Rattle.ap_agreements.specs.Tables.{Kept, key_of, agreement_in, IsRising, IsPlaceOf, IsPlaceFor, Sets}
 use Rattle.ap_agreements.proofs.Places.{found, removed, replaced, rises_replaced, inserted, rises_inserted}
-
-one_using : (u v : Using) → Some u ≡ Some v → u ≡ v
-one_using u v e = cc
+use Rattle.std.proofs.lemmas.Option.{same_Some}
 
 module _ (ks now : List Kept) (e : ks ≡ now) (rising : IsRising ks) (a : List ℕ) (tid : ℕ) (at : ℕ) (place : IsPlaceOf now (a, tid) at) where
   inside : IsPlaceOf ks (a, tid) at
@@ -19,7 +17,7 @@ module _ (ks now : List Kept) (e : ks ≡ now) (rising : IsRising ks) (a : List 
       (found ks rising (a, tid) at inside x ∙ ap (λ (k : Kept). Some k.using) (sym f))
 
   pub was : (x : Kept) → x ≡ slice_index_or ks at x → (u : Using) → agreement_in now a tid ≡ Some u → x.using ≡ u
-  was x f u g = one_using x.using u (sym (got x f) ∙ g)
+  was x f u g = same_Some x.using u (sym (got x f) ∙ g)
 
   pub key_there : (x : Kept) → x ≡ slice_index_or ks at x → key_of x ≡ (a, tid)
   key_there x f = ap key_of f ∙ inside.is x

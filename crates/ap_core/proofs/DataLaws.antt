@@ -17,7 +17,7 @@ use Rattle.ap_model.specs.Agreements.{Packet, agreement_for, data_ask, let_throu
 use Rattle.ap_agreements.specs.Uses.{DataUse}
 use Rattle.ap_agreements.specs.Tables.{Kept, agreement_in, Sets, UsesData}
 use Rattle.ap_core.specs.Handles.{held_item}
-use Rattle.ap_core.proofs.Handling.{unchanged}
+use Rattle.ap_core.proofs.Handling.{using_is, unchanged}
 
 pub some_and : {P : Using → Type 0} (o : Option Using) → IsSomeAnd o P → (u : Using) × (o ≡ Some u) × P u
 some_and None h = absurd h
@@ -51,9 +51,6 @@ delivered r p bytes context verdict outs none e1 e2 e3 =
 pub item_is : (p : Packet) (v : DataVerdict) → held_item p.destination p.frame.tail v ≡ item p v
 item_is p (Pass mark) = refl
 item_is p Discard = refl
-
-using_is : (v : Using) (timeout clock : ℕ) → v.timeout ≡ timeout → v.last_use ≡ clock → v ≡ record { window = v.window; timeout = timeout; last_use = clock }
-using_is v timeout clock e f = λ i. record { window = v.window; timeout = e i; last_use = f i }
 
 module _ (r r2 : Readings) (p : Packet) (tid : ℕ) (u v : Using) (is_tid : p.tid ≡ Some tid) (agreed : r.agreement p.frame.sender tid ≡ Some u) where
   agreed_for : agreement_for r p.frame.sender p.tid ≡ Some u

@@ -2,7 +2,7 @@
 use Rattle.std.proofs.Common.{◌≡◌, ℕ, List, [], ◌∷◌, refl}
 use Rattle.ap_model.specs.declared.event.Out.{Out}
 use Rattle.ap_model.specs.Asks.{Ask}
-use Rattle.ap_model.specs.Readings.{Readings}
+use Rattle.ap_model.specs.Readings.{Readings, Using}
 use Rattle.ap_model.specs.Changes.{Stays, Answers, Nothing}
 use Rattle.ap_core.specs.Handles.{Handled}
 
@@ -21,3 +21,7 @@ settled effect outs r e = record { settles = record { silent = refl; is = e }; s
 
 pub no_effect : (outs : List Out) (r : Readings) → outs ≡ [] → Nothing r [] outs r
 no_effect outs r e = record { settles = record { silent = refl; is = e }; stays = unchanged r }
+
+-- an agreement in use is its three parts
+pub using_is : (v : Using) (timeout clock : ℕ) → v.timeout ≡ timeout → v.last_use ≡ clock → v ≡ record { window = v.window; timeout = timeout; last_use = clock }
+using_is v timeout clock e f = λ i. record { window = v.window; timeout = e i; last_use = f i }

@@ -9,9 +9,7 @@ use Rattle.ap_model.specs.Agreements.{ups, RequestComes, agreed}
 use Rattle.assoc.specs.Standings.{Standings}
 use Rattle.ap_agreements.specs.Uses.{RequestUse}
 use Rattle.ap_agreements.specs.Tables.{Kept, agreement_in, UsesRequest}
-
-using_is : (v : Using) (timeout clock : ℕ) → v.timeout ≡ timeout → v.last_use ≡ clock → v ≡ record { window = v.window; timeout = timeout; last_use = clock }
-using_is v timeout clock e f = λ i. record { window = v.window; timeout = e i; last_use = f i }
+use Rattle.ap_core.proofs.Handling.{using_is}
 
 pub reported : (c : Rules) (r r2 : Readings) (a : List ℕ) (tid start first bits : ℕ) (u v : Using) (outs : List Out) (passed : List (ℕ × Held)) →
     r.agreement a tid ≡ Some u → RequestUse start r.clock u v passed → first ≡ v.window.scoreboard_start → bits ≡ v.window.scoreboard_bits →

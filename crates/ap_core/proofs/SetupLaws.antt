@@ -9,10 +9,7 @@ use Rattle.ap_model.specs.Readings.{Readings, Rules, Using}
 use Rattle.ap_model.specs.Changes.{Agrees}
 use Rattle.ap_model.specs.Agreements.{Setup, SetsUp, setup_ask, setup_answer, declined, granted}
 use Rattle.ap_core.specs.Handles.{IsGranted}
-use Rattle.ap_core.proofs.Handling.{unchanged}
-
-using_is : (v : Using) (timeout clock : ℕ) → v.timeout ≡ timeout → v.last_use ≡ clock → v ≡ record { window = v.window; timeout = timeout; last_use = clock }
-using_is v timeout clock e f = λ i. record { window = v.window; timeout = e i; last_use = f i }
+use Rattle.ap_core.proofs.Handling.{using_is, unchanged}
 
 module _ (c : Rules) (r r2 : Readings) (a : List ℕ) (s : Setup) (bytes context : List ℕ) (verdict : ℕ) (outs : List Out)
     (immediate : s.parameters.policy ≡ Immediate) (spelled : bytes ≡ spelling s.frame) (told : context ≡ (setup_ask r a s).context) where

@@ -15,6 +15,7 @@ use Rattle.std.specs.Map.{lookup, keys_of}
 use Rattle.std.proofs.lemmas.Map.Made.{is_some-lookup}
 use Rattle.std.proofs.lemmas.Map.Entries.{length-keys_of}
 use Rattle.std.proofs.lemmas.Map.Steps.{length-le_from_keys}
+use Rattle.std.proofs.lemmas.Option.{none-some}
 
 -- two addresses are one or two
 pub address_tells : (a b : List ℕ) → ((same_address a b ≡ true) × (a ≡ b)) ⊎ ((same_address a b ≡ false) × (a ≢ b))
@@ -69,9 +70,6 @@ plain_sound s f c H a c2 v g i old new m few =
           elim (moved_cases f a v g m b) [ inl x ↦ absurd (old (8 * k + s) (subst (λ t. f t ≡ Some (Associated (8 * k + s))) (sym x.0) p)) | inr x ↦ x.1 ∙ p ];
     }
 
-not_none : {A : Type 0} (x : A) → None ≡ Some x → ⊥
-not_none x e = cc
-
 pub place : (k s n : ℕ) → s < 8 → 8 * k + s ≡ n → k ≡ n / 8
 place k s n l e = omega arith
 
@@ -98,7 +96,7 @@ back_sound s f c H a n c2 g i is m few =
           elim (eqb_tells k (n / 8)) [
             | inl y ↦
                 let z : slice_index_or (slice_set H (n / 8) None) (n / 8) None ≡ Some b = subst (λ t. slice_index_or (slice_set H (n / 8) None) t None ≡ Some b) y.1 e in
-                absurd (not_none b (sym (none_set H (n / 8)) ∙ z))
+                absurd (none-some b (sym (none_set H (n / 8)) ∙ z))
             | inr y ↦
                 let p : slice_index_or H k None ≡ Some b = sym (get_or-set_other H (n / 8) k None None y.1) ∙ e in
                 let r = i.held k b p in

@@ -1,13 +1,11 @@
 -- What changes of a state leave of its place and its call chain.
-use Rattle.std.proofs.Common.{◌≡◌, ℕ, zero, suc, ◌+◌, ◌<◌, ◌≤◌, inl, inr, List, [], ◌∷◌, ◌++◌, length, map, refl, sym, ◌∙◌, ap, subst, arith, Option, Some, None, true, false, Bool, slice_index_or, length-set, ℤ, Result, Ok, Err}
+use Rattle.std.proofs.Common.{◌≡◌, ℕ, zero, suc, inl, inr, List, [], ◌∷◌, length, map, refl, sym, ◌∙◌, ap, subst, arith, Option, Some, None, true, false, Bool, slice_index_or, length-set, ℤ, Result, Ok, Err}
 use Rattle.std.specs.Prelude.{◌==◌, if◌then◌else◌}
 use Rattle.std.specs.List.{All}
 use Rattle.std.proofs.lemmas.List.{length-map}
 use Rattle.std.proofs.lemmas.List.Elements.{All-map, All-set}
-use Rattle.bpf_insn.specs.declared.insn.AluOp.{AluOp}
 use Rattle.bpf_insn.specs.declared.insn.AtomicOp.{AtomicOp}
 use Rattle.bpf_insn.specs.declared.insn.Compare.{Compare}
-use Rattle.bpf_insn.specs.declared.insn.Compare.TheVariants as compare
 use Rattle.bpf_insn.specs.declared.insn.Insn.{Insn}
 use Rattle.bpf_insn.specs.declared.insn.Source.{Source}
 use Rattle.bpf_insn.specs.declared.insn.Source.TheVariants as source
@@ -17,15 +15,15 @@ use Rattle.bpf_absnum.specs.Number.{Num}
 use Rattle.bpf_absval.specs.declared.value.AbsRegion.{AbsRegion}
 use Rattle.bpf_absval.specs.declared.value.AbsRegion.TheVariants as place
 use Rattle.bpf_absval.specs.declared.value.AbsVal.{AbsVal}
-use Rattle.bpf_absval.specs.declared.value.AbsVal.TheVariants.{Unset, Number, Frame, Pointer, FrameEnd, MapReference, Lookup}
+use Rattle.bpf_absval.specs.declared.value.AbsVal.TheVariants.{Unset, Number, Frame, Pointer, FrameEnd, Lookup}
 use Rattle.bpf_absval.specs.declared.value.Label.{Label}
 use Rattle.bpf_absval.specs.declared.slot.AbsSlot.{AbsSlot}
 use Rattle.bpf_absstate.specs.declared.frames.CallFrame.{CallFrame}
-use Rattle.bpf_absstate.specs.View.{View, main_frame, frame_of, with_slot, without_label, frame_unlabelled, register}
+use Rattle.bpf_absstate.specs.View.{View, main_frame, with_slot, without_label, frame_unlabelled, register}
 use Rattle.bpf_rules.specs.declared.fault.Fault.{Fault}
 use Rattle.bpf_rules.specs.declared.fault.Fault.TheVariants as fault
 use Rattle.bpf_rules.specs.Memory.{unless, store, stored_into, stored_in_stack, stored_in_map, spilled, stored, bytes_stored, atomic, atomic_on, with_old, offset_of, strays, is_spill, aligned_fault}
-use Rattle.bpf_rules.specs.Branches.{Split, Lesson, Nothing, AtMost, Below, split, wide_ways, narrow_ways, number_way, with_operands, narrowed, with_source, lookup_ways, pointer_ways, by_null, end_test, end_ways, taught, learnt, with_reach, lesson, null_test, is_order, turned, compared_value}
+use Rattle.bpf_rules.specs.Branches.{Split, Lesson, Nothing, AtMost, Below, split, wide_ways, narrow_ways, with_operands, with_source, lookup_ways, pointer_ways, by_null, end_test, taught, learnt, with_reach, lesson, compared_value}
 use Rattle.bpf_plain.proofs.Outcomes.{okay-same, refused-okay, unless_ok, either_ok, on_ok}
 
 abbrev pub Returns : List (Option Insn) → List CallFrame → Type 0

@@ -1,5 +1,5 @@
 -- In a plain program each way is one step of a walk.
-use Rattle.std.proofs.Common.{◌≡◌, ℕ, ◌+◌, List, length, refl, sym, ◌∙◌, ap, subst, Option, Some, None, true, false, Bool, ℤ, Result, Ok, Err}
+use Rattle.std.proofs.Common.{◌≡◌, ℕ, ◌+◌, refl, sym, ◌∙◌, ap, subst, Option, Some, None, false, ℤ, Result, Ok}
 use Rattle.std.specs.Prelude.{◌==◌, if◌then◌else◌}
 use Rattle.bpf_insn.specs.declared.insn.Insn.{Insn}
 use Rattle.bpf_insn.specs.declared.insn.Insn.TheVariants as insn
@@ -13,7 +13,7 @@ use Rattle.bpf_absval.specs.declared.value.AbsVal.TheVariants.{Number}
 use Rattle.bpf_absstate.specs.View.{View, register, with_register, at_slot, returned}
 use Rattle.bpf_rules.specs.declared.fault.Fault.{Fault}
 use Rattle.bpf_rules.specs.declared.ways.Ways.{Ways}
-use Rattle.bpf_rules.specs.declared.ways.Ways.TheVariants.{Nowhere, One, Two}
+use Rattle.bpf_rules.specs.declared.ways.Ways.TheVariants.{Nowhere, One}
 use Rattle.bpf_rules.specs.Operands.{number, source_value, alu}
 use Rattle.bpf_rules.specs.Branches.{split}
 use Rattle.bpf_rules.specs.Calls.{exit_number}

@@ -7,9 +7,7 @@ use Rattle.bpf_decode.specs.Flow.{jump_of, IsJump, size_of}
 use Rattle.bpf_decode.specs.Program.{Code, Holds, Begins, IsWhole}
 use Rattle.bpf_plain.specs.Paths.{IsPath, Reaches}
 use Rattle.bpf_plain.specs.Walks.{Follows, Falls, Jumps, IsPlain, IsPlainInsn, IsWalk, HasWalk}
-
-pos-same : (m n : ℕ) → pos m ≡ pos n → m ≡ n
-pos-same m n e = cc
+use Rattle.bpf_plain.proofs.Landings.{pos-same}
 
 abbrev far : ℤ → Option ℤ
 far x = Some x

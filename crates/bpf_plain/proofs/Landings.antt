@@ -6,7 +6,7 @@ use Rattle.bpf_decode.specs.Flow.{IsJump}
 use Rattle.bpf_model.specs.Step.{target}
 use Rattle.bpf_rules.specs.Examined.{landing}
 
-pos-same : (m n : ℕ) → pos m ≡ pos n → m ≡ n
+pub pos-same : (m n : ℕ) → pos m ≡ pos n → m ≡ n
 pos-same m n e = cc
 
 back : (k t n : ℕ) → pos t ≡ pos (k + 1) +ℤ negsuc n → (n ≤ k) × (t ≡ k - n)

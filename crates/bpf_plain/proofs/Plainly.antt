@@ -1,5 +1,5 @@
 -- Plain programs are clear: few abstract states, and no fault.
-use Rattle.std.proofs.Common.{◌≡◌, ℕ, zero, suc, ◌+◌, ◌^◌, ◌<◌, ◌≤◌, inl, inr, List, [], ◌∷◌, ◌++◌, length, refl, sym, ◌∙◌, ap, subst, arith, Option, Some, None, slice_get, slice_set, slice_index_or, false, true, Bool, ℤ, get_or-set_same, get_or-set_other, Result, Ok, Err, length-set}
+use Rattle.std.proofs.Common.{◌≡◌, ℕ, zero, suc, ◌+◌, ◌^◌, ◌<◌, ◌≤◌, inl, inr, List, [], ◌∷◌, ◌++◌, length, refl, sym, ◌∙◌, ap, subst, arith, Option, Some, None, slice_get, slice_set, slice_index_or, false, true, Bool, ℤ, get_or-set_same, get_or-set_other, Result, Ok, length-set}
 use Rattle.std.specs.Prelude.{◌==◌, if◌then◌else◌}
 use Rattle.std.proofs.lemmas.Bool.{cases_eq}
 use Rattle.bpf_insn.specs.declared.insn.AluOp.{AluOp}
@@ -23,8 +23,8 @@ use Rattle.bpf_rules.specs.declared.fault.Fault.{Fault}
 use Rattle.bpf_rules.specs.declared.ways.Ways.{Ways}
 use Rattle.bpf_rules.specs.declared.ways.Ways.TheVariants.{Nowhere, One, Two}
 use Rattle.bpf_rules.specs.Faults.{on}
-use Rattle.bpf_rules.specs.Operands.{number, source_value, alu, makes_label}
-use Rattle.bpf_rules.specs.Branches.{Split, split, number_ways, number_way, with_operands, with_source, compared_value}
+use Rattle.bpf_rules.specs.Operands.{source_value, alu, makes_label}
+use Rattle.bpf_rules.specs.Branches.{split, number_ways, number_way, with_operands, with_source, compared_value}
 use Rattle.bpf_rules.specs.Calls.{exit_number}
 use Rattle.bpf_rules.specs.Examined.{examined, landing, put, put_number, operated, ways, moved_to, branched, exited}
 use Rattle.bpf_plain.specs.Clear.{IsClear, Ends, Goes, Parts}
@@ -34,6 +34,7 @@ use Rattle.bpf_plain.proofs.Graph.{follows_begins, begins_within, forward, exits
 use Rattle.bpf_plain.proofs.Landings.{lands}
 use Rattle.bpf_plain.proofs.Needed.{IsNumber, IsNeeded, IsReady}
 use Rattle.bpf_plain.proofs.Rooms.{room, room_one, room_two, room_some, room_start}
+use Rattle.std.proofs.lemmas.Option.{same_Some}
 
 abbrev there : Insn → Option (Option Insn)
 there i = Some (Some i)
@@ -66,9 +67,6 @@ needed_place k (t ∷ rest) tail = needed_place t rest tail
 abbrev no_place : Option ℕ
 no_place = None
 
-place-same : (m n : ℕ) → Some m ≡ Some n → m ≡ n
-place-same m n e = cc
-
 no_place-place : (n : ℕ) → no_place ≡ Some n → ⊥
 no_place-place n e = cc
 
@@ -77,7 +75,7 @@ needed_unwritten : (slots : List (Option Insn)) (r k : ℕ) (rest tail : List �
 unfolding IsNeeded
 needed_unwritten slots r k [] tail h m small w = absurd (omega (arith, small))
 needed_unwritten slots r k (t ∷ rest) tail h zero small w =
-    let at : Holds slots k w.insn = subst (λ x. Holds slots x w.insn) (sym (place-same k w.slot w.place)) w.stands in
+    let at : Holds slots k w.insn = subst (λ x. Holds slots x w.insn) (sym (same_Some k w.slot w.place)) w.stands in
     h.2 (subst (λ i. Writes i r) (same_insn slots k w.insn h.0 at h.1) w.writes)
 needed_unwritten slots r k (t ∷ rest) tail h (suc m) small w =
     needed_unwritten slots r t rest tail h.4 m (omega (arith, small)) (record { slot = w.slot; insn = w.insn; place = w.place; stands = w.stands; writes = w.writes })
@@ -266,9 +264,9 @@ steps c whole plain a (insn.Alu alu.Mov w d from) ready at valid allowed =
     let i : Insn = insn.Alu alu.Mov w d from in
     let y = source_number c whole plain a ready i at from (λ r h. h) in
     let k = alu_moves a.pc w (register a d) y.0 in
-    puts c whole plain a ready i at d 1 k.0 refl refl valid.0 (λ r h. sym (place-same d r h))
+    puts c whole plain a ready i at d 1 k.0 refl refl valid.0 (λ r h. sym (same_Some d r h))
     (ap (λ v. on (alu a.pc alu.Mov w (register a d) v) (operated a alu.Mov d (register a d) v)) y.1 ∙ ap (λ v. on v (operated a alu.Mov d (register a d) (Number y.0))) k.1)
-steps c whole plain a (insn.Alu op w d from) ready at valid allowed = operates op from valid at (inl refl) (λ r h. inr h) (λ r h. sym (place-same d r h))
+steps c whole plain a (insn.Alu op w d from) ready at valid allowed = operates op from valid at (inl refl) (λ r h. inr h) (λ r h. sym (same_Some d r h))
   where
     operates : (op : AluOp) (from : Source) → IsInsn (insn.Alu op w d from) → (at : Holds c.slots a.pc (insn.Alu op w d from)) → Reads (insn.Alu op w d from) d → ((r : ℕ) → ReadsSource from r → Reads (insn.Alu op w d from) r) →
         ((r : ℕ) → Writes (insn.Alu op w d from) r → r ≡ d) → Step c a
@@ -283,13 +281,13 @@ steps c whole plain a (insn.Alu op w d from) ready at valid allowed = operates o
         ∙ ap (λ v. on v (operated a op d (Number x.0) (Number y.0))) k.1
         ∙ operated_numbers a op d (Number x.0) (Number y.0) (Number k.0) (no_label op x.0 y.0))
 steps c whole plain a (insn.MovSx from w d r) ready at valid allowed =
-    puts_number c whole plain a ready (insn.MovSx from w d r) at d r (num_extended from w) refl refl refl valid.1 (λ t h. sym (place-same d t h)) refl
+    puts_number c whole plain a ready (insn.MovSx from w d r) at d r (num_extended from w) refl refl refl valid.1 (λ t h. sym (same_Some d t h)) refl
 steps c whole plain a (insn.Neg w d) ready at valid allowed =
-    puts_number c whole plain a ready (insn.Neg w d) at d d (num_negated w) refl refl refl valid (λ t h. sym (place-same d t h)) refl
+    puts_number c whole plain a ready (insn.Neg w d) at d d (num_negated w) refl refl refl valid (λ t h. sym (same_Some d t h)) refl
 steps c whole plain a (insn.End order width d) ready at valid allowed =
-    puts_number c whole plain a ready (insn.End order width d) at d d (num_ordered order width) refl refl refl valid (λ t h. sym (place-same d t h)) refl
+    puts_number c whole plain a ready (insn.End order width d) at d d (num_ordered order width) refl refl refl valid (λ t h. sym (same_Some d t h)) refl
 steps c whole plain a (insn.LoadWide d (wide.Number n)) ready at valid allowed =
-    puts c whole plain a ready (insn.LoadWide d (wide.Number n)) at d 2 (num_single n) refl refl valid.0 (λ t h. sym (place-same d t h)) refl
+    puts c whole plain a ready (insn.LoadWide d (wide.Number n)) at d 2 (num_single n) refl refl valid.0 (λ t h. sym (same_Some d t h)) refl
 steps c whole plain a (insn.Jump x) ready at valid allowed = jumps c whole plain a ready (insn.Jump x) at x refl (λ r h. no_place-place r h) refl
 steps c whole plain a (insn.JumpLong x) ready at valid allowed = jumps c whole plain a ready (insn.JumpLong x) at x refl (λ r h. no_place-place r h) refl
 steps c whole plain a (insn.Branch compare w d from x) ready at valid allowed =

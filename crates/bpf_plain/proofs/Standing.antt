@@ -1,13 +1,11 @@
 -- Ways lead from instructions to instructions.
-use Rattle.std.proofs.Common.{◌≡◌, ℕ, zero, suc, ◌+◌, ◌-◌, ◌<◌, ◌≤◌, inl, inr, List, [], ◌∷◌, ◌++◌, length, refl, sym, ◌∙◌, ap, subst, arith, Option, Some, None, true, false, Bool, slice_index_or, ℤ, Result, Ok, Err, take}
+use Rattle.std.proofs.Common.{◌≡◌, ℕ, zero, suc, ◌+◌, ◌-◌, ◌<◌, inl, inr, [], ◌∷◌, length, refl, sym, ◌∙◌, ap, subst, arith, Option, Some, None, true, false, Bool, slice_index_or, ℤ, Result, Ok, Err}
 use Rattle.std.specs.Prelude.{◌==◌, nat_lt, if◌then◌else◌}
-use Rattle.std.specs.List.{All}
 use Rattle.std.proofs.lemmas.List.Elements.{All-append, All-take}
 use Rattle.bpf_insn.specs.declared.insn.Insn.{Insn}
 use Rattle.bpf_insn.specs.declared.insn.Insn.TheVariants as insn
-use Rattle.bpf_regions.specs.declared.maps.Shape.{Shape}
 use Rattle.bpf_words.specs.Word.{word_of}
-use Rattle.bpf_decode.specs.Flow.{IsJump, jump_of, size_of, ends}
+use Rattle.bpf_decode.specs.Flow.{jump_of, size_of, ends}
 use Rattle.bpf_decode.specs.Program.{Code, Holds, Begins, IsWhole}
 use Rattle.bpf_model.specs.Memory.{size_bytes}
 use Rattle.bpf_model.specs.Step.{atomic_bytes}
@@ -16,20 +14,20 @@ use Rattle.bpf_absnum.specs.Transfer.{num_negated, num_extended, num_ordered}
 use Rattle.bpf_absval.specs.declared.value.AbsVal.{AbsVal}
 use Rattle.bpf_absval.specs.declared.value.AbsVal.TheVariants.{Number}
 use Rattle.bpf_absstate.specs.declared.frames.CallFrame.{CallFrame}
-use Rattle.bpf_absstate.specs.View.{View, entry_view, register, with_register, at_slot, called, returned, frame_of}
+use Rattle.bpf_absstate.specs.View.{View, entry_view, register, with_register, at_slot, called, returned}
 use Rattle.bpf_rules.specs.declared.fault.Fault.{Fault}
 use Rattle.bpf_rules.specs.declared.ways.Ways.{Ways}
-use Rattle.bpf_rules.specs.declared.ways.Ways.TheVariants.{Nowhere, One, Two}
+use Rattle.bpf_rules.specs.declared.ways.Ways.TheVariants.{Nowhere, One}
 use Rattle.bpf_rules.specs.declared.fault.Fault.TheVariants as fault
 use Rattle.bpf_rules.specs.Faults.{on}
 use Rattle.bpf_rules.specs.Operands.{number, source_value, alu, makes_label, wide_value}
 use Rattle.bpf_rules.specs.Memory.{load, store, atomic, next_pc}
-use Rattle.bpf_rules.specs.Branches.{Split, split}
+use Rattle.bpf_rules.specs.Branches.{split}
 use Rattle.bpf_rules.specs.Calls.{helped, answered, call, exit_number}
-use Rattle.bpf_rules.specs.Examined.{examined, landing, put, put_number, before_put, operated, ways, moved_to, branched, exited, compared}
+use Rattle.bpf_rules.specs.Examined.{landing, put, put_number, before_put, operated, ways, moved_to, branched, exited, compared}
 use Rattle.bpf_plain.specs.Laws.{WaysStand, EntryStands}
 use Rattle.bpf_plain.specs.Standing.{Stands, EachWay}
-use Rattle.bpf_plain.proofs.Chains.{Keeps, Keeps-self, Keeps-label, Keeps-rest, Keeps-either, WayKeeps, SplitKeeps, Returns, returns_at, store_keep, atomic_keep, split_keep}
+use Rattle.bpf_plain.proofs.Chains.{Keeps, Keeps-self, Keeps-label, Keeps-rest, Keeps-either, WayKeeps, Returns, returns_at, store_keep, atomic_keep, split_keep}
 use Rattle.bpf_plain.proofs.Landings.{lands}
 use Rattle.bpf_plain.proofs.Outcomes.{okay-same, refused-okay, either_ok, on_ok}
 

@@ -168,7 +168,7 @@ content_free (content.Data (a0 ∷ a1 ∷ a2 ∷ a3 ∷ a4 ∷ a5 ∷ []) s (kin
     (omega (arith, l), rw (flags, w, v, qos_controls.passes q fits.2.0) refl, data_free (kinds.QosNull q) b tail (omega (arith, l)) fits.2)
 content_free (content.Data _ s m) b tail d l flags fits = absurd (omega (arith, fits.0))
 
-six : (xs rest : List ℕ) → length xs ≡ 6 → drop 6 (xs ++ rest) ≡ rest
+pub six : (xs rest : List ℕ) → length xs ≡ 6 → drop 6 (xs ++ rest) ≡ rest
 six (a0 ∷ a1 ∷ a2 ∷ a3 ∷ a4 ∷ a5 ∷ []) rest e = refl
 six _ rest e = absurd (omega (arith, e))
 

@@ -29,7 +29,7 @@ use Rattle.mac_frame.specs.Kinds.{subtype_of, header_of}
 use Rattle.mac_frame.specs.Faults.{word_at, first_fault}
 use Rattle.mac_frame.specs.Reading.{IsFault}
 use Rattle.mac_frame.specs.Spelling.{Frame, IsFrame, IsManagement, IsControl, IsContent, spelling, management_text, management_subtype, control_text, control_subtype, content_text, content_subtype, to_ds}
-use Rattle.mac_frame.proofs.Again.{fault_free, kind_is, past_addresses, management_header, control_header}
+use Rattle.mac_frame.proofs.Again.{six, fault_free, kind_is, past_addresses, management_header, control_header}
 
 both : {A B C : Type 0} (g : A → B → C) {a c : A} {b d : B} → a ≡ c → b ≡ d → g a b ≡ g c d
 both g {c = c} {b = b} e f = ap (λ x. g x b) e ∙ ap (g c) f
@@ -140,10 +140,6 @@ six_first : (xs rest : List ℕ) → length xs ≡ 6 → take 6 (xs ++ rest) ≡
 six_first (a0 ∷ a1 ∷ a2 ∷ a3 ∷ a4 ∷ a5 ∷ []) rest e = refl
 six_first _ rest e = absurd (omega (arith, e))
 
-six_past : (xs rest : List ℕ) → length xs ≡ 6 → drop 6 (xs ++ rest) ≡ rest
-six_past (a0 ∷ a1 ∷ a2 ∷ a3 ∷ a4 ∷ a5 ∷ []) rest e = refl
-six_past _ rest e = absurd (omega (arith, e))
-
 frame_back : (f : Frame) → IsFrame f → frame_in (spelling f) ≡ f
 frame_back f fits =
     let t = content_text f.content f.tail in
@@ -151,7 +147,7 @@ frame_back f fits =
     let c : content_by (subtype_of (slice_index (spelling f) 0)) (drop 16 (spelling f)) ≡ (f.content, f.tail) =
     ap (λ o. content_by o (drop 16 (spelling f))) k ∙ ap (λ (x : List ℕ). content_by (Some (content_subtype f.content)) x) (past_addresses f fits.receiver fits.sender) ∙ content_back f.content f.tail fits.content in
     let r : take 6 (drop 4 (spelling f)) ≡ f.receiver = six_first f.receiver (f.sender ++ t) fits.receiver in
-    let p : drop 10 (spelling f) ≡ f.sender ++ t = sym (drop-drop 6 4 (spelling f)) ∙ six_past f.receiver (f.sender ++ t) fits.receiver in
+    let p : drop 10 (spelling f) ≡ f.sender ++ t = sym (drop-drop 6 4 (spelling f)) ∙ six f.receiver (f.sender ++ t) fits.receiver in
     let s : take 6 (drop 10 (spelling f)) ≡ f.sender = ap (λ (x : List ℕ). take 6 x) p ∙ six_first f.sender t fits.sender in
     let d : word_at (spelling f) 2 ≡ f.duration = word_back f.duration fits.duration in
     let o : flags_in (flags_octet (to_ds f.content) f.flags) ≡ f.flags = flags_back (to_ds f.content) f.flags in
