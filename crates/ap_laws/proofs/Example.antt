@@ -22,14 +22,14 @@ use Rattle.ap_model.specs.Steps.{ours, IsOurs}
 use Rattle.ap_laws.specs.Runs.{Entry, Handles, rests, goes_on, opening}
 use Rattle.ap_laws.specs.Origins.{SomeIsPassedUp}
 
-abbrev bssid : List ℕ
+abbrev pub bssid : List ℕ
 bssid = 2 ∷ 0 ∷ 0 ∷ 0 ∷ 0 ∷ 1 ∷ []
 
-abbrev station : List ℕ
+abbrev pub station : List ℕ
 station = 2 ∷ 0 ∷ 0 ∷ 0 ∷ 0 ∷ 10 ∷ []
 
 -- "lab", and four rates
-abbrev c : Rules
+abbrev pub c : Rules
 c = record { shard = 2; config = record { bssid = bssid; ssid = 108 ∷ 97 ∷ 98 ∷ []; rates = 130 ∷ 132 ∷ 139 ∷ 150 ∷ [] } }
 
 -- ---- authentication
@@ -47,10 +47,10 @@ first_for_us = record { receiver = refl; bssid = refl; single = refl }
 abbrev alone_at : Standing → Standings
 alone_at s b = cond (same_address station b) s None
 
-abbrev known_at : Standing → Readings
+abbrev pub known_at : Standing → Readings
 known_at s = record { standing = alone_at s; agreement = λ b t. None; clock = 0 }
 
-abbrev first_entry : Entry
+abbrev pub first_entry : Entry
 first_entry = record { event = event.Frame (spelling first_frame); asked = []; outs = authentication_answer c station 0 0 ∷ [] }
 
 -- 512 stations are not known where none is
@@ -61,7 +61,7 @@ none_is_known full = by_list full.stations full.many full.known
     by_list [] many known = omega arith
     by_list (x ∷ xs) many known = let f : false ≡ true = known x (ap (λ b. b || list_any (same_address x) xs) ((bytes_eq-Decides x x).1 refl)) in cc
 
-first_step : Handles c opening first_entry (known_at (Some Authenticated))
+pub first_step : Handles c opening first_entry (known_at (Some Authenticated))
 first_step =
     ours first_frame first_grammar refl first_for_us
     (accepts (accepted refl refl (inr none_is_known)) (record { silent = refl; is = refl }) (record { moves = λ q. refl; discards = λ q t. both_none (same_address station q); clock = refl }))
@@ -115,7 +115,7 @@ names : Names c request
 unfolding elements_in
 names = refl
 
-abbrev second_entry : Entry
+abbrev pub second_entry : Entry
 second_entry =
     record {
       event = event.Frame (spelling second_frame);
@@ -130,7 +130,7 @@ two_is_free = record { own = record { low = omega arith; high = omega arith; min
     nobody true e = cc
     nobody false e = cc
 
-second_step : Handles c (known_at (Some Authenticated)) second_entry (known_at (Some (Associated 2)))
+pub second_step : Handles c (known_at (Some Authenticated)) second_entry (known_at (Some (Associated 2)))
 second_step =
     ours second_frame second_grammar refl second_for_us
     (admitted 0 suits names (record {

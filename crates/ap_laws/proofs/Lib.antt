@@ -22,3 +22,4 @@ pub mod OrderLaws
 pub mod RereadLaws
 pub mod HistoryLaws
 pub mod Example
+pub mod AgreedExample

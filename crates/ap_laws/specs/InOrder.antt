@@ -1,5 +1,5 @@
 -- What is passed up of an agreement (IEEE 802.11-2016, 10.24.7.6.1).
-use Rattle.std.specs.Prelude.{◌≡◌, ℕ, ◌<◌, ◌↔◌, ◌⊎◌, ◌==◌, ◌&&◌, Bool, false, Option, Some, None, List, [], ◌∷◌, ◌++◌, if◌then◌else◌, AllPairs, Contains, reverse}
+use Rattle.std.specs.Prelude.{◌≡◌, ◌≢◌, ℕ, ◌<◌, ◌↔◌, ◌⊎◌, ◌==◌, ◌&&◌, Bool, false, Option, Some, None, IsSome, List, [], ◌∷◌, ◌++◌, if◌then◌else◌, AllPairs, Contains, reverse}
 use Rattle.assoc.specs.Standings.{same_address}
 use Rattle.blockack.specs.Window.{Window, EndStep}
 use Rattle.blockack.specs.Passed.{numbered}
@@ -80,3 +80,17 @@ DropsSilently =
     (c : Rules) (entries : List Entry) (r r2 : Readings) (e : Entry) (a : List ℕ) (tid : ℕ) → Run c opening entries r → Handles c r e r2 →
     (g : Agreement) (since : List Entry) → Agreed c a tid (reverse entries) (Some g) since →
     Drops c e a tid (clock_after (e ∷ reverse entries)) → ups_of a tid e.outs ≡ []
+
+-- an agreement passes data up in some run, so these laws speak of something
+pub record SomeIsPassedInOrder : Type 0 where
+  pub rules : Rules
+  pub entries : List Entry
+  pub at : Readings
+  pub last : Readings
+  pub passing : Entry
+  pub station : List ℕ
+  pub tid : ℕ
+  pub run : Run rules opening entries at
+  pub step : Handles rules at passing last
+  pub agreed : IsSome (at.agreement station tid)
+  pub some : ups_of station tid passing.outs ≢ []

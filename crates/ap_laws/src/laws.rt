@@ -1,7 +1,7 @@
 //! Laws of runs.
 ghost use Rattle.ap_laws.specs.Origins.{OpeningHoldsAgreements, RunHoldsAgreements, FromAnyReadings, FromTheOpening, SomeIsPassedUp};
 ghost use Rattle.ap_laws.specs.Alongside.{RunsLeaveSameStarts, LinkRunsLeaveSameStarts};
-ghost use Rattle.ap_laws.specs.InOrder.{TellsOne, GoesOnInOrder, EndsInOrder, DropsSilently};
+ghost use Rattle.ap_laws.specs.InOrder.{TellsOne, GoesOnInOrder, EndsInOrder, DropsSilently, SomeIsPassedInOrder};
 ghost use Rattle.ap_laws.specs.Histories.{RunsAreRead, ReadingsServe, ReadingsGoOn, RunsAreHistories};
 ghost use Rattle.ap_laws.specs.Identifiers.{OpeningHoldsOnce, RunHoldsOnce, AccessPointHoldsOnce};
 
@@ -38,12 +38,13 @@ pub fn window_law()
 /// agreement, or of none, for each station and TID. Since it was opened, exactly its accepted numbers
 /// below its window were passed up, each once, in rising order of its whole numbers; once it has
 /// ended or was replaced, all that it accepted. Where an exchange of the station discards it, nothing
-/// more is passed up.
+/// more is passed up. There is a run in which an agreement passes data up.
 pub fn order_law()
     ensures told { TellsOne }
     ensures going_on { GoesOnInOrder }
     ensures ended { EndsInOrder }
     ensures dropped { DropsSilently }
+    ensures some { SomeIsPassedInOrder }
 {}
 
 /// Steps over readings are steps over histories. The readings that a run leaves are those of its
