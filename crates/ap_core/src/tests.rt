@@ -6,6 +6,8 @@ ghost use Rattle.ap_laws.specs.AccessPoint.{InPlace};
 ghost use Rattle.ap_core.specs.AccessPoints.{rules_of};
 ghost use Rattle.ap_core.specs.Shards.{ruled};
 
+mod refusals;
+
 use crate::{Event, LinkConfig, ListJudge, Octets, Out, Shard, handle_all};
 use mac_frame::{Address, Reason, Tid};
 use std::alloc::Global;
@@ -690,57 +692,6 @@ fn agreements_time_out(rt: HostRuntime) -> Result<(), Fail> {
             Tick(10),
         ],
     )
-}
-
-/// What an event leads to. Where it is refused for memory, it comes again.
-fn again(
-    alloc: Global,
-    shard: &mut Shard,
-    event: &Event,
-    judge: &mut ListJudge<'_>,
-) -> Result<Vec<Out>, Fail> {
-    if let Ok(outs) = shard.handle(alloc, event, judge) {
-        return Ok(outs);
-    }
-    let outs = shard.handle(alloc, event, judge)?;
-    Ok(outs)
-}
-
-/// With any one allocation of an event refused, the event is handled when it comes again, and so are
-/// those after it. Each frame of data has a mark of its own.
-#[test]
-fn refused_events_may_come_again(rt: HostRuntime) -> Result<(), Fail> {
-    let alloc = rt.alloc();
-    let transcript = [
-        Frame(AUTHENTICATION),
-        Sends(AUTHENTICATED),
-        Frame(ASSOCIATION),
-        Sends(ASSOCIATED),
-        Frame(DATA),
-        PassesUp(None, 3, 1, "68656c6c6f"),
-        Frame(SETUP),
-        Sends(SET_UP),
-        Qos(101, "61"),
-        Qos(100, "62"),
-        PassesUp(Some(0), 100, 3, "62"),
-        PassesUp(Some(0), 101, 2, "61"),
-        Request(102),
-        Sends("94000000 02000000000a 020000000001 0400 6006 0000000000000000"),
-        Kick(3),
-        Sends("c0000000 02000000000a 020000000001 020000000001 0000 0300"),
-    ];
-    let events = events(alloc, &transcript)?;
-    let mut shard = shard(alloc, 2)?;
-    let mut judge = ListJudge {
-        answers: &[0, 258, 8, 514, 770],
-    };
-    let mut results = Vec::new(alloc);
-    for event in &events {
-        let outs = again(alloc, &mut shard, event, &mut judge)?;
-        results.push(Some(outs))?;
-    }
-    assert!(rt; is_told(alloc, &transcript, &results)?);
-    Ok(())
 }
 
 #[test]
