@@ -1,9 +1,10 @@
 -- Tables of which some agreements are left out.
 use Rattle.std.proofs.Common.{◌≡◌, ℕ, ◌<◌, zero, suc, List, [], ◌∷◌, length, map, Bool, true, false, not, cond, Option, Some, None, refl, sym, ap, subst, ◌∙◌, arith, All, slice_index_or, filter}
+use Rattle.std.proofs.lemmas.Bool.{and_left}
 use Rattle.std.proofs.lemmas.List.{get_or_default}
 use Rattle.std.proofs.lemmas.List.Elements.{All-map}
 use Rattle.std.proofs.lemmas.List.Kept.{AllPairs-cons, AllPairs-filter}
-use Rattle.std.specs.Prelude.{AllPairs, Contains, ◌&&◌, ◌==◌, ◌↔◌}
+use Rattle.std.specs.Prelude.{AllPairs, Contains, ◌==◌, ◌↔◌}
 use Rattle.std.specs.Cmp.Lexicographic.{bytes_decides}
 use Rattle.std.specs.declared.cmp.Ordering.TheVariants.{Less}
 use Rattle.assoc.specs.Standings.{same_address}
@@ -16,20 +17,16 @@ use Rattle.ap_agreements.proofs.Places.{found}
 
 -- ---- the agreements of one station
 
-no_and : (b c : Bool) → b ≡ false → (b && c) ≡ false
-no_and true c e = absurd (cc)
-no_and false c e = refl
-
 module _ (a : List ℕ) (k : Kept) (u : Using) where
   no_match : (q : List ℕ) (t : ℕ) → same_address k.station a ≡ true → same_address a q ≡ false → is_for q t k ≡ false
   no_match q t e f =
       let s = (bytes_decides k.station a).0 e in
-      no_and (same_address k.station q) (k.tid == t) (subst (λ b. same_address b q ≡ false) (sym s) f)
+      and_left (same_address k.station q) (k.tid == t) (subst (λ b. same_address b q ≡ false) (sym s) f)
 
   no_match_of : (q : List ℕ) (t : ℕ) → same_address k.station a ≡ false → same_address a q ≡ true → is_for q t k ≡ false
   no_match_of q t e f =
       let s = (bytes_decides a q).0 f in
-      no_and (same_address k.station q) (k.tid == t) (subst (λ b. same_address k.station b ≡ false) s e)
+      and_left (same_address k.station q) (k.tid == t) (subst (λ b. same_address k.station b ≡ false) s e)
 
   left : (rest ks : List Kept) (q : List ℕ) (t : ℕ) → agreement_in rest q t ≡ cond (same_address a q) None (agreement_in ks q t) →
       (s b f : Bool) → same_address k.station a ≡ s → same_address a q ≡ b → is_for q t k ≡ f →

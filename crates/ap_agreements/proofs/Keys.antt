@@ -1,5 +1,5 @@
 -- The order of stations and TIDs.
-use Rattle.std.proofs.Common.{◌≡◌, ℕ, ◌<◌, List, Bool, true, false, refl, ap, subst, inl, inr, ◌⊎◌}
+use Rattle.std.proofs.Common.{◌≡◌, ℕ, ◌<◌, List, true, false, refl, ap, subst, inl, inr, ◌⊎◌}
 use Rattle.std.proofs.lemmas.Cmp.{ranked, then_total, on_total, nat_cmp_total, nat_list_cmp_total, tied_itself}
 use Rattle.std.proofs.lemmas.Map.Lookups.{exact_bytes, exact_unsigned}
 use Rattle.std.specs.Prelude.{◌&&◌, ◌==◌}
@@ -8,6 +8,7 @@ use Rattle.std.specs.declared.cmp.Ordering.{Ordering}
 use Rattle.std.specs.declared.cmp.Ordering.TheVariants.{Less, Equal, Greater}
 use Rattle.std.specs.Cmp.{IsTotalOrder}
 use Rattle.std.specs.Cmp.Lexicographic.{slice_cmp, bytes_decides}
+use Rattle.std.proofs.lemmas.Bool.{and_parts, false_from_ne_true}
 use Rattle.std.proofs.lemmas.Bool.Decides.{nat_tests}
 use Rattle.std.proofs.Common.{arith}
 use Rattle.assoc.specs.Standings.{same_address}
@@ -52,14 +53,10 @@ before_less p q e =
       | inr h ↦ inr (exact_bytes p.0 q.0 h.0, below_less p.1 q.1 (nat_cmp p.1 q.1) (ranked p.1 q.1 (nat_cmp p.1 q.1) refl) h.1)
     ]
 
-both_true : (b c : Bool) → (b && c) ≡ true → (b ≡ true) × (c ≡ true)
-both_true true c e = (refl, e)
-both_true false c e = absurd (cc)
-
 -- whether an agreement is for a station and a TID
 pub key_is : (a : List ℕ) (tid : ℕ) (k : Kept) → is_for a tid k ≡ true → key_of k ≡ (a, tid)
 key_is a tid k e =
-    let b = both_true (same_address k.station a) (k.tid == tid) e in
+    let b = and_parts (same_address k.station a) (k.tid == tid) e in
     let f = (bytes_decides k.station a).0 b.0 in
     let h = b.1 in
     let g : k.tid ≡ tid = grind (arith, nat_tests) in
@@ -77,16 +74,12 @@ is_key_of a tid k e =
     let g : k.tid ≡ tid = ap (λ p. p.1) e in
     subst (λ b. is_for b tid k ≡ true) f (subst (λ t. is_for k.station t k ≡ true) g (is_key k))
 
-no_from : (b : Bool) → (b ≡ true → ⊥) → b ≡ false
-no_from true h = absurd (h refl)
-no_from false h = refl
-
 pub not_key : (a : List ℕ) (tid : ℕ) (k : Kept) → (key_of k ≡ (a, tid) → ⊥) → is_for a tid k ≡ false
-not_key a tid k h = no_from (is_for a tid k) (λ e. h (key_is a tid k e))
+not_key a tid k h = false_from_ne_true (is_for a tid k) (λ e. h (key_is a tid k e))
 
 pub same_key : (a : List ℕ) (tid : ℕ) (q : List ℕ) (t : ℕ) → (same_address a q && (tid == t)) ≡ true → (let p : List ℕ × ℕ = (a, tid) in p) ≡ (q, t)
 same_key a tid q t e =
-    let b = both_true (same_address a q) (tid == t) e in
+    let b = and_parts (same_address a q) (tid == t) e in
     let f = (bytes_decides a q).0 b.0 in
     let h = b.1 in
     let g : tid ≡ t = grind (arith, nat_tests) in

@@ -1,6 +1,7 @@
 -- Time that passes.
 use Rattle.std.proofs.Common.{◌≡◌, ℕ, suc, ◌+◌, ◌-◌, ◌*◌, ◌^◌, ◌≤◌, min, Bool, true, false, cond, Option, Some, None, List, [], ◌∷◌, ◌++◌, map, refl, sym, ap, subst, ◌∙◌, arith, append_assoc, length, length-append}
 use Rattle.std.proofs.lemmas.List.{append-nil}
+use Rattle.std.proofs.lemmas.Bool.{and_parts}
 use Rattle.std.proofs.lemmas.Bool.Decides.{nat_tests}
 use Rattle.std.specs.Prelude.{◌↔◌, ◌&&◌, nat_le, AllPairs, Contains}
 use Rattle.assoc.specs.Standings.{Standings}
@@ -67,14 +68,10 @@ all_ended c all old yielded rest now p e =
 
 -- ---- whose timeout is over
 
-both_true : (b d : Bool) → (b && d) ≡ true → (b ≡ true) × (d ≡ true)
-both_true true d e = (refl, e)
-both_true false d e = absurd (cc)
-
 module _ (c : Rules) (r : Readings) (clock : ℕ) (u : Using) where
   timed : is_late clock u ≡ true → IsTimedOut c r clock u
   timed e =
-      let b = both_true (nat_le 1 u.timeout) (nat_le (u.last_use + u.timeout) clock) e in
+      let b = and_parts (nat_le 1 u.timeout) (nat_le (u.last_use + u.timeout) clock) e in
       let f = b.0 in
       let g = b.1 in
       record { limited = grind (arith, nat_tests); idle = grind (arith, nat_tests) }

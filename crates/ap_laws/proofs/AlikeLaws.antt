@@ -75,9 +75,6 @@ there (Some w) (Some v) u alike e =
     let same : w ≡ u = same_Some w u e in
     let P : Using → Type 0 = λ x. AlikeUses x v in
     record { using = v; is = refl; alike = subst P same alike }
-  where
-    same_Some : (x y : Using) → Some x ≡ Some y → x ≡ y
-    same_Some x y e = cc
 
 pub none_there : (o p : Option Using) → AlikeUsing o p → o ≡ None → p ≡ None
 none_there o None alike e = refl

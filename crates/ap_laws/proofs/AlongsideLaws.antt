@@ -219,9 +219,6 @@ module _ (c : Rules) (r s : Readings) (alike : Alike r s) (one_once : HoldsOnce 
       let same : t.using ≡ v = same_Some t.using v (sym t.is ∙ is2) in
       let P : Using → Type 0 = λ x. AlikeUses u x in
       subst P same t.alike
-    where
-      same_Some : (x y : Using) → Some x ≡ Some y → x ≡ y
-      same_Some x y e = cc
 
   request_alike : (a : List ℕ) (tid start : ℕ) → RequestComes c r a tid start asked outs r2 → RequestComes c s a tid start asked2 outs2 s2 → Alike r2 s2
   request_alike a tid start (unagreed none one) (unagreed none2 other) = stay one.stays other.stays

@@ -28,9 +28,9 @@ use Rattle.ap_model.specs.Associations.{Authenticates, accepts, refuses, Associa
 use Rattle.ap_model.specs.Agreements.{Packet, let_through, ups, DataComes, plain, taken, left, RequestComes, unagreed, agreed, block_ack, PassesHeld, none_held, held_up, Ends, delba, SetsUp, delayed, declined, granted, Setup, setup_answer}
 use Rattle.ap_model.specs.Steps.{Checked, Follows, ManagementComes, ControlComes, DataKindComes, DelbaComes, Kicks, kicked, not_kicked, Closes, closed, not_closed}
 use Rattle.ap_laws.specs.InOrder.{ups_of}
-use Rattle.ap_laws.proofs.HeldLaws.{none_in_none}
+use Rattle.blockack.proofs.BelowLaws.{none_in_none}
 use Rattle.ap_laws.proofs.ChangeLaws.{agreed_cases}
-use Rattle.ap_laws.proofs.Forms.{NoUp, none_up, one_send, one_note, no_up_of, no_up_in_answer, no_up_in_block_ack}
+use Rattle.ap_laws.proofs.Forms.{NoUp, none_up, one_send, one_note, no_up_of, one_sent, no_up_in_answer, no_up_in_block_ack}
 use Rattle.ap_laws.proofs.OriginLaws.{up_of, if_there}
 use Rattle.ap_laws.proofs.UpLaws.{none_of, none_of_no_up, other_station}
 
@@ -87,25 +87,22 @@ module _ (c : Rules) (r : Readings) (asked : List (Ask × ℕ)) (outs : List Out
   nothing : Nothing r asked outs r2 → Elsewhere r r2 outs a tid
   nothing n = stay (no_up_of outs [] n.settles.is none_up) n.stays
 
-  one_sent : (bytes : List ℕ) → outs ≡ out.Send bytes ∷ [] → NoUp outs
-  one_sent bytes is = no_up_of outs (out.Send bytes ∷ []) is (one_send bytes)
-
   answered : (bytes : List ℕ) → Answers (out.Send bytes) r asked outs r2 → Elsewhere r r2 outs a tid
-  answered bytes x = stay (one_sent bytes x.settles.is) x.stays
+  answered bytes x = stay (one_sent outs bytes x.settles.is) x.stays
 
   all_from : (xs : List Out) → outs ≡ xs → AllOf b xs → AllOf b outs
   all_from xs is all = subst (AllOf b) (sym is) all
 
   authentication_elsewhere : (algorithm transaction : ℕ) → Authenticates c r b algorithm transaction asked outs r2 → Elsewhere r r2 outs a tid
-  authentication_elsewhere algorithm transaction (accepts status settles moves) = move _ (one_sent _ settles.is) moves
+  authentication_elsewhere algorithm transaction (accepts status settles moves) = move _ (one_sent outs _ settles.is) moves
   authentication_elsewhere algorithm transaction (refuses status ne is answers) = answered _ answers
 
   association_elsewhere : (q : Request) → Associates c r b q asked outs r2 → Elsewhere r r2 outs a tid
   association_elsewhere q (unsuited not answers) = answered _ answers
   association_elsewhere q (elsewhere suits not answers) = answered _ answers
   association_elsewhere q (exhausted suits names none answers) = answered _ answers
-  association_elsewhere q (admitted verdict suits names x) = move _ (one_sent _ x.is) x.moves
-  association_elsewhere q (refused verdict suits names x) = stay (one_sent _ x.is) x.stays
+  association_elsewhere q (admitted verdict suits names x) = move _ (one_sent outs _ x.is) x.moves
+  association_elsewhere q (refused verdict suits names x) = stay (one_sent outs _ x.is) x.stays
 
   end_elsewhere : (t : ℕ) (last : List Out) → NoUp last → Ends r b t last asked outs r2 → Elsewhere r r2 outs a tid
   end_elsewhere t last none ending =
@@ -122,7 +119,7 @@ module _ (c : Rules) (r : Readings) (asked : List (Ask × ℕ)) (outs : List Out
 
   setup_elsewhere : (s : Setup) → SetsUp c r b s asked outs r2 → Elsewhere r r2 outs a tid
   setup_elsewhere s (delayed is answers) = answered _ answers
-  setup_elsewhere s (declined verdict is x) = stay (one_sent _ x.is) x.stays
+  setup_elsewhere s (declined verdict is x) = stay (one_sent outs _ x.is) x.stays
   setup_elsewhere s (granted verdict is x) =
       agree s.parameters.tid _
       (all_from (x.first ++ setup_answer c b s 0 x.size ∷ []) x.is
@@ -143,7 +140,7 @@ module _ (c : Rules) (r : Readings) (asked : List (Ask × ℕ)) (outs : List Out
   packet_elsewhere p (left t u at_tid at x) = agree t _ (all_from [] x.settles.is (all_of_none b [] none_up)) x.agrees
 
   pub kick_elsewhere : (reason : ℕ) → Kicks c r b reason asked outs r2 → Elsewhere r r2 outs a tid
-  kick_elsewhere reason (kicked some settles moves) = move None (one_sent _ settles.is) moves
+  kick_elsewhere reason (kicked some settles moves) = move None (one_sent outs _ settles.is) moves
   kick_elsewhere reason (not_kicked unknown answers) = stay (no_up_of outs (out.Note 63 ∷ []) answers.settles.is (one_note 63)) answers.stays
 
   pub close_elsewhere : (t : ℕ) → Closes c r b t asked outs r2 → Elsewhere r r2 outs a tid

@@ -31,7 +31,7 @@ use Rattle.ap_model.specs.Agreements.{Packet, Delivers, Takes, Leaves, DataComes
 use Rattle.ap_model.specs.Steps.{Step, FrameComes, faulty, foreign, ours, IsOurs, Checked, check_of, Follows, ManagementComes, ControlComes, DataKindComes, DelbaComes, Ticks, Kicks, kicked, not_kicked, Closes, closed, not_closed}
 use Rattle.ap_laws.specs.Origins.{IsAssociated, Carries}
 use Rattle.ap_laws.specs.Origins.Carries.{plain as plain_data, with_qos}
-use Rattle.ap_laws.proofs.HeldLaws.{none_in_none}
+use Rattle.blockack.proofs.BelowLaws.{none_in_none}
 
 -- no data is passed up
 abbrev pub NoUp : List Out → Type 0
@@ -58,6 +58,9 @@ no_up_in_delba c a tid reason = one_send _
 
 pub no_up_of : (outs effects : List Out) → outs ≡ effects → NoUp effects → NoUp outs
 no_up_of outs effects is none = subst NoUp (sym is) none
+
+pub one_sent : (outs : List Out) (bytes : List ℕ) → outs ≡ out.Send bytes ∷ [] → NoUp outs
+one_sent outs bytes is = no_up_of outs (out.Send bytes ∷ []) is (one_send bytes)
 
 -- the packet of a frame that came
 pub record IsPacket (c : Rules) (e : Event) (f : Frame) (p : Packet) : Type 0 where
@@ -103,24 +106,21 @@ module _ (c : Rules) (r : Readings) (e : Event) (asked : List (Ask × ℕ)) (out
   nothing_form n = quiet (no_up_of outs [] n.settles.is none_up) n.stays
 
   send_form : (bytes : List ℕ) → Answers (out.Send bytes) r asked outs r2 → Form c r e asked outs r2
-  send_form bytes a = quiet (no_up_of outs (out.Send bytes ∷ []) a.settles.is (one_send bytes)) a.stays
+  send_form bytes a = quiet (one_sent outs bytes a.settles.is) a.stays
 
   note_form : (n : ℕ) → Answers (out.Note n) r asked outs r2 → Form c r e asked outs r2
   note_form n a = quiet (no_up_of outs (out.Note n ∷ []) a.settles.is (one_note n)) a.stays
 
-  sent : (bytes : List ℕ) → outs ≡ out.Send bytes ∷ [] → NoUp outs
-  sent bytes is = no_up_of outs (out.Send bytes ∷ []) is (one_send bytes)
-
   authentication_form : (a : List ℕ) (algorithm transaction : ℕ) → Authenticates c r a algorithm transaction asked outs r2 → Form c r e asked outs r2
-  authentication_form a algorithm transaction (accepts status settles moved) = moves a (Some Authenticated) (sent _ settles.is) moved
+  authentication_form a algorithm transaction (accepts status settles moved) = moves a (Some Authenticated) (one_sent outs _ settles.is) moved
   authentication_form a algorithm transaction (refuses status other is answers) = send_form _ answers
 
   association_form : (a : List ℕ) (q : Request) → Associates c r a q asked outs r2 → Form c r e asked outs r2
   association_form a q (unsuited not answers) = send_form _ answers
   association_form a q (elsewhere suits not answers) = send_form _ answers
   association_form a q (exhausted suits names none answers) = send_form _ answers
-  association_form a q (admitted verdict suits names admits) = moves a (Some (Associated admits.identifier)) (sent _ admits.is) admits.moves
-  association_form a q (refused verdict suits names turned) = quiet (sent _ turned.is) turned.stays
+  association_form a q (admitted verdict suits names admits) = moves a (Some (Associated admits.identifier)) (one_sent outs _ admits.is) admits.moves
+  association_form a q (refused verdict suits names turned) = quiet (one_sent outs _ turned.is) turned.stays
 
   delba_form : (a : List ℕ) (initiator : Bool) (tid : ℕ) → DelbaComes c r a initiator tid asked outs r2 → Form c r e asked outs r2
   delba_form a true tid ended = ends a tid [] none_up ended
@@ -128,7 +128,7 @@ module _ (c : Rules) (r : Readings) (e : Event) (asked : List (Ask × ℕ)) (out
 
   setup_form : (a : List ℕ) (s : Setup) → IsAssociated a r → SetsUp c r a s asked outs r2 → Form c r e asked outs r2
   setup_form a s associated (delayed is answers) = send_form _ answers
-  setup_form a s associated (declined verdict is declines) = quiet (sent _ declines.is) declines.stays
+  setup_form a s associated (declined verdict is declines) = quiet (one_sent outs _ declines.is) declines.stays
   setup_form a s associated (granted verdict is granting) = grants a s verdict associated granting
 
   module _ (f : Frame) (grammar : IsFrame f) (came : e ≡ event.Frame (spelling f)) (for_us : IsOurs c f) (permitted : check_of c r f ≡ Permitted) where
@@ -190,7 +190,7 @@ module _ (c : Rules) (r : Readings) (e : Event) (asked : List (Ask × ℕ)) (out
   frame_form bytes came (ours f grammar is for_us checked) = checked_form f grammar (came ∙ ap event.Frame is) for_us (check_of c r f) refl checked
 
   kick_form : (a : List ℕ) (reason : ℕ) → Kicks c r a reason asked outs r2 → Form c r e asked outs r2
-  kick_form a reason (kicked known settles moved) = moves a None (sent _ settles.is) moved
+  kick_form a reason (kicked known settles moved) = moves a None (one_sent outs _ settles.is) moved
   kick_form a reason (not_kicked unknown answers) = note_form _ answers
 
   close_form : (a : List ℕ) (tid : ℕ) → Closes c r a tid asked outs r2 → Form c r e asked outs r2

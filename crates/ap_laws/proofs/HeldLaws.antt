@@ -1,5 +1,5 @@
 -- What a window hands up, and what it holds afterwards, was held before or came just now.
-use Rattle.std.proofs.Common.{◌≡◌, ◌≢◌, ℕ, zero, suc, ◌+◌, ◌-◌, ◌%◌, ◌<◌, ◌≤◌, ◌⊎◌, inl, inr, ⊎_elim, Bool, true, false, cond, Option, None, Some, List, [], ◌∷◌, ◌++◌, map, refl, sym, ap, ◌∙◌, subst, arith, append_assoc, add-suc, add-zero}
+use Rattle.std.proofs.Common.{◌≡◌, ◌≢◌, ℕ, zero, suc, ◌+◌, ◌-◌, ◌%◌, ◌<◌, ◌≤◌, ◌⊎◌, inl, inr, ⊎_elim, Bool, true, false, cond, Option, Some, List, [], ◌∷◌, ◌++◌, map, refl, sym, ap, ◌∙◌, subst, arith, append_assoc, add-suc, add-zero}
 use Rattle.std.specs.Prelude.{Contains}
 use Rattle.std.proofs.lemmas.Bool.{cases_eq, eq-eqb, ne_eqb}
 use Rattle.std.proofs.lemmas.List.{append-nil, append_cancel_left}
@@ -7,10 +7,8 @@ use Rattle.std.proofs.lemmas.List.Elements.{Contains-append_cases, Contains-push
 use Rattle.blockack.specs.Window.{Items, Window, with_item, TakesData, RequestStep}
 use Rattle.blockack.specs.Passed.{frame_of, frames_below, passed, PassesUp}
 use Rattle.blockack.specs.Reading.{Reading, Reads, held_at, window_of, DataMovesWindow, RequestMovesWindow, EndPassesUp}
+use Rattle.blockack.proofs.BelowLaws.{none_in_none, frame_in}
 use Rattle.blockack.proofs.SameLaws.{have_windows}
-
-pub none_in_none : {X : Type 0} → (x : X) → Contains [] x → ⊥
-none_in_none x p = let k : ℕ = p.0 in let lt : k < 0 = p.1 in absurd (omega arith)
 
 -- what is in the image of a list is the image of what is in it
 pub from_map : {X Y : Type 0} (f : X → Y) (xs : List X) (y : Y) → Contains (map f xs) y → (x : X) × Contains xs x × (f x ≡ y)
@@ -41,12 +39,6 @@ module _ {F : Type 0} where
       let ih : frames_below one w ≡ frames_below other w = below_alike one other w (λ k lt. alike k (omega arith)) in
       let last : one w ≡ other w = alike w (omega arith) in
       ap (λ xs. xs ++ frame_of w (one w)) ih ∙ ap (λ o. frames_below other w ++ frame_of w o) last
-
-  pub frame_in : (n : ℕ) (o : Option (Option F)) (p : ℕ × F) → Contains (frame_of n o) p → (p.0 ≡ n) × (o ≡ Some (Some p.1))
-  frame_in n None p c = absurd (none_in_none p c)
-  frame_in n (Some None) p c = absurd (none_in_none p c)
-  frame_in n (Some (Some frame)) p c =
-      ⊎_elim (λ none. absurd (none_in_none p none)) (λ e. (sym (ap (λ x. x.0) e), ap (λ x. Some (Some x.1)) e)) (Contains-push_cases [] (n, frame) p c)
 
   pub span_in : (taken : Items F) (w j : ℕ) (p : ℕ × F) → Contains (span taken w j) p → (w ≤ p.0) × (p.0 < w + j) × (taken p.0 ≡ Some (Some p.1))
   unfolding span

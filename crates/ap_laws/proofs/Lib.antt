@@ -12,6 +12,7 @@ pub mod AlongsideLaws
 pub mod FrameLaws
 pub mod UpLaws
 pub mod TellLaws
+pub mod RefusedLaws
 pub mod ElsewhereLaws
 pub mod OwnLaws
 pub mod TurnLaws

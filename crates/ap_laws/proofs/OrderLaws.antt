@@ -1,13 +1,10 @@
 -- A run's history is told, and what is passed up of each agreement comes in order.
-use Rattle.std.proofs.Common.{◌≡◌, ℕ, zero, suc, ◌%◌, ◌<◌, ◌⊎◌, inl, inr, ⊎_elim, Option, None, Some, List, [], ◌∷◌, ◌++◌, get_or, reverse, refl, sym, ap, ◌∙◌, subst, arith, append_assoc}
-use Rattle.std.specs.Prelude.{Contains, AllPairs}
-use Rattle.std.proofs.lemmas.Bool.{cases_lt}
+use Rattle.std.proofs.Common.{◌≡◌, ℕ, ◌%◌, ◌⊎◌, inl, inr, Option, None, Some, List, [], ◌∷◌, ◌++◌, reverse, refl, sym, ap, ◌∙◌, subst, append_assoc}
 use Rattle.std.proofs.lemmas.Grind.{reverse_onto}
 use Rattle.std.proofs.lemmas.List.{append-nil, map-append}
-use Rattle.std.proofs.lemmas.List.Elements.{Contains-append_left, Contains-append_right, Contains-append_cases, Contains-push, Contains-get_or}
-use Rattle.std.proofs.lemmas.List.Quantifiers.{all_pairs_push}
-use Rattle.blockack.specs.Window.{Items, Window}
-use Rattle.blockack.specs.Passed.{frame_of, frames_below, passed, numbered, PassesUp}
+use Rattle.blockack.specs.Window.{Window}
+use Rattle.blockack.specs.Passed.{passed, numbered, PassesUp}
+use Rattle.blockack.proofs.BelowLaws.{in_below, below_in, rises, nothing_below}
 use Rattle.ap_model.specs.declared.event.Event.{Event}
 use Rattle.ap_model.specs.declared.event.Event.TheVariants as event
 use Rattle.ap_model.specs.declared.event.Out.{Out}
@@ -21,7 +18,6 @@ use Rattle.ap_laws.specs.Exchanges.{none_yet}
 use Rattle.ap_laws.specs.Agreed.{Agreement, Opens, Ends, Drops, Agreed, never_yet, opened, used, ended, dropped, alone, clock_after, advanced}
 use Rattle.ap_laws.specs.InOrder.{ups_of, ups_since, AreBelow, PassedInOrder, GoesOnInOrder, EndsInOrder, DropsSilently, TellsOne}
 use Rattle.ap_laws.specs.Histories.{ReadsAgreed, StandsBy, IsReadingOf, RunsAreRead}
-use Rattle.ap_laws.proofs.HeldLaws.{none_in_none, frame_in}
 use Rattle.ap_laws.proofs.Forms.{Form, quiet, moves, delivers, takes, leaves, reports, ends, grants, ticks, step_form}
 use Rattle.ap_laws.proofs.OriginLaws.{opening_agrees, step_holds}
 use Rattle.ap_laws.proofs.UpLaws.{ups-append}
@@ -30,42 +26,6 @@ use Rattle.ap_laws.proofs.StepTells.{event_tells}
 use Rattle.ap_laws.proofs.OnceLaws.{opens_no_use, opens_no_drop, use_no_end, use_no_drop, end_no_drop, tells_once}
 use Rattle.ap_laws.proofs.StandLaws.{event_stands, stands_on}
 use Rattle.std.proofs.lemmas.Option.{none-some, same_Some}
-
--- ---- the frames below a window's start
-
-module _ {F : Type 0} where
-  in_below : (taken : Items F) (w : ℕ) (p : ℕ × F) → Contains (frames_below taken w) p → (p.0 < w) × (taken p.0 ≡ Some (Some p.1))
-  in_below taken zero p c = absurd (none_in_none p c)
-  in_below taken (suc w) p c =
-      ⊎_elim
-      (λ before. let ih = in_below taken w p before in let lt = ih.0 in (omega arith, ih.1))
-      (λ last. let f = frame_in w (taken w) p last in let e = f.0 in (omega arith, ap taken f.0 ∙ f.1))
-      (Contains-append_cases (frames_below taken w) (frame_of w (taken w)) p c)
-
-  below_in : (taken : Items F) (w n : ℕ) (frame : F) → n < w → taken n ≡ Some (Some frame) → Contains (frames_below taken w) (n, frame)
-  below_in taken zero n frame lt e = absurd (omega arith)
-  below_in taken (suc w) n frame lt e =
-      ⊎_elim
-      (λ before. Contains-append_left (frames_below taken w) (frame_of w (taken w)) (n, frame) (below_in taken w n frame before e))
-      (λ from.
-      let here : n ≡ w = omega arith in
-      let is : frame_of w (taken w) ≡ (n, frame) ∷ [] = ap (λ x. frame_of x (taken x)) (sym here) ∙ ap (frame_of n) e in
-      let P : List (ℕ × F) → Type 0 = λ xs. Contains xs (n, frame) in
-      Contains-append_right (frames_below taken w) (frame_of w (taken w)) (n, frame) (subst P (sym is) (Contains-push [] (n, frame))))
-      (cases_lt n w)
-
-  rises_with : (xs : List (ℕ × F)) (w : ℕ) (o : Option (Option F)) → AllPairs (λ p q. p.0 < q.0) xs → ((p : ℕ × F) → Contains xs p → p.0 < w) → AllPairs (λ p q. p.0 < q.0) (xs ++ frame_of w o)
-  rises_with xs w None rising below = let P : List (ℕ × F) → Type 0 = λ ys. AllPairs (λ p q. p.0 < q.0) ys in subst P (sym (append-nil xs)) rising
-  rises_with xs w (Some None) rising below = let P : List (ℕ × F) → Type 0 = λ ys. AllPairs (λ p q. p.0 < q.0) ys in subst P (sym (append-nil xs)) rising
-  rises_with xs w (Some (Some frame)) rising below = all_pairs_push (λ p q. p.0 < q.0) xs (w, frame) rising (λ k d lt. below (get_or xs k d) (Contains-get_or xs k d lt))
-
-  rises : (taken : Items F) (w : ℕ) → AllPairs (λ p q. p.0 < q.0) (frames_below taken w)
-  rises taken zero = λ i j d lt within. absurd (omega arith)
-  rises taken (suc w) = rises_with (frames_below taken w) w (taken w) (rises taken w) (λ p c. (in_below taken w p c).0)
-
-  nothing_below : (w : ℕ) → frames_below {F = F} (λ _. None) w ≡ []
-  nothing_below zero = refl
-  nothing_below (suc w) = ap (λ xs. xs ++ []) (nothing_below w)
 
 are_below : (window : Window Held) → AreBelow window (passed window)
 are_below window =

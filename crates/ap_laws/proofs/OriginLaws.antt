@@ -21,7 +21,8 @@ use Rattle.ap_model.specs.Steps.{EndInTurn, nobody_ends, one_end}
 use Rattle.ap_laws.specs.Runs.{Entry, Handles, Run, rests, goes_on, opening}
 use Rattle.ap_laws.specs.Origins.{IsAssociated, IsArrival, RunWhile, ComesAssociated, WaitsAssociated, HoldsAgreements, OpeningHoldsAgreements, RunHoldsAgreements, FromAnyReadings, FromTheOpening}
 use Rattle.ap_laws.specs.Origins.RunWhile.{rests as while_rests, goes_on as while_goes_on}
-use Rattle.ap_laws.proofs.HeldLaws.{none_in_none, HoldsAt, holds_read, CameOrHeld, taken_out, taken_held, taken_start, left_held, request_out, request_held, request_start, end_out}
+use Rattle.blockack.proofs.BelowLaws.{none_in_none}
+use Rattle.ap_laws.proofs.HeldLaws.{HoldsAt, holds_read, CameOrHeld, taken_out, taken_held, taken_start, left_held, request_out, request_held, request_start, end_out}
 use Rattle.ap_laws.proofs.ChangeLaws.{moved_agreement, moved_standing, agreed_cases, ticked_agreement}
 use Rattle.ap_laws.proofs.Forms.{Form, quiet, moves, delivers, takes, leaves, reports, ends, grants, ticks, IsPacket, one_send, step_form}
 use Rattle.std.proofs.lemmas.Option.{none-some, same_Some}

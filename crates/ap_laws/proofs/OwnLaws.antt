@@ -34,23 +34,24 @@ use Rattle.ap_model.specs.declared.event.Out.TheVariants as out
 use Rattle.ap_model.specs.declared.event.Up.{Up}
 use Rattle.ap_model.specs.Readings.{Readings, Rules, Using, Held}
 use Rattle.ap_model.specs.Changes.{Stays, Moves, Agrees, Nothing, Answers}
-use Rattle.ap_model.specs.Associations.{AuthenticationStatus, other_algorithm, other_transaction, no_room, accepted, Authenticates, accepts, refuses, authentication_answer, Associates, unsuited, elsewhere, exhausted, admitted, refused, Request, association_answer, aid_field}
+use Rattle.ap_model.specs.Associations.{AuthenticationStatus, other_algorithm, other_transaction, no_room, accepted, Authenticates, accepts, refuses, Associates, unsuited, elsewhere, exhausted, admitted, refused, Request, association_answer}
 use Rattle.ap_model.specs.Agreements.{Packet, item, let_through, ups, data_ask, DataComes, plain, taken, left, Takes, Leaves, RequestComes, unagreed, agreed, Reports, block_ack, PassesHeld, none_held, held_up, Ends, SetsUp, delayed, declined, granted, Setup, setup_ask, setup_answer, Declines, Grants}
 use Rattle.ap_model.specs.Steps.{Checked, check_of, Follows, ManagementComes, ControlComes, DataKindComes, DelbaComes}
 use Rattle.ap_laws.specs.Runs.{Entry}
 use Rattle.ap_laws.specs.Origins.{HoldsAgreements}
-use Rattle.ap_laws.specs.Exchanges.{Exchange, Authenticated, Associated, Disassociated, Deauthenticated, ComesFrom, IsRequest, first, again, IsExchange, authentication, association, disassociation, deauthentication, kick}
+use Rattle.ap_laws.specs.Exchanges.{Exchange, Authenticated, Associated, Disassociated, Deauthenticated, ComesFrom, IsRequest, first, again, IsExchange, authentication, association, disassociation, deauthentication}
 use Rattle.ap_laws.specs.Agreed as history
 use Rattle.ap_laws.specs.Agreed.{Agreement, Opens, IsItsData, IsUsed, Uses, takes, leaves, requests, deleted, closed, late, LeavesAlone}
 use Rattle.ap_laws.specs.InOrder.{ups_of}
 use Rattle.ap_laws.specs.Histories.{ReadsAgreed}
-use Rattle.ap_laws.proofs.HeldLaws.{none_in_none}
+use Rattle.blockack.proofs.BelowLaws.{none_in_none}
 use Rattle.ap_laws.proofs.ChangeLaws.{agreed_cases}
-use Rattle.ap_laws.proofs.Forms.{NoUp, none_up, one_send, no_up_of, no_up_in_answer, no_up_in_block_ack}
+use Rattle.ap_laws.proofs.Forms.{NoUp, none_up, no_up_of, one_sent, no_up_in_answer, no_up_in_block_ack}
 use Rattle.ap_laws.proofs.OriginLaws.{up_of, if_there}
-use Rattle.ap_laws.proofs.FrameLaws.{same_content, authentication_status_is, association_answer_is, small_status}
+use Rattle.ap_laws.proofs.FrameLaws.{same_content, small_status}
 use Rattle.ap_laws.proofs.UpLaws.{ups_of-append, none_of, none_of_no_up, other_tid, no_tid, own_ups}
-use Rattle.ap_laws.proofs.TellLaws.{SetsUpFor, UsesFor, DeletesFor, exchange_of, number_of, opens_for, exchange_number, There, told, not_told, read_of, Telling, it_opens, it_is_used, it_ends, it_is_alone, unchanged, gone, none_alone, ends_up, alone_but, alone_with, alone_by}
+use Rattle.ap_laws.proofs.RefusedLaws.{refused_authentication, refused_association}
+use Rattle.ap_laws.proofs.TellLaws.{SetsUpFor, UsesFor, DeletesFor, exchange_of, opens_for, There, told, not_told, read_of, Telling, it_opens, it_is_used, it_ends, it_is_alone, unchanged, gone, none_alone, ends_up, alone_but, alone_with, alone_by}
 use Rattle.std.proofs.lemmas.Option.{none-some}
 use Rattle.ap_laws.proofs.Same.{one_verdict, not_deauthenticated, not_disassociated}
 
@@ -137,14 +138,14 @@ module _ (c : Rules) (e : Entry) (clock : ℕ) (r r2 : Readings) (a : List ℕ) 
           let Q : Option Using → Type 0 = λ o. ReadsAgreed None o in
           it_is_alone (none_alone c e clock r2 a tid r g reads there not_opened) (subst P (sym there) (subst Q (sym (agreed_here r r2 a tid None x.agrees)) tt)) (λ old some. absurd (none-some old (sym there ∙ some)))
 
+up_tid : (one other : Up) → out.Up one ≡ out.Up other → other.tid ≡ one.tid
+up_tid one other e = cc
+
 -- ---- a frame of the station
 
 module _ (c : Rules) (e : Entry) (clock : ℕ) (r r2 : Readings) (now : r2.clock ≡ clock) (holds : HoldsAgreements r) (f : Frame) (comes : ComesFrom c e f.sender f) (tid : ℕ) (g : Option Agreement) (reads : ReadsAgreed g (r.agreement f.sender tid)) where
   unaffected : LeavesAlone c e f.sender tid clock g → Stays r r2 → NoUp e.outs → Telling c e clock r2 f.sender tid g
   unaffected leaves_alone stays none = unchanged c e clock r2 f.sender tid r g reads leaves_alone (stays.agreement f.sender tid) (λ old there. none_of_no_up f.sender tid e.outs none)
-
-  one_sent : (bytes : List ℕ) → e.outs ≡ out.Send bytes ∷ [] → NoUp e.outs
-  one_sent bytes is = no_up_of e.outs (out.Send bytes ∷ []) is (one_send bytes)
 
   -- another TID's agreement changed
   other_one : (t : ℕ) (u : Option Using) → t ≢ tid → LeavesAlone c e f.sender tid clock g → Agrees r f.sender t u r2 → AllFor t e.outs → Telling c e clock r2 f.sender tid g
@@ -164,45 +165,23 @@ module _ (c : Rules) (e : Entry) (clock : ℕ) (r r2 : Readings) (now : r2.clock
   moved_own body is no_setup s x exchange moves none =
       gone c e clock r2 f.sender tid r g reads x exchange (never_opens body is no_setup) (discarded_here r r2 f.sender s tid moves) (none_of_no_up f.sender tid e.outs none)
 
-  refused_authentication : (algorithm status : ℕ) → exchange_of f.content ≡ 1 → status ≢ 0 → status < 65536 → e.outs ≡ authentication_answer c f.sender algorithm status ∷ [] → (x : Exchange) → IsExchange c e f.sender x → ⊥
-  refused_authentication algorithm status kind ne small is x exchange = by_exchange x exchange (sym (exchange_number c e f.sender f comes f.sender x exchange) ∙ kind)
-    where
-      by_exchange : (x : Exchange) → IsExchange c e f.sender x → number_of x ≡ 1 → ⊥
-      by_exchange x (authentication h bssid sequence algorithm2 transaction status2 from at outs) k =
-          let s = authentication_status_is c f.sender algorithm algorithm2 status 0 (sym is ∙ outs) in omega arith
-      by_exchange x (association h repeated n from at own outs) k = omega arith
-      by_exchange x (disassociation h bssid sequence reason from at) k = omega arith
-      by_exchange x (deauthentication h bssid sequence reason from at) k = omega arith
-      by_exchange x (kick reason at) k = omega arith
-
-  refused_association : (repeated : Bool) (status aid : ℕ) → exchange_of f.content ≡ 2 → status ≢ 0 → status < 65536 → e.outs ≡ association_answer c f.sender repeated status aid ∷ [] → (x : Exchange) → IsExchange c e f.sender x → ⊥
-  refused_association repeated status aid kind ne small is x exchange = by_exchange x exchange (sym (exchange_number c e f.sender f comes f.sender x exchange) ∙ kind)
-    where
-      by_exchange : (x : Exchange) → IsExchange c e f.sender x → number_of x ≡ 2 → ⊥
-      by_exchange x (authentication h bssid sequence algorithm2 transaction status2 from at outs) k = omega arith
-      by_exchange x (association h repeated2 n from at own outs) k =
-          let s = (association_answer_is c f.sender repeated repeated2 status 0 aid (aid_field n) (sym is ∙ outs)).answered in omega arith
-      by_exchange x (disassociation h bssid sequence reason from at) k = omega arith
-      by_exchange x (deauthentication h bssid sequence reason from at) k = omega arith
-      by_exchange x (kick reason at) k = omega arith
-
   authentication_own : (bssid : List ℕ) (sequence algorithm transaction status : ℕ) → f.content ≡ content.Management bssid sequence (management.Authentication algorithm transaction status) →
       Authenticates c r f.sender algorithm transaction e.asked e.outs r2 → Telling c e clock r2 f.sender tid g
   authentication_own bssid sequence algorithm transaction status is (accepts fine settles moves) =
       moved_own (content.Management bssid sequence (management.Authentication algorithm transaction status)) is (λ x. x) _ Authenticated
-      (authentication f bssid sequence algorithm transaction status comes is settles.is) moves (one_sent _ settles.is)
+      (authentication f bssid sequence algorithm transaction status comes is settles.is) moves (one_sent e.outs _ settles.is)
   authentication_own bssid sequence algorithm transaction status is (refuses n ne bad answers) =
       unaffected
       (alone_but c e f.sender f comes f.sender tid clock g (content.Management bssid sequence (management.Authentication algorithm transaction status)) is (λ x. x) (λ x. x) (λ x. x)
-      (refused_authentication algorithm n (ap exchange_of is) ne (refusal_is_small r f.sender algorithm transaction bad) answers.settles.is))
-      answers.stays (one_sent _ answers.settles.is)
+      (refused_authentication c e f comes algorithm n (ap exchange_of is) ne (refusal_is_small r f.sender algorithm transaction bad) answers.settles.is))
+      answers.stays (one_sent e.outs _ answers.settles.is)
 
   module _ (body : Content) (is : f.content ≡ body) (no_setup : SetsUpFor tid body → ⊥) (no_use : UsesFor tid body → ⊥) (no_end : DeletesFor tid body → ⊥) (q : Request) (request : IsRequest q.again body) (kind : exchange_of body ≡ 2) where
     turned_away : (status : ℕ) → status ≢ 0 → status < 65536 → e.outs ≡ association_answer c f.sender q.again status 0 ∷ [] → Stays r r2 → Telling c e clock r2 f.sender tid g
     turned_away status ne small outs stays =
         unaffected
-        (alone_but c e f.sender f comes f.sender tid clock g body is no_setup no_use no_end (refused_association q.again status 0 (ap exchange_of is ∙ kind) ne small outs))
-        stays (one_sent _ outs)
+        (alone_but c e f.sender f comes f.sender tid clock g body is no_setup no_use no_end (refused_association c e f comes q.again status 0 (ap exchange_of is ∙ kind) ne small outs))
+        stays (one_sent e.outs _ outs)
 
     association_own : Associates c r f.sender q e.asked e.outs r2 → Telling c e clock r2 f.sender tid g
     association_own (unsuited not x) = turned_away 10 (λ z. omega arith) (omega arith) x.settles.is x.stays
@@ -210,7 +189,7 @@ module _ (c : Rules) (e : Entry) (clock : ℕ) (r r2 : Readings) (now : r2.clock
     association_own (exhausted suits names none x) = turned_away 17 (λ z. omega arith) (omega arith) x.settles.is x.stays
     association_own (admitted verdict suits names x) =
         moved_own body is no_setup _ (Associated x.identifier)
-        (association f q.again x.identifier comes (subst (IsRequest q.again) (sym is) request) x.free.own x.is) x.moves (one_sent _ x.is)
+        (association f q.again x.identifier comes (subst (IsRequest q.again) (sym is) request) x.free.own x.is) x.moves (one_sent e.outs _ x.is)
     association_own (refused verdict suits names x) = turned_away (association_status verdict) x.refuses (small_status verdict) x.is x.stays
 
   -- ---- DELBA
@@ -292,8 +271,8 @@ module _ (c : Rules) (e : Entry) (clock : ℕ) (r r2 : Readings) (now : r2.clock
 
     setup_own : SetsUp c r f.sender setup e.asked e.outs r2 → Telling c e clock r2 f.sender tid g
     setup_own (delayed policy x) =
-        unaffected (not_granted (λ new o. no_asks (o.ask, o.verdict) (sym x.settles.silent ∙ o.asked))) x.stays (one_sent _ x.settles.is)
-    setup_own (declined verdict policy x) = unaffected (not_granted (declines_it verdict x)) x.stays (one_sent _ x.is)
+        unaffected (not_granted (λ new o. no_asks (o.ask, o.verdict) (sym x.settles.silent ∙ o.asked))) x.stays (one_sent e.outs _ x.settles.is)
+    setup_own (declined verdict policy x) = unaffected (not_granted (declines_it verdict x)) x.stays (one_sent e.outs _ x.is)
     setup_own (granted verdict policy x) =
         ⊎_elim
         (λ same. grants_here verdict same x)
@@ -355,9 +334,6 @@ module _ (c : Rules) (e : Entry) (clock : ℕ) (r r2 : Readings) (now : r2.clock
   passed_plain p t told_tid v is none =
       none_of f.sender tid e.outs (λ d inside. let P : List Out → Type 0 = λ xs. Contains xs (out.Up d) in no_tid f.sender tid d (by_verdict v d (subst P is inside)))
     where
-      up_tid : (one other : Up) → out.Up one ≡ out.Up other → other.tid ≡ one.tid
-      up_tid one other e = cc
-
       by_verdict : (v : DataVerdict) (d : Up) → Contains (let_through f.sender p v) (out.Up d) → d.tid ≡ None
       by_verdict (Pass mark) d inside =
           ⊎_elim (λ no_one. absurd (none_in_none (out.Up d) no_one)) (λ e. up_tid _ d e ∙ told_tid ∙ none) (Contains-push_cases [] _ (out.Up d) inside)
@@ -441,9 +417,6 @@ module _ (c : Rules) (e : Entry) (clock : ℕ) (r r2 : Readings) (now : r2.clock
         (λ old there. silent_for f.sender tid qos.tid e.outs ne (λ d inside. let P : List Out → Type 0 = λ xs. Contains xs (out.Up d) in by_verdict (data_verdict x.verdict) d (subst P x.is inside))))
         (cases_eq qos.tid tid)
       where
-        up_tid : (one other : Up) → out.Up one ≡ out.Up other → other.tid ≡ one.tid
-        up_tid one other e = cc
-
         by_verdict : (v : DataVerdict) (d : Up) → Contains (let_through f.sender packet v) (out.Up d) → d.tid ≡ Some qos.tid
         by_verdict (Pass mark) d inside =
             ⊎_elim (λ no_one. absurd (none_in_none (out.Up d) no_one)) (λ e. up_tid _ d e) (Contains-push_cases [] _ (out.Up d) inside)
@@ -516,7 +489,7 @@ module _ (c : Rules) (e : Entry) (clock : ℕ) (r r2 : Readings) (now : r2.clock
           let at = read_of g (r.agreement f.sender tid) old reads there in
           absurd (not (associated_may (r.standing f.sender) _ (holds.associated f.sender tid at.using at.is)))
       by_case None there =
-          unaffected (none_alone c e clock r2 f.sender tid r g reads there (λ new o. no_asks (o.ask, o.verdict) (sym x.settles.silent ∙ o.asked))) x.stays (one_sent bytes x.settles.is)
+          unaffected (none_alone c e clock r2 f.sender tid r g reads there (λ new o. no_asks (o.ask, o.verdict) (sym x.settles.silent ∙ o.asked))) x.stays (one_sent e.outs bytes x.settles.is)
 
   pub checked_own : (answer : ClassAnswer) → check_of c r f ≡ answer → Checked c r f answer e.asked e.outs r2 → Telling c e clock r2 f.sender tid g
   checked_own Permitted is x = content_own f.content refl x

@@ -26,14 +26,15 @@ use Rattle.ap_model.specs.declared.event.Out.{Out}
 use Rattle.ap_model.specs.Asks.{Ask}
 use Rattle.ap_model.specs.Readings.{Readings, Rules}
 use Rattle.ap_model.specs.Changes.{Stays, Moves}
-use Rattle.ap_model.specs.Associations.{Authenticates, accepts, refuses, Associates, unsuited, elsewhere, exhausted, admitted, refused, Request, authentication_answer, association_answer, aid_field}
+use Rattle.ap_model.specs.Associations.{Authenticates, accepts, refuses, Associates, unsuited, elsewhere, exhausted, admitted, refused, Request, association_answer, aid_field}
 use Rattle.ap_model.specs.Agreements.{Packet, DataComes, plain, taken, left, RequestComes, unagreed, agreed, SetsUp, delayed, declined, granted, Setup}
 use Rattle.ap_model.specs.Steps.{Step, FrameComes, faulty, foreign, ours, IsOurs, Checked, check_of, Follows, ManagementComes, ControlComes, DataKindComes, DelbaComes, Kicks, kicked, not_kicked, Closes, closed, not_closed}
 use Rattle.ap_laws.specs.Runs.{Entry}
 use Rattle.ap_laws.specs.Exchanges.{Exchange, Authenticated, Associated, Disassociated, Deauthenticated, standing_after, ComesFrom, IsRequest, first, again, IsExchange, authentication, association, disassociation, deauthentication, kick, one_more, other}
 use Rattle.ap_laws.specs.Histories.{StandsBy}
-use Rattle.ap_laws.proofs.FrameLaws.{same_sender, frame_no_tick, frame_no_kick, frame_no_close, tick_no_kick, kick_no_close, kicked_one, authentication_status_is, association_answer_is, deauthentication_is_no_answer, disassociation_is_no_answer, small_status}
-use Rattle.ap_laws.proofs.TellLaws.{exchange_of, number_of, exchange_number, some_number}
+use Rattle.ap_laws.proofs.FrameLaws.{same_sender, frame_no_tick, frame_no_kick, frame_no_close, tick_no_kick, kick_no_close, kicked_one, deauthentication_is_no_answer, disassociation_is_no_answer, small_status}
+use Rattle.ap_laws.proofs.TellLaws.{exchange_of, exchange_number, some_number}
+use Rattle.ap_laws.proofs.RefusedLaws.{refused_authentication, no_association, refused_association}
 use Rattle.ap_laws.proofs.OwnLaws.{refusal_is_small}
 use Rattle.std.proofs.lemmas.Option.{none-some}
 use Rattle.ap_laws.proofs.Same.{bytes_of, not_deauthenticated, not_disassociated}
@@ -160,33 +161,9 @@ module _ (c : Rules) (e : Entry) (r r2 : Readings) (f : Frame) (comes : ComesFro
   no_exchange : (body : Content) → f.content ≡ body → exchange_of body ≡ 0 → r2.standing f.sender ≡ r.standing f.sender → Led c e f.sender (r.standing f.sender) (r2.standing f.sender)
   no_exchange body is none same = as_before (λ x at. some_number x (sym (exchange_number c e f.sender f comes f.sender x at) ∙ ap exchange_of is ∙ none)) same
 
-  refused_authentication : (algorithm status : ℕ) → exchange_of f.content ≡ 1 → status ≢ 0 → status < 65536 → e.outs ≡ authentication_answer c f.sender algorithm status ∷ [] → (x : Exchange) → IsExchange c e f.sender x → ⊥
-  refused_authentication algorithm status kind bad small is x exchange = by_exchange x exchange (sym (exchange_number c e f.sender f comes f.sender x exchange) ∙ kind)
-    where
-      by_exchange : (x : Exchange) → IsExchange c e f.sender x → number_of x ≡ 1 → ⊥
-      by_exchange x (authentication h bssid sequence algorithm2 transaction status2 from at outs) k =
-          let s = authentication_status_is c f.sender algorithm algorithm2 status 0 (sym is ∙ outs) in omega arith
-      by_exchange x (association h repeated n from at own outs) k = omega arith
-      by_exchange x (disassociation h bssid sequence reason from at) k = omega arith
-      by_exchange x (deauthentication h bssid sequence reason from at) k = omega arith
-      by_exchange x (kick reason at) k = omega arith
-
-  -- only an association is answered as one
-  no_association : exchange_of f.content ≡ 2 → ((repeated : Bool) (n : ℕ) → e.outs ≡ association_answer c f.sender repeated 0 (aid_field n) ∷ [] → ⊥) → (x : Exchange) → IsExchange c e f.sender x → ⊥
-  no_association kind not x exchange = by_exchange x exchange (sym (exchange_number c e f.sender f comes f.sender x exchange) ∙ kind)
-    where
-      by_exchange : (x : Exchange) → IsExchange c e f.sender x → number_of x ≡ 2 → ⊥
-      by_exchange x (authentication h bssid sequence algorithm2 transaction status2 from at outs) k = omega arith
-      by_exchange x (association h repeated2 n from at own outs) k = not repeated2 n outs
-      by_exchange x (disassociation h bssid sequence reason from at) k = omega arith
-      by_exchange x (deauthentication h bssid sequence reason from at) k = omega arith
-      by_exchange x (kick reason at) k = omega arith
-
   turned : (repeated : Bool) (status : ℕ) → exchange_of f.content ≡ 2 → status ≢ 0 → status < 65536 → e.outs ≡ association_answer c f.sender repeated status 0 ∷ [] → Stays r r2 → Led c e f.sender (r.standing f.sender) (r2.standing f.sender)
   turned repeated status kind bad small outs stays =
-      as_before
-      (no_association kind (λ repeated2 n is. let s = (association_answer_is c f.sender repeated repeated2 status 0 0 (aid_field n) (sym outs ∙ is)).answered in omega arith))
-      (stays.standing f.sender)
+      as_before (refused_association c e f comes repeated status 0 kind bad small outs) (stays.standing f.sender)
 
   association_own : (q : Request) (body : Content) → f.content ≡ body → IsRequest q.again body → exchange_of body ≡ 2 → Associates c r f.sender q e.asked e.outs r2 → Led c e f.sender (r.standing f.sender) (r2.standing f.sender)
   association_own q body is request kind (unsuited not x) = turned q.again 10 (ap exchange_of is ∙ kind) (λ z. omega arith) (omega arith) x.settles.is x.stays
@@ -201,7 +178,7 @@ module _ (c : Rules) (e : Entry) (r r2 : Readings) (f : Frame) (comes : ComesFro
   authentication_own bssid sequence algorithm transaction status is (accepts fine settles moves) =
       exchanged Authenticated (authentication f bssid sequence algorithm transaction status comes is settles.is) (moved_here r r2 f.sender _ moves)
   authentication_own bssid sequence algorithm transaction status is (refuses n bad because answers) =
-      as_before (refused_authentication algorithm n (ap exchange_of is) bad (refusal_is_small r f.sender algorithm transaction because) answers.settles.is) (answers.stays.standing f.sender)
+      as_before (refused_authentication c e f comes algorithm n (ap exchange_of is) bad (refusal_is_small r f.sender algorithm transaction because) answers.settles.is) (answers.stays.standing f.sender)
 
   management_own : (bssid : List ℕ) (sequence : ℕ) (body : Management) → f.content ≡ content.Management bssid sequence body → ManagementComes c r f body e.asked e.outs r2 → Led c e f.sender (r.standing f.sender) (r2.standing f.sender)
   management_own bssid sequence (management.Authentication algorithm transaction status) is x = authentication_own bssid sequence algorithm transaction status is x
@@ -226,8 +203,8 @@ module _ (c : Rules) (e : Entry) (r r2 : Readings) (f : Frame) (comes : ComesFro
   module _ (not : check_of c r f ≡ Permitted → ⊥) (outs : (repeated : Bool) (n : ℕ) → e.outs ≡ association_answer c f.sender repeated 0 (aid_field n) ∷ [] → ⊥) (same : r2.standing f.sender ≡ r.standing f.sender) where
     rejected_management : (bssid : List ℕ) (sequence : ℕ) (body : Management) → f.content ≡ content.Management bssid sequence body → Led c e f.sender (r.standing f.sender) (r2.standing f.sender)
     rejected_management bssid sequence (management.Authentication algorithm transaction status) is = absurd (not (ap (λ x. class_answer (r.standing f.sender) (class_of (content_subtype x))) is ∙ class_one (r.standing f.sender)))
-    rejected_management bssid sequence (management.AssociationRequest capability interval) is = as_before (no_association (ap exchange_of is) outs) same
-    rejected_management bssid sequence (management.ReassociationRequest capability interval current) is = as_before (no_association (ap exchange_of is) outs) same
+    rejected_management bssid sequence (management.AssociationRequest capability interval) is = as_before (no_association c e f comes (ap exchange_of is) outs) same
+    rejected_management bssid sequence (management.ReassociationRequest capability interval current) is = as_before (no_association c e f comes (ap exchange_of is) outs) same
     rejected_management bssid sequence (management.Disassociation reason) is =
         let unknown : r.standing f.sender ≡ None =
         class_two (r.standing f.sender) (λ may. not (ap (λ x. class_answer (r.standing f.sender) (class_of (content_subtype x))) is ∙ may)) in

@@ -22,7 +22,7 @@ use Rattle.ap_laws.specs.InOrder.{ups_of}
 use Rattle.ap_laws.specs.Histories.{ReadsAgreement, ReadsAgreed}
 use Rattle.ap_laws.proofs.FrameLaws.{same_frame, same_sender, same_content, frame_no_tick, frame_no_kick, frame_no_close}
 use Rattle.ap_laws.proofs.UpLaws.{own_ups}
-use Rattle.std.proofs.lemmas.Option.{none-some}
+use Rattle.std.proofs.lemmas.Option.{none-some, same_Some}
 
 -- ---- what a frame's content may be to an agreement
 
@@ -137,9 +137,6 @@ told None None u reads e = absurd (none-some u e)
 told None (Some v) u reads e = absurd reads
 told (Some g) None u reads e = absurd reads
 told (Some g) (Some v) u reads e = record { agreement = g; is = refl; reads = subst (ReadsAgreement g) (same_Some v u e) reads }
-  where
-    same_Some : (x y : Using) → Some x ≡ Some y → x ≡ y
-    same_Some x y e = cc
 
 pub not_told : (g : Option Agreement) (o : Option Using) → ReadsAgreed g o → o ≡ None → g ≡ None
 not_told None o reads e = refl
@@ -155,9 +152,6 @@ pub read_of : (g : Option Agreement) (o : Option Using) (old : Agreement) → Re
 read_of None o old reads e = absurd (none-some old e)
 read_of (Some g) None old reads e = absurd reads
 read_of (Some g) (Some u) old reads e = record { using = u; is = refl; reads = (let P : Agreement → Type 0 = λ x. ReadsAgreement x u in subst P (same_Some g old e) reads) }
-  where
-    same_Some : (x y : Agreement) → Some x ≡ Some y → x ≡ y
-    same_Some x y e = cc
 
 -- ---- what a step is to the agreement
 
@@ -225,9 +219,6 @@ module _ (c : Rules) (e : Entry) (clock : ℕ) (r2 : Readings) (a : List ℕ) (t
             let Q : Using → Type 0 = λ x. ReadsAgreement old x in
             let after = ending old.window (subst Q (sym (same_Some v u is)) read).window in
             record { last = after.next; passed = frames; ends = after.step; passes = after.passes; are = alike ∙ own_ups a tid frames }
-          where
-            same_Some : (x y : Using) → Some x ≡ Some y → x ≡ y
-            same_Some x y e = cc
 
 -- a frame that is nothing to it, by its content
 module _ (c : Rules) (e : Entry) (b : List ℕ) (f : Frame) (comes : ComesFrom c e b f) (a : List ℕ) (tid clock : ℕ) (g : Option Agreement) where

@@ -14,7 +14,7 @@ use Rattle.ap_model.specs.Readings.{Readings, Rules, Using}
 use Rattle.ap_model.specs.Agreements.{PassesHeld, delba}
 use Rattle.ap_model.specs.Steps.{IsBefore, EndInTurn, nobody_ends, one_end}
 use Rattle.ap_laws.specs.InOrder.{ups_of}
-use Rattle.ap_laws.proofs.HeldLaws.{none_in_none}
+use Rattle.blockack.proofs.BelowLaws.{none_in_none}
 use Rattle.ap_laws.proofs.UpLaws.{ups_of-append, none_of, other_station, other_tid}
 use Rattle.ap_laws.proofs.ElsewhereLaws.{all_of_held}
 use Rattle.ap_laws.proofs.OwnLaws.{all_for_held}

@@ -1,6 +1,7 @@
 -- What is passed up of one station for one TID.
 use Rattle.std.proofs.Common.{◌≡◌, ◌≢◌, ℕ, ◌==◌, ◌&&◌, ⊎_elim, Bool, true, false, None, Some, List, [], ◌∷◌, ◌++◌, refl, sym, ap, ◌∙◌, subst, append_assoc}
 use Rattle.std.specs.Prelude.{Contains, if◌then◌else◌}
+use Rattle.std.proofs.Math.Bool.{and-false}
 use Rattle.std.proofs.lemmas.Bool.{eq-eqb, ne_eqb}
 use Rattle.std.proofs.lemmas.List.Elements.{Contains-append_left, Contains-append_right, Contains-push}
 use Rattle.assoc.specs.Standings.{same_address}
@@ -45,10 +46,6 @@ none_of_no_up a tid outs none = none_of a tid outs (λ d inside. absurd (none d 
 
 -- ---- tests
 
-and_false : (b : Bool) → b && false ≡ false
-and_false true = refl
-and_false false = refl
-
 pub other_station : (a : List ℕ) (tid : ℕ) (d : Up) → d.source ≢ a → is_up_of a tid (out.Up d) ≡ false
 other_station a tid d ne =
     ⊎_elim
@@ -57,11 +54,11 @@ other_station a tid d ne =
     (address_tells a d.source)
 
 pub no_tid : (a : List ℕ) (tid : ℕ) (d : Up) → d.tid ≡ None → is_up_of a tid (out.Up d) ≡ false
-no_tid a tid d none = ap (λ t. same_address a d.source && is_tid tid t) none ∙ and_false (same_address a d.source)
+no_tid a tid d none = ap (λ t. same_address a d.source && is_tid tid t) none ∙ and-false (same_address a d.source)
 
 pub other_tid : (a : List ℕ) (tid t : ℕ) (d : Up) → d.tid ≡ Some t → t ≢ tid → is_up_of a tid (out.Up d) ≡ false
 other_tid a tid t d is ne =
-    ap (λ x. same_address a d.source && is_tid tid x) is ∙ ap (λ b. same_address a d.source && b) (ne_eqb tid t (λ e. ne (sym e))) ∙ and_false (same_address a d.source)
+    ap (λ x. same_address a d.source && is_tid tid x) is ∙ ap (λ b. same_address a d.source && b) (ne_eqb tid t (λ e. ne (sym e))) ∙ and-false (same_address a d.source)
 
 pub its_own : (a : List ℕ) (tid : ℕ) (d : Up) → d.source ≡ a → d.tid ≡ Some tid → is_up_of a tid (out.Up d) ≡ true
 its_own a tid d source told =

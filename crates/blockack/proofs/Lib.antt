@@ -4,4 +4,5 @@ pub mod PassedLaws
 pub mod ReadingLaws
 pub mod ScoreboardLaws
 pub mod SameLaws
+pub mod BelowLaws
 pub mod CallLaws
