@@ -1,6 +1,6 @@
 -- What is left on a way of a conditional jump keeps every pair of words that takes it.
 use Rattle.std.proofs.Common.{ℕ, zero, suc, ◌≡◌, ◌+◌, ◌*◌, ◌/◌, ◌%◌, ◌^◌, ◌<◌, ◌≤◌, refl, sym, ap, subst, ◌∙◌, arith, Some, None, Option, ⊎_elim, true, false, not, cond, Bool, ◌&&◌, ◌==◌, bit_and, bit_or}
-use Rattle.std.specs.Prelude.{nat_eq, nat_lt, nat_le, count_ones}
+use Rattle.std.specs.Prelude.{nat_eq, nat_lt, count_ones}
 use Rattle.std.specs.Int.{bit_at, is_power_of_two}
 use Rattle.std.specs.Int.Bits.{and_zero_r}
 use Rattle.std.proofs.lemmas.Bool.{cond_both, and_parts, not-true, not-false, ltb-true, ltb-false, leb-true, leb-false, eqb-true, eqb-false}

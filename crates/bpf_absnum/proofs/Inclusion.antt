@@ -1,5 +1,5 @@
 -- Inclusion means that each member is a member.
-use Rattle.std.proofs.Common.{true, ◌&&◌}
+use Rattle.std.proofs.Common.{◌&&◌}
 use Rattle.std.proofs.lemmas.Bool.{and_parts}
 use Rattle.bpf_tnum.specs.Tnum.{tnum_included}
 use Rattle.bpf_tnum.proofs.Meet as bits

@@ -1,7 +1,6 @@
 -- What instructions make of abstract numbers contains each result of the machine.
-use Rattle.std.proofs.Common.{ℕ, ◌≡◌, ◌+◌, ◌-◌, ◌*◌, ◌/◌, ◌%◌, ◌^◌, ◌<◌, ◌≤◌, refl, sym, ap, subst, ◌∙◌, arith, ⊎_elim, true, false, cond, Bool, ◌&&◌, ◌||◌}
+use Rattle.std.proofs.Common.{ℕ, ◌≡◌, ◌+◌, ◌-◌, ◌%◌, ◌^◌, ◌<◌, ◌≤◌, refl, sym, ap, subst, ◌∙◌, arith, ⊎_elim, true, false, cond, Bool, ◌&&◌, ◌||◌}
 use Rattle.std.specs.Prelude.{nat_lt}
-use Rattle.std.specs.Int.{swap_bytes, w16, w32, w64}
 use Rattle.std.proofs.lemmas.Bool.{cond_both, cond-true, and_parts, or_cases, ltb-true, lt-ltb}
 use Rattle.std.proofs.lemmas.Nat.{pow_pos}
 use Rattle.std.proofs.Math.Nat.{mod-lt, mod-eq_of_lt}
@@ -15,7 +14,7 @@ use Rattle.bpf_insn.specs.declared.insn.Extension.TheVariants as extension
 use Rattle.bpf_insn.specs.declared.insn.OrderWidth.{OrderWidth}
 use Rattle.bpf_insn.specs.declared.insn.OrderWidth.TheVariants as width
 use Rattle.bpf_insn.specs.Widths.{extension_bits, order_bits}
-use Rattle.bpf_model.specs.Alu.{operation, computed, negation, extended, ordered}
+use Rattle.bpf_model.specs.Alu.{computed, negation, extended, ordered}
 use Rattle.bpf_words.specs.Word.{sign_extended, swapped}
 use Rattle.bpf_words.proofs.Swap.{swap_16-lt, swap_32-lt, swap_64-lt}
 use Rattle.bpf_tnum.specs.Tnum.{tnum_full, tnum_cut}
@@ -27,8 +26,7 @@ use Rattle.bpf_interval.proofs.SoundSigned as signs
 use Rattle.bpf_absnum.specs.Number.{Num, InNum, num_tighten, num_again, num_full, num_single, num_cut, is_single, or_full}
 use Rattle.bpf_absnum.specs.Transfer.{num_tight, kept, num_row, is_move, all_single, num_alu, num_negated, row_extended, row_extended_32, num_extended, row_ordered, num_ordered, num_within, num_loaded, num_loaded_signed}
 use Rattle.bpf_absnum.specs.Laws.{CutContains, AluContains, NegatedContains, ExtendedContains, OrderedContains, WithinContains, LoadedContains, LoadedSignedContains}
-use Rattle.bpf_absnum.proofs.Tighten.{Gives, tighten_gives, or_full_keeps}
-use Rattle.bpf_absnum.proofs.Rows.{tight_keeps, kept_keeps, full_keeps, full_signed, single_keeps, signed_keeps, single_is, unsigned_keeps, range_keeps, HasLow, wide_row_keeps, narrow_row_keeps}
+use Rattle.bpf_absnum.proofs.Rows.{tight_keeps, kept_keeps, full_keeps, single_keeps, signed_keeps, single_is, unsigned_keeps, range_keeps, wide_row_keeps, narrow_row_keeps}
 
 pub cut_keeps : CutContains
 unfolding num_cut

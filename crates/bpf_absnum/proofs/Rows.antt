@@ -1,11 +1,11 @@
 -- The row of each operation contains each result of the machine's operation.
-use Rattle.std.proofs.Common.{ℕ, suc, ◌≡◌, ◌+◌, ◌-◌, ◌*◌, ◌/◌, ◌%◌, ◌^◌, ◌<◌, ◌≤◌, min, refl, sym, ap, subst, ◌∙◌, arith, ⊎_elim, bit_and, bit_or, true, false, cond, Bool, Some, None, Option, ◌&&◌, ◌==◌}
+use Rattle.std.proofs.Common.{ℕ, suc, ◌≡◌, ◌-◌, ◌*◌, ◌/◌, ◌%◌, ◌^◌, ◌<◌, ◌≤◌, refl, sym, ap, subst, ◌∙◌, arith, bit_and, bit_or, true, false, cond, Bool, Some, None, Option, ◌&&◌, ◌==◌}
 use Rattle.std.specs.Prelude.{nat_lt, nat_le}
 use Rattle.std.specs.Int.Bits.{bit_xor}
-use Rattle.std.proofs.lemmas.Bool.{cond_both, cond-true, cond-false, and_parts, cases_lt, ltb-true, ltb-false, leb-true, lt-ltb, le-ltb, eqb-true}
+use Rattle.std.proofs.lemmas.Bool.{cond_both, cond-true, and_parts, ltb-true, ltb-false, leb-true, lt-ltb, eqb-true}
 use Rattle.std.proofs.lemmas.Nat.{and_mask, and_le_l, and_le_r, or_lt, xor_lt, pow_pos}
 use Rattle.std.proofs.Math.Nat.{div-le_self, mod-le, mod-lt}
-use Rattle.std.proofs.Math.Pow.{mod-mod-pow, shr_mono}
+use Rattle.std.proofs.Math.Pow.{mod-mod-pow}
 use Rattle.bpf_insn.specs.declared.insn.AluOp.{AluOp}
 use Rattle.bpf_insn.specs.declared.insn.AluOp.TheVariants.{Add, Sub, Mul, Div, Or, And, Lsh, Rsh, Mod, Xor, Mov, Arsh, Sdiv, Smod}
 use Rattle.bpf_model.specs.Alu.{operation}
@@ -14,10 +14,10 @@ use Rattle.bpf_tnum.specs.Tnum.{Bits, InTnum, tnum_full, tnum_add, tnum_sub, tnu
 use Rattle.bpf_tnum.proofs.Sound as bits
 use Rattle.bpf_tnum.proofs.Low as low
 use Rattle.bpf_interval.specs.Interval.{Bounds, InBounds, bounds, bounds_full, bounds_add, bounds_sub, bounds_and, bounds_or, bounds_mul, bounds_div, bounds_rem, bounds_shl, bounds_shr}
-use Rattle.bpf_interval.specs.Signed.{InSigned, place, signed_add, signed_sub, signed_sar, signed_div, signed_rem}
+use Rattle.bpf_interval.specs.Signed.{InSigned, signed_add, signed_sub, signed_sar, signed_div, signed_rem}
 use Rattle.bpf_interval.proofs.Sound as ends
 use Rattle.bpf_interval.proofs.SoundSigned as signs
-use Rattle.bpf_absnum.specs.Number.{Num, InNum, num_tighten, num_again, num_full, num_single, is_single, or_full}
+use Rattle.bpf_absnum.specs.Number.{Num, InNum, num_tighten, num_full, num_single, is_single, or_full}
 use Rattle.bpf_absnum.specs.Transfer.{num_tight, in_wide, kept, row_add, row_sub, row_mul, row_div, row_mod, row_and, row_or, row_xor, masked, count_of, num_by, row_lsh, row_rsh, row_arsh, divisor_of, row_sdiv, row_smod, num_row}
 use Rattle.bpf_absnum.proofs.Tighten.{IfGives, tighten_gives, tightened_high, or_full_keeps}
 

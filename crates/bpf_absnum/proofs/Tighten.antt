@@ -5,7 +5,7 @@ use Rattle.std.specs.Int.{leading_zeros, w64}
 use Rattle.std.specs.Int.Bits.{bit_xor, xor_add_and}
 use Rattle.std.proofs.lemmas.Nat.{and_le_r, and_le_l, xor_lt, xor_shr, leading_length, leading_le, pow_pos}
 use Rattle.std.proofs.lemmas.Nat.Bits.{and_high_mask, ones_shr}
-use Rattle.std.proofs.lemmas.Bool.{cond_both, leb-true, leb-false}
+use Rattle.std.proofs.lemmas.Bool.{cond_both, leb-false}
 use Rattle.std.proofs.Math.Nat.{div-eq_of_lt}
 use Rattle.std.proofs.Math.Pow.{shr_mono, pow_mono}
 use Rattle.bpf_words.specs.Word.{word_not}
@@ -15,7 +15,7 @@ use Rattle.bpf_tnum.proofs.Meet.{meet_contains}
 use Rattle.bpf_interval.specs.Interval.{Bounds, InBounds, bounds}
 use Rattle.bpf_interval.specs.Signed.{InSigned, place, narrowed}
 use Rattle.bpf_interval.proofs.SoundSigned.{signed_narrow_keeps, unsigned_narrow_keeps}
-use Rattle.bpf_absnum.specs.Number.{Num, InNum, num_of, ones_up_to, shared_bits, and_then, sign_step, tightened, tightened_between, num_tighten, num_full, or_full}
+use Rattle.bpf_absnum.specs.Number.{Num, InNum, num_of, ones_up_to, shared_bits, and_then, sign_step, tightened, tightened_between, num_tighten, or_full}
 
 -- numbers that differ only below bit k have one front
 same_front : (k l h : ℕ) → bit_xor l h < 2 ^ k → l / 2 ^ k ≡ h / 2 ^ k

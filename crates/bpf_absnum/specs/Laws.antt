@@ -1,5 +1,5 @@
 -- What the operations on abstract numbers keep.
-use Rattle.std.specs.Prelude.{ℕ, ◌≡◌, ◌%◌, ◌^◌, ◌<◌, ◌≤◌, Bool, true, Option, Some, bit_and}
+use Rattle.std.specs.Prelude.{ℕ, ◌≡◌, ◌%◌, ◌^◌, ◌<◌, ◌≤◌, Bool, true, Some, bit_and}
 use Rattle.bpf_insn.specs.declared.insn.AluOp.{AluOp}
 use Rattle.bpf_insn.specs.declared.insn.ByteOrder.{ByteOrder}
 use Rattle.bpf_insn.specs.declared.insn.Compare.{Compare}

@@ -3,11 +3,11 @@
 -- Where all operands are single, the result is the machine's. Else a row gives an interval, a signed interval and a
 -- tristate number, which are tightened; full where a row gives nothing. ALU takes the row of the low halves, without
 -- the signed interval, and cuts its result.
-use Rattle.std.specs.Prelude.{ℕ, ◌-◌, ◌%◌, ◌^◌, Bool, true, false, bit_and, ◌&&◌, ◌||◌, nat_lt, nat_le, if◌then◌else◌, Option, Some, None}
+use Rattle.std.specs.Prelude.{ℕ, ◌-◌, ◌^◌, Bool, true, false, bit_and, ◌&&◌, ◌||◌, nat_lt, nat_le, if◌then◌else◌, Option, Some, None}
 use Rattle.bpf_insn.specs.declared.insn.AluOp.{AluOp}
 use Rattle.bpf_insn.specs.declared.insn.AluOp.TheVariants.{Add, Sub, Mul, Div, Or, And, Lsh, Rsh, Mod, Xor, Mov, Arsh, Sdiv, Smod}
 use Rattle.bpf_insn.specs.declared.insn.ByteOrder.{ByteOrder}
-use Rattle.bpf_insn.specs.declared.insn.ByteOrder.TheVariants.{Little, Big, Swap}
+use Rattle.bpf_insn.specs.declared.insn.ByteOrder.TheVariants.{Little}
 use Rattle.bpf_insn.specs.declared.insn.Extension.{Extension}
 use Rattle.bpf_insn.specs.declared.insn.OrderWidth.{OrderWidth}
 use Rattle.bpf_insn.specs.declared.insn.OrderWidth.TheVariants as width

@@ -1,7 +1,6 @@
 //! Abstract numbers.
 
 pub mod branch;
-mod concrete;
 pub mod laws;
 #[cfg(test)]
 mod tests;

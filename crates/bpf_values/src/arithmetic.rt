@@ -41,7 +41,7 @@ pub fn wrong_kinds(a: Value, b: Value) -> u8
 }
 
 /// An operation on 64 bits.
-fn operate(op: AluOp, x: u64, y: u64) -> u64
+fn operate_64(op: AluOp, x: u64, y: u64) -> u64
     ensures { result ≡ operation 64 op x y }
 {
     match op {
@@ -84,11 +84,13 @@ fn operate_32(op: AluOp, x: u32, y: u32) -> u32
     }
 }
 
-fn compute(wide: bool, op: AluOp, x: u64, y: u64) -> u64
+/// An operation of ALU64 (`wide`), or one of ALU on the low 32 bits, whose upper 32 become zero (RFC
+/// 9669, section 4.1).
+pub fn compute(wide: bool, op: AluOp, x: u64, y: u64) -> u64
     ensures { result ≡ computed wide op x y }
 {
     if wide {
-        operate(op, x, y)
+        operate_64(op, x, y)
     } else {
         u64::from(operate_32(op, low_half(x), low_half(y)))
     }
@@ -245,7 +247,8 @@ pub fn negate(wide: bool, x: u64) -> u64
     }
 }
 
-fn bits_of(width: OrderWidth) -> u8
+/// How many low bits END keeps: 16, 32 or 64 (RFC 9669, section 4.2).
+pub fn bits_ordered(width: OrderWidth) -> u8
     ensures is { result ≡ order_bits width }
 {
     match width {
@@ -265,8 +268,8 @@ pub fn in_order(order: ByteOrder, width: OrderWidth, x: u64) -> u64
             OrderWidth::Word => u64::from(low_half(x)),
             OrderWidth::Double => x,
         },
-        ByteOrder::Big => bytes_swapped(bits_of(width), x),
-        ByteOrder::Swap => bytes_swapped(bits_of(width), x),
+        ByteOrder::Big => bytes_swapped(bits_ordered(width), x),
+        ByteOrder::Swap => bytes_swapped(bits_ordered(width), x),
     }
 }
 

@@ -8,7 +8,8 @@ use bpf_insn::Compare;
 use bpf_regions::{Region, Value};
 use bpf_words::{low_half, signed_order_32, signed_order_64};
 
-fn compares(compare: Compare, x: u64, y: u64) -> bool
+/// A comparison of JMP, of 64 bits (RFC 9669, section 4.3).
+pub fn compares_64(compare: Compare, x: u64, y: u64) -> bool
     ensures { result ≡ holds 64 compare x y }
 {
     match compare {
@@ -26,7 +27,8 @@ fn compares(compare: Compare, x: u64, y: u64) -> bool
     }
 }
 
-fn compares_32(compare: Compare, x: u32, y: u32) -> bool
+/// A comparison of JMP32, of 32 bits (RFC 9669, section 4.3).
+pub fn compares_32(compare: Compare, x: u32, y: u32) -> bool
     ensures { result ≡ holds 32 compare x y }
 {
     match compare {
@@ -71,7 +73,7 @@ fn test_wide(compare: Compare, length: usize, zero: bool, a: Value, b: Value) ->
 {
     match a {
         Value::Number(x) => match b {
-            Value::Number(y) => Ok(compares(compare, x, y)),
+            Value::Number(y) => Ok(compares_64(compare, x, y)),
             _ => Err(wrong_kinds(a, b)),
         },
         Value::Pointer { region, offset } => match b {

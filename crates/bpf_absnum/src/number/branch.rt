@@ -2,13 +2,14 @@
 
 ghost use Rattle.std.specs.Prelude.{ℕ, ◌≡◌};
 ghost use Rattle.bpf_absnum.specs.Number.{Num};
-ghost use Rattle.bpf_absnum.specs.Branch.{NumPair, pair_of, turned, with_range, with_signed, num_greater, num_at_most, num_signed_greater, num_signed_at_most, num_equal, num_without, num_met, num_some_set, num_none_set, by_single, num_holds, num_fails, is_signed, tells, goes, num_branch};
+ghost use Rattle.bpf_absnum.specs.Branch.{NumPair, compares, pair_of, turned, with_range, with_signed, num_greater, num_at_most, num_signed_greater, num_signed_at_most, num_equal, num_without, num_met, num_some_set, num_none_set, by_single, num_holds, num_fails, is_signed, tells, goes, num_branch};
 
 use crate::number::AbsNum;
-use crate::number::concrete::do_compare;
 use bpf_insn::Compare;
 use bpf_interval::{Interval, SignedInterval};
 use bpf_tnum::Tnum;
+use bpf_values::comparisons::{compares_32, compares_64};
+use bpf_words::low_half;
 
 /// What is left of both numbers on a way, and `None` where no pair of words takes it.
 pub type Pair = Option<(AbsNum, AbsNum)>;
@@ -19,6 +20,17 @@ fn turned_pair(pair: Pair) -> Pair
 {
     let (one, two) = pair?;
     Some((two, one))
+}
+
+/// A comparison of JMP or of JMP32.
+fn compares(wide: bool, compare: Compare, x: u64, y: u64) -> bool
+    ensures { result ≡ compares wide compare x y }
+{
+    if wide {
+        compares_64(compare, x, y)
+    } else {
+        compares_32(compare, low_half(x), low_half(y))
+    }
 }
 
 fn reads_signed(compare: Compare) -> bool
@@ -263,7 +275,7 @@ impl AbsNum {
         ensures { result ≡ num_branch wide compare taken self other }
     {
         if self.is_single() && other.is_single() {
-            let holds = do_compare(wide, compare, self.range.low(), other.range.low());
+            let holds = compares(wide, compare, self.range.low(), other.range.low());
             return if holds == taken {
                 Some((self, other))
             } else {

@@ -3,21 +3,33 @@
 //! nothing.
 
 ghost use Rattle.std.specs.Prelude.{ℕ, ◌≡◌, ◌^◌, ◌<◌, ◌≤◌, IfSome};
+ghost use Rattle.bpf_insn.specs.Widths.{extension_bits};
 ghost use Rattle.bpf_interval.specs.Interval.{Bounds};
 ghost use Rattle.bpf_absnum.specs.Number.{Num, num_single};
 ghost use Rattle.bpf_absnum.specs.Transfer.{in_wide, row_add, row_sub, row_mul, row_div, row_mod, row_and, row_or, row_xor, masked, count_of, num_by, row_lsh, row_rsh, row_arsh, divisor_of, row_sdiv, row_smod, num_row, is_move, all_single, num_alu, num_negated, row_extended, row_extended_32, num_extended, row_ordered, num_ordered, num_within, num_loaded, num_loaded_signed};
 
 use crate::number::AbsNum;
-use crate::number::concrete::{bits_ordered, bits_read, compute, extend, reorder};
 use bpf_insn::{AluOp, ByteOrder, Extension, OrderWidth};
 use bpf_interval::{Interval, SignedInterval};
 use bpf_tnum::Tnum;
+use bpf_values::arithmetic::{bits_ordered, compute, extend, in_order};
 
 /// The signed interval of a row, which ALU64 alone has.
 fn signed_in(wide: bool, signed: SignedInterval) -> SignedInterval
     ensures { result ≡ in_wide wide signed }
 {
     if wide { signed } else { SignedInterval::full() }
+}
+
+/// How many low bits MOVSX reads.
+fn bits_read(from: Extension) -> u32
+    ensures { result ≡ extension_bits from }
+{
+    match from {
+        Extension::Byte => 8,
+        Extension::Half => 16,
+        Extension::Word => 32,
+    }
 }
 
 fn moves(op: AluOp) -> bool
@@ -300,7 +312,7 @@ impl AbsNum {
     fn reordered(self, order: ByteOrder, width: OrderWidth) -> AbsNum
         ensures { result ≡ row_ordered order width self }
     {
-        let bits = bits_ordered(width);
+        let bits = u32::from(bits_ordered(width));
         let full = SignedInterval::full();
         match (order, width) {
             (ByteOrder::Little, OrderWidth::Double) => AbsNum::tight(self.range, full, self.bits),
@@ -362,7 +374,7 @@ impl AbsNum {
         ensures { result ≡ num_ordered order width self }
     {
         if self.is_single() {
-            return AbsNum::single(reorder(order, width, self.range.low()));
+            return AbsNum::single(in_order(order, width, self.range.low()));
         }
         self.reordered(order, width)
     }
