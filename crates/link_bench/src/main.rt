@@ -142,19 +142,17 @@ fn report(rt: &HostRuntime, halves: &mut Halves, stations: u16, frames: u64) -> 
     Ok(())
 }
 
-fn main(rt: HostRuntime) -> Result<()> {
-    let alloc = rt.alloc();
+/// How many frames the arguments ask for, and 1000 where they don't say.
+fn frames_asked(rt: &HostRuntime) -> Result<u64> {
     let mut frames = 1000u64;
-    for word in env::args(&rt)? {
+    for word in env::args(rt)? {
         frames = word.as_str().parse::<u64>().unwrap_or(frames);
     }
-    let (Some(even), Some(odd)) = (config(alloc)?, config(alloc)?) else {
-        return Ok(());
-    };
-    let mut halves = Halves {
-        even: Shard::new(alloc, 0, even),
-        odd: Shard::new(alloc, 1, odd),
-    };
+    Ok(frames)
+}
+
+/// Associates all stations.
+fn associate(alloc: Global, halves: &mut Halves) -> Result<()> {
     for station in 0..STATIONS {
         let joining = [
             authentication(alloc, station)?,
@@ -162,6 +160,20 @@ fn main(rt: HostRuntime) -> Result<()> {
         ];
         halves.handle(alloc, &joining, &[])?;
     }
+    Ok(())
+}
+
+fn main(rt: HostRuntime) -> Result<()> {
+    let alloc = rt.alloc();
+    let frames = frames_asked(&rt)?;
+    let (Some(even), Some(odd)) = (config(alloc)?, config(alloc)?) else {
+        return Ok(());
+    };
+    let mut halves = Halves {
+        even: Shard::new(alloc, 0, even),
+        odd: Shard::new(alloc, 1, odd),
+    };
+    associate(alloc, &mut halves)?;
     report(&rt, &mut halves, 1, frames)?;
     report(&rt, &mut halves, STATIONS, frames)?;
     Ok(())

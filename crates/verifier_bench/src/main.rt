@@ -84,11 +84,20 @@ fn measure<R: Runtime>(rt: &R, alloc: Global, name: &str, turns: u64) -> Result<
     Ok(())
 }
 
-fn main(rt: HostRuntime) -> Result<()> {
+/// What the arguments ask for.
+#[derive(Drop)]
+struct Asked {
+    name: String,
+    turns: u64,
+    times: u64,
+}
+
+/// Reads the arguments: 1000 turns and once, where they don't say.
+fn read_arguments(rt: &HostRuntime) -> Result<Asked> {
     let alloc = rt.alloc();
     let mut name = String::new(alloc);
     let mut numbers = Vec::new(alloc);
-    for word in env::args(&rt)? {
+    for word in env::args(rt)? {
         match word.as_str().parse::<u64>() {
             Ok(number) => numbers.push(number)?,
             Err(_) => name = word,
@@ -96,8 +105,14 @@ fn main(rt: HostRuntime) -> Result<()> {
     }
     let turns = numbers.first().copied().unwrap_or(1000);
     let times = numbers.get(1).copied().unwrap_or(1);
-    for _time in 0..times {
-        measure(&rt, alloc, name.as_str(), turns)?;
+    Ok(Asked { name, turns, times })
+}
+
+fn main(rt: HostRuntime) -> Result<()> {
+    let alloc = rt.alloc();
+    let asked = read_arguments(&rt)?;
+    for _time in 0..asked.times {
+        measure(&rt, alloc, asked.name.as_str(), asked.turns)?;
     }
     Ok(())
 }
