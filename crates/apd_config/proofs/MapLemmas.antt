@@ -1,7 +1,8 @@
 -- The shapes that the maps' tables say, and what a fault in one of them says of the whole.
-use Rattle.std.proofs.Common.{◌≡◌, ℕ, zero, suc, pos, negsuc, ◌+◌, ◌≤◌, ◌<◌, ◌&&◌, nat_le, Bool, true, false, List, [], ◌∷◌, ◌++◌, length, take, get_or, codes, Option, Some, None, option_and_then, refl, ap, sym, ◌∙◌, arith}
+use Rattle.std.proofs.Common.{◌≡◌, ℕ, zero, suc, pos, negsuc, ◌+◌, ◌≤◌, ◌<◌, nat_le, false, List, [], ◌∷◌, ◌++◌, length, take, get_or, codes, Option, Some, None, option_and_then, refl, ap, sym, ◌∙◌, arith}
 use Rattle.std.specs.List.{All}
 use Rattle.std.proofs.lemmas.Bool.{and_parts, leb-true, lt-leb}
+use Rattle.std.proofs.Math.Bool.{and-false}
 use Rattle.std.proofs.lemmas.List.{take_more}
 use Rattle.std.proofs.lemmas.List.Elements.{All-nil, All-cons}
 use Rattle.std.proofs.lemmas.Option.{cond_some, same_Some}
@@ -101,16 +102,12 @@ is_no_table (datetime t) e = refl
 is_no_table (array ds) e = refl
 is_no_table (table n) e = cc
 
-and_false : (b : Bool) → b && false ≡ false
-and_false true = refl
-and_false false = refl
-
 pub not_tables : (ds : Items) (k : ℕ) (d : Data) → get_item k ds ≡ Some d → is_table d ≡ false → are_tables ds ≡ false
 not_tables no_items k d e no_table = cc
 not_tables (item x ds) zero d e no_table =
     let same : x ≡ d = same_Some _ _ e in
     rw (same, no_table) refl
-not_tables (item x ds) (suc k) d e no_table = rw (not_tables ds k d e no_table) (and_false (is_table x))
+not_tables (item x ds) (suc k) d e no_table = rw (not_tables ds k d e no_table) (and-false (is_table x))
 
 -- ---- the item at an index of the array
 
@@ -176,7 +173,7 @@ Tells-items t maps (fault.Value top.Bssid) there h = let other : top.Bssid ≡ t
 Tells-items t maps (fault.Value top.Ssid) there h = let other : top.Ssid ≡ top.Map = h.0 in cc
 Tells-items t maps (fault.Value top.Rates) there h = let other : top.Rates ≡ top.Map = h.0 in cc
 Tells-items t maps (fault.Value top.Draw) there h = let other : top.Draw ≡ top.Map = h.0 in cc
-Tells-items t maps (fault.Value top.Map) there h = record { value = array maps; there = there; bad = rw h.1 (and_false (nat_le (count_items maps) 16)) }
+Tells-items t maps (fault.Value top.Map) there h = record { value = array maps; there = there; bad = rw h.1 (and-false (nat_le (count_items maps) 16)) }
 Tells-items t maps (fault.UnknownMapKey k key) there h = record { maps = maps; there = there; tells = h }
 Tells-items t maps (fault.MissingInMap k key) there h = record { maps = maps; there = there; tells = h }
 Tells-items t maps (fault.ValueInMap k key) there h = record { maps = maps; there = there; tells = h }

@@ -6,17 +6,17 @@ use Rattle.bpf_regions.specs.declared.memory.Value.{Value}
 use Rattle.bpf_regions.specs.declared.memory.Value.TheVariants as value
 use Rattle.bpf_regions.specs.declared.memory.Region.TheVariants as region
 use Rattle.bpf_model.specs.declared.Caller.{Caller}
-use Rattle.bpf_model.specs.State.{State, empty_frame, reg}
-use Rattle.bpf_model.specs.Step.{callee_regs, caller_of, caller_regs, without_arguments as unset_arguments}
+use Rattle.bpf_model.specs.State.{State, empty_frame}
+use Rattle.bpf_model.specs.Step.{caller_of, without_arguments as unset_arguments}
 use Rattle.bpf_absnum.specs.Laws.{SingleContains}
 use Rattle.bpf_absval.specs.declared.room.Room.{Room}
 use Rattle.bpf_absval.specs.declared.value.AbsVal.{AbsVal}
 use Rattle.bpf_absval.specs.declared.value.AbsVal.TheVariants as abs
 use Rattle.bpf_absval.specs.Meaning.{Labels, Holds}
 use Rattle.bpf_absstate.specs.declared.frames.CallFrame.{CallFrame}
-use Rattle.bpf_absstate.specs.Contains.{HoldsIn, CallerHolds, CallersHold, ValuesHold}
-use Rattle.bpf_absstate.specs.Laws.{CallHolds, ReturnHolds, entered, resumed}
-use Rattle.bpf_absstate.specs.View.{View, register, frame_of, stack_end, empty_stack, main_frame, called, returned, kept_registers, callee_registers, caller_registers, without_arguments}
+use Rattle.bpf_absstate.specs.Contains.{HoldsIn, CallerHolds, ValuesHold}
+use Rattle.bpf_absstate.specs.Laws.{CallHolds, ReturnHolds}
+use Rattle.bpf_absstate.specs.View.{View, frame_of, stack_end, empty_stack, main_frame, kept_registers, without_arguments}
 use Rattle.bpf_absstate.proofs.Callers.{callers_length, caller_at, callers_push, callers_take}
 use Rattle.bpf_absstate.proofs.Kept.{unset_stack}
 use Rattle.bpf_absstate.proofs.Stacks.{stacks_length, stacks_push, stacks_take}

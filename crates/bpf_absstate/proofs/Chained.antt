@@ -1,6 +1,8 @@
 -- Lists of frames to which one was added at the end.
-use Rattle.std.proofs.Common.{◌≡◌, ℕ, zero, suc, ◌+◌, ◌<◌, ◌≤◌, List, [], ◌∷◌, ◌++◌, length, map, Bool, true, false, refl, sym, ◌∙◌, ap, arith, slice_index_or, slice_set}
+use Rattle.std.proofs.Common.{◌≡◌, ℕ, zero, suc, ◌<◌, List, [], ◌∷◌, ◌++◌, length, map, false, refl, sym, ◌∙◌, ap, arith, slice_index_or, slice_set}
 use Rattle.std.specs.Prelude.{◌&&◌}
+use Rattle.std.proofs.Math.Bool.{and-true, and-false, and_assoc}
+use Rattle.std.proofs.lemmas.List.{length_push}
 use Rattle.bpf_absval.specs.declared.room.Room.{Room}
 use Rattle.bpf_absstate.specs.declared.frames.CallFrame.{CallFrame}
 use Rattle.bpf_absstate.specs.Inclusion.{frame_included, frames_included}
@@ -28,29 +30,13 @@ module _ {X : Type 0} where
   set_last (y ∷ xs) x zero v e = absurd (omega (arith, e))
   set_last (y ∷ xs) x (suc k) v e = ap (λ l. y ∷ l) (set_last xs x k v (omega (arith, e)))
 
-  pub one_more : (xs : List X) (x : X) → length (xs ++ x ∷ []) ≡ length xs + 1
-  one_more [] x = refl
-  one_more (y ∷ xs) x = let h = one_more xs x in omega (arith, h)
-
   pub map_more : {Y : Type 0} → (f : X → Y) (xs : List X) (x : X) → map f (xs ++ x ∷ []) ≡ map f xs ++ f x ∷ []
   map_more f [] x = refl
   map_more f (y ∷ xs) x = ap (λ l. f y ∷ l) (map_more f xs x)
 
   -- nothing was added to an empty list
   pub not_empty : (xs : List X) (x : X) → xs ++ x ∷ [] ≡ [] → ⊥
-  not_empty xs x e = let h = one_more xs x in let g = ap length e in omega (arith, h, g)
-
-and_true : (b : Bool) → (b && true) ≡ b
-and_true true = refl
-and_true false = refl
-
-and_false : (b : Bool) → (b && false) ≡ false
-and_false true = refl
-and_false false = refl
-
-and_turned : (a b c : Bool) → (a && (b && c)) ≡ ((a && b) && c)
-and_turned true b c = refl
-and_turned false b c = refl
+  not_empty xs x e = let h = length_push xs x in let g = ap length e in omega (arith, h, g)
 
 module _ (rooms others : List Room) where
   pub none_included : (gs : List CallFrame) (g : CallFrame) → frames_included rooms others [] (gs ++ g ∷ []) ≡ false
@@ -67,7 +53,7 @@ module _ (rooms others : List Room) where
   pub included_more : (fs gs : List CallFrame) (f g : CallFrame) →
       frames_included rooms others (fs ++ f ∷ []) (gs ++ g ∷ []) ≡ (frames_included rooms others fs gs && frame_included rooms others f g)
   unfolding frames_included
-  included_more [] [] f g = and_true _
-  included_more [] (h ∷ gs) f g = ap (λ b. frame_included rooms others f h && b) (none_included gs g) ∙ and_false _
-  included_more (h ∷ fs) [] f g = ap (λ b. frame_included rooms others h g && b) (not_in_none fs f) ∙ and_false _
-  included_more (h ∷ fs) (k ∷ gs) f g = ap (λ b. frame_included rooms others h k && b) (included_more fs gs f g) ∙ and_turned (frame_included rooms others h k) (frames_included rooms others fs gs) (frame_included rooms others f g)
+  included_more [] [] f g = and-true _
+  included_more [] (h ∷ gs) f g = ap (λ b. frame_included rooms others f h && b) (none_included gs g) ∙ and-false _
+  included_more (h ∷ fs) [] f g = ap (λ b. frame_included rooms others h g && b) (not_in_none fs f) ∙ and-false _
+  included_more (h ∷ fs) (k ∷ gs) f g = ap (λ b. frame_included rooms others h k && b) (included_more fs gs f g) ∙ sym (and_assoc (frame_included rooms others h k) (frames_included rooms others fs gs) (frame_included rooms others f g))

@@ -1,35 +1,23 @@
 -- What a state does, a state that contains it follows.
-use Rattle.std.proofs.Common.{◌≡◌, ◌≢◌, ◌<◌, ◌≤◌, ◌+◌, ◌-◌, ◌*◌, ◌/◌, ℕ, zero, suc, List, [], ◌∷◌, ◌++◌, length, map, take, drop, true, false, refl, ap, sym, ◌∙◌, subst, arith, slice_index_or, slice_set, replicate, Option, Some, None, add-zero, max, inl, inr}
-use Rattle.std.specs.Prelude.{slice_get}
+use Rattle.std.proofs.Common.{◌≡◌, ◌≢◌, ◌<◌, ℕ, zero, suc, List, [], ◌∷◌, length, drop, refl, ap, sym, ◌∙◌, subst, arith, slice_index_or, slice_set, inl, inr}
 use Rattle.std.proofs.lemmas.Bool.{cases_eq}
-use Rattle.std.proofs.lemmas.List.{length-append, length-drop, length-map, length-set, length-take, drop-append-le, drop-take, map-id, get_or-set_same, get_or-set_other, get_or-append_right, set-set}
-use Rattle.bpf_regions.specs.declared.memory.Value.{Value}
+use Rattle.std.proofs.lemmas.List.{length-set, get_or-set_same, get_or-set_other, set-set}
 use Rattle.bpf_regions.specs.declared.memory.Value.TheVariants as value
-use Rattle.bpf_regions.specs.declared.memory.Region.TheVariants as region
 use Rattle.bpf_model.specs.declared.Caller.{Caller}
 use Rattle.bpf_model.specs.declared.StackFrame.{StackFrame}
 use Rattle.bpf_model.specs.Memory.{frame_of as stack_frame, with_frame}
-use Rattle.bpf_model.specs.State.{Setting, State, empty_frame, reg}
-use Rattle.bpf_model.specs.Step.{callee_regs, caller_of, caller_regs}
-use Rattle.bpf_absnum.specs.Laws.{SingleContains}
 use Rattle.bpf_absval.specs.declared.room.Room.{Room}
 use Rattle.bpf_absval.specs.declared.slot.AbsSlot.{AbsSlot}
 use Rattle.bpf_absval.specs.declared.slot.AbsSlot.TheVariants as slot
-use Rattle.bpf_absval.specs.declared.value.AbsVal.{AbsVal}
-use Rattle.bpf_absval.specs.declared.value.AbsVal.TheVariants as abs
-use Rattle.bpf_absval.specs.Laws.{AgreeApart, ValueForgets, SlotForgets, ValueRaises, SlotRaises}
-use Rattle.bpf_absval.specs.Meaning.{IsStackFrame, Labels, Holds, SlotHolds}
-use Rattle.bpf_absval.specs.Rooms.{raised, rooms_without}
-use Rattle.bpf_absval.specs.Unlabelled.{unlabelled, slot_unlabelled}
+use Rattle.bpf_absval.specs.Meaning.{IsStackFrame, Labels, SlotHolds}
 use Rattle.bpf_absstate.specs.declared.frames.CallFrame.{CallFrame}
-use Rattle.bpf_absstate.specs.Contains.{HoldsIn, CallerHolds, CallersHold, StackHolds, StacksHold, ValuesHold}
-use Rattle.bpf_absstate.specs.Laws.{GoingHolds, ChangesHold, RefinementHolds, StackChangesHold, SameSlot, SlotChangesHold, TwoSlotsHold, CallHolds, ReturnHolds, ForgettingHolds, LeastHolds, RoomsHold, entered, resumed}
-use Rattle.bpf_absstate.specs.View.{View, register, frame_of, stack_of, stack_end, empty_stack, main_frame, with_register, with_slot, frame_unlabelled, called, returned, kept_registers, callee_registers, caller_registers, without_arguments}
-use Rattle.bpf_absstate.proofs.Callers.{callers_move, callers_length, caller_at, callers_push, callers_take, restacked, callers_restacked}
-use Rattle.bpf_absstate.proofs.Kept.{empty_is_frame, unset_stack}
+use Rattle.bpf_absstate.specs.Contains.{HoldsIn, CallersHold, StackHolds}
+use Rattle.bpf_absstate.specs.Laws.{GoingHolds, ChangesHold, RefinementHolds, StackChangesHold, SameSlot, SlotChangesHold, TwoSlotsHold}
+use Rattle.bpf_absstate.specs.View.{frame_of, stack_of, main_frame}
+use Rattle.bpf_absstate.proofs.Callers.{restacked, callers_restacked}
 use Rattle.bpf_absstate.proofs.Slots.{slot_stays}
-use Rattle.bpf_absstate.proofs.Stacks.{stacks_move, stacks_length, stack_at, stacks_set, stacks_push, stacks_take}
-use Rattle.bpf_absstate.proofs.Values.{values_move, values_length, value_at, values_set, values_unset, values_refined}
+use Rattle.bpf_absstate.proofs.Stacks.{stack_at, stacks_set}
+use Rattle.bpf_absstate.proofs.Values.{values_set, values_refined}
 
 -- ---- registers
 

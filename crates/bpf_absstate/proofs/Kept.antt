@@ -1,13 +1,12 @@
 -- Inclusion, the entry, and what a contained state is known to be.
-use Rattle.std.proofs.Common.{◌≡◌, ◌≢◌, ◌<◌, ◌≤◌, ◌+◌, ◌-◌, ◌*◌, ℕ, zero, suc, List, [], ◌∷◌, length, drop, true, false, refl, ap, sym, ◌∙◌, arith, slice_index_or, replicate, Option, Some, None, lit<, lit≤}
-use Rattle.std.specs.Prelude.{◌==◌, ◌&&◌, nat_le, All, slice_get}
+use Rattle.std.proofs.Common.{◌≡◌, ◌≢◌, ℕ, zero, suc, List, [], ◌∷◌, length, drop, true, false, refl, ap, sym, ◌∙◌, arith, slice_index_or, replicate, Option, Some, None, lit<, lit≤}
+use Rattle.std.specs.Prelude.{◌==◌, ◌&&◌, nat_le, slice_get}
 use Rattle.std.proofs.lemmas.Bool.{false≢true, and_parts, eqb-true, leb-true}
 use Rattle.std.proofs.lemmas.List.{length-replicate, length-drop}
 use Rattle.std.proofs.lemmas.List.Elements.{All-drop}
-use Rattle.bpf_regions.specs.declared.memory.Value.{Value}
 use Rattle.bpf_regions.specs.declared.memory.Value.TheVariants as value
 use Rattle.bpf_model.specs.Alu.{is_unset}
-use Rattle.bpf_model.specs.State.{Setting, State, empty_frame}
+use Rattle.bpf_model.specs.State.{State, empty_frame}
 use Rattle.bpf_absnum.specs.Laws.{SingleContains}
 use Rattle.bpf_absval.specs.declared.room.Room.{Room}
 use Rattle.bpf_absval.specs.Laws.{ValueKeeps, SlotKeeps}
@@ -21,7 +20,7 @@ use Rattle.bpf_absstate.specs.View.{View, empty_stack, main_frame}
 use Rattle.bpf_absstate.specs.WellFormed.{IsFrame, IsView}
 use Rattle.bpf_absstate.proofs.Callers.{callers_keep, callers_length}
 use Rattle.bpf_absstate.proofs.Stacks.{stacks_keep, stacks_length, stack_at}
-use Rattle.bpf_absstate.proofs.Values.{values_keep, values_length, value_at}
+use Rattle.bpf_absstate.proofs.Values.{values_keep, value_at}
 
 -- ---- inclusion
 

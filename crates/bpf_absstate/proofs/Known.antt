@@ -1,9 +1,8 @@
 -- Labels are forgotten, and rooms and the least length grow.
-use Rattle.std.proofs.Common.{◌≡◌, ◌<◌, ◌≤◌, ◌+◌, ◌-◌, ℕ, zero, suc, List, [], ◌∷◌, length, map, drop, refl, ap, sym, ◌∙◌, subst, arith, slice_index_or}
+use Rattle.std.proofs.Common.{◌≡◌, ℕ, zero, suc, List, [], ◌∷◌, map, drop, refl, sym, ◌∙◌, arith, slice_index_or}
 use Rattle.std.proofs.lemmas.List.{length-map, map-id}
 use Rattle.bpf_model.specs.declared.Caller.{Caller}
 use Rattle.bpf_model.specs.declared.StackFrame.{StackFrame}
-use Rattle.bpf_model.specs.State.{State}
 use Rattle.bpf_absval.specs.declared.room.Room.{Room}
 use Rattle.bpf_absval.specs.declared.slot.AbsSlot.{AbsSlot}
 use Rattle.bpf_absval.specs.declared.slot.AbsSlot.TheVariants as slot
@@ -13,9 +12,9 @@ use Rattle.bpf_absval.specs.Meaning.{Labels}
 use Rattle.bpf_absval.specs.Rooms.{raised, rooms_without}
 use Rattle.bpf_absval.specs.Unlabelled.{unlabelled, slot_unlabelled}
 use Rattle.bpf_absstate.specs.declared.frames.CallFrame.{CallFrame}
-use Rattle.bpf_absstate.specs.Contains.{HoldsIn, CallerHolds, CallersHold, StackHolds, StacksHold, ValuesHold}
+use Rattle.bpf_absstate.specs.Contains.{CallerHolds, StackHolds}
 use Rattle.bpf_absstate.specs.Laws.{ForgettingHolds, LeastHolds, RoomsHold}
-use Rattle.bpf_absstate.specs.View.{View, frame_unlabelled}
+use Rattle.bpf_absstate.specs.View.{frame_unlabelled}
 use Rattle.bpf_absstate.proofs.Callers.{callers_move}
 use Rattle.bpf_absstate.proofs.Stacks.{stacks_move}
 use Rattle.bpf_absstate.proofs.Values.{values_move}

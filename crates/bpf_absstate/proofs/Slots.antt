@@ -1,7 +1,6 @@
 -- A slot whose bytes, and what is spilled there, stay as they are holds what it held.
-use Rattle.std.proofs.Common.{◌≡◌, ◌≢◌, ◌<◌, ◌≤◌, ◌+◌, ◌-◌, ◌*◌, ◌/◌, ℕ, zero, suc, List, [], ◌∷◌, length, refl, ap, sym, ◌∙◌, arith, slice_index_or, Option, Some, None, add-zero, Result, Ok, Err, cond}
+use Rattle.std.proofs.Common.{◌≡◌, ◌<◌, ◌+◌, ◌*◌, ◌/◌, ℕ, zero, suc, List, [], ◌∷◌, refl, ap, ◌∙◌, arith, slice_index_or, Option, Some, None, add-zero, Err, cond}
 use Rattle.std.specs.Prelude.{slice_get}
-use Rattle.bpf_regions.specs.declared.memory.Value.{Value}
 use Rattle.bpf_regions.specs.declared.memory.Value.TheVariants as value
 use Rattle.bpf_model.specs.declared.StackFrame.{StackFrame}
 use Rattle.bpf_model.specs.Alu.{is_unset}
@@ -9,7 +8,7 @@ use Rattle.bpf_model.specs.Memory.{joined, set_byte, set_bytes, spill_at}
 use Rattle.bpf_absval.specs.declared.room.Room.{Room}
 use Rattle.bpf_absval.specs.declared.slot.AbsSlot.{AbsSlot}
 use Rattle.bpf_absval.specs.declared.slot.AbsSlot.TheVariants as slot
-use Rattle.bpf_absval.specs.Meaning.{Labels, Holds, SlotHolds, held, number_held}
+use Rattle.bpf_absval.specs.Meaning.{Labels, SlotHolds, held, number_held}
 use Rattle.bpf_absstate.specs.Laws.{SameSlot}
 
 -- a byte and what is there, with and without a default

@@ -1,10 +1,11 @@
 -- What changes of a state leave well-formed.
-use Rattle.std.proofs.Common.{◌≡◌, ℕ, zero, suc, ◌+◌, ◌-◌, ◌<◌, ◌≤◌, List, [], ◌∷◌, ◌++◌, length, map, take, refl, sym, ◌∙◌, ap, subst, arith, inl, inr, slice_index_or, slice_set, length-set, length-append, replicate, Option, Some, None}
+use Rattle.std.proofs.Common.{◌≡◌, ℕ, zero, suc, ◌-◌, ◌<◌, ◌≤◌, List, [], ◌∷◌, length, map, take, refl, sym, ◌∙◌, subst, arith, inl, inr, slice_index_or, slice_set, length-set, replicate}
 use Rattle.std.specs.List.{All}
-use Rattle.std.proofs.lemmas.List.{length-map}
+use Rattle.std.proofs.lemmas.List.{length-map, length_push}
 use Rattle.std.proofs.lemmas.List.Elements.{All-map, All-set, All-append, All-take}
 use Rattle.bpf_absval.specs.WellFormed.{IsVal, IsSlot}
 use Rattle.bpf_absval.specs.Unlabelled.{unlabelled, slot_unlabelled}
+use Rattle.bpf_stack.proofs.Unsets.{slot_whole}
 use Rattle.bpf_absval.specs.declared.value.AbsVal.{AbsVal}
 use Rattle.bpf_absval.specs.declared.value.AbsVal.TheVariants as abs
 use Rattle.bpf_absval.specs.declared.slot.AbsSlot.{AbsSlot}
@@ -13,8 +14,7 @@ use Rattle.bpf_absstate.specs.declared.frames.CallFrame.{CallFrame}
 use Rattle.bpf_absnum.specs.Laws.{IsNum}
 use Rattle.bpf_absnum.specs.Number.{num_single}
 use Rattle.std.proofs.lemmas.Bool.{cases_lt}
-use Rattle.bpf_absstate.proofs.Chained.{one_more}
-use Rattle.bpf_absstate.specs.View.{View, main_frame, empty_stack, entry_view, entry_registers, with_register, at_slot, with_frame_slot, frame_unlabelled, called, returned, without_label, callee_registers, without_arguments, caller_registers, kept_registers}
+use Rattle.bpf_absstate.specs.View.{View, main_frame, empty_stack, entry_view, entry_registers, with_register, with_frame_slot, frame_unlabelled, called, returned, without_label, callee_registers, without_arguments, caller_registers, kept_registers}
 use Rattle.bpf_absstate.specs.WellFormed.{IsFrame, IsView}
 
 -- an element within a list is the same whatever stands for the others
@@ -32,11 +32,6 @@ value_forgotten label abs.FrameEnd h = h
 value_forgotten label (abs.MapReference m) h = h
 value_forgotten label (abs.Lookup m) h = h
 
-slot_forgotten : (label : ℕ) (s : AbsSlot) → IsSlot s → IsSlot (slot_unlabelled label s)
-slot_forgotten label (slot.Stored v) h = value_forgotten label v h
-slot_forgotten label slot.Unset h = h
-slot_forgotten label (slot.Bytes mask) h = h
-
 all_mapped : {X : Type 0} → (P : X → Type 0) (f : X → X) (xs : List X) → ((x : X) → P x → P (f x)) → All P xs → All P (map f xs)
 all_mapped P f xs keeps h = All-map P f xs (λ k d less. keeps _ (h k d less))
 
@@ -48,7 +43,7 @@ frame_forgotten label f h = record {
   kept = length-map f.kept (unlabelled label) ∙ h.kept;
   values = values_forgotten label f.kept h.values;
   stack = length-map f.stack (slot_unlabelled label) ∙ h.stack;
-  slots = all_mapped IsSlot (slot_unlabelled label) f.stack (slot_forgotten label) h.slots;
+  slots = all_mapped IsSlot (slot_unlabelled label) f.stack (slot_whole label) h.slots;
 }
 
 pub frames_forgotten : (label : ℕ) (fs : List CallFrame) → All IsFrame fs → All IsFrame (map (frame_unlabelled label) fs)
@@ -168,8 +163,8 @@ pub whole_called : (a : View) (to back : ℕ) → length a.frames < 8 → IsView
 whole_called a to back few h = record {
   registers = entered_long a.registers h.values (length a.frames) ∙ h.registers;
   values = entered_values a.registers h.values (length a.frames);
-  some = let e = one_more a.frames (record { return_slot = back; kept = kept_registers a; stack = empty_stack }) in omega (arith, e);
-  few = let e = one_more a.frames (record { return_slot = back; kept = kept_registers a; stack = empty_stack }) in omega (arith, e, few);
+  some = let e = length_push a.frames (record { return_slot = back; kept = kept_registers a; stack = empty_stack }) in omega (arith, e);
+  few = let e = length_push a.frames (record { return_slot = back; kept = kept_registers a; stack = empty_stack }) in omega (arith, e, few);
   frames = All-append IsFrame a.frames _ h.frames (one_frame _ (new_frame a back h));
 }
 

@@ -7,7 +7,6 @@ use Rattle.bpf_model.specs.declared.StackFrame.{StackFrame}
 use Rattle.bpf_model.specs.declared.Caller.{Caller}
 use Rattle.bpf_model.specs.State.{Setting, State, reg}
 use Rattle.bpf_absval.specs.declared.value.AbsVal.{AbsVal}
-use Rattle.bpf_absval.specs.declared.slot.AbsSlot.{AbsSlot}
 use Rattle.bpf_absval.specs.declared.slot.AbsSlot.TheVariants as slot
 use Rattle.bpf_absval.specs.declared.room.Room.{Room}
 use Rattle.bpf_absval.specs.Meaning.{IsStackFrame, Labels, Holds, SlotHolds}

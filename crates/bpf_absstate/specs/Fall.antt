@@ -1,7 +1,6 @@
 -- The frames below the newest one are fewer.
 use Rattle.std.specs.Prelude.{◌≤◌, max, length, [], ◌∷◌}
 use Rattle.std.proofs.Common.{arith, length-append}
-use Rattle.bpf_absstate.specs.declared.frames.CallFrame.{CallFrame}
 use Rattle.bpf_absstate.specs.declared.frames.Link.{Link}
 use Rattle.bpf_absstate.specs.declared.frames.Link.TheVariants.{End, More}
 use Rattle.bpf_absstate.specs.declared.frames.Chain.TheDeep.{deep-Link}

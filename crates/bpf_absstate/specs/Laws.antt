@@ -9,12 +9,11 @@ use Rattle.bpf_model.specs.Memory.{frame_of as stack_frame, with_frame}
 use Rattle.bpf_model.specs.Step.{callee_regs, caller_of, caller_regs}
 use Rattle.bpf_absval.specs.declared.value.AbsVal.{AbsVal}
 use Rattle.bpf_absval.specs.declared.slot.AbsSlot.{AbsSlot}
-use Rattle.bpf_absval.specs.declared.slot.AbsSlot.TheVariants as slot
 use Rattle.bpf_absval.specs.Laws.{AgreeApart}
 use Rattle.bpf_absval.specs.Meaning.{IsStackFrame, Labels, Holds, SlotHolds}
 use Rattle.bpf_absstate.specs.Contains.{Contains, HoldsIn, StackHolds}
 use Rattle.bpf_absstate.specs.Inclusion.{state_included}
-use Rattle.bpf_absstate.specs.View.{View, register, frame_of, stack_of, entry_view, at_slot, with_register, with_slot, with_least, with_room, without_label, called, returned}
+use Rattle.bpf_absstate.specs.View.{View, register, frame_of, entry_view, at_slot, with_register, with_slot, with_least, with_room, without_label, called, returned}
 use Rattle.bpf_absstate.specs.WellFormed.{IsView}
 
 -- each state of an included abstract state is one of the including one

@@ -1,5 +1,5 @@
 -- What each abstract state of the code is.
-use Rattle.std.specs.Prelude.{ℕ, ◌≡◌, ◌<◌, ◌≤◌, ◌^◌, length, All}
+use Rattle.std.specs.Prelude.{ℕ, ◌≡◌, ◌≤◌, length, All}
 use Rattle.bpf_absval.specs.WellFormed.{IsVal, IsSlot}
 use Rattle.bpf_absstate.specs.declared.frames.CallFrame.{CallFrame}
 use Rattle.bpf_absstate.specs.View.{View}

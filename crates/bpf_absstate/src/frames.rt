@@ -162,7 +162,7 @@ impl Chain {
         }
     }
 
-    #[tactic(auto, using(crate::proofs::Chained::get_before, crate::proofs::Chained::get_last, crate::proofs::Chained::one_more))]
+    #[tactic(auto, using(crate::proofs::Chained::get_before, crate::proofs::Chained::get_last, std::proofs::lemmas::List::length_push))]
     /// Slot `index` of the stack of frame `k`, of so many frames.
     pub fn slot(&self, count: usize, k: usize, index: usize) -> AbsSlot
         requires whole { count ≡ length self.now }
@@ -181,7 +181,7 @@ impl Chain {
         }
     }
 
-    #[tactic(auto, using(crate::proofs::Chained::set_before, crate::proofs::Chained::set_last, crate::proofs::Chained::get_before, crate::proofs::Chained::get_last, crate::proofs::Chained::one_more))]
+    #[tactic(auto, using(crate::proofs::Chained::set_before, crate::proofs::Chained::set_last, crate::proofs::Chained::get_before, crate::proofs::Chained::get_last, std::proofs::lemmas::List::length_push))]
     /// Puts a slot into the stack of frame `k`, of so many frames. Where memory is wanting the frames stay as they are.
     pub fn set_slot(
         &mut self,

@@ -9,7 +9,8 @@ use Rattle.bpf_regions.specs.declared.memory.Region.{Region}
 use Rattle.bpf_regions.specs.declared.memory.Region.TheVariants as region
 use Rattle.bpf_model.specs.declared.StackFrame.{StackFrame}
 use Rattle.bpf_model.specs.Alu.{is_unset}
-use Rattle.bpf_model.specs.Memory.{set_byte, set_bytes, joined}
+use Rattle.bpf_model.specs.Memory.{set_byte, set_bytes}
+use Rattle.bpf_model.proofs.SetBytes.{joined_parts, set_byte_is}
 use Rattle.bpf_absnum.specs.Number.{Num, num_included}
 use Rattle.bpf_absnum.proofs.Inclusion.{included_keeps}
 use Rattle.bpf_absval.specs.declared.value.AbsRegion.{AbsRegion}
@@ -69,17 +70,6 @@ value_keeps e rooms others a b v w t h = absurd (false≢true t)
 
 -- ---- the bytes of a slot
 
--- both parts of a joined number are numbers
-both_ok : (a b : Result ℕ ℕ) (x : ℕ) → joined a b ≡ Ok x → ((l : ℕ) × (a ≡ Ok l)) × ((h : ℕ) × (b ≡ Ok h))
-both_ok (Ok l) (Ok h) x e = ((l, refl), (h, refl))
-both_ok (Ok l) (Err c) x e = absurd (cc)
-both_ok (Err c) (Ok h) x e = absurd (cc)
-both_ok (Err c) (Err d) x e = absurd (cc)
-
-is_set : (f : StackFrame) (at : ℕ) (o : Option ℕ) (l : ℕ) → set_byte f at o ≡ Ok l → (b : ℕ) × (o ≡ Some b)
-is_set f at (Some b) l e = (b, refl)
-is_set f at None l e = absurd (cc)
-
 -- what is read at a place is there
 there : (xs : List (Option ℕ)) (i b : ℕ) → slice_index_or xs i None ≡ Some b → slice_get xs i ≡ Some (Some b)
 there [] i b e = absurd (cc)
@@ -91,11 +81,11 @@ all_set : (f : StackFrame) (at n x : ℕ) → set_bytes f at n ≡ Ok x → (j :
 unfolding set_bytes
 all_set f at zero x e j l = absurd (omega (arith, l))
 all_set f at (suc n) x e zero l =
-    let one = is_set f at (slice_index_or f.bytes at None) _ (both_ok (set_byte f at (slice_index_or f.bytes at None)) (set_bytes f (at + 1) n) x e).0.1 in
+    let one = set_byte_is f at (slice_index_or f.bytes at None) _ (joined_parts (set_byte f at (slice_index_or f.bytes at None)) (set_bytes f (at + 1) n) x e).0.1 in
     (one.0, subst (λ k. slice_get f.bytes k ≡ Some (Some one.0)) (sym (add-zero at)) (there f.bytes at one.0 one.1))
 all_set f at (suc n) x e (suc j) l =
     let within : j < n = omega (arith, l) in
-    let rest = all_set f (at + 1) n _ (both_ok (set_byte f at (slice_index_or f.bytes at None)) (set_bytes f (at + 1) n) x e).1.1 j within in
+    let rest = all_set f (at + 1) n _ (joined_parts (set_byte f at (slice_index_or f.bytes at None)) (set_bytes f (at + 1) n) x e).1.1 j within in
     let same : at + 1 + j ≡ at + suc j = omega arith in
     (rest.0, subst (λ k. slice_get f.bytes k ≡ Some (Some rest.0)) same rest.1)
 

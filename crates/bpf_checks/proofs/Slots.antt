@@ -1,5 +1,5 @@
 -- A store and an atomic leave the state at its slot.
-use Rattle.std.proofs.Common.{◌≡◌, ℕ, refl, sym, ◌∙◌, ap, Bool, true, false, Option, Some, None, List, Result, Ok, Err, slice_get, ℤ}
+use Rattle.std.proofs.Common.{◌≡◌, ℕ, refl, sym, ◌∙◌, ap, Bool, true, false, Option, Some, None, List, Result, slice_get, ℤ}
 use Rattle.std.specs.Prelude.{◌==◌, if◌then◌else◌}
 use Rattle.bpf_insn.specs.declared.insn.AtomicOp.{AtomicOp}
 use Rattle.bpf_regions.specs.declared.maps.Shape.{Shape}
@@ -12,28 +12,8 @@ use Rattle.bpf_absval.specs.declared.value.AbsVal.TheVariants.{Unset, Number, Po
 use Rattle.bpf_absstate.specs.View.{View}
 use Rattle.bpf_rules.specs.declared.fault.Fault.{Fault}
 use Rattle.bpf_rules.specs.declared.fault.Fault.TheVariants as fault
-use Rattle.bpf_rules.specs.Faults.{on}
+use Rattle.bpf_rules.proofs.Outcomes.{okay, refused, okay-same, refused-okay, unless_ok, on_ok}
 use Rattle.bpf_rules.specs.Memory.{unless, bytes_stored, stored, strays, spilled, is_spill, stored_in_stack, stored_in_map, stored_into, store, atomic, atomic_on, with_old, offset_of, aligned_fault}
-
-abbrev okay : View → Result View Fault
-okay a = Ok a
-
-abbrev refused : Fault → Result View Fault
-refused e = Err e
-
-okay-same : (a b : View) → okay a ≡ okay b → a ≡ b
-okay-same a b e = cc
-
-refused-okay : (f : Fault) (b : View) → refused f ≡ okay b → ⊥
-refused-okay f b e = cc
-
-unless_ok : (o : Option Fault) (r : Result View Fault) (b : View) → unless o r ≡ okay b → r ≡ okay b
-unless_ok None r b e = e
-unless_ok (Some f) r b e = absurd (refused-okay f b e)
-
-on_ok : (r : Result View Fault) (f : View → Result View Fault) (b : View) → on r f ≡ okay b → (a : View) × (r ≡ okay a) × (f a ≡ okay b)
-on_ok (Ok a) f b e = (a, refl, e)
-on_ok (Err x) f b e = absurd (refused-okay x b e)
 
 either_pc : (c : Bool) (x y : View) (n : ℕ) → x.pc ≡ n → y.pc ≡ n → (if c then x else y).pc ≡ n
 either_pc true x y n h g = h
@@ -46,8 +26,8 @@ atomic_on_pc : (shapes : List Shape) (a : View) (n : ℕ) (r : AbsRegion) (at : 
 atomic_on_pc shapes a n place.Context at b e = absurd (refused-okay fault.WrongOperand b e)
 atomic_on_pc shapes a n (place.Stack k) at b e =
     sym (ap (λ v. v.pc) (okay-same (bytes_stored a k at.range.low n) b
-    (unless_ok _ (okay (bytes_stored a k at.range.low n)) b (unless_ok _ (unless _ (okay (bytes_stored a k at.range.low n))) b e)))) ∙ bytes_pc a k at.range.low n
-atomic_on_pc shapes a n (place.Entry m) at b e = sym (ap (λ v. v.pc) (okay-same a b (unless_ok _ (okay a) b e)))
+    (unless_ok _ (okay (bytes_stored a k at.range.low n)) b (unless_ok _ (unless _ (okay (bytes_stored a k at.range.low n))) b e).1).1)) ∙ bytes_pc a k at.range.low n
+atomic_on_pc shapes a n (place.Entry m) at b e = sym (ap (λ v. v.pc) (okay-same a b (unless_ok _ (okay a) b e).1))
 
 with_old_pc : (b : View) (o : Option ℕ) (n : ℕ) → (with_old b o n).pc ≡ b.pc
 with_old_pc b None n = refl
@@ -75,18 +55,18 @@ spilled_pc a k at n v b e =
     let left : View = stored a k at.range.low 8 v in
     let kept : Result View Fault = (if strays k v then refused fault.StackPointerStored else okay left) in
     let aligned : unless (aligned_fault a k at 8) kept ≡ okay b = if_ok (n == 8) (unless (aligned_fault a k at 8) kept) fault.WrongOperand b e in
-    let same : left ≡ b = okay-same left b (if_not_ok (strays k v) fault.StackPointerStored (okay left) b (unless_ok (aligned_fault a k at 8) kept b aligned)) in
+    let same : left ≡ b = okay-same left b (if_not_ok (strays k v) fault.StackPointerStored (okay left) b (unless_ok (aligned_fault a k at 8) kept b aligned).1) in
     sym (ap (λ x. x.pc) same) ∙ stored_pc a k at.range.low 8 v
 
 in_stack_pc : (a : View) (k : ℕ) (at : Num) (n : ℕ) (v : AbsVal) (b : View) → stored_in_stack a k at n v ≡ okay b → b.pc ≡ a.pc
 in_stack_pc a k at n (Number x) b e =
     let left : View = stored a k at.range.low n (Number x) in
-    sym (ap (λ c. c.pc) (okay-same left b (unless_ok _ (okay left) b e))) ∙ stored_pc a k at.range.low n (Number x)
+    sym (ap (λ c. c.pc) (okay-same left b (unless_ok _ (okay left) b e).1)) ∙ stored_pc a k at.range.low n (Number x)
 in_stack_pc a k at n (Lookup m) b e = spilled_pc a k at n (Lookup m) b (if_ok (is_spill at n) (spilled a k at n (Lookup m)) fault.NotTested b e)
 in_stack_pc a k at n v b e = spilled_pc a k at n v b e
 
 in_map_pc : (a : View) (shape : Option Shape) (at : Num) (n : ℕ) (v : AbsVal) (b : View) → stored_in_map a shape at n v ≡ okay b → b.pc ≡ a.pc
-in_map_pc a shape at n (Number x) b e = sym (ap (λ c. c.pc) (okay-same a b (unless_ok _ (okay a) b e)))
+in_map_pc a shape at n (Number x) b e = sym (ap (λ c. c.pc) (okay-same a b (unless_ok _ (okay a) b e).1))
 in_map_pc a shape at n v b e = absurd (refused-okay _ b e)
 
 into_pc : (shapes : List Shape) (a : View) (r : AbsRegion) (at : Num) (n : ℕ) (v : AbsVal) (b : View) → stored_into shapes a r at n v ≡ okay b → b.pc ≡ a.pc

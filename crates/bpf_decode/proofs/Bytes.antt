@@ -3,7 +3,7 @@ use Rattle.std.proofs.Common.{◌≡◌, ℕ, zero, suc, ◌+◌, ◌*◌, ◌<�
 use Rattle.std.specs.Prelude.{slice_get, nat_lt, unwrap_or, ◌-◌}
 use Rattle.std.proofs.Math.Seq.{take-add}
 use Rattle.std.proofs.lemmas.List.{take_all, same_lists}
-use Rattle.std.proofs.lemmas.Option.{slice_get-get_or}
+use Rattle.std.proofs.lemmas.Option.{same_Some, slice_get-get_or}
 use Rattle.bpf_insn.specs.declared.insn.Insn.{Insn}
 use Rattle.bpf_insn.specs.declared.insn.Insn.TheVariants as insn
 use Rattle.bpf_insn.specs.Slot.{slot_of}
@@ -62,9 +62,6 @@ half_before bytes slots at o t some half here =
     let h = half_bytes bytes slots (at - 1) o t (subst (λ k. slice_get slots k ≡ Some None) same half) here in
     (h.0, h.1, subst (λ k. second_slot_of (second_of h.0) ≡ Some (slot bytes k)) (sym same) h.2)
 
-same_insn : (i j : Insn) (o : Option Insn) → o ≡ Some i → o ≡ Some j → i ≡ j
-same_insn i j o p q = cc
-
 unwrapped : (r : Option (List ℕ)) (s d : List ℕ) → r ≡ Some s → unwrap_or r d ≡ s
 unwrapped r s d e = ap (λ (x : Option (List ℕ)). unwrap_or x d) e
 
@@ -72,7 +69,7 @@ pub half_read : (bytes : List ℕ) (slots : List (Option Insn)) (at : ℕ) (i : 
     → slice_get slots (at - 1) ≡ Some (Some i) → r ≡ second_slot_of (second_of i) → unwrap_or r d ≡ slot bytes at
 half_read bytes slots at i r d t some half here e =
     let h = half_before bytes slots at (Some i) t some half here in
-    let same : i ≡ h.0 = same_insn i h.0 (Some i) refl h.1 in
+    let same : i ≡ h.0 = same_Some i h.0 h.1 in
     unwrapped r (slot bytes at) d (e ∙ ap (λ (j : Insn). second_slot_of (second_of j)) same ∙ h.2)
 
 pub no_half_after_half : (bytes : List ℕ) (slots : List (Option Insn)) (at : ℕ) → IsTable bytes slots (count bytes) → (at ≡ 0 → ⊥) → slice_get slots at ≡ Some None → slice_get slots (at - 1) ≡ Some None → ⊥

@@ -2,8 +2,8 @@
 use Rattle.std.proofs.Common.{◌≡◌, ℕ, ◌+◌, ◌*◌, ◌<◌, ◌⊎◌, ◌↔◌, List, length, get_or, Option, Some, None, Bool, true, false, cond, inl, inr, refl, sym, ap, subst, ◌∙◌, arith}
 use Rattle.std.specs.Prelude.{slice_get, slice_index, ℤ, pos, negsuc, ◌+ℤ◌, ◌≤ℤ◌, not, ◌&&◌, nat_eq, nat_lt, IsTrue}
 use Rattle.std.proofs.lemmas.Int.{ints}
-use Rattle.std.proofs.lemmas.Bool.{cases_lt, ltb-true, ne_eqb, eqb-true}
-use Rattle.std.proofs.lemmas.Option.{slice_get_within, slice_get-get_or}
+use Rattle.std.proofs.lemmas.Bool.{cases_lt, ltb-true, ne_eqb, eqb-true, true_from_ne_false}
+use Rattle.std.proofs.lemmas.Option.{same_Some, slice_get_within, slice_get-get_or}
 use Rattle.bpf_insn.specs.declared.insn.Insn.{Insn}
 use Rattle.bpf_insn.specs.declared.insn.Insn.TheVariants as insn
 use Rattle.bpf_insn.specs.declared.insn.Wide.TheVariants as wide
@@ -219,10 +219,6 @@ halves_out bytes slots k i t holds two =
     let half : starts bytes (k + 1) ≡ false = subst (λ n. starts bytes (k + 1) ≡ not (nat_eq n 2)) two after in
     table_half bytes slots (k + 1) t (wide_fits bytes k i entry.1 two) half
 
-last_ends : (b : Bool) → (b ≡ false → ⊥) → b ≡ true
-last_ends true f = refl
-last_ends false f = absurd (f refl)
-
 pub first_start : (bytes : List ℕ) → starts bytes 0 ≡ true
 unfolding starts
 first_start bytes = refl
@@ -248,14 +244,18 @@ spelled_whole bytes c s =
           let l = stable_jump bytes k (jump_of i) x e (λ no. fine k i holds 15 (Astray no)) in
           (l.0, l.1, table_begins bytes slots l.0 t l.2);
       halves = λ k. (halves_into bytes slots k t, λ h. halves_out bytes slots k h.0 t h.1 h.2);
-      last = λ k i holds e. last_ends (ends i) (λ f. fine k i holds 16 (PastEnd (e ∙ t.len) f));
+      last = λ k i holds e. true_from_ne_false (ends i) (λ f. fine k i holds 16 (PastEnd (e ∙ t.len) f));
       registers = λ k i holds e. fine k i holds 17 (FramePointer e);
       helpers = λ k i holds. knows_helper i (λ no. fine k i holds 18 (Helper no));
       maps = λ k i holds. knows_map c.shapes i (λ no. fine k i holds 19 (UnknownMap no));
     }
 
-begins_inside : (slots : List (Option Insn)) (k : ℕ) → Begins slots k → k < length slots
+pub begins_inside : (slots : List (Option Insn)) (k : ℕ) → Begins slots k → k < length slots
 begins_inside slots k b = slice_get_within slots k (Some b.0) b.1
+
+-- a slot starts one instruction
+pub same_insn : (slots : List (Option Insn)) (k : ℕ) (i j : Insn) → Holds slots k i → Holds slots k j → i ≡ j
+same_insn slots k i j h g = same_Some i j (same_Some (Some i) (Some j) (sym h ∙ g))
 
 -- every target of whole code is inside, and starts an instruction
 pub target_begins : (c : Code) (t : ℕ) → IsWhole c → IsTarget c.slots t → Begins c.slots t

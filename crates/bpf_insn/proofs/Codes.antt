@@ -15,7 +15,7 @@ use Rattle.bpf_insn.specs.declared.kind.Kind.TheVariants as kind
 use Rattle.bpf_insn.specs.Opcodes.{alu_code, alu_class, compare_code, jump_class, size_code, atomic_opcode, end_code, load_code, opcode_of, IsKind}
 use Rattle.bpf_insn.specs.Kinds.{kind_at}
 use Rattle.std.specs.Prelude.{◌&&◌, nat_eq, ◌↔◌, IfOk, IfErr, Result, Ok, Err}
-use Rattle.std.proofs.lemmas.Bool.{cases_lt, eqb-true}
+use Rattle.std.proofs.lemmas.Bool.{and_parts, cases_lt, eqb-true}
 use Rattle.bpf_insn.specs.declared.fault.FieldFault.{FieldFault}
 use Rattle.bpf_insn.specs.declared.fault.FieldFault.TheVariants.{UnknownOpcode}
 use Rattle.bpf_insn.specs.Faults.{HasFault, NoKind, WrongField, WrongSecond, IsLeast}
@@ -232,20 +232,12 @@ abbrev all_fit : ℕ → Bool
 all_fit zero = true
 all_fit (suc n) = fits_opcode n (kind_at n) && all_fit n
 
-and_first : (a b : Bool) → (a && b) ≡ true → a ≡ true
-and_first true b h = refl
-and_first false b h = absurd cc
-
-and_second : (a b : Bool) → (a && b) ≡ true → b ≡ true
-and_second true b h = h
-and_second false b h = absurd cc
-
 at_table : (n m : ℕ) → m < n → all_fit n ≡ true → fits_opcode m (kind_at m) ≡ true
 at_table zero m lt h = absurd (omega arith)
 at_table (suc n) m lt h =
     elim (cases_lt m n) [
-      | inl less ↦ at_table n m less (and_second (fits_opcode n (kind_at n)) (all_fit n) h)
-      | inr more ↦ let e : n ≡ m = omega arith in subst (λ k. fits_opcode k (kind_at k) ≡ true) e (and_first (fits_opcode n (kind_at n)) (all_fit n) h)
+      | inl less ↦ at_table n m less (and_parts (fits_opcode n (kind_at n)) (all_fit n) h).1
+      | inr more ↦ let e : n ≡ m = omega arith in subst (λ k. fits_opcode k (kind_at k) ≡ true) e (and_parts (fits_opcode n (kind_at n)) (all_fit n) h).0
     ]
 
 whole_table : all_fit 256 ≡ true
@@ -258,7 +250,8 @@ pub record Reads (k : Kind) (n : ℕ) : Type 0 where
 pub known_kind : (n : ℕ) (k : Kind) → n < 256 → kind_at n ≡ Some k → Reads k n
 known_kind n k lt e =
     let h : (is_kind k && nat_eq (opcode_of k) n) ≡ true = subst (λ o. fits_opcode n o ≡ true) e (at_table 256 n lt whole_table) in
-    record { kind = and_first (is_kind k) (nat_eq (opcode_of k) n) h; opcode = eqb-true _ _ (and_second (is_kind k) (nat_eq (opcode_of k) n) h) }
+    let both = and_parts (is_kind k) (nat_eq (opcode_of k) n) h in
+    record { kind = both.0; opcode = eqb-true _ _ both.1 }
 
 -- a kind that there is
 kind_is : (k : Kind) → is_kind k ≡ true → IsKind k

@@ -108,14 +108,11 @@ line_said-text (insn.LoadWide d (wide.MapValue m o)) h =
     ∙ ap (λ ws. decimal m ∷ ws) (of_word (decimal o) (word-of_u32 o h.1.1)))) in
     rw (split, register-text d h.0, imm-word m h.1.0, imm-word o h.1.1, unsigned_of m h.1.0, unsigned_of o h.1.1) refl
 
-feedless : (w : List ℕ) → IsWord w → NoFeed w
-feedless w h = NoFeed-word w h
-
 flat_one : (name a : List ℕ) → IsWord name → IsWord a → NoFeed (one_text name a)
-flat_one name a n w = NoFeed-one name a (feedless name n) (feedless a w)
+flat_one name a n w = NoFeed-one name a (NoFeed-word name n) (NoFeed-word a w)
 
 flat_two : (name a b : List ℕ) → IsWord name → IsWord a → IsWord b → NoFeed (two_text name a b)
-flat_two name a b n w v = NoFeed-two name a b (feedless name n) (feedless a w) (feedless b v)
+flat_two name a b n w v = NoFeed-two name a b (NoFeed-word name n) (NoFeed-word a w) (NoFeed-word b v)
 
 NoFeed-text : (i : Insn) → IsInsn i → NoFeed (text_of i)
 NoFeed-text (insn.Alu op w d s) h =
@@ -127,13 +124,13 @@ NoFeed-text (insn.End o width d) h = flat_one _ _ ((IsWord-order o width)) ((wor
 NoFeed-text (insn.Jump x) h = flat_one (codes "ja") _ (IsWord-test _ refl) ((IsWord-offset x (Small-16 x h)))
 NoFeed-text (insn.JumpLong x) h = flat_one (codes "ja32") _ (IsWord-test _ refl) ((IsWord-offset x (Small-32 x h)))
 NoFeed-text (insn.Branch c w d s x) h =
-    NoFeed-two (compare_name c ++ suffix w) (register_text d) (source_text s ++ (codes ", " ++ offset_text x)) (feedless _ (IsWord-compare c w)) (feedless _ (word-of_register d h.0))
-    (NoFeed-comma (source_text s) (offset_text x) (feedless _ (word-of_source s h.1)) (feedless _ (IsWord-offset x (Small-16 x h.2))))
+    NoFeed-two (compare_name c ++ suffix w) (register_text d) (source_text s ++ (codes ", " ++ offset_text x)) (NoFeed-word _ (IsWord-compare c w)) (NoFeed-word _ (word-of_register d h.0))
+    (NoFeed-comma (source_text s) (offset_text x) (NoFeed-word _ (word-of_source s h.1)) (NoFeed-word _ (IsWord-offset x (Small-16 x h.2))))
 NoFeed-text (insn.Call helper) h = flat_one (codes "call") _ (IsWord-test _ refl) ((IsWord-signed helper (Small-32 helper h)))
 NoFeed-text (insn.CallLocal x) h =
-    NoFeed-one (codes "call") (codes "local" ++ (32 ∷ offset_text x)) (feedless (codes "call") (IsWord-test _ refl))
-    (NoFeed-one (codes "local") (offset_text x) (feedless (codes "local") (IsWord-test _ refl)) (feedless _ (IsWord-offset x (Small-32 x h))))
-NoFeed-text insn.Exit h = feedless (codes "exit") (IsWord-test _ refl)
+    NoFeed-one (codes "call") (codes "local" ++ (32 ∷ offset_text x)) (NoFeed-word (codes "call") (IsWord-test _ refl))
+    (NoFeed-one (codes "local") (offset_text x) (NoFeed-word (codes "local") (IsWord-test _ refl)) (NoFeed-word _ (IsWord-offset x (Small-32 x h))))
+NoFeed-text insn.Exit h = NoFeed-word (codes "exit") (IsWord-test _ refl)
 NoFeed-text (insn.Load z signed d s x) h =
     flat_two _ _ _ ((IsWord-load z signed)) ((word-of_register d h.1)) ((word-of_memory s x h.2 h.3))
 NoFeed-text (insn.Store z d x (source.Imm n)) h =
@@ -145,12 +142,12 @@ NoFeed-text (insn.Atomic op w d s x) h =
 NoFeed-text (insn.LoadWide d (wide.Number n)) h =
     flat_two (codes "lddw") _ _ (IsWord-test _ refl) ((word-of_register d h.0)) ((IsWord-decimal n h.1))
 NoFeed-text (insn.LoadWide d (wide.Map m)) h =
-    NoFeed-two (codes "lddw") (register_text d) (codes "map " ++ decimal m) (feedless (codes "lddw") (IsWord-test _ refl)) (feedless _ (word-of_register d h.0))
-    (NoFeed-one (codes "map") (decimal m) (feedless (codes "map") (IsWord-test _ refl)) (feedless _ (word-of_u32 m h.1)))
+    NoFeed-two (codes "lddw") (register_text d) (codes "map " ++ decimal m) (NoFeed-word (codes "lddw") (IsWord-test _ refl)) (NoFeed-word _ (word-of_register d h.0))
+    (NoFeed-one (codes "map") (decimal m) (NoFeed-word (codes "map") (IsWord-test _ refl)) (NoFeed-word _ (word-of_u32 m h.1)))
 NoFeed-text (insn.LoadWide d (wide.MapValue m o)) h =
-    NoFeed-two (codes "lddw") (register_text d) (codes "value " ++ (decimal m ++ (codes " " ++ decimal o))) (feedless (codes "lddw") (IsWord-test _ refl)) (feedless _ (word-of_register d h.0))
-    (NoFeed-one (codes "value") (decimal m ++ (32 ∷ decimal o)) (feedless (codes "value") (IsWord-test _ refl))
-    (NoFeed-one (decimal m) (decimal o) (feedless _ (word-of_u32 m h.1.0)) (feedless _ (word-of_u32 o h.1.1))))
+    NoFeed-two (codes "lddw") (register_text d) (codes "value " ++ (decimal m ++ (codes " " ++ decimal o))) (NoFeed-word (codes "lddw") (IsWord-test _ refl)) (NoFeed-word _ (word-of_register d h.0))
+    (NoFeed-one (codes "value") (decimal m ++ (32 ∷ decimal o)) (NoFeed-word (codes "value") (IsWord-test _ refl))
+    (NoFeed-one (decimal m) (decimal o) (NoFeed-word _ (word-of_u32 m h.1.0)) (NoFeed-word _ (word-of_u32 o h.1.1))))
 
 -- the text of an instruction is one line
 pub text_of-one_line : (i : Insn) → IsInsn i → (k : ℕ) → k < length (text_of i) → slice_index (text_of i) k ≢ 10

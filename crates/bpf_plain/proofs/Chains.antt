@@ -24,7 +24,7 @@ use Rattle.bpf_rules.specs.declared.fault.Fault.{Fault}
 use Rattle.bpf_rules.specs.declared.fault.Fault.TheVariants as fault
 use Rattle.bpf_rules.specs.Memory.{unless, store, stored_into, stored_in_stack, stored_in_map, spilled, stored, bytes_stored, atomic, atomic_on, with_old, offset_of, strays, is_spill, aligned_fault}
 use Rattle.bpf_rules.specs.Branches.{Split, Lesson, Nothing, AtMost, Below, split, wide_ways, narrow_ways, with_operands, with_source, lookup_ways, pointer_ways, by_null, end_test, taught, learnt, with_reach, lesson, compared_value}
-use Rattle.bpf_plain.proofs.Outcomes.{okay-same, refused-okay, unless_ok, either_ok, on_ok}
+use Rattle.bpf_rules.proofs.Outcomes.{okay-same, refused-okay, unless_ok, either_ok, on_ok}
 
 abbrev pub Returns : List (Option Insn) → List CallFrame → Type 0
 Returns slots fs = All (λ f. Begins slots f.return_slot) fs

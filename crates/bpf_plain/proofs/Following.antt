@@ -23,8 +23,8 @@ use Rattle.bpf_plain.specs.Laws.{WaysFollow}
 use Rattle.bpf_plain.specs.Standing.{EachWay, IsMain, IsNextOf}
 use Rattle.bpf_plain.specs.Walks.{Follows, Falls, Jumps, IsPlainInsn}
 use Rattle.bpf_plain.proofs.Chains.{Keeps, Keeps-self, Keeps-rest, WayKeeps, split_keep}
-use Rattle.bpf_plain.proofs.Landings.{lands}
-use Rattle.bpf_plain.proofs.Outcomes.{okay-same, on_ok}
+use Rattle.bpf_rules.proofs.Landings.{lands}
+use Rattle.bpf_rules.proofs.Outcomes.{okay-same, on_ok}
 use Rattle.bpf_plain.proofs.Standing.{before_keep}
 
 abbrev done : Ways → Result Ways Fault

@@ -1,13 +1,13 @@
 -- The graph of a plain program.
 use Rattle.std.proofs.Common.{◌≡◌, ℕ, zero, suc, ◌+◌, ◌<◌, ◌≤◌, ◌⊎◌, inl, inr, ℤ, pos, negsuc, ◌≤ℤ◌, List, [], ◌∷◌, length, refl, sym, ◌∙◌, ap, subst, arith, Option, Some, None, slice_get, add-one}
-use Rattle.std.proofs.lemmas.Option.{slice_get_within}
 use Rattle.bpf_insn.specs.declared.insn.Insn.{Insn}
 use Rattle.bpf_insn.specs.declared.insn.Insn.TheVariants as insn
 use Rattle.bpf_decode.specs.Flow.{jump_of, IsJump, size_of}
 use Rattle.bpf_decode.specs.Program.{Code, Holds, Begins, IsWhole}
+use Rattle.bpf_decode.proofs.Whole.{begins_inside}
 use Rattle.bpf_plain.specs.Paths.{IsPath, Reaches}
 use Rattle.bpf_plain.specs.Walks.{Follows, Falls, Jumps, IsPlain, IsPlainInsn, IsWalk, HasWalk}
-use Rattle.bpf_plain.proofs.Landings.{pos-same}
+use Rattle.bpf_rules.proofs.Landings.{pos-same}
 
 abbrev far : ℤ → Option ℤ
 far x = Some x
@@ -27,9 +27,6 @@ follows_begins c whole k t (Falls i at go e) = subst (Begins c.slots) (sym e) (w
 follows_begins c whole k t (Jumps i x at j to) =
     let r = whole.jumps k i x at j in
     subst (Begins c.slots) (pos-same r.0 t (r.1 ∙ sym to)) r.2
-
-pub begins_within : (slots : List (Option Insn)) (k : ℕ) → Begins slots k → k < length slots
-begins_within slots k b = slice_get_within slots k (Some b.0) b.1
 
 size_pos : (i : Insn) → 1 ≤ size_of i
 size_pos (insn.LoadWide d v) = omega arith
@@ -60,7 +57,7 @@ goes c whole k i at = inr (k + size_of i, Falls i at refl refl)
 
 exits_by : (c : Code) → IsWhole c → IsPlain c.slots → (fuel k : ℕ) → length c.slots ≤ k + fuel → Begins c.slots k → (rest : List ℕ) × IsPath c.slots k rest
 unfolding IsPath
-exits_by c whole plain zero k le b = let w = begins_within c.slots k b in absurd (omega (arith, le, w))
+exits_by c whole plain zero k le b = let w = begins_inside c.slots k b in absurd (omega (arith, le, w))
 exits_by c whole plain (suc fuel) k le b =
     elim (goes c whole k b.0 b.1) [
       | inl at ↦ ([], at)

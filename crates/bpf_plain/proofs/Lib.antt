@@ -1,8 +1,6 @@
-pub mod Landings
 pub mod Rooms
 pub mod Graph
 pub mod Needed
-pub mod Outcomes
 pub mod Chains
 pub mod Standing
 pub mod Plainly

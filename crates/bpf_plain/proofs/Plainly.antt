@@ -27,23 +27,15 @@ use Rattle.bpf_rules.specs.Operands.{source_value, alu, makes_label}
 use Rattle.bpf_rules.specs.Branches.{split, number_ways, number_way, with_operands, with_source, compared_value}
 use Rattle.bpf_rules.specs.Calls.{exit_number}
 use Rattle.bpf_rules.specs.Examined.{examined, landing, put, put_number, operated, ways, moved_to, branched, exited}
+use Rattle.bpf_decode.proofs.Whole.{begins_inside, same_insn}
 use Rattle.bpf_plain.specs.Clear.{IsClear, Ends, Goes, Parts}
 use Rattle.bpf_plain.specs.Paths.{IsPath}
 use Rattle.bpf_plain.specs.Walks.{Follows, Falls, Jumps, IsPlain, IsPlainInsn, Reads, Writes, ReadsSource, WritesAt, is_conditional}
-use Rattle.bpf_plain.proofs.Graph.{follows_begins, begins_within, forward, exits_from, path_walk}
-use Rattle.bpf_plain.proofs.Landings.{lands}
+use Rattle.bpf_plain.proofs.Graph.{follows_begins, forward, exits_from, path_walk}
+use Rattle.bpf_rules.proofs.Landings.{lands}
 use Rattle.bpf_plain.proofs.Needed.{IsNumber, IsNeeded, IsReady}
 use Rattle.bpf_plain.proofs.Rooms.{room, room_one, room_two, room_some, room_start}
 use Rattle.std.proofs.lemmas.Option.{same_Some}
-
-abbrev there : Insn → Option (Option Insn)
-there i = Some (Some i)
-
-there-same : (i j : Insn) → there i ≡ there j → i ≡ j
-there-same i j e = cc
-
-same_insn : (slots : List (Option Insn)) (k : ℕ) (i j : Insn) → Holds slots k i → Holds slots k j → i ≡ j
-same_insn slots k i j h g = there-same i j (sym h ∙ g)
 
 -- the last slot of a path
 abbrev end_of : ℕ → List ℕ → ℕ
@@ -302,18 +294,18 @@ steps c whole plain a insn.Exit ready at valid allowed =
 steps c whole plain a i ready at valid allowed = absurd allowed
 
 clear_by : (c : Code) (whole : IsWhole c) (plain : IsPlain c.slots) (fuel : ℕ) (a : View) → length c.slots ≤ a.pc + fuel → IsReady c.slots a → IsClear c a (room c.slots a.pc)
-clear_by c whole plain zero a le ready = let w = begins_within c.slots a.pc ready.begins in absurd (omega (arith, le, w))
+clear_by c whole plain zero a le ready = let w = begins_inside c.slots a.pc ready.begins in absurd (omega (arith, le, w))
 clear_by c whole plain (suc fuel) a le ready =
     let b = ready.begins in
     elim (steps c whole plain a b.0 ready b.1 (whole.insns a.pc b.0 b.1) (plain.operations a.pc b.0 b.1)) [
-      | Last i at e ↦ Ends a (room c.slots a.pc) i at e (room_some c.slots a.pc (begins_within c.slots a.pc b))
+      | Last i at e ↦ Ends a (room c.slots a.pc) i at e (room_some c.slots a.pc (begins_inside c.slots a.pc b))
       | Straight i x at e g ↦
           Goes a (room c.slots a.pc) i x (room c.slots x.pc) at e (clear_by c whole plain fuel x (let h = g.ahead in omega (arith, le, h)) g.ready)
-          (room_one c.slots a.pc x.pc g.ahead (begins_within c.slots x.pc g.ready.begins))
+          (room_one c.slots a.pc x.pc g.ahead (begins_inside c.slots x.pc g.ready.begins))
       | Parted i x y at e one g h ↦
           Parts a (room c.slots a.pc) i x y (room c.slots x.pc) (room c.slots y.pc) at e
           (clear_by c whole plain fuel x (let k = g.ahead in omega (arith, le, k)) g.ready) (clear_by c whole plain fuel y (let k = h.ahead in omega (arith, le, k)) h.ready)
-          (room_two c.slots a.pc x.pc y.pc (Some i) at one g.ahead h.ahead (begins_within c.slots x.pc g.ready.begins) (begins_within c.slots y.pc h.ready.begins))
+          (room_two c.slots a.pc x.pc y.pc (Some i) at one g.ahead h.ahead (begins_inside c.slots x.pc g.ready.begins) (begins_inside c.slots y.pc h.ready.begins))
     ]
 
 pub IsClear-le : (c : Code) (a : View) (m n : ℕ) → m ≤ n → IsClear c a m → IsClear c a n

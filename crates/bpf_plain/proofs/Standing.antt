@@ -28,8 +28,8 @@ use Rattle.bpf_rules.specs.Examined.{landing, put, put_number, before_put, opera
 use Rattle.bpf_plain.specs.Laws.{WaysStand, EntryStands}
 use Rattle.bpf_plain.specs.Standing.{Stands, EachWay}
 use Rattle.bpf_plain.proofs.Chains.{Keeps, Keeps-self, Keeps-label, Keeps-rest, Keeps-either, WayKeeps, Returns, returns_at, store_keep, atomic_keep, split_keep}
-use Rattle.bpf_plain.proofs.Landings.{lands}
-use Rattle.bpf_plain.proofs.Outcomes.{okay-same, refused-okay, either_ok, on_ok}
+use Rattle.bpf_rules.proofs.Landings.{lands}
+use Rattle.bpf_rules.proofs.Outcomes.{okay-same, refused-okay, either_ok, on_ok}
 
 abbrev done : Ways → Result Ways Fault
 done w = Ok w

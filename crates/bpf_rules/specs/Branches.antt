@@ -1,5 +1,5 @@
 -- Conditional jumps on abstract states (RFC 9669 section 4.3): which ways are visited, and what each teaches.
-use Rattle.std.specs.Prelude.{ℕ, ◌+◌, ◌%◌, ◌^◌, ◌==◌, nat_lt, nat_le, Bool, true, false, not, ◌&&◌, if◌then◌else◌, Option, Some, None, Result, Ok, Err}
+use Rattle.std.specs.Prelude.{ℕ, ◌+◌, ◌%◌, ◌^◌, ◌==◌, nat_le, Bool, true, false, not, ◌&&◌, if◌then◌else◌, Option, Some, None, Result, Ok, Err}
 use Rattle.bpf_insn.specs.declared.insn.Compare.{Compare}
 use Rattle.bpf_insn.specs.declared.insn.Compare.TheVariants.{Eq, Ne, Gt, Ge, Lt, Le}
 use Rattle.bpf_insn.specs.declared.insn.Source.{Source}
@@ -10,12 +10,12 @@ use Rattle.bpf_absnum.specs.Number.{Num, num_single, is_single}
 use Rattle.bpf_absnum.specs.Branch.{num_branch}
 use Rattle.bpf_absval.specs.declared.value.AbsRegion.TheVariants as place
 use Rattle.bpf_absval.specs.declared.value.AbsVal.{AbsVal}
-use Rattle.bpf_absval.specs.declared.value.AbsVal.TheVariants.{Unset, Number, Frame, Pointer, FrameEnd, MapReference, Lookup}
+use Rattle.bpf_absval.specs.declared.value.AbsVal.TheVariants.{Number, Frame, Pointer, FrameEnd, Lookup}
 use Rattle.bpf_absval.specs.declared.value.Label.{Label}
 use Rattle.bpf_absstate.specs.View.{View, register, with_register, with_least, with_room}
 use Rattle.bpf_rules.specs.declared.fault.Fault.{Fault}
 use Rattle.bpf_rules.specs.declared.fault.Fault.TheVariants as fault
-use Rattle.bpf_rules.specs.Operands.{wrong_two, source_value}
+use Rattle.bpf_rules.specs.Operands.{wrong_two}
 
 -- the state on the way that isn't taken and on the way that is, at the jump itself; None where a way is not visited
 abbrev pub Split : Type 0

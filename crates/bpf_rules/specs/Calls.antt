@@ -1,10 +1,10 @@
 -- Calls and EXIT on abstract states (RFC 9669 sections 4.3.1, 4.3.2).
-use Rattle.std.specs.Prelude.{ℕ, ◌+◌, ◌==◌, nat_lt, Bool, true, false, ◌||◌, if◌then◌else◌, List, length, slice_set, Result, Ok, Err}
+use Rattle.std.specs.Prelude.{ℕ, ◌+◌, ◌==◌, nat_lt, if◌then◌else◌, length, slice_set, Result, Ok, Err}
 use Rattle.bpf_absnum.specs.Number.{Num, num_full, num_single}
 use Rattle.bpf_absnum.specs.Transfer.{num_within}
 use Rattle.bpf_interval.specs.Interval.{bounds}
 use Rattle.bpf_absval.specs.declared.value.AbsVal.{AbsVal}
-use Rattle.bpf_absval.specs.declared.value.AbsVal.TheVariants.{Unset, Number, MapReference, Lookup}
+use Rattle.bpf_absval.specs.declared.value.AbsVal.TheVariants.{Number, MapReference, Lookup}
 use Rattle.bpf_absstate.specs.View.{View, register, without_arguments, called}
 use Rattle.bpf_rules.specs.declared.fault.Fault.{Fault}
 use Rattle.bpf_rules.specs.declared.fault.Fault.TheVariants as fault

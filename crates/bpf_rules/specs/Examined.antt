@@ -1,11 +1,10 @@
 -- What one instruction makes of an abstract state: the ways on, or the fault that is met first.
-use Rattle.std.specs.Prelude.{◌≡◌, ℕ, ◌+◌, ◌-◌, ◌==◌, ◌⊎◌, ℤ, pos, negsuc, if◌then◌else◌, List, length, Option, Some, None, Result, Ok, Err}
+use Rattle.std.specs.Prelude.{ℕ, ◌+◌, ◌-◌, ◌==◌, ℤ, pos, negsuc, if◌then◌else◌, List, length, Option, Some, None, Result, Ok}
 use Rattle.bpf_insn.specs.declared.insn.AluOp.{AluOp}
 use Rattle.bpf_insn.specs.declared.insn.AtomicOp.{AtomicOp}
 use Rattle.bpf_insn.specs.declared.insn.AtomicOp.TheVariants.{Cmpxchg}
 use Rattle.bpf_insn.specs.declared.insn.Insn.{Insn}
 use Rattle.bpf_insn.specs.declared.insn.Insn.TheVariants as insn
-use Rattle.bpf_insn.specs.declared.insn.Source.{Source}
 use Rattle.bpf_regions.specs.declared.maps.Shape.{Shape}
 use Rattle.bpf_words.specs.Word.{word_of}
 use Rattle.bpf_model.specs.Memory.{size_bytes}
@@ -16,7 +15,6 @@ use Rattle.bpf_absval.specs.declared.value.AbsVal.{AbsVal}
 use Rattle.bpf_absval.specs.declared.value.AbsVal.TheVariants.{Number}
 use Rattle.bpf_absstate.specs.View.{View, register, with_register, without_label, at_slot, returned}
 use Rattle.bpf_rules.specs.declared.fault.Fault.{Fault}
-use Rattle.bpf_rules.specs.declared.fault.Fault.TheVariants as fault
 use Rattle.bpf_rules.specs.declared.ways.Ways.{Ways}
 use Rattle.bpf_rules.specs.declared.ways.Ways.TheVariants.{Nowhere, One, Two}
 use Rattle.bpf_rules.specs.Faults.{on}

@@ -1,10 +1,9 @@
 -- Loads, stores and atomics on abstract states (RFC 9669 sections 5.1 to 5.3). The checks come in this order: 30 for
 -- the registers that are read, 34, 31 for kinds, 33 for width and alignment, 32 for the region, 30 and then 31 for bytes of
 -- the stack, 37.
-use Rattle.std.specs.Prelude.{ℕ, ◌+◌, ◌-◌, ◌*◌, ◌/◌, ◌%◌, ◌^◌, ◌==◌, nat_lt, nat_le, Bool, true, false, not, ◌||◌, ◌&&◌, if◌then◌else◌, List, length, Option, Some, None, slice_get, slice_index_or, slice_set, Result, Ok, Err, bit_and, bit_or, ℤ}
+use Rattle.std.specs.Prelude.{ℕ, ◌+◌, ◌-◌, ◌*◌, ◌/◌, ◌%◌, ◌^◌, ◌==◌, nat_lt, nat_le, Bool, true, false, not, ◌||◌, ◌&&◌, if◌then◌else◌, List, length, Option, Some, None, slice_get, slice_index_or, Result, Ok, Err, bit_and, bit_or, ℤ}
 use Rattle.bpf_insn.specs.declared.insn.AluOp.TheVariants.{Add}
 use Rattle.bpf_insn.specs.declared.insn.AtomicOp.{AtomicOp}
-use Rattle.bpf_insn.specs.declared.insn.Source.{Source}
 use Rattle.bpf_regions.specs.declared.maps.Shape.{Shape}
 use Rattle.bpf_regions.specs.Maps.{bytes_of, entry_bytes}
 use Rattle.bpf_words.specs.Word.{word_add, word_of}
@@ -14,14 +13,14 @@ use Rattle.bpf_absnum.specs.Transfer.{num_alu, num_loaded, num_loaded_signed}
 use Rattle.bpf_absval.specs.declared.value.AbsRegion.{AbsRegion}
 use Rattle.bpf_absval.specs.declared.value.AbsRegion.TheVariants as place
 use Rattle.bpf_absval.specs.declared.value.AbsVal.{AbsVal}
-use Rattle.bpf_absval.specs.declared.value.AbsVal.TheVariants.{Unset, Number, Frame, Pointer, FrameEnd, MapReference, Lookup}
+use Rattle.bpf_absval.specs.declared.value.AbsVal.TheVariants.{Unset, Number, Frame, Pointer, Lookup}
 use Rattle.bpf_absval.specs.declared.value.Label.{Label}
 use Rattle.bpf_absval.specs.declared.slot.AbsSlot.{AbsSlot}
 use Rattle.bpf_absval.specs.declared.slot.AbsSlot.TheVariants as slot
 use Rattle.bpf_absval.specs.declared.room.Room.{Room}
 use Rattle.bpf_absval.specs.Rooms.{find_room}
 use Rattle.bpf_absval.specs.Inclusion.{bytes_set}
-use Rattle.bpf_absstate.specs.View.{View, register, stack_of, with_register, with_slot, at_slot}
+use Rattle.bpf_absstate.specs.View.{View, stack_of, with_register, with_slot, at_slot}
 use Rattle.bpf_rules.specs.declared.fault.Fault.{Fault}
 use Rattle.bpf_rules.specs.declared.fault.Fault.TheVariants as fault
 use Rattle.bpf_rules.specs.Faults.{on}

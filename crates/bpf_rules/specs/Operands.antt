@@ -1,6 +1,6 @@
 -- Arithmetic on abstract values (RFC 9669 sections 4.1, 4.2 and 5.4), with the checks of its operands: that all are set
 -- (30), that no lookup result is used untested (34), and their kinds (31), in this order.
-use Rattle.std.specs.Prelude.{ℕ, ◌+◌, ◌==◌, nat_le, Bool, true, false, not, ◌||◌, ◌&&◌, if◌then◌else◌, Option, Some, None, Result, Ok, Err}
+use Rattle.std.specs.Prelude.{ℕ, ◌+◌, nat_le, Bool, true, false, not, ◌||◌, if◌then◌else◌, Option, Some, None, Result, Ok, Err}
 use Rattle.bpf_insn.specs.declared.insn.AluOp.{AluOp}
 use Rattle.bpf_insn.specs.declared.insn.AluOp.TheVariants.{Add, Sub, Mov}
 use Rattle.bpf_insn.specs.declared.insn.Source.{Source}
@@ -12,7 +12,7 @@ use Rattle.bpf_absnum.specs.Number.{Num, num_single, is_single}
 use Rattle.bpf_absnum.specs.Transfer.{num_alu}
 use Rattle.bpf_absval.specs.declared.value.AbsRegion.TheVariants as place
 use Rattle.bpf_absval.specs.declared.value.AbsVal.{AbsVal}
-use Rattle.bpf_absval.specs.declared.value.AbsVal.TheVariants.{Unset, Number, Frame, Pointer, FrameEnd, MapReference, Lookup}
+use Rattle.bpf_absval.specs.declared.value.AbsVal.TheVariants.{Unset, Number, Frame, Pointer, MapReference, Lookup}
 use Rattle.bpf_absval.specs.declared.value.Label.{Label}
 use Rattle.bpf_absstate.specs.View.{View, register}
 use Rattle.bpf_rules.specs.declared.fault.Fault.{Fault}

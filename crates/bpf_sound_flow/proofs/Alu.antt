@@ -1,5 +1,5 @@
 -- What an operation makes of values that hold.
-use Rattle.std.proofs.Common.{◌≡◌, ℕ, List, ◌+◌, ◌^◌, ◌%◌, Bool, true, false, not, true≢false, Option, Some, Result, Ok, Err, refl, sym, subst, if◌then◌else◌}
+use Rattle.std.proofs.Common.{◌≡◌, ℕ, List, ◌+◌, ◌^◌, ◌%◌, Bool, true, false, not, true≢false, Option, Some, Result, Ok, refl, sym, subst, if◌then◌else◌}
 use Rattle.bpf_insn.specs.declared.insn.AluOp.{AluOp}
 use Rattle.bpf_insn.specs.declared.insn.AluOp.TheVariants.{Add, Sub, Mov}
 use Rattle.bpf_words.specs.Word.{word_add, word_sub}
@@ -16,9 +16,8 @@ use Rattle.bpf_absval.specs.declared.value.AbsVal.TheVariants.{Unset, Number, Fr
 use Rattle.bpf_absval.specs.declared.value.Label.{Label}
 use Rattle.bpf_absval.specs.declared.room.Room.{Room}
 use Rattle.bpf_absval.specs.Meaning.{Labels, Holds, LabelHolds}
-use Rattle.bpf_rules.specs.declared.fault.Fault.{Fault}
 use Rattle.bpf_rules.specs.Operands.{is_unset, numbers, sum, difference, moved, alu, label_after, label_moved, is_variable, makes_label}
-use Rattle.bpf_sound_flow.proofs.Outcomes.{refused, same}
+use Rattle.bpf_rules.proofs.Outcomes.{refused-okay, okay-same}
 use Rattle.bpf_sound_flow.proofs.Labels.{Moves, add_moves, sub_moves, is_low, label_moves}
 
 -- what is made holds, once a label of its own names its place
@@ -57,10 +56,10 @@ module _ (e : Labels) (rooms : List Room) (alus : AluContains) where
   moves_value v w y u h k = (y, moves_set e rooms v y u h, subst (λ z. Holds e rooms z y) k h)
 
   moved_holds : (wide : Bool) (b v : AbsVal) (y : Value) → Holds e rooms b y → moved wide b ≡ Ok v → Gives e rooms (moved_value wide y) v
-  moved_holds wide Unset v y h k = absurd (refused _ v k)
-  moved_holds wide (Number n) v y h k = subst (Gives e rooms (moved_value wide y)) (same _ v k) (moves_number wide n y h)
-  moved_holds true b v y h k = moves_value _ v y refl h (same _ v k)
-  moved_holds false b v y h k = absurd (refused _ v k)
+  moved_holds wide Unset v y h k = absurd (refused-okay _ v k)
+  moved_holds wide (Number n) v y h k = subst (Gives e rooms (moved_value wide y)) (okay-same _ v k) (moves_number wide n y h)
+  moved_holds true b v y h k = moves_value _ v y refl h (okay-same _ v k)
+  moved_holds false b v y h k = absurd (refused-okay _ v k)
 
   both_numbers : (wide : Bool) (op : AluOp) (m n : Num) (x y : Value) → Holds e rooms (Number m) x → Holds e rooms (Number n) y →
       Gives e rooms (numbers_value wide op x y) (Number (num_alu wide op m n))
@@ -70,8 +69,8 @@ module _ (e : Labels) (rooms : List Room) (alus : AluContains) where
 
   numbers_hold : (wide : Bool) (op : AluOp) (a b v : AbsVal) (x y : Value) → Holds e rooms a x → Holds e rooms b y → numbers wide op a b ≡ Ok v →
       Gives e rooms (numbers_value wide op x y) v × (is_variable a b ≡ false)
-  numbers_hold wide op (Number m) (Number n) v x y h k g = (subst (Gives e rooms (numbers_value wide op x y)) (same _ v g) (both_numbers wide op m n x y h k), refl)
-  numbers_hold wide op a b v x y h k g = absurd (refused _ v g)
+  numbers_hold wide op (Number m) (Number n) v x y h k g = (subst (Gives e rooms (numbers_value wide op x y)) (okay-same _ v g) (both_numbers wide op m n x y h k), refl)
+  numbers_hold wide op a b v x y h k g = absurd (refused-okay _ v g)
 
   -- a frame pointer that moves by a number, with its label or with one of its own
   frame_moves : (pc : ℕ) (f : ℕ → ℕ → ℕ) (o n : Num) (l : Option Label) (x c : ℕ) → Moves f → InNum n c → LabelHolds e rooms l x → InNum o (f x c) →
@@ -135,18 +134,18 @@ module _ (e : Labels) (rooms : List Room) (alus : AluContains) where
     difference_of_numbers m n x y h k = absurd h
 
     sum_holds : (a b v : AbsVal) (x y : Value) → Holds e rooms a x → Holds e rooms b y → sum pc a b ≡ Ok v → Makes e rooms pc (is_variable a b) (sum_value x y) v
-    sum_holds (Number m) (Number n) v x y h k g = subst (Gives e rooms (sum_value x y)) (same _ v g) (sum_of_numbers m n x y h k)
-    sum_holds (Number n) (Frame o l) v x y h k g = subst (Makes e rooms pc (not (is_single n)) (sum_value x y)) (same _ v g) (number_and_frame n o l x y h k)
-    sum_holds (Frame o l) (Number n) v x y h k g = subst (Makes e rooms pc (not (is_single n)) (sum_value x y)) (same _ v g) (frame_and_number o n l x y h k)
-    sum_holds (Number n) (Pointer r o) v x y h k g = subst (Gives e rooms (sum_value x y)) (same _ v g) (number_and_pointer n o r x y h k)
-    sum_holds (Pointer r o) (Number n) v x y h k g = subst (Gives e rooms (sum_value x y)) (same _ v g) (pointer_and_number o n r x y h k)
-    sum_holds a b v x y h k g = absurd (refused _ v g)
+    sum_holds (Number m) (Number n) v x y h k g = subst (Gives e rooms (sum_value x y)) (okay-same _ v g) (sum_of_numbers m n x y h k)
+    sum_holds (Number n) (Frame o l) v x y h k g = subst (Makes e rooms pc (not (is_single n)) (sum_value x y)) (okay-same _ v g) (number_and_frame n o l x y h k)
+    sum_holds (Frame o l) (Number n) v x y h k g = subst (Makes e rooms pc (not (is_single n)) (sum_value x y)) (okay-same _ v g) (frame_and_number o n l x y h k)
+    sum_holds (Number n) (Pointer r o) v x y h k g = subst (Gives e rooms (sum_value x y)) (okay-same _ v g) (number_and_pointer n o r x y h k)
+    sum_holds (Pointer r o) (Number n) v x y h k g = subst (Gives e rooms (sum_value x y)) (okay-same _ v g) (pointer_and_number o n r x y h k)
+    sum_holds a b v x y h k g = absurd (refused-okay _ v g)
 
     difference_holds : (a b v : AbsVal) (x y : Value) → Holds e rooms a x → Holds e rooms b y → difference pc a b ≡ Ok v → Makes e rooms pc (is_variable a b) (difference_value x y) v
-    difference_holds (Number m) (Number n) v x y h k g = subst (Gives e rooms (difference_value x y)) (same _ v g) (difference_of_numbers m n x y h k)
-    difference_holds (Frame o l) (Number n) v x y h k g = subst (Makes e rooms pc (not (is_single n)) (difference_value x y)) (same _ v g) (frame_less_number o n l x y h k)
-    difference_holds (Pointer r o) (Number n) v x y h k g = subst (Gives e rooms (difference_value x y)) (same _ v g) (pointer_less_number o n r x y h k)
-    difference_holds a b v x y h k g = absurd (refused _ v g)
+    difference_holds (Number m) (Number n) v x y h k g = subst (Gives e rooms (difference_value x y)) (okay-same _ v g) (difference_of_numbers m n x y h k)
+    difference_holds (Frame o l) (Number n) v x y h k g = subst (Makes e rooms pc (not (is_single n)) (difference_value x y)) (okay-same _ v g) (frame_less_number o n l x y h k)
+    difference_holds (Pointer r o) (Number n) v x y h k g = subst (Gives e rooms (difference_value x y)) (okay-same _ v g) (pointer_less_number o n r x y h k)
+    difference_holds a b v x y h k g = absurd (refused-okay _ v g)
 
     -- numbers that are no frame pointer and no new label
     plainly : (op : AluOp) (a b v : AbsVal) (r : Result Value ℕ) → Gives e rooms r v × (is_variable a b ≡ false) → Makes e rooms pc (is_variable a b) r v

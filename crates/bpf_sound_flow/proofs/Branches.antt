@@ -1,5 +1,5 @@
 -- What a conditional jump makes of an abstract state.
-use Rattle.std.proofs.Common.{◌≡◌, ℕ, List, length, ◌+◌, ◌^◌, ◌%◌, ◌<◌, ◌≤◌, ◌⊎◌, inl, inr, Bool, true, false, not, ◌&&◌, Option, Some, None, Result, Ok, Err, refl, sym, ap, ap₂, subst, ◌∙◌, nat_lt, nat_le, arith, if◌then◌else◌}
+use Rattle.std.proofs.Common.{◌≡◌, ℕ, List, length, ◌+◌, ◌^◌, ◌%◌, ◌<◌, ◌≤◌, ◌⊎◌, inl, inr, Bool, true, false, not, ◌&&◌, Option, Some, None, Result, Ok, refl, sym, ap, ap₂, subst, ◌∙◌, nat_lt, nat_le, arith, if◌then◌else◌}
 use Rattle.std.proofs.lemmas.Bool.{false≢true, eqb-true, ltb-true, ltb-false, leb-true, leb-false, le-leb, cond_both}
 use Rattle.bpf_insn.specs.declared.insn.Compare.{Compare}
 use Rattle.bpf_insn.specs.declared.insn.Compare.TheVariants.{Eq, Ne, Gt, Ge, Lt, Le}
@@ -26,11 +26,10 @@ use Rattle.bpf_absval.specs.Meaning.{Labels, Holds, LabelHolds, RegionHolds}
 use Rattle.bpf_absstate.specs.Contains.{HoldsIn}
 use Rattle.bpf_absstate.specs.Laws.{LeastHolds, RoomsHold}
 use Rattle.bpf_absstate.specs.View.{View, register, with_register, with_least, with_room}
-use Rattle.bpf_rules.specs.declared.fault.Fault.{Fault}
 use Rattle.bpf_rules.specs.Branches.{Split, compared_value, is_itself, narrowed, with_source, with_operands, number_way, number_ways, null_test, by_null, lookup_ways, pointer_ways, Lesson, Nothing, AtMost, Below, turned, lesson, with_reach, learnt, taught, end_ways, end_test, is_order, wide_ways, narrow_ways, split}
 use Rattle.bpf_sound_flow.proofs.Alu.{number_held}
-use Rattle.bpf_sound_flow.proofs.Landings.{word_fits}
-use Rattle.bpf_sound_flow.proofs.Outcomes.{refused, same}
+use Rattle.bpf_words.proofs.Immediates.{word_fits}
+use Rattle.bpf_rules.proofs.Outcomes.{refused-okay, okay-same}
 use Rattle.bpf_sound_flow.proofs.States.{Known}
 
 -- the state stands in a way that is visited
@@ -134,8 +133,8 @@ turned_value Le c x y e = subst (λ d. end_value Le y x ≡ Ok (order_test d x y
 turned_value compare c x y e = absurd (no-order c e)
 
 end_test_is : (a : View) (o : Num) (l : Option Label) (c : Option Compare) (w : Split) → end_test a o l c ≡ Ok w → (d : Compare) × (c ≡ Some d) × (end_ways a o l d ≡ w)
-end_test_is a o l None w e = absurd (refused _ w e)
-end_test_is a o l (Some d) w e = (d, refl, same _ w e)
+end_test_is a o l None w e = absurd (refused-okay _ w e)
+end_test_is a o l (Some d) w e = (d, refl, okay-same _ w e)
 
 low_half : (n : ℕ) → n % 2 ^ 32 % 2 ^ 32 ≡ n % 2 ^ 32
 low_half n = omega arith
@@ -209,18 +208,18 @@ module _ (known : Known) (branches : BranchKeeps) (singles : SingleContains) (le
 
     lookup_splits : (map k : ℕ) (o : Option Bool) (w : Split) → null_test compare (is_zero src) ≡ o → lookup_ways a dst map o ≡ Ok w →
         (reg s dst ≡ value.Number 0) ⊎ Found e map (reg s dst) → source_of s src ≡ value.Number k → Splits e s w test
-    lookup_splits map k None w e1 g found from = absurd (refused _ w g)
+    lookup_splits map k None w e1 g found from = absurd (refused-okay _ w g)
     lookup_splits map k (Some t) w e1 g (inl is) from =
-        null_splits t _ _ w k e1 is from (same _ w g) (known.refinement e a s dst (Number (num_single 0)) h (subst (Holds e a.rooms (Number (num_single 0))) (sym is) (singles 0 (omega arith))))
+        null_splits t _ _ w k e1 is from (okay-same _ w g) (known.refinement e a s dst (Number (num_single 0)) h (subst (Holds e a.rooms (Number (num_single 0))) (sym is) (singles 0 (omega arith))))
     lookup_splits map k (Some t) w e1 g (inr found) from =
-        set_splits t _ _ w found.0 found.1 k e1 found.2 from (same _ w g)
+        set_splits t _ _ w found.0 found.1 k e1 found.2 from (okay-same _ w g)
         (known.refinement e a s dst (Pointer (place.Entry map) (num_single 0)) h (subst (Holds e a.rooms (Pointer (place.Entry map) (num_single 0))) (sym found.2)
         (found.3, subst (InNum (num_single 0)) (sym found.4) (singles 0 (omega arith)))))
 
     pointer_splits : (q : Region) (n k : ℕ) (o : Option Bool) (w : Split) → null_test compare (is_zero src) ≡ o → pointer_ways a o ≡ Ok w →
         reg s dst ≡ value.Pointer q n → source_of s src ≡ value.Number k → Splits e s w test
-    pointer_splits q n k None w e1 g is from = absurd (refused _ w g)
-    pointer_splits q n k (Some t) w e1 g is from = set_splits t (Some a) None w q n k e1 is from (same _ w g) h
+    pointer_splits q n k None w e1 g is from = absurd (refused-okay _ w g)
+    pointer_splits q n k (Some t) w e1 g is from = set_splits t (Some a) None w q n k e1 is from (okay-same _ w g) h
 
   -- ---- tests with the frame end
 
@@ -280,7 +279,7 @@ module _ (known : Known) (branches : BranchKeeps) (singles : SingleContains) (le
         let t = holds 64 compare m.0 n.0 in (
           t,
           test_is compare dst src (length e.setting.frame) _ _ m.1 n.1,
-          subst (λ (v : Split). InWay e (if t then v.1 else v.0) s) (same _ w g)
+          subst (λ (v : Split). InWay e (if t then v.1 else v.0) s) (okay-same _ w g)
               (numbers_split true compare t dst src x y m.0 n.0 m.1 (linked src n.0 n.1) m.2 n.2 refl),
         )
     wide_splits (Lookup map) (Number y) w hv hu g =
@@ -304,7 +303,7 @@ module _ (known : Known) (branches : BranchKeeps) (singles : SingleContains) (le
         let c = end_test_is a o l (turned compare) w g in
         end_splits o l x.0 c.0 w x.2 x.3 c.2
         (test_is compare dst src (length e.setting.frame) _ _ (end_held e a.rooms (reg s dst) hv) x.1 ∙ turned_value compare c.0 x.0 (length e.setting.frame) c.1)
-    wide_splits v u w hv hu g = absurd (refused _ w g)
+    wide_splits v u w hv hu g = absurd (refused-okay _ w g)
 
   -- JMP32 compares the low half of an immediate
   narrow_numbers : (compare : Compare) (dst : ℕ) (src : Source) (x y : Num) (m n k : ℕ) (w : Split) → reg s dst ≡ value.Number m → source_of s src ≡ value.Number k → Linked src n →
@@ -322,8 +321,8 @@ module _ (known : Known) (branches : BranchKeeps) (singles : SingleContains) (le
   narrow_registers compare dst r (Number x) (Number y) w hv hu g =
       let m = number_held e a.rooms x (reg s dst) hv in
       let n = number_held e a.rooms y (reg s r) hu in
-      narrow_numbers compare dst (source.Reg r) x y m.0 n.0 n.0 w m.1 n.1 n.1 refl m.2 n.2 (same _ w g)
-  narrow_registers compare dst r v u w hv hu g = absurd (refused _ w g)
+      narrow_numbers compare dst (source.Reg r) x y m.0 n.0 n.0 w m.1 n.1 n.1 refl m.2 n.2 (okay-same _ w g)
+  narrow_registers compare dst r v u w hv hu g = absurd (refused-okay _ w g)
 
   narrow_splits : (compare : Compare) (dst : ℕ) (src : Source) (v : AbsVal) (w : Split) → Holds e a.rooms v (reg s dst) →
       narrow_ways a compare dst src v (compared_value false a src) ≡ Ok w → Splits e s w (narrow_test compare (reg s dst) (source_of s src))
@@ -331,8 +330,8 @@ module _ (known : Known) (branches : BranchKeeps) (singles : SingleContains) (le
   narrow_splits compare dst (source.Imm i) (Number x) w hv g =
       let m = number_held e a.rooms x (reg s dst) hv in
       let n = word_of i % 2 ^ 32 in
-      narrow_numbers compare dst (source.Imm i) x (num_single n) m.0 n (word_of i) w m.1 refl tt (low_half (word_of i)) m.2 (singles n (omega arith)) (same _ w g)
-  narrow_splits compare dst (source.Imm i) v w hv g = absurd (refused _ w g)
+      narrow_numbers compare dst (source.Imm i) x (num_single n) m.0 n (word_of i) w m.1 refl tt (low_half (word_of i)) m.2 (singles n (omega arith)) (okay-same _ w g)
+  narrow_splits compare dst (source.Imm i) v w hv g = absurd (refused-okay _ w g)
 
   pub split_holds : (short : length e.setting.frame ≤ 2400) (wide : Bool) (compare : Compare) (dst : ℕ) (src : Source) (w : Split) → IsSource src → split a wide compare dst src ≡ Ok w →
       Splits e s w (taken compare wide (length e.setting.frame) (is_zero src) (reg s dst) (source_of s src))

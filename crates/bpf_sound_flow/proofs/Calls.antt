@@ -1,5 +1,5 @@
 -- What wide loads, calls and EXIT do, their examination covers.
-use Rattle.std.proofs.Common.{◌≡◌, ◌+◌, ◌-◌, ◌<◌, ◌==◌, ℕ, List, length, All, Option, Some, None, Result, Ok, Err, Bool, true, false, refl, sym, subst, inl, inr, slice_get, nat_lt, arith, if◌then◌else◌}
+use Rattle.std.proofs.Common.{◌≡◌, ◌+◌, ◌-◌, ◌<◌, ◌==◌, ℕ, List, length, All, Option, Some, None, Ok, Err, Bool, true, false, refl, sym, subst, inl, inr, slice_get, nat_lt, arith, if◌then◌else◌}
 use Rattle.std.proofs.lemmas.Bool.{ltb-true, lt-ltb, eqb-true, eqb-false, cond_both}
 use Rattle.std.proofs.lemmas.List.{nil_from_length}
 use Rattle.std.proofs.lemmas.Option.{get_or_from_slice_get, slice_get_within, slice_get-get_or}
@@ -30,7 +30,6 @@ use Rattle.bpf_absval.specs.Meaning.{Labels, Holds, IsEntry}
 use Rattle.bpf_absstate.specs.Contains.{Contains, HoldsIn}
 use Rattle.bpf_absstate.specs.Laws.{DepthsAgree, CallHolds, ReturnHolds, entered}
 use Rattle.bpf_absstate.specs.View.{View, register, called, returned}
-use Rattle.bpf_rules.specs.declared.fault.Fault.{Fault}
 use Rattle.bpf_rules.specs.declared.fault.Fault.TheVariants.{TooManyFrames}
 use Rattle.bpf_rules.specs.declared.ways.Ways.TheVariants.{Nowhere, One}
 use Rattle.bpf_rules.specs.Calls.{looked_up, helped, answered, call, exit_number}
@@ -40,9 +39,9 @@ use Rattle.bpf_rules.specs.Faults.{on}
 use Rattle.bpf_rules.specs.Operands.{number, wide_value}
 use Rattle.bpf_sound_flow.specs.Laws.{LoadWideCovers, CallCovers, CallLocalCovers, ExitCovers}
 use Rattle.bpf_sound_flow.proofs.Alu.{number_held}
-use Rattle.bpf_sound_flow.proofs.Landings.{IsHelper, is_helper}
+use Rattle.bpf_sound_flow.proofs.Helpers.{IsHelper, is_helper}
 use Rattle.bpf_sound_flow.proofs.States.{Known, answers}
-use Rattle.bpf_sound_flow.proofs.Outcomes.{refused, same, on_ok}
+use Rattle.bpf_rules.proofs.Outcomes.{refused-okay, okay-same, on_ok}
 use Rattle.bpf_sound_flow.proofs.Steps.{okay, labels, covers, lands, lands_put, not_pointer, jump_is}
 
 -- ---- wide loads
@@ -88,8 +87,8 @@ module _ (known : Known) (singles : SingleContains) (fulls : FullContains) (with
 
   lookups : (u t v : AbsVal) (x y : Value) → Holds (labels p base) a.rooms u x → Holds (labels p base) a.rooms t y → looked_up u t ≡ Ok v →
       IsFine p.shapes (lookup p s x y) (Contains p (answered a v))
-  lookups (MapReference map) (Number index) v x y hx hy g = subst (λ v. IsFine p.shapes (lookup p s x y) (Contains p (answered a v))) (same _ v g) (looks_up map index x y hx hy)
-  lookups u t v x y hx hy g = absurd (refused _ v g)
+  lookups (MapReference map) (Number index) v x y hx hy g = subst (λ v. IsFine p.shapes (lookup p s x y) (Contains p (answered a v))) (okay-same _ v g) (looks_up map index x y hx hy)
+  lookups u t v x y hx hy g = absurd (refused-okay _ v g)
 
   notes : (n : Num) (x : Value) → Holds (labels p base) a.rooms (Number n) x → IsFine p.shapes (note s x) (Contains p (answered a (Number (num_single 0))))
   notes n (value.Number m) hx = answer_in (Number (num_single 0)) (value.Number 0) _ (singles 0 (omega arith))
@@ -105,22 +104,22 @@ module _ (known : Known) (singles : SingleContains) (fulls : FullContains) (with
       (notes r.0 (reg s 1) (subst (λ u. Holds (labels p base) a.rooms u (reg s 1)) r.1 (known.registers (labels p base) a s 1 h)))
     where
       note_number : (u v : AbsVal) → on (number u) (λ x. Ok (Number (num_single 0))) ≡ Ok v → (n : Num) × (u ≡ Number n) × (Number (num_single 0) ≡ v)
-      note_number (Number n) v g = (n, refl, same _ v g)
-      note_number u v g = absurd (refused _ v g)
+      note_number (Number n) v g = (n, refl, okay-same _ v g)
+      note_number u v g = absurd (refused-okay _ v g)
 
   helps : (v : AbsVal) (n : ℕ) → IsHelper n → Helps v n
   helps v n (inl is) = subst (Helps v) (sym is) (λ g. lookups (register a 1) (register a 2) v (reg s 1) (reg s 2) (known.registers (labels p base) a s 1 h) (known.registers (labels p base) a s 2 h) g)
-  helps v n (inr (inl is)) = subst (Helps v) (sym is) (λ g b k. subst (λ v. Contains p (answered a v) (answered_state s (value.Number b))) (same _ v g) (answer_in (Number num_full) (value.Number b) s.notes (fulls b k)))
-  helps v n (inr (inr (inl is))) = subst (Helps v) (sym is) (λ g b k. subst (λ v. Contains p (answered a v) (answered_state s (value.Number b))) (same _ v g)
+  helps v n (inr (inl is)) = subst (Helps v) (sym is) (λ g b k. subst (λ v. Contains p (answered a v) (answered_state s (value.Number b))) (okay-same _ v g) (answer_in (Number num_full) (value.Number b) s.notes (fulls b k)))
+  helps v n (inr (inr (inl is))) = subst (Helps v) (sym is) (λ g b k. subst (λ v. Contains p (answered a v) (answered_state s (value.Number b))) (okay-same _ v g)
       (answer_in (Number (num_within (bounds 0 2007))) (value.Number b) s.notes (withins (bounds 0 2007) b (record { above = omega arith; below = k; fits = omega arith }))))
-  helps v n (inr (inr (inr (inl is)))) = subst (Helps v) (sym is) (λ g b k. subst (λ v. Contains p (answered a v) (answered_state s (value.Number b))) (same _ v g) (answer_in (Number num_full) (value.Number b) s.notes (fulls b k)))
+  helps v n (inr (inr (inr (inl is)))) = subst (Helps v) (sym is) (λ g b k. subst (λ v. Contains p (answered a v) (answered_state s (value.Number b))) (okay-same _ v g) (answer_in (Number num_full) (value.Number b) s.notes (fulls b k)))
   helps v n (inr (inr (inr (inr is)))) = subst (Helps v) (sym is) (noted v)
 
 pub call_covers : Known → SingleContains → FullContains → WithinContains → CallCovers
 call_covers known singles fulls withins helper = covers (insn.Call helper) (λ c p a w s whole set at e base h.
     let range = whole.helpers a.pc (insn.Call helper) at in
     let r = on_ok (helped a (word_of helper)) (λ v. okay (One (answered a v))) w e in
-    subst (λ u. IsFine p.shapes (help p s (word_of helper)) (InWays p u)) (same _ w r.2)
+    subst (λ u. IsFine p.shapes (help p s (word_of helper)) (InWays p u)) (okay-same _ w r.2)
     (helps known singles fulls withins p base a s h r.0 (word_of helper) (is_helper helper range.0 range.1) r.1))
 
 -- ---- local calls
@@ -130,8 +129,8 @@ call_is a b to e = by_count (nat_lt (length a.frames) 8) refl e
   where
     by_count : (t : Bool) → nat_lt (length a.frames) 8 ≡ t → (if t then Ok (called a to (a.pc + 1)) else Err TooManyFrames) ≡ Ok b →
         (length a.frames < 8) × (called a to (a.pc + 1) ≡ b)
-    by_count true k e = (ltb-true (length a.frames) 8 k, same _ b e)
-    by_count false k e = absurd (refused _ b e)
+    by_count true k e = (ltb-true (length a.frames) 8 k, okay-same _ b e)
+    by_count false k e = absurd (refused-okay _ b e)
 
 pub call_local_covers : DepthsAgree → CallHolds → CallLocalCovers
 call_local_covers depths calls by = covers (insn.CallLocal by) (λ c p a w s whole set at e base h.
@@ -166,5 +165,5 @@ pub exit_covers : Known → DepthsAgree → ReturnHolds → ExitCovers
 exit_covers known depths returns = covers insn.Exit (λ c p a w s whole set at e base h.
     let r = on_ok (exit_number (register a 0)) (λ n. okay (exited a)) w e in
     let m = number_held (labels p base) a.rooms r.0 (reg s 0) (subst (λ v. Holds (labels p base) a.rooms v (reg s 0)) (exit_is (register a 0) r.0 r.1) (known.registers (labels p base) a s 0 h)) in
-    subst (λ u. IsFine p.shapes (on_state (exit_of (reg s 0)) (λ r0. return s r0 (slice_get s.callers (length s.callers - 1)))) (InWays p u)) (same _ w r.2)
+    subst (λ u. IsFine p.shapes (on_state (exit_of (reg s 0)) (λ r0. return s r0 (slice_get s.callers (length s.callers - 1)))) (InWays p u)) (okay-same _ w r.2)
     (subst (λ x. IsFine p.shapes (on_state (exit_of x) (λ r0. return s r0 (slice_get s.callers (length s.callers - 1)))) (InWays p (exited a))) (sym m.1) (exits depths returns p base a s h m.0)))

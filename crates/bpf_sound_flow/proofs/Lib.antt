@@ -1,8 +1,7 @@
-mod Outcomes
 mod States
 mod Labels
 mod Alu
-mod Landings
+mod Helpers
 mod Branches
 mod Steps
 mod Calls

@@ -1,5 +1,5 @@
 -- Whatever an instruction does in a state, its examination covers.
-use Rattle.std.proofs.Common.{◌≡◌, ◌≢◌, ◌+◌, ℕ, ℤ, Option, Some, None, Result, Ok, Err, Bool, true, false, refl, sym, ◌∙◌, ap, subst, inl, inr, slice_get, slice_set, if◌then◌else◌}
+use Rattle.std.proofs.Common.{◌≡◌, ◌≢◌, ◌+◌, ℕ, ℤ, Option, Some, None, Result, Ok, Bool, true, false, refl, sym, ◌∙◌, ap, subst, inl, inr, slice_get, slice_set, if◌then◌else◌}
 use Rattle.bpf_insn.specs.declared.insn.Insn.{Insn}
 use Rattle.bpf_insn.specs.declared.insn.Insn.TheVariants as insn
 use Rattle.bpf_insn.specs.declared.insn.Source.{Source}
@@ -30,13 +30,13 @@ use Rattle.bpf_rules.specs.declared.ways.Ways.TheVariants.{One}
 use Rattle.bpf_rules.specs.Branches.{Split, split}
 use Rattle.bpf_rules.specs.Covers.{IsSetting, InWays, InsnCovers}
 use Rattle.bpf_rules.specs.Examined.{landing, put, put_number, operated, ways, moved_to, branched, examined}
-use Rattle.bpf_rules.specs.Faults.{on}
 use Rattle.bpf_rules.specs.Operands.{number, source_value, alu, makes_label}
 use Rattle.bpf_sound_flow.specs.Laws.{AluCovers, MovSxCovers, NegCovers, EndCovers, JumpCovers, JumpLongCovers, BranchCovers}
 use Rattle.bpf_sound_flow.proofs.Alu.{Made, number_held, alu_holds}
 use Rattle.bpf_sound_flow.proofs.Branches.{InWay, split_holds}
-use Rattle.bpf_sound_flow.proofs.Landings.{target_is, word_fits}
-use Rattle.bpf_sound_flow.proofs.Outcomes.{same, on_ok}
+use Rattle.bpf_words.proofs.Immediates.{word_fits}
+use Rattle.bpf_rules.proofs.Landings.{target_is}
+use Rattle.bpf_rules.proofs.Outcomes.{okay-same, on_ok}
 use Rattle.bpf_sound_flow.proofs.States.{Known, puts}
 
 abbrev pub okay : Ways → Result Ways Fault
@@ -58,7 +58,7 @@ covers i step c p a w whole set at e s h =
 
 -- the next state lies in the one way
 pub lands : (p : Setting) (b : View) (w : Ways) (t : State) (d : Labels) → d.setting ≡ p → HoldsIn d b t → okay (One b) ≡ okay w → InWays p w t
-lands p b w t d here h e = subst (λ v. InWays p v t) (same (One b) w e) (subst (λ q. Contains q b t) here (record { base = d.base; holds = h }))
+lands p b w t d here h e = subst (λ v. InWays p v t) (okay-same (One b) w e) (subst (λ q. Contains q b t) here (record { base = d.base; holds = h }))
 
 -- a value is put into a register
 pub lands_put : (known : Known) (p : Setting) (a b : View) (s : State) (w : Ways) (d : Labels) (n dst : ℕ) (v : AbsVal) (x : Value) → d.setting ≡ p → HoldsIn d b s → b.pc ≡ a.pc → dst ≢ 10 → Holds d b.rooms v x →
@@ -177,4 +177,4 @@ branch_covers known branches singles least rooms compare wide dst src by = cover
     let r = on_ok (split a wide compare dst src) (λ v. okay (branched a by v)) w e in
     let k = split_holds known branches singles least rooms d a s h set.frame wide compare dst src r.0 fits.1 r.1 in
     subst (λ o. IsFine p.shapes (on_state o (branch s (target s.pc by))) (InWays p w)) (sym k.1)
-    (subst (λ u. IsFine p.shapes (branch s (target s.pc by) k.0) (InWays p u)) (same _ w r.2) (parts known.going p a s base by t.0 r.0 k.0 h.pc t.1 k.2)))
+    (subst (λ u. IsFine p.shapes (branch s (target s.pc by) k.0) (InWays p u)) (okay-same _ w r.2) (parts known.going p a s base by t.0 r.0 k.0 h.pc t.1 k.2)))

@@ -30,7 +30,8 @@ use Rattle.bpf_absstate.specs.View.{View, frame_of, stack_of}
 use Rattle.bpf_absstate.specs.Contains.{HoldsIn}
 use Rattle.bpf_rules.specs.Memory.{offset_of, unless, entry_fault, aligned_fault, read_fault, bytes_stored, loaded, with_old, atomic_on, atomic, next_pc}
 use Rattle.bpf_sound_memory.specs.Laws.{AtomicHolds}
-use Rattle.bpf_sound_memory.proofs.Outcomes.{unless_parts, same_outcome, on_parts, goes_with}
+use Rattle.bpf_rules.proofs.Outcomes.{unless_ok, okay-same, on_ok}
+use Rattle.bpf_sound_memory.proofs.Outcomes.{goes_with}
 use Rattle.bpf_sound_memory.proofs.Offsets.{IsSize, offset_keeps, aligned_fits, stack_placed, entry_fits, loaded_holds}
 use Rattle.bpf_sound_memory.proofs.StackFrames.{spelled}
 use Rattle.bpf_sound_memory.proofs.StackReads.{read_spelled}
@@ -58,12 +59,12 @@ on_stack : (w : StateLaws) (e : Labels) (a b : View) (s : State) (k n : ℕ) (op
 on_stack w e a b s k n op into at x h other size offset t =
     let p = e.setting in
     let f = machine.frame_of s k in
-    let outer = unless_parts (aligned_fault a k at n) (unless (read_fault (stack_of a k) at.range.low n) (Ok (bytes_stored a k at.range.low n))) b t in
+    let outer = unless_ok (aligned_fault a k at n) (unless (read_fault (stack_of a k) at.range.low n) (Ok (bytes_stored a k at.range.low n))) b t in
     let fits = aligned_fits a k at n x size offset outer.0 in
     let inside = fits.1 in
-    let inner = unless_parts (read_fault (stack_of a k) at.range.low n) (Ok (bytes_stored a k at.range.low n)) b outer.1 in
+    let inner = unless_ok (read_fault (stack_of a k) at.range.low n) (Ok (bytes_stored a k at.range.low n)) b outer.1 in
     let none = subst (λ m. read_fault (stack_of a k) m n ≡ None) inside.offset inner.0 in
-    let left : bytes_stored a k x n ≡ b = ap (λ m. bytes_stored a k m n) (sym inside.offset) ∙ same_outcome (bytes_stored a k at.range.low n) b inner.1 in
+    let left : bytes_stored a k x n ≡ b = ap (λ m. bytes_stored a k m n) (sym inside.offset) ∙ okay-same (bytes_stored a k at.range.low n) b inner.1 in
     let old = spelled f x n (read_spelled e a.rooms (frame_of a k) f x n (w.stacks e a s k h inside.lives) size.few inside.room none) in
     let P = HoldsIn e (next_pc (with_old b into n)) in
     let new = number_after (2 ^ (8 * n)) op old.0 in
@@ -85,14 +86,14 @@ on_entry : (w : StateLaws) (e : Labels) (a b : View) (s : State) (m map index n 
 on_entry w e a b s m map index n op into at x h other size same entry offset t =
     let p = e.setting in
     let known = subst (λ j. atomic_on p.shapes a n (place.Entry j) at ≡ Ok b) same t in
-    let parts = unless_parts (entry_fault (slice_get p.shapes map) at n) (Ok a) b known in
+    let parts = unless_ok (entry_fault (slice_get p.shapes map) at n) (Ok a) b known in
     let inside = entry_fits p.shapes map index at n x size entry offset parts.0 in
     let P = HoldsIn e (next_pc (with_old b into n)) in
     goes_with p.shapes (machine.place p (length s.stack) (region.Entry map index) x n) (machine_place.Word map inside.word) (atomic_at s n op into) P inside.place
     (λ answer fits.
     let word : IsWordOf (Some inside.shape) answer = answer_below inside.shape op answer (subst (λ o. AccessAnswer o op answer) inside.known fits) in
     let small : answer < 2 ^ (8 * n) = subst (λ k. answer < 2 ^ (8 * k)) (sym inside.width) word in
-    subst (λ c. HoldsIn e (next_pc (with_old c into n)) (put_old s into answer)) (same_outcome a b parts.1) (old_holds w e a s into n answer h other size small))
+    subst (λ c. HoldsIn e (next_pc (with_old c into n)) (put_old s into answer)) (okay-same a b parts.1) (old_holds w e a s into n answer h other size small))
 
 on_region : (w : StateLaws) (e : Labels) (a b : View) (s : State) (n : ℕ) (op : MapOp) (into : Option ℕ) (at : Num) (r : AbsRegion) (q : Region) (x : ℕ) → HoldsIn e a s → into ≢ Some 10 → IsSize n → RegionHolds e r q →
     InNum at x → atomic_on e.setting.shapes a n r at ≡ Ok b → Fine e s n op into q x b
@@ -106,8 +107,8 @@ through : (w : StateLaws) (e : Labels) (a b : View) (s : State) (n : ℕ) (op : 
     Holds e a.rooms to t → Holds e a.rooms v x → Holds e a.rooms r0 y → atomic e.setting.shapes a n op src by to v r0 ≡ Ok b →
     IsFine e.setting.shapes (machine.atomic e.setting s n op src by t x y) (HoldsIn e (next_pc b))
 through w e a b s n op src by (abs.Pointer r offset) (abs.Number v) (abs.Number r0) (value.Pointer q base) (value.Number x) (value.Number y) h other size fits at is compared ok =
-    let parts = on_parts (atomic_on e.setting.shapes a n r (offset_of offset by)) (λ c. Ok (with_old c (old_into op src) n)) b ok in
-    subst (λ c. IsFine e.setting.shapes (machine.atomic e.setting s n op src by (value.Pointer q base) (value.Number x) (value.Number y)) (HoldsIn e (next_pc c))) (same_outcome (with_old parts.0 (old_into op src) n) b parts.2)
+    let parts = on_ok (atomic_on e.setting.shapes a n r (offset_of offset by)) (λ c. Ok (with_old c (old_into op src) n)) b ok in
+    subst (λ c. IsFine e.setting.shapes (machine.atomic e.setting s n op src by (value.Pointer q base) (value.Number x) (value.Number y)) (HoldsIn e (next_pc c))) (okay-same (with_old parts.0 (old_into op src) n) b parts.2)
     (on_region w e a parts.0 s n (operation_of op x y) (old_into op src) (offset_of offset by) r q (word_add base (word_of by)) h other size at.0 (offset_keeps offset base by fits at.1) parts.1)
 through w e a b s n op src by (abs.Pointer r offset) (abs.Number v) (abs.Number r0) (value.Pointer q base) (value.Number x) y h other size fits at is compared ok = absurd compared
 through w e a b s n op src by (abs.Pointer r offset) (abs.Number v) (abs.Number r0) (value.Pointer q base) x y h other size fits at is compared ok = absurd is

@@ -1,6 +1,6 @@
 -- Loads, stores and atomics as instructions.
 use Rattle.std.specs.Prelude.{ℤ, pos, negsuc, FitsSigned, slice_get}
-use Rattle.std.proofs.Common.{ℕ, ◌≡◌, ◌≢◌, ◌^◌, ◌<◌, cond, Some, None, Ok, sym, ap, subst, ◌∙◌, arith, w16, w32}
+use Rattle.std.proofs.Common.{ℕ, ◌≡◌, ◌≢◌, ◌^◌, ◌<◌, cond, Some, None, Ok, sym, ap, subst, ◌∙◌, arith, w16}
 use Rattle.std.proofs.lemmas.Int.{ints}
 use Rattle.bpf_insn.specs.declared.insn.AtomicOp.{AtomicOp}
 use Rattle.bpf_insn.specs.declared.insn.AtomicOp.TheVariants as atomic_op
@@ -32,15 +32,12 @@ use Rattle.bpf_rules.specs.Operands.{source_value}
 use Rattle.bpf_sound_memory.specs.Laws.{IsInput, Puts, LoadCovers, StoreCovers, AtomicCovers}
 use Rattle.bpf_sound_memory.proofs.Atomics.{atomic_holds}
 use Rattle.bpf_sound_memory.proofs.Loads.{load_holds}
-use Rattle.bpf_sound_memory.proofs.Outcomes.{on_parts, same_outcome}
+use Rattle.bpf_words.proofs.Immediates.{word_fits}
+use Rattle.bpf_rules.proofs.Outcomes.{on_ok, okay-same}
 use Rattle.bpf_sound_memory.proofs.States.{StateLaws, puts}
 use Rattle.bpf_sound_memory.proofs.Stores.{store_holds}
 
--- offsets and immediates as words
-word_fits : (z : ℤ) → FitsSigned w32 z → word_of z < 2 ^ 64
-word_fits (pos n) h = omega (arith, ints, h)
-word_fits (negsuc n) h = omega arith
-
+-- offsets as words
 offset_fits : (z : ℤ) → FitsSigned w16 z → word_of z < 2 ^ 64
 offset_fits (pos n) h = omega (arith, ints, h)
 offset_fits (negsuc n) h = omega arith
@@ -64,12 +61,12 @@ load_covers w size signed dst src by c p a v whole setting here ok s h =
     let i = insn.Load size signed dst src by in
     let e : Labels = record { setting = p; base = h.base } in
     let known = subst (λ l. examined l i a ≡ Ok v) (sym setting.shapes) ok in
-    let parts = on_parts (load p.shapes a (size_bytes size) signed (register a src) by) (put a 1 dst) v known in
+    let parts = on_ok (load p.shapes a (size_bytes size) signed (register a src) by) (put a 1 dst) v known in
     let b = next_pc (with_register a dst parts.0) in
     let fine = load_holds w e a s size signed dst (register a src) parts.0 (reg s src) by (input c p setting) h.holds (offset_fits by (whole.insns a.pc i here).3) (w.registers e a s src h.holds) parts.1 in
     let moves = λ (t : State) (k : Puts e a s dst parts.0 t). subst (HoldsIn e b) (sym k.1) (puts w.change e a s dst parts.0 k.0 h.holds (λ same. whole.registers a.pc i here (ap Some same)) k.2) in
     subst (λ x. IsFine p.shapes x (InWays p v)) (sym (performed c p a s i setting here h))
-    (leads_on p h.base b v (next_of p i s) (same_outcome (One b) v parts.2) (IsFine-weaken p.shapes (next_of p i s) (Puts e a s dst parts.0) (HoldsIn e b) moves fine))
+    (leads_on p h.base b v (next_of p i s) (okay-same (One b) v parts.2) (IsFine-weaken p.shapes (next_of p i s) (Puts e a s dst parts.0) (HoldsIn e b) moves fine))
 
 -- the value that a source has
 source_holds : (w : StateLaws) (e : Labels) (a : View) (s : State) (o : Source) → HoldsIn e a s → IsSource o → Holds e a.rooms (source_value a o) (source_of s o)
@@ -82,9 +79,9 @@ store_covers w size dst by o c p a v whole setting here ok s h =
     let e : Labels = record { setting = p; base = h.base } in
     let is = whole.insns a.pc i here in
     let known = subst (λ l. examined l i a ≡ Ok v) (sym setting.shapes) ok in
-    let parts = on_parts (store p.shapes a (size_bytes size) (source_value a o) (register a dst) by) (λ b. Ok (One (next_pc b))) v known in
+    let parts = on_ok (store p.shapes a (size_bytes size) (source_value a o) (register a dst) by) (λ b. Ok (One (next_pc b))) v known in
     subst (λ x. IsFine p.shapes x (InWays p v)) (sym (performed c p a s i setting here h))
-    (leads_on p h.base (next_pc parts.0) v (next_of p i s) (same_outcome (One (next_pc parts.0)) v parts.2)
+    (leads_on p h.base (next_pc parts.0) v (next_of p i s) (okay-same (One (next_pc parts.0)) v parts.2)
     (store_holds w e a parts.0 s size (source_value a o) (register a dst) (source_of s o) (reg s dst) by h.holds (offset_fits by is.2) (source_holds w e a s o h.holds is.1) (w.registers e a s dst h.holds) parts.1))
 
 -- what CMPXCHG compares with
@@ -102,8 +99,8 @@ atomic_covers w op wide dst src by c p a v whole setting here ok s h =
     let i = insn.Atomic op wide dst src by in
     let e : Labels = record { setting = p; base = h.base } in
     let known = subst (λ l. examined l i a ≡ Ok v) (sym setting.shapes) ok in
-    let parts = on_parts (atomic p.shapes a (atomic_bytes wide) op src by (register a dst) (register a src) (compared op a)) (λ b. Ok (One (next_pc b))) v known in
+    let parts = on_ok (atomic p.shapes a (atomic_bytes wide) op src by (register a dst) (register a src) (compared op a)) (λ b. Ok (One (next_pc b))) v known in
     subst (λ x. IsFine p.shapes x (InWays p v)) (sym (performed c p a s i setting here h))
-    (leads_on p h.base (next_pc parts.0) v (next_of p i s) (same_outcome (One (next_pc parts.0)) v parts.2)
+    (leads_on p h.base (next_pc parts.0) v (next_of p i s) (okay-same (One (next_pc parts.0)) v parts.2)
     (atomic_holds w e a parts.0 s op wide src (register a dst) (register a src) (compared op a) (reg s dst) (reg s src) (compared_value op (reg s 0)) by h.holds
     (not_pointer op src (whole.registers a.pc i here)) (offset_fits by (whole.insns a.pc i here).2) (w.registers e a s dst h.holds) (w.registers e a s src h.holds) (compared_holds w e a s op h.holds) parts.1))

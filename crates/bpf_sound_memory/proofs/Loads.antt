@@ -26,7 +26,8 @@ use Rattle.bpf_rules.specs.Memory.{load, loaded, loaded_stack, loaded_from, offs
 use Rattle.bpf_sound_memory.specs.Laws.{IsInput, Puts, LoadHolds}
 use Rattle.bpf_sound_memory.proofs.States.{StateLaws}
 use Rattle.bpf_sound_memory.proofs.StackReads.{stack_gives}
-use Rattle.bpf_sound_memory.proofs.Outcomes.{unless_parts, same_outcome, goes_with}
+use Rattle.bpf_rules.proofs.Outcomes.{unless_ok, okay-same}
+use Rattle.bpf_sound_memory.proofs.Outcomes.{goes_with}
 use Rattle.bpf_sound_memory.proofs.Offsets.{IsSize, stack_fits, stack_placed, size_is, offset_keeps, frame_fits, context_fits, entry_fits, number_below, loaded_holds}
 
 -- a number is put into the register
@@ -46,20 +47,20 @@ from_frame : (e : Labels) (a : View) (s : State) (n : ℕ) (signed : Bool) (dst 
 from_frame e a s n signed dst offset l u x by input holds size fits h k t =
     let p = e.setting in
     let at = word_add x (word_of by) in
-    let parts = unless_parts (frame_fault a offset l by n) (Ok (loaded signed n)) u t in
+    let parts = unless_ok (frame_fault a offset l by n) (Ok (loaded signed n)) u t in
     let room = frame_fits e a offset l by n x holds.least fits h k parts.0 in
     goes_with p.shapes (machine.place p (length s.stack) region.Frame at n) (machine_place.Frame at) (machine.load_at p s n signed dst) (Puts e a s dst u)
     (ap (λ b. cond b (Ok (machine_place.Frame at)) (Err 32)) (le-leb (at + n) (length p.frame) room))
-    (number_put e a s signed n dst (number_at p.frame at n) u size (number_below p.frame at n input.frame_bytes) (same_outcome (loaded signed n) u parts.1))
+    (number_put e a s signed n dst (number_at p.frame at n) u size (number_below p.frame at n input.frame_bytes) (okay-same (loaded signed n) u parts.1))
 
 from_context : (e : Labels) (a : View) (s : State) (n : ℕ) (signed : Bool) (dst : ℕ) (at : Num) (u : AbsVal) (x : ℕ) →
     IsInput e.setting → IsSize n → InNum at x → loaded_from e.setting.shapes a place.Context at n signed ≡ Ok u → Fine e a s n signed dst u region.Context x
 from_context e a s n signed dst at u x input size h t =
     let p = e.setting in
-    let parts = unless_parts (context_fault at n) (Ok (loaded signed n)) u t in
+    let parts = unless_ok (context_fault at n) (Ok (loaded signed n)) u t in
     goes_with p.shapes (machine.place p (length s.stack) region.Context x n) (machine_place.Context x) (machine.load_at p s n signed dst) (Puts e a s dst u)
     (ap (λ b. cond b (Ok (machine_place.Context x)) (Err 32)) (le-leb (x + n) (length p.context) (omega (arith, context_fits at n x h parts.0, input.context))))
-    (number_put e a s signed n dst (number_at p.context x n) u size (number_below p.context x n input.context_bytes) (same_outcome (loaded signed n) u parts.1))
+    (number_put e a s signed n dst (number_at p.context x n) u size (number_below p.context x n input.context_bytes) (okay-same (loaded signed n) u parts.1))
 
 from_entry : (e : Labels) (a : View) (s : State) (n : ℕ) (signed : Bool) (dst m map index : ℕ) (at : Num) (u : AbsVal) (x : ℕ) →
     IsSize n → m ≡ map → IsEntry e.setting.shapes map index → InNum at x → loaded_from e.setting.shapes a (place.Entry m) at n signed ≡ Ok u →
@@ -67,21 +68,21 @@ from_entry : (e : Labels) (a : View) (s : State) (n : ℕ) (signed : Bool) (dst 
 from_entry e a s n signed dst m map index at u x size same entry h t =
     let p = e.setting in
     let known = subst (λ k. loaded_from p.shapes a (place.Entry k) at n signed ≡ Ok u) same t in
-    let parts = unless_parts (entry_fault (slice_get p.shapes map) at n) (Ok (loaded signed n)) u known in
+    let parts = unless_ok (entry_fault (slice_get p.shapes map) at n) (Ok (loaded signed n)) u known in
     let inside = entry_fits p.shapes map index at n x size entry h parts.0 in
     goes_with p.shapes (machine.place p (length s.stack) (region.Entry map index) x n) (machine_place.Word map inside.word) (machine.load_at p s n signed dst) (Puts e a s dst u)
     inside.place
     (λ answer fits.
     let word : IsWordOf (Some inside.shape) answer = subst (λ o. IsWordOf o answer) inside.known fits in
     let small : answer < 2 ^ (8 * n) = subst (λ k. answer < 2 ^ (8 * k)) (sym inside.width) word in
-    number_put e a s signed n dst answer u size small (same_outcome (loaded signed n) u parts.1))
+    number_put e a s signed n dst answer u size small (okay-same (loaded signed n) u parts.1))
 
 from_stack : StateLaws → (e : Labels) (a : View) (s : State) (n : ℕ) (signed : Bool) (dst k j : ℕ) (at : Num) (u : AbsVal) (x : ℕ) →
     HoldsIn e a s → IsSize n → k ≡ j → InNum at x → loaded_from e.setting.shapes a (place.Stack k) at n signed ≡ Ok u → Fine e a s n signed dst u (region.Stack j) x
 from_stack w e a s n signed dst k j at u x holds size same h t =
     let p = e.setting in
     let known = subst (λ i. loaded_from p.shapes a (place.Stack i) at n signed ≡ Ok u) same t in
-    let parts = unless_parts (stack_fault a j at n) (loaded_stack (stack_of a j) at.range.low n signed) u known in
+    let parts = unless_ok (stack_fault a j at n) (loaded_stack (stack_of a j) at.range.low n signed) u known in
     let inside = stack_fits a j at n x h parts.0 in
     let loads = subst (λ i. loaded_stack (stack_of a j) i n signed ≡ Ok u) inside.offset parts.1 in
     let gives = stack_gives e a.rooms (frame_of a j) (machine.frame_of s j) x n signed u (w.stacks e a s j holds inside.lives) size inside.room loads in

@@ -1,5 +1,5 @@
 -- What a stack frame holds after a store.
-use Rattle.std.proofs.Common.{ℕ, zero, suc, ◌≡◌, ◌≢◌, ◌+◌, ◌-◌, ◌*◌, ◌/◌, ◌%◌, ◌^◌, ◌<◌, ◌≤◌, ◌⊎◌, inl, inr, ⊎_elim, false, List, length, Option, Some, None, Result, Ok, Err, slice_index_or, slice_set, refl, sym, ap, subst, ◌∙◌, arith}
+use Rattle.std.proofs.Common.{ℕ, zero, suc, ◌≡◌, ◌≢◌, ◌+◌, ◌-◌, ◌*◌, ◌/◌, ◌%◌, ◌^◌, ◌<◌, ◌≤◌, ◌⊎◌, inl, inr, ⊎_elim, false, List, length, Option, Some, None, Ok, slice_index_or, slice_set, refl, sym, ap, subst, ◌∙◌, arith}
 use Rattle.std.specs.Prelude.{slice_get}
 use Rattle.std.proofs.lemmas.Bool.{cases_eq, cases_lt, true≢false}
 use Rattle.std.proofs.lemmas.List.{length-set, get_or-set_same, get_or-set_other, get_or_past}
@@ -9,6 +9,7 @@ use Rattle.bpf_regions.specs.declared.memory.Value.{Value}
 use Rattle.bpf_regions.specs.declared.memory.Value.TheVariants as value
 use Rattle.bpf_model.specs.declared.StackFrame.{StackFrame}
 use Rattle.bpf_model.specs.Alu.{is_unset}
+use Rattle.bpf_model.proofs.SetBytes.{joined_parts, set_byte_is}
 use Rattle.bpf_model.specs.Memory.{set_byte, joined, set_bytes, with_number, without, number_stored, spilled}
 use Rattle.bpf_absval.specs.Meaning.{is_number, IsStackFrame}
 use Rattle.bpf_sound_memory.proofs.Bytes.{byte_at, IsSet, length-with_number, number_before, number_behind, number_first, number_within, length-without, without_before, without_behind, without_within}
@@ -33,16 +34,6 @@ spelled f at (suc n) h =
       ap (λ o. joined (set_byte f at o) (set_bytes f (at + 1) n)) first.1 ∙ ap (joined (Ok first.0)) rest.1,
       omega (arith, more_bytes n, first.2, rest.2),
     )
-
-joined_parts : (low high : Result ℕ ℕ) (x : ℕ) → joined low high ≡ Ok x → ((a : ℕ) × (low ≡ Ok a)) × ((b : ℕ) × (high ≡ Ok b))
-joined_parts (Ok a) (Ok b) x h = ((a, refl), (b, refl))
-joined_parts (Ok a) (Err b) x h = absurd (cc)
-joined_parts (Err a) (Ok b) x h = absurd (cc)
-joined_parts (Err a) (Err b) x h = absurd (cc)
-
-set_byte_is : (f : StackFrame) (at : ℕ) (o : Option ℕ) (a : ℕ) → set_byte f at o ≡ Ok a → (b : ℕ) × (o ≡ Some b)
-set_byte_is f at (Some b) a h = (b, refl)
-set_byte_is f at None a h = absurd (cc)
 
 -- where the bytes spell a number, all are set
 pub spelled_set : (f : StackFrame) (at n x : ℕ) → set_bytes f at n ≡ Ok x → (i : ℕ) → at ≤ i → i < at + n → (b : ℕ) × (byte_at f.bytes i ≡ Some b)

@@ -27,7 +27,8 @@ use Rattle.bpf_sound_memory.proofs.Bytes.{byte_at, IsSet}
 use Rattle.bpf_sound_memory.proofs.StackFrames.{AreSpelled, spelled, small_byte, spilled_apart}
 use Rattle.bpf_sound_memory.proofs.Held.{known_set}
 use Rattle.bpf_sound_memory.proofs.Touched.{first_touched, second_touched, has_needed}
-use Rattle.bpf_sound_memory.proofs.Outcomes.{worse_parts, unless_parts, same_outcome}
+use Rattle.bpf_rules.proofs.Outcomes.{unless_ok, okay-same}
+use Rattle.bpf_sound_memory.proofs.Outcomes.{worse_parts}
 use Rattle.bpf_sound_memory.proofs.Offsets.{IsSize, loaded_holds}
 
 needed_set : (s : AbsSlot) (needed : ℕ) → bytes_fault s needed ≡ None → bit_and (bytes_set s) needed ≡ needed
@@ -143,11 +144,11 @@ Gives e rooms f at n signed u = (y : Value) × (from_stack f at n signed ≡ Ok 
 bytes_give : (e : Labels) (rooms : List Room) (a : CallFrame) (f : StackFrame) (at n : ℕ) (signed : Bool) (u : AbsVal) → StackHolds e rooms a f → IsSize n → at + n ≤ 512 →
     loaded_bytes a.stack at n signed ≡ Ok u → Gives e rooms f at n signed u
 bytes_give e rooms a f at n signed u h size room t =
-    let parts = unless_parts (read_fault a.stack at n) (Ok (loaded signed n)) u t in
+    let parts = unless_ok (read_fault a.stack at n) (Ok (loaded signed n)) u t in
     let x = spelled_loads f at n signed h.frame (read_spelled e rooms a f at n h size.few room parts.0) room in (
       value.Number (as_loaded signed n x.0),
       x.2,
-      subst (λ w. Holds e rooms w (value.Number (as_loaded signed n x.0))) (same_outcome (loaded signed n) u parts.1) (loaded_holds e rooms signed n x.0 size x.1),
+      subst (λ w. Holds e rooms w (value.Number (as_loaded signed n x.0))) (okay-same (loaded signed n) u parts.1) (loaded_holds e rooms signed n x.0 size x.1),
     )
 
 whole_gives : (e : Labels) (rooms : List Room) (a : CallFrame) (f : StackFrame) (at : ℕ) (u : AbsVal) → StackHolds e rooms a f → IsSize 8 → at + 8 ≤ 512 → at % 8 ≡ 0 →
@@ -157,7 +158,7 @@ whole_gives e rooms a f at u h size room even t = by_slot (slot_at a.stack (at /
     by_value : (v : AbsVal) (b : Bool) → rules_unset v ≡ b → Holds e rooms v (held f (at / 8)) → ◌≡◌ {A = Result AbsVal Fault} (cond b (Err fault.Unset) (Ok v)) (Ok u) → Gives e rooms f at 8 false u
     by_value v true is k t = absurd (cc)
     by_value v false is k t =
-        (held f (at / 8), held_loads f at even (is_set e rooms v (held f (at / 8)) is k), subst (λ w. Holds e rooms w (held f (at / 8))) (same_outcome v u t) k)
+        (held f (at / 8), held_loads f at even (is_set e rooms v (held f (at / 8)) is k), subst (λ w. Holds e rooms w (held f (at / 8))) (okay-same v u t) k)
 
     by_slot : (s : AbsSlot) → SlotHolds e rooms s f (at / 8) → loaded_whole s (loaded_bytes a.stack at 8 false) ≡ Ok u → Gives e rooms f at 8 false u
     by_slot slot.Unset k t = bytes_give e rooms a f at 8 false u h size room t

@@ -31,7 +31,8 @@ use Rattle.bpf_rules.specs.declared.fault.Fault.TheVariants as fault
 use Rattle.bpf_rules.specs.Operands.{is_unset as rules_unset}
 use Rattle.bpf_rules.specs.Memory.{offset_of, unless, entry_fault, stack_fault, aligned_fault, is_whole, stored, bytes_stored, strays, spilled, is_spill, stored_in_stack, stored_in_map, stored_into, store, next_pc}
 use Rattle.bpf_sound_memory.specs.Laws.{StoreHolds}
-use Rattle.bpf_sound_memory.proofs.Outcomes.{unless_parts, same_outcome, goes_with}
+use Rattle.bpf_rules.proofs.Outcomes.{unless_ok, okay-same}
+use Rattle.bpf_sound_memory.proofs.Outcomes.{goes_with}
 use Rattle.bpf_sound_memory.proofs.Offsets.{IsSize, size_is, offset_keeps, IsInStack, stack_fits, aligned_fits, entry_fits, stack_placed}
 use Rattle.bpf_sound_memory.proofs.States.{StateLaws, goes_on}
 use Rattle.bpf_sound_memory.proofs.StackReads.{is_set}
@@ -109,10 +110,10 @@ number_stored_holds w e a s k n x y v h low size room is = by_test (is_whole x n
 store_number : (w : StateLaws) (e : Labels) (a b : View) (s : State) (k n : ℕ) (at v : Num) (x y : ℕ) → HoldsIn e a s → IsSize n → InNum at x → InNum v y →
     stored_in_stack a k at n (abs.Number v) ≡ Ok b → Fine e s n (value.Number y) (region.Stack k) x b
 store_number w e a b s k n at v x y h size offset is t =
-    let parts = unless_parts (stack_fault a k at n) (Ok (stored a k at.range.low n (abs.Number v))) b t in
+    let parts = unless_ok (stack_fault a k at n) (Ok (stored a k at.range.low n (abs.Number v))) b t in
     let inside = stack_fits a k at n x offset parts.0 in
     let left : stored a k x n (abs.Number v) ≡ b =
-    ap (λ m. stored a k m n (abs.Number v)) (sym inside.offset) ∙ same_outcome (stored a k at.range.low n (abs.Number v)) b parts.1 in
+    ap (λ m. stored a k m n (abs.Number v)) (sym inside.offset) ∙ okay-same (stored a k at.range.low n (abs.Number v)) b parts.1 in
     stack_goes w e a b s k n (value.Number y) x (placed w e a s k n at x h inside) refl refl refl
     (subst (λ c. HoldsIn e c (with_frame s k (machine.stored (machine.frame_of s k) x n (value.Number y)))) left
     (number_stored_holds w e a s k n x y v h inside.lives size inside.room is))
@@ -121,7 +122,7 @@ store_number w e a b s k n at v x y h size offset is t =
 spilled_parts : (a b : View) (k n : ℕ) (at : Num) (v : AbsVal) → spilled a k at n v ≡ Ok b → (n ≡ 8) × (aligned_fault a k at 8 ≡ None) × (strays k v ≡ false) × (stored a k at.range.low 8 v ≡ b)
 spilled_parts a b k n at v t =
     let eight = by_size (n == 8) refl t in
-    let parts = unless_parts (aligned_fault a k at 8) (cond (strays k v) (Err fault.StackPointerStored) (Ok (stored a k at.range.low 8 v))) b eight.1 in
+    let parts = unless_ok (aligned_fault a k at 8) (cond (strays k v) (Err fault.StackPointerStored) (Ok (stored a k at.range.low 8 v))) b eight.1 in
     let rest = by_pointer (strays k v) parts.1 in
     (eight.0, parts.0, rest.0, rest.1)
   where
@@ -134,7 +135,7 @@ spilled_parts a b k n at v t =
 
     by_pointer : (c : Bool) → ◌≡◌ {A = Result View Fault} (cond c (Err fault.StackPointerStored) (Ok (stored a k at.range.low 8 v))) (Ok b) → (c ≡ false) × (stored a k at.range.low 8 v ≡ b)
     by_pointer true t = absurd (cc)
-    by_pointer false t = (refl, same_outcome (stored a k at.range.low 8 v) b t)
+    by_pointer false t = (refl, okay-same (stored a k at.range.low 8 v) b t)
 
 store_whole : (w : StateLaws) (e : Labels) (a b : View) (s : State) (k n : ℕ) (at : Num) (v : AbsVal) (x : ℕ) (y : Value) → HoldsIn e a s → InNum at x → rules_unset v ≡ false → Holds e a.rooms v y →
     spilled a k at n v ≡ Ok b → Fine e s n y (region.Stack k) x b
@@ -168,10 +169,10 @@ to_entry : (w : StateLaws) (e : Labels) (a b : View) (s : State) (m map index n 
 to_entry w e a b s m map index n at x (abs.Number v) (value.Number y) h size same entry offset is t =
     let p = e.setting in
     let known = subst (λ j. stored_in_map a (slice_get p.shapes j) at n (abs.Number v) ≡ Ok b) same t in
-    let parts = unless_parts (entry_fault (slice_get p.shapes map) at n) (Ok a) b known in
+    let parts = unless_ok (entry_fault (slice_get p.shapes map) at n) (Ok a) b known in
     let inside = entry_fits p.shapes map index at n x size entry offset parts.0 in
     goes_to e s n (value.Number y) (region.Entry map index) x b (machine_place.Word map inside.word) refl refl inside.place
-    (λ answer fits. subst (λ c. HoldsIn e (next_pc c) (machine.next_pc s)) (same_outcome a b parts.1) (goes_on e a s h))
+    (λ answer fits. subst (λ c. HoldsIn e (next_pc c) (machine.next_pc s)) (okay-same a b parts.1) (goes_on e a s h))
 to_entry w e a b s m map index n at x (abs.Number v) y h size same entry offset is t = absurd is
 to_entry w e a b s m map index n at x v y h size same entry offset is t = absurd (cc)
 

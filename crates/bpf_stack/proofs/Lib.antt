@@ -1,3 +1,3 @@
 mod Both
 mod Sides
-mod Unsets
+pub mod Unsets

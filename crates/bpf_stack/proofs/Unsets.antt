@@ -58,7 +58,7 @@ unset_in rooms others (x ∷ xs) zero h = absurd (omega (arith, h))
 unset_in rooms others (x ∷ xs) (suc n) h = ap (λ t. slot_included rooms others cell.Unset x && t) (unset_in rooms others xs n (omega (arith, h)))
 
 -- a slot without a label is as well formed as it was
-slot_whole : (label : ℕ) (s : AbsSlot) → IsSlot s → IsSlot (slot_unlabelled label s)
+pub slot_whole : (label : ℕ) (s : AbsSlot) → IsSlot s → IsSlot (slot_unlabelled label s)
 slot_whole label cell.Unset h = tt
 slot_whole label (cell.Bytes mask) h = tt
 slot_whole label (cell.Stored (abs.Frame offset l)) h = h

@@ -1,5 +1,5 @@
 -- The states that are still to be explored.
-use Rattle.std.proofs.Common.{◌≡◌, ℕ, ◌+◌, ◌≤◌, List, [], ◌∷◌, ◌++◌, sym, ◌∙◌, ap, subst, arith, Option, Some, None, Result, Ok, Err}
+use Rattle.std.proofs.Common.{◌≡◌, ℕ, ◌+◌, ◌≤◌, List, [], ◌∷◌, ◌++◌, sym, ◌∙◌, ap, subst, arith, Some, None}
 use Rattle.bpf_insn.specs.declared.insn.Insn.{Insn}
 use Rattle.bpf_absstate.specs.View.{View}
 use Rattle.bpf_verifier.specs.declared.exploration.Frame.{Frame}
@@ -8,6 +8,8 @@ use Rattle.bpf_rules.specs.declared.fault.Fault.{Fault}
 use Rattle.bpf_rules.specs.declared.ways.Ways.{Ways}
 use Rattle.bpf_rules.specs.declared.ways.Ways.TheVariants.{Nowhere, One, Two}
 use Rattle.bpf_rules.specs.Examined.{examined}
+use Rattle.bpf_decode.proofs.Whole.{same_insn}
+use Rattle.bpf_rules.proofs.Outcomes.{okay, refused, okay-same, refused-okay}
 use Rattle.bpf_plain.specs.Clear.{IsClear, Ends, Goes, Parts}
 use Rattle.bpf_verifier.specs.Clear.{IsClearWay, AreClear, AreClearWays}
 
@@ -47,27 +49,6 @@ clear_some c a n (Ends a2 n2 i at e le) = le
 clear_some c a n (Goes a2 n2 i x m at e h le) = omega (arith, le)
 clear_some c a n (Parts a2 n2 i x y l m at e h k le) = omega (arith, le)
 
-abbrev okay : Ways → Result Ways Fault
-okay w = Ok w
-
-abbrev refused : Fault → Result Ways Fault
-refused e = Err e
-
-okay-same : (v w : Ways) → okay v ≡ okay w → v ≡ w
-okay-same v w e = cc
-
-okay-refused : (w : Ways) (e : Fault) → okay w ≡ refused e → ⊥
-okay-refused w e h = cc
-
-abbrev there : Insn → Option (Option Insn)
-there i = Some (Some i)
-
-there-same : (i j : Insn) → there i ≡ there j → i ≡ j
-there-same i j e = cc
-
-same_insn : (c : Code) (k : ℕ) (i j : Insn) → Holds c.slots k i → Holds c.slots k j → i ≡ j
-same_insn c k i j h g = there-same i j (sym h ∙ g)
-
 -- what a clear state's instruction makes of it
 made_of : (c : Code) (a : View) (n : ℕ) → IsClear c a n → (i : Insn) × (w : Ways) × Holds c.slots a.pc i × (examined c.shapes i a ≡ okay w) × AreClearWays c w n
 made_of c a n (Ends a2 n2 i at e le) = (i, Nowhere, at, e, le)
@@ -77,14 +58,14 @@ made_of c a n (Parts a2 n2 i x y l m at e h k le) = (i, Two x y, at, e, (l, m, h
 pub opened : (c : Code) (a : View) (n : ℕ) (i : Insn) (w : Ways) → Holds c.slots a.pc i → examined c.shapes i a ≡ okay w → IsClear c a n → AreClearWays c w n
 opened c a n i w at e h =
     let r = made_of c a n h in
-    let same : r.0 ≡ i = same_insn c a.pc r.0 i r.2 at in
+    let same : r.0 ≡ i = same_insn c.slots a.pc r.0 i r.2 at in
     subst (λ x. AreClearWays c x n) (okay-same r.1 w (sym r.3 ∙ ap (λ j. examined c.shapes j a) same ∙ e)) r.4
 
 pub not_refused : (c : Code) (a : View) (n : ℕ) (i : Insn) (f : Fault) → Holds c.slots a.pc i → examined c.shapes i a ≡ refused f → IsClear c a n → ⊥
 not_refused c a n i f at e h =
     let r = made_of c a n h in
-    let same : r.0 ≡ i = same_insn c a.pc r.0 i r.2 at in
-    okay-refused r.1 f (sym r.3 ∙ ap (λ j. examined c.shapes j a) same ∙ e)
+    let same : r.0 ≡ i = same_insn c.slots a.pc r.0 i r.2 at in
+    refused-okay f r.1 (sym (sym r.3 ∙ ap (λ j. examined c.shapes j a) same ∙ e))
 
 pub AreClear-none : (c : Code) (fs : List Frame) → fs ≡ [] → AreClear c fs 0
 unfolding AreClear

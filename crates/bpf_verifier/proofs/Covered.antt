@@ -1,8 +1,8 @@
 -- A state that lies in a finished one has its budget.
-use Rattle.std.proofs.Common.{◌≡◌, ℕ, ◌+◌, ◌≤◌, List, Option, Bool, true, false, refl, sym, subst}
+use Rattle.std.proofs.Common.{◌≡◌, ℕ, ◌+◌, ◌≤◌, List, Option, true, sym, subst}
 use Rattle.std.specs.Prelude.{◌&&◌, ◌==◌, nat_le}
 use Rattle.bpf_absstate.specs.Inclusion.{state_included, values_included, frames_included}
-use Rattle.std.proofs.lemmas.Bool.{false≢true, eqb-true}
+use Rattle.std.proofs.lemmas.Bool.{and_parts, eqb-true}
 use Rattle.bpf_insn.specs.declared.insn.Insn.{Insn}
 use Rattle.bpf_model.specs.State.{Setting}
 use Rattle.bpf_model.specs.Run.{SafeWithin}
@@ -21,15 +21,11 @@ pub covered_safe : InclusionKeeps → (p : Setting) (table : List (List Entry)) 
 covered_safe keeps p table a budget safe c s h =
     subst (λ b. SafeWithin p b s) c.budget_is (covering (λ e. AllSafe p e.budget e.state) table a budget safe c s (keeps p a c.entry.state s c.whole c.included h))
 
-first_true : (x y : Bool) → (x && y) ≡ true → x ≡ true
-first_true true y h = refl
-first_true false y h = absurd (false≢true h)
-
 pc_same : (a b : View) → state_included a b ≡ true → (a.pc == b.pc) ≡ true
 pc_same a b h =
     let values = values_included a.rooms b.rooms a.registers b.registers in
-    first_true (a.pc == b.pc) (nat_le b.least a.least)
-    (first_true (a.pc == b.pc && nat_le b.least a.least) values (first_true (a.pc == b.pc && nat_le b.least a.least && values) (frames_included a.rooms b.rooms a.frames b.frames) h))
+    let first = and_parts (a.pc == b.pc && nat_le b.least a.least && values) (frames_included a.rooms b.rooms a.frames b.frames) h in
+    (and_parts (a.pc == b.pc) (nat_le b.least a.least) (and_parts (a.pc == b.pc && nat_le b.least a.least) values first.0).0).0
 
 pub covered_walked : (slots : List (Option Insn)) (table : List (List Entry)) (a : View) (budget : ℕ) → AreWalked slots table → Covers (kept_at table a.pc) a budget → Reaches slots a.pc budget
 covered_walked slots table a budget walked c =

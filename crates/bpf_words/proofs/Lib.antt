@@ -3,3 +3,4 @@ pub mod Bits
 pub mod Carry
 pub mod Multiple
 pub mod Swap
+pub mod Immediates

@@ -1,6 +1,6 @@
 -- An access keeps the rule.
 use Rattle.std.proofs.Common.{◌≡◌, ◌≢◌, ℕ, ◌*◌, ◌/◌, ◌^◌, ◌<◌, List, [], ◌∷◌, ◌++◌, length, map, get_or, set, refl, sym, ap, ◌∙◌, subst, ⊎_elim, arith}
-use Rattle.std.proofs.lemmas.List.{length-replicate, get_or-map, map-set}
+use Rattle.std.proofs.lemmas.List.{append-nil, length-replicate, get_or-map, map-set}
 use mathlib.Core.Option.{Option, some, some-injective}
 use lib.ListN.{get_elem?}
 use Rattle.atomic_table.specs.Table.{Me, step, keeps, Allows}
@@ -43,7 +43,7 @@ others_fit log places j id b v e by pos other fv fb = record {
 -- the seat itself
 own_fits : (log : List Entry) (places : List ℕ) (id : ℕ) (v : View) (e : Entry) → e.seat ≡ v.number → Fits log places id v → Fits (log ++ e ∷ []) places id (after_access v log e)
 own_fits log places id v e by fv = record {
-  seen = ([], sym (nil (log ++ e ∷ [])));
+  seen = ([], sym (append-nil (log ++ e ∷ [])));
   told = starts_longer log v.told e fv.told;
   own = mine;
   mine = mine;
@@ -51,10 +51,6 @@ own_fits log places id v e by fv = record {
   numbers = fv.numbers;
 }
   where
-    nil : (zs : List Entry) → zs ++ [] ≡ zs
-    nil [] = refl
-    nil (z ∷ zs) = ap (λ (ws : List Entry). z ∷ ws) (nil zs)
-
     mine : accesses_by v.number (log ++ e ∷ []) ≡ v.own ++ e ∷ []
     mine = accesses_by-own v.number log e by ∙ ap (λ (zs : List Entry). zs ++ e ∷ []) fv.own
 

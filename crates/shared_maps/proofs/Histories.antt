@@ -1,6 +1,6 @@
 -- Histories that grow at their end.
 use Rattle.std.proofs.Common.{◌≡◌, ℕ, zero, suc, eqb, eq-eqb, ne_eqb, ◌<◌, ◌≢◌, Bool, true, false, cond, List, [], ◌∷◌, ◌++◌, length, slice_index, refl, sym, ap, ◌∙◌, subst, append_assoc, arith}
-use Rattle.std.proofs.lemmas.List.{length-set}
+use Rattle.std.proofs.lemmas.List.{append-nil, length-set}
 use mathlib.Core.Option.{some, some-ne-none}
 use lib.ListN.{get_elem?}
 use Rattle.bpf_regions.specs.declared.maps.Shape.{Shape}
@@ -40,11 +40,7 @@ pub accesses_by-own : (seat : ℕ) (es : List Entry) (e : Entry) → e.seat ≡ 
 accesses_by-own seat es e is = accesses_by-append seat es (e ∷ []) ∙ ap (λ (b : Bool). accesses_by seat es ++ cond b (e ∷ []) []) (eq-eqb e.seat seat is)
 
 pub accesses_by-other : (seat : ℕ) (es : List Entry) (e : Entry) → e.seat ≢ seat → accesses_by seat (es ++ e ∷ []) ≡ accesses_by seat es
-accesses_by-other seat es e other = accesses_by-append seat es (e ∷ []) ∙ (ap (λ (b : Bool). accesses_by seat es ++ cond b (e ∷ []) []) (ne_eqb e.seat seat other) ∙ nil (accesses_by seat es))
-  where
-    nil : (zs : List Entry) → zs ++ [] ≡ zs
-    nil [] = refl
-    nil (z ∷ zs) = ap (λ (ws : List Entry). z ∷ ws) (nil zs)
+accesses_by-other seat es e other = accesses_by-append seat es (e ∷ []) ∙ (ap (λ (b : Bool). accesses_by seat es ++ cond b (e ∷ []) []) (ne_eqb e.seat seat other) ∙ append-nil (accesses_by seat es))
 
 pub starts_longer : (history seen : List Entry) (e : Entry) → StartsWith history seen → StartsWith (history ++ e ∷ []) seen
 starts_longer history seen e s = (s.0 ++ e ∷ [], ap (λ (zs : List Entry). zs ++ e ∷ []) s.1 ∙ append_assoc seen s.0 (e ∷ []))

@@ -1,4 +1,4 @@
-use Rattle.std.proofs.Common.{◌∙◌, ap, arith}
+use Rattle.std.proofs.Common.{◌∙◌, ap}
 use Rattle.bpf_absstate.proofs.Pointers.{differs, goes_on, ends}
 use Rattle.bpf_absstate.proofs.registers.are_included.Goals as goal
 

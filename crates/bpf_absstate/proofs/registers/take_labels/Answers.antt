@@ -1,5 +1,4 @@
 use Rattle.std.proofs.Common.{◌∙◌, sym, arith}
-use Rattle.std.proofs.lemmas.List.{length-map}
 use Rattle.bpf_absval.specs.Unlabelled.{unlabelled}
 use Rattle.bpf_absstate.specs.Shared.{held_by}
 use Rattle.bpf_absstate.proofs.Pointers.{changed_more, changed_all, length_held}

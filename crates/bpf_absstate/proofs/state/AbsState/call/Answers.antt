@@ -1,7 +1,7 @@
-use Rattle.std.proofs.Common.{rules, ◌≡◌, ◌+◌, ◌<◌, ◌∷◌, ◌++◌, [], length, sym, ◌∙◌, ap, subst, arith}
+use Rattle.std.proofs.Common.{rules, ◌≡◌, ◌+◌, ◌<◌, length, subst, arith}
 use Rattle.bpf_absstate.specs.View.{View, called, kept_registers, empty_stack}
-use Rattle.bpf_absstate.specs.WellFormed.{IsView, IsState}
-use Rattle.bpf_absstate.proofs.Chained.{one_more}
+use Rattle.bpf_absstate.specs.WellFormed.{IsState}
+use Rattle.std.proofs.lemmas.List.{length_push}
 use Rattle.bpf_absstate.proofs.Whole.{whole_called}
 use Rattle.bpf_absstate.proofs.state.AbsState.call.Goals as goal
 
@@ -13,5 +13,5 @@ invariant_of-self c =
     let few : length a.frames.value < 8 = search rules in
     let same : called old c.args.to c.args.back ≡ new = search rules in
     let count = c.self.invariant.count in
-    let more = one_more a.frames.value (record { return_slot = c.args.back; kept = kept_registers old; stack = empty_stack }) in
+    let more = length_push a.frames.value (record { return_slot = c.args.back; kept = kept_registers old; stack = empty_stack }) in
     subst (IsState (a.depth + 1)) same (record { view = whole_called old c.args.to c.args.back few c.self.invariant.view; count = omega (arith, count, more) })

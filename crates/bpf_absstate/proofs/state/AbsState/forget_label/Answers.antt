@@ -1,7 +1,7 @@
-use Rattle.std.proofs.Common.{rules, ◌≡◌, length, map, sym, ◌∙◌, ap, subst, arith}
+use Rattle.std.proofs.Common.{rules, ◌≡◌, sym, ◌∙◌, subst}
 use Rattle.std.proofs.lemmas.List.{length-map}
 use Rattle.bpf_absstate.specs.View.{View, without_label, frame_unlabelled}
-use Rattle.bpf_absstate.specs.WellFormed.{IsView, IsState}
+use Rattle.bpf_absstate.specs.WellFormed.{IsState}
 use Rattle.bpf_absstate.proofs.Whole.{whole_forgotten}
 use Rattle.bpf_absstate.proofs.state.AbsState.forget_label.Goals as goal
 

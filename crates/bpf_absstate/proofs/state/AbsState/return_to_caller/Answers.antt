@@ -1,9 +1,9 @@
-use Rattle.std.proofs.Common.{rules, refl, ◌≡◌, ◌+◌, ◌-◌, ◌<◌, ◌≤◌, ◌∷◌, ◌++◌, [], length, take, sym, ◌∙◌, ap, subst, arith}
+use Rattle.std.proofs.Common.{rules, ◌≡◌, ◌+◌, ◌-◌, ◌<◌, length, sym, ◌∙◌, ap, subst, arith}
 use Rattle.bpf_absstate.specs.View.{View, returned, caller_registers}
 use Rattle.bpf_absstate.specs.Popped.{IsPopped}
-use Rattle.bpf_absstate.specs.WellFormed.{IsView, IsState}
-use Rattle.bpf_absstate.proofs.Chained.{one_more}
-use Rattle.bpf_absstate.proofs.Returned.{returned_is, back_in}
+use Rattle.bpf_absstate.specs.WellFormed.{IsState}
+use Rattle.std.proofs.lemmas.List.{length_push}
+use Rattle.bpf_absstate.proofs.Returned.{returned_is}
 use Rattle.bpf_absstate.proofs.Whole.{whole_returned}
 use Rattle.bpf_absstate.proofs.state.AbsState.return_to_caller.Goals as goal
 
@@ -20,6 +20,6 @@ invariant_of-self c =
     sym (c.in_ok-registers-in-Some.ensures.is ∙ ap (caller_registers old.registers left.kept) number) in
     let same : returned old ≡ new = returned_is old left below popped ∙ ap (λ rs. record { pc = left.return_slot; registers = rs; frames = below; least = a.least; rooms = a.rooms.value }) written in
     let count = c.self.invariant.count in
-    let e = ap length popped.is in let g = one_more below (record { return_slot = left.return_slot; kept = left.kept; stack = popped.stack }) in
+    let e = ap length popped.is in let g = length_push below (record { return_slot = left.return_slot; kept = left.kept; stack = popped.stack }) in
     let n : a.depth - 1 ≡ length below = omega (arith, e, g, count) in
     subst (IsState (a.depth - 1)) same (record { view = whole_returned old deep c.self.invariant.view; count = n ∙ sym (ap (λ v. length v.frames) (returned_is old left below popped)) })

@@ -1,7 +1,6 @@
-use Rattle.std.proofs.Common.{◌≡◌, inl, inr, ℕ, List, length, slice_set, slice_index_or, refl, sym, ◌∙◌, ap, subst, length-set}
+use Rattle.std.proofs.Common.{◌≡◌, inl, inr, slice_set, slice_index_or, refl, sym, ◌∙◌, ap, subst, length-set}
 use Rattle.std.specs.Result.{IsOk}
-use Rattle.bpf_absstate.specs.declared.frames.CallFrame.{CallFrame}
-use Rattle.bpf_absstate.specs.View.{View, with_frame_slot, main_frame}
+use Rattle.bpf_absstate.specs.View.{with_frame_slot, main_frame}
 use Rattle.bpf_absstate.specs.WellFormed.{IsView, IsState}
 use Rattle.bpf_absstate.proofs.Whole.{whole_slot}
 use Rattle.bpf_absstate.proofs.state.AbsState.set_slot.Goals as goal

@@ -1,4 +1,4 @@
-use Rattle.std.proofs.Common.{rules, ◌≡◌, ◌≤◌, ◌+◌, Ok, Option, None, Some, IfSome, inl, inr, refl, arith, ℕ}
+use Rattle.std.proofs.Common.{rules, ◌≡◌, ◌≤◌, ◌+◌, Ok, Option, None, Some, IfSome, inl, inr, refl, arith}
 use Rattle.std.proofs.lemmas.Result.{err_from_is_err_and}
 use Rattle.bpf_absstate.specs.View.{View}
 use Rattle.bpf_decode.specs.Program.{Begins}

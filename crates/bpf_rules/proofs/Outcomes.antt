@@ -6,10 +6,10 @@ use Rattle.bpf_rules.specs.Faults.{on}
 use Rattle.bpf_rules.specs.Memory.{unless}
 
 module _ {A : Type 0} where
-  abbrev okay : A → Result A Fault
+  abbrev pub okay : A → Result A Fault
   okay x = Ok x
 
-  abbrev refused : Fault → Result A Fault
+  abbrev pub refused : Fault → Result A Fault
   refused f = Err f
 
   pub okay-same : (x y : A) → okay x ≡ okay y → x ≡ y
