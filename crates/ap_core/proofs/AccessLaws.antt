@@ -10,70 +10,44 @@ use Rattle.ap_model.specs.declared.event.Event.{Event}
 use Rattle.ap_model.specs.declared.event.Event.TheVariants as event
 use Rattle.ap_model.specs.declared.event.Out.{Out}
 use Rattle.ap_model.specs.Asks.{Ask, Answered}
-use Rattle.ap_model.specs.Readings.{Readings, Rules}
+use Rattle.ap_model.specs.Readings.{Readings, Rules, Config}
 use Rattle.ap_model.specs.Steps.{Ticks}
-use Rattle.ap_laws.specs.Runs.{Entry, Run, rests, goes_on, opening}
-use Rattle.ap_laws.specs.AccessPoint.{Turn, At, Everywhere, AreTurns, no_event, refused, at_its_shard, ticked, entries_of, asked_of, shard_of}
+use Rattle.ap_model.specs.Runs.{Entry, Run, rests, goes_on, opening, History}
+use Rattle.ap_model.specs.AccessPoint.{At, Everywhere, AreTurns, no_event, refused, at_its_shard, ticked, EventsLead, shard_of, InPlace}
+use Rattle.ap_model.proofs.Appending.{leads_append}
 use Rattle.ap_core.specs.declared.shard.Shard.{Shard}
+use Rattle.ap_core.specs.Handles.{rules}
 use Rattle.ap_core.specs.Shards.{reads, ruled, Handles}
 use Rattle.ap_core.specs.Ticking.{TickStep}
-use Rattle.ap_core.specs.AccessPoints.{no_rules, rules_of, readings_of, RunsAll, RunsOne, joined, TickedBelow}
+use Rattle.ap_core.specs.AccessPoints.{no_rules, rules_of, readings_of, AreFresh, RunsAll, RunsOne, joined, TickedBelow}
 
 -- ---- runs one after another
 
-run_append : (c : Rules) {r mid r2 : Readings} {es fs : List Entry} → Run c r es mid → Run c mid fs r2 → Run c r (es ++ fs) r2
-run_append c (rests r) h = h
-run_append c (goes_on r mid r2 e later step t) h = goes_on r mid _ e _ step (run_append c t h)
-
-turns_append : {es fs : List Event} {rs ss : List (Option (List Out))} {ts us : List Turn} → AreTurns es rs ts → AreTurns fs ss us → AreTurns (es ++ fs) (rs ++ ss) (ts ++ us)
-turns_append no_event h = h
-turns_append (refused e es rs ts t) h = refused e _ _ _ (turns_append t h)
-turns_append (at_its_shard e s es rs ts f t) h = at_its_shard e s _ _ _ f (turns_append t h)
-turns_append (ticked n outs es rs ts t) h = ticked n outs _ _ _ (turns_append t h)
-
-entries_by : (b : Bool) (e : Entry) (xs ys zs : List Entry) → zs ≡ xs ++ ys → cond b (e ∷ zs) zs ≡ cond b (e ∷ xs) xs ++ ys
-entries_by true e xs ys zs h = ap (λ (t : List Entry). e ∷ t) h
-entries_by false e xs ys zs h = h
-
-entries_append : (s : ℕ) (ts us : List Turn) → entries_of s (ts ++ us) ≡ entries_of s ts ++ entries_of s us
-entries_append s [] us = refl
-entries_append s (At shard e ∷ ts) us = entries_by (shard == s) e (entries_of s ts) (entries_of s us) (entries_of s (ts ++ us)) (entries_append s ts us)
-entries_append s (Everywhere units outs ∷ ts) us =
-    ap (λ (t : List Entry). record { event = event.Tick units; asked = []; outs = outs s } ∷ t) (entries_append s ts us)
-
-asked_append : (ts us : List Turn) → asked_of (ts ++ us) ≡ asked_of ts ++ asked_of us
-asked_append [] us = refl
-asked_append (At shard e ∷ ts) us =
-    ap (λ (t : List (Ask × ℕ)). e.asked ++ t) (asked_append ts us) ∙ sym (append_assoc e.asked (asked_of ts) (asked_of us))
-asked_append (Everywhere units outs ∷ ts) us = asked_append ts us
-
-answered_append : {S : Type 0} (R : S → Ask → ℕ → S → Type 0) (p mid p2 : S) (xs ys : List (Ask × ℕ)) → Answered R p xs mid → Answered R mid ys p2 → Answered R p (xs ++ ys) p2
-answered_append R p mid p2 [] ys e h = subst (λ q. Answered R q ys p2) e h
-answered_append R p mid p2 (x ∷ xs) ys h g = (h.0, h.1, answered_append R h.0 mid p2 xs ys h.2 g)
-
 module _ {S : Type 0} (R : S → Ask → ℕ → S → Type 0) where
   pub no_events : (shards : List Shard) (j : S) → RunsAll R shards [] j [] shards j
-  no_events shards j = record { turns = []; are = no_event; run = λ s lt. rests (readings_of shards s); rules = λ s. refl; listed = refl }
+  no_events shards j =
+      record {
+        leads = record { turns = []; are = no_event; run = λ s lt. rests (readings_of shards s); listed = refl };
+        rules = λ s. refl;
+      }
 
   pub runs_append : (old mid new : List Shard) (es fs : List Event) (j k l : S) (rs ss : List (Option (List Out))) →
       RunsAll R old es j rs mid k → RunsAll R mid fs k ss new l → RunsAll R old (es ++ fs) j (rs ++ ss) new l
   runs_append old mid new es fs j k l rs ss h g =
+      let c : (s : ℕ) → rules_of mid s ≡ rules_of old s = h.rules in
+      let went_on = subst (λ (c : ℕ → Rules). EventsLead R c (readings_of mid) fs k ss (readings_of new) l) (λ i s. c s i) g.leads in
       record {
-        turns = h.turns ++ g.turns;
-        are = turns_append h.are g.are;
-        run = λ s lt.
-            subst (λ (t : List Entry). Run (rules_of old s) (readings_of old s) t (readings_of new s)) (sym (entries_append s h.turns g.turns))
-            (run_append (rules_of old s) (h.run s lt) (subst (λ (c : Rules). Run c (readings_of mid s) (entries_of s g.turns) (readings_of new s)) (h.rules s) (g.run s lt)));
+        leads = leads_append R (rules_of old) (readings_of old) (readings_of mid) (readings_of new) es fs j k l rs ss h.leads went_on;
         rules = λ s. g.rules s ∙ h.rules s;
-        listed =
-            subst (λ (t : List (Ask × ℕ)). Answered R j t l) (sym (asked_append h.turns g.turns))
-            (answered_append R j k l (asked_of h.turns) (asked_of g.turns) h.listed g.listed);
       }
 
   -- an event that is refused
   pub refused_one : (shards : List Shard) (e : Event) (j : S) → RunsOne R shards e j None shards j
   refused_one shards e j =
-      record { turns = []; are = refused e [] [] [] no_event; run = λ s lt. rests (readings_of shards s); rules = λ s. refl; listed = refl }
+      record {
+        leads = record { turns = []; are = refused e [] [] [] no_event; run = λ s lt. rests (readings_of shards s); listed = refl };
+        rules = λ s. refl;
+      }
 
 -- ---- one shard of them
 
@@ -122,11 +96,14 @@ module _ {S : Type 0} (R : S → Ask → ℕ → S → Type 0) (shards : List Sh
   handled_one concerns h same =
       let entry : Entry = record { event = e; asked = h.asked; outs = outs } in
       record {
-        turns = At at entry ∷ [];
-        are = at_its_shard entry at [] [] [] concerns no_event;
-        run = λ s lt. run_by entry (goes_on (reads x) (reads y) (reads y) entry [] h.does (rests (reads y))) s (at == s) refl;
+        leads =
+            record {
+              turns = At at entry ∷ [];
+              are = at_its_shard entry at [] [] [] concerns no_event;
+              run = λ s lt. run_by entry (goes_on (reads x) (reads y) (reads y) entry [] h.does (rests (reads y))) s (at == s) refl;
+              listed = subst (λ (t : List (Ask × ℕ)). Answered R j t j2) (sym (append-nil h.asked)) h.listed;
+            };
         rules = λ s. new_rules same s (s == at) refl;
-        listed = subst (λ (t : List (Ask × ℕ)). Answered R j t j2) (sym (append-nil h.asked)) h.listed;
       }
 
   set_back : y ≡ x → slice_set shards at y ≡ shards
@@ -235,13 +212,16 @@ module _ (units : ℕ) (old new : List Shard) (outs : List Out) (p : TickedBelow
   pub all_ticked : {S : Type 0} (R : S → Ask → ℕ → S → Type 0) (j : S) → Shard → RunsOne R old (event.Tick units) j (Some outs) new j
   all_ticked R j d =
       record {
-        turns = Everywhere units p.parts ∷ [];
-        are =
-            subst (λ (t : List Out). AreTurns (event.Tick units ∷ []) (Some t ∷ []) (Everywhere units p.parts ∷ [])) (sym (p.is ∙ joined_eight p.parts))
-            (ticked units p.parts [] [] [] no_event);
-        run = λ s lt. tick_at d s lt;
+        leads =
+            record {
+              turns = Everywhere units p.parts ∷ [];
+              are =
+                  subst (λ (t : List Out). AreTurns (event.Tick units ∷ []) (Some t ∷ []) (Everywhere units p.parts ∷ [])) (sym (p.is ∙ joined_eight p.parts))
+                  (ticked units p.parts [] [] [] no_event);
+              run = λ s lt. tick_at d s lt;
+              listed = refl;
+            };
         rules = λ s. rules_at d s (nat_lt s 8) refl;
-        listed = refl;
       }
 
 -- one of eight
@@ -255,3 +235,37 @@ pub tick_runs : {S : Type 0} (R : S → Ask → ℕ → S → Type 0) (j : S) (u
     RunsOne R old (event.Tick units) j (option_map (λ outs. outs.items) o) later j
 tick_runs R j units old later None e l = subst (λ (t : List Shard). RunsOne R old (event.Tick units) j None t j) (sym e) (refused_one R old (event.Tick units) j)
 tick_runs R j units old later (Some outs) p l = all_ticked units old later outs.items p l (p.many ∙ l) R j (one_of old l)
+
+-- each shard has a history
+pub have_histories : (shards : List Shard) → length shards ≡ 8 → (s : ℕ) → s < 8 → ∥ History (rules_of shards s) (readings_of shards s) ∥₁
+have_histories shards eight s lt =
+    let inside : s < length shards = omega (arith, eight, lt) in
+    let x : Shard = slice_index_or shards s (one_of shards eight) in
+    subst (λ (c : Rules). ∥ History c (readings_of shards s) ∥₁) (sym (get_or-map ruled shards s (one_of shards eight) no_rules inside))
+    (subst (λ (r : Readings). ∥ History (ruled x) r ∥₁) (sym (get_or-map reads shards s (one_of shards eight) opening inside)) x.history)
+
+-- ---- eight new shards
+
+module _ (config : Config) where
+  -- shard n has handled nothing
+  abbrev pub IsFresh : ℕ → Shard → Type 0
+  IsFresh n s = (ruled s ≡ rules n config) × (reads s ≡ opening)
+
+  pub eight_fresh : (a b c d e f g h : Shard) → IsFresh 0 a → IsFresh 1 b → IsFresh 2 c → IsFresh 3 d → IsFresh 4 e → IsFresh 5 f → IsFresh 6 g → IsFresh 7 h →
+      AreFresh config (a ∷ b ∷ c ∷ d ∷ e ∷ f ∷ g ∷ h ∷ [])
+  eight_fresh a b c d e f g h p0 p1 p2 p3 p4 p5 p6 p7 =
+      record { rules = λ s lt. (at s lt).0; readings = λ s lt. (at s lt).1 }
+    where
+      at : (s : ℕ) → s < 8 → (rules_of (a ∷ b ∷ c ∷ d ∷ e ∷ f ∷ g ∷ h ∷ []) s ≡ rules s config) × (readings_of (a ∷ b ∷ c ∷ d ∷ e ∷ f ∷ g ∷ h ∷ []) s ≡ opening)
+      at zero lt = p0
+      at (suc zero) lt = p1
+      at (suc (suc zero)) lt = p2
+      at (suc (suc (suc zero))) lt = p3
+      at (suc (suc (suc (suc zero)))) lt = p4
+      at (suc (suc (suc (suc (suc zero))))) lt = p5
+      at (suc (suc (suc (suc (suc (suc zero)))))) lt = p6
+      at (suc (suc (suc (suc (suc (suc (suc zero))))))) lt = p7
+      at (suc (suc (suc (suc (suc (suc (suc (suc n)))))))) lt = absurd (omega (arith, lt))
+
+pub fresh_in_place : (config : Config) (shards : List Shard) → AreFresh config shards → InPlace (rules_of shards)
+fresh_in_place config shards fresh s lt = ap (λ (c : Rules). c.shard) (fresh.rules s lt)

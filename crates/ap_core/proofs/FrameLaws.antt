@@ -7,11 +7,10 @@ use Rattle.mac_frame.specs.Reading.{IsFault}
 use Rattle.mac_frame.specs.Spelling.{Frame, IsFrame, spelling}
 use Rattle.assoc.specs.declared.class.ClassAnswer.{ClassAnswer}
 use Rattle.ap_model.specs.declared.event.Out.{Out}
-use Rattle.ap_model.specs.Asks.{Ask}
+use Rattle.ap_model.specs.Asks.{Ask, Handled}
 use Rattle.ap_model.specs.Readings.{Readings, Rules}
 use Rattle.ap_model.specs.Steps.{Checked, check_of, FrameComes, IsOurs, ours, faulty}
 use Rattle.ap_core.specs.Noted.{IsNoted}
-use Rattle.ap_core.specs.Handles.{Handled}
 use Rattle.ap_core.proofs.Handling.{settled}
 
 module _ {S : Type 0} (R : S → Ask → ℕ → S → Type 0) (c : Rules) (r r2 : Readings) (f : Frame) (j j2 : S) (outs : List Out) where

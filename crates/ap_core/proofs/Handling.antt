@@ -1,10 +1,9 @@
 -- A rule that asks nothing, and a rule that asks once.
 use Rattle.std.proofs.Common.{◌≡◌, ℕ, List, [], ◌∷◌, refl}
 use Rattle.ap_model.specs.declared.event.Out.{Out}
-use Rattle.ap_model.specs.Asks.{Ask}
+use Rattle.ap_model.specs.Asks.{Ask, Handled}
 use Rattle.ap_model.specs.Readings.{Readings, Using}
 use Rattle.ap_model.specs.Changes.{Stays, Answers, Nothing}
-use Rattle.ap_core.specs.Handles.{Handled}
 
 pub unchanged : (r : Readings) → Stays r r
 unchanged r = record { standing = λ q. refl; agreement = λ q t. refl; clock = refl }

@@ -9,3 +9,5 @@ pub mod SetupLaws
 pub mod FrameLaws
 pub mod TickLaws
 pub mod AccessLaws
+pub mod Pasts
+pub mod Counting

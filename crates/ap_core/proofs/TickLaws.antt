@@ -3,7 +3,7 @@ use Rattle.std.proofs.Common.{◌≡◌, ℕ, suc, ◌+◌, ◌-◌, ◌*◌, �
 use Rattle.std.proofs.lemmas.List.{append-nil}
 use Rattle.std.proofs.lemmas.Bool.{and_parts}
 use Rattle.std.proofs.lemmas.Bool.Decides.{nat_tests}
-use Rattle.std.specs.Prelude.{◌↔◌, ◌&&◌, nat_le, AllPairs, Contains}
+use Rattle.std.specs.Prelude.{◌↔◌, nat_le, AllPairs, Contains}
 use Rattle.assoc.specs.Standings.{Standings}
 use Rattle.blockack.specs.Reading.{EndPassesUp}
 use Rattle.ap_model.specs.declared.event.Out.{Out}

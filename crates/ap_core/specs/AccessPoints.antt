@@ -1,20 +1,16 @@
 -- Eight shards, and what a list of events is to them.
-use Rattle.std.specs.Prelude.{◌≡◌, ℕ, zero, suc, ◌%◌, ◌<◌, ◌≤◌, Option, List, [], ◌∷◌, ◌++◌, map, length, slice_index_or}
+use Rattle.std.specs.Prelude.{◌≡◌, ℕ, zero, suc, ◌<◌, ◌≤◌, Option, List, [], ◌∷◌, ◌++◌, map, length, slice_index_or}
 use Rattle.std.specs.Option.{option_map}
 use Rattle.std.specs.Global.{Vec}
 use Rattle.ap_model.specs.declared.event.Event.{Event}
 use Rattle.ap_model.specs.declared.event.Out.{Out}
-use Rattle.ap_model.specs.Asks.{Ask, Answered}
-use Rattle.ap_model.specs.Readings.{Readings, Rules}
+use Rattle.ap_model.specs.Asks.{Ask}
+use Rattle.ap_model.specs.Readings.{Readings, Rules, Config}
 use Rattle.ap_model.specs.Steps.{Ticks}
-use Rattle.ap_laws.specs.Runs.{opening}
-use Rattle.ap_laws.specs.AccessPoint.{Turn, AreTurns, LinkRun, asked_of}
+use Rattle.ap_model.specs.Runs.{opening}
+use Rattle.ap_model.specs.AccessPoint.{EventsLead}
 use Rattle.ap_core.specs.declared.shard.Shard.{Shard}
 use Rattle.ap_core.specs.Shards.{reads, ruled}
-
--- the shard that bytes concern
-abbrev pub shard_of_bytes : List ℕ → ℕ
-shard_of_bytes bytes = slice_index_or bytes 15 0 % 8
 
 -- what stands where there is no shard
 abbrev pub no_rules : Rules
@@ -32,13 +28,15 @@ readings_of shards s = slice_index_or (map reads shards) s opening
 abbrev pub outs_in : List (Option (Vec Out)) → List (Option (List Out))
 outs_in results = map (option_map (λ outs. outs.items)) results
 
--- the events led to that: turns of the shards, whose entries are runs of the link, and whose verdicts are the judge's
+-- the events led to that, by the judge's verdicts, and what the shards are made with stayed
 pub record RunsAll {S : Type 0} (R : S → Ask → ℕ → S → Type 0) (old : List Shard) (events : List Event) (j : S) (results : List (Option (List Out))) (new : List Shard) (j2 : S) : Type 0 where
-  pub turns : List Turn
-  pub are : AreTurns events results turns
-  pub run : LinkRun (rules_of old) (readings_of old) turns (readings_of new)
+  pub leads : EventsLead R (rules_of old) (readings_of old) events j results (readings_of new) j2
   pub rules : (s : ℕ) → rules_of new s ≡ rules_of old s
-  pub listed : Answered R j (asked_of turns) j2
+
+-- shards of a configuration that have handled nothing, each at the place of its number
+pub record AreFresh (config : Config) (shards : List Shard) : Type 0 where
+  pub rules : (s : ℕ) → s < 8 → rules_of shards s ≡ record { shard = s; config = config }
+  pub readings : (s : ℕ) → s < 8 → readings_of shards s ≡ opening
 
 -- one event did
 abbrev pub RunsOne : {S : Type 0} → (S → Ask → ℕ → S → Type 0) → List Shard → Event → S → Option (List Out) → List Shard → S → Type 0

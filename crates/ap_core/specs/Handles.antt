@@ -6,7 +6,6 @@ use Rattle.blockack.specs.Reading.{EndPassesUp}
 use Rattle.hooks.specs.declared.verdicts.DataVerdict.{DataVerdict}
 use Rattle.hooks.specs.declared.verdicts.DataVerdict.TheVariants.{Pass, Discard}
 use Rattle.ap_model.specs.declared.event.Out.{Out}
-use Rattle.ap_model.specs.Asks.{Ask, Answered}
 use Rattle.ap_model.specs.Readings.{Readings, Rules, Using, Config, Held}
 use Rattle.ap_model.specs.Changes.{Agrees}
 use Rattle.ap_model.specs.Associations.{Request}
@@ -18,15 +17,11 @@ use Rattle.ap_core.specs.declared.management.Asked.{Asked}
 use Rattle.ap_core.specs.declared.packets.Read.{Read}
 use Rattle.ap_core.specs.declared.setups.SetupRequest.{SetupRequest}
 
--- the relation holds, its asks being what the judge was asked and answered
-pub record Handled {S : Type 0} (R : S → Ask → ℕ → S → Type 0) (step : List (Ask × ℕ) → List Out → Type 0) (j : S) (outs : List Out) (j2 : S) : Type 0 where
-  pub asked : List (Ask × ℕ)
-  pub listed : Answered R j asked j2
-  pub does : step asked outs
-
+-- what a shard's state is of its history
 abbrev pub reading : State → Readings
 reading s = record { standing = standing s.link; agreement = agreement_in s.agreements.kept; clock = s.clock }
 
+-- what a shard is made with: its number and the configuration
 abbrev pub rules : ℕ → Config → Rules
 rules shard config = record { shard = shard; config = config }
 

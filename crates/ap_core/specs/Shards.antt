@@ -2,15 +2,17 @@
 use Rattle.std.specs.Prelude.{ℕ, List}
 use Rattle.ap_model.specs.declared.event.Event.{Event}
 use Rattle.ap_model.specs.declared.event.Out.{Out}
-use Rattle.ap_model.specs.Asks.{Ask}
+use Rattle.ap_model.specs.Asks.{Ask, Handled}
 use Rattle.ap_model.specs.Readings.{Readings, Rules}
 use Rattle.ap_model.specs.Steps.{Step}
 use Rattle.ap_core.specs.declared.shard.Shard.{Shard}
-use Rattle.ap_core.specs.Handles.{Handled, reading, rules}
+use Rattle.ap_core.specs.Handles.{reading, rules}
 
+-- what its later steps read of its history
 abbrev pub reads : Shard → Readings
 reads s = reading s.state
 
+-- what it is made with
 abbrev pub ruled : Shard → Rules
 ruled s = rules s.state.link.shard s.config
 

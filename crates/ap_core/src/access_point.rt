@@ -1,12 +1,13 @@
 //! Eight shards.
 
-ghost use Rattle.std.specs.Prelude.{◌≡◌, ◌+◌, ◌≤◌, ◌<◌, [], ◌∷◌, Some, IfOk, IfErr, MatchOption, vec_len, vec_capacity};
+ghost use Rattle.std.specs.Prelude.{◌≡◌, ℕ, ◌+◌, ◌≤◌, ◌<◌, [], ◌∷◌, Some, IfSome, IfOk, IfErr, MatchOption, vec_len, vec_capacity};
 ghost use Rattle.std.specs.Option.{option_map};
-ghost use Rattle.ap_laws.specs.AccessPoint.{shard_of, shard_of_address, InPlace};
-ghost use Rattle.ap_core.specs.AccessPoints.{rules_of, outs_in, shard_of_bytes, RunsAll, RunsOne, TickedBelow};
+ghost use Rattle.ap_model.specs.Runs.{History};
+ghost use Rattle.ap_model.specs.AccessPoint.{shard_of, shard_of_address, shard_of_bytes, InPlace};
+ghost use Rattle.ap_core.specs.AccessPoints.{rules_of, readings_of, outs_in, AreFresh, RunsAll, RunsOne, TickedBelow};
 
 use crate::shard::Shard;
-use ap_model::{Event, Judge, Out};
+use ap_model::{Event, Judge, LinkConfig, Out};
 use mac_frame::Address;
 use std::alloc::{AllocError, Global};
 
@@ -29,6 +30,42 @@ fn shard_of_bytes(bytes: &[u8]) -> usize
         None => 0,
     }
 }
+
+/// The shard that an event concerns: a frame that of its sender, which bytes too short to name one
+/// leave at shard 0, an operator's command that of its station. None for a tick, which concerns all.
+pub fn shard_of(event: &Event) -> Option<usize>
+    ensures is { result ≡ shard_of event.now }
+    ensures fits { IfSome result (λ s. s < 8) }
+{
+    match event {
+        Event::Frame(bytes) => Some(shard_of_bytes(bytes.bytes())),
+        Event::Tick(_) => None,
+        Event::Kick { station, .. } => Some(shard_of_address(*station)),
+        Event::Close { station, .. } => Some(shard_of_address(*station)),
+    }
+}
+
+/// Eight shards of an access point that have handled nothing, each at the place of its number.
+pub fn new_shards(alloc: Global, config: &LinkConfig) -> Result<[Shard; 8], AllocError>
+    ensures fresh { IfOk result (AreFresh config.now) }
+    ensures place { IfOk result (λ shards. InPlace (rules_of shards)) }
+{
+    Ok([
+        Shard::new(alloc, 0, config)?,
+        Shard::new(alloc, 1, config)?,
+        Shard::new(alloc, 2, config)?,
+        Shard::new(alloc, 3, config)?,
+        Shard::new(alloc, 4, config)?,
+        Shard::new(alloc, 5, config)?,
+        Shard::new(alloc, 6, config)?,
+        Shard::new(alloc, 7, config)?,
+    ])
+}
+
+/// Tells a proof that each of these shards has a history, and does nothing.
+pub fn known_shards(shards: &[Shard; 8])
+    ensures { (s : ℕ) → s < 8 → ∥ History (rules_of shards.now s) (readings_of shards.now s) ∥₁ }
+{}
 
 /// Ticks the first `count` shards, whose outs have room then, and as many outs beside them. All
 /// growths are made first, from the last shard down.
@@ -131,6 +168,7 @@ pub fn handle_all<J: Judge>(
     requires place { InPlace (rules_of shards.old) }
     // The outs and the verdicts of each shard are a run of the link, from its readings on.
     ensures run { IfOk result (λ results. RunsAll J.gives shards.old events.now judge.old (outs_in results.items) shards.new judge.new) }
+    ensures place { InPlace (rules_of shards.new) }
     ensures refused { IfErr result (λ _. (shards.new ≡ shards.old) × (judge.new ≡ judge.old)) }
 {
     let mut results = Vec::with_capacity(alloc, events.len())?;

@@ -16,10 +16,6 @@ mod shard;
 mod state;
 mod ticks;
 
-pub use access_point::handle_all;
-pub use ap_laws::window_law;
-pub use ap_model::{Event, Held, Judge, LinkConfig, ListJudge, Octets, Out, Up};
+pub use access_point::{handle_all, known_shards, new_shards, shard_of};
+pub use ap_model::{AskLog, Event, Held, Judge, LinkConfig, ListJudge, Octets, Out, Up};
 pub use shard::Shard;
-
-#[cfg(test)]
-mod tests;

@@ -7,7 +7,8 @@ ghost use Rattle.assoc.specs.Standings.{standing, IsFull};
 ghost use Rattle.ap_model.specs.Changes.{sends};
 ghost use Rattle.ap_model.specs.Associations.{AuthenticationStatus, Authenticates, Associates, Suits, Names, association_answer, association_ask};
 ghost use Rattle.mac_frame.specs.Elements.{rates_text};
-ghost use Rattle.ap_core.specs.Handles.{Handled, reading, rules, request};
+ghost use Rattle.ap_model.specs.Asks.{Handled};
+ghost use Rattle.ap_core.specs.Handles.{reading, rules, request};
 
 use crate::moves::{associate, authenticate};
 use crate::room::Room;

@@ -8,7 +8,8 @@ ghost use Rattle.hooks.specs.Contexts as contexts;
 ghost use Rattle.hooks.specs.Verdicts.{data_verdict};
 ghost use Rattle.ap_model.specs.Agreements.{DataComes, agreement_for};
 ghost use Rattle.ap_agreements.specs.Tables.{agreement_in};
-ghost use Rattle.ap_core.specs.Handles.{Handled, reading, packet, held_item};
+ghost use Rattle.ap_model.specs.Asks.{Handled};
+ghost use Rattle.ap_core.specs.Handles.{reading, packet, held_item};
 
 use crate::passing::{MOST_RELEASED, pass_up};
 use crate::room::Room;
@@ -45,28 +46,29 @@ fn context_of(
     data_context(asker, read.tid, read.number, start)
 }
 
-/// Data without an agreement: its copy is made before the verdict is asked.
+/// Data without an agreement: all growths are made before the verdict is asked.
 pub(crate) fn on_plain_data<J: Judge>(
     alloc: Global,
     state: &State,
-    frame: &MacFrame,
+    frame: MacFrame,
     bytes: &Frame<'_>,
     read: &Read,
     judge: &mut J,
 ) -> Result<Vec<Out>, AllocError>
-    requires bytes { bytes.now ≡ spelling frame.now }
-    requires plain { agreement_for (reading state.now) frame.now.sender read.now.tid ≡ None }
-    ensures step { IfOk result (λ outs. Handled J.gives (λ asks outs. DataComes (reading state.now) frame.now.sender (packet frame.now read.now) asks outs (reading state.now)) judge.old outs.items judge.new) }
+    requires bytes { bytes.now ≡ spelling frame }
+    requires plain { agreement_for (reading state.now) frame.sender read.now.tid ≡ None }
+    ensures step { IfOk result (λ outs. Handled J.gives (λ asks outs. DataComes (reading state.now) frame.sender (packet frame read.now) asks outs (reading state.now)) judge.old outs.items judge.new) }
     ensures refused { IfErr result (λ _. judge.new ≡ judge.old) }
 {
     let room = Room::new(alloc)?;
-    let body = Octets::copy(alloc, frame.tail())?;
-    let context = context_of(state, frame, read, None);
+    let source = frame.sender();
+    let context = context_of(state, &frame, read, None);
     let verdict = judge.judge(Hook::Data, bytes, &context);
     match data_verdict(verdict) {
         DataVerdict::Pass(mark) => {
+            let body = Octets::new(frame.into_tail());
             let up = Up {
-                source: frame.sender(),
+                source,
                 destination: read.destination,
                 tid: read.tid,
                 number: read.number,
@@ -94,26 +96,26 @@ fn item_of(verdict: u64, destination: Address, body: Octets) -> Option<Held>
 fn on_wanted_data<J: Judge>(
     alloc: Global,
     state: &mut State,
-    frame: &MacFrame,
+    frame: MacFrame,
     bytes: &Frame<'_>,
     read: &Read,
     tid: Tid,
     start: SequenceNumber,
     judge: &mut J,
 ) -> Result<Vec<Out>, AllocError>
-    requires bytes { bytes.now ≡ spelling frame.now }
+    requires bytes { bytes.now ≡ spelling frame }
     requires tid { read.now.tid ≡ Some tid }
-    requires agreed { IsSomeAnd (agreement_in state.old.agreements.kept frame.now.sender tid) (λ u. IsWanted u.window read.now.number × (start ≡ u.window.start)) }
-    ensures step { IfOk result (λ outs. Handled J.gives (λ asks outs. DataComes (reading state.old) frame.now.sender (packet frame.now read.now) asks outs (reading state.new)) judge.old outs.items judge.new) }
+    requires agreed { IsSomeAnd (agreement_in state.old.agreements.kept frame.sender tid) (λ u. IsWanted u.window read.now.number × (start ≡ u.window.start)) }
+    ensures step { IfOk result (λ outs. Handled J.gives (λ asks outs. DataComes (reading state.old) frame.sender (packet frame read.now) asks outs (reading state.new)) judge.old outs.items judge.new) }
     ensures shard { state.new.link.shard ≡ state.old.link.shard }
     ensures refused { IfErr result (λ _. (state.new ≡ state.old) × (judge.new ≡ judge.old)) }
 {
     let mut outs = Vec::with_capacity(alloc, MOST_RELEASED)?;
-    let body = Octets::copy(alloc, frame.tail())?;
-    let context = context_of(state, frame, read, Some(start));
-    let verdict = judge.judge(Hook::Data, bytes, &context);
-    let item = item_of(verdict, read.destination, body);
     let station = frame.sender();
+    let context = context_of(state, &frame, read, Some(start));
+    let verdict = judge.judge(Hook::Data, bytes, &context);
+    let body = Octets::new(frame.into_tail());
+    let item = item_of(verdict, read.destination, body);
     let clock = state.clock;
     let mut passed = Released::new();
     state
@@ -127,15 +129,15 @@ fn on_wanted_data<J: Judge>(
 pub(crate) fn on_qos_data<J: Judge>(
     alloc: Global,
     state: &mut State,
-    frame: &MacFrame,
+    frame: MacFrame,
     bytes: &Frame<'_>,
     read: &Read,
     tid: Tid,
     judge: &mut J,
 ) -> Result<Vec<Out>, AllocError>
-    requires bytes { bytes.now ≡ spelling frame.now }
+    requires bytes { bytes.now ≡ spelling frame }
     requires tid { read.now.tid ≡ Some tid }
-    ensures step { IfOk result (λ outs. Handled J.gives (λ asks outs. DataComes (reading state.old) frame.now.sender (packet frame.now read.now) asks outs (reading state.new)) judge.old outs.items judge.new) }
+    ensures step { IfOk result (λ outs. Handled J.gives (λ asks outs. DataComes (reading state.old) frame.sender (packet frame read.now) asks outs (reading state.new)) judge.old outs.items judge.new) }
     ensures shard { state.new.link.shard ≡ state.old.link.shard }
     ensures refused { IfErr result (λ _. (state.new ≡ state.old) × (judge.new ≡ judge.old)) }
 {

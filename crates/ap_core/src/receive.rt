@@ -4,7 +4,8 @@ ghost use Rattle.std.specs.Prelude.{◌≡◌, ℕ, [], ◌∷◌, IfOk, IfErr};
 ghost use Rattle.ap_model.specs.declared.event.Out.{Out};
 ghost use Rattle.mac_frame.specs.Spelling.{spelling};
 ghost use Rattle.ap_model.specs.Steps.{FrameComes, Checked, check_of};
-ghost use Rattle.ap_core.specs.Handles.{Handled, reading, rules};
+ghost use Rattle.ap_model.specs.Asks.{Handled};
+ghost use Rattle.ap_core.specs.Handles.{reading, rules};
 ghost use Rattle.ap_core.specs.Noted.{IsNoted};
 
 use crate::room::Room;
@@ -45,12 +46,12 @@ fn check<J: Judge>(
     alloc: Global,
     state: &mut State,
     config: &LinkConfig,
-    frame: &MacFrame,
+    frame: MacFrame,
     bytes: &Frame<'_>,
     judge: &mut J,
 ) -> Result<Vec<Out>, AllocError>
-    requires bytes { bytes.now ≡ spelling frame.now }
-    ensures step { IfOk result (λ outs. Handled J.gives (λ asks outs. Checked (rules state.old.link.shard config.now) (reading state.old) frame.now (check_of (rules state.old.link.shard config.now) (reading state.old) frame.now) asks outs (reading state.new)) judge.old outs.items judge.new) }
+    requires bytes { bytes.now ≡ spelling frame }
+    ensures step { IfOk result (λ outs. Handled J.gives (λ asks outs. Checked (rules state.old.link.shard config.now) (reading state.old) frame (check_of (rules state.old.link.shard config.now) (reading state.old) frame) asks outs (reading state.new)) judge.old outs.items judge.new) }
     ensures shard { state.new.link.shard ≡ state.old.link.shard }
     ensures refused { IfErr result (λ _. (state.new ≡ state.old) × (judge.new ≡ judge.old)) }
 {
@@ -78,17 +79,17 @@ fn on_frame<J: Judge>(
     alloc: Global,
     state: &mut State,
     config: &LinkConfig,
-    frame: &MacFrame,
+    frame: MacFrame,
     bytes: &[u8],
     judge: &mut J,
 ) -> Result<Vec<Out>, AllocError>
-    requires bytes { bytes.now ≡ spelling frame.now }
+    requires bytes { bytes.now ≡ spelling frame }
     ensures step { IfOk result (λ outs. Handled J.gives (λ asks outs. FrameComes (rules state.old.link.shard config.now) (reading state.old) bytes.now asks outs (reading state.new)) judge.old outs.items judge.new) }
     ensures shard { state.new.link.shard ≡ state.old.link.shard }
     ensures refused { IfErr result (λ _. (state.new ≡ state.old) × (judge.new ≡ judge.old)) }
 {
     frame.known();
-    if !is_ours(config, frame) {
+    if !is_ours(config, &frame) {
         let note = noted(alloc, NOT_OURS)?;
         return Ok(note);
     }
@@ -114,7 +115,7 @@ pub(crate) fn receive<J: Judge>(
 {
     match parse(alloc, bytes) {
         Ok(frame) => {
-            let outs = on_frame(alloc, state, config, &frame, bytes, judge)?;
+            let outs = on_frame(alloc, state, config, frame, bytes, judge)?;
             return Ok(outs);
         }
         Err(fault) => {

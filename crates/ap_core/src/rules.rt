@@ -8,7 +8,8 @@ ghost use Rattle.assoc.specs.Standings.{standing};
 ghost use Rattle.assoc.specs.Classes.{class_of, class_answer};
 ghost use Rattle.assoc.specs.declared.class.ClassAnswer.{ClassAnswer};
 ghost use Rattle.ap_model.specs.Steps.{IsOurs, ManagementComes, DataKindComes, ControlComes, Follows};
-ghost use Rattle.ap_core.specs.Handles.{Handled, reading, rules};
+ghost use Rattle.ap_model.specs.Asks.{Handled};
+ghost use Rattle.ap_core.specs.Handles.{reading, rules};
 
 use crate::ends::on_delba;
 use crate::management::{Asked, on_association, on_authentication};
@@ -151,15 +152,15 @@ fn on_control(
 fn on_data_kind<J: Judge>(
     alloc: Global,
     state: &mut State,
-    frame: &MacFrame,
+    frame: MacFrame,
     bytes: &Frame<'_>,
     destination: Address,
     number: SequenceNumber,
     kind: DataKind,
     judge: &mut J,
 ) -> Result<Vec<Out>, AllocError>
-    requires bytes { bytes.now ≡ spelling frame.now }
-    ensures step { IfOk result (λ outs. (c : Rules) → Handled J.gives (λ asks outs. DataKindComes c (reading state.old) frame.now destination number kind asks outs (reading state.new)) judge.old outs.items judge.new) }
+    requires bytes { bytes.now ≡ spelling frame }
+    ensures step { IfOk result (λ outs. (c : Rules) → Handled J.gives (λ asks outs. DataKindComes c (reading state.old) frame destination number kind asks outs (reading state.new)) judge.old outs.items judge.new) }
     ensures shard { state.new.link.shard ≡ state.old.link.shard }
     ensures refused { IfErr result (λ _. (state.new ≡ state.old) × (judge.new ≡ judge.old)) }
 {
@@ -192,19 +193,19 @@ pub(crate) fn follow<J: Judge>(
     alloc: Global,
     state: &mut State,
     config: &LinkConfig,
-    frame: &MacFrame,
+    frame: MacFrame,
     bytes: &Frame<'_>,
     judge: &mut J,
 ) -> Result<Vec<Out>, AllocError>
-    requires bytes { bytes.now ≡ spelling frame.now }
-    requires permitted { class_answer (standing state.old.link frame.now.sender) (class_of (content_subtype frame.now.content)) ≡ ClassAnswer.Permitted }
-    ensures step { IfOk result (λ outs. Handled J.gives (λ asks outs. Follows (rules state.old.link.shard config.now) (reading state.old) frame.now frame.now.content asks outs (reading state.new)) judge.old outs.items judge.new) }
+    requires bytes { bytes.now ≡ spelling frame }
+    requires permitted { class_answer (standing state.old.link frame.sender) (class_of (content_subtype frame.content)) ≡ ClassAnswer.Permitted }
+    ensures step { IfOk result (λ outs. Handled J.gives (λ asks outs. Follows (rules state.old.link.shard config.now) (reading state.old) frame frame.content asks outs (reading state.new)) judge.old outs.items judge.new) }
     ensures shard { state.new.link.shard ≡ state.old.link.shard }
     ensures refused { IfErr result (λ _. (state.new ≡ state.old) × (judge.new ≡ judge.old)) }
 {
     match frame.content() {
         Content::Management { body, .. } => {
-            let outs = on_management(alloc, state, config, frame, bytes, body, judge)?;
+            let outs = on_management(alloc, state, config, &frame, bytes, body, judge)?;
             return Ok(outs);
         }
         Content::Control { body } => {

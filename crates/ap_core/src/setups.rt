@@ -7,7 +7,8 @@ ghost use Rattle.mac_frame.specs.Spelling.{Frame as SpelledFrame};
 ghost use Rattle.ap_model.specs.Changes.{sends};
 ghost use Rattle.ap_model.specs.Agreements.{SetsUp, setup_answer, setup_ask};
 ghost use Rattle.ap_agreements.specs.Tables.{key_of};
-ghost use Rattle.ap_core.specs.Handles.{Handled, reading, rules, setup, IsGranted};
+ghost use Rattle.ap_model.specs.Asks.{Handled};
+ghost use Rattle.ap_core.specs.Handles.{reading, rules, setup, IsGranted};
 
 use crate::passing::{MOST_RELEASED, pass_replaced};
 use crate::room::{FrameRoom, Room};

@@ -1,12 +1,8 @@
 //! A shard: the stations whose last address octet is its number modulo 8.
 
-ghost use Rattle.std.specs.Prelude.{◌≡◌, ℕ, ◌+◌, ◌*◌, ◌<◌, ◌≤◌, IfOk, IfErr, List, [], None, vec_len, vec_capacity};
-ghost use Rattle.assoc.specs.Standings.{associated_count};
-ghost use Rattle.ap_model.specs.declared.event.Event.{Event};
-ghost use Rattle.ap_model.specs.Steps.{Step};
-ghost use Rattle.ap_core.specs.Handles.{rules};
-ghost use Rattle.ap_core.specs.Shards.{reads, ruled, Handles};
-ghost use Rattle.ap_core.specs.Ticking.{late_count, HasRoom, TickStep};
+ghost use Rattle.std.specs.Prelude.{◌≡◌, ◌<◌};
+ghost use Rattle.ap_model.specs.Runs.{History, opening};
+ghost use Rattle.ap_core.specs.Handles.{reading, rules};
 
 use crate::ends::{UNKNOWN_STATION, on_close};
 use crate::moves::deauthenticate;
@@ -20,28 +16,55 @@ use assoc::Link;
 use mac_frame::{Address, MacFrame, Reason};
 use std::alloc::{AllocError, Global};
 
-/// A shard of an access point's link.
+/// A shard of an access point's link. What its steps read of the past is what some run of the link
+/// leaves that began with nobody.
 #[derive(Drop)]
 pub struct Shard {
     state: State,
     config: LinkConfig,
+    ghost history: { ∥ History (rules state.link.shard config) (reading state) ∥₁ },
+}
+
+/// What a shard keeps that has handled nothing.
+fn opened(alloc: Global, shard: u16) -> State
+    requires { shard < 8 }
+    ensures shard { result.link.shard ≡ shard }
+    ensures opening { reading result ≡ opening }
+{
+    State {
+        link: Link::new(alloc, shard),
+        agreements: Agreements::new(alloc),
+        clock: 0,
+    }
 }
 
 impl Shard {
-    /// A shard that knows no station.
-    pub fn new(alloc: Global, shard: u16, config: LinkConfig) -> Self
+    ghost use Rattle.std.specs.Prelude.{◌≡◌, ◌+◌, ◌*◌, ◌<◌, ◌≤◌, IfOk, IfErr, [], vec_len, vec_capacity};
+    ghost use Rattle.ap_model.specs.declared.event.Event.{Event};
+    ghost use Rattle.ap_model.specs.Runs.{History, opening};
+    ghost use Rattle.ap_model.specs.Stations.{AreAssociated};
+    ghost use Rattle.ap_model.specs.Steps.{Step};
+    ghost use Rattle.ap_core.specs.Handles.{rules};
+    ghost use Rattle.ap_core.specs.Shards.{reads, ruled, Handles};
+    ghost use Rattle.ap_core.specs.Ticking.{late_count, HasRoom, TickStep};
+
+    /// A shard that has handled nothing, with a copy of the configuration.
+    pub fn new(alloc: Global, shard: u16, config: &LinkConfig) -> Result<Self, AllocError>
         requires { shard < 8 }
-        ensures rules { ruled result ≡ rules shard config }
-        ensures unknown { (a : List ℕ) → (reads result).standing a ≡ None }
-        ensures unagreed { (a : List ℕ) (tid : ℕ) → (reads result).agreement a tid ≡ None }
-        ensures clock { (reads result).clock ≡ 0 }
+        ensures rules { IfOk result (λ s. ruled s ≡ rules shard config.now) }
+        ensures opening { IfOk result (λ s. reads s ≡ opening) }
     {
-        let state = State {
-            link: Link::new(alloc, shard),
-            agreements: Agreements::new(alloc),
-            clock: 0,
-        };
-        Shard { state, config }
+        let state = opened(alloc, shard);
+        let config = config.clone()?;
+        Ok(Shard { state, config })
+    }
+
+    /// Tells a proof that the shard has a history, and that its number is below 8, and does nothing.
+    pub fn known(&self)
+        ensures history { ∥ History (ruled self.now) (reads self.now) ∥₁ }
+        ensures shard { (ruled self.now).shard < 8 }
+    {
+        let _shard = self.state.link.shard();
     }
 
     /// The sum of the ticks so far, at most 2^64 - 1.
@@ -51,10 +74,12 @@ impl Shard {
         self.state.clock
     }
 
-    /// How many stations are associated.
+    /// How many stations are associated, at most 2007.
     pub fn stations(&self) -> u16
-        ensures { result ≡ associated_count self.now.state.link }
+        ensures are { AreAssociated (reads self.now).standing result }
+        ensures few { result ≤ 2007 }
     {
+        self.state.link.known();
         self.state.link.associated()
     }
 

@@ -24,7 +24,7 @@ use Rattle.ap_model.specs.declared.event.Event.TheVariants as event
 use Rattle.ap_model.specs.Readings.{Readings, Using, Held}
 use Rattle.ap_model.specs.Agreements.{Packet, data_ask, taken, ups, Setup, setup_ask, setup_answer, granted, none_held}
 use Rattle.ap_model.specs.Steps.{ours, IsOurs}
-use Rattle.ap_laws.specs.Runs.{Entry, Handles, rests, goes_on, opening}
+use Rattle.ap_model.specs.Runs.{Entry, Handles, rests, goes_on, opening}
 use Rattle.ap_laws.specs.InOrder.{SomeIsPassedInOrder}
 use Rattle.ap_laws.proofs.Example.{bssid, station, c, known_at, first_entry, second_entry, first_step, second_step}
 

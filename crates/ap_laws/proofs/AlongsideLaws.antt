@@ -35,8 +35,8 @@ use Rattle.ap_model.specs.Changes.{Stays, Moves, Agrees}
 use Rattle.ap_model.specs.Associations.{AuthenticationStatus, other_algorithm, other_transaction, no_room, accepted, Authenticates, accepts, refuses, Associates, unsuited, elsewhere, exhausted, admitted, refused, Request, Suits, Names, association_ask}
 use Rattle.ap_model.specs.Agreements.{Packet, agreement_for, item, DataComes, plain, taken, left, Takes, Leaves, RequestComes, unagreed, agreed, SetsUp, delayed, declined, granted, Setup, setup_ask}
 use Rattle.ap_model.specs.Steps.{Step, FrameComes, faulty, foreign, ours, IsOurs, Checked, check_of, Follows, ManagementComes, ControlComes, DataKindComes, DelbaComes, Kicks, kicked, not_kicked, Closes, closed, not_closed}
-use Rattle.ap_laws.specs.Runs.{Entry, Handles, Run, rests, goes_on}
-use Rattle.ap_laws.specs.AccessPoint.{entries_of}
+use Rattle.ap_model.specs.Runs.{Entry, Handles, Run, rests, goes_on}
+use Rattle.ap_model.specs.AccessPoint.{entries_of}
 use Rattle.ap_laws.specs.Identifiers.{HoldsOnce}
 use Rattle.ap_laws.specs.Origins.{HoldsAgreements}
 use Rattle.ap_laws.specs.Alongside.{AgreeButOnData, Alongside, both_end, both_go_on, RunsLeaveSameStarts, LinkRunsLeaveSameStarts}

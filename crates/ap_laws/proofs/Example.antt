@@ -19,7 +19,7 @@ use Rattle.ap_model.specs.Readings.{Readings, Rules, Using}
 use Rattle.ap_model.specs.Associations.{accepted, accepts, authentication_answer, admitted, Request, Suits, Names, association_ask, association_answer, aid_field}
 use Rattle.ap_model.specs.Agreements.{Packet, data_ask, plain}
 use Rattle.ap_model.specs.Steps.{ours, IsOurs}
-use Rattle.ap_laws.specs.Runs.{Entry, Handles, rests, goes_on, opening}
+use Rattle.ap_model.specs.Runs.{Entry, Handles, rests, goes_on, opening}
 use Rattle.ap_laws.specs.Origins.{SomeIsPassedUp}
 
 abbrev pub bssid : List ℕ

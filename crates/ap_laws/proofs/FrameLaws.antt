@@ -19,7 +19,7 @@ use Rattle.ap_model.specs.declared.event.Out.TheVariants as out
 use Rattle.ap_model.specs.Readings.{Rules}
 use Rattle.ap_model.specs.Associations.{authentication_answer, association_answer}
 use Rattle.ap_model.specs.Steps.{deauthentication, disassociation}
-use Rattle.ap_laws.specs.Runs.{Entry}
+use Rattle.ap_model.specs.Runs.{Entry}
 use Rattle.ap_laws.specs.Exchanges.{ComesFrom}
 use Rattle.ap_laws.proofs.Same.{bytes_of}
 

@@ -8,7 +8,7 @@ use Rattle.blockack.specs.Passed.{passed, numbered}
 use Rattle.ap_model.specs.Readings.{Readings, Rules, Using}
 use Rattle.ap_model.specs.Associations.{association_answer, aid_field}
 use Rattle.ap_model.specs.Agreements.{ups}
-use Rattle.ap_laws.specs.Runs.{Entry, Handles, Run, rests, goes_on, opening}
+use Rattle.ap_model.specs.Runs.{Entry, Handles, Run, rests, goes_on, opening}
 use Rattle.ap_laws.specs.Origins.{HoldsAgreements}
 use Rattle.ap_laws.specs.Exchanges.{Exchange, Authenticated, Associated, Disassociated, Deauthenticated, standing_after, IsExchange, authentication, association, disassociation, deauthentication, kick, Exchanges, none_yet, one_more, other}
 use Rattle.ap_laws.specs.Agreed.{Agreement}

@@ -4,7 +4,7 @@ use Rattle.assoc.specs.declared.standing.Known.TheVariants.{Associated}
 use Rattle.assoc.specs.Standings.{Standings, Standing, IsOwn, IsFree, IsMoved, NoneTwice}
 use Rattle.assoc.proofs.Tables.{moved_cases}
 use Rattle.ap_model.specs.Readings.{Readings, Rules}
-use Rattle.ap_laws.specs.Runs.{Entry, Run, rests, goes_on}
+use Rattle.ap_model.specs.Runs.{Entry, Run, rests, goes_on}
 use Rattle.ap_laws.specs.Identifiers.{HoldsOnce, OpeningHoldsOnce, RunHoldsOnce, AccessPointHoldsOnce}
 use Rattle.ap_laws.proofs.StandingLaws.{StandingChange, same, moved, step_stands}
 

@@ -18,7 +18,7 @@ use Rattle.hooks.specs.Verdicts.{agreement_size, data_verdict}
 use Rattle.ap_model.specs.Asks.{Ask}
 use Rattle.ap_model.specs.Readings.{Rules, Held}
 use Rattle.ap_model.specs.Agreements.{Packet, item}
-use Rattle.ap_laws.specs.Runs.{Entry}
+use Rattle.ap_model.specs.Runs.{Entry}
 use Rattle.ap_laws.specs.Exchanges.{Exchange, IsExchange, authentication, association, disassociation, deauthentication, kick}
 use Rattle.ap_laws.specs.Agreed.{Agreement, Opens, IsItsData, IsUsed, Uses, takes, leaves, requests, Ends, deleted, closed, late, Drops, Agreed, never_yet, opened, used, ended, dropped, alone, clock_after}
 use Rattle.ap_laws.proofs.FrameLaws.{same_frame, same_content, frame_no_tick, frame_no_close, tick_no_kick, kick_no_close}

@@ -12,7 +12,7 @@ use Rattle.ap_model.specs.Asks.{Ask}
 use Rattle.ap_model.specs.Readings.{Readings, Rules, Using, Held}
 use Rattle.ap_model.specs.Agreements.{ups}
 use Rattle.ap_model.specs.Steps.{Step}
-use Rattle.ap_laws.specs.Runs.{Entry, Handles, Run, rests, goes_on, opening}
+use Rattle.ap_model.specs.Runs.{Entry, Handles, Run, rests, goes_on, opening}
 use Rattle.ap_laws.specs.Origins.{HoldsAgreements}
 use Rattle.ap_laws.specs.Exchanges.{none_yet}
 use Rattle.ap_laws.specs.Agreed.{Agreement, Opens, Ends, Drops, Agreed, never_yet, opened, used, ended, dropped, alone, clock_after, advanced}

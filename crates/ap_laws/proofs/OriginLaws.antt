@@ -18,7 +18,7 @@ use Rattle.ap_model.specs.Readings.{Readings, Rules, Using, Held}
 use Rattle.ap_model.specs.Changes.{Agrees}
 use Rattle.ap_model.specs.Agreements.{Packet, let_through, item, ups, up_held, data_ask, PassesHeld, none_held, held_up, block_ack, setup_answer, delba}
 use Rattle.ap_model.specs.Steps.{EndInTurn, nobody_ends, one_end}
-use Rattle.ap_laws.specs.Runs.{Entry, Handles, Run, rests, goes_on, opening}
+use Rattle.ap_model.specs.Runs.{Entry, Handles, Run, rests, goes_on, opening}
 use Rattle.ap_laws.specs.Origins.{IsAssociated, IsArrival, RunWhile, ComesAssociated, WaitsAssociated, HoldsAgreements, OpeningHoldsAgreements, RunHoldsAgreements, FromAnyReadings, FromTheOpening}
 use Rattle.ap_laws.specs.Origins.RunWhile.{rests as while_rests, goes_on as while_goes_on}
 use Rattle.blockack.proofs.BelowLaws.{none_in_none}

@@ -37,7 +37,7 @@ use Rattle.ap_model.specs.Changes.{Stays, Moves, Agrees, Nothing, Answers}
 use Rattle.ap_model.specs.Associations.{AuthenticationStatus, other_algorithm, other_transaction, no_room, accepted, Authenticates, accepts, refuses, Associates, unsuited, elsewhere, exhausted, admitted, refused, Request, association_answer}
 use Rattle.ap_model.specs.Agreements.{Packet, item, let_through, ups, data_ask, DataComes, plain, taken, left, Takes, Leaves, RequestComes, unagreed, agreed, Reports, block_ack, PassesHeld, none_held, held_up, Ends, SetsUp, delayed, declined, granted, Setup, setup_ask, setup_answer, Declines, Grants}
 use Rattle.ap_model.specs.Steps.{Checked, check_of, Follows, ManagementComes, ControlComes, DataKindComes, DelbaComes}
-use Rattle.ap_laws.specs.Runs.{Entry}
+use Rattle.ap_model.specs.Runs.{Entry}
 use Rattle.ap_laws.specs.Origins.{HoldsAgreements}
 use Rattle.ap_laws.specs.Exchanges.{Exchange, Authenticated, Associated, Disassociated, Deauthenticated, ComesFrom, IsRequest, first, again, IsExchange, authentication, association, disassociation, deauthentication}
 use Rattle.ap_laws.specs.Agreed as history

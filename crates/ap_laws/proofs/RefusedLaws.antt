@@ -3,7 +3,7 @@ use Rattle.std.proofs.Common.{◌≡◌, ◌≢◌, ℕ, ◌<◌, Bool, [], ◌�
 use Rattle.mac_frame.specs.Spelling.{Frame}
 use Rattle.ap_model.specs.Readings.{Rules}
 use Rattle.ap_model.specs.Associations.{authentication_answer, association_answer, aid_field}
-use Rattle.ap_laws.specs.Runs.{Entry}
+use Rattle.ap_model.specs.Runs.{Entry}
 use Rattle.ap_laws.specs.Exchanges.{Exchange, ComesFrom, IsExchange, authentication, association, disassociation, deauthentication, kick}
 use Rattle.ap_laws.proofs.FrameLaws.{authentication_status_is, association_answer_is}
 use Rattle.ap_laws.proofs.TellLaws.{exchange_of, number_of, exchange_number}

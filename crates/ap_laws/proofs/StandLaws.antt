@@ -29,7 +29,7 @@ use Rattle.ap_model.specs.Changes.{Stays, Moves}
 use Rattle.ap_model.specs.Associations.{Authenticates, accepts, refuses, Associates, unsuited, elsewhere, exhausted, admitted, refused, Request, association_answer, aid_field}
 use Rattle.ap_model.specs.Agreements.{Packet, DataComes, plain, taken, left, RequestComes, unagreed, agreed, SetsUp, delayed, declined, granted, Setup}
 use Rattle.ap_model.specs.Steps.{Step, FrameComes, faulty, foreign, ours, IsOurs, Checked, check_of, Follows, ManagementComes, ControlComes, DataKindComes, DelbaComes, Kicks, kicked, not_kicked, Closes, closed, not_closed}
-use Rattle.ap_laws.specs.Runs.{Entry}
+use Rattle.ap_model.specs.Runs.{Entry}
 use Rattle.ap_laws.specs.Exchanges.{Exchange, Authenticated, Associated, Disassociated, Deauthenticated, standing_after, ComesFrom, IsRequest, first, again, IsExchange, authentication, association, disassociation, deauthentication, kick, one_more, other}
 use Rattle.ap_laws.specs.Histories.{StandsBy}
 use Rattle.ap_laws.proofs.FrameLaws.{same_sender, frame_no_tick, frame_no_kick, frame_no_close, tick_no_kick, kick_no_close, kicked_one, deauthentication_is_no_answer, disassociation_is_no_answer, small_status}

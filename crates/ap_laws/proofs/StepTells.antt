@@ -15,7 +15,7 @@ use Rattle.ap_model.specs.Readings.{Readings, Rules, Using}
 use Rattle.ap_model.specs.Changes.{Answers}
 use Rattle.ap_model.specs.Agreements.{Ends, delba}
 use Rattle.ap_model.specs.Steps.{Step, FrameComes, faulty, foreign, ours, IsOurs, check_of, Ticks, IsTimedOut, EndsAt, Kicks, kicked, not_kicked, Closes, closed, not_closed}
-use Rattle.ap_laws.specs.Runs.{Entry}
+use Rattle.ap_model.specs.Runs.{Entry}
 use Rattle.ap_laws.specs.Origins.{HoldsAgreements}
 use Rattle.ap_laws.specs.Exchanges.{Deauthenticated, ComesFrom, kick}
 use Rattle.ap_laws.specs.Agreed.{Agreement, LeavesAlone, late}

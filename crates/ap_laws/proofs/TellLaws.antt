@@ -15,7 +15,7 @@ use Rattle.ap_model.specs.declared.event.Event.TheVariants as event
 use Rattle.ap_model.specs.declared.event.Out.{Out}
 use Rattle.ap_model.specs.Readings.{Readings, Rules, Using, Held}
 use Rattle.ap_model.specs.Agreements.{PassesHeld, none_held, held_up, ups}
-use Rattle.ap_laws.specs.Runs.{Entry}
+use Rattle.ap_model.specs.Runs.{Entry}
 use Rattle.ap_laws.specs.Exchanges.{Exchange, Authenticated, Associated, Disassociated, Deauthenticated, ComesFrom, IsRequest, first, again, IsExchange, authentication, association, disassociation, deauthentication, kick}
 use Rattle.ap_laws.specs.Agreed.{Agreement, Opens, Uses, takes, leaves, requests, Ends, deleted, closed, late, Drops, LeavesAlone}
 use Rattle.ap_laws.specs.InOrder.{ups_of}

@@ -17,7 +17,7 @@ use Rattle.ap_model.specs.declared.event.Event.TheVariants as event
 use Rattle.ap_model.specs.Asks.{Ask}
 use Rattle.ap_model.specs.Readings.{Rules, Held}
 use Rattle.ap_model.specs.Agreements.{Packet, item}
-use Rattle.ap_laws.specs.Runs.{Entry}
+use Rattle.ap_model.specs.Runs.{Entry}
 use Rattle.ap_laws.specs.Exchanges.{Exchange, ComesFrom, IsExchange}
 
 -- all that it took and where its window starts, the window's size, the scoreboard, the timeout that was asked, and the

@@ -4,8 +4,8 @@ use Rattle.std.specs.Option.{option_map}
 use Rattle.bpf_regions.specs.declared.hooks.Hook.TheVariants as hook
 use Rattle.ap_model.specs.Asks.{Ask}
 use Rattle.ap_model.specs.Readings.{Readings, Rules}
-use Rattle.ap_laws.specs.Runs.{Entry, Run}
-use Rattle.ap_laws.specs.AccessPoint.{Turn, LinkRun, entries_of}
+use Rattle.ap_model.specs.Runs.{Entry, Run}
+use Rattle.ap_model.specs.AccessPoint.{Turn, LinkRun, entries_of}
 use Rattle.ap_laws.specs.Identifiers.{HoldsOnce}
 use Rattle.ap_laws.specs.Origins.{HoldsAgreements}
 

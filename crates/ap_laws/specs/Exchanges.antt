@@ -10,7 +10,7 @@ use Rattle.ap_model.specs.declared.event.Event.TheVariants as event
 use Rattle.ap_model.specs.Readings.{Rules}
 use Rattle.ap_model.specs.Associations.{authentication_answer, association_answer, aid_field}
 use Rattle.ap_model.specs.Steps.{IsOurs}
-use Rattle.ap_laws.specs.Runs.{Entry}
+use Rattle.ap_model.specs.Runs.{Entry}
 
 -- what is accepted of a station: a (re)association with the identifier that it was given; a deauthentication by the
 -- station or by the operator

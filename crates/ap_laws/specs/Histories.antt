@@ -4,7 +4,7 @@ use Rattle.assoc.specs.Standings.{Standing}
 use Rattle.blockack.specs.Reading.{Reads}
 use Rattle.blockack.specs.Scoreboard.{ReadsScoreboard}
 use Rattle.ap_model.specs.Readings.{Readings, Rules, Using}
-use Rattle.ap_laws.specs.Runs.{Entry, Handles, Run, opening}
+use Rattle.ap_model.specs.Runs.{Entry, Handles, Run, opening}
 use Rattle.ap_laws.specs.Exchanges.{Exchange, Exchanges, standing_after}
 use Rattle.ap_laws.specs.Agreed.{Agreement, Agreed, clock_after}
 

@@ -3,8 +3,8 @@ use Rattle.std.specs.Prelude.{◌≡◌, ℕ, ◌<◌, Some, List}
 use Rattle.assoc.specs.declared.standing.Known.TheVariants.{Associated}
 use Rattle.assoc.specs.Standings.{IsOwn, NoneTwice}
 use Rattle.ap_model.specs.Readings.{Readings, Rules}
-use Rattle.ap_laws.specs.Runs.{Entry, Run, opening}
-use Rattle.ap_laws.specs.AccessPoint.{Turn, InPlace, LinkRun}
+use Rattle.ap_model.specs.Runs.{Entry, Run, opening}
+use Rattle.ap_model.specs.AccessPoint.{Turn, InPlace, LinkRun}
 
 -- the identifiers in use are the shard's own, and none is in use twice
 pub record HoldsOnce (c : Rules) (r : Readings) : Type 0 where

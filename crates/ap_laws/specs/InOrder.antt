@@ -7,7 +7,7 @@ use Rattle.ap_model.specs.declared.event.Out.{Out}
 use Rattle.ap_model.specs.declared.event.Out.TheVariants as out
 use Rattle.ap_model.specs.Readings.{Readings, Rules, Held}
 use Rattle.ap_model.specs.Agreements.{ups}
-use Rattle.ap_laws.specs.Runs.{Entry, Handles, Run, opening}
+use Rattle.ap_model.specs.Runs.{Entry, Handles, Run, opening}
 use Rattle.ap_laws.specs.Agreed.{Agreement, Agreed, Opens, Ends, Drops, clock_after}
 
 -- data of station a for a TID that is passed up

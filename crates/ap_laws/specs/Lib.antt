@@ -1,5 +1,3 @@
-pub mod Runs
-pub mod AccessPoint
 pub mod Identifiers
 pub mod Origins
 pub mod Alongside
@@ -7,3 +5,6 @@ pub mod Exchanges
 pub mod Agreed
 pub mod InOrder
 pub mod Histories
+pub mod Asking
+pub mod Appending
+pub mod Headline

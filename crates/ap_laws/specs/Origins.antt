@@ -15,7 +15,7 @@ use Rattle.ap_model.specs.declared.event.Up.{Up}
 use Rattle.ap_model.specs.Asks.{Ask}
 use Rattle.ap_model.specs.Readings.{Readings, Rules, Using}
 use Rattle.ap_model.specs.Steps.{IsOurs}
-use Rattle.ap_laws.specs.Runs.{Entry, Handles, Run, opening}
+use Rattle.ap_model.specs.Runs.{Entry, Handles, Run, opening}
 
 -- a station stands in State 3 (11.3.1)
 abbrev pub IsAssociated : List ℕ → Readings → Type 0

@@ -3,7 +3,12 @@ ghost use Rattle.ap_laws.specs.Origins.{OpeningHoldsAgreements, RunHoldsAgreemen
 ghost use Rattle.ap_laws.specs.Alongside.{RunsLeaveSameStarts, LinkRunsLeaveSameStarts};
 ghost use Rattle.ap_laws.specs.InOrder.{TellsOne, GoesOnInOrder, EndsInOrder, DropsSilently, SomeIsPassedInOrder};
 ghost use Rattle.ap_laws.specs.Histories.{RunsAreRead, ReadingsServe, ReadingsGoOn, RunsAreHistories};
+ghost use Rattle.ap_laws.specs.Appending.{RunsAppend, LeadsAppend, HistoriesMeet};
+ghost use Rattle.ap_laws.specs.Asking.{StepsAskOnce, ListsAsks};
+ghost use Rattle.ap_laws.specs.Headline.{EventsHold, AccessPointsHold, WindowsStandApart, LinkWindowsStandApart};
 ghost use Rattle.ap_laws.specs.Identifiers.{OpeningHoldsOnce, RunHoldsOnce, AccessPointHoldsOnce};
+
+use ap_model::Judge;
 
 /// No two stations of an access point hold one association identifier (IEEE 802.11-2016, 9.4.1.8).
 /// In a shard that knows no station none is held twice, whatever is handled keeps that, and the
@@ -57,4 +62,33 @@ pub fn history_law()
     ensures steps { ReadingsServe }
     ensures going_on { ReadingsGoOn }
     ensures runs { RunsAreHistories }
+{}
+
+/// The link's half of the headline, under any judge. Of shards whose entries so far are runs from
+/// the opening, an event at its shard and any list of events at eight lead only to entries that are
+/// runs from the opening with those before them. So each frame that is passed up has a source that
+/// was associated from its arrival on without a break; of each agreement exactly the accepted
+/// numbers below its window have been passed up at each moment, once each, in rising order, and all
+/// that it accepted once it ends; no two stations hold one identifier; and no verdict on data moves
+/// a window.
+pub fn link_law<J: Judge>()
+    ensures access_point { AccessPointsHold J.gives }
+    ensures shard { EventsHold J.gives }
+    ensures windows { LinkWindowsStandApart }
+    ensures windows_of_a_shard { WindowsStandApart }
+{}
+
+/// Runs one after another are a run: of a shard, and of eight under a judge. Where each of eight
+/// shards has some history, there are eight such.
+pub fn appending_law<J: Judge>()
+    ensures runs { RunsAppend }
+    ensures leads { LeadsAppend J.gives }
+    ensures histories { HistoriesMeet }
+{}
+
+/// A step asks at most one verdict, on the frame that came, with the hook and the context of its
+/// kind; and of a judge a contract names every ask, since it lists just these.
+pub fn asks_law<J: Judge>()
+    ensures once { StepsAskOnce }
+    ensures listed { ListsAsks J.asks J.gives }
 {}

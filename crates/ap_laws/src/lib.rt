@@ -4,4 +4,7 @@
 
 mod laws;
 
-pub use laws::{history_law, identifiers_law, order_law, origin_law, window_law};
+pub use laws::{
+    appending_law, asks_law, history_law, identifiers_law, link_law, order_law, origin_law,
+    window_law,
+};

@@ -1,6 +1,10 @@
 pub mod Asks
+pub mod Noting
 pub mod Readings
+pub mod Stations
 pub mod Changes
 pub mod Associations
 pub mod Agreements
 pub mod Steps
+pub mod Runs
+pub mod AccessPoint

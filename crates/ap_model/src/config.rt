@@ -4,6 +4,7 @@ ghost use Rattle.std.specs.Prelude.{◌≡◌, ◌≤◌, length, vec_len, IsSom
 
 use crate::octets::Octets;
 use mac_frame::Address;
+use std::alloc::AllocError;
 use std::marker::Model;
 
 /// The BSSID, the network's name of at most 32 bytes, and 1 to 8 supported rates.
@@ -22,6 +23,21 @@ impl Model for LinkConfig {
     ghost view = { λ c. record { bssid = c.bssid; ssid = c.ssid; rates = c.rates } };
 
     ghost invariant = { λ c. IsConfig (record { bssid = c.bssid; ssid = c.ssid; rates = c.rates }) };
+}
+
+/// A copy in memory of its own.
+impl Clone for LinkConfig {
+    ghost is_clone = { λ a b. b ≡ a };
+
+    fn clone(&self) -> Result<Self, AllocError> {
+        let ssid = self.ssid.clone()?;
+        let rates = self.rates.clone()?;
+        Ok(LinkConfig {
+            bssid: self.bssid,
+            ssid,
+            rates,
+        })
+    }
 }
 
 impl LinkConfig {

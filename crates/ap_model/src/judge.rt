@@ -1,37 +1,74 @@
 //! Who decides.
 
-ghost use Rattle.std.specs.Prelude.{◌≡◌, ℕ};
+ghost use Rattle.std.specs.Prelude.{◌≡◌, ℕ, List, [], ◌∷◌, ◌++◌, drop, slice_index};
 ghost use Rattle.ap_model.specs.Asks.{Ask};
 
+use crate::ask_log::AskLog;
 use bpf_regions::{Context, Frame, Hook};
 
-/// What gives the verdicts. It names the relation in which its answers stand; from it the list of
-/// its asks and answers follows, of which a contract speaks.
+/// What gives the verdicts. It names the relation in which its answers stand, and lists its asks:
+/// each ask makes the list longer by itself and its answer, so a judge whose list is as it was was
+/// asked nothing.
 pub trait Judge {
+    /// What the judge was asked so far, with its answers, in their order.
+    ghost asks: { Self → List (Ask × ℕ) };
+
     /// From a judge, this ask may be answered so, and the judge is then that one.
     ghost gives: { Self → Ask → ℕ → Self → Type 0 };
 
     /// One ask and its answer.
     fn judge(&mut self, hook: Hook, frame: &Frame<'_>, context: &Context) -> u64
         ensures { gives self.old (record { hook = hook; frame = frame.now; context = context.now }) result self.new };
+
+    /// Each ask is listed, once, at the end.
+    ghost lists: { (p p2 : Self) (q : Ask) (a : ℕ) → gives p q a p2 → asks p2 ≡ asks p ++ (q, a) ∷ [] };
 }
 
 /// Answers from a list, and 0 past its end.
 #[derive(Drop)]
 pub struct ListJudge<'a> {
     pub answers: &'a [u64],
+    pub asked: AskLog,
 }
 
-impl Judge for ListJudge<'_> {
-    ghost use Rattle.std.specs.Prelude.{◌≡◌, drop, slice_index};
+impl<'a> ListJudge<'a> {
+    /// A judge that was asked nothing yet.
+    pub fn new(answers: &'a [u64]) -> Self
+        ensures answers { result.answers.now ≡ answers.now }
+        ensures unasked { result.asked.asks ≡ [] }
+    {
+        ListJudge {
+            answers,
+            asked: AskLog::new(),
+        }
+    }
 
-    ghost gives = { λ p q a p2. (a ≡ slice_index p.answers.now 0) × (p2.answers.now ≡ drop 1 p.answers.now) };
-
-    fn judge(&mut self, _hook: Hook, _frame: &Frame<'_>, _context: &Context) -> u64 {
+    /// The next answer, which is taken off the list.
+    fn next(&mut self) -> u64
+        ensures answer { result ≡ slice_index self.old.answers.now 0 }
+        ensures rest { self.new.answers.now ≡ drop 1 self.old.answers.now }
+        ensures asked { self.new.asked ≡ self.old.asked }
+    {
         let Some((first, rest)) = self.answers.split_first() else {
             return 0;
         };
         self.answers = rest;
         *first
+    }
+}
+
+impl Judge for ListJudge<'_> {
+    ghost use Rattle.std.specs.Prelude.{◌≡◌, ◌∷◌, [], ◌++◌, drop, slice_index};
+
+    ghost asks = { λ p. p.asked.asks };
+
+    ghost gives = { λ p q a p2. (a ≡ slice_index p.answers.now 0) × (p2.answers.now ≡ drop 1 p.answers.now) × (p2.asked.asks ≡ p.asked.asks ++ (q, a) ∷ []) };
+
+    ghost lists = { λ p p2 q a h. h.2 };
+
+    fn judge(&mut self, hook: Hook, frame: &Frame<'_>, context: &Context) -> u64 {
+        let answer = self.next();
+        self.asked.note(hook, frame, context, answer);
+        answer
     }
 }

@@ -2,12 +2,14 @@
 //! that says which outs an event may have (IEEE 802.11-2016, 10.24, 11.3 and 11.5).
 #![tactic(auto)]
 
+mod ask_log;
 mod config;
 mod event;
 mod held;
 mod judge;
 mod octets;
 
+pub use ask_log::AskLog;
 pub use config::LinkConfig;
 pub use event::{Event, Out, Up};
 pub use held::Held;

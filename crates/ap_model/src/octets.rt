@@ -19,6 +19,16 @@ impl Model for Octets {
     ghost view = { λ o. o.bytes.items };
 }
 
+/// A copy in memory of its own.
+impl Clone for Octets {
+    ghost is_clone = { λ a b. b ≡ a };
+
+    fn clone(&self) -> Result<Self, AllocError> {
+        let bytes = self.bytes.clone()?;
+        Ok(Octets { bytes })
+    }
+}
+
 impl Octets {
     pub fn new(bytes: Vec<u8>) -> Self
         ensures { result ≡ bytes.items }

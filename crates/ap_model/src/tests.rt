@@ -31,7 +31,7 @@ fn configurations_have_limits(rt: HostRuntime) -> Result<(), Fail> {
 #[test]
 fn list_judge_answers_in_order_and_then_0(rt: HostRuntime) -> Result<(), Fail> {
     let answers = [5, 1282];
-    let mut judge = ListJudge { answers: &answers };
+    let mut judge = ListJudge::new(&answers);
     let frame = Frame::new(&[1, 2, 3]).ok_or("a frame")?;
     let context = Context::new([0; 32]);
     assert_eq!(rt; judge.judge(Hook::Association, &frame, &context), 5);

@@ -1,10 +1,8 @@
 //! The program `apd`: programs of a programmable access point's hooks, from the command line.
 #![tactic(auto)]
 
-mod files;
-
+use apd_files::RealFiles;
 use apd_program::apd_main;
-use files::RealFiles;
 use std::alloc::AllocError;
 use std::io::ErrorKind;
 use std::process::ExitCode;

@@ -1,4 +1,10 @@
 //! The configuration of an access point, read from TOML.
+//!
+//! Main call: `read_configuration`. It stands on `toml`, `hex` and `bpf_regions`. It answers a
+//! `Configuration` only where the text is a text of it: the access point's address, the network's
+//! name and rates, the shapes of the maps, the word that is drawn first; otherwise a `ConfigFault`
+//! that the text has, with the key that is at fault. `laws::faultless_law`: the text of a
+//! configuration has no fault.
 #![tactic(auto)]
 
 mod configuration;
@@ -8,8 +14,6 @@ pub mod laws;
 mod maps;
 mod reading;
 mod tables;
-#[cfg(test)]
-mod tests;
 mod values;
 
 pub use configuration::Configuration;

@@ -1,4 +1,9 @@
 //! The command line of `apd`: what the words ask for, or the text that answers them.
+//!
+//! Main call: `read_words`. It stands on `clap` and `bpf_regions`. It answers a `Request` that the
+//! words spell, the text of a help that they ask for, or a fault's text. Words that spell a request
+//! by their usual order are read as that request. [`laws`] shows which words spell `verify`, `asm`
+//! and `disasm`. The texts are tested, not proved.
 #![tactic(auto)]
 
 ghost use Rattle.std.specs.Prelude.{◌≡◌};
@@ -7,8 +12,6 @@ ghost use Rattle.apd_words.specs.declared.Told.TheVariants.{NoMemory};
 mod command;
 pub mod laws;
 mod reading;
-#[cfg(test)]
-mod tests;
 mod words;
 
 use bpf_regions::Hook;

@@ -1,5 +1,10 @@
 //! Which stations are known to an access point's shard, where each stands, which association
 //! identifiers are granted, and which frames a standing permits (IEEE 802.11-2016, 11.3).
+//!
+//! Main calls: `Link::on_auth`, `Link::on_assoc`, `class_check`. It stands on `mac_frame`. Each
+//! call of `Link` moves one station and no other. At most 512 are known; no two hold one
+//! association identifier. `free_aid` answers the least free one. A refusal for memory changes
+//! nothing.
 #![tactic(auto)]
 
 mod class;
@@ -9,6 +14,3 @@ mod standing;
 pub use class::{Class, ClassAnswer, class_check, class_of};
 pub use link::Link;
 pub use standing::{Known, Standing, aid_of, state_of};
-
-#[cfg(test)]
-mod tests;

@@ -2,8 +2,6 @@
 
 pub mod branch;
 pub mod laws;
-#[cfg(test)]
-mod tests;
 pub mod transfer;
 
 ghost use Rattle.std.specs.Prelude.{ℕ, ◌≡◌, ◌<◌, ◌↔◌, IsTrue};

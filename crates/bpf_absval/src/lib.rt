@@ -1,7 +1,10 @@
-//! Abstract values: what a register, or eight bytes of a stack frame, may hold, when one lies in another, and what is
-//! known to lie behind the label of a frame pointer.
+//! Abstract values: what a register, or eight bytes of a stack frame, may hold, when one lies in
+//! another, and what is known to lie behind the label of a frame pointer.
 //!
-//! Which values of a run an abstract one contains is said in `specs/Meaning.antt`; [`laws`] has what each change keeps.
+//! Main calls: `AbsVal::is_included`, `AbsSlot::is_included`, `Rooms::raise`. It stands on
+//! `bpf_absnum`. Which values of a run an abstract one contains is said in `specs/Meaning.antt`.
+//! [`laws`] has what each change keeps: what an included value contains, the including one
+//! contains; a label may be forgotten, made anew, or given more room.
 #![tactic(auto)]
 
 pub mod inclusion;
@@ -13,6 +16,3 @@ pub mod value;
 pub use room::{Room, Rooms};
 pub use slot::AbsSlot;
 pub use value::{AbsRegion, AbsVal, Label};
-
-#[cfg(test)]
-mod tests;

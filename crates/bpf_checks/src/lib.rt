@@ -1,4 +1,9 @@
 //! Every check at one instruction, and the abstract states that come next.
+//!
+//! Main call: `examine`. It stands on `bpf_rules`. It answers exactly what the rules define
+//! (`examined`): the ways on, or the fault that is met first, in the order of the checks; or want
+//! of memory. The other functions are its parts, by kind of instruction, each with the part of the
+//! rules that it follows as its contract.
 #![tactic(auto)]
 
 pub mod branches;

@@ -1,4 +1,9 @@
-//! Programs from bytes, and bytes from programs (RFC 9669 section 3).
+//! Programs from bytes, and bytes from programs (RFC 9669, section 3).
+//!
+//! Main calls: `decode` and `encode`. It stands on `bpf_insn` and `bpf_regions`. `decode` answers a
+//! `Program` exactly for well-formed code of 1 to 16384 slots, and otherwise the first fault by
+//! slot and number. By its type invariant some bytes spell a `Program`; `Program::whole` hands out
+//! what follows for its slots. `encode` gives back the bytes (`spelling_law`).
 #![tactic(auto)]
 
 mod check;
@@ -9,8 +14,6 @@ pub mod flow;
 pub mod program;
 mod slots;
 mod targets;
-#[cfg(test)]
-mod tests;
 
 pub use decoding::decode;
 pub use encoding::{encode, spelling_law};

@@ -1,1 +1,4 @@
 pub mod Shaped
+pub mod Asked
+pub mod Fitting
+pub mod Keeping

@@ -1,5 +1,5 @@
 -- Maps as plain arrays of numbers, and a port over them.
-use Rattle.std.specs.Prelude.{◌≡◌, ℕ, ◌+◌, ◌*◌, ◌%◌, ◌^◌, ◌<◌, List, [], length, map, replicate, slice_index, slice_index_or, slice_set}
+use Rattle.std.specs.Prelude.{◌≡◌, ℕ, ◌*◌, ◌^◌, ◌<◌, List, [], length, map, replicate, slice_index, slice_index_or, slice_set}
 use Rattle.bpf_regions.specs.declared.maps.WordWidth.TheVariants.{Eight}
 use Rattle.bpf_regions.specs.declared.maps.Scope.TheVariants.{Shared}
 use Rattle.std.specs.List.{All}
@@ -11,6 +11,7 @@ use Rattle.bpf_regions.specs.declared.asks.Ask.{Ask}
 use Rattle.bpf_regions.specs.declared.asks.Ask.TheVariants.{Access, Help}
 use Rattle.bpf_regions.specs.declared.asks.Helper.TheVariants.{Now, Stations, Draw}
 use Rattle.bpf_model.specs.Memory.{number_after}
+use Rattle.bpf_helpers.specs.Draws.{next_draw}
 
 -- a map's shape and its words
 pub record Table : Type 0 where
@@ -56,10 +57,6 @@ shapes_of p = map shape_of p.tables
 -- a map that is not there has no words
 abbrev pub table_of : Plain → ℕ → Table
 table_of p k = slice_index_or p.tables k (record { shape = record { entries = 0; words = 0; width = Eight; scope = Shared }; words = [] })
-
--- a draw word makes the next one (the constants of Knuth's 64-bit linear congruential generator)
-abbrev pub next_draw : ℕ → ℕ
-next_draw x = (x * 6364136223846793005 + 1442695040888963407) % 2 ^ 64
 
 -- what an ask is answered
 abbrev pub answer_of : Plain → Ask → ℕ

@@ -1,8 +1,23 @@
 //! Ports: what answers the asks of programs.
+//!
+//! Main calls: `PlainPort::new` and `PlainMap::new`. It stands on `bpf_tagged`. A plain map answers
+//! as a plain array of numbers would, all 0 at first; the port also answers the clock, the number
+//! of stations, and the draw. Each answer lies in its range. It is the port of traced programs and
+//! of tests.
 #![tactic(auto)]
 
+mod draws;
+pub mod hook_port;
+pub mod map_tables;
 pub mod plain_map;
 pub mod plain_port;
+pub mod running;
+mod sums;
+pub mod worker;
 
+pub use hook_port::HookPort;
+pub use map_tables::MapTables;
 pub use plain_map::PlainMap;
 pub use plain_port::PlainPort;
+pub use running::run_hook;
+pub use worker::{WorkerState, WorkerView, tables_law};

@@ -1,9 +1,10 @@
 //! A port over plain maps.
 
 ghost use Rattle.std.specs.Prelude.{◌≡◌, ◌≤◌, map, IfOk};
-ghost use Rattle.bpf_helpers.specs.Plain.{next_draw, zeros, shapes_of};
+ghost use Rattle.bpf_helpers.specs.Plain.{zeros, shapes_of};
 
 use crate::PlainMap;
+use crate::draws::drawn_after;
 use bpf_regions::{Helper, MapOp, Shapes};
 use bpf_tagged::Port;
 use std::alloc::{AllocError, Global};
@@ -62,14 +63,6 @@ fn empty_tables(alloc: Global, shapes: &Shapes) -> Result<Vec<PlainMap>, AllocEr
         tables.push(table)?;
     }
     Ok(tables)
-}
-
-/// The word that is drawn after this one.
-fn drawn_after(word: u64) -> u64
-    ensures is { result ≡ next_draw word }
-{
-    word.wrapping_mul(6364136223846793005)
-        .wrapping_add(1442695040888963407)
 }
 
 impl Port for PlainPort {

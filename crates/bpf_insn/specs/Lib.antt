@@ -6,3 +6,4 @@ pub mod Uses
 pub mod Spelled
 pub mod Faults
 pub mod Reading
+pub mod Accesses

@@ -3,6 +3,7 @@
 ghost use Rattle.std.specs.Prelude.{◌≡◌, ◌≤◌, ◌+◌, ◌*◌, ◌↔◌, pos, Option, Some, None};
 ghost use Rattle.bpf_insn.specs.declared.insn.Insn.TheVariants as insn;
 ghost use Rattle.bpf_insn.specs.Slot.{slot_of, FitsSlot};
+ghost use Rattle.bpf_insn.specs.Accesses.{IsAccess};
 ghost use Rattle.bpf_insn.specs.Widths.{extension_bits, order_bits};
 ghost use Rattle.bpf_insn.specs.Opcodes.{alu_code, alu_class, compare_code, size_code, end_code};
 ghost use Rattle.bpf_insn.specs.Spelled.{alu_sign, atomic_code, wide_kind, wide_low, wide_high, fields_of, second_of, IsInsn, IsWide, IsSecond, Spelled, second_slot_of};
@@ -231,6 +232,37 @@ fn load_wide_fields(dst: Reg, value: Wide) -> Fields
     fields(0x18, dst.number(), kind, 0, low)
 }
 
+/// The fields of a load, a store or an atomic operation.
+fn access_fields(i: Insn) -> Fields
+    requires valid { IsInsn i }
+    requires access { IsAccess i }
+    ensures { result ≡ fields_of i }
+{
+    match i {
+        Insn::Load {
+            size,
+            signed,
+            dst,
+            src,
+            offset,
+        } => load_fields(size, signed, dst, src, offset),
+        Insn::Store {
+            size,
+            dst,
+            offset,
+            source,
+        } => store_fields(size, dst, offset, source),
+        Insn::Atomic {
+            op,
+            wide,
+            dst,
+            src,
+            offset,
+        } => atomic_fields(op, wide, dst, src, offset),
+        _ => fields(0, 0, 0, 0, 0),
+    }
+}
+
 /// The fields of an instruction's first slot.
 fn first_fields(i: Insn) -> Fields
     requires { IsInsn i }
@@ -269,27 +301,8 @@ fn first_fields(i: Insn) -> Fields
         Insn::Call { helper } => fields(0x85, 0, 0, 0, helper),
         Insn::CallLocal { offset } => fields(0x85, 0, 1, 0, offset),
         Insn::Exit => fields(0x95, 0, 0, 0, 0),
-        Insn::Load {
-            size,
-            signed,
-            dst,
-            src,
-            offset,
-        } => load_fields(size, signed, dst, src, offset),
-        Insn::Store {
-            size,
-            dst,
-            offset,
-            source,
-        } => store_fields(size, dst, offset, source),
-        Insn::Atomic {
-            op,
-            wide,
-            dst,
-            src,
-            offset,
-        } => atomic_fields(op, wide, dst, src, offset),
         Insn::LoadWide { dst, value } => load_wide_fields(dst, value),
+        _ => access_fields(i),
     }
 }
 

@@ -1,7 +1,10 @@
 //! Intervals of words of 64 bits, unsigned and signed.
 //!
-//! Each operation answers its definition in `specs/`. That it contains each result of the machine's operation, and that a
-//! refinement keeps all that takes its branch, is said by the laws of [`laws`].
+//! Main calls: the operations of `Interval` and `SignedInterval`, and their refinements `greater`,
+//! `at_most`, `without`. It stands on `bpf_tnum` and `bpf_words`. Each operation answers its
+//! definition in `specs/`. That it contains each result of the machine's operation, and that a
+//! refinement keeps all that takes its branch, is said by the laws of [`laws`]. No call takes
+//! memory.
 #![tactic(auto)]
 
 pub mod laws;
@@ -290,6 +293,3 @@ impl Interval {
         other.low <= self.low && self.high <= other.high
     }
 }
-
-#[cfg(test)]
-mod tests;

@@ -1,4 +1,10 @@
 //! The machine of RFC 9669 with its regions: states, steps, faults, runs and safety, in `specs/`.
+//!
+//! These definitions have to be believed: `next` of `specs/Step.antt` says what each instruction
+//! does, and `Safe` of `specs/Run.antt` what a verified program is. They know nothing of intervals,
+//! visits or tags. The crate stands on `bpf_insn`, `bpf_words` and `bpf_regions`; its code is two
+//! types, `StackFrame` and `Caller`. `laws::within_law`: code that is safe state by state within a
+//! budget is `Safe` within it.
 #![tactic(auto)]
 
 ghost use Rattle.std.specs.Prelude.{◌≡◌};

@@ -1,4 +1,9 @@
 //! The states that are finished, by the slot at which they stand, with their budgets.
+//!
+//! Main calls: `Finished::keep` and `Finished::covering`. It stands on `bpf_absstate`. At each slot
+//! the newest 64 are kept. `covering` answers the budget of the newest kept state in which the
+//! asked one lies. A refused growth changes nothing. That a kept budget is right is its caller's
+//! promise, not this crate's.
 #![tactic(auto)]
 
 pub mod finished;
@@ -6,6 +11,3 @@ pub mod kept;
 
 pub use finished::Finished;
 pub use kept::{Entry, Kept};
-
-#[cfg(test)]
-mod tests;

@@ -1,5 +1,9 @@
-//! What the rules for loads, stores and atomics are good for. These functions do nothing; a caller's proof takes their
-//! promises.
+//! Laws: the verifier's rules for loads, stores and atomics are sound.
+//!
+//! Main calls: `load_law`, `store_law`, `atomic_law`. These functions do nothing; a caller's proof
+//! takes their promises. It stands on `bpf_rules`. Where a rule admits an access, the machine's
+//! access meets no fault, and each state that may come next, whatever a map answers, is as the
+//! abstract state after it says. Each law is said by values, and by instructions.
 #![tactic(auto)]
 
 ghost use Rattle.bpf_sound_memory.specs.Laws.{LoadHolds, LoadCovers, StoreHolds, StoreCovers, AtomicHolds, AtomicCovers};

@@ -90,23 +90,29 @@ pub fn perform_call_local(machine: &mut Machine, offset: i32) -> Stepped
     return perform_call(machine, to);
 }
 
+/// A comparison of a register with a source, on 64 bits or on 32.
+#[derive(Clone, Copy)]
+pub struct Comparison {
+    pub compare: Compare,
+    pub wide: bool,
+    pub dst: Reg,
+    pub source: Source,
+}
+
 /// A conditional jump.
 pub fn perform_branch(
     machine: &mut Machine,
     frame_length: usize,
-    compare: Compare,
-    wide: bool,
-    dst: Reg,
-    source: Source,
+    test: Comparison,
     offset: i16,
 ) -> Stepped
     requires { machine.old.pc < 65536 }
     ensures { (p : Setting) → length p.frame ≡ frame_length →
-        Moves (next_of p (Branch compare wide dst source offset)) result machine.old machine.new }
+        Moves (next_of p (Branch test.compare test.wide test.dst test.source offset)) result machine.old machine.new }
 {
-    let a = read(machine, dst);
-    let Operand { value, zero } = operand_of(machine, source);
-    match is_taken(compare, wide, frame_length, zero, a, value) {
+    let a = read(machine, test.dst);
+    let Operand { value, zero } = operand_of(machine, test.source);
+    match is_taken(test.compare, test.wide, frame_length, zero, a, value) {
         Ok(jumps) => {
             if jumps {
                 let to = jump_target(machine.pc, i32::from(offset));

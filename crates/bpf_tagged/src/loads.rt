@@ -3,51 +3,69 @@
 ghost use Rattle.std.specs.Prelude.{◌≡◌, ◌<◌, ◌≤◌, ℕ, ℤ, Bool, [], length, IfOk, IfErr};
 ghost use Rattle.bpf_values.specs.Inside.{IsInside, IsSize};
 ghost use Rattle.bpf_model.specs.State.{put, Setting, State, Fault};
-ghost use Rattle.bpf_model.specs.Memory.{load_at, load};
+ghost use Rattle.bpf_model.specs.Memory.{load_at, load as load_of};
 ghost use Rattle.bpf_model.specs.Run.{setting};
+ghost use Rattle.bpf_tagged.specs.Accesses.{loaded_from};
 ghost use Rattle.bpf_tagged.specs.Took.{Performs, IsPaired, moved_on};
 
 use crate::machine::put;
-use crate::{Machine, Port, Stepped};
+use crate::{Input, Machine, Port, Stepped};
 use bpf_insn::Reg;
 use bpf_model::Place;
-use bpf_regions::{MapOp, Region, Shapes, Value};
+use bpf_regions::{MapOp, Region, Value};
 use bpf_values::bytes::{load_in, loaded, read_number};
 use bpf_values::places::{place_of, with_offset};
 
+/// A load: how many bytes, whether with their sign, into which register, and through which value.
+#[derive(Clone, Copy)]
+pub struct Load {
+    pub size: usize,
+    pub signed: bool,
+    pub dst: Reg,
+    pub from: Value,
+}
+
 fn load_placed<P: Port>(
-    frame: &[u8],
-    context: &[u8],
+    input: Input<'_>,
     machine: &mut Machine,
     port: &mut P,
-    size: usize,
-    signed: bool,
-    dst: Reg,
+    load: Load,
     place: Place,
 ) -> Stepped
     requires here { machine.old.pc < 65536 }
-    requires size { IsSize size }
-    requires inside { IsInside (P.shapes port.old) (length frame.now) (length context.now) (length machine.old.stack.items) size place }
-    ensures performs { Performs P.gives (P.shapes port.old) (λ s. load_at (setting [] [] frame.now context.now) s size signed dst place)
+    requires size { IsSize load.size }
+    requires inside { IsInside (P.shapes port.old) (length input.frame.now)
+        (length input.context.now) (length machine.old.stack.items) load.size place }
+    ensures performs { Performs P.gives (P.shapes port.old)
+        (λ s. load_at (setting [] [] input.entry.frame.now input.entry.context.now) s
+        load.size load.signed load.dst place)
         result port.old port.new machine.old machine.new }
     ensures shapes { P.shapes port.new ≡ P.shapes port.old }
     ensures paired { IsPaired machine.old → IsPaired machine.new }
 {
     match place {
         Place::Frame(at) => {
-            let number = loaded(signed, size, read_number(frame, at, size));
-            put(machine, dst, Value::Number(number));
+            let number = loaded(
+                load.signed,
+                load.size,
+                read_number(input.frame, at, load.size),
+            );
+            put(machine, load.dst, Value::Number(number));
             return Stepped::On(None);
         }
         Place::Context(at) => {
-            let number = loaded(signed, size, read_number(context, at, size));
-            put(machine, dst, Value::Number(number));
+            let number = loaded(
+                load.signed,
+                load.size,
+                read_number(input.context, at, load.size),
+            );
+            put(machine, load.dst, Value::Number(number));
             return Stepped::On(None);
         }
         Place::Stack { frame: k, at } => {
-            return match load_in(machine.stack.as_slice(), k, at, size, signed) {
+            return match load_in(machine.stack.as_slice(), k, at, load.size, load.signed) {
                 Ok(value) => {
-                    put(machine, dst, value);
+                    put(machine, load.dst, value);
                     Stepped::On(None)
                 }
                 Err(cause) => Stepped::Faulted(cause),
@@ -55,8 +73,8 @@ fn load_placed<P: Port>(
         }
         Place::Word { map, word } => {
             let answer = port.access(map, word, MapOp::Load);
-            let number = loaded(signed, size, answer);
-            put(machine, dst, Value::Number(number));
+            let number = loaded(load.signed, load.size, answer);
+            put(machine, load.dst, Value::Number(number));
             return Stepped::On(None);
         }
     }
@@ -73,7 +91,7 @@ pub struct Target {
 fn load_target(from: Value) -> Result<Target, u8>
     ensures ok { IfOk result (λ t. from ≡ Value.Pointer t.region t.base) }
     ensures err { IfErr result (λ cause. (p : Setting) (s : State) (n : ℕ) (signed : Bool) (dst : ℕ) (offset : ℤ) →
-        load p s n signed dst from offset ≡ Fault cause) }
+        load_of p s n signed dst from offset ≡ Fault cause) }
 {
     match from {
         Value::Pointer { region, offset } => Ok(Target {
@@ -89,34 +107,37 @@ fn load_target(from: Value) -> Result<Target, u8>
 
 /// A load through a value that has to be a pointer.
 pub fn perform_load<P: Port>(
-    shapes: &Shapes,
-    frame: &[u8],
-    context: &[u8],
+    input: Input<'_>,
     machine: &mut Machine,
     port: &mut P,
-    size: usize,
-    signed: bool,
-    dst: Reg,
-    from: Value,
+    load: Load,
     offset: i16,
 ) -> Stepped
     requires here { machine.old.pc < 65536 }
-    requires size { IsSize size }
-    requires shapes { P.shapes port.old ≡ shapes.now }
-    ensures performs { Performs P.gives shapes.now (λ s. load (setting [] shapes.now frame.now context.now) s size signed dst from offset)
+    requires size { IsSize load.size }
+    requires shapes { P.shapes port.old ≡ input.shapes.now }
+    ensures performs { Performs P.gives input.entry.shapes.now (loaded_from input.entry load offset)
         result port.old port.new machine.old machine.new }
     ensures shapes { P.shapes port.new ≡ P.shapes port.old }
     ensures paired { IsPaired machine.old → IsPaired machine.new }
 {
-    let target = match load_target(from) {
+    let target = match load_target(load.from) {
         Ok(target) => target,
         Err(cause) => return Stepped::Faulted(cause),
     };
     let at = with_offset(target.base, offset);
     let depth = machine.stack.len();
-    match place_of(shapes, frame, context, depth, target.region, at, size) {
+    match place_of(
+        input.shapes,
+        input.frame,
+        input.context,
+        depth,
+        target.region,
+        at,
+        load.size,
+    ) {
         Ok(place) => {
-            return load_placed(frame, context, machine, port, size, signed, dst, place);
+            return load_placed(input, machine, port, load, place);
         }
         Err(other) => return Stepped::Faulted(other),
     }

@@ -4,19 +4,22 @@ ghost use Rattle.std.specs.Prelude.{◌≡◌, ◌<◌, [], IfSome};
 ghost use Rattle.bpf_model.specs.Memory.{compared};
 ghost use Rattle.bpf_model.specs.Step.{next_of, next_at};
 ghost use Rattle.bpf_model.specs.Run.{setting};
+ghost use Rattle.bpf_tagged.specs.Accesses.{given};
 ghost use Rattle.bpf_tagged.specs.Took.{Performs, IsPaired};
 
-use crate::atomics::perform_atomic;
+use crate::atomics::{Atomic, perform_atomic};
 use crate::calls::perform_exit;
 use crate::helpers::perform_help;
-use crate::jumps::{perform_branch, perform_call_local, perform_goto, perform_goto_long};
-use crate::loads::perform_load;
+use crate::jumps::{
+    Comparison, perform_branch, perform_call_local, perform_goto, perform_goto_long,
+};
+use crate::loads::{Load, perform_load};
 use crate::machine::read;
 use crate::operations::{
     perform_alu, perform_extension, perform_negation, perform_order, perform_wide_load, source_of,
 };
-use crate::stores::perform_store;
-use crate::{Machine, Port, Stepped};
+use crate::stores::{Store, perform_store};
+use crate::{Input, Machine, Port, Stepped};
 use bpf_insn::{AtomicOp, Insn};
 use bpf_regions::{Shapes, Value};
 use bpf_values::bytes::size_in_bytes;
@@ -34,17 +37,15 @@ fn compared_with(op: AtomicOp, r0: Value) -> Value
 
 /// Performs one instruction.
 pub fn perform<P: Port>(
-    shapes: &Shapes,
-    frame: &[u8],
-    context: &[u8],
+    input: Input<'_>,
     insn: Insn,
     machine: &mut Machine,
     port: &mut P,
 ) -> Stepped
     requires here { machine.old.pc < 65536 }
-    requires shapes { P.shapes port.old ≡ shapes.now }
+    requires shapes { P.shapes port.old ≡ input.shapes.now }
     requires paired { IsPaired machine.old }
-    ensures performs { Performs P.gives shapes.now (next_of (setting [] shapes.now frame.now context.now) insn)
+    ensures performs { Performs P.gives input.entry.shapes.now (next_of (given input.entry) insn)
         result port.old port.new machine.old machine.new }
     ensures shapes { P.shapes port.new ≡ P.shapes port.old }
     ensures paired { IsPaired machine.new }
@@ -85,10 +86,16 @@ pub fn perform<P: Port>(
             source,
             offset,
         } => {
-            return perform_branch(machine, frame.len(), compare, wide, dst, source, offset);
+            let test = Comparison {
+                compare,
+                wide,
+                dst,
+                source,
+            };
+            return perform_branch(machine, input.frame.len(), test, offset);
         }
         Insn::Call { helper } => {
-            return perform_help(shapes, machine, port, word_of_int(helper));
+            return perform_help(input.shapes, machine, port, word_of_int(helper));
         }
         Insn::CallLocal { offset } => {
             return perform_call_local(machine, offset);
@@ -104,18 +111,13 @@ pub fn perform<P: Port>(
             offset,
         } => {
             let from = read(machine, src);
-            return perform_load(
-                shapes,
-                frame,
-                context,
-                machine,
-                port,
-                size_in_bytes(size),
+            let load = Load {
+                size: size_in_bytes(size),
                 signed,
                 dst,
                 from,
-                offset,
-            );
+            };
+            return perform_load(input, machine, port, load, offset);
         }
         Insn::Store {
             size,
@@ -125,17 +127,12 @@ pub fn perform<P: Port>(
         } => {
             let to = read(machine, dst);
             let value = source_of(machine, source);
-            return perform_store(
-                shapes,
-                frame,
-                context,
-                machine,
-                port,
-                size_in_bytes(size),
+            let store = Store {
+                size: size_in_bytes(size),
                 value,
                 to,
-                offset,
-            );
+            };
+            return perform_store(input, machine, port, store, offset);
         }
         Insn::Atomic {
             op,
@@ -147,9 +144,15 @@ pub fn perform<P: Port>(
             let to = read(machine, dst);
             let value = read(machine, src);
             let compared = compared_with(op, machine.regs[0]);
-            return perform_atomic(
-                shapes, frame, context, machine, port, wide, op, src, offset, to, value, compared,
-            );
+            let atomic = Atomic {
+                wide,
+                op,
+                src,
+                to,
+                value,
+                compared,
+            };
+            return perform_atomic(input, machine, port, atomic, offset);
         }
         Insn::LoadWide { dst, value } => {
             return perform_wide_load(machine, dst, value);
@@ -174,9 +177,14 @@ pub fn perform_slot<P: Port>(
     ensures shapes { P.shapes port.new ≡ P.shapes port.old }
     ensures paired { IsPaired machine.new }
 {
+    let input = Input {
+        shapes,
+        frame,
+        context,
+    };
     match slot {
         Some(held) => match held {
-            Some(insn) => return perform(shapes, frame, context, insn, machine, port),
+            Some(insn) => return perform(input, insn, machine, port),
             None => return Stepped::Faulted(15),
         },
         None => return Stepped::Faulted(16),

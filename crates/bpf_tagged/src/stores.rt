@@ -4,14 +4,14 @@ ghost use Rattle.std.specs.Prelude.{◌≡◌, ◌<◌, ◌≤◌, ℕ, ℤ, [],
 ghost use Rattle.bpf_values.specs.Inside.{IsStorable, IsSize};
 ghost use Rattle.bpf_model.specs.Alu.{is_unset};
 ghost use Rattle.bpf_model.specs.State.{Setting, State, Fault};
-ghost use Rattle.bpf_model.specs.Memory.{store_at, store, number_or_zero};
-ghost use Rattle.bpf_model.specs.Run.{setting};
+ghost use Rattle.bpf_model.specs.Memory.{store_at, store as store_of, number_or_zero};
+ghost use Rattle.bpf_tagged.specs.Accesses.{stored_to};
 ghost use Rattle.bpf_tagged.specs.Took.{Performs, IsPaired};
 
 use crate::loads::Target;
-use crate::{Machine, Port, Stepped};
+use crate::{Input, Machine, Port, Stepped};
 use bpf_model::Place;
-use bpf_regions::{MapOp, Shapes, Value};
+use bpf_regions::{MapOp, Value};
 use bpf_values::arithmetic::{unset, wrong_kind};
 use bpf_values::bytes::store_in;
 use bpf_values::places::{place_of, points_elsewhere, taken_by, with_offset};
@@ -64,7 +64,7 @@ fn store_target(value: Value, to: Value) -> Result<Target, u8>
     ensures ok { IfOk result (λ t. to ≡ Value.Pointer t.region t.base) }
     ensures set { IfOk result (λ t. is_unset value ≡ false) }
     ensures err { IfErr result (λ cause. (p : Setting) (s : State) (n : ℕ) (offset : ℤ) →
-        store p s n value to offset ≡ Fault cause) }
+        store_of p s n value to offset ≡ Fault cause) }
 {
     match to {
         Value::Unset => Err(30),
@@ -83,39 +83,51 @@ fn store_target(value: Value, to: Value) -> Result<Target, u8>
     }
 }
 
+/// A store: how many bytes, of which value, and through which.
+#[derive(Clone, Copy)]
+pub struct Store {
+    pub size: usize,
+    pub value: Value,
+    pub to: Value,
+}
+
 /// A store of a value through one that has to be a pointer.
 pub fn perform_store<P: Port>(
-    shapes: &Shapes,
-    frame: &[u8],
-    context: &[u8],
+    input: Input<'_>,
     machine: &mut Machine,
     port: &mut P,
-    size: usize,
-    value: Value,
-    to: Value,
+    store: Store,
     offset: i16,
 ) -> Stepped
     requires here { machine.old.pc < 65536 }
-    requires size { IsSize size }
-    requires shapes { P.shapes port.old ≡ shapes.now }
-    ensures performs { Performs P.gives shapes.now (λ s. store (setting [] shapes.now frame.now context.now) s size value to offset)
+    requires size { IsSize store.size }
+    requires shapes { P.shapes port.old ≡ input.shapes.now }
+    ensures performs { Performs P.gives input.entry.shapes.now (stored_to input.entry store offset)
         result port.old port.new machine.old machine.new }
     ensures shapes { P.shapes port.new ≡ P.shapes port.old }
     ensures paired { IsPaired machine.old → IsPaired machine.new }
 {
-    let target = match store_target(value, to) {
+    let target = match store_target(store.value, store.to) {
         Ok(target) => target,
         Err(cause) => return Stepped::Faulted(cause),
     };
     let at = with_offset(target.base, offset);
-    let taken = match taken_by(target.region, at, size, value) {
+    let taken = match taken_by(target.region, at, store.size, store.value) {
         Ok(taken) => taken,
         Err(refused) => return Stepped::Faulted(refused),
     };
     let depth = machine.stack.len();
-    match place_of(shapes, frame, context, depth, target.region, at, size) {
+    match place_of(
+        input.shapes,
+        input.frame,
+        input.context,
+        depth,
+        target.region,
+        at,
+        store.size,
+    ) {
         Ok(place) => {
-            return store_placed(machine, port, size, taken, place);
+            return store_placed(machine, port, store.size, taken, place);
         }
         Err(other) => return Stepped::Faulted(other),
     }

@@ -1,7 +1,8 @@
 //! Tristate numbers: words of 64 bits of which some bits are known.
 //!
-//! Each operation answers its definition in `specs/Tnum.antt`. That it contains each result of the machine's operation
-//! is said by the laws of [`laws`].
+//! Main calls: `Tnum::new`, `add`, `and`, `mul`, `meet`, `is_included`. It stands on `bpf_words`.
+//! Each operation answers its definition in `specs/Tnum.antt`. That it contains each result of the
+//! machine's operation is said by the laws of [`laws`]. No call takes memory.
 #![tactic(auto)]
 
 pub mod laws;
@@ -245,6 +246,3 @@ impl Tnum {
         number & !self.mask == self.value
     }
 }
-
-#[cfg(test)]
-mod tests;

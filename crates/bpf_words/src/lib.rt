@@ -1,5 +1,10 @@
-//! The machine's operations on words of 64 and of 32 bits (RFC 9669, section 4): what each gives stands in
-//! `specs/Word.antt`. A signed number is its word in two's complement. `proofs/` has lemmas on the bits of words.
+//! The machine's operations on words of 64 and of 32 bits (RFC 9669, section 4).
+//!
+//! There is a function for each operation that Rust's own don't give as they are, such as
+//! `quotient_64` and `sign_extended_32`. It stands on nothing but std. Each function promises its
+//! definition in `specs/Word.antt`, where a word is a whole number and results wrap; a signed
+//! number is its word in two's complement. `proofs/` has lemmas on the bits of words, which the
+//! crates above cite.
 #![tactic(auto)]
 
 ghost use Rattle.std.specs.Prelude.{◌≡◌, ◌<◌, ◌≤◌, ◌^◌, ◌%◌, ◌*◌, ℕ};
@@ -201,68 +206,5 @@ pub fn bytes_swapped(bits: u8, x: u64) -> u64
         u64::from(low_half(x).swap_bytes())
     } else {
         x.swap_bytes()
-    }
-}
-
-#[cfg(test)]
-mod tests {
-    use super::*;
-
-    const MINUS_ONE: u64 = u64::MAX;
-
-    const LEAST: u64 = 1 << 63;
-
-    #[test]
-    fn words_of_numbers(rt: HostRuntime) {
-        assert_eq!(rt; word_of_int(-1), MINUS_ONE);
-        assert_eq!(rt; low_half(0x1_2345_6789), 0x2345_6789);
-        assert_eq!(rt; negated_64(1), MINUS_ONE);
-        assert_eq!(rt; negated_32(1), u32::MAX);
-    }
-
-    #[test]
-    fn division_by_zero(rt: HostRuntime) {
-        assert_eq!(rt; quotient_64(7, 0), 0);
-        assert_eq!(rt; remainder_64(7, 0), 7);
-        assert_eq!(rt; quotient_32(7, 2), 3);
-        assert_eq!(rt; remainder_32(7, 2), 1);
-        assert_eq!(rt; signed_quotient_64(7, 0), 0);
-        assert_eq!(rt; signed_remainder_64(7, 0), 7);
-    }
-
-    #[test]
-    fn signed_division_truncates(rt: HostRuntime) {
-        assert_eq!(rt; signed_quotient_64(LEAST, MINUS_ONE), LEAST);
-        assert_eq!(rt; signed_remainder_64(LEAST, MINUS_ONE), 0);
-        assert_eq!(rt; signed_remainder_64(word_of_int(-13), 3), MINUS_ONE);
-        assert_eq!(rt; signed_quotient_32(negated_32(13), 3), negated_32(4));
-        assert_eq!(rt; signed_remainder_32(negated_32(13), 3), u32::MAX);
-    }
-
-    #[test]
-    fn shifts_copy_the_sign(rt: HostRuntime) {
-        assert_eq!(rt;
-            arithmetic_shift_right_64(word_of_int(-8), 65),
-            word_of_int(-4)
-        );
-        assert_eq!(rt; arithmetic_shift_right_32(negated_32(8), 33), negated_32(4));
-        assert_eq!(rt; sign_extended_64(8, 0xff80), word_of_int(-128));
-        assert_eq!(rt; sign_extended_32(16, 0x1_8000), 0xffff_8000);
-    }
-
-    #[test]
-    fn signed_words_in_order(rt: HostRuntime) {
-        assert!(rt; signed_order_64(MINUS_ONE) < signed_order_64(0));
-        assert!(rt; signed_order_32(u32::MAX) < signed_order_32(0));
-    }
-
-    #[test]
-    fn bytes_turned_round(rt: HostRuntime) {
-        assert_eq!(rt; bytes_swapped(16, 0x1122_3344_5566_7788), 34935);
-        assert_eq!(rt; bytes_swapped(32, 0x0000_0000_5566_7788), 0x8877_6655);
-        assert_eq!(rt;
-            bytes_swapped(64, 0x1122_3344_5566_7788),
-            0x8877_6655_4433_2211
-        );
     }
 }

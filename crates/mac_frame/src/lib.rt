@@ -1,5 +1,11 @@
 //! The frames of an access point's link: the grammar of IEEE 802.11-2016, clause 9, for the kinds
 //! that the link has, read and written.
+//!
+//! Main calls: `parse` and `write`. It stands on `mac_types` and `byteorder`. `parse` answers Ok
+//! exactly for the frames of the grammar, with the frame that the bytes spell, and otherwise the
+//! first fault of an ordered list of tests on the bytes. `write` appends exactly the frame's
+//! spelling, or leaves the vector as it was. Accessors and constructors are their definitions in
+//! `specs/Frames.antt`.
 #![tactic(auto)]
 
 mod content;
@@ -30,6 +36,3 @@ pub use mac_types::{
     DelbaParameters, FrameFlags, QosControl, Reason, SequenceNumber, Status, Tid,
 };
 pub use subtype::{HeaderKind, Subtype};
-
-#[cfg(test)]
-mod tests;

@@ -2,8 +2,9 @@
 
 ghost use Rattle.std.specs.Prelude.{◌≡◌, ◌+◌, ◌≤◌, ◌++◌, ◌∷◌, [], length, vec_len, vec_capacity};
 ghost use Rattle.std.specs.Int.{w64, to_le_bytes};
-ghost use Rattle.mac_frame.specs.Spelling.{word, management_text, control_text, data_text, content_text};
+ghost use Rattle.mac_frame.specs.Spelling.{word, management_subtype, management_text, control_text, data_text, content_text};
 ghost use Rattle.mac_frame.specs.Writing.{Puts};
+ghost use Rattle.mac_frame.specs.declared.subtype.Subtype.TheVariants as subtypes;
 
 use crate::content::{Content, Control, DataKind, Management};
 use mac_types::Address;
@@ -55,49 +56,13 @@ fn put_action(out: &mut Vec<u8>, action: u8, dialog_token: u8)
     put(out, &[3, action, dialog_token]);
 }
 
-/// Appends a management frame's body up to its elements.
-fn put_management(out: &mut Vec<u8>, body: Management)
-    requires { vec_len out.old + 10 ≤ vec_capacity out.old }
+/// Appends the body of a block acknowledgement action (9.6.5).
+fn put_action_body(out: &mut Vec<u8>, body: Management)
+    requires room { vec_len out.old + 10 ≤ vec_capacity out.old }
+    requires action { management_subtype body ≡ subtypes.Action }
     ensures { Puts out.old out.new (management_text body []) }
 {
     match body {
-        Management::AssociationRequest {
-            capability,
-            listen_interval,
-        } => {
-            put_two(out, capability.field(), listen_interval);
-        }
-        Management::AssociationResponse {
-            capability,
-            status,
-            aid,
-        } => {
-            put_three(out, capability.field(), status.code(), aid.field());
-        }
-        Management::ReassociationRequest {
-            capability,
-            listen_interval,
-            current_ap,
-        } => {
-            put_two(out, capability.field(), listen_interval);
-            put_address(out, current_ap);
-        }
-        Management::ReassociationResponse {
-            capability,
-            status,
-            aid,
-        } => {
-            put_three(out, capability.field(), status.code(), aid.field());
-        }
-        Management::Disassociation { reason } => put_word(out, reason.code()),
-        Management::Authentication {
-            algorithm,
-            transaction,
-            status,
-        } => {
-            put_three(out, algorithm, transaction, status.code());
-        }
-        Management::Deauthentication { reason } => put_word(out, reason.code()),
         Management::AddbaRequest {
             dialog_token,
             parameters,
@@ -120,6 +85,46 @@ fn put_management(out: &mut Vec<u8>, body: Management)
             put(out, &[3, 2]);
             put_two(out, parameters.field(), reason.code());
         }
+        _ => {}
+    }
+}
+
+/// Appends a management frame's body up to its elements.
+fn put_management(out: &mut Vec<u8>, body: Management)
+    requires { vec_len out.old + 10 ≤ vec_capacity out.old }
+    ensures { Puts out.old out.new (management_text body []) }
+{
+    match body {
+        Management::AssociationRequest {
+            capability,
+            listen_interval,
+        } => put_two(out, capability.field(), listen_interval),
+        Management::AssociationResponse {
+            capability,
+            status,
+            aid,
+        } => put_three(out, capability.field(), status.code(), aid.field()),
+        Management::ReassociationRequest {
+            capability,
+            listen_interval,
+            current_ap,
+        } => {
+            put_two(out, capability.field(), listen_interval);
+            put_address(out, current_ap);
+        }
+        Management::ReassociationResponse {
+            capability,
+            status,
+            aid,
+        } => put_three(out, capability.field(), status.code(), aid.field()),
+        Management::Disassociation { reason } => put_word(out, reason.code()),
+        Management::Authentication {
+            algorithm,
+            transaction,
+            status,
+        } => put_three(out, algorithm, transaction, status.code()),
+        Management::Deauthentication { reason } => put_word(out, reason.code()),
+        _ => put_action_body(out, body),
     }
 }
 

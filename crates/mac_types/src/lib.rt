@@ -1,4 +1,9 @@
 //! The addresses, numbers, codes and fields that IEEE 802.11 frames consist of.
+//!
+//! Main calls: `from_field` and `field` of each parameter field, `new` of each number. It stands on
+//! nothing but std. A value can't hold what the standard reserves; what is ignored is kept, so each
+//! value has one spelling. Six laws tie the test of a field's bits to the values that spell it.
+//! `known` hands out a type's invariant.
 #![tactic(auto)]
 
 mod address;
@@ -28,6 +33,3 @@ pub use reason::Reason;
 pub use sequence_number::SequenceNumber;
 pub use status::Status;
 pub use tid::Tid;
-
-#[cfg(test)]
-mod tests;

@@ -1,3 +1,1 @@
-pub mod Sums
-pub mod Ports
 pub mod Loads

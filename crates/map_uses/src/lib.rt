@@ -1,10 +1,12 @@
-//! What a crate above makes of map tables: sums over several, tables that threads share, and ports of programs.
+//! What a crate above makes of map tables that threads share.
+//!
+//! Main call: `live::load_both`, which starts two threads over one table. It stands on `shared_maps`. No call locks.
 #![tactic(auto)]
 
 pub mod live;
-pub mod port;
+#[cfg(test)]
+mod seats;
 #[cfg(test)]
 mod speed;
-pub mod sums;
 #[cfg(test)]
 mod tests;

@@ -12,12 +12,12 @@ use Rattle.ap_core.proofs.packets.on_qos_data.Goals as goal
 
 pub on_plain_data-requires-clause-plain : goal.on_plain_data-requires-clause-plain
 on_plain_data-requires-clause-plain g c =
-    subst (λ (t : Option ℕ). agreement_for (reading c.args.state.now) c.args.frame.now.sender t ≡ None) (sym c.requires.tid)
+    subst (λ (t : Option ℕ). agreement_for (reading c.args.state.now) c.args.frame.sender t ≡ None) (sym c.requires.tid)
     (subst (λ (a : List ℕ). agreement_in c.args.state.now.agreements.kept a c.args.tid ≡ None) c.sender-station.ensures c.in-None.ensures)
 
 pub on_wanted_data-requires-clause-agreed : goal.on_wanted_data-requires-clause-agreed
 on_wanted_data-requires-clause-agreed g c =
-    let there : agreement_in c.args.state.now.agreements.kept c.args.frame.now.sender c.args.tid ≡ Some c.in-Some.entry.now.using =
+    let there : agreement_in c.args.state.now.agreements.kept c.args.frame.sender c.args.tid ≡ Some c.in-Some.entry.now.using =
     subst (λ (a : List ℕ). agreement_in c.args.state.now.agreements.kept a c.args.tid ≡ Some c.in-Some.entry.now.using) c.sender-station.ensures c.in-Some.ensures in
     subst (λ (o : Option Using). IsSomeAnd o (λ u. IsWanted u.window c.args.read.now.number × (c.start-start.result ≡ u.window.start))) (sym there)
     (c.wants.ensures.0 c.if-wants.true, c.start-start.ensures)
@@ -30,7 +30,7 @@ leave-requires g c =
 pub returns-in-Some-clause-step : goal.returns-in-Some-clause-step
 returns-in-Some-clause-step g c =
     silently g.J.Judge.gives _ _ _
-    (left_from (standing c.args.state.now.link) c.args.state.now.agreements.kept c.leave.new.self.kept c.args.state.now.clock (packet c.args.frame.now c.args.read.now)
+    (left_from (standing c.args.state.now.link) c.args.state.now.agreements.kept c.leave.new.self.kept c.args.state.now.clock (packet c.args.frame c.args.read.now)
     c.sender-station.result c.sender-station.ensures c.args.tid c.requires.tid
     (subst (λ (o : Option Using). IsSomeAnd o (λ u. IsWanted u.window c.args.read.now.number → ⊥)) (sym c.in-Some.ensures)
     (λ w. let t = c.wants.ensures.1 w in let f = c.if-wants.false in cc))

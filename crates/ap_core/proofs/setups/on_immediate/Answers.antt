@@ -3,7 +3,8 @@ use Rattle.assoc.specs.Standings.{standing}
 use Rattle.ap_model.specs.declared.event.Out.{Out}
 use Rattle.ap_model.specs.Agreements.{SetsUp, setup_answer}
 use Rattle.ap_agreements.specs.Tables.{Kept, agreement_in}
-use Rattle.ap_core.specs.Handles.{Handled, IsGranted, reading, rules, setup}
+use Rattle.ap_model.specs.Asks.{Handled}
+use Rattle.ap_core.specs.Handles.{IsGranted, reading, rules, setup}
 use Rattle.ap_core.proofs.Handling.{asking}
 use Rattle.ap_core.proofs.SetupLaws.{declined_by, granted_by}
 use Rattle.ap_core.proofs.setups.on_immediate.Goals as goal

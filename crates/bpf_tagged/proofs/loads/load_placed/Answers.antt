@@ -21,14 +21,14 @@ returns-in-Context-clause-performs g c =
 pub returns-in-Ok-clause-performs : goal.returns-in-Ok-clause-performs
 returns-in-Ok-clause-performs g c =
     goes_as g.P.Port.gives (g.P.Port.shapes c.args.port.now) _ _ c.args.machine.now _ _ c.put-in-Ok.ensures.is
-    (λ notes. simp (c.in-Stack.is, ap (λ l. from_stack (slice_index_or l c.in-Stack.k empty_frame) c.in-Stack.at c.args.size c.args.signed) (sym c.as_slice.ensures.value) ∙ sym c.in-Ok.ensures))
+    (λ notes. simp (c.in-Stack.is, ap (λ l. from_stack (slice_index_or l c.in-Stack.k empty_frame) c.in-Stack.at c.args.load.size c.args.load.signed) (sym c.as_slice.ensures.value) ∙ sym c.in-Ok.ensures))
 
 pub returns-in-Err-clause-performs : goal.returns-in-Err-clause-performs
 returns-in-Err-clause-performs g c =
     faults g.P.Port.gives (g.P.Port.shapes c.args.port.now) _ _ _ c.args.machine.now _
-    (λ notes. simp (c.in-Stack.is, ap (λ l. from_stack (slice_index_or l c.in-Stack.k empty_frame) c.in-Stack.at c.args.size c.args.signed) (sym c.as_slice.ensures.value) ∙ sym c.in-Err.ensures))
+    (λ notes. simp (c.in-Stack.is, ap (λ l. from_stack (slice_index_or l c.in-Stack.k empty_frame) c.in-Stack.at c.args.load.size c.args.load.signed) (sym c.as_slice.ensures.value) ∙ sym c.in-Err.ensures))
 
 pub returns-in-Word-clause-performs : goal.returns-in-Word-clause-performs
 returns-in-Word-clause-performs g c =
-    asks_as g.P.Port.gives (g.P.Port.shapes c.args.port.now) _ (Access c.in-Word.map c.in-Word.word Load) c.access-answer.result (λ notes a. put (at c.args.machine.now notes) c.args.dst (Number (as_loaded c.args.signed c.args.size a))) _ _ c.args.machine.now _ _ c.put-in-Word.ensures.is
+    asks_as g.P.Port.gives (g.P.Port.shapes c.args.port.now) _ (Access c.in-Word.map c.in-Word.word Load) c.access-answer.result (λ notes a. put (at c.args.machine.now notes) c.args.load.dst (Number (as_loaded c.args.load.signed c.args.load.size a))) _ _ c.args.machine.now _ _ c.put-in-Word.ensures.is
     c.access-answer.ensures.gives c.access-answer.ensures.in_range (λ notes. simp c.in-Word.is) (λ notes. simp c.loaded-number-in-Word.ensures)

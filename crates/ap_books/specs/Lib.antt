@@ -1,0 +1,4 @@
+pub mod Counts
+pub mod Naming
+pub mod Reading
+pub mod Holdings

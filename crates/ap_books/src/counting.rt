@@ -1,0 +1,31 @@
+//! How much an entry counts.
+
+ghost use Rattle.std.specs.Prelude.{◌≡◌, count_by};
+ghost use Rattle.ap_books.specs.Counts.{is_send, is_up, is_note};
+
+use ap_model::Out;
+
+/// How many frames are sent.
+pub(crate) fn sent_in(outs: &[Out]) -> usize
+    ensures { result ≡ count_by is_send outs.now }
+{
+    outs.iter()
+        .filter(|out| matches!(out, Out::Send(_)))
+        .count()
+}
+
+/// How much data is passed up.
+pub(crate) fn up_in(outs: &[Out]) -> usize
+    ensures { result ≡ count_by is_up outs.now }
+{
+    outs.iter().filter(|out| matches!(out, Out::Up(_))).count()
+}
+
+/// How many notes are given.
+pub(crate) fn notes_in(outs: &[Out]) -> usize
+    ensures { result ≡ count_by is_note outs.now }
+{
+    outs.iter()
+        .filter(|out| matches!(out, Out::Note(_)))
+        .count()
+}

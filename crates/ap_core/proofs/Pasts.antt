@@ -1,0 +1,49 @@
+-- A shard's history, as it begins and goes on.
+use Rattle.std.proofs.Common.{◌≡◌, ℕ, List, [], ◌∷◌, ◌++◌, Result, Ok, Err, refl, sym, ap, subst}
+use Rattle.std.specs.Prelude.{IfOk, IfErr}
+use Rattle.std.specs.Global.{Vec}
+use Rattle.std.proofs.Math.Logic.{∥∥₁_map}
+use Rattle.ap_model.specs.declared.event.Event.{Event}
+use Rattle.ap_model.specs.declared.event.Out.{Out}
+use Rattle.ap_model.specs.Asks.{Ask}
+use Rattle.ap_model.specs.Readings.{Readings, Rules, Config}
+use Rattle.ap_model.specs.Steps.{Step}
+use Rattle.ap_model.specs.Runs.{Entry, Run, rests, goes_on, opening, History}
+use Rattle.ap_model.proofs.Appending.{run_append}
+use Rattle.ap_core.specs.declared.state.State.{State}
+use Rattle.ap_core.specs.Handles.{reading, rules}
+
+-- nothing was handled yet
+pub begun : (c : Rules) (r : Readings) → r ≡ opening → ∥ History c r ∥₁
+begun c r e = ∣ record { entries = []; run = subst (λ (x : Readings). Run c opening [] x) (sym e) (rests opening) } ∣₁
+
+-- an event is handled
+pub longer : (c : Rules) (r r2 : Readings) (event : Event) (asked : List (Ask × ℕ)) (outs : List Out) → Step c r event asked outs r2 → ∥ History c r ∥₁ → ∥ History c r2 ∥₁
+longer c r r2 event asked outs step past =
+    let e : Entry = record { event = event; asked = asked; outs = outs } in
+    ∥∥₁_map past (λ (h : History c r). record { entries = h.entries ++ e ∷ []; run = run_append c h.run (goes_on r r2 r2 e [] step (rests r2)) })
+
+-- one is refused, or it changes nothing that is read
+pub same : (c c2 : Rules) (r r2 : Readings) → c2 ≡ c → r2 ≡ r → ∥ History c r ∥₁ → ∥ History c2 r2 ∥₁
+same c c2 r r2 e f past = subst (λ (x : Rules). ∥ History x r2 ∥₁) (sym e) (subst (λ (x : Readings). ∥ History c x ∥₁) (sym f) past)
+
+-- ---- what a call leaves
+
+module _ (s s2 : State) (config : Config) (shard : s2.link.shard ≡ s.link.shard) (past : ∥ History (rules s.link.shard config) (reading s) ∥₁) where
+  -- it was a step
+  pub went_on : (event : Event) (asked : List (Ask × ℕ)) (outs : List Out) → Step (rules s.link.shard config) (reading s) event asked outs (reading s2) →
+      ∥ History (rules s2.link.shard config) (reading s2) ∥₁
+  went_on event asked outs step =
+      same (rules s.link.shard config) (rules s2.link.shard config) (reading s2) (reading s2) (ap (λ n. rules n config) shard) refl
+      (longer (rules s.link.shard config) (reading s) (reading s2) event asked outs step past)
+
+  -- nothing changed
+  pub stayed : s2 ≡ s → ∥ History (rules s2.link.shard config) (reading s2) ∥₁
+  stayed e = same (rules s.link.shard config) (rules s2.link.shard config) (reading s) (reading s2) (ap (λ n. rules n config) shard) (ap reading e) past
+
+  -- it was a step where it was not refused, and else nothing changed
+  pub either : {E : Type 0} {H : Vec Out → Type 0} {G : E → Type 0} (event : Event) (o : Result (Vec Out) E) →
+      ((outs : Vec Out) → H outs → (asked : List (Ask × ℕ)) × Step (rules s.link.shard config) (reading s) event asked outs.items (reading s2)) →
+      ((e : E) → G e → s2 ≡ s) → IfOk o H → IfErr o G → ∥ History (rules s2.link.shard config) (reading s2) ∥₁
+  either event (Ok outs) step refused h g = let x = step outs h in went_on event x.0 outs.items x.1
+  either event (Err e) step refused h g = stayed (refused e g)

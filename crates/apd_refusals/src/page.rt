@@ -1,0 +1,85 @@
+//! A page on one number.
+
+ghost use Rattle.std.specs.Prelude.{◌≡◌, IfSome};
+
+use crate::{certificates, code, frames, live, text, verifier};
+use std::fmt;
+
+/// A program, small enough to be read at a glance.
+#[derive(Clone, Copy)]
+pub enum Example {
+    /// Assembler text, a line an instruction.
+    Text(&'static str),
+    /// Hex digits, 16 an instruction slot.
+    Code(&'static str),
+}
+
+/// What a number means.
+#[derive(Clone, Copy)]
+pub struct Explanation {
+    /// The number that a refusal names.
+    pub number: u8,
+    /// In a few words.
+    pub title: &'static str,
+    /// In a few sentences.
+    pub meaning: &'static str,
+    /// What leads to it.
+    pub habit: &'static str,
+    /// A program that is refused so, and the same program cured. Map 0, where they use it, has 4 entries of one
+    /// word of 8 bytes.
+    pub programs: Option<(Example, Example)>,
+    /// What to do.
+    pub cure: &'static str,
+}
+
+/// All pages, by the part of `apd` that refuses.
+const PARTS: [&[Explanation]; 6] = [
+    &code::EXPLANATIONS,
+    &text::EXPLANATIONS,
+    &verifier::EXPLANATIONS,
+    &frames::EXPLANATIONS,
+    &live::EXPLANATIONS,
+    &certificates::EXPLANATIONS,
+];
+
+/// The page on a number. None where no refusal has it.
+pub fn explain(number: u8) -> Option<Explanation>
+    ensures number { IfSome result (λ page. page.number ≡ number) }
+{
+    for part in PARTS {
+        for page in part {
+            if page.number == number {
+                return Some(*page);
+            }
+        }
+    }
+    None
+}
+
+impl fmt::Display for Example {
+    fn fmt<W: fmt::Write>(&self, f: &mut fmt::Formatter<W>) -> fmt::Result {
+        match self {
+            Example::Text(lines) => {
+                for line in lines.lines() {
+                    writeln!(f, "    {line}")?;
+                }
+                Ok(())
+            }
+            Example::Code(digits) => writeln!(f, "    {digits}"),
+        }
+    }
+}
+
+impl fmt::Display for Explanation {
+    fn fmt<W: fmt::Write>(&self, f: &mut fmt::Formatter<W>) -> fmt::Result {
+        writeln!(
+            f,
+            "{}: {}\n\n{}\n\n{}\n",
+            self.number, self.title, self.meaning, self.habit
+        )?;
+        if let Some((refused, cured)) = &self.programs {
+            writeln!(f, "Refused:\n\n{refused}\nAdmitted:\n\n{cured}")?;
+        }
+        writeln!(f, "{}", self.cure)
+    }
+}

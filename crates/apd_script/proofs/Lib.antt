@@ -1,0 +1,6 @@
+mod Cuts
+mod Digits
+mod Numbers
+mod Many
+mod Parts
+mod Reading

@@ -1,0 +1,15 @@
+use Rattle.std.proofs.Common.{◌≡◌, ◌≤◌, length}
+use denote.Text.{Utf8}
+use denote.Shadow.{shadow}
+use Rattle.apd_script.specs.Words.{words}
+use Rattle.apd_script.proofs.line.next_word.Given as goal
+
+abbrev pub invariant-loop-rest : goal.invariant-loop-rest
+invariant-loop-rest l =
+    shadow (Utf8 l.rest) × record {
+      same : words l.text ≡ words l.rest;
+      shorter : length l.rest ≤ length l.text;
+    }
+
+abbrev pub decreases-loop-rest : goal.decreases-loop-rest
+decreases-loop-rest l = length l.rest

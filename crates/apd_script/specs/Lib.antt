@@ -1,0 +1,6 @@
+pub mod Digits
+pub mod Asked
+pub mod Words
+pub mod Lines
+pub mod Script
+pub mod Faults

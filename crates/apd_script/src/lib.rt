@@ -1,0 +1,18 @@
+//! The script of a run: its lines are read before the first of them is done.
+#![tactic(auto)]
+
+mod command;
+mod fault;
+mod hex_text;
+mod line;
+mod operands;
+mod read;
+mod words;
+
+pub use command::{Command, MapWord, Numbered};
+pub use fault::ScriptFault;
+pub use hex_text::HexText;
+pub use read::read_script;
+
+#[cfg(test)]
+mod tests;

@@ -1,0 +1,122 @@
+//! What a line of a script says.
+
+ghost use Rattle.std.specs.Prelude.{◌≡◌, ◌<◌, ◌≤◌, ◌++◌, ◌↔◌, take, length, Some, None, IsOk, IfSome, IfNone, IfOk, OnErr};
+ghost use Rattle.std.specs.List.{list_any};
+ghost use Rattle.apd_script.specs.Asked.{asked_by, NamesWord};
+ghost use Rattle.apd_script.specs.Words.{words, if_some, BeginsWith, texts, is_forbidden, begins_comment};
+ghost use Rattle.apd_script.specs.Lines.{says, line_asks, IsWellFormed};
+
+use crate::command::Command;
+use crate::operands::command;
+use bpf_regions::Shapes;
+use std::str;
+
+/// A line that no script has.
+#[derive(Clone, Copy, Debug)]
+pub(crate) struct Malformed;
+
+/// What stands before the first space of a text, and what after it.
+fn cut_at_space(text: &str) -> (&str, &str)
+    ensures parts { words text.now ≡ if_some result.0.now ++ words result.1.now }
+    ensures shorter { 0 < length text.now → length result.1.now < length text.now }
+{
+    match text.split_once(' ') {
+        Some((word, rest)) => (word, rest),
+        None => (text, ""),
+    }
+}
+
+/// The first word of a text, and what follows it.
+#[tactic(auto, using(crate::proofs::Parts::empty, crate::proofs::Parts::some_word, crate::proofs::Parts::no_word))]
+fn next_word(text: &str) -> Option<(&str, &str)>
+    ensures first { BeginsWith text.now result }
+    ensures shorter { IfSome result (λ x. length x.1.now < length text.now) }
+{
+    let mut rest = text;
+    while !rest.is_empty() {
+        let (word, after) = cut_at_space(rest);
+        if !word.is_empty() {
+            return Some((word, after));
+        }
+        rest = after;
+    }
+    None
+}
+
+/// Puts the words of a text in order, and tells how many there are; None for more than four.
+fn cut_words<'a>(text: &'a str, cut: &mut [&'a str; 4]) -> Option<usize>
+    ensures cut { IfSome result (λ count. words text.now ≡ texts (take count cut.new)) }
+    ensures few { IfSome result (λ count. count ≤ 4) }
+    ensures four { length cut.new ≡ 4 }
+    ensures many { IfNone result (5 ≤ length (words text.now)) }
+{
+    let mut count = 0;
+    let mut rest = text;
+    while let Some((word, after)) = next_word(rest) {
+        if count == 4 {
+            return None;
+        }
+        cut[count] = word;
+        count += 1;
+        rest = after;
+    }
+    Some(count)
+}
+
+fn begins_comment(word: &str) -> bool
+    ensures is { result ≡ begins_comment word.now }
+{
+    matches!(word.as_bytes(), [b'#', ..])
+}
+
+/// What words after one another say; nothing where there are none or they are a comment.
+fn read_words<'a>(shapes: &Shapes, line: &'a str) -> Result<Option<Command<'a>>, Malformed>
+    ensures said { IfOk result (λ said. says shapes.now line.now ≡ Some (asked_by said)) }
+    ensures malformed { OnErr result (says shapes.now line.now ≡ None) }
+    ensures within { IfOk result (λ said. IfSome said (NamesWord shapes.now)) }
+{
+    let Some((keyword, rest)) = next_word(line) else {
+        return Ok(None);
+    };
+    if begins_comment(keyword) {
+        return Ok(None);
+    }
+    let mut operands = [""; 4];
+    let Some(count) = cut_words(rest, &mut operands) else {
+        return Err(Malformed);
+    };
+    match command(shapes, keyword, &operands[..count]) {
+        Some(command) => Ok(Some(command)),
+        None => Err(Malformed),
+    }
+}
+
+/// Whether a line has a tab or a carriage return. Each byte is tested, since a loop without a
+/// branch is the fastest.
+fn has_forbidden(line: &[u8]) -> bool
+    ensures is { result ≡ list_any is_forbidden line.now }
+{
+    let mut found = false;
+    for byte in line {
+        found |= matches!(*byte, b'\t' | b'\r');
+    }
+    found
+}
+
+/// What a line asks for, if anything.
+pub(crate) fn read_line<'a>(
+    shapes: &Shapes,
+    line: &'a [u8],
+) -> Result<Option<Command<'a>>, Malformed>
+    ensures well_formed { IsOk result ↔ IsWellFormed shapes.now line.now }
+    ensures asks { IfOk result (λ said. asked_by said ≡ line_asks shapes.now line.now) }
+    ensures within { IfOk result (λ said. IfSome said (NamesWord shapes.now)) }
+{
+    let Ok(text) = str::from_utf8(line) else {
+        return Err(Malformed);
+    };
+    if has_forbidden(line) {
+        return Err(Malformed);
+    }
+    read_words(shapes, text)
+}

@@ -1,0 +1,180 @@
+//! How long a shard takes for a data frame, on standard error: of one associated station in an agreement, and of 500
+//! stations in agreements in turn, 250 in each of two shards. The argument is how many frames.
+#![tactic(auto)]
+
+use anyhow::Result;
+use ap_core::{Event, LinkConfig, ListJudge, Octets, Out, Shard};
+use mac_frame::Address;
+use std::alloc::{AllocError, Global};
+use std::env;
+use std::rt::Runtime;
+use std::time::Instant;
+
+/// The access point.
+const BSSID: [u8; 6] = [2, 0, 0, 0, 0, 1];
+
+/// How many stations are associated: each of two shards has identifiers for 250.
+const STATIONS: u16 = 500;
+
+/// The address of a station: even ones belong to shard 0, odd ones to shard 1.
+fn address(station: u16) -> [u8; 6] {
+    let [high, low] = (((station >> 1) << 3) | (station & 1)).to_be_bytes();
+    [2, 0, 0, 1, high, low]
+}
+
+/// An event of a station.
+#[derive(Drop)]
+struct Sent {
+    station: u16,
+    event: Event,
+}
+
+/// A frame to the access point: its first four bytes, three addresses, and what comes behind them.
+fn frame(alloc: Global, first: [u8; 4], station: u16, rest: &[u8]) -> Result<Sent, AllocError> {
+    let mut bytes = Vec::from_slice(alloc, &first)?;
+    bytes.extend_from_slice(&BSSID)?;
+    bytes.extend_from_slice(&address(station))?;
+    bytes.extend_from_slice(&BSSID)?;
+    bytes.extend_from_slice(rest)?;
+    Ok(Sent {
+        station,
+        event: Event::Frame(Octets::new(bytes)),
+    })
+}
+
+/// What an access point of network `lab` is made with.
+fn config(alloc: Global) -> Result<Option<LinkConfig>, AllocError> {
+    let ssid = Octets::copy(alloc, b"lab")?;
+    let rates = Octets::copy(alloc, &[0x82, 0x84, 0x8b, 0x96])?;
+    Ok(LinkConfig::new(Address::new(BSSID), ssid, rates))
+}
+
+/// Authentication of a station.
+fn authentication(alloc: Global, station: u16) -> Result<Sent, AllocError> {
+    let request = [0x10, 0, 0, 0, 1, 0, 0, 0];
+    frame(alloc, [0xb0, 0, 0, 0], station, &request)
+}
+
+/// Association of a station.
+fn association(alloc: Global, station: u16) -> Result<Sent, AllocError> {
+    let request = [0x10, 0, 1, 0, 10, 0, 0, 3, b'l', b'a', b'b', 1, 1, 0x82];
+    frame(alloc, [0, 0, 0, 0], station, &request)
+}
+
+/// A request for an agreement of size 64 for TID 0, from number 0 on, with no timeout.
+fn setup(alloc: Global, station: u16) -> Result<Sent, AllocError> {
+    let request = [0x10, 0, 3, 0, 7, 0x02, 0x10, 0, 0, 0, 0];
+    frame(alloc, [0xd0, 0, 0, 0], station, &request)
+}
+
+/// QoS data for TID 0 with a number and 100 bytes.
+fn data(alloc: Global, station: u16, number: u16) -> Result<Sent, AllocError> {
+    let mut rest = Vec::from_slice(alloc, &(number << 4).to_le_bytes())?;
+    rest.resize(104, 0)?;
+    frame(alloc, [0x88, 0x01, 0, 0], station, &rest)
+}
+
+/// How many frames are passed up.
+fn ups(outs: &[Out]) -> u64 {
+    let mut passed = 0u64;
+    for out in outs {
+        if let Out::Up(_) = out {
+            passed = passed.wrapping_add(1);
+        }
+    }
+    passed
+}
+
+/// Two shards of one access point: that of the stations with even numbers, and that of the others.
+#[derive(Drop)]
+struct Halves {
+    even: Shard,
+    odd: Shard,
+}
+
+impl Halves {
+    /// Handles events, each in the shard of its station, and counts the frames that are passed up.
+    fn handle(&mut self, alloc: Global, events: &[Sent], answers: &[u64]) -> Result<u64> {
+        let mut judge = ListJudge::new(answers);
+        let mut passed = 0u64;
+        for sent in events {
+            let came = if sent.station & 1 == 0 {
+                self.even.handle(alloc, &sent.event, &mut judge)?
+            } else {
+                self.odd.handle(alloc, &sent.event, &mut judge)?
+            };
+            passed = passed.wrapping_add(ups(&came));
+        }
+        Ok(passed)
+    }
+}
+
+/// Data of some stations in turn, each with numbers of its own.
+fn data_in_turn(alloc: Global, stations: u16, frames: u64) -> Result<Vec<Sent>, AllocError> {
+    let mut events = Vec::new(alloc);
+    let mut station = 0u16;
+    let mut number = 0u16;
+    for _frame in 0..frames {
+        events.push(data(alloc, station, number)?)?;
+        station = station.wrapping_add(1);
+        if station >= stations {
+            station = 0;
+            number = number.wrapping_add(1) % 4096;
+        }
+    }
+    Ok(events)
+}
+
+/// Prints how long data of some stations in turn takes, whose agreements are new.
+fn report(rt: &HostRuntime, halves: &mut Halves, stations: u16, frames: u64) -> Result<()> {
+    let alloc = rt.alloc();
+    for station in 0..stations {
+        halves.handle(alloc, &[setup(alloc, station)?], &[64])?;
+    }
+    let events = data_in_turn(alloc, stations, frames)?;
+    let start = Instant::now(rt)?;
+    let passed = halves.handle(alloc, &events, &[])?;
+    let nanos = start.elapsed(rt)?.as_nanos();
+    eprintln!(rt;
+        "stations {stations}: {} ns a frame, {passed} passed up",
+        nanos / u128::from(frames.max(1))
+    )?;
+    Ok(())
+}
+
+/// How many frames the arguments ask for, and 1000 where they don't say.
+fn frames_asked(rt: &HostRuntime) -> Result<u64> {
+    let mut frames = 1000u64;
+    for word in env::args(rt)? {
+        frames = word.as_str().parse::<u64>().unwrap_or(frames);
+    }
+    Ok(frames)
+}
+
+/// Associates all stations.
+fn associate(alloc: Global, halves: &mut Halves) -> Result<()> {
+    for station in 0..STATIONS {
+        let joining = [
+            authentication(alloc, station)?,
+            association(alloc, station)?,
+        ];
+        halves.handle(alloc, &joining, &[])?;
+    }
+    Ok(())
+}
+
+fn main(rt: HostRuntime) -> Result<()> {
+    let alloc = rt.alloc();
+    let frames = frames_asked(&rt)?;
+    let Some(config) = config(alloc)? else {
+        return Ok(());
+    };
+    let mut halves = Halves {
+        even: Shard::new(alloc, 0, &config)?,
+        odd: Shard::new(alloc, 1, &config)?,
+    };
+    associate(alloc, &mut halves)?;
+    report(&rt, &mut halves, 1, frames)?;
+    report(&rt, &mut halves, STATIONS, frames)?;
+    Ok(())
+}

@@ -1,0 +1,9 @@
+pub mod Safely
+pub mod Seconds
+pub mod Told
+pub mod Least
+pub mod Filling
+pub mod Builds
+pub mod Roomy
+pub mod Free
+pub mod Entries

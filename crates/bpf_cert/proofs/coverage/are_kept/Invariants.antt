@@ -1,0 +1,7 @@
+use Rattle.std.proofs.Common.{◌<◌, ℕ, get_or}
+use Rattle.bpf_cert.specs.declared.claim.Claim.{Claim}
+use Rattle.bpf_cert.specs.Covered.{LeadsWithin}
+use Rattle.bpf_cert.proofs.coverage.are_kept.Given as goal
+
+abbrev pub invariant-loop-claim : goal.invariant-loop-claim
+invariant-loop-claim l = (k : ℕ) (d : Claim) → k < l.claim-index → LeadsWithin l.program l.claims (get_or l.claims k d).budget (get_or l.claims k d).state

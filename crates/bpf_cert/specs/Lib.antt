@@ -1,0 +1,7 @@
+pub mod States
+pub mod Covered
+pub mod Laws
+pub mod Steps
+pub mod Built
+pub mod Faults
+pub mod Certified

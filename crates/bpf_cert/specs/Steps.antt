@@ -1,0 +1,39 @@
+-- How a check goes from one state to the next.
+use Rattle.std.specs.Prelude.{◌≡◌, ◌⊎◌, ◌<◌, ◌≤◌, ℕ, Bool, List, MatchBool, slice_index_or}
+use Rattle.std.specs.List.{Any}
+use Rattle.bpf_decode.specs.Program.{Code, IsTarget}
+use Rattle.bpf_absstate.specs.View.{View, entry_view}
+use Rattle.bpf_plain.specs.Standing.{Stands}
+use Rattle.bpf_rules.specs.declared.ways.Ways.{Ways}
+use Rattle.bpf_rules.specs.declared.ways.Ways.TheVariants.{Two}
+use Rattle.bpf_cert.specs.declared.claim.Claim.{Claim}
+use Rattle.bpf_cert.specs.declared.coverage.Step.{Step}
+use Rattle.bpf_cert.specs.declared.coverage.Step.TheVariants.{Decided, Onward}
+use Rattle.bpf_cert.specs.Covered.{Includes, IsIncluded, LeadsWithin}
+
+-- the answer is yes where P holds, and no where it doesn't
+abbrev pub Tells : Bool → Type 0 → Type 0
+Tells told P = MatchBool told P (P → ⊥)
+
+-- a way on leads to this state: a claim includes it, or its own ways lead on
+abbrev pub Arrives : Code → List Claim → ℕ → View → Type 0
+Arrives c es n x = (IsTarget c.slots x.pc × IsIncluded es x n) ⊎ ((IsTarget c.slots x.pc → ⊥) × LeadsWithin c es n x)
+
+-- P is decided, or holds just where the state's ways lead on
+pub record IsSame (P Q : Type 0) : Type 0 where
+  pub back : Q → P
+  pub forth : P → Q
+
+abbrev pub Goes : Code → List Claim → ℕ → Type 0 → Step → Type 0
+Goes c es n P (Decided told) = Tells told P
+Goes c es n P (Onward x) = IsSame P (LeadsWithin c es n x) × Stands c.slots x
+
+-- a jump leads to a target slot
+abbrev pub SecondIsTarget : Code → Ways → Type 0
+SecondIsTarget c (Two x y) = IsTarget c.slots y.pc
+SecondIsTarget c w = Unit {0}
+
+-- the least budget so far of a claim that includes the start
+pub record IsLeast (es : List Claim) (n : ℕ) (b : ℕ) : Type 0 where
+  pub claim : Any (λ e. Includes e entry_view × (e.budget ≡ b)) es
+  pub least : (k : ℕ) (d : Claim) → k < n → Includes (slice_index_or es k d) entry_view → b ≤ (slice_index_or es k d).budget

@@ -1,0 +1,112 @@
+//! The states that entries describe.
+
+ghost use Rattle.std.specs.Prelude.{◌≡◌, ◌<◌, ◌≤◌, [], length, OnOk, IfOk, slice_index_or};
+ghost use Rattle.std.specs.List.{All};
+ghost use Rattle.bpf_absstate.specs.View.{frame_of, empty_stack, with_slot, stack_of};
+ghost use Rattle.bpf_absval.specs.declared.slot.AbsSlot.TheVariants.{Unset};
+ghost use Rattle.bpf_cert_format.specs.Fits.{FitsEntry, IsMainFirst, Rise};
+ghost use Rattle.bpf_cert.specs.Built.{with_values, with_stack, filled, built};
+ghost use Rattle.bpf_cert.specs.States.{state_of as describes};
+
+use bpf_absstate::AbsState;
+use bpf_absval::{AbsSlot, AbsVal, Room};
+use bpf_cert_format::{Entry, Frame};
+use bpf_insn::Reg;
+use bpf_stack::Stack;
+use std::alloc::{AllocError, Global};
+
+/// Puts ten values into R0 to R9.
+fn put_values(state: &mut AbsState, values: &[AbsVal]) -> Result<(), AllocError>
+    requires all { length values.now ≡ 10 }
+    requires eleven { length state.old.registers ≡ 11 }
+    ensures is { OnOk result (state.new ≡ with_values state.old values.now) }
+{
+    for number in 0..10 {
+        state.set_register(Reg::new(number as u8), values[number])?;
+    }
+    Ok(())
+}
+
+/// Puts what a stack slot holds that is unset so far.
+fn put_cell(state: &mut AbsState, k: usize, index: usize, cell: AbsSlot) -> Result<(), AllocError>
+    requires lives { k < length state.old.frames }
+    requires inside { index < 64 }
+    requires unset { slice_index_or (stack_of state.old k) index Unset ≡ Unset }
+    ensures is { OnOk result (state.new ≡ with_slot state.old k index cell) }
+{
+    if matches!(cell, AbsSlot::Unset) {
+        return Ok(());
+    }
+    state.set_slot(k, index, cell)?;
+    Ok(())
+}
+
+/// Fills the stack of call frame `k`, which is unset so far.
+fn put_stack(state: &mut AbsState, k: usize, stack: &Stack) -> Result<(), AllocError>
+    requires lives { k < length state.old.frames }
+    requires unset { stack_of state.old k ≡ empty_stack }
+    ensures is { OnOk result (state.new ≡ with_stack state.old k stack.now) }
+{
+    stack.whole();
+    for index in 0..64 {
+        put_cell(state, k, index, stack.get(index))?;
+    }
+    Ok(())
+}
+
+/// Fills call frame `k`, of which nothing is known so far.
+fn fill(state: &mut AbsState, k: usize, frame: &Frame) -> Result<(), AllocError>
+    requires all { length frame.now.registers ≡ 10 }
+    requires eleven { length state.old.registers ≡ 11 }
+    requires lives { k < length state.old.frames }
+    requires unset { stack_of state.old k ≡ empty_stack }
+    ensures is { OnOk result (state.new ≡ filled state.old k frame.now) }
+{
+    put_values(state, frame.registers.as_slice())?;
+    put_stack(state, k, &frame.stack)?;
+    Ok(())
+}
+
+/// The state with these call frames, of which nothing else is known.
+fn with_frames(alloc: Global, frames: &[Frame]) -> Result<AbsState, AllocError>
+    requires some { 1 ≤ length frames.now }
+    requires few { length frames.now ≤ 8 }
+    requires main { IsMainFirst frames.now }
+    requires all { All (λ f. length f.registers ≡ 10) frames.now }
+    ensures is { IfOk result (λ state. state ≡ built frames.now) }
+{
+    let mut state = AbsState::entry(alloc)?;
+    fill(&mut state, 0, &frames[0])?;
+    for k in 1..frames.len() {
+        state.whole();
+        state.call(alloc, 0, frames[k].return_slot)?;
+        state.whole();
+        fill(&mut state, k, &frames[k])?;
+    }
+    Ok(state)
+}
+
+/// Puts rooms of rising labels into a state that knows none.
+fn put_rooms(state: &mut AbsState, rooms: &[Room]) -> Result<(), AllocError>
+    requires rise { Rise 0 rooms.now }
+    requires none { state.old.rooms ≡ [] }
+    ensures is { OnOk result (state.new ≡ record state.old { rooms = rooms.now }) }
+{
+    for room in rooms {
+        state.raise_room(room.label, room.size)?;
+    }
+    Ok(())
+}
+
+/// The state that an entry describes.
+#[tactic(auto, using(crate::proofs::Builds::registers_ten, crate::proofs::Builds::some_frames))]
+pub(crate) fn state_of(alloc: Global, maps: usize, entry: &Entry) -> Result<AbsState, AllocError>
+    requires fits { FitsEntry maps entry.now }
+    ensures is { IfOk result (λ state. state ≡ describes entry.now) }
+{
+    let mut state = with_frames(alloc, entry.frames())?;
+    put_rooms(&mut state, entry.rooms())?;
+    state.raise_least(entry.least());
+    state.go_to(entry.pc() as usize);
+    Ok(state)
+}

@@ -1,0 +1,203 @@
+//! Certificates checked: a program that was verified elsewhere is admitted.
+
+ghost use Rattle.std.specs.Prelude.{◌≡◌, ◌≤◌, ◌^◌, ℕ, ℤ, Some, IfOk, IfErr, IfSome, length, map, drop};
+ghost use Rattle.std.specs.List.{All};
+ghost use Rattle.bpf_insn.specs.declared.insn.Insn.TheVariants.{CallLocal};
+ghost use Rattle.bpf_decode.specs.Program.{Begins};
+ghost use Rattle.bpf_model.specs.Run.{Safe};
+ghost use Rattle.bpf_absstate.specs.WellFormed.{IsView};
+ghost use Rattle.bpf_cert_format.specs.Fits.{FitsEntry};
+ghost use Rattle.bpf_cert.specs.Steps.{Tells};
+ghost use Rattle.bpf_cert.specs.States.{claim_of};
+ghost use Rattle.bpf_cert.specs.Certified.{IsFor, FollowsCall, AllFollow, StandsWell, Shows, Finds};
+ghost use Rattle.bpf_cert.specs.Certified.{KeepsWithin, Covered, Refuses, Admits, IsAdmitted};
+
+use crate::claim::Claim;
+use crate::claiming::claim;
+use crate::coverage::covered_budget;
+use crate::fault::{CertFault, unread};
+use crate::laws::covered_law;
+use bpf_cert_format::{Certificate, Entry, Frame, read};
+use bpf_decode::{Program, encode, spelling_law};
+use bpf_insn::Insn;
+use bpf_machine::Accepted;
+use bpf_regions::Hook;
+use std::alloc::{AllocError, Global};
+
+/// The greatest budget of a program that runs.
+const MOST: u32 = 4194304;
+
+/// Whether a certificate is for this hook and this code.
+fn is_for(
+    alloc: Global,
+    program: &Program,
+    hook: Hook,
+    certificate: &Certificate,
+) -> Result<bool, AllocError>
+    ensures is { IfOk result (λ told. Tells told (IsFor program.now hook certificate.now)) }
+{
+    spelling_law();
+    if certificate.hook() != hook {
+        return Ok(false);
+    }
+    let code = encode(alloc, program)?;
+    Ok(certificate.code() == code.as_slice())
+}
+
+/// Whether an instruction is a local call.
+fn is_call(insn: Option<Option<Insn>>) -> bool
+    ensures is { Tells result ((x : ℤ) × (insn ≡ Some (Some (CallLocal x)))) }
+{
+    match insn {
+        Some(Some(Insn::CallLocal { .. })) => true,
+        _ => false,
+    }
+}
+
+/// Whether a slot comes right after a local call.
+fn follows_call(program: &Program, slot: u16) -> bool
+    ensures is { Tells result (FollowsCall program.now slot) }
+{
+    if slot == 0 {
+        return false;
+    }
+    is_call(program.insn_at(slot as usize - 1))
+}
+
+/// Whether each of these functions returns to such a slot.
+fn all_follow(program: &Program, frames: &[Frame]) -> bool
+    ensures is { Tells result (AllFollow program.now frames.now) }
+{
+    for frame in frames {
+        if !follows_call(program, frame.return_slot) {
+            return false;
+        }
+    }
+    true
+}
+
+/// Whether each function but the main one does.
+fn returns_well(program: &Program, frames: &[Frame]) -> bool
+    ensures is { Tells result (AllFollow program.now (drop 1 frames.now)) }
+{
+    if frames.is_empty() {
+        return true;
+    }
+    all_follow(program, &frames[1..])
+}
+
+/// Whether an instruction begins at a slot.
+fn begins(program: &Program, slot: usize) -> bool
+    ensures is { Tells result (Begins program.now.slots slot) }
+{
+    match program.insn_at(slot) {
+        Some(Some(_)) => true,
+        _ => false,
+    }
+}
+
+/// Whether an entry stands at an instruction, and its functions return to slots after local calls.
+fn stands(program: &Program, entry: &Entry) -> bool
+    ensures is { Tells result (StandsWell program.now entry.now) }
+{
+    begins(program, entry.pc() as usize) && returns_well(program, entry.frames())
+}
+
+/// Whether each of these entries does.
+fn all_stand(program: &Program, entries: &[Entry]) -> bool
+    ensures is { Tells result (All (StandsWell program.now) entries.now) }
+{
+    for entry in entries {
+        if !stands(program, entry) {
+            return false;
+        }
+    }
+    true
+}
+
+/// What entries claim.
+fn claims_of(alloc: Global, maps: usize, entries: &[Entry]) -> Result<Vec<Claim>, AllocError>
+    requires fit { All (FitsEntry maps) entries.now }
+    ensures is { IfOk result (λ v. v.items ≡ map claim_of entries.now) }
+    ensures whole { IfOk result (λ v. All (λ e. IsView e.state) v.items) }
+{
+    let mut claims = Vec::new(alloc);
+    for entry in entries {
+        let claim = claim(alloc, maps, entry)?;
+        claim.state.whole();
+        claims.push(claim)?;
+    }
+    Ok(claims)
+}
+
+/// A budget, if a program may take so many steps.
+fn small(budget: Option<u32>) -> Option<u32>
+    ensures is { KeepsWithin (2 ^ 22) budget result }
+{
+    match budget {
+        Some(budget) if budget <= MOST => Some(budget),
+        _ => None,
+    }
+}
+
+/// The budget within which entries show that a program ends, if they do.
+fn shown_budget(
+    alloc: Global,
+    program: &Program,
+    entries: &[Entry],
+) -> Result<Option<u32>, AllocError>
+    requires fit { All (FitsEntry (length program.now.shapes)) entries.now }
+    ensures is { IfOk result (λ o. Finds o (Shows program.now entries.now)) }
+    ensures safe { IfOk result (λ o. IfSome o (Safe program.now.slots program.now.shapes)) }
+{
+    if !all_stand(program, entries) {
+        return Ok(None);
+    }
+    let claims = claims_of(alloc, program.shapes().len(), entries)?;
+    program.whole();
+    program.shapes().whole();
+    covered_law();
+    let budget = covered_budget(alloc, program, claims.as_slice())?;
+    Ok(small(budget))
+}
+
+/// The one call that makes an accepted program of a certificate's.
+fn accept(program: Program, hook: Hook, budget: u32) -> Accepted
+    requires safe { Safe program.slots program.shapes budget }
+    requires small { budget ≤ 2 ^ 22 }
+    ensures is { result ≡ record { code = program; hook = hook; budget = budget } }
+{
+    Accepted::new(program, hook, budget)
+}
+
+/// The program, if the bytes are a certificate that shows within how many instructions each of its runs ends.
+///
+/// 70: the bytes spell no certificate. 71: it is for another hook or another code. 72: its entries don't show it.
+/// 40: memory was refused. The first of 70, 71, 72 that is so is answered. A program that runs takes at most 2^22
+/// instructions, so a certificate that shows more is 72.
+pub fn check(
+    alloc: Global,
+    program: Program,
+    hook: Hook,
+    bytes: &[u8],
+) -> Result<Accepted, CertFault>
+    // What is admitted is what was asked about, with a budget that is shown.
+    ensures ok { IfOk result (IsAdmitted program hook bytes.now) }
+    // What is shown is admitted, with that budget.
+    ensures only { (b : ℕ) → Covered program hook bytes.now b → Admits result b }
+    // Which of the refusals it is.
+    ensures err { IfErr result (Refuses program hook bytes.now) }
+{
+    match read(alloc, program.shapes(), bytes) {
+        Err(fault) => Err(unread(fault)),
+        Ok(certificate) => {
+            if !is_for(alloc, &program, hook, &certificate)? {
+                return Err(CertFault::Other);
+            }
+            match shown_budget(alloc, &program, certificate.entries())? {
+                None => Err(CertFault::NotCovered),
+                Some(budget) => Ok(accept(program, hook, budget)),
+            }
+        }
+    }
+}

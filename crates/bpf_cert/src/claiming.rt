@@ -1,0 +1,64 @@
+//! What the entries of a certificate claim.
+
+ghost use Rattle.std.specs.Prelude.{◌≡◌, IfOk, length, take};
+ghost use Rattle.std.specs.List.{All, list_all};
+ghost use Rattle.bpf_cert_format.specs.Fits.{FitsEntry};
+ghost use Rattle.bpf_cert.specs.States.{callers_free as free, claim_of};
+ghost use Rattle.bpf_rules.specs.Operands.{is_unset as unset};
+
+use crate::building::state_of;
+use crate::claim::Claim;
+use bpf_absval::AbsVal;
+use bpf_cert_format::{Entry, Frame};
+use std::alloc::{AllocError, Global};
+
+fn is_unset(value: AbsVal) -> bool
+    ensures is { result ≡ unset value }
+{
+    match value {
+        AbsVal::Unset => true,
+        _ => false,
+    }
+}
+
+/// Whether nothing is said of any of these values.
+fn are_unset(values: &[AbsVal]) -> bool
+    ensures is { result ≡ list_all unset values.now }
+{
+    values.iter().all(|value| is_unset(*value))
+}
+
+/// Whether nothing is said of R0 to R5.
+fn says_nothing(frame: &Frame) -> bool
+    requires all { length frame.now.registers ≡ 10 }
+    ensures is { result ≡ list_all unset (take 6 frame.now.registers) }
+{
+    are_unset(&frame.registers.as_slice()[..6])
+}
+
+/// Whether nothing is said of R0 to R5 of calling functions.
+fn callers_free(frames: &[Frame]) -> bool
+    requires all { All (λ f. length f.registers ≡ 10) frames.now }
+    ensures is { result ≡ free frames.now }
+{
+    for k in 1..frames.len() {
+        if !says_nothing(&frames[k - 1]) {
+            return false;
+        }
+    }
+    true
+}
+
+/// What an entry claims.
+#[tactic(auto, using(crate::proofs::Builds::registers_ten))]
+pub fn claim(alloc: Global, maps: usize, entry: &Entry) -> Result<Claim, AllocError>
+    requires fits { FitsEntry maps entry.now }
+    ensures is { IfOk result (λ claim. claim ≡ claim_of entry.now) }
+{
+    let state = state_of(alloc, maps, entry)?;
+    Ok(Claim {
+        state,
+        budget: entry.budget(),
+        is_open: callers_free(entry.frames()),
+    })
+}

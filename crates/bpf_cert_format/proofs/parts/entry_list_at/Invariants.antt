@@ -1,0 +1,8 @@
+use Rattle.std.proofs.Common.{◌≡◌, ◌-◌, ◌≤◌, ℕ, List, length, take, drop, refl}
+use Rattle.std.specs.Prelude.{slice_index_or}
+use Rattle.bpf_cert_format.specs.Reading.{many, value_at, cell_at, frame_at, room_at, entry_at, are_rising}
+use Rattle.bpf_cert_format.proofs.Loops.{with_front}
+use Rattle.bpf_cert_format.proofs.parts.entry_list_at.Given as goal
+
+abbrev pub invariant-loop : goal.invariant-loop
+invariant-loop l = with_front l.list.items (many (entry_at l.maps) (l.count - l.counter) l.rest) ≡ many (entry_at l.maps) l.count l.bytes

@@ -1,0 +1,5 @@
+pub mod Views
+pub mod Spelling
+pub mod Fits
+pub mod Reading
+pub mod Answers

@@ -1,0 +1,57 @@
+//! Whole certificates.
+
+ghost use Rattle.std.specs.Prelude.{◌≡◌};
+
+use crate::entry::Entry;
+use bpf_regions::Hook;
+use std::marker::Model;
+
+/// A hook, the bytes of a code, and entries that are to show that the code is safe.
+#[derive(Drop)]
+pub struct Certificate {
+    hook: Hook,
+    code: Vec<u8>,
+    entries: Vec<Entry>,
+}
+
+impl Model for Certificate {
+    ghost use Rattle.bpf_cert_format.specs.Views.{CertificateView};
+
+    ghost Value = { CertificateView };
+
+    ghost view = { λ c. record { hook = c.hook; code = c.code.items; entries = c.entries.items } };
+}
+
+impl Certificate {
+    /// A certificate from its parts.
+    pub fn new(hook: Hook, code: Vec<u8>, entries: Vec<Entry>) -> Certificate
+        ensures is { result ≡ record { hook = hook; code = code.items; entries = entries.items } }
+    {
+        Certificate {
+            hook,
+            code,
+            entries,
+        }
+    }
+
+    /// The hook that it is for.
+    pub fn hook(&self) -> Hook
+        ensures is { result ≡ self.now.hook }
+    {
+        self.hook
+    }
+
+    /// The bytes of the code that it is for.
+    pub fn code(&self) -> &[u8]
+        ensures is { result.now ≡ self.now.code }
+    {
+        self.code.as_slice()
+    }
+
+    /// What it says of the code.
+    pub fn entries(&self) -> &[Entry]
+        ensures is { result.now ≡ self.now.entries }
+    {
+        self.entries.as_slice()
+    }
+}

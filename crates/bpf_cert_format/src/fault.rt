@@ -1,0 +1,52 @@
+//! Why bytes could not be read.
+
+ghost use Rattle.std.specs.Prelude.{◌≡◌};
+ghost use Rattle.bpf_cert_format.specs.declared.fault.ReadFault.TheVariants.{Memory};
+
+use std::alloc::{AllocError, AllocFailed};
+
+/// Why bytes could not be read.
+#[derive(Clone, Copy, Debug, PartialEq, Eq)]
+pub enum ReadFault {
+    /// Memory was refused. It says nothing of the bytes.
+    Memory,
+    /// The bytes spell no certificate.
+    Malformed,
+}
+
+impl From<AllocError> for ReadFault {
+    ghost from_gives = { λ _ e. e ≡ Memory };
+
+    fn from(_error: AllocError) -> ReadFault {
+        ReadFault::Memory
+    }
+}
+
+impl<T: Drop> From<AllocFailed<T>> for ReadFault {
+    ghost from_gives = { λ _ e. e ≡ Memory };
+
+    fn from(_error: AllocFailed<T>) -> ReadFault {
+        ReadFault::Memory
+    }
+}
+
+/// Why a certificate could not be written.
+#[derive(Clone, Copy, Debug, PartialEq, Eq)]
+pub enum WriteFault {
+    /// Memory was refused. It says nothing of the certificate.
+    Memory,
+    /// A number is too large for its field.
+    TooLarge,
+}
+
+impl From<AllocError> for WriteFault {
+    fn from(_error: AllocError) -> WriteFault {
+        WriteFault::Memory
+    }
+}
+
+impl<T: Drop> From<AllocFailed<T>> for WriteFault {
+    fn from(_error: AllocFailed<T>) -> WriteFault {
+        WriteFault::Memory
+    }
+}

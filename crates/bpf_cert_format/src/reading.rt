@@ -1,0 +1,109 @@
+//! Certificates from bytes.
+
+ghost use Rattle.std.specs.Prelude.{◌≡◌, ◌≤◌, IfOk, length};
+ghost use Rattle.bpf_cert_format.specs.Answers.{Gives, Spells, Reads};
+ghost use Rattle.bpf_cert_format.specs.Reading.{magic_at as reads_magic, hook_named as names_hook, hook_at as reads_hook, code_at as reads_code, entries_at as reads_entries, all_of};
+ghost use Rattle.bpf_cert_format.specs.Views.{CertificateView};
+
+use crate::certificate::Certificate;
+use crate::entry::Entry;
+use crate::fault::ReadFault;
+use crate::fields::{byte_at, bytes_at, u16_at, u32_at};
+use crate::parts::entry_list_at;
+use bpf_interval::laws::place_law;
+use bpf_regions::{Hook, Shapes};
+use std::alloc::Global;
+
+/// The first four bytes, 41 50 43 32, as a little-endian number.
+const MAGIC: u32 = 843272257;
+
+/// The first four bytes.
+#[tactic(auto, unfolding(crate::specs::Reading::magic_at))]
+fn magic_at(bytes: &[u8]) -> Result<(u32, &[u8]), ReadFault>
+    ensures is { Gives (λ x. (x.0, x.1.now)) result (reads_magic bytes.now) }
+{
+    let (magic, rest) = u32_at(bytes)?;
+    if magic != MAGIC {
+        return Err(ReadFault::Malformed);
+    }
+    Ok((magic, rest))
+}
+
+/// The hook with that number.
+fn hook_named(number: u8) -> Option<Hook>
+    ensures is { result ≡ names_hook number }
+{
+    match number {
+        1 => Some(Hook::Association),
+        2 => Some(Hook::Addba),
+        3 => Some(Hook::Data),
+        _ => None,
+    }
+}
+
+/// A hook.
+#[tactic(auto, unfolding(crate::specs::Reading::hook_at))]
+fn hook_at(bytes: &[u8]) -> Result<(Hook, &[u8]), ReadFault>
+    ensures is { Gives (λ x. (x.0, x.1.now)) result (reads_hook bytes.now) }
+{
+    let (number, rest) = byte_at(bytes)?;
+    match hook_named(number) {
+        None => Err(ReadFault::Malformed),
+        Some(hook) => Ok((hook, rest)),
+    }
+}
+
+/// The bytes of the code.
+#[tactic(auto, unfolding(crate::specs::Reading::code_at))]
+fn code_at(bytes: &[u8]) -> Result<(&[u8], &[u8]), ReadFault>
+    ensures is { Gives (λ x. (x.0.now, x.1.now)) result (reads_code bytes.now) }
+{
+    let (slots, rest) = u16_at(bytes)?;
+    let (code, rest) = bytes_at(8 * slots as usize, rest)?;
+    Ok((code, rest))
+}
+
+/// The entries.
+#[tactic(auto, unfolding(crate::specs::Reading::entries_at))]
+fn entries_at(alloc: Global, maps: usize, bytes: &[u8]) -> Result<(Vec<Entry>, &[u8]), ReadFault>
+    requires few_maps { maps ≤ 16 }
+    ensures is { Gives (λ x. (x.0.items, x.1.now)) result (reads_entries maps bytes.now) }
+{
+    let (count, rest) = u32_at(bytes)?;
+    entry_list_at(alloc, maps, count, rest)
+}
+
+/// The certificate that is the whole of the bytes, where there are so many maps.
+#[tactic(auto, unfolding(crate::specs::Reading::all_of, crate::specs::Reading::certificate_at))]
+fn all(alloc: Global, maps: usize, bytes: &[u8]) -> Result<Certificate, ReadFault>
+    requires few_maps { maps ≤ 16 }
+    ensures is { Gives (λ c. c) result (all_of maps bytes.now) }
+{
+    let (_magic, rest) = magic_at(bytes)?;
+    let (hook, rest) = hook_at(rest)?;
+    let (code, rest) = code_at(rest)?;
+    match entries_at(alloc, maps, rest) {
+        Err(fault) => Err(fault),
+        Ok((entries, rest)) => {
+            if !rest.is_empty() {
+                return Err(ReadFault::Malformed);
+            }
+            let code = Vec::from_slice(alloc, code)?;
+            Ok(Certificate::new(hook, code, entries))
+        }
+    }
+}
+
+/// The certificate that the bytes spell, all of the bytes, where maps have these shapes.
+///
+/// `Malformed`: they spell none. `Memory`: memory was refused.
+pub fn read(alloc: Global, shapes: &Shapes, bytes: &[u8]) -> Result<Certificate, ReadFault>
+    // What is read is spelled so.
+    ensures found { IfOk result (Spells shapes.now bytes.now) }
+    // What is spelled so is read.
+    ensures only { (c : CertificateView) → Spells shapes.now bytes.now c → Reads result c }
+{
+    shapes.whole();
+    place_law();
+    all(alloc, shapes.len(), bytes)
+}

@@ -1,0 +1,2 @@
+mod Present
+mod Records

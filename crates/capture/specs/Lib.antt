@@ -1,0 +1,4 @@
+pub mod Fields
+pub mod Form
+pub mod Radiotap
+pub mod Packets

@@ -1,0 +1,50 @@
+//! Why a file is no capture, and why a packet is no frame.
+
+ghost use Rattle.std.specs.Prelude.{◌≡◌};
+ghost use Rattle.capture.specs.declared.fault.CaptureFault.TheVariants.{NoMemory};
+
+use std::alloc::{AllocError, AllocFailed};
+use thiserror::Error;
+
+/// Why a file is no capture.
+#[derive(Clone, Copy, Debug, PartialEq, Eq, Error)]
+pub enum CaptureFault {
+    /// The first four bytes are no magic number of a capture file.
+    #[error("not a capture file")]
+    NoCapture,
+    #[error("the header is cut")]
+    CutHeader,
+    /// Not version 2.4, the only one in use.
+    #[error("unknown version {major}.{minor}")]
+    Version { major: u16, minor: u16 },
+    /// Neither 105, IEEE 802.11, nor 127, IEEE 802.11 behind a radiotap header.
+    #[error("link type {0} is neither 105 (802.11) nor 127 (802.11 with radiotap)")]
+    LinkType(u32),
+    /// What follows so many whole records is no whole record.
+    #[error("the file is cut after {0} records")]
+    CutRecord(u64),
+    #[error("out of memory")]
+    NoMemory,
+}
+
+impl<T: Drop> From<AllocFailed<T>> for CaptureFault {
+    ghost from_gives = { λ _ fault. fault ≡ NoMemory };
+
+    fn from(_error: AllocFailed<T>) -> CaptureFault {
+        CaptureFault::NoMemory
+    }
+}
+
+/// Why a packet is left out.
+#[derive(Clone, Copy, Debug, PartialEq, Eq, Error)]
+pub enum LeftOut {
+    /// The frame had more bytes than were captured.
+    #[error("the frame was cut when it was captured")]
+    Cut,
+    /// The radiotap header is damaged, or of a version other than 0.
+    #[error("the radiotap header is damaged")]
+    Radiotap,
+    /// There are fewer bytes than a frame check sequence has.
+    #[error("the frame check sequence is cut")]
+    CheckSequence,
+}

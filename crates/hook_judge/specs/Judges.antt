@@ -1,0 +1,25 @@
+-- What a judge by programs gives, by the references that it was lent.
+use Rattle.std.specs.Prelude.{◌≡◌, ◌+◌, ◌%◌, ◌^◌, ◌++◌, ◌∷◌, ℕ, []}
+use Rattle.ap_model.specs.Asks.{Ask}
+use Rattle.versions.specs.Sets.{Programs, set_of}
+use Rattle.bpf_helpers.specs.HookPorts.{given_by}
+use Rattle.hook_judge.specs.declared.judge.SetJudge.{SetJudge}
+use Rattle.hook_judge.specs.Verdicts.{GivesIn}
+
+-- the programs by which it judges
+abbrev pub programs_of : SetJudge → Programs
+programs_of j = set_of j.set.now.loads
+
+-- it has what it was lent
+pub record Keeps (j k : SetJudge) : Type 0 where
+  pub set : k.set ≡ j.set
+  pub view : k.view ≡ j.view
+  pub state : k.state.ghost_name ≡ j.state.ghost_name
+
+-- It keeps what it was lent, gives the verdict of its programs, counts the steps and lists the ask.
+pub record Judges (j : SetJudge) (ask : Ask) (verdict : ℕ) (k : SetJudge) : Type 0 where
+  pub keeps : Keeps j k
+  pub steps : ℕ
+  pub given : GivesIn (given_by j.view) (programs_of j) j.state.now ask verdict steps k.state.now
+  pub counted : k.steps ≡ (j.steps + steps) % 2 ^ 64
+  pub listed : k.asked.asks ≡ j.asked.asks ++ (ask, verdict) ∷ []

@@ -1,0 +1,71 @@
+//! A judge by a set of programs.
+
+ghost use Rattle.std.specs.Prelude.{◌≡◌, []};
+ghost use Rattle.bpf_helpers.specs.Hooked.{IsFitting, shapes_of};
+
+use ap_model::{AskLog, Judge};
+use bpf_helpers::{WorkerState, WorkerView, run_hook};
+use bpf_regions::{Context, Frame, Hook};
+use hooks::no_program;
+use versions::ProgramSet;
+
+/// Judges by one set of programs, over one worker's tables: the verdict on a hook is the R0 of a run of the set's
+/// program for that hook, or the number of the verdict tables where it has none. It is made anew for each event, of
+/// nothing but what is lent, and takes no memory. What programs note is given up.
+#[derive(Drop)]
+pub struct SetJudge<'p, 't, 's> {
+    pub set: &'p ProgramSet,
+    pub view: WorkerView<'t>,
+    pub state: &'s mut WorkerState,
+    /// How many steps its runs took, mod 2^64.
+    pub steps: u64,
+    pub asked: AskLog,
+    pub ghost for_maps: { set.now.shapes ≡ shapes_of view.maps.now },
+    pub ghost fitting: { IsFitting view.maps.now view.worker state.now.seats },
+}
+
+impl<'p, 't, 's> SetJudge<'p, 't, 's> {
+    /// A judge by this set, that was asked nothing yet. The set is one for the maps in use.
+    pub fn new(set: &'p ProgramSet, view: WorkerView<'t>, state: &'s mut WorkerState) -> Self
+        requires for_maps { set.now.shapes ≡ shapes_of view.maps.now }
+        requires fitting { IsFitting view.maps.now view.worker state.old.seats }
+        ensures set { result.set ≡ set.entry }
+        ensures view { result.view ≡ view.entry }
+        ensures same_state { result.state.ghost_name ≡ state.entry.ghost_name }
+        ensures state { result.state.now ≡ state.old }
+        ensures no_steps { result.steps ≡ 0 }
+        ensures unasked { result.asked.asks ≡ [] }
+    {
+        SetJudge {
+            set,
+            view,
+            state,
+            steps: 0,
+            asked: AskLog::new(),
+        }
+    }
+}
+
+impl Judge for SetJudge<'_, '_, '_> {
+    ghost use Rattle.hook_judge.specs.Judges.{Judges};
+
+    ghost asks = { λ j. j.asked.asks };
+
+    ghost gives = { Judges };
+
+    ghost lists = { λ j k ask verdict h. h.listed };
+
+    fn judge(&mut self, hook: Hook, frame: &Frame<'_>, context: &Context) -> u64 {
+        let (verdict, steps) = match self.set.program(hook) {
+            None => (no_program(hook), 0),
+            Some(accepted) => {
+                let _safe = accepted.program();
+                let outcome = run_hook(accepted, frame, context, self.view, self.state);
+                (outcome.r0, outcome.steps)
+            }
+        };
+        self.steps = self.steps.wrapping_add(u64::from(steps));
+        self.asked.note(hook, frame, context, verdict);
+        verdict
+    }
+}

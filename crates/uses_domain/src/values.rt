@@ -1,0 +1,152 @@
+//! Abstract values and slots: when one lies in another, and what is known behind a label.
+
+use bpf_absnum::AbsNum;
+use bpf_absval::{AbsRegion, AbsSlot, AbsVal, Label, Room, Rooms};
+use std::alloc::{AllocError, Global};
+use std::test::Fail;
+
+/// A frame pointer somewhere, that many bytes behind the label's place.
+fn behind(label: u16, distance: u16) -> AbsVal {
+    AbsVal::Frame {
+        offset: AbsNum::full(),
+        label: Some(Label { label, distance }),
+    }
+}
+
+/// A frame pointer somewhere.
+fn anywhere() -> AbsVal {
+    AbsVal::Frame {
+        offset: AbsNum::full(),
+        label: None,
+    }
+}
+
+fn pointer(region: AbsRegion, offset: u64) -> AbsVal {
+    AbsVal::Pointer {
+        region,
+        offset: AbsNum::single(offset),
+    }
+}
+
+fn number(number: u64) -> AbsVal {
+    AbsVal::Number(AbsNum::single(number))
+}
+
+fn any_number() -> AbsVal {
+    AbsVal::Number(AbsNum::full())
+}
+
+/// Label 8 has a room of that size.
+fn room_of_8(alloc: Global, size: u16) -> Result<Rooms, AllocError> {
+    let mut rooms = Rooms::new(alloc);
+    rooms.raise(8, size)?;
+    Ok(rooms)
+}
+
+#[test]
+fn rooms_rise_and_are_forgotten(rt: HostRuntime) -> Result<(), Fail> {
+    let mut rooms = Rooms::new(rt.alloc());
+    assert_eq!(rt; rooms.find(8), None);
+    rooms.raise(8, 3)?;
+    rooms.raise(12, 0)?;
+    rooms.raise(8, 1)?;
+    assert_eq!(rt; rooms.find(8), Some(3));
+    rooms.raise(8, 40)?;
+    assert_eq!(rt; rooms.find(8), Some(40));
+    assert_eq!(rt; rooms.find(12), Some(0));
+    let copy = rooms.clone()?;
+    rooms.forget(8);
+    assert_eq!(rt; rooms.find(8), None);
+    let low = Room { label: 8, size: 40 };
+    let high = Room { label: 12, size: 0 };
+    assert_eq!(rt; rooms.as_slice(), [high].as_slice());
+    assert_eq!(rt; copy.as_slice(), [low, high].as_slice());
+    Ok(())
+}
+
+#[test]
+fn a_needed_label_has_its_distance_and_its_room(rt: HostRuntime) -> Result<(), Fail> {
+    let none = Rooms::new(rt.alloc());
+    let empty = room_of_8(rt.alloc(), 0)?;
+    let three = room_of_8(rt.alloc(), 3)?;
+    let four = room_of_8(rt.alloc(), 4)?;
+    let here = behind(8, 1);
+    assert!(rt; here.is_included(&here, &three, &three));
+    assert!(rt; here.is_included(&here, &four, &three));
+    assert!(rt; !here.is_included(&here, &three, &four));
+    assert!(rt; here.is_included(&here, &none, &none));
+    assert!(rt; here.is_included(&here, &three, &none));
+    assert!(rt; !here.is_included(&here, &none, &empty));
+    assert!(rt; !here.is_included(&behind(8, 2), &three, &three));
+    assert!(rt; !here.is_included(&behind(9, 1), &three, &three));
+    assert!(rt; here.is_included(&anywhere(), &none, &three));
+    assert!(rt; !anywhere().is_included(&here, &three, &three));
+    Ok(())
+}
+
+#[test]
+fn values_of_one_kind_are_included(rt: HostRuntime) {
+    let none = Rooms::new(rt.alloc());
+    let kinds = [
+        number(7),
+        anywhere(),
+        pointer(AbsRegion::Context, 8),
+        pointer(AbsRegion::Stack(0), 8),
+        pointer(AbsRegion::Stack(1), 8),
+        pointer(AbsRegion::Stack(1), 16),
+        pointer(AbsRegion::Entry(0), 8),
+        pointer(AbsRegion::Entry(1), 8),
+        AbsVal::FrameEnd,
+        AbsVal::MapReference(0),
+        AbsVal::MapReference(1),
+        AbsVal::Lookup(0),
+        AbsVal::Lookup(1),
+    ];
+    for value in &kinds {
+        assert!(rt; value.is_included(&AbsVal::Unset, &none, &none));
+        assert!(rt; !AbsVal::Unset.is_included(value, &none, &none));
+        for other in &kinds {
+            assert_eq!(rt; value.is_included(other, &none, &none), *value == *other);
+        }
+    }
+    assert!(rt; number(7).is_included(&any_number(), &none, &none));
+    assert!(rt; !any_number().is_included(&number(7), &none, &none));
+}
+
+#[test]
+fn a_slot_with_a_number_has_all_bytes_set(rt: HostRuntime) {
+    let none = Rooms::new(rt.alloc());
+    let stored = AbsSlot::Stored(number(7));
+    let all = AbsSlot::Bytes(0xff);
+    let low = AbsSlot::Bytes(0x0f);
+    let reference = AbsSlot::Stored(AbsVal::FrameEnd);
+    for slot in [stored, all, low, reference, AbsSlot::Unset] {
+        assert!(rt; slot.is_included(&AbsSlot::Unset, &none, &none));
+        assert!(rt; slot.is_included(&AbsSlot::Bytes(0), &none, &none));
+    }
+    assert!(rt; stored.is_included(&AbsSlot::Stored(any_number()), &none, &none));
+    assert!(rt; stored.is_included(&all, &none, &none));
+    assert!(rt; !all.is_included(&AbsSlot::Stored(any_number()), &none, &none));
+    assert!(rt; all.is_included(&low, &none, &none));
+    assert!(rt; !low.is_included(&all, &none, &none));
+    assert!(rt; !reference.is_included(&AbsSlot::Bytes(1), &none, &none));
+    assert!(rt; !AbsSlot::Unset.is_included(&AbsSlot::Bytes(0x80), &none, &none));
+    assert!(rt; !AbsSlot::Unset.is_included(&AbsSlot::Stored(AbsVal::Unset), &none, &none));
+}
+
+#[test]
+fn one_label_is_forgotten(rt: HostRuntime) {
+    for value in [behind(8, 1), behind(9, 1), anywhere(), number(8)] {
+        let had = value == behind(8, 1);
+        let left = if had { anywhere() } else { value };
+        assert_eq!(rt; value.has_label(8), had);
+        assert_eq!(rt; value.without_label(8), left);
+        let slot = AbsSlot::Stored(value);
+        assert_eq!(rt; slot.has_label(8), had);
+        assert_eq!(rt; slot.without_label(8), AbsSlot::Stored(left));
+    }
+    assert!(rt; !AbsSlot::Bytes(8).has_label(8));
+    assert_eq!(rt; AbsSlot::Bytes(8).without_label(8), AbsSlot::Bytes(8));
+    number(8).whole();
+    AbsSlot::Stored(behind(8, 1)).whole();
+}

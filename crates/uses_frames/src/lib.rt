@@ -1,0 +1,12 @@
+//! Frames, stations and verdicts by rows from outside: frames that were spelled apart from this code, cut and changed;
+//! stations that come and go; the tables of verdicts and the bytes of contexts.
+#![tactic(auto)]
+
+#[cfg(test)]
+mod fields;
+#[cfg(test)]
+mod frames;
+#[cfg(test)]
+mod stations;
+#[cfg(test)]
+mod verdicts;

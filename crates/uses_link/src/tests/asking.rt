@@ -1,0 +1,182 @@
+//! What a judge is asked: the hook, the frame's bytes and the context of each ask.
+
+ghost use Rattle.std.specs.Prelude.{◌≡◌};
+
+use crate::tests::{ASSOCIATION, AUTHENTICATION, DATA, SETUP, shard, spelled};
+use ap_core::{AskLog, Event, Judge, Octets, shard_of};
+use bpf_regions::{Context, Frame, Hook};
+use mac_frame::{Address, Reason};
+use std::test::Fail;
+
+/// An ask that is expected, and its answer: the bytes of the context from 6 on, and 0 in all others
+/// but the station's.
+#[derive(Clone, Copy)]
+struct Expected {
+    hook: Hook,
+    context: [u8; 12],
+    answer: u64,
+}
+
+/// Expects asks about one frame, and remembers whether each was as expected.
+#[derive(Drop)]
+struct Watching<'a> {
+    frame: &'a [u8],
+    expected: &'a [Expected],
+    alike: bool,
+    asked: AskLog,
+}
+
+impl Watching<'_> {
+    /// The next ask that is expected is this one: its answer.
+    fn answer(&mut self, hook: Hook, frame: &[u8], context: &[u8; 32]) -> u64
+        ensures { self.new.asked ≡ self.old.asked }
+    {
+        let Some((next, rest)) = self.expected.split_first() else {
+            self.alike = false;
+            return 0;
+        };
+        self.expected = rest;
+        let is_station = &context[..6] == [2, 0, 0, 0, 0, 10].as_slice();
+        let is_told = &context[6..18] == next.context.as_slice();
+        let is_rest = &context[18..] == [0; 14].as_slice();
+        let is_about = hook == next.hook && frame == self.frame;
+        self.alike = self.alike && is_station && is_told && is_rest && is_about;
+        next.answer
+    }
+}
+
+impl Judge for Watching<'_> {
+    ghost use Rattle.std.specs.Prelude.{◌≡◌, ◌∷◌, [], ◌++◌};
+
+    ghost asks = { λ p. p.asked.asks };
+
+    ghost gives = { λ p q a p2. p2.asked.asks ≡ p.asked.asks ++ (q, a) ∷ [] };
+
+    ghost lists = { λ p p2 q a h. h };
+
+    fn judge(&mut self, hook: Hook, frame: &Frame<'_>, context: &Context) -> u64 {
+        let answer = self.answer(hook, frame.bytes(), context.bytes());
+        self.asked.note(hook, frame, context, answer);
+        answer
+    }
+}
+
+/// Frames of station `02000000000a` to shard 2, and what is asked about each: the hook, and from byte
+/// 6 on its number, the state, the identifier, the TID, nothing, and the hook's three numbers, the
+/// low byte first.
+const ASKED: [(&str, Option<(Hook, [u8; 12], u64)>); 12] = [
+    (AUTHENTICATION, None),
+    (
+        ASSOCIATION,
+        Some((
+            Hook::Association,
+            [1, 2, 0, 0, 255, 0, 1, 0, 10, 0, 0, 0],
+            5,
+        )),
+    ),
+    (
+        REASSOCIATION,
+        Some((
+            Hook::Association,
+            [1, 2, 0, 0, 255, 0, 1, 4, 11, 1, 1, 0],
+            0,
+        )),
+    ),
+    (
+        ASSOCIATION,
+        Some((
+            Hook::Association,
+            [1, 3, 2, 0, 255, 0, 1, 0, 10, 0, 0, 0],
+            0,
+        )),
+    ),
+    (
+        DATA,
+        Some((Hook::Data, [3, 3, 2, 0, 255, 0, 3, 0, 0, 0, 0, 0], 0)),
+    ),
+    (
+        SETUP,
+        Some((Hook::Addba, [2, 3, 2, 0, 0, 0, 8, 0, 0, 0, 100, 0], 64)),
+    ),
+    // Number 102, which is held; a duplicate; and a request for 103, which moves the window.
+    (
+        QOS_102,
+        Some((Hook::Data, [3, 3, 2, 0, 0, 0, 102, 0, 100, 0, 1, 0], 0)),
+    ),
+    (QOS_102, None),
+    (REQUEST_103, None),
+    (
+        QOS_103,
+        Some((Hook::Data, [3, 3, 2, 0, 0, 0, 103, 0, 103, 0, 1, 0], 0)),
+    ),
+    // Another TID, without an agreement; and a frame for another access point.
+    (
+        QOS_OF_5,
+        Some((Hook::Data, [3, 3, 2, 0, 5, 0, 102, 0, 0, 0, 0, 0], 0)),
+    ),
+    (FOREIGN, None),
+];
+
+const REASSOCIATION: &str =
+    "20000000 020000000001 02000000000a 020000000001 2000 0104 0b01 020000000001 0003 6c6162 0104 82848b96";
+
+const QOS_102: &str = "88010000 020000000001 02000000000a 0200000000ff 6006 0000 61";
+
+const QOS_103: &str = "88010000 020000000001 02000000000a 0200000000ff 7006 0000 61";
+
+const QOS_OF_5: &str = "88010000 020000000001 02000000000a 0200000000ff 6006 0500 61";
+
+const REQUEST_103: &str = "84000000 020000000001 02000000000a 0400 7006";
+
+const FOREIGN: &str = "08010000 030000000001 02000000000a 0200000000ff 3000 68656c6c6f";
+
+#[test]
+fn judges_are_asked_about_each_frame(rt: HostRuntime) -> Result<(), Fail> {
+    let alloc = rt.alloc();
+    let mut shard = shard(alloc, 2)?;
+    for (row, (digits, ask)) in ASKED.iter().enumerate() {
+        let expected = ask.map(|(hook, context, answer)| Expected {
+            hook,
+            context,
+            answer,
+        });
+        let bytes = spelled(alloc, digits)?;
+        let event = Event::Frame(Octets::copy(alloc, &bytes)?);
+        let mut judge = Watching {
+            frame: &bytes,
+            expected: expected.as_slice(),
+            alike: true,
+            asked: AskLog::new(),
+        };
+        shard.handle(alloc, &event, &mut judge)?;
+        assert!(rt; judge.alike && judge.expected.is_empty(), "row {row}");
+    }
+    Ok(())
+}
+
+/// Which shard an event concerns: the last octet of its station modulo 8, 0 for bytes that name none,
+/// and all for a tick.
+#[test]
+fn events_concern_shards(rt: HostRuntime) -> Result<(), Fail> {
+    let alloc = rt.alloc();
+    let station = Address::new([2, 0, 0, 0, 0, 15]);
+    let reason = Reason::new(1);
+    let frame = Event::Frame(Octets::new(spelled(alloc, DATA)?));
+    let cut = Event::Frame(Octets::new(spelled(alloc, "08010000 020000000001 0200000000")?));
+    assert_eq!(rt; shard_of(&frame), Some(2));
+    assert_eq!(rt; shard_of(&cut), Some(0));
+    assert_eq!(rt; shard_of(&Event::Tick(3)), None);
+    assert_eq!(rt; shard_of(&Event::Kick { station, reason }), Some(7));
+    Ok(())
+}
+
+fn is_sent<T: Send>(_value: &T) {}
+
+/// A shard may go to another thread.
+#[test]
+fn shards_are_sent(rt: HostRuntime) -> Result<(), Fail> {
+    let shard = shard(rt.alloc(), 0)?;
+    is_sent(&shard);
+    assert_eq!(rt; shard.stations(), 0);
+    Ok(())
+}

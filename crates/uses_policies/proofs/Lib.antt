@@ -1,0 +1,2 @@
+mod Conclusions
+mod Policing

@@ -1,0 +1,3 @@
+pub mod Policed
+pub mod Headline
+pub mod Eight

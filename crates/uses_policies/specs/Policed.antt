@@ -1,0 +1,44 @@
+-- Verdicts by a worker's policies, and the link runs under them.
+use Rattle.std.specs.Prelude.{◌≡◌, ℕ, List, [], ◌∷◌}
+use Rattle.std.specs.List.{All}
+use Rattle.bpf_helpers.specs.Hooked.{Given, Held}
+use Rattle.versions.specs.Sets.{Programs, set_of}
+use Rattle.ap_model.specs.Asks.{Ask}
+use Rattle.ap_model.specs.Readings.{Readings, Rules}
+use Rattle.ap_model.specs.Stations.{AreAssociated}
+use Rattle.ap_model.specs.Runs.{Entry, Handles}
+use Rattle.hook_judge.specs.Verdicts.{GivesVerdict}
+use Rattle.uses_policies.specs.declared.policies.Policies.{Policies}
+
+-- the programs of the set
+abbrev pub programs_of : Policies → Programs
+programs_of p = set_of p.set.now.loads
+
+-- What the programs read is the worker's: its tables, and of the shard, before the event, the clock and the number of
+-- associated stations.
+pub record IsGiven (p : Policies) (r : Readings) (g : Given) : Type 0 where
+  pub maps : g.maps ≡ p.maps.now
+  pub worker : g.worker ≡ p.worker
+  pub clock : g.clock ≡ r.clock
+  pub stations : AreAssociated r.standing g.stations
+
+-- The verdict is the R0 of a run, within its budget, of the program that was accepted for the hook, on the frame and
+-- the context of the ask; or the number of the verdict tables, where the set has no program for the hook.
+pub record IsVerdict (p : Policies) (r : Readings) (ask : Ask) (verdict : ℕ) : Type 0 where
+  pub given : Given
+  pub is : IsGiven p r given
+  pub before : Held
+  pub after : Held
+  pub gives : GivesVerdict given (programs_of p) before ask verdict after
+
+-- each of these verdicts is
+abbrev pub AreVerdicts : Policies → Readings → List (Ask × ℕ) → Type 0
+AreVerdicts p r asked = All (λ x. IsVerdict p r x.0 x.1) asked
+
+module _ (p : Policies) (c : Rules) where
+  -- the link run of a shard under these policies: entries of which each is a step after those before it, with the
+  -- verdicts of the policies
+  pub data PolicedRun : Readings → List Entry → Readings → Type 0 where
+    no_entry : (r : Readings) → PolicedRun r [] r
+    policed : (r mid r2 : Readings) (e : Entry) (later : List Entry) →
+        AreVerdicts p r e.asked → Handles c r e mid → PolicedRun mid later r2 → PolicedRun r (e ∷ later) r2

@@ -1,0 +1,13 @@
+//! Instructions, code and text of programs, by rows from outside: the tables of RFC 9669, code with faults, and lines.
+#![tactic(auto)]
+
+#[cfg(test)]
+mod instructions;
+#[cfg(test)]
+mod lines;
+#[cfg(test)]
+mod programs;
+#[cfg(test)]
+mod regions;
+#[cfg(test)]
+mod texts;

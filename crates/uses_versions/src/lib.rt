@@ -1,0 +1,9 @@
+//! Published program sets in use: runs by the programs of a set that a reader holds, shown by tests.
+#![tactic(auto)]
+
+#[cfg(test)]
+mod programs;
+#[cfg(test)]
+mod rows;
+#[cfg(test)]
+mod threads;

@@ -1,0 +1,284 @@
+//! A publisher and its readers on threads of their own.
+
+ghost use Rattle.std.specs.Prelude.{◌≡◌, IfSome};
+ghost use Rattle.std.specs.Arc.{arc_value};
+ghost use Rattle.std.specs.Thread.{IsSync};
+ghost use Rattle.bpf_regions.specs.declared.hooks.Hook.TheVariants.{Association, Addba, Data};
+
+use crate::programs::{accepted, answers_of, notes_of, shapes_of};
+use bpf_machine::Accepted;
+use bpf_regions::Hook;
+use std::alloc::Global;
+use std::sync::atomic::AtomicU32;
+use std::sync::atomic::Ordering::SeqCst;
+use std::sync::{Arc, Wait};
+use std::test::Fail;
+use std::thread::{Threads, join};
+use versions::opening::published;
+use versions::{Entrance, News, ProgramSet, Published, Publisher, Reader};
+
+/// How often each reader enters, runs and leaves.
+const ROUNDS: u32 = 100_000;
+/// A program for each hook.
+#[derive(Drop)]
+struct Side {
+    association: Arc<Accepted>,
+    addba: Arc<Accepted>,
+    frames: Arc<Accepted>,
+    ghost for_association: { (arc_value association).hook ≡ Association },
+    ghost for_addba: { (arc_value addba).hook ≡ Addba },
+    ghost for_frames: { (arc_value frames).hook ≡ Data },
+}
+
+/// A program for each hook, of one text.
+fn side_of(alloc: Global, text: &str) -> Result<Side, Fail> {
+    let association = accepted(alloc, text, Hook::Association, shapes_of(alloc, None)?)?;
+    let addba = accepted(alloc, text, Hook::Addba, shapes_of(alloc, None)?)?;
+    let frames = accepted(alloc, text, Hook::Data, shapes_of(alloc, None)?)?;
+    Ok(Side {
+        association,
+        addba,
+        frames,
+    })
+}
+
+/// Whether the program was published.
+fn load<R: Wait>(rt: &R, publisher: &mut Publisher, hook: Hook, program: &Arc<Accepted>) -> bool
+    requires { (arc_value program.now).hook ≡ hook }
+    ensures { publisher.new.list ≡ publisher.old.list }
+{
+    match Arc::try_clone(program) {
+        Ok(another) => publisher.publish(rt, hook, Some(another)).is_ok(),
+        Err(_) => false,
+    }
+}
+
+/// Whether the programs of all three hooks were published, one after the other.
+fn load_all<R: Wait>(rt: &R, publisher: &mut Publisher, side: &Side) -> bool
+    ensures { publisher.new.list ≡ publisher.old.list }
+{
+    load(rt, publisher, Hook::Association, &side.association)
+        && load(rt, publisher, Hook::Addba, &side.addba)
+        && load(rt, publisher, Hook::Data, &side.frames)
+}
+
+/// Whether each exchange of one side's programs for the other's was published, as long as there are readers.
+fn exchange<R: Wait>(
+    rt: &R,
+    publisher: &mut Publisher,
+    sides: (&Side, &Side),
+    reading: &AtomicU32,
+) -> bool {
+    let mut right = true;
+    for _ in 0..u32::MAX {
+        if reading.load(SeqCst) == 0 {
+            break;
+        }
+        right = right && load_all(rt, publisher, sides.1) && load_all(rt, publisher, sides.0);
+    }
+    right
+}
+
+/// Whether the notes are those of a set that was published: the hooks' programs change in the order of the hooks.
+fn is_published(notes: [Option<u64>; 3]) -> bool {
+    let [association, addba, frames] = notes;
+    let known = [association, addba, frames]
+        .iter()
+        .all(|note| *note == Some(1) || *note == Some(2));
+    known && !(association == frames && association != addba)
+}
+
+/// Whether each set that a reader enters is one that was published.
+fn read_many<R: Wait>(rt: &R, entrance: &Entrance, reader: Reader, reading: &AtomicU32) -> bool
+    requires { reader.list ≡ entrance.now.list }
+{
+    let mut reader = reader;
+    let mut right = true;
+    for _ in 0..ROUNDS {
+        let held = entrance.enter(rt, reader);
+        right = right && is_published(notes_of(held.set()));
+        reader = held.leave();
+    }
+    reading.fetch_sub(1, SeqCst);
+    right
+}
+
+fn read_by_two<R: Threads + Wait + Sync>(
+    rt: &R,
+    entrance: &Entrance,
+    readers: (Reader, Reader),
+    reading: &AtomicU32,
+) -> bool
+    requires { (readers.0.list ≡ entrance.now.list) × (readers.1.list ≡ entrance.now.list) }
+{
+    let (one, other) = readers;
+    let (first, second) = join(
+        rt,
+        || read_many(rt, entrance, one, reading),
+        || read_many(rt, entrance, other, reading),
+    );
+    first && second
+}
+
+fn read_by_four<R: Threads + Wait + Sync>(
+    rt: &R,
+    entrance: &Entrance,
+    one: (Reader, Reader),
+    other: (Reader, Reader),
+    reading: &AtomicU32,
+) -> bool
+    requires one { (one.0.list ≡ entrance.now.list) × (one.1.list ≡ entrance.now.list) }
+    requires other { (other.0.list ≡ entrance.now.list) × (other.1.list ≡ entrance.now.list) }
+{
+    let (first, second) = join(
+        rt,
+        || -> bool
+            requires { IsSync R.row × (one.0.list ≡ entrance.now.list) × (one.1.list ≡ entrance.now.list) }
+        { read_by_two(rt, entrance, one, reading) },
+        || -> bool
+            requires { IsSync R.row × (other.0.list ≡ entrance.now.list) × (other.1.list ≡ entrance.now.list) }
+        { read_by_two(rt, entrance, other, reading) },
+    );
+    first && second
+}
+
+/// A reader that learned all loads so far, if one is left.
+fn told_reader(
+    publisher: &mut Publisher,
+    sets: &mut Published,
+    entrance: &Entrance,
+) -> Option<Reader>
+    requires publisher { publisher.old.list ≡ entrance.now.list }
+    requires sets { sets.old.list ≡ entrance.now.list }
+    ensures publisher { publisher.new ≡ publisher.old }
+    ensures sets { sets.new.list ≡ entrance.now.list }
+    ensures own { IfSome result (λ reader. reader.list ≡ entrance.now.list) }
+{
+    let reader = sets.reader().ok()?;
+    Some(entrance.learn(reader, publisher.tell()))
+}
+
+/// Two such readers.
+fn two_readers(
+    publisher: &mut Publisher,
+    sets: &mut Published,
+    entrance: &Entrance,
+) -> Option<(Reader, Reader)>
+    requires publisher { publisher.old.list ≡ entrance.now.list }
+    requires sets { sets.old.list ≡ entrance.now.list }
+    ensures publisher { publisher.new ≡ publisher.old }
+    ensures sets { sets.new.list ≡ entrance.now.list }
+    ensures own { IfSome result (λ pair. (pair.0.list ≡ entrance.now.list) × (pair.1.list ≡ entrance.now.list)) }
+{
+    let one = told_reader(publisher, sets, entrance)?;
+    let other = told_reader(publisher, sets, entrance)?;
+    Some((one, other))
+}
+
+/// Four threads read while this one publishes.
+fn read_beside<R: Threads + Wait + Sync>(
+    rt: &R,
+    entrance: &Entrance,
+    readers: ((Reader, Reader), (Reader, Reader)),
+    publisher: &mut Publisher,
+    sides: (&Side, &Side),
+) -> (bool, bool)
+    requires first { (readers.0.0.list ≡ entrance.now.list) × (readers.0.1.list ≡ entrance.now.list) }
+    requires second { (readers.1.0.list ≡ entrance.now.list) × (readers.1.1.list ≡ entrance.now.list) }
+{
+    let (first, second) = readers;
+    let left = AtomicU32::new(4);
+    let reading = &left;
+    join(
+        rt,
+        || -> bool
+            requires first { (first.0.list ≡ entrance.now.list) × (first.1.list ≡ entrance.now.list) }
+            requires second { IsSync R.row × (second.0.list ≡ entrance.now.list) × (second.1.list ≡ entrance.now.list) }
+        { read_by_four(rt, entrance, first, second, reading) },
+        move || exchange(rt, publisher, sides, reading),
+    )
+}
+
+/// Publishes a program for data. It answers whether it did, and tells of the loads so far.
+fn load_and_tell<R: Wait>(
+    rt: &R,
+    publisher: &mut Publisher,
+    program: &Arc<Accepted>,
+) -> (bool, News)
+    requires { (arc_value program.now).hook ≡ Data }
+    ensures { result.1.list ≡ publisher.old.list }
+{
+    let done = load(rt, publisher, Hook::Data, program);
+    (done, publisher.tell())
+}
+
+/// Publishes a program for data in one thread, while another runs the programs of a set.
+fn publish_beside<R: Threads + Wait + Sync>(
+    rt: &R,
+    publisher: &mut Publisher,
+    program: &Arc<Accepted>,
+    set: &ProgramSet,
+) -> ([Option<u64>; 3], bool, News)
+    requires { (arc_value program.now).hook ≡ Data }
+    ensures { result.2.list ≡ publisher.old.list }
+{
+    let (answers, (done, news)) = join(
+        rt,
+        || answers_of(set),
+        move || load_and_tell(rt, publisher, program),
+    );
+    (answers, done, news)
+}
+
+#[test]
+fn no_set_is_mixed(rt: HostRuntime) -> Result<(), Fail> {
+    let alloc = rt.alloc();
+    let one = side_of(alloc, "mov r1, 1\ncall 5\nmov r0, 0\nexit")?;
+    let two = side_of(alloc, "mov r1, 2\ncall 5\nmov r0, 0\nexit")?;
+    let (mut publisher, mut sets) = published(&rt, alloc, shapes_of(alloc, None)?, 4)?;
+    let began = load_all(&rt, &mut publisher, &one);
+    let entrance = sets.entrance();
+    let first = two_readers(&mut publisher, &mut sets, &entrance).expect(&rt, "two readers");
+    let second = two_readers(&mut publisher, &mut sets, &entrance).expect(&rt, "two more");
+    let (read, changed) = read_beside(
+        &rt,
+        &entrance,
+        (first, second),
+        &mut publisher,
+        (&one, &two),
+    );
+    publisher.close(&rt);
+    assert_eq!(rt; (began, read, changed), (true, true, true));
+    Ok(())
+}
+
+#[test]
+fn a_run_beside_a_publication(rt: HostRuntime) -> Result<(), Fail> {
+    let alloc = rt.alloc();
+    let one = accepted(
+        alloc,
+        "mov r0, 1\nexit",
+        Hook::Data,
+        shapes_of(alloc, None)?,
+    )?;
+    let zero = accepted(
+        alloc,
+        "mov r0, 0\nexit",
+        Hook::Data,
+        shapes_of(alloc, None)?,
+    )?;
+    let (mut publisher, mut sets) = published(&rt, alloc, shapes_of(alloc, None)?, 1)?;
+    let reader = sets.reader().expect(&rt, "a reader");
+    let began = load(&rt, &mut publisher, Hook::Data, &one);
+    let held = sets.enter(&rt, sets.learn(reader, publisher.tell()));
+    let (answers, changed, news) = publish_beside(&rt, &mut publisher, &zero, held.set());
+    let reader = sets.learn(held.leave(), news);
+    let held = sets.enter(&rt, reader);
+    let after = answers_of(held.set());
+    let _reader = held.leave();
+    publisher.close(&rt);
+    assert_eq!(rt; (began, changed), (true, true));
+    assert_eq!(rt; answers, [None, None, Some(1)]);
+    assert_eq!(rt; after, [None, None, Some(0)]);
+    Ok(())
+}

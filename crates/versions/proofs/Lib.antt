@@ -1,0 +1,4 @@
+pub mod Beginnings
+pub mod Turning
+pub mod Tying
+pub mod SetLemmas

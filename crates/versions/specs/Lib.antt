@@ -1,0 +1,8 @@
+pub mod Sets
+pub mod Lists
+pub mod Turns
+pub mod Ties
+pub mod Desks
+pub mod Wishes
+pub mod Owned
+pub mod Faults

@@ -1,0 +1,66 @@
+-- Program sets, and the loads that leave them.
+use Rattle.std.specs.Prelude.{◌≡◌, ◌≢◌, List, fold, Option, None, Some, IfSome}
+use Rattle.std.specs.Option.{IsSomeAnd}
+use Rattle.std.specs.Arc.{arc_value}
+use Rattle.std.specs.declared.sync.Arc.{Arc}
+use Rattle.bpf_regions.specs.declared.maps.Shape.{Shape}
+use Rattle.bpf_regions.specs.declared.hooks.Hook.{Hook}
+use Rattle.bpf_regions.specs.declared.hooks.Hook.TheVariants.{Association, Addba, Data}
+use Rattle.bpf_machine.specs.Verified.{Verified}
+use Rattle.versions.specs.declared.list.Load.{Load}
+
+-- for each hook a program, or none
+pub record Programs : Type 0 where
+  pub association : Option Verified
+  pub addba : Option Verified
+  pub frames : Option Verified
+
+abbrev pub no_programs : Programs
+no_programs = record { association = None; addba = None; frames = None }
+
+-- a hook's program
+abbrev pub program_at : Hook → Programs → Option Verified
+program_at Association s = s.association
+program_at Addba s = s.addba
+program_at Data s = s.frames
+
+-- the same set with another program, or none, at one hook
+abbrev pub replaced : Hook → Programs → Option Verified → Programs
+replaced Association s p = record s { association = p }
+replaced Addba s p = record s { addba = p }
+replaced Data s p = record s { frames = p }
+
+-- the program that is loaded for a hook; None removes the one that is there
+abbrev pub load : Hook → Option Verified → Load
+load hook program = record { hook = hook; program = program }
+
+-- the set after a load
+abbrev pub after : Programs → Load → Programs
+after s l = replaced l.hook s l.program
+
+-- the set that a list of loads leaves
+abbrev pub set_of : List Load → Programs
+set_of loads = fold after no_programs loads
+
+-- the program was accepted for this hook, and for maps of these shapes
+pub record IsFor (shapes : List Shape) (hook : Hook) (p : Verified) : Type 0 where
+  pub hook_is : p.hook ≡ hook
+  pub shapes_are : p.code.shapes ≡ shapes
+
+-- what is loaded, if anything, is for the hook and for these shapes
+abbrev pub Fits : List Shape → Load → Type 0
+Fits shapes l = IfSome l.program (IsFor shapes l.hook)
+
+-- there is a program, for maps of other shapes
+abbrev pub HasOtherShapes : List Shape → Option Verified → Type 0
+HasOtherShapes shapes program = IsSomeAnd program (λ p. p.code.shapes ≢ shapes)
+
+-- the program that is shared, if there is one
+abbrev pub kept : {A : Type 0} → Option (Arc Verified A) → Option Verified
+kept None = None
+kept (Some p) = Some (arc_value p)
+
+-- the programs that are shared, of the three hooks
+abbrev pub kept_by_hook : {A : Type 0} (association addba frames : Option (Arc Verified A)) → Programs
+kept_by_hook association addba frames =
+    record { association = kept association; addba = kept addba; frames = kept frames }
