@@ -1,5 +1,5 @@
 -- What an exploration has found so far.
-use Rattle.std.specs.Prelude.{ℕ, List, Option}
+use Rattle.std.specs.Prelude.{◌≡◌, ℕ, List, [], length, replicate, Option}
 use Rattle.bpf_insn.specs.declared.insn.Insn.{Insn}
 use Rattle.bpf_decode.specs.Program.{Code}
 use Rattle.bpf_model.specs.State.{Setting}
@@ -11,6 +11,13 @@ use Rattle.bpf_verifier.specs.Counting.{IsCounted, IsPaid}
 use Rattle.bpf_verifier.specs.Path.{Linked, AreBegun}
 use Rattle.bpf_verifier.specs.Safety.{LeadsSafely, IsExplored, AreSafe, IsOngoing}
 use Rattle.bpf_verifier.specs.Walked.{LeadsBySlots, IsWalked, AreWalked, IsWalkedOn}
+
+-- nothing is explored yet
+pub record IsFresh (c : Code) (e : Exploration) : Type 0 where
+  pub path : e.path.items ≡ []
+  pub after : e.after ≡ 0
+  pub finished : e.finished ≡ replicate (length c.slots) []
+  pub visits : e.visits ≡ 0
 
 -- its budgets are counted by its visits, and a budget that was found now is, too
 abbrev pub IsCountedSoFar : Exploration → Type 0

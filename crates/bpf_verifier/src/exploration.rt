@@ -10,12 +10,13 @@ ghost use Rattle.bpf_plain.specs.Clear.{IsClear};
 ghost use Rattle.bpf_plain.specs.Paths.{Reaches};
 ghost use Rattle.bpf_rules.specs.Covers.{IsSetting};
 ghost use Rattle.bpf_verifier.specs.Counting.{weight};
-ghost use Rattle.bpf_verifier.specs.Found.{IsCountedSoFar, IsPaidSoFar, IsBegunSoFar, IsSafeSoFar, IsSafeAfter, IsWalkedSoFar, IsWalkedAfter, IsClearSoFar, IsClearAfter};
+ghost use Rattle.bpf_verifier.specs.Found.{IsFresh, IsCountedSoFar, IsPaidSoFar, IsBegunSoFar, IsSafeSoFar, IsSafeAfter, IsWalkedSoFar, IsWalkedAfter, IsClearSoFar, IsClearAfter};
 ghost use Rattle.bpf_verifier.specs.Path.{IsBegun, IsKept, StandsIn};
 ghost use Rattle.bpf_verifier.specs.Safety.{AllSafe};
 ghost use Rattle.bpf_plain.specs.Walks.{IsPlain, HasWalk};
 
 use crate::laws::examination_law;
+use crate::observer::Observer;
 use crate::refusal::Refusal;
 use bpf_absstate::AbsState;
 use bpf_absstate::laws::{entry_law, inclusion_law};
@@ -54,7 +55,7 @@ enum Unwound {
 
 /// An exploration under way.
 #[derive(Drop)]
-struct Exploration {
+pub(crate) struct Exploration {
     /// The path to the state that is examined next.
     path: Vec<Frame>,
     /// How many states with one way come after the newest frame.
@@ -62,6 +63,7 @@ struct Exploration {
     finished: Finished,
     /// How many states were examined.
     visits: u32,
+    observer: Observer,
 }
 
 /// The state itself, where it stands at a target slot.
@@ -76,11 +78,13 @@ fn at_target(program: &Program, state: AbsState) -> Option<AbsState>
 }
 
 impl Exploration {
-    fn new(alloc: Global, program: &Program) -> Result<Exploration, AllocError>
-        ensures path { IfOk result (λ e. e.path.items ≡ []) }
-        ensures after { IfOk result (λ e. e.after ≡ 0) }
-        ensures finished { IfOk result (λ e. e.finished ≡ replicate (length program.now.slots) []) }
-        ensures visits { IfOk result (λ e. e.visits ≡ 0) }
+    /// Nothing is explored yet.
+    pub(crate) fn new(
+        alloc: Global,
+        program: &Program,
+        observer: Observer,
+    ) -> Result<Exploration, AllocError>
+        ensures fresh { IfOk result (IsFresh program.now) }
     {
         let finished = Finished::new(alloc, program.len())?;
         Ok(Exploration {
@@ -88,7 +92,13 @@ impl Exploration {
             after: 0,
             finished,
             visits: 0,
+            observer,
         })
+    }
+
+    /// Who listened to it.
+    pub(crate) fn into_observer(self) -> Observer {
+        self.observer
     }
 
     /// Puts a state on the path. One of its ways is explored next, and then `pending`.
@@ -122,6 +132,7 @@ impl Exploration {
         ensures visits { self.new.visits ≡ self.old.visits }
     {
         if let Some(state) = state {
+            self.observer.finishes(&state, budget)?;
             self.finished.keep(Entry { state, budget })?;
         }
         Ok(())
@@ -184,6 +195,7 @@ impl Exploration {
         inclusion_law();
         standing_law();
         walking_law();
+        self.observer.examines(&state)?;
         self.visits += 1;
         if let Some(budget) = self.finished.covering(&state) {
             let unwound = self.unwind(budget)?;
@@ -215,8 +227,13 @@ impl Exploration {
     }
 }
 
-/// Explores each path of a program, and answers a budget within which it is safe.
-pub(crate) fn find_budget(alloc: Global, program: &Program) -> Result<u32, Refusal>
+/// Explores each path of a program, and answers a budget within which it is safe. The exploration tells its observer.
+pub(crate) fn observed_budget(
+    alloc: Global,
+    program: &Program,
+    exploration: &mut Exploration,
+) -> Result<u32, Refusal>
+    requires fresh { IsFresh program.now exploration.old }
     ensures safe { IfOk result (Safe program.now.slots program.now.shapes) }
     ensures small { IfOk result (λ budget. budget ≤ 2 ^ 22) }
     ensures walk { IfOk result (λ budget. IsPlain program.now.slots → HasWalk program.now.slots budget) }
@@ -229,7 +246,6 @@ pub(crate) fn find_budget(alloc: Global, program: &Program) -> Result<u32, Refus
     standing_law();
     walking_law();
     within_law();
-    let mut exploration = Exploration::new(alloc, program)?;
     let mut current = AbsState::entry(alloc)?;
     'visit: while exploration.visits < VISITS {
         let pc = current.pc();
@@ -243,4 +259,18 @@ pub(crate) fn find_budget(alloc: Global, program: &Program) -> Result<u32, Refus
         fault: Fault::TooManyVisits,
         pc: current.pc(),
     })
+}
+
+/// The same, and nobody observes it.
+pub(crate) fn find_budget(alloc: Global, program: &Program) -> Result<u32, Refusal>
+    ensures safe { IfOk result (Safe program.now.slots program.now.shapes) }
+    ensures small { IfOk result (λ budget. budget ≤ 2 ^ 22) }
+    ensures walk { IfOk result (λ budget. IsPlain program.now.slots → HasWalk program.now.slots budget) }
+    ensures clear { IfErr result (λ e. IsClear program.now entry_view (2 ^ 22) → e.fault ≡ Fault.NoMemory) }
+    ensures begins { IfErr result (λ e. Begins program.now.slots e.pc) }
+{
+    program.whole();
+    standing_law();
+    let mut exploration = Exploration::new(alloc, program, Observer::off())?;
+    observed_budget(alloc, program, &mut exploration)
 }

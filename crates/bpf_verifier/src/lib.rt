@@ -4,10 +4,13 @@
 pub mod admission;
 mod exploration;
 pub mod laws;
+pub mod listing;
+mod observer;
 pub mod refusal;
 
 pub use admission::verify;
 pub use bpf_rules::Fault;
+pub use listing::{Explanation, explain, explore};
 pub use refusal::Refusal;
 
 #[cfg(test)]

@@ -19,28 +19,28 @@ use Rattle.bpf_verifier.proofs.Walking as walking
 use Rattle.bpf_verifier.proofs.Clears.{AreClear-none, clear_some}
 use Rattle.bpf_verifier.proofs.Paths.{Linked-empty}
 use Rattle.bpf_verifier.proofs.Tables.{none}
-use Rattle.bpf_verifier.proofs.exploration.find_budget.Goals as goal
+use Rattle.bpf_verifier.proofs.exploration.observed_budget.Goals as goal
 
 pub visit-init : goal.visit-init
 visit-init c =
-    let fs : List Frame = c.in_ok-exploration.exploration.path.items in
-    let after : ℕ = c.in_ok-exploration.exploration.after in
-    let visits : ℕ = c.in_ok-exploration.exploration.visits in
-    let table : List (List Entry) = c.in_ok-exploration.exploration.finished in
+    let fs : List Frame = c.args.exploration.now.path.items in
+    let after : ℕ = c.args.exploration.now.after in
+    let visits : ℕ = c.args.exploration.now.visits in
+    let table : List (List Entry) = c.args.exploration.now.finished in
     let slots = c.args.program.now.slots in
-    let empty : fs ≡ [] = c.in_ok-exploration.ensures.path in
-    let none_after : after ≡ 0 = c.in_ok-exploration.ensures.after in
+    let empty : fs ≡ [] = c.requires.fresh.path in
+    let none_after : after ≡ 0 = c.requires.fresh.after in
     let same : c.in_ok-current.current ≡ entry_view = c.in_ok-current.ensures.is in
     record {
-      counted = record { frames = subst (All (λ f. f.best + weight fs after ≤ visits)) (sym empty) (All-nil (λ f. f.best + weight fs after ≤ visits)); finished = none (λ e. e.budget + weight fs after ≤ visits) table _ c.in_ok-exploration.ensures.finished };
+      counted = record { frames = subst (All (λ f. f.best + weight fs after ≤ visits)) (sym empty) (All-nil (λ f. f.best + weight fs after ≤ visits)); finished = none (λ e. e.budget + weight fs after ≤ visits) table _ c.requires.fresh.finished };
       paid = let size = weight_empty fs after empty in omega (arith, size, none_after);
       stands = rw same (c.standing_law.ensures.entry c.args.program.now c.whole.ensures.is, λ plain. refl);
       begun = rw empty (All-nil (λ f. IfSome f.pending (StandsIn slots)));
       path = λ p set. rw same (Linked-empty (LeadsSafely p) (IsExplored p) fs after entry_view empty none_after (explored.stays p entry_view));
-      safe = λ p set. none (λ e. AllSafe p e.budget e.state) table _ c.in_ok-exploration.ensures.finished;
+      safe = λ p set. none (λ e. AllSafe p e.budget e.state) table _ c.requires.fresh.finished;
       walks = λ plain. rw same (Linked-empty (LeadsBySlots slots) (IsWalked slots) fs after entry_view empty none_after (walking.stays slots entry_view));
-      walked = λ plain. none (λ e. Reaches slots e.state.pc e.budget) table _ c.in_ok-exploration.ensures.finished;
-      clear = λ clear. (2 ^ 22, 0, rw same clear, AreClear-none c.args.program.now fs empty, omega (arith, c.in_ok-exploration.ensures.visits));
+      walked = λ plain. none (λ e. Reaches slots e.state.pc e.budget) table _ c.requires.fresh.finished;
+      clear = λ clear. (2 ^ 22, 0, rw same clear, AreClear-none c.args.program.now fs empty, omega (arith, c.requires.fresh.visits));
     }
 
 pub visit-preserved : goal.visit-preserved

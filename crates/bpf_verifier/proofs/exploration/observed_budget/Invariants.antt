@@ -10,7 +10,7 @@ use Rattle.bpf_rules.specs.Covers.{IsSetting}
 use Rattle.bpf_verifier.specs.Safety.{LeadsSafely, IsExplored, AreSafe}
 use Rattle.bpf_verifier.specs.Walked.{LeadsBySlots, IsWalked, AreWalked}
 use Rattle.bpf_plain.specs.Walks.{IsPlain}
-use Rattle.bpf_verifier.proofs.exploration.find_budget.Given as goal
+use Rattle.bpf_verifier.proofs.exploration.observed_budget.Given as goal
 
 abbrev pub invariant-visit : goal.invariant-visit
 invariant-visit l = record {
