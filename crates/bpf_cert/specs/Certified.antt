@@ -52,6 +52,12 @@ Refuses c hook bytes NotCovered =
     (x : CertificateView) × Spells c.shapes bytes x × IsFor c hook x × ((b : ℕ) → Shows c x.entries b → ⊥)
 
 -- the answer is that budget, unless memory ran out
+abbrev pub Answers : Result ℕ CertFault → ℕ → Type 0
+Answers (Ok n) b = n ≡ b
+Answers (Err NoMemory) b = Unit {0}
+Answers (Err _) b = ⊥
+
+-- the program is admitted with that budget, unless memory ran out
 abbrev pub Admits : Result Verified CertFault → ℕ → Type 0
 Admits (Ok a) b = a.budget ≡ b
 Admits (Err NoMemory) b = Unit {0}

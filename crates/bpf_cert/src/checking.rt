@@ -10,7 +10,7 @@ ghost use Rattle.bpf_cert_format.specs.Fits.{FitsEntry};
 ghost use Rattle.bpf_cert.specs.Steps.{Tells};
 ghost use Rattle.bpf_cert.specs.States.{claim_of};
 ghost use Rattle.bpf_cert.specs.Certified.{IsFor, FollowsCall, AllFollow, StandsWell, Shows, Finds};
-ghost use Rattle.bpf_cert.specs.Certified.{KeepsWithin, Covered, Refuses, Admits, IsAdmitted};
+ghost use Rattle.bpf_cert.specs.Certified.{KeepsWithin, Covered, Refuses, Answers, Admits, IsAdmitted};
 
 use crate::claim::Claim;
 use crate::claiming::claim;
@@ -170,6 +170,33 @@ fn accept(program: Program, hook: Hook, budget: u32) -> Accepted
     Accepted::new(program, hook, budget)
 }
 
+/// The budget that the bytes show for a program and a hook, or the refusal as `check` has it.
+pub(crate) fn certified_budget(
+    alloc: Global,
+    program: &Program,
+    hook: Hook,
+    bytes: &[u8],
+) -> Result<u32, CertFault>
+    ensures ok { IfOk result (Covered program.now hook bytes.now) }
+    ensures safe { IfOk result (Safe program.now.slots program.now.shapes) }
+    ensures small { IfOk result (λ b. b ≤ 2 ^ 22) }
+    ensures only { (b : ℕ) → Covered program.now hook bytes.now b → Answers result b }
+    ensures err { IfErr result (Refuses program.now hook bytes.now) }
+{
+    match read(alloc, program.shapes(), bytes) {
+        Err(fault) => Err(unread(fault)),
+        Ok(certificate) => {
+            if !is_for(alloc, program, hook, &certificate)? {
+                return Err(CertFault::Other);
+            }
+            match shown_budget(alloc, program, certificate.entries())? {
+                None => Err(CertFault::NotCovered),
+                Some(budget) => Ok(budget),
+            }
+        }
+    }
+}
+
 /// The program, if the bytes are a certificate that shows within how many instructions each of its runs ends.
 ///
 /// 70: the bytes spell no certificate. 71: it is for another hook or another code. 72: its entries don't show it.
@@ -188,16 +215,6 @@ pub fn check(
     // Which of the refusals it is.
     ensures err { IfErr result (Refuses program hook bytes.now) }
 {
-    match read(alloc, program.shapes(), bytes) {
-        Err(fault) => Err(unread(fault)),
-        Ok(certificate) => {
-            if !is_for(alloc, &program, hook, &certificate)? {
-                return Err(CertFault::Other);
-            }
-            match shown_budget(alloc, &program, certificate.entries())? {
-                None => Err(CertFault::NotCovered),
-                Some(budget) => Ok(accept(program, hook, budget)),
-            }
-        }
-    }
+    let budget = certified_budget(alloc, &program, hook, bytes)?;
+    Ok(accept(program, hook, budget))
 }

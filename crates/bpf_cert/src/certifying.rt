@@ -1,0 +1,115 @@
+//! Certificates made: an admitted program is explored again, and what was found is written down.
+
+ghost use Rattle.std.specs.Prelude.{◌≡◌, ℕ, IfOk, IfErr};
+ghost use Rattle.bpf_decode.specs.Program.{Begins};
+ghost use Rattle.bpf_cert.specs.Certified.{Covered};
+
+use crate::checking::certified_budget;
+use crate::describing::described;
+use crate::fault::CertFault;
+use crate::sifting::sifted;
+use bpf_cert_format::{Certificate, Entry, WriteFault, write};
+use bpf_decode::{Program, encode};
+use bpf_machine::Accepted;
+use bpf_plain::laws::standing_law;
+use bpf_prune::Entry as Finished;
+use bpf_regions::Hook;
+use bpf_verifier::{Fault, Refusal, explore};
+use std::alloc::{AllocError, Global};
+
+/// Adds the entries that describe these states.
+fn describe(
+    alloc: Global,
+    entries: &mut Vec<Entry>,
+    finished: &[Finished],
+) -> Result<(), AllocError> {
+    for one in finished {
+        entries.push(described(alloc, &one.state, one.budget)?)?;
+    }
+    Ok(())
+}
+
+/// The entries of a certificate for a program that finished states make, without needless ones.
+fn entries_of(
+    alloc: Global,
+    program: &Program,
+    finished: Vec<Finished>,
+) -> Result<Vec<Entry>, AllocError> {
+    let mut entries = Vec::new(alloc);
+    for of_slot in sifted(alloc, program, finished)? {
+        describe(alloc, &mut entries, of_slot.as_slice())?;
+    }
+    Ok(entries)
+}
+
+/// The bytes of a certificate with these entries.
+fn written(
+    alloc: Global,
+    program: &Program,
+    hook: Hook,
+    entries: Vec<Entry>,
+) -> Result<Vec<u8>, WriteFault> {
+    let code = encode(alloc, program)?;
+    write(alloc, &Certificate::new(hook, code, entries))
+}
+
+/// A refusal at the start.
+fn at_start(fault: Fault) -> Refusal
+    ensures is { result ≡ record { fault = fault; pc = 0 } }
+{
+    Refusal { fault, pc: 0 }
+}
+
+/// Why bytes that were made are no certificate, as a refusal at the start.
+fn unmade(fault: CertFault) -> Refusal
+    ensures start { result.pc ≡ 0 }
+{
+    match fault {
+        CertFault::NoMemory => at_start(Fault::NoMemory),
+        CertFault::Malformed | CertFault::Other | CertFault::NotCovered => {
+            at_start(Fault::TooManyVisits)
+        }
+    }
+}
+
+fn unwritten(fault: WriteFault) -> Refusal
+    ensures start { result.pc ≡ 0 }
+{
+    match fault {
+        WriteFault::Memory => at_start(Fault::NoMemory),
+        WriteFault::TooLarge => at_start(Fault::TooManyVisits),
+    }
+}
+
+/// The certificate's bytes, if they show that the program is safe.
+fn proved(alloc: Global, program: &Program, hook: Hook, bytes: Vec<u8>) -> Result<Vec<u8>, Refusal>
+    ensures covered { IfOk result (λ made. (b : ℕ) × Covered program.now hook made.items b) }
+    ensures start { IfErr result (λ e. e.pc ≡ 0) }
+{
+    match certified_budget(alloc, program, hook, bytes.as_slice()) {
+        Ok(_) => Ok(bytes),
+        Err(fault) => Err(unmade(fault)),
+    }
+}
+
+/// A certificate for an admitted program and its hook: the states that `explore` lists, but those for which others
+/// serve. It was checked, so `check` accepts it.
+///
+/// A program that `verify` refuses is refused here too, as one that came in through `check` may be. 36 at slot 0 also
+/// stands for states that don't fit a certificate.
+pub fn certificate(alloc: Global, accepted: &Accepted) -> Result<Vec<u8>, Refusal>
+    // Within some budget the bytes show that the program is safe.
+    ensures covered { IfOk result (λ bytes. (b : ℕ) × Covered accepted.now.code accepted.now.hook bytes.items b) }
+    ensures begins { IfErr result (λ e. Begins accepted.now.code.slots e.pc) }
+{
+    let program = accepted.program();
+    let hook = accepted.hook();
+    program.whole();
+    standing_law();
+    let finished = explore(alloc, program, hook)?;
+    let entries = entries_of(alloc, program, finished)?;
+    match written(alloc, program, hook, entries) {
+        Err(fault) => Err(unwritten(fault)),
+        Ok(bytes) => proved(alloc, program, hook, bytes),
+    }
+}

@@ -1,0 +1,66 @@
+//! Finished states, without those that others make needless.
+
+ghost use Rattle.std.specs.Prelude.{◌≤◌};
+
+use bpf_decode::Program;
+use bpf_prune::Entry;
+use std::alloc::{AllocError, Global};
+
+/// With how many states of its slot a new one is compared.
+const NEWEST: usize = 64;
+
+/// Whether one finished state can stand wherever the other does: it includes it, and has no greater budget.
+fn serves(one: &Entry, other: &Entry) -> bool {
+    one.budget <= other.budget && other.state.is_included(&one.state)
+}
+
+/// Whether one of the newest of these states serves for a new one.
+fn is_served(kept: &[Entry], entry: &Entry) -> bool {
+    kept.iter().rev().take(NEWEST).any(|one| serves(one, entry))
+}
+
+/// Removes those of the newest states for which a new one serves.
+fn give_up(kept: &mut Vec<Entry>, entry: &Entry) {
+    let first = kept.len().saturating_sub(NEWEST);
+    for at in (first..kept.len()).rev() {
+        if at < kept.len() && serves(entry, &kept[at]) {
+            let _needless = kept.remove(at);
+        }
+    }
+}
+
+/// Adds a state to those of its slot.
+fn add(kept: &mut Vec<Entry>, entry: Entry) -> Result<(), AllocError> {
+    if is_served(kept.as_slice(), &entry) {
+        return Ok(());
+    }
+    give_up(kept, &entry);
+    kept.push(entry)?;
+    Ok(())
+}
+
+/// No states yet, for so many slots.
+fn empty_table(alloc: Global, slots: usize) -> Result<Vec<Vec<Entry>>, AllocError> {
+    let mut table = Vec::with_capacity(alloc, slots)?;
+    for _slot in 0..slots {
+        table.push(Vec::new(alloc))?;
+    }
+    Ok(table)
+}
+
+/// The finished states of a program by their slots. A state goes for which another one of its slot serves: one that
+/// includes it and has no greater budget, among 64 that were finished about the same time.
+pub(crate) fn sifted(
+    alloc: Global,
+    program: &Program,
+    entries: Vec<Entry>,
+) -> Result<Vec<Vec<Entry>>, AllocError> {
+    let mut table = empty_table(alloc, program.len())?;
+    for entry in entries {
+        let pc = entry.state.pc();
+        if pc < table.len() {
+            add(&mut table[pc], entry)?;
+        }
+    }
+    Ok(table)
+}
