@@ -1,0 +1,40 @@
+-- Beginnings of a journal, and who may add to it.
+use Rattle.std.specs.Prelude.{◌≡◌, ◌+◌, ℕ, List, [], ◌∷◌, ◌++◌, length, Option, Some, IfSome}
+use mathlib.Core.List.{IsPrefix}
+use Rattle.logbook.specs.Pages.{Book}
+
+-- a beginning of a journal: which journal it is, and the entries
+pub record Beginning (E : Type 0) : Type 0 where
+  pub journal : Book
+  pub entries : List E
+
+-- the right to add to a journal: which journal it is, and, once the next entry is prepared, how many there are then
+pub record Right : Type 0 where
+  pub journal : Book
+  pub turn : Option ℕ
+
+module _ {E : Type 0} where
+  -- the beginning that has one more entry
+  abbrev pub with_entry : Beginning E → E → Beginning E
+  with_entry k e = record { journal = k.journal; entries = k.entries ++ e ∷ [] }
+
+  -- one beginning of a journal, and one that goes on from it
+  pub record Begins (earlier later : Beginning E) : Type 0 where
+    pub same_journal : later.journal ≡ earlier.journal
+    pub has_all : IsPrefix earlier.entries later.entries
+
+  -- the right is to add after these entries
+  pub record MayAdd (a : Right) (k : Beginning E) : Type 0 where
+    pub same_journal : a.journal ≡ k.journal
+    pub next : IfSome a.turn (λ n. n ≡ length k.entries + 1)
+
+  -- the entry after these can be added
+  pub record IsPrepared (a : Right) (k : Beginning E) : Type 0 where
+    pub same_journal : a.journal ≡ k.journal
+    pub next : a.turn ≡ Some (length k.entries + 1)
+
+-- the entries of the first list stand in the second, in their order, each at a place of its own
+pub data IsAmong {E : Type 0} : List E → List E → Type 0 where
+  nothing : IsAmong [] []
+  another : (own all : List E) (e : E) → IsAmong own all → IsAmong own (e ∷ all)
+  its_own : (own all : List E) (e : E) → IsAmong own all → IsAmong (e ∷ own) (e ∷ all)
