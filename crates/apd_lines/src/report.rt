@@ -1,0 +1,34 @@
+//! What was handed over of the lines of a script.
+
+use ap_model::Out;
+use bpf_decode::DecodeFault;
+use bpf_verifier::Refusal;
+
+/// What became of a line of a script, or of one shard's part of it.
+#[derive(Drop)]
+pub enum Told {
+    /// A shard handled an event: its outs, and whether a verdict dropped its data.
+    Handled { outs: Vec<Out>, dropped: bool },
+    /// Memory was refused, and nothing changed.
+    Memory,
+    /// A program is in force, and safe within the budget.
+    Loaded { budget: u32 },
+    /// The code of a file isn't well formed.
+    Fault(DecodeFault),
+    /// The verifier doesn't admit a program.
+    Refused(Refusal),
+    /// 70 to 72: a certificate doesn't serve for a program.
+    Certificate { fault: u8 },
+    /// A file isn't there, or doesn't hold hex digits.
+    Unreadable,
+    /// The value of a word of a map.
+    Word { value: u64 },
+}
+
+/// What became of the line with this number. The shard is 0 where no shard had a part in it.
+#[derive(Drop)]
+pub struct Report {
+    pub line: u64,
+    pub shard: u8,
+    pub told: Told,
+}
