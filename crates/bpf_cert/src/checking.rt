@@ -161,13 +161,18 @@ fn shown_budget(
     Ok(small(budget))
 }
 
-/// The one call that makes an accepted program of a certificate's.
-fn accept(program: Program, hook: Hook, budget: u32) -> Accepted
+/// The one call that makes an accepted program of a certificate's. Err where memory for its operations is refused.
+fn accept(
+    alloc: Global,
+    program: Program,
+    hook: Hook,
+    budget: u32,
+) -> Result<Accepted, AllocError>
     requires safe { Safe program.slots program.shapes budget }
     requires small { budget ≤ 2 ^ 22 }
-    ensures is { result ≡ record { code = program; hook = hook; budget = budget } }
+    ensures is { IfOk result (λ accepted. accepted ≡ record { code = program; hook = hook; budget = budget }) }
 {
-    Accepted::new(program, hook, budget)
+    Accepted::new(alloc, program, hook, budget)
 }
 
 /// The budget that the bytes show for a program and a hook, or the refusal as `check` has it.
@@ -216,5 +221,5 @@ pub fn check(
     ensures err { IfErr result (Refuses program hook bytes.now) }
 {
     let budget = certified_budget(alloc, &program, hook, bytes)?;
-    Ok(accept(program, hook, budget))
+    Ok(accept(alloc, program, hook, budget)?)
 }

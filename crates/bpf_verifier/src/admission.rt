@@ -35,5 +35,6 @@ pub fn verify(alloc: Global, program: Program, hook: Hook) -> Result<Accepted, R
     program.whole();
     plain_law();
     let budget = find_budget(alloc, &program)?;
-    Ok(Accepted::new(program, hook, budget))
+    let accepted = Accepted::new(alloc, program, hook, budget)?;
+    Ok(accepted)
 }

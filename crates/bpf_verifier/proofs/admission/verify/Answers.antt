@@ -9,4 +9,4 @@ returns-in_err-budget-clause-plain c =
     rw (p.1, p.2) (λ plain. c.in_err-budget.ensures.clear (c.plain_law.ensures.clear c.args.program c.whole.ensures.is plain))
 
 pub returns-clause-safe : goal.returns-clause-safe
-returns-clause-safe c = subst (Safe c.args.program.slots c.args.program.shapes) (sym c.new.ensures.budget) c.in_ok-budget.ensures.safe
+returns-clause-safe c = subst (Safe c.args.program.slots c.args.program.shapes) (sym c.in_ok-accepted.ensures.budget) c.in_ok-budget.ensures.safe
