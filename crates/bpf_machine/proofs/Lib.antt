@@ -1,2 +1,5 @@
 pub mod Going
 pub mod Listing
+pub mod Standing
+pub mod Stood
+pub mod Noting

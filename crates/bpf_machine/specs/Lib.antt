@@ -2,3 +2,5 @@ pub mod Verified
 pub mod Runs
 pub mod SoFar
 pub mod Listed
+pub mod Standing
+pub mod Keeps

@@ -2,6 +2,7 @@
 #![tactic(auto)]
 
 pub mod accepted;
+pub mod bare;
 pub mod list_port;
 pub mod outcome;
 pub mod probing;
@@ -11,6 +12,8 @@ mod stepping;
 pub mod tracing;
 
 pub use accepted::Accepted;
+pub use bare::Bare;
+pub use bpf_bare::Word;
 pub use bpf_tagged::Port;
 pub use list_port::ListPort;
 pub use outcome::{Outcome, Probe, Step};

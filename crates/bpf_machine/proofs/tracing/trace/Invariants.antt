@@ -1,5 +1,4 @@
 use Rattle.std.proofs.Common.{◌≡◌, ◌-◌, ◌++◌, List}
-use Rattle.bpf_tagged.specs.Took.{IsPaired}
 use Rattle.bpf_machine.specs.declared.outcome.Step.{Step}
 use Rattle.bpf_machine.specs.Runs.{setting_of}
 use Rattle.bpf_machine.specs.SoFar.{LogSoFar}
@@ -8,10 +7,9 @@ use Rattle.bpf_machine.proofs.tracing.trace.Given as goal
 abbrev pub invariant-steps : goal.invariant-steps
 invariant-steps g l =
     record {
-      far : (made : List Step) × (l.log.items ≡ l.initial.log.items ++ made) × LogSoFar g.P.Port.gives (setting_of l.fn.accepted.code l.fn.frame l.fn.context) l.steps made l.initial.port l.port l.machine l.notes.items;
-      paired : IsPaired l.machine;
+      far : (made : List Step) × (l.log.items ≡ l.initial.log.items ++ made) × LogSoFar g.P.Port.gives (setting_of l.fn.accepted.code l.fn.frame l.fn.context) made l.initial.port l.port l.bare;
       shapes : g.P.Port.shapes l.port ≡ l.fn.accepted.code.shapes;
     }
 
 abbrev pub decreases-steps : goal.decreases-steps
-decreases-steps g l = l.fn.accepted.budget - l.steps
+decreases-steps g l = l.fn.accepted.budget - l.bare.steps
