@@ -1,6 +1,6 @@
 //! Whether claims show that a program is safe.
 
-ghost use Rattle.std.specs.Prelude.{◌≡◌, ◌+◌, ◌<◌, ◌≤◌, ℕ, IfOk, MatchOption, Ok, false, min};
+ghost use Rattle.std.specs.Prelude.{◌≡◌, ◌+◌, ◌<◌, ◌≤◌, ℕ, IfOk, IsTrue, MatchOption, Ok, false, length, min};
 ghost use Rattle.std.specs.List.{All};
 ghost use Rattle.std.specs.Option.{option_map_or};
 ghost use Rattle.bpf_absstate.specs.View.{entry_view};
@@ -37,8 +37,42 @@ fn includes(claim: &Claim, state: &AbsState) -> bool
     claim.is_open && state.is_included(&claim.state)
 }
 
+/// The first claim at a slot, where the claims stand in the order of their slots; else any place among them.
+fn first_at(claims: &[Claim], pc: usize) -> usize
+    ensures inside { result ≤ length claims.now }
+{
+    let mut low = 0;
+    let mut high = claims.len();
+    while low < high {
+        let middle = low + (high - low) / 2;
+        if claims[middle].state.pc() < pc {
+            low = middle + 1;
+        } else {
+            high = middle;
+        }
+    }
+    low
+}
+
+/// Whether one of the claims from a place on that stand at a state's slot includes the state, with a budget of at most
+/// what is left.
+fn finds(claims: &[Claim], first: usize, state: &AbsState, left: u32) -> bool
+    ensures is { IsTrue result → IsIncluded claims.now state.now left }
+{
+    for place in first..claims.len() {
+        let claim = &claims[place];
+        if claim.state.pc() != state.pc() {
+            return false;
+        }
+        if claim.budget <= left && includes(claim, state) {
+            return true;
+        }
+    }
+    false
+}
+
 /// Whether some claim includes a state, with a budget of at most what is left.
-fn is_included(claims: &[Claim], state: &AbsState, left: u32) -> bool
+fn some_includes(claims: &[Claim], state: &AbsState, left: u32) -> bool
     ensures is { Tells result (IsIncluded claims.now state.now left) }
 {
     for claim in claims {
@@ -47,6 +81,17 @@ fn is_included(claims: &[Claim], state: &AbsState, left: u32) -> bool
         }
     }
     false
+}
+
+/// The same. Claims that stand in the order of their slots are found soon; all are looked through before the answer is
+/// no, which is the end of a check.
+fn is_included(claims: &[Claim], state: &AbsState, left: u32) -> bool
+    ensures is { Tells result (IsIncluded claims.now state.now left) }
+{
+    if finds(claims, first_at(claims, state.pc()), state, left) {
+        return true;
+    }
+    some_includes(claims, state, left)
 }
 
 /// A way on to a state.
