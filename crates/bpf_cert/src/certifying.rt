@@ -29,14 +29,16 @@ fn describe(
     Ok(())
 }
 
-/// The entries of a certificate for a program that finished states make, without needless ones.
+/// The entries of a certificate for a program that finished states make, without needless ones, in the order of their
+/// slots and budgets. In that order `check` finds them soon.
 fn entries_of(
     alloc: Global,
     program: &Program,
     finished: Vec<Finished>,
 ) -> Result<Vec<Entry>, AllocError> {
     let mut entries = Vec::new(alloc);
-    for of_slot in sifted(alloc, program, finished)? {
+    for mut of_slot in sifted(alloc, program, finished)? {
+        of_slot.sort_by_key(|one| one.budget)?;
         describe(alloc, &mut entries, of_slot.as_slice())?;
     }
     Ok(entries)

@@ -37,15 +37,22 @@ fn includes(claim: &Claim, state: &AbsState) -> bool
     claim.is_open && state.is_included(&claim.state)
 }
 
-/// The first claim at a slot, where the claims stand in the order of their slots; else any place among them.
-fn first_at(claims: &[Claim], pc: usize) -> usize
+/// Whether a claim stands at an earlier slot, or at this one with a budget of at most what is left.
+fn precedes(claim: &Claim, pc: usize, left: u32) -> bool {
+    let at = claim.state.pc();
+    at < pc || (at == pc && claim.budget <= left)
+}
+
+/// The place behind the claims of a slot with budgets of at most what is left, where claims stand in the order of their
+/// slots and budgets; else any place.
+fn end_at(claims: &[Claim], pc: usize, left: u32) -> usize
     ensures inside { result ≤ length claims.now }
 {
     let mut low = 0;
     let mut high = claims.len();
     while low < high {
         let middle = low + (high - low) / 2;
-        if claims[middle].state.pc() < pc {
+        if precedes(&claims[middle], pc, left) {
             low = middle + 1;
         } else {
             high = middle;
@@ -54,12 +61,13 @@ fn first_at(claims: &[Claim], pc: usize) -> usize
     low
 }
 
-/// Whether one of the claims from a place on that stand at a state's slot includes the state, with a budget of at most
-/// what is left.
-fn finds(claims: &[Claim], first: usize, state: &AbsState, left: u32) -> bool
+/// Whether one of the claims that stand at a state's slot before a place, and next to each other, includes the state, with
+/// a budget of at most what is left. The greatest budget that can serve is looked at first.
+fn finds(claims: &[Claim], end: usize, state: &AbsState, left: u32) -> bool
+    requires inside { end ≤ length claims.now }
     ensures is { IsTrue result → IsIncluded claims.now state.now left }
 {
-    for place in first..claims.len() {
+    for place in (0..end).rev() {
         let claim = &claims[place];
         if claim.state.pc() != state.pc() {
             return false;
@@ -83,12 +91,12 @@ fn some_includes(claims: &[Claim], state: &AbsState, left: u32) -> bool
     false
 }
 
-/// The same. Claims that stand in the order of their slots are found soon; all are looked through before the answer is
-/// no, which is the end of a check.
+/// The same. Claims that stand in the order of their slots and budgets are found soon; all are looked through before the
+/// answer is no, which is the end of a check.
 fn is_included(claims: &[Claim], state: &AbsState, left: u32) -> bool
     ensures is { Tells result (IsIncluded claims.now state.now left) }
 {
-    if finds(claims, first_at(claims, state.pc()), state, left) {
+    if finds(claims, end_at(claims, state.pc(), left), state, left) {
         return true;
     }
     some_includes(claims, state, left)

@@ -1,5 +1,5 @@
 use Rattle.std.proofs.Common.{◌≤◌, ◌-◌, length}
-use Rattle.bpf_cert.proofs.coverage.first_at.Given as goal
+use Rattle.bpf_cert.proofs.coverage.end_at.Given as goal
 
 abbrev pub invariant-loop-low : goal.invariant-loop-low
 invariant-loop-low l = (l.low ≤ l.high) × (l.high ≤ length l.claims)
