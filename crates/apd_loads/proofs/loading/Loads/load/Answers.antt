@@ -1,0 +1,19 @@
+use Rattle.std.proofs.Common.{refl}
+use Rattle.apd_inputs.specs.declared.code.CodeFault.TheVariants as read
+use Rattle.apd_loads.specs.Loading.{Read, NotRead, NoRoomToRead}
+use Rattle.apd_loads.proofs.loading.Loads.load.Goals as goal
+
+pub returns-in-Ok-clause-loads : goal.returns-in-Ok-clause-loads
+returns-in-Ok-clause-loads g c =
+    Read c.in-Ok.code.items c.load_code-told.result c.in-Ok.ensures.code (rw c.as_slice.ensures.value at c.load_code-told.ensures)
+
+pub returns-in-Err-NoMemory-clause-loads : goal.returns-in-Err-NoMemory-clause-loads
+returns-in-Err-NoMemory-clause-loads g c = NoRoomToRead refl
+
+pub returns-in-Err-Missing-clause-loads : goal.returns-in-Err-Missing-clause-loads
+returns-in-Err-Missing-clause-loads g c =
+    NotRead read.Missing (λ e. cc) (rw c.in-Err-Missing.field-0-is at c.in-Err-Missing.ensures.fault) refl
+
+pub returns-in-Err-Digits-clause-loads : goal.returns-in-Err-Digits-clause-loads
+returns-in-Err-Digits-clause-loads g c =
+    NotRead (read.Digits c.in-Err-Digits.field-0-0) (λ e. cc) (rw c.in-Err-Digits.field-0-is at c.in-Err-Digits.ensures.fault) refl
