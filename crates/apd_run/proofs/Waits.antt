@@ -1,0 +1,21 @@
+-- Lines up to a wait.
+use Rattle.std.proofs.Common.{◌≡◌, ℕ, suc, ◌+◌, ◌<◌, ◌≤◌, List, [], ◌∷◌, Bool, true, false, length, drop, get_or, sym, ap, ◌∙◌, drop-cons, add-one}
+use Rattle.std.specs.Prelude.{if◌then◌else◌}
+use Rattle.apd_script.specs.declared.command.Numbered.{Numbered}
+use Rattle.apd_run.specs.Intervals.{is_wait, after_wait}
+
+next : (ns : List Numbered) (i : ℕ) (n : Numbered) → i < length ns → n ≡ get_or ns i n
+    → after_wait (drop i ns) ≡ (if is_wait n.command then drop (i + 1) ns else after_wait (drop (i + 1) ns))
+next ns i n h e =
+    ap after_wait (drop-cons ns i n h) ∙ ap (λ x. after_wait (x ∷ drop (suc i) ns)) (sym e)
+    ∙ ap (λ k. if is_wait n.command then drop k ns else after_wait (drop k ns)) (sym (add-one i))
+
+-- the line is a wait
+pub at_wait : (ns : List Numbered) (i : ℕ) (n : Numbered) → i < length ns → n ≡ get_or ns i n → is_wait n.command ≡ true
+    → after_wait (drop i ns) ≡ drop (i + 1) ns
+at_wait ns i n h e w = next ns i n h e ∙ ap (λ b. if b then drop (i + 1) ns else after_wait (drop (i + 1) ns)) w
+
+-- the line is none
+pub at_line : (ns : List Numbered) (i : ℕ) (n : Numbered) → i < length ns → n ≡ get_or ns i n → is_wait n.command ≡ false
+    → after_wait (drop i ns) ≡ after_wait (drop (i + 1) ns)
+at_line ns i n h e w = next ns i n h e ∙ ap (λ b. if b then drop (i + 1) ns else after_wait (drop (i + 1) ns)) w

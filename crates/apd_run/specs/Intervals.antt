@@ -1,0 +1,14 @@
+-- The intervals of a script.
+use Rattle.std.specs.Prelude.{List, [], ◌∷◌, Bool, true, false, if◌then◌else◌}
+use Rattle.apd_script.specs.declared.command.Command.{Command}
+use Rattle.apd_script.specs.declared.command.Command.TheVariants.{Wait}
+use Rattle.apd_script.specs.declared.command.Numbered.{Numbered}
+
+abbrev pub is_wait : Command → Bool
+is_wait Wait = true
+is_wait _ = false
+
+-- what follows the first `wait`
+abbrev pub after_wait : List Numbered → List Numbered
+after_wait [] = []
+after_wait (n ∷ ns) = if is_wait n.command then ns else after_wait ns

@@ -1,0 +1,50 @@
+//! What the operator of a run can do.
+
+ghost use Rattle.std.specs.Prelude.{◌≡◌, IfSome, vec_len};
+ghost use Rattle.ap_books.specs.Counts.{none};
+ghost use Rattle.ap_books.specs.Reading.{Reads};
+ghost use Rattle.apd_crew.specs.Tallies.{told_counts};
+ghost use Rattle.apd_run.specs.Crews.{Crew, gains};
+
+use ap_books::Totals;
+use ap_model::Event;
+use apd_crew::{Ready, Serving};
+use apd_lines::Told;
+use apd_script::Command;
+use std::sync::Wait;
+
+/// The queue of a shard was full: the event, and the first shard whose worker wasn't given it.
+#[derive(Drop)]
+pub struct Waiting {
+    pub event: Event,
+    pub shard: u8,
+}
+
+/// The operator's side of an access point whose events workers of this kind handle.
+pub trait Operating<W: Serving + Drop> {
+    // How many workers there are, and what those who came back have counted.
+    ghost crew: { Self → Crew };
+
+    /// Puts an event of the line into the queue of its shard's worker; a tick for each shard.
+    fn submit<R: Wait>(&mut self, rt: &R, line: u64, event: Event) -> Result<(), Waiting>
+        ensures same { crew self.new ≡ crew self.old };
+
+    /// Goes on where a queue was full.
+    fn go_on<R: Wait>(&mut self, rt: &R, line: u64, waiting: Waiting) -> Result<(), Waiting>
+        ensures same { crew self.new ≡ crew self.old };
+
+    /// Does what a line asks for that is no event. The answer is what is printed of it.
+    fn perform<R: Wait>(&mut self, rt: &R, command: &Command<'_>) -> Option<Told>
+        ensures same { crew self.new ≡ crew self.old }
+        ensures nothing { IfSome result (λ told. told_counts told ≡ none) };
+
+    /// Takes in what a worker has counted, and tells it of the loads so far.
+    fn settle(&mut self, worker: &mut W)
+        ensures crew { crew self.new ≡ gains (crew self.old) (W.counted worker.old) }
+        ensures worker { W.counted worker.new ≡ none };
+
+    /// With all workers: what has been counted.
+    fn gather<R: Wait>(self, rt: &R, workers: Vec<Ready<W>>) -> Totals
+        requires all { vec_len workers ≡ (crew self).workers }
+        ensures reads { Reads result (crew self).counted };
+}

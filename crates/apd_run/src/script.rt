@@ -1,0 +1,140 @@
+//! A run from its beginning.
+
+ghost use Rattle.std.specs.Prelude.{◌≡◌, vec_len, IfOk, OnOk, OnErr};
+ghost use Rattle.apd_run.specs.Shows.{Shows, Breaks, IsBroken, status_of, Finishes, Runs};
+
+use crate::operating::Operating;
+use crate::running::{Ran, Work, run_threads};
+use crate::setting::{Setting, Staff};
+use apd_crew::{Desk, Serving, Signs};
+use apd_lines::{PrintFault, print_totals};
+use apd_script::Numbered;
+use std::alloc::{AllocError, Global};
+use std::io::Write;
+use std::sync::Wait;
+use std::thread::Threads;
+
+/// A desk for each worker.
+fn new_desks<W: Serving + Drop>(alloc: Global, workers: usize) -> Result<Vec<Desk<W>>, AllocError>
+    ensures { IfOk result (λ desks. vec_len desks ≡ workers) }
+{
+    let mut desks = Vec::new(alloc);
+    for _ in 0..workers {
+        desks.push(Desk::new())?;
+    }
+    Ok(desks)
+}
+
+/// The status of a run that broke off.
+fn broken(fault: PrintFault) -> u8
+    ensures { IsBroken result }
+{
+    match fault {
+        PrintFault::Unwritten => 2,
+        PrintFault::NoMemory => 3,
+    }
+}
+
+/// The status of a run that ended.
+fn ended(memory: bool) -> u8
+    ensures { result ≡ status_of memory }
+{
+    if memory { 3 } else { 0 }
+}
+
+/// Prints the last line, and answers the status.
+fn finish<W: Serving + Drop, O: Operating<W> + Drop, R: Wait, P: Write>(
+    rt: &R,
+    alloc: Global,
+    staff: Staff<W, O>,
+    writer: &mut P,
+    memory: bool,
+) -> u8
+    requires all { vec_len staff.workers ≡ (O.crew staff.operator).workers }
+    ensures finishes { Finishes (P.contents writer.old) (P.contents writer.new)
+        (O.crew staff.operator).counted memory result }
+{
+    let Staff { operator, workers } = staff;
+    let totals = operator.gather(rt, workers);
+    match print_totals(alloc, writer, &totals) {
+        Ok(()) => return ended(memory),
+        Err(fault) => return broken(fault),
+    }
+}
+
+/// Threads for all workers, and the script beside them.
+fn run<W, O, R, P>(
+    rt: &R,
+    alloc: Global,
+    staff: Staff<W, O>,
+    commands: &[Numbered<'_>],
+    writer: P,
+) -> Ran<W, O, P>
+where
+    W: Serving + Send + Drop,
+    O: Operating<W> + Drop,
+    R: Threads + Wait + Sync,
+    P: Write + Drop,
+    ensures home { OnOk result.memory (vec_len result.staff.workers ≡ vec_len staff.workers) }
+    ensures workers { OnOk result.memory
+        ((O.crew result.staff.operator).workers ≡ (O.crew staff.operator).workers) }
+    ensures shows { IfOk result.memory (Shows (P.contents writer) (O.crew staff.operator).counted
+        (P.contents result.writer) (O.crew result.staff.operator).counted) }
+    ensures breaks { OnErr result.memory
+        (Breaks (P.contents writer) (P.contents result.writer) (O.crew staff.operator).counted) }
+{
+    let Ok(desks) = new_desks(alloc, staff.workers.len()) else {
+        return Ran {
+            staff,
+            writer,
+            memory: Err(PrintFault::NoMemory),
+        };
+    };
+    let signs = Signs::new();
+    let setting = Setting {
+        rt,
+        alloc,
+        desks: desks.as_slice(),
+        signs: &signs,
+    };
+    let task = Work {
+        alloc,
+        desks: desks.as_slice(),
+        signs: &signs,
+    };
+    run_threads(&setting, &task, staff, commands, writer)
+}
+
+/// Runs a script: between two waits the operator follows the lines while the workers handle events.
+/// The writer is handed back with the program's status: 0; 3 where a line says `memory`, or memory
+/// was refused to the run itself, which then broke off; 2 where a write failed, which ends the run.
+pub fn run_script<W, O, R, P>(
+    rt: &R,
+    alloc: Global,
+    staff: Staff<W, O>,
+    commands: &[Numbered<'_>],
+    writer: P,
+) -> (P, u8)
+where
+    W: Serving + Send + Drop,
+    O: Operating<W> + Drop,
+    R: Threads + Wait + Sync,
+    P: Write + Drop,
+    requires all { vec_len staff.workers ≡ (O.crew staff.operator).workers }
+    ensures runs { Runs (P.contents writer) (P.contents result.0)
+        (O.crew staff.operator).counted result.1 }
+{
+    let Ran {
+        staff,
+        writer,
+        memory,
+    } = run(rt, alloc, staff, commands, writer);
+    let mut writer = writer;
+    match memory {
+        Ok(memory) => {
+            let status = finish(rt, alloc, staff, &mut writer, memory);
+            return (writer, status);
+        }
+        Err(fault) => return (writer, broken(fault)),
+    }
+}

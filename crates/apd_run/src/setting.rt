@@ -1,0 +1,20 @@
+//! What all parts of a run need.
+
+use apd_crew::{Desk, Ready, Serving, Signs};
+use std::alloc::Global;
+
+/// What the operator shares with the workers' threads.
+#[derive(Drop)]
+pub(crate) struct Setting<'a, W: Serving + Drop, R> {
+    pub rt: &'a R,
+    pub alloc: Global,
+    pub desks: &'a [Desk<W>],
+    pub signs: &'a Signs,
+}
+
+/// An operator with the workers that are at rest.
+#[derive(Drop)]
+pub struct Staff<W: Serving + Drop, O: Drop> {
+    pub operator: O,
+    pub workers: Vec<Ready<W>>,
+}
