@@ -77,6 +77,19 @@ impl<B: Ledgers, const SHARD: usize> ShardBooks<B, SHARD> {
         self.notes.count(&mut mine.notes, notes_in(outs) as u64);
     }
 
+    /// What the books count.
+    pub fn totals(&self) -> Totals
+        ensures { Reads result self.now }
+    {
+        Totals {
+            events: self.events.number(),
+            sent: self.sent.number(),
+            up: self.up.number(),
+            dropped: self.dropped.number(),
+            notes: self.notes.number(),
+        }
+    }
+
     /// With all parts of the ledgers: what the books count, which is what the shares count.
     pub fn read(&mut self, all: &mut Shares<B, SHARD>) -> Totals
         requires { all.old.parts ≡ B.shares }

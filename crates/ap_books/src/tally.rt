@@ -37,6 +37,13 @@ impl<L: Ledger> Tally<L> {
         *number = number.wrapping_add(more);
     }
 
+    /// What the book counts, mod 2^64.
+    pub(crate) fn number(&self) -> u64
+        ensures { result ≡ self.now.book.total % 2 ^ 64 }
+    {
+        self.number
+    }
+
     /// With all parts of the ledger, the number is what the shares count.
     pub(crate) fn read(&mut self, all: &mut Share<L>) -> u64
         requires { all.old.parts ≡ L.parts }

@@ -32,9 +32,3 @@ module _ {E : Type 0} where
   pub record IsPrepared (a : Right) (k : Beginning E) : Type 0 where
     pub same_journal : a.journal ≡ k.journal
     pub next : a.turn ≡ Some (length k.entries + 1)
-
--- the entries of the first list stand in the second, in their order, each at a place of its own
-pub data IsAmong {E : Type 0} : List E → List E → Type 0 where
-  nothing : IsAmong [] []
-  another : (own all : List E) (e : E) → IsAmong own all → IsAmong own (e ∷ all)
-  its_own : (own all : List E) (e : E) → IsAmong own all → IsAmong (e ∷ own) (e ∷ all)

@@ -60,6 +60,10 @@ module _ (c : Rules) (entries : List Entry) where
     pub drops : DropInSilence
     pub identifiers : HoldsOnce c r
 
+-- all that a run from the opening leaves
+abbrev pub RunsHold : Type 0
+RunsHold = (c : Rules) (r : Readings) (entries : List Entry) → Run c opening entries r → LinkHolds c entries r
+
 -- ---- of one event
 
 -- what an event led to at a shard that had handled these entries

@@ -5,7 +5,7 @@ ghost use Rattle.ap_laws.specs.InOrder.{TellsOne, GoesOnInOrder, EndsInOrder, Dr
 ghost use Rattle.ap_laws.specs.Histories.{RunsAreRead, ReadingsServe, ReadingsGoOn, RunsAreHistories};
 ghost use Rattle.ap_laws.specs.Appending.{RunsAppend, LeadsAppend, HistoriesMeet};
 ghost use Rattle.ap_laws.specs.Asking.{StepsAskOnce, ListsAsks};
-ghost use Rattle.ap_laws.specs.Headline.{EventsHold, AccessPointsHold, WindowsStandApart, LinkWindowsStandApart};
+ghost use Rattle.ap_laws.specs.Headline.{RunsHold, EventsHold, AccessPointsHold, WindowsStandApart, LinkWindowsStandApart};
 ghost use Rattle.ap_laws.specs.Identifiers.{OpeningHoldsOnce, RunHoldsOnce, AccessPointHoldsOnce};
 
 use ap_model::Judge;
@@ -76,6 +76,12 @@ pub fn link_law<J: Judge>()
     ensures shard { EventsHold J.gives }
     ensures windows { LinkWindowsStandApart }
     ensures windows_of_a_shard { WindowsStandApart }
+{}
+
+/// The link's half of the headline at each moment of one shard, whose entries so far are a run from
+/// the opening: what `link_law` says of them holds of the readings that they leave.
+pub fn run_law()
+    ensures { RunsHold }
 {}
 
 /// Runs one after another are a run: of a shard, and of eight under a judge. Where each of eight

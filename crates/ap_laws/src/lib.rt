@@ -6,5 +6,5 @@ mod laws;
 
 pub use laws::{
     appending_law, asks_law, history_law, identifiers_law, link_law, order_law, origin_law,
-    window_law,
+    run_law, window_law,
 };

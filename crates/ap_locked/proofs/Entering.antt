@@ -1,0 +1,47 @@
+-- One more entry: what is kept under a lock, and what a token has.
+use Rattle.std.proofs.Common.{◌≡◌, ℕ, List, [], ◌∷◌, ◌++◌, drop, length, ap, sym, subst, ◌∙◌}
+use Rattle.std.proofs.Math.Seq.{drop-append_seam}
+use mathlib.Core.List.{IsPrefix}
+use Rattle.ap_model.specs.Asks.{Ask, Answered}
+use Rattle.ap_model.specs.Readings.{Rules}
+use Rattle.ap_model.specs.Runs.{Entry, Handles, Run, rests, goes_on, opening}
+use Rattle.ap_model.proofs.Appending.{run_append}
+use Rattle.ap_laws.specs.Asking.{ListsAsks}
+use Rattle.ap_core.specs.declared.shard.Shard.{Shard}
+use Rattle.ap_core.specs.Shards.{reads, ruled}
+use Rattle.ap_books.specs.Counts.{plus, gains, entry_counts}
+use Rattle.ap_books.proofs.Entries.{counts_in-one}
+use Rattle.ap_locked.specs.Kept.{Kept, Holds, rules_of, readings_of}
+use Rattle.ap_locked.specs.Tokens.{Token, IsToken}
+use Rattle.ap_locked.proofs.Among.{among_prefix, among_one}
+
+-- what lies under the lock after an entry
+abbrev pub kept_with : Kept → Shard → Entry → Kept
+kept_with k s2 e = record { shard = s2; journal = k.journal ++ e ∷ []; counts = plus k.counts (entry_counts e) }
+
+-- a token after an entry of its own, at the end of this journal
+abbrev pub token_with : Token → List Entry → Entry → Token
+token_with t journal e = record { portion = gains t.portion (entry_counts e); seen = journal ++ e ∷ []; own = t.own ++ e ∷ [] }
+
+pub holds_with : (n : ℕ) (k : Kept) (s2 : Shard) (e : Entry) → Holds n k → Handles (rules_of k) (readings_of k) e (reads s2) → ruled s2 ≡ rules_of k → Holds n (kept_with k s2 e)
+holds_with n k s2 e h step same =
+    record {
+      number = ap (λ (c : Rules). c.shard) same ∙ h.number;
+      run = subst (λ (c : Rules). Run c opening (k.journal ++ e ∷ []) (reads s2)) (sym same)
+          (run_append (rules_of k) h.run (goes_on (readings_of k) (reads s2) (reads s2) e [] step (rests (reads s2))));
+      counted = ap (λ c. plus c (entry_counts e)) h.counted ∙ sym (counts_in-one k.journal e);
+    }
+
+pub is_token_with : (t : Token) (journal : List Entry) (e : Entry) → IsToken t → IsPrefix t.seen journal → IsToken (token_with t journal e)
+is_token_with t journal e is had_seen =
+    record {
+      some = is.some;
+      among = among_one e (among_prefix had_seen is.among);
+      counted = ap (λ c. plus c (entry_counts e)) is.counted ∙ sym (counts_in-one t.own e);
+    }
+
+-- what a judge lists past what it had listed is what was asked
+pub asked_since : {S : Type 0} (asks : S → List (Ask × ℕ)) (R : S → Ask → ℕ → S → Type 0) → ListsAsks asks R → (before j j2 : S) (asked : List (Ask × ℕ)) → before ≡ j → Answered R j asked j2
+    → drop (length (asks before)) (asks j2) ≡ asked
+asked_since asks R law before j j2 asked same answered =
+    ap (λ p. drop (length (asks p)) (asks j2)) same ∙ (ap (drop (length (asks j))) (law j j2 asked answered) ∙ drop-append_seam (asks j) asked)

@@ -1,0 +1,52 @@
+//! One event, under the lock of its shard.
+
+ghost use Rattle.std.specs.Prelude.{◌≡◌, IfOk, IfErr};
+ghost use Rattle.ap_locked.specs.Kept.{Decided};
+
+use crate::entry::Deed;
+use crate::locked::Locked;
+use crate::naming::Journals;
+use crate::token::ShardToken;
+use ap_books::Ledgers;
+use ap_laws::asks_law;
+use ap_model::{Event, Judge, Out};
+use ap_watch::decide;
+use std::alloc::{AllocError, Global};
+use std::snapshot::Snapshot;
+
+impl<B: Ledgers + Journals, const SHARD: usize> Locked<B, SHARD> {
+    /// Decides an event: its entry stands at the end of the journal, with the outs that are answered,
+    /// and is counted in the books and in the token's shares alike. The flag tells whether a data
+    /// verdict dropped. The token has then seen the whole journal. An event that is refused for
+    /// memory changes nothing, asks nothing and has no entry; so it is where a journal can't have one
+    /// more entry, about 2^61 of them, which no run comes near.
+    pub fn decide<J: Judge>(
+        &mut self,
+        alloc: Global,
+        mine: &mut ShardToken<B, SHARD>,
+        event: &Event,
+        judge: &mut J,
+    ) -> Result<(Vec<Out>, bool), AllocError>
+        ensures entry { IfOk result (λ r. Decided J.gives self.old mine.old event.now judge.old r.0.items r.1 self.new mine.new judge.new) }
+        ensures refused { IfErr result (λ _. (self.new ≡ self.old) × (mine.new ≡ mine.old) × (judge.new ≡ judge.old)) }
+    {
+        asks_law::<J>();
+        if !self.author.prepare(&self.journal) {
+            return Err(AllocError);
+        }
+        self.author.look(&self.journal, &mine.seen);
+        let before = Snapshot::of(&*judge);
+        let (outs, dropped) = decide(&mut self.shard, alloc, event, judge)?;
+        let deed = Deed {
+            event,
+            outs: outs.as_slice(),
+            before: &before,
+            judge: &*judge,
+        };
+        self.author.add(&mut self.journal, &deed);
+        mine.own.add(&deed);
+        mine.seen = self.journal.again();
+        self.books.count(&mut mine.shares, outs.as_slice(), dropped);
+        Ok((outs, dropped))
+    }
+}

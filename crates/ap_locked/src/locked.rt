@@ -1,0 +1,124 @@
+//! A shard with its journal and its books.
+
+ghost use Rattle.std.specs.Prelude.{◌≡◌, ◌<◌, [], IfOk};
+ghost use Rattle.ap_model.specs.Stations.{AreAssociated};
+ghost use Rattle.ap_core.specs.Handles.{rules};
+ghost use Rattle.ap_books.specs.Reading.{Reads};
+ghost use Rattle.ap_laws.specs.Headline.{LinkHolds};
+ghost use Rattle.ap_locked.specs.Kept.{Holds, rules_of, readings_of};
+ghost use Rattle.ap_locked.specs.Naming.{IsNamed};
+ghost use Rattle.ap_locked.specs.Tokens.{newcomer};
+
+use crate::entry::JournalEntry;
+use crate::naming::{Journals, NewShard};
+use crate::token::ShardToken;
+use ap_books::{Ledgers, ShardBooks, Shares, Totals};
+use ap_core::Shard;
+use ap_journal::{Author, Known, Past};
+use ap_laws::run_law;
+use ap_model::LinkConfig;
+use std::alloc::{AllocError, Global};
+use std::marker::Model;
+
+/// A shard as it lies under its lock: with its journal, which takes no memory that grows, and its
+/// books.
+#[derive(Drop)]
+pub struct Locked<B: Ledgers + Journals, const SHARD: usize> {
+    pub(crate) shard: Shard,
+    pub(crate) author: Author<JournalEntry>,
+    pub(crate) journal: Known<JournalEntry>,
+    pub(crate) books: ShardBooks<B, SHARD>,
+}
+
+impl<B: Ledgers + Journals, const SHARD: usize> Model for Locked<B, SHARD> {
+    ghost use Rattle.std.specs.Prelude.{◌≡◌};
+    ghost use Rattle.ap_journal.specs.Beginnings.{MayAdd};
+    ghost use Rattle.ap_locked.specs.Kept.{Kept, Holds};
+
+    ghost Value = { Kept };
+
+    ghost view = { λ s. record { shard = s.shard; journal = s.journal.entries; counts = s.books } };
+
+    ghost invariant = { λ s. (s.journal.journal ≡ B.journal_of SHARD) × MayAdd s.author s.journal × Holds SHARD (record { shard = s.shard; journal = s.journal.entries; counts = s.books }) };
+}
+
+impl<B: Ledgers + Journals, const SHARD: usize> Locked<B, SHARD> {
+    /// A shard that has handled nothing, with a copy of the configuration, and a token with all parts
+    /// of its ledgers. It answers want of memory alone.
+    pub fn new(
+        alloc: Global,
+        config: &LinkConfig,
+        new: NewShard,
+    ) -> Result<(Locked<B, SHARD>, ShardToken<B, SHARD>), AllocError>
+        requires shard { SHARD < 8 }
+        requires named { IsNamed (B.name_of SHARD) B.shares (B.journal_of SHARD) new }
+        requires some { 0 < B.shares }
+        ensures rules { IfOk result (λ r. rules_of r.0 ≡ rules SHARD config.now) }
+        ensures empty { IfOk result (λ r. r.0.journal ≡ []) }
+        ensures token { IfOk result (λ r. r.1 ≡ newcomer B.shares []) }
+    {
+        let shard = Shard::new(alloc, SHARD as u16, config)?;
+        let NewShard { blanks, journal } = new;
+        let (books, shares) = ShardBooks::open(blanks);
+        let (author, journal) = journal.into_parts();
+        let token = ShardToken {
+            shares,
+            seen: journal.again(),
+            own: Past::new(),
+        };
+        let locked = Locked {
+            shard,
+            author,
+            journal,
+            books,
+        };
+        Ok((locked, token))
+    }
+
+    /// Tells a proof what is so under each lock, and does nothing.
+    pub fn known(&self)
+        ensures { Holds SHARD self.now }
+    {
+        let _books = &self.books;
+    }
+
+    /// Tells a proof the link's half of the headline, of the shard at this moment, and does nothing.
+    pub fn headline(&self)
+        ensures { LinkHolds (rules_of self.now) self.now.journal (readings_of self.now) }
+    {
+        run_law();
+        self.known();
+    }
+
+    /// The sum of the ticks so far, at most 2^64 - 1.
+    pub fn clock(&self) -> u64
+        ensures { result ≡ (readings_of self.now).clock }
+    {
+        self.shard.clock()
+    }
+
+    /// How many stations are associated, at most 2007.
+    pub fn stations(&self) -> u16
+        ensures { AreAssociated (readings_of self.now).standing result }
+    {
+        self.shard.stations()
+    }
+
+    /// What the books count, mod 2^64.
+    pub fn totals(&self) -> Totals
+        ensures { Reads result self.now.counts }
+    {
+        self.books.totals()
+    }
+
+    /// With all parts of the ledgers: what the books count, mod 2^64, which is what the shares count.
+    pub fn read(&mut self, all: &mut Shares<B, SHARD>) -> Totals
+        requires { all.old.parts ≡ B.shares }
+        ensures same { self.new ≡ self.old }
+        ensures shares { all.new ≡ all.old }
+        ensures whole { all.old.counts ≡ self.old.counts }
+        ensures totals { Reads result self.old.counts }
+    {
+        self.books.read(all)
+    }
+}
