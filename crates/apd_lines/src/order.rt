@@ -12,6 +12,6 @@ pub fn put_in_order(reports: &mut Vec<Report>) -> Result<(), AllocError>
     ensures ordered { OnOk result (IsOrdered reports.old.items reports.new.items) }
     ensures refused { OnErr result (reports.new.items ≡ reports.old.items) }
 {
-    reports.sort_by_key(|report| -> (u64, u8) { (report.line, report.shard) })?;
+    reports.sort_by_key(|report| -> (u64, u16) { (report.line, report.shard) })?;
     Ok(())
 }

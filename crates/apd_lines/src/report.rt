@@ -29,6 +29,6 @@ pub enum Told {
 #[derive(Drop)]
 pub struct Report {
     pub line: u64,
-    pub shard: u8,
+    pub shard: u16,
     pub told: Told,
 }

@@ -17,7 +17,7 @@ use std::sync::Wait;
 #[derive(Drop)]
 pub struct Waiting {
     pub event: Event,
-    pub shard: u8,
+    pub shard: u16,
 }
 
 /// The operator's side of an access point whose events workers of this kind handle.
