@@ -18,7 +18,10 @@ impl<R: rt::Files + AllocGlobal> Files for RealFiles<'_, R> {
             Ok(bytes) => Ok(bytes),
             Err(error) => match error.kind() {
                 ErrorKind::OutOfMemory => Err(FileFault::NoMemory),
-                _ => Err(FileFault::Missing),
+                ErrorKind::NotFound => Err(FileFault::Missing),
+                ErrorKind::IsADirectory => Err(FileFault::Directory),
+                ErrorKind::PermissionDenied => Err(FileFault::NotAllowed),
+                _ => Err(FileFault::Failed),
             },
         }
     }

@@ -7,11 +7,14 @@ use Rattle.hex.specs.declared.error.FromHexError.TheVariants.{OutOfMemory}
 use Rattle.apd_config.specs.Text.{TellsOfText}
 use Rattle.apd_config.specs.declared.fault.ConfigFault.{ConfigFault}
 use Rattle.apd_config.specs.declared.fault.ConfigFault.TheVariants as config
+use Rattle.capture.specs.Packets.{Refuses}
+use Rattle.capture.specs.declared.fault.CaptureFault.{CaptureFault}
+use Rattle.capture.specs.declared.fault.CaptureFault.TheVariants as capture
 use Rattle.apd_program.specs.declared.fault.ProgramFault.{ProgramFault}
 use Rattle.apd_program.specs.declared.fault.ProgramFault.TheVariants.{NoMemory}
 use Rattle.apd_program.specs.declared.reading.Setup.{Setup}
 use Rattle.apd_program.specs.Held.{Held, Holds, HoldsCode, Configures, code_of}
-use Rattle.apd_program.specs.Faults.{HasBadCode, NoCode, HasBadConfiguration, NoConfiguration, IsBadConfig, IsAtFault, OfConfiguration, OfCode, IsNoFrame, NoDigits, HasNoFrame, OfFiles, OfWord}
+use Rattle.apd_program.specs.Faults.{HasBadCode, NoCode, HasBadConfiguration, NoConfiguration, IsBadConfig, HasBadCapture, NoCapture, IsAtFault, OfConfiguration, OfCode, IsNoFrame, NoDigits, HasNoFrame, OfFiles, OfWord}
 
 pub code_at_fault : (files : Held) (path text slice : List ℕ) (e : FromHexError) (f : ProgramFault) → Holds files path text → slice ≡ text → (e ≡ OutOfMemory) ⊎ (code_of slice ≡ Err e) → (e ≡ OutOfMemory → f ≡ NoMemory)
     → (f ≡ NoMemory) ⊎ HasBadCode files path
@@ -34,6 +37,24 @@ configuration_by : (files : Held) (path text slice : List ℕ) (e : ConfigFault)
 configuration_by files path text slice e f there same tells m (inl memory) = inl (m memory)
 configuration_by files path text slice e f there same tells m (inr other) =
     inr (NoConfiguration text e there other (let P : List ℕ → Type 0 = λ t. TellsOfText t e in subst P same tells))
+
+known_capture : (e : CaptureFault) → (e ≡ capture.NoMemory) ⊎ (e ≢ capture.NoMemory)
+known_capture capture.NoMemory = inl refl
+known_capture capture.NoCapture = inr (λ h. cc)
+known_capture capture.CutHeader = inr (λ h. cc)
+known_capture (capture.Version major minor) = inr (λ h. cc)
+known_capture (capture.LinkType number) = inr (λ h. cc)
+known_capture (capture.CutRecord count) = inr (λ h. cc)
+
+capture_by : (files : Held) (path text slice : List ℕ) (e : CaptureFault) (f : ProgramFault) → Holds files path text → slice ≡ text → Refuses slice e → (e ≡ capture.NoMemory → f ≡ NoMemory) → (e ≡ capture.NoMemory) ⊎ (e ≢ capture.NoMemory)
+    → (f ≡ NoMemory) ⊎ HasBadCapture files path
+capture_by files path text slice e f there same refuses m (inl memory) = inl (m memory)
+capture_by files path text slice e f there same refuses m (inr other) =
+    inr (NoCapture text e there other (let P : List ℕ → Type 0 = λ t. Refuses t e in subst P same refuses))
+
+pub capture_at_fault : (files : Held) (path text slice : List ℕ) (e : CaptureFault) (f : ProgramFault) → Holds files path text → slice ≡ text → Refuses slice e → (e ≡ capture.NoMemory → f ≡ NoMemory)
+    → (f ≡ NoMemory) ⊎ HasBadCapture files path
+capture_at_fault files path text slice e f there same refuses m = capture_by files path text slice e f there same refuses m (known_capture e)
 
 pub configuration_at_fault : (files : Held) (path text slice : List ℕ) (e : ConfigFault) (f : ProgramFault) → Holds files path text → slice ≡ text → TellsOfText slice e → (e ≡ config.NoMemory → f ≡ NoMemory)
     → (f ≡ NoMemory) ⊎ HasBadConfiguration files path

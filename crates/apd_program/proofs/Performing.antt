@@ -5,7 +5,7 @@ use Rattle.clap.specs.declared.builder.value_parser.ValueParser.{ValueParser}
 use Rattle.apd_words.specs.Asked.{Asked}
 use Rattle.apd_words.specs.Reads.{IsHelp}
 use Rattle.apd_program.specs.declared.answer.Answer.{Answer}
-use Rattle.apd_program.specs.declared.answer.Answer.TheVariants.{Accepted, Code, Instructions, Run, Fault, Refused, LineFault}
+use Rattle.apd_program.specs.declared.answer.Answer.TheVariants.{Accepted, Code, Instructions, Run, Page, Script, Help, Fault, Refused, LineFault}
 use Rattle.apd_program.specs.declared.fault.ProgramFault.{ProgramFault}
 use Rattle.apd_program.specs.declared.fault.ProgramFault.TheVariants as fault
 use Rattle.apd_program.specs.Lines.{status_of}
@@ -22,13 +22,21 @@ Performs-printed files a answer old new status is (Nothing kept) = Exhausted kep
 
 complained : (files : Held) (a : Asked) (o : Option (List ℕ)) (f : ProgramFault) → (f ≡ fault.NoMemory) ⊎ HasNoAnswer files a → Performs files a o o (fault_status f)
 complained files a o fault.NoMemory h = Exhausted (Keeps-same o)
-complained files a o (fault.Unreadable path) (inl memory) = cc
+complained files a o (fault.Unreadable path why) (inl memory) = cc
+complained files a o (fault.NoCode path line found) (inl memory) = cc
+complained files a o (fault.Capture path f) (inl memory) = cc
+complained files a o (fault.NoPage name) (inl memory) = cc
+complained files a o (fault.NoCommand name) (inl memory) = cc
 complained files a o (fault.NoDigits path) (inl memory) = cc
 complained files a o (fault.OddDigits path) (inl memory) = cc
 complained files a o (fault.Config path f) (inl memory) = cc
 complained files a o fault.LongFrame (inl memory) = cc
 complained files a o (fault.NotThere name) (inl memory) = cc
-complained files a o (fault.Unreadable path) (inr h) = Refrained h (Keeps-same o)
+complained files a o (fault.Unreadable path why) (inr h) = Refrained h (Keeps-same o)
+complained files a o (fault.NoCode path line found) (inr h) = Refrained h (Keeps-same o)
+complained files a o (fault.Capture path f) (inr h) = Refrained h (Keeps-same o)
+complained files a o (fault.NoPage name) (inr h) = Refrained h (Keeps-same o)
+complained files a o (fault.NoCommand name) (inr h) = Refrained h (Keeps-same o)
 complained files a o (fault.NoDigits path) (inr h) = Refrained h (Keeps-same o)
 complained files a o (fault.OddDigits path) (inr h) = Refrained h (Keeps-same o)
 complained files a o (fault.Config path f) (inr h) = Refrained h (Keeps-same o)
@@ -43,6 +51,9 @@ status_within (Accepted budget) = omega arith
 status_within (Code code) = omega arith
 status_within (Instructions text) = omega arith
 status_within (Run text) = omega arith
+status_within (Page text) = omega arith
+status_within (Script text) = omega arith
+status_within (Help text) = omega arith
 status_within (Fault e) = omega arith
 status_within (Refused e) = omega arith
 status_within (LineFault e) = omega arith

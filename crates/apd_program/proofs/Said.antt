@@ -15,7 +15,7 @@ use Rattle.bpf_verifier.specs.declared.refusal.Refusal.{Refusal}
 use Rattle.bpf_rules.specs.declared.fault.Fault.TheVariants as verify_fault
 use Rattle.apd_trace.specs.Trace.{IsTrace}
 use Rattle.apd_program.specs.declared.answer.Answer.{Answer}
-use Rattle.apd_program.specs.declared.answer.Answer.TheVariants.{Accepted, Code, Instructions, Run, Fault, Refused, LineFault}
+use Rattle.apd_program.specs.declared.answer.Answer.TheVariants.{Accepted, Code, Instructions, Run, Page, Script, Help, Fault, Refused, LineFault}
 use Rattle.apd_program.specs.declared.fault.ProgramFault.{ProgramFault}
 use Rattle.apd_program.specs.Programs.{IsOfProgram, Undecoded, Decoded}
 use Rattle.apd_program.specs.Verifying.{IsVerdict, NotAdmitted}
@@ -52,5 +52,8 @@ IsAssembly-broken text front (Accepted budget) bad same breaks = absurd breaks
 IsAssembly-broken text front (Code code) bad same breaks = absurd breaks
 IsAssembly-broken text front (Instructions listing) bad same breaks = absurd breaks
 IsAssembly-broken text front (Run lines) bad same breaks = absurd breaks
+IsAssembly-broken text front (Page lines) bad same breaks = absurd breaks
+IsAssembly-broken text front (Script lines) bad same breaks = absurd breaks
+IsAssembly-broken text front (Help lines) bad same breaks = absurd breaks
 IsAssembly-broken text front (Fault e) bad same breaks = absurd breaks
 IsAssembly-broken text front (Refused e) bad same breaks = absurd breaks

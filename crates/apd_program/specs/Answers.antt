@@ -2,14 +2,16 @@
 use Rattle.std.specs.Prelude.{List, ℕ, Option}
 use Rattle.bpf_regions.specs.declared.hooks.Hook.{Hook}
 use Rattle.bpf_decode.specs.Program.{Code}
-use Rattle.apd_words.specs.Asked.{Asked, Verify, Assemble, Disassemble, Trace}
+use Rattle.apd_words.specs.Asked.{Asked, Verify, Assemble, Disassemble, Trace, Explain, Frames, Help}
 use Rattle.apd_program.specs.declared.answer.Answer.{Answer}
 use Rattle.apd_program.specs.declared.reading.Setup.{Setup}
 use Rattle.apd_program.specs.Held.{Held, Holds, Lacks, HoldsCode, IsFrame, Configures}
-use Rattle.apd_program.specs.Faults.{IsAtFault, HasNoFrame}
+use Rattle.apd_program.specs.Faults.{IsAtFault, HasNoFrame, HasBadCapture}
+use Rattle.apd_program.specs.Pages.{IsPage, HasNoPage, IsHelpText, HasNoHelp, help_words}
+use Rattle.apd_program.specs.Scripts.{IsScript}
 use Rattle.apd_program.specs.Programs.{IsOfProgram}
 use Rattle.apd_program.specs.Verifying.{IsVerdict, IsBudget, IsRun}
-use Rattle.apd_program.specs.Texts.{IsAssembly, IsListing}
+use Rattle.apd_program.specs.Texts.{IsAssembly, IsListingWith}
 
 -- what is said of the program in the file, with the configuration
 pub record IsOfCode (says : Setup → Code → Answer → Type 0) (files : Held) (file : List ℕ) (config : Option (List ℕ)) (a : Answer) : Type 0 where
@@ -34,14 +36,20 @@ pub record IsTraced (files : Held) (hook : Hook) (file word : List ℕ) (config 
 abbrev pub IsAnswer : Held → Asked → Answer → Type 0
 IsAnswer files (Verify hook file config) a = IsOfCode (λ setup. IsVerdict IsBudget) files file config a
 IsAnswer files (Assemble file) a = IsOfText IsAssembly files file a
-IsAnswer files (Disassemble file config) a = IsOfCode (λ setup. IsListing) files file config a
+IsAnswer files (Disassemble file config slots) a = IsOfCode (λ setup. IsListingWith slots) files file config a
 IsAnswer files (Trace hook file word config) a = IsTraced files hook file word config a
+IsAnswer files (Explain word) a = IsPage word a
+IsAnswer files (Frames capture ticks) a = IsOfText (IsScript ticks) files capture a
+IsAnswer files (Help command) a = IsHelpText (help_words command) a
 IsAnswer files _ a = ⊥
 
 -- there is no answer: a file or a word is at fault, or the command isn't there yet
 abbrev pub HasNoAnswer : Held → Asked → Type 0
 HasNoAnswer files (Verify hook file config) = IsAtFault files file config
 HasNoAnswer files (Assemble file) = Lacks files file
-HasNoAnswer files (Disassemble file config) = IsAtFault files file config
+HasNoAnswer files (Disassemble file config slots) = IsAtFault files file config
 HasNoAnswer files (Trace hook file word config) = HasNoFrame files file word config
+HasNoAnswer files (Explain word) = HasNoPage word
+HasNoAnswer files (Frames capture ticks) = HasBadCapture files capture
+HasNoAnswer files (Help command) = HasNoHelp (help_words command)
 HasNoAnswer files _ = Unit {0}

@@ -5,6 +5,9 @@ use Rattle.hex.specs.declared.error.FromHexError.{FromHexError}
 use Rattle.apd_config.specs.Text.{TellsOfText}
 use Rattle.apd_config.specs.declared.fault.ConfigFault.{ConfigFault}
 use Rattle.apd_config.specs.declared.fault.ConfigFault.TheVariants as config
+use Rattle.capture.specs.Packets.{Refuses}
+use Rattle.capture.specs.declared.fault.CaptureFault.{CaptureFault}
+use Rattle.capture.specs.declared.fault.CaptureFault.TheVariants as capture
 use Rattle.apd_program.specs.declared.reading.Setup.{Setup}
 use Rattle.apd_program.specs.Held.{Held, Holds, Lacks, HoldsCode, Configures, code_of}
 
@@ -17,6 +20,11 @@ pub data HasBadCode (files : Held) (path : List ℕ) : Type 0 where
 pub data HasBadConfiguration (files : Held) (path : List ℕ) : Type 0 where
   NoFile : Lacks files path → HasBadConfiguration files path
   NoConfiguration : (text : List ℕ) (e : ConfigFault) → Holds files path text → e ≢ config.NoMemory → TellsOfText text e → HasBadConfiguration files path
+
+-- the file can't be read, or isn't a capture
+pub data HasBadCapture (files : Held) (path : List ℕ) : Type 0 where
+  NoFile : Lacks files path → HasBadCapture files path
+  NoCapture : (text : List ℕ) (e : CaptureFault) → Holds files path text → e ≢ capture.NoMemory → Refuses text e → HasBadCapture files path
 
 abbrev pub IsBadConfig : Held → Option (List ℕ) → Type 0
 IsBadConfig files None = ⊥

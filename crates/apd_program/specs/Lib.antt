@@ -5,6 +5,8 @@ pub mod Faults
 pub mod Programs
 pub mod Verifying
 pub mod Texts
+pub mod Pages
+pub mod Scripts
 pub mod Answers
 pub mod Printed
 pub mod Program

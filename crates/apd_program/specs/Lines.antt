@@ -5,13 +5,16 @@ use Rattle.bpf_verifier.specs.Refusals.{refusal_text}
 use Rattle.bpf_text.specs.Refusals as line
 use Rattle.apd_program.specs.Slots.{line_of, slot_lines}
 use Rattle.apd_program.specs.declared.answer.Answer.{Answer}
-use Rattle.apd_program.specs.declared.answer.Answer.TheVariants.{Accepted, Code, Instructions, Run, Fault, Refused, LineFault}
+use Rattle.apd_program.specs.declared.answer.Answer.TheVariants.{Accepted, Code, Instructions, Run, Page, Script, Help, Fault, Refused, LineFault}
 
 abbrev pub printed : Answer → List ℕ
 printed (Accepted budget) = line_of (codes "accepted budget " ++ decimal budget)
 printed (Code code) = slot_lines (length code.items / 8) code.items
 printed (Instructions text) = string_bytes text
 printed (Run text) = string_bytes text
+printed (Page text) = string_bytes text
+printed (Script text) = string_bytes text
+printed (Help text) = string_bytes text
 printed (Fault e) = line_of (fault_text e)
 printed (Refused e) = line_of (refusal_text e)
 printed (LineFault e) = line_of (line.text_of e)
@@ -22,6 +25,9 @@ status_of (Accepted budget) = 0
 status_of (Code code) = 0
 status_of (Instructions text) = 0
 status_of (Run text) = 0
+status_of (Page text) = 0
+status_of (Script text) = 0
+status_of (Help text) = 0
 status_of (Fault e) = 1
 status_of (Refused e) = 1
 status_of (LineFault e) = 1

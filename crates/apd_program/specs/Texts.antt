@@ -1,8 +1,9 @@
 -- What `asm` answers for a text, and `disasm` for a program.
-use Rattle.std.specs.Prelude.{◌≡◌, ◌≢◌, ◌+◌, ◌==◌, nat_lt, ℕ, List, [], take, count_by, Vec, Result, Ok, Err, if◌then◌else◌, string_bytes, IsUtf8}
+use Rattle.std.specs.Prelude.{◌≡◌, ◌≢◌, ◌+◌, ◌==◌, Bool, true, false, nat_lt, ℕ, List, [], take, count_by, Vec, Result, Ok, Err, if◌then◌else◌, string_bytes, IsUtf8}
 use Rattle.std.specs.Str.Lossy.{utf8_valid_len}
 use Rattle.std.specs.declared.alloc.Global.{Global}
 use Rattle.bpf_decode.specs.Program as decoded
+use Rattle.apd_listing.specs.Listing as listing
 use Rattle.bpf_text.specs.Texts.{lines_of, assembled, disassembled}
 use Rattle.bpf_text.specs.Refusals.{Refuses}
 use Rattle.bpf_text.specs.declared.fault.AsmFault.{AsmFault}
@@ -37,3 +38,12 @@ pub data IsAssembly (text : List ℕ) : Answer → Type 0 where
 abbrev pub IsListing : decoded.Code → Answer → Type 0
 IsListing p (Instructions text) = string_bytes text ≡ disassembled p.slots
 IsListing p _ = ⊥
+
+-- `disasm --slots` says it with the slots
+abbrev pub IsSlotListing : decoded.Code → Answer → Type 0
+IsSlotListing p (Instructions text) = listing.IsListing p.slots (string_bytes text)
+IsSlotListing p _ = ⊥
+
+abbrev pub IsListingWith : Bool → decoded.Code → Answer → Type 0
+IsListingWith true p a = IsSlotListing p a
+IsListingWith false p a = IsListing p a

@@ -21,6 +21,12 @@ pub enum Answer {
     Instructions(String),
     /// The text of a run: a line for each step and each note, and what the run came to.
     Run(String),
+    /// The page on a refusal's number.
+    Page(String),
+    /// The frames of a capture as a script.
+    Script(String),
+    /// A text of help.
+    Help(String),
     /// The code isn't well formed.
     Fault(DecodeFault),
     /// The verifier doesn't admit the program.
@@ -39,6 +45,7 @@ impl Answer {
         match self {
             Answer::Accepted { .. } | Answer::Code(_) | Answer::Instructions(_) | Answer::Run(_) =>
                 0,
+            Answer::Page(_) | Answer::Script(_) | Answer::Help(_) => 0,
             Answer::Fault(_) | Answer::Refused(_) | Answer::LineFault(_) => 1,
         }
     }
@@ -51,6 +58,7 @@ impl Answer {
             Answer::Accepted { budget } => format!(in alloc; "accepted budget {budget}\n"),
             Answer::Code(code) => slot_lines(alloc, code.as_slice()),
             Answer::Instructions(text) | Answer::Run(text) => Ok(text),
+            Answer::Page(text) | Answer::Script(text) | Answer::Help(text) => Ok(text),
             Answer::Fault(fault) => format!(in alloc; "{fault}\n"),
             Answer::Refused(refusal) => format!(in alloc; "{refusal}\n"),
             Answer::LineFault(fault) => format!(in alloc; "{fault}\n"),

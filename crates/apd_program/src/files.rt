@@ -1,25 +1,34 @@
 //! Where the program reads its files.
 
-ghost use Rattle.std.specs.Prelude.{◌≡◌, ℕ, List, Some, None, IfOk, IfSome, IsErrOf};
+ghost use Rattle.std.specs.Prelude.{◌≡◌, ◌⊎◌, ℕ, List, Some, None, IfOk, IfErr, IfSome};
 ghost use Rattle.std.specs.declared.option.Option.{Option};
 
+use thiserror::Error;
+
 /// Why a file wasn't read.
-#[derive(Clone, Copy, Debug, PartialEq, Eq)]
+#[derive(Clone, Copy, Debug, PartialEq, Eq, Error)]
 pub enum FileFault {
-    /// There is no such file, or it can't be read.
+    #[error("there is no such file")]
     Missing,
-    /// Memory ran out.
+    #[error("it is a directory")]
+    Directory,
+    #[error("it is not allowed")]
+    NotAllowed,
+    /// The system gives another reason.
+    #[error("reading failed")]
+    Failed,
+    #[error("out of memory")]
     NoMemory,
 }
 
 /// Where the program reads its files.
 pub trait Files {
-    // What is known of the file at a path: nothing, or its bytes, or that there is none.
+    // What is known of the file at a path: nothing, or its bytes, or that there is none to be read.
     ghost held: { Self → List ℕ → Option (Option (List ℕ)) } = { λ _ _. None };
 
     /// The bytes of the file at the path. The files stay as they are.
     fn read(&mut self, path: &str) -> Result<Vec<u8>, FileFault>
         ensures ok { IfOk result (λ bytes. IfSome (held self.old path.now) (λ file. file ≡ Some bytes.items)) }
-        ensures missing { IsErrOf result FileFault.Missing → IfSome (held self.old path.now) (λ file. file ≡ None) }
+        ensures missing { IfErr result (λ e. (e ≡ FileFault.NoMemory) ⊎ IfSome (held self.old path.now) (λ file. file ≡ None)) }
         ensures same { held self.new ≡ held self.old };
 }

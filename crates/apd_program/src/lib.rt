@@ -8,8 +8,11 @@
 #![tactic(auto)]
 
 mod answer;
+mod explaining;
 mod fault;
 mod files;
+mod framing;
+mod helping;
 mod printing;
 mod program;
 mod reading;

@@ -5,13 +5,18 @@ ghost use Rattle.apd_program.specs.Printed.{Prints, PrintsText, fault_status};
 
 use crate::answer::Answer;
 use crate::fault::ProgramFault;
-use apd_output::write_whole;
-use std::alloc::Global;
-use std::io::Write;
+use apd_output::{Unwritten, write_whole};
+use std::alloc::{AllocError, Global};
+use std::io::{ErrorKind, Write};
 
 /// Prints an answer, and answers the program's status: the answer's where its whole text was
 /// written, 2 where a write failed, 3 where memory ran out before the first.
-pub(crate) fn print<W: Write>(alloc: Global, answer: Answer, out: &mut W) -> u8
+pub(crate) fn print<W: Write, E: Write>(
+    alloc: Global,
+    answer: Answer,
+    out: &mut W,
+    err: &mut E,
+) -> u8
     ensures is { Prints answer (W.contents out.old) (W.contents out.new) result }
 {
     let status = answer.status();
@@ -20,17 +25,44 @@ pub(crate) fn print<W: Write>(alloc: Global, answer: Answer, out: &mut W) -> u8
     };
     match write_whole(out, text.as_bytes()) {
         Ok(()) => status,
-        Err(_) => 2,
+        Err(Unwritten(why)) => unwritten(alloc, why, err),
     }
 }
 
 /// Prints a text that was asked for, as help, and answers the status 0, or 2 where a write failed.
-pub(crate) fn print_text<W: Write>(text: &str, out: &mut W) -> u8
+pub(crate) fn print_text<W: Write, E: Write>(
+    alloc: Global,
+    text: &str,
+    out: &mut W,
+    err: &mut E,
+) -> u8
     ensures is { PrintsText text.now (W.contents out.old) (W.contents out.new) result }
 {
     match write_whole(out, text.as_bytes()) {
         Ok(()) => 0,
-        Err(_) => 2,
+        Err(Unwritten(why)) => unwritten(alloc, why, err),
+    }
+}
+
+/// Tells why a write failed, and answers the status 2.
+fn unwritten<E: Write>(alloc: Global, why: ErrorKind, err: &mut E) -> u8
+    ensures is { result ≡ 2 }
+{
+    if let Ok(text) = format!(in alloc; "apd: cannot write: {why}\n") {
+        say(text.as_str(), err);
+    }
+    2
+}
+
+/// Writes a text, as far as it is taken.
+pub(crate) fn say<W: Write>(text: &str, writer: &mut W) {
+    let _ = write_whole(writer, text.as_bytes());
+}
+
+/// Writes a text if there is one.
+pub(crate) fn say_if_any<W: Write>(text: &Result<Option<String>, AllocError>, writer: &mut W) {
+    if let Ok(Some(text)) = text {
+        say(text.as_str(), writer);
     }
 }
 
@@ -40,7 +72,7 @@ pub(crate) fn complain<W: Write>(alloc: Global, fault: &ProgramFault, err: &mut 
     ensures is { result ≡ fault_status fault.now }
 {
     if let Ok(text) = format!(in alloc; "{fault}\n") {
-        let _ = write_whole(err, text.as_bytes());
+        say(text.as_str(), err);
     }
     match fault {
         ProgramFault::NoMemory => 3,

@@ -7,16 +7,16 @@ ghost use Rattle.apd_words.specs.Spells.{Spells};
 ghost use Rattle.apd_program.specs.Held.{Lacks};
 ghost use Rattle.apd_program.specs.Faults.{IsAtFault, HasNoFrame};
 ghost use Rattle.apd_program.specs.Verifying.{IsVerdict, IsBudget};
-ghost use Rattle.apd_program.specs.Texts.{IsAssembly, IsListing};
+ghost use Rattle.apd_program.specs.Texts.{IsAssembly, IsListingWith};
 ghost use Rattle.apd_program.specs.Answers.{IsOfCode, IsOfText, IsTraced, IsAnswer, HasNoAnswer};
 ghost use Rattle.apd_program.specs.Program.{Performs, Runs};
 
 use crate::answer::Answer;
 use crate::fault::ProgramFault;
 use crate::files::Files;
-use crate::printing::{complain, print, print_text};
+use crate::printing::{complain, print, print_text, say, say_if_any};
 use crate::reading::{code, frame, read, setup_of};
-use crate::{texts, verifying};
+use crate::{explaining, framing, helping, texts, verifying};
 use apd_words::{Request, Told, read_words};
 use bpf_regions::{Frame, Hook};
 use std::alloc::Global;
@@ -41,9 +41,9 @@ pub fn apd_main<'a, F: Files, O: Write, E: Write>(
 {
     match read_words(alloc, words) {
         Ok(request) => perform(alloc, request, files, out, err),
-        Err(Told::Help(text)) => print_text(text.as_str(), out),
+        Err(Told::Help(text)) => print_text(alloc, text.as_str(), out, err),
         Err(Told::Fault(text)) => {
-            print_text(text.as_str(), err);
+            say(text.as_str(), err);
             2
         }
         Err(Told::NoMemory) => complain(alloc, &ProgramFault::NoMemory, err),
@@ -60,7 +60,12 @@ fn perform<F: Files, O: Write, E: Write>(
     ensures is { Performs (F.held files.old) (asked_of request.entry) (O.contents out.old) (O.contents out.new) result }
 {
     match answer(alloc, request, files) {
-        Ok(answer) => print(alloc, answer, out),
+        Ok(answer) => {
+            let sentence = explaining::sentence(alloc, &answer);
+            let status = print(alloc, answer, out, err);
+            say_if_any(&sentence, err);
+            status
+        }
         Err(fault) => complain(alloc, &fault, err),
     }
 }
@@ -76,13 +81,20 @@ fn answer<F: Files>(
     match request {
         Request::Verify { hook, file, config } => verify(alloc, hook, file, config, files),
         Request::Assemble { file } => assemble(alloc, file, files),
-        Request::Disassemble { file, config } => disassemble(alloc, file, config, files),
+        Request::Disassemble {
+            file,
+            config,
+            slots,
+        } => disassemble(alloc, file, config, slots, files),
         Request::Trace {
             hook,
             file,
             frame,
             config,
         } => trace(alloc, hook, file, frame, config, files),
+        Request::Explain { number } => explaining::page(alloc, number),
+        Request::Frames { capture, ticks } => framing::frames(alloc, capture, ticks, files),
+        Request::Help { command } => helping::help(alloc, command),
         Request::Run { .. } => Err(ProgramFault::NotThere("run")),
         Request::Certify { .. } => Err(ProgramFault::NotThere("cert")),
         Request::Check { .. } => Err(ProgramFault::NotThere("check")),
@@ -119,14 +131,15 @@ fn disassemble<F: Files>(
     alloc: Global,
     file: &str,
     config: Option<&str>,
+    slots: bool,
     files: &mut F,
 ) -> Result<Answer, ProgramFault>
-    ensures listing { IfOk result (λ a. IsOfCode (λ setup. IsListing) (F.held files.old) file.now (option_map (λ path. path.now) config.entry) a) }
+    ensures listing { IfOk result (λ a. IsOfCode (λ setup. IsListingWith slots) (F.held files.old) file.now (option_map (λ path. path.now) config.entry) a) }
     ensures fault { IfErr result (λ e. (e ≡ ProgramFault.NoMemory) ⊎ IsAtFault (F.held files.old) file.now (option_map (λ path. path.now) config.entry)) }
 {
     let setup = setup_of(alloc, config, files)?;
     let code = code(alloc, file, files)?;
-    texts::disassemble(alloc, code.as_slice(), setup.shapes)
+    texts::disassemble(alloc, code.as_slice(), setup.shapes, slots)
 }
 
 /// The run of the code of a file on the frame that a word spells.

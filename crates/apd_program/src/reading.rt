@@ -5,7 +5,7 @@ ghost use Rattle.hex.specs.Hex.{decode_of};
 ghost use Rattle.apd_program.specs.Held.{Holds, Lacks, HoldsSetup, HoldsCode, Configures, code_of};
 ghost use Rattle.apd_program.specs.Faults.{HasBadCode, HasBadConfiguration, IsBadConfig, IsNoFrame};
 
-use crate::fault::{ProgramFault, of_configuration, of_digits};
+use crate::fault::{ProgramFault, of_code, of_configuration, of_digits, shown};
 use crate::files::{FileFault, Files};
 use apd_config::read_configuration;
 use bpf_regions::Shapes;
@@ -34,9 +34,9 @@ pub(crate) fn read<F: Files>(
     match files.read(path) {
         Ok(bytes) => Ok(bytes),
         Err(FileFault::NoMemory) => Err(ProgramFault::NoMemory),
-        Err(FileFault::Missing) => {
-            let path = String::from_str(alloc, path)?;
-            Err(ProgramFault::Unreadable(path))
+        Err(why) => {
+            let path = shown(alloc, path)?;
+            Err(ProgramFault::Unreadable { path, why })
         }
     }
 }
@@ -112,7 +112,7 @@ pub(crate) fn code<F: Files>(
     let text = read(alloc, path, files)?;
     match code_in(alloc, text.as_slice()) {
         Ok(code) => Ok(code),
-        Err(fault) => Err(of_digits(alloc, path, fault)),
+        Err(fault) => Err(of_code(alloc, path, text.as_slice(), fault)),
     }
 }
 

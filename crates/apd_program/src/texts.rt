@@ -2,10 +2,11 @@
 
 ghost use Rattle.std.specs.Prelude.{◌≡◌, ◌==◌, ◌<◌, ◌^◌, IfOk, IfErr, count_by};
 ghost use Rattle.apd_program.specs.Programs.{IsOfProgram};
-ghost use Rattle.apd_program.specs.Texts.{BreaksOff, IsAssembly, IsListing};
+ghost use Rattle.apd_program.specs.Texts.{BreaksOff, IsAssembly, IsListing, IsListingWith, IsSlotListing};
 
 use crate::answer::{Answer, undecoded};
 use crate::fault::ProgramFault;
+use apd_listing::listing_text;
 use bpf_decode::{Program, decode};
 use bpf_regions::Shapes;
 use bpf_text::AsmFault;
@@ -65,18 +66,39 @@ fn assembled(alloc: Global, text: &str) -> Result<Answer, ProgramFault>
     }
 }
 
-/// The text of the program that the code spells, for maps of these shapes.
+/// The text of the program that the code spells, for maps of these shapes, with slots or without.
 pub(crate) fn disassemble(
     alloc: Global,
     code: &[u8],
     shapes: Shapes,
+    slots: bool,
 ) -> Result<Answer, ProgramFault>
-    ensures listing { IfOk result (IsOfProgram IsListing code.now shapes) }
+    ensures listing { IfOk result (IsOfProgram (IsListingWith slots) code.now shapes) }
     ensures memory { IfErr result (λ e. e ≡ ProgramFault.NoMemory) }
 {
     match decode(alloc, code, shapes) {
-        Ok(program) => written(alloc, &program),
+        Ok(program) => written_with(alloc, &program, slots),
         Err(fault) => undecoded(fault),
+    }
+}
+
+fn written_with(alloc: Global, program: &Program, slots: bool) -> Result<Answer, ProgramFault>
+    ensures listing { IfOk result (IsListingWith slots program.now) }
+    ensures memory { IfErr result (λ e. e ≡ ProgramFault.NoMemory) }
+{
+    if slots {
+        return listed(alloc, program);
+    }
+    written(alloc, program)
+}
+
+fn listed(alloc: Global, program: &Program) -> Result<Answer, ProgramFault>
+    ensures listing { IfOk result (IsSlotListing program.now) }
+    ensures memory { IfErr result (λ e. e ≡ ProgramFault.NoMemory) }
+{
+    match listing_text(alloc, program) {
+        Ok(text) => Ok(Answer::Instructions(text)),
+        Err(_) => Err(ProgramFault::NoMemory),
     }
 }
 

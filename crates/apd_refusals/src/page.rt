@@ -1,8 +1,11 @@
 //! A page on one number.
 
-ghost use Rattle.std.specs.Prelude.{◌≡◌, IfSome};
+ghost use Rattle.std.specs.Prelude.{◌≡◌, IfOk, IfSome};
+ghost use Rattle.std.specs.String.{string_bytes};
+ghost use Rattle.apd_refusals.specs.Pages.{Begins, IsPageOf};
 
 use crate::{certificates, code, frames, live, text, verifier};
+use std::alloc::{AllocError, Global};
 use std::fmt;
 
 /// A program, small enough to be read at a glance.
@@ -56,6 +59,33 @@ pub fn explain(number: u8) -> Option<Explanation>
     None
 }
 
+/// The text of the page on a number, which begins with the number.
+fn text_on(alloc: Global, number: u8) -> Result<Option<String>, AllocError>
+    ensures begins { IfOk result (λ found. IfSome found (λ text. Begins number (string_bytes text))) }
+{
+    let Some(page) = explain(number) else {
+        return Ok(None);
+    };
+    let body = format!(in alloc; "{page}")?;
+    let text = format!(in alloc; "{}: {body}", page.number)?;
+    Ok(Some(text))
+}
+
+/// The text of the page on the number that a word spells, in decimal digits without zeros in
+/// front. None where no refusal has it.
+pub fn page_text(alloc: Global, word: &str) -> Result<Option<String>, AllocError>
+    ensures page { IfOk result (λ found. IfSome found (λ text. IsPageOf word.now (string_bytes text))) }
+{
+    let Ok(number) = word.parse::<u8>() else {
+        return Ok(None);
+    };
+    let digits = format!(in alloc; "{number}")?;
+    if digits.as_str() != word {
+        return Ok(None);
+    }
+    text_on(alloc, number)
+}
+
 impl fmt::Display for Example {
     fn fmt<W: fmt::Write>(&self, f: &mut fmt::Formatter<W>) -> fmt::Result {
         match self {
@@ -72,11 +102,7 @@ impl fmt::Display for Example {
 
 impl fmt::Display for Explanation {
     fn fmt<W: fmt::Write>(&self, f: &mut fmt::Formatter<W>) -> fmt::Result {
-        writeln!(
-            f,
-            "{}: {}\n\n{}\n\n{}\n",
-            self.number, self.title, self.meaning, self.habit
-        )?;
+        writeln!(f, "{}\n\n{}\n\n{}\n", self.title, self.meaning, self.habit)?;
         if let Some((refused, cured)) = &self.programs {
             writeln!(f, "Refused:\n\n{refused}\nAdmitted:\n\n{cured}")?;
         }

@@ -98,11 +98,11 @@ unfolding clap_on_literals
 disassemble_plain_takes p q program file f = rw (f.dashes, f.long, f.short) refl
 
 disassemble_plain_asks : (p q : ValueParser) (program file : Text) → IsPlain file
-    → asked_in (subcommand_of (command_line p q) (program ∷ codes "disasm" ∷ file ∷ [])) ≡ Some (Disassemble file None)
+    → asked_in (subcommand_of (command_line p q) (program ∷ codes "disasm" ∷ file ∷ [])) ≡ Some (Disassemble file None false)
 unfolding clap_on_literals
 disassemble_plain_asks p q program file f = rw (f.dashes, f.long, f.short) refl
 
-pub disassemble_plain : (program file : Text) → IsOperand file → Spells (program ∷ codes "disasm" ∷ file ∷ []) (Disassemble file None)
+pub disassemble_plain : (program file : Text) → IsOperand file → Spells (program ∷ codes "disasm" ∷ file ∷ []) (Disassemble file None false)
 disassemble_plain program file f p q t u = record { faultless = disassemble_plain_takes p q program file (plain file f); asked = disassemble_plain_asks p q program file (plain file f) }
 
 disassemble_configured_takes : (p q : ValueParser) (program file config : Text) → IsPlain file → IsPlain config
@@ -111,9 +111,9 @@ unfolding clap_on_literals
 disassemble_configured_takes p q program file config f c = rw (f.dashes, f.long, f.short, c.dashes, c.long, c.short) refl
 
 disassemble_configured_asks : (p q : ValueParser) (program file config : Text) → IsPlain file → IsPlain config
-    → asked_in (subcommand_of (command_line p q) (program ∷ codes "disasm" ∷ file ∷ codes "--config" ∷ config ∷ [])) ≡ Some (Disassemble file (Some config))
+    → asked_in (subcommand_of (command_line p q) (program ∷ codes "disasm" ∷ file ∷ codes "--config" ∷ config ∷ [])) ≡ Some (Disassemble file (Some config) false)
 unfolding clap_on_literals
 disassemble_configured_asks p q program file config f c = rw (f.dashes, f.long, f.short, c.dashes, c.long, c.short) refl
 
-pub disassemble_configured : (program file config : Text) → IsOperand file → IsOperand config → Spells (program ∷ codes "disasm" ∷ file ∷ codes "--config" ∷ config ∷ []) (Disassemble file (Some config))
+pub disassemble_configured : (program file config : Text) → IsOperand file → IsOperand config → Spells (program ∷ codes "disasm" ∷ file ∷ codes "--config" ∷ config ∷ []) (Disassemble file (Some config) false)
 disassemble_configured program file config f c p q t u = record { faultless = disassemble_configured_takes p q program file config (plain file f) (plain config c); asked = disassemble_configured_asks p q program file config (plain file f) (plain config c) }

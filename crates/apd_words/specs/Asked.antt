@@ -1,5 +1,6 @@
 -- What words ask for.
-use Rattle.std.specs.Prelude.{ℕ, ◌-◌, ◌&&◌, nat_le, List, [], ◌∷◌, codes, Option, Some, None, option_map, option_and_then, if◌then◌else◌}
+use Rattle.std.specs.Prelude.{ℕ, ◌-◌, ◌&&◌, Bool, true, false, not, nat_le, List, [], ◌∷◌, codes, Option, Some, None, option_map, option_and_then, if◌then◌else◌}
+use Rattle.std.specs.Option.{option_map_or}
 use Rattle.std.specs.Str.{bytes_eq}
 use Rattle.clap.specs.Words.{Row, Text, first_of}
 use Rattle.bpf_regions.specs.declared.hooks.Hook.{Hook}
@@ -11,20 +12,26 @@ use Rattle.apd_words.specs.declared.Request.TheVariants as request
 pub data Asked : Type 0 where
   Verify : Hook → Text → Option Text → Asked
   Assemble : Text → Asked
-  Disassemble : Text → Option Text → Asked
+  Disassemble : Text → Option Text → Bool → Asked
   Trace : Hook → Text → Text → Option Text → Asked
   Run : Text → Text → ℕ → Asked
   Certify : Hook → Text → Option Text → Asked
   Check : Hook → Text → Text → Option Text → Asked
+  Explain : Text → Asked
+  Frames : Text → Bool → Asked
+  Help : Option Text → Asked
 
 abbrev pub asked_of : Request → Asked
 asked_of (request.Verify hook file config) = Verify hook file.now (option_map (λ s. s.now) config)
 asked_of (request.Assemble file) = Assemble file.now
-asked_of (request.Disassemble file config) = Disassemble file.now (option_map (λ s. s.now) config)
+asked_of (request.Disassemble file config slots) = Disassemble file.now (option_map (λ s. s.now) config) slots
 asked_of (request.Trace hook file frame config) = Trace hook file.now frame.now (option_map (λ s. s.now) config)
 asked_of (request.Run config script workers) = Run config.now script.now workers
 asked_of (request.Certify hook file config) = Certify hook file.now (option_map (λ s. s.now) config)
 asked_of (request.Check hook file certificate config) = Check hook file.now certificate.now (option_map (λ s. s.now) config)
+asked_of (request.Explain number) = Explain number.now
+asked_of (request.Frames capture ticks) = Frames capture.now ticks
+asked_of (request.Help command) = Help (option_map (λ s. s.now) command)
 
 infixl 10 ◌>>=◌
 abbrev pub ◌>>=◌ : {A B : Type 0} → Option A → (A → Option B) → Option B
@@ -43,6 +50,10 @@ workers_named _ = None
 
 -- ---- what the arguments of a command ask for; `first_of id rows` is the value of an argument
 
+-- a flag that was given has the value `true`, else `false`
+abbrev pub is_set : Text → List Row → Bool
+is_set flag rows = option_map_or (λ text. bytes_eq text (codes "true")) (first_of flag rows) false
+
 abbrev pub hook_at : List Row → Option Hook
 hook_at rows = option_and_then hook_named (first_of (codes "HOOK") rows)
 
@@ -60,7 +71,7 @@ assemble_of rows = do
 abbrev pub disassemble_of : List Row → Option Asked
 disassemble_of rows = do
   file ← first_of (codes "FILE") rows
-  Some (Disassemble file (first_of (codes "config") rows))
+  Some (Disassemble file (first_of (codes "config") rows) (is_set (codes "slots") rows))
 
 abbrev pub trace_of : List Row → Option Asked
 trace_of rows = do
@@ -89,6 +100,19 @@ check_of rows = do
   certificate ← first_of (codes "CERT") rows
   Some (Check hook file certificate (first_of (codes "config") rows))
 
+abbrev pub explain_of : List Row → Option Asked
+explain_of rows = do
+  number ← first_of (codes "NUMBER") rows
+  Some (Explain number)
+
+abbrev pub frames_of : List Row → Option Asked
+frames_of rows = do
+  capture ← first_of (codes "CAPTURE") rows
+  Some (Frames capture (not (is_set (codes "no-ticks") rows)))
+
+abbrev pub help_of : List Row → Option Asked
+help_of rows = Some (Help (first_of (codes "COMMAND") rows))
+
 -- what a command with these arguments asks for
 abbrev pub command_asks : Text → List Row → Option Asked
 command_asks name rows =
@@ -98,7 +122,10 @@ command_asks name rows =
     else (if bytes_eq name (codes "trace") then trace_of rows
     else (if bytes_eq name (codes "run") then run_of rows
     else (if bytes_eq name (codes "cert") then certify_of rows
-    else (if bytes_eq name (codes "check") then check_of rows else None)))))))
+    else (if bytes_eq name (codes "check") then check_of rows
+    else (if bytes_eq name (codes "explain") then explain_of rows
+    else (if bytes_eq name (codes "frames") then frames_of rows
+    else (if bytes_eq name (codes "help") then help_of rows else None))))))))))
 
 abbrev pub asked_in : Option (Text × List Row) → Option Asked
 asked_in = option_and_then (λ c. command_asks c.0 c.1)

@@ -3,7 +3,7 @@ use Rattle.std.specs.Prelude.{◌≡◌, true, List, [], ◌∷◌, map, codes, 
 use Rattle.std.specs.Borrow.{Bor}
 use Rattle.clap.specs.Words.{App, Rule, Shape, Text, new_rule, with_subcommand}
 use Rattle.clap.specs.Simple.{new_shape}
-use Rattle.clap.specs.declared.builder.action.ArgAction.TheVariants.{Set}
+use Rattle.clap.specs.declared.builder.action.ArgAction.TheVariants.{Set, SetTrue}
 use Rattle.clap.specs.declared.builder.value_parser.ValueParser.{ValueParser}
 use Rattle.clap.specs.declared.builder.value_parser.ValueParser.TheVariants.{Names}
 
@@ -22,6 +22,14 @@ pub record TakesNames (parser : ValueParser) (names : List Text) : Type 0 where
 -- an argument that has to be there, and is known by its place
 abbrev pub required : Text → Rule
 required id = record (new_rule id) { required = true }
+
+-- an argument that may be left out, and is known by its place
+abbrev pub optional : Text → Rule
+optional id = new_rule id
+
+-- `--NAME`
+abbrev pub flag : Text → Rule
+flag name = record (new_rule name) { long = Some name; action = Some SetTrue }
 
 -- `--NAME VALUE`
 abbrev pub option : Text → Rule
@@ -53,7 +61,7 @@ abbrev pub assemble : Shape
 assemble = command (codes "asm") (file ∷ [])
 
 abbrev pub disassemble : Shape
-disassemble = command (codes "disasm") (file ∷ config ∷ [])
+disassemble = command (codes "disasm") (file ∷ config ∷ flag (codes "slots") ∷ [])
 
 abbrev pub trace : ValueParser → Shape
 trace hooks = hook_command (codes "trace") hooks (required (codes "FRAME") ∷ config ∷ [])
@@ -66,6 +74,15 @@ certify hooks = hook_command (codes "cert") hooks (config ∷ [])
 
 abbrev pub check : ValueParser → Shape
 check hooks = hook_command (codes "check") hooks (required (codes "CERT") ∷ config ∷ [])
+
+abbrev pub explain : Shape
+explain = command (codes "explain") (required (codes "NUMBER") ∷ [])
+
+abbrev pub frames : Shape
+frames = command (codes "frames") (required (codes "CAPTURE") ∷ flag (codes "no-ticks") ∷ [])
+
+abbrev pub help : Shape
+help = command (codes "help") (optional (codes "COMMAND") ∷ [])
 
 -- the program without its commands: one has to be given
 abbrev pub program : App
@@ -88,7 +105,10 @@ with_run_commands hooks numbers a = with_subcommand (with_subcommand a (trace ho
 abbrev pub with_certificate_commands : ValueParser → App → App
 with_certificate_commands hooks a = with_subcommand (with_subcommand a (certify hooks)) (check hooks)
 
+abbrev pub with_reading_commands : App → App
+with_reading_commands a = with_subcommand (with_subcommand (with_subcommand a explain) frames) help
+
 -- the whole command line, by what reads a hook and a number of workers
 abbrev pub command_line : ValueParser → ValueParser → App
 command_line hooks numbers =
-    with_certificate_commands hooks (with_run_commands hooks numbers (with_code_commands hooks program))
+    with_reading_commands (with_certificate_commands hooks (with_run_commands hooks numbers (with_code_commands hooks program)))

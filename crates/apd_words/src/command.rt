@@ -1,11 +1,11 @@
 //! The commands of `apd`, with their arguments and help.
 
-ghost use Rattle.std.specs.Prelude.{◌≡◌, false, IfOk, []};
+ghost use Rattle.std.specs.Prelude.{◌≡◌, ◌∷◌, false, IfOk, []};
 ghost use Rattle.clap.specs.Words.{app_of, rule_of};
 ghost use Rattle.clap.specs.declared.builder.command.Command.TheViews.{out-Command as fields_of};
 ghost use Rattle.clap.specs.Simple.{shape_of};
 ghost use Rattle.clap.specs.declared.builder.value_parser.ValueParser.TheVariants.{Names};
-ghost use Rattle.apd_words.specs.CommandLine.{command_line, program, with_code_commands, with_run_commands, with_certificate_commands, hook_command, required, hook, file, config, workers, verify, assemble, disassemble, trace, run, certify, check};
+ghost use Rattle.apd_words.specs.CommandLine.{command_line, program, with_code_commands, with_run_commands, with_certificate_commands, with_reading_commands, hook_command, command, required, optional, flag, hook, file, config, workers, verify, assemble, disassemble, trace, run, certify, check, explain, frames, help};
 
 use clap::{Arg, ArgAction, Command};
 use std::alloc::{AllocError, Global};
@@ -34,7 +34,8 @@ pub(crate) fn command_line<'a>(
 {
     let command = with_code_commands(alloc, program(alloc), hooks)?;
     let command = with_run_commands(alloc, command, hooks, numbers)?;
-    with_certificate_commands(alloc, command, hooks)
+    let command = with_certificate_commands(alloc, command, hooks)?;
+    with_reading_commands(alloc, command)
 }
 
 /// The program without its commands.
@@ -88,10 +89,21 @@ fn with_certificate_commands<'a>(
 ) -> Result<Command<'a>, AllocError>
     requires local { (fields_of command).has_globals ≡ false }
     ensures is { IfOk result (λ c. app_of c ≡ with_certificate_commands (Names hooks.entry) (app_of command.entry)) }
+    ensures local { IfOk result (λ c. (fields_of c).has_globals ≡ false) }
 {
     command
         .subcommand(certify(alloc, hooks)?)?
         .subcommand(check(alloc, hooks)?)
+}
+
+fn with_reading_commands<'a>(alloc: Global, command: Command<'a>) -> Result<Command<'a>, AllocError>
+    requires local { (fields_of command).has_globals ≡ false }
+    ensures is { IfOk result (λ c. app_of c ≡ with_reading_commands (app_of command.entry)) }
+{
+    command
+        .subcommand(explain(alloc)?)?
+        .subcommand(frames(alloc)?)?
+        .subcommand(help(alloc)?)
 }
 
 /// A command on code for a hook.
@@ -126,14 +138,23 @@ fn assemble<'a>(alloc: Global) -> Result<Command<'a>, AllocError>
         .arg(required(alloc, "FILE").help("Assembler text"))
 }
 
+/// A command on code for maps.
+fn code_command<'a>(alloc: Global, name: &'a str) -> Result<Command<'a>, AllocError>
+    ensures is { IfOk result (λ c. shape_of c ≡ command name.entry.now (file ∷ config ∷ [])) }
+    ensures local { IfOk result (λ c. (fields_of c).has_globals ≡ false) }
+{
+    Command::new(alloc, name)
+        .arg(code(alloc))?
+        .arg(config(alloc))
+}
+
 fn disassemble<'a>(alloc: Global) -> Result<Command<'a>, AllocError>
     ensures is { IfOk result (λ c. shape_of c ≡ disassemble) }
     ensures local { IfOk result (λ c. (fields_of c).has_globals ≡ false) }
 {
-    Command::new(alloc, "disasm")
+    code_command(alloc, "disasm")?
         .about("Print a program's instructions, one a line")
-        .arg(code(alloc))?
-        .arg(config(alloc))
+        .arg(flag(alloc, "slots").help("Print each line's slot before it, and mark jump targets"))
 }
 
 fn trace<'a>(alloc: Global, hooks: &'a [&'a str]) -> Result<Command<'a>, AllocError>
@@ -176,11 +197,55 @@ fn check<'a>(alloc: Global, hooks: &'a [&'a str]) -> Result<Command<'a>, AllocEr
         .arg(config(alloc))
 }
 
+fn explain<'a>(alloc: Global) -> Result<Command<'a>, AllocError>
+    ensures is { IfOk result (λ c. shape_of c ≡ explain) }
+    ensures local { IfOk result (λ c. (fields_of c).has_globals ≡ false) }
+{
+    Command::new(alloc, "explain")
+        .about("Explain the number of a refusal")
+        .arg(required(alloc, "NUMBER").help("The number, as `fault N` or `refused N` names it"))
+}
+
+fn frames<'a>(alloc: Global) -> Result<Command<'a>, AllocError>
+    ensures is { IfOk result (λ c. shape_of c ≡ frames) }
+    ensures local { IfOk result (λ c. (fields_of c).has_globals ≡ false) }
+{
+    Command::new(alloc, "frames")
+        .about("Print a capture's frames as a script for `apd run`")
+        .arg(required(alloc, "CAPTURE").help("A capture of 802.11 frames"))?
+        .arg(flag(alloc, "no-ticks").help("Leave out the time between frames"))
+}
+
+fn help<'a>(alloc: Global) -> Result<Command<'a>, AllocError>
+    ensures is { IfOk result (λ c. shape_of c ≡ help) }
+    ensures local { IfOk result (λ c. (fields_of c).has_globals ≡ false) }
+{
+    Command::new(alloc, "help")
+        .about("Print this help, or that of a command")
+        .arg(optional(alloc, "COMMAND").help("The command"))
+}
+
 fn required<'a>(alloc: Global, name: &'a str) -> Arg<'a>
     ensures is { rule_of result ≡ required name.entry.now }
     ensures local { result.global ≡ false }
 {
     Arg::new(alloc, name).required(true)
+}
+
+/// An argument that may be left out, and is known by its place.
+fn optional<'a>(alloc: Global, name: &'a str) -> Arg<'a>
+    ensures is { rule_of result ≡ optional name.entry.now }
+    ensures local { result.global ≡ false }
+{
+    Arg::new(alloc, name)
+}
+
+/// `--NAME`
+fn flag<'a>(alloc: Global, name: &'a str) -> Arg<'a>
+    ensures is { rule_of result ≡ flag name.entry.now }
+    ensures local { result.global ≡ false }
+{
+    Arg::new(alloc, name).long(name).action(ArgAction::SetTrue)
 }
 
 fn hook<'a>(alloc: Global, hooks: &'a [&'a str]) -> Arg<'a>

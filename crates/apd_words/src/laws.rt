@@ -1,6 +1,6 @@
 //! What words in their usual order ask for.
 
-ghost use Rattle.std.specs.Prelude.{◌∷◌, [], Some, None, List, ℕ, codes};
+ghost use Rattle.std.specs.Prelude.{◌∷◌, [], Some, None, List, ℕ, codes, false};
 ghost use Rattle.bpf_regions.specs.Hooks.{name_of};
 ghost use Rattle.bpf_regions.specs.declared.hooks.Hook.{Hook};
 ghost use Rattle.apd_words.specs.Asked.{Verify, Assemble, Disassemble};
@@ -26,7 +26,7 @@ pub fn assemble_law()
 /// or C begins with a hyphen.
 pub fn disassemble_law()
     ensures plain { (program file : List ℕ) → IsOperand file
-        → Spells (program ∷ codes "disasm" ∷ file ∷ []) (Disassemble file None) }
+        → Spells (program ∷ codes "disasm" ∷ file ∷ []) (Disassemble file None false) }
     ensures configured { (program file config : List ℕ) → IsOperand file → IsOperand config
-        → Spells (program ∷ codes "disasm" ∷ file ∷ codes "--config" ∷ config ∷ []) (Disassemble file (Some config)) }
+        → Spells (program ∷ codes "disasm" ∷ file ∷ codes "--config" ∷ config ∷ []) (Disassemble file (Some config) false) }
 {}

@@ -32,6 +32,7 @@ pub enum Request<'a> {
     Disassemble {
         file: &'a str,
         config: Option<&'a str>,
+        slots: bool,
     },
     Trace {
         hook: Hook,
@@ -55,6 +56,18 @@ pub enum Request<'a> {
         file: &'a str,
         certificate: &'a str,
         config: Option<&'a str>,
+    },
+    /// The number is as it was written.
+    Explain {
+        number: &'a str,
+    },
+    Frames {
+        capture: &'a str,
+        ticks: bool,
+    },
+    /// Without a command that of the program is asked for.
+    Help {
+        command: Option<&'a str>,
     },
 }
 

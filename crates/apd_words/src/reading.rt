@@ -4,7 +4,7 @@ ghost use Rattle.std.specs.Prelude.{◌≡◌, ◌≤◌, IfSome, option_map};
 ghost use Rattle.clap.specs.Matches.{found_of};
 ghost use Rattle.clap.specs.Simple.{subcommand_rows_of};
 ghost use Rattle.clap.specs.Walk.{first_of, rows_of};
-ghost use Rattle.apd_words.specs.Asked.{asked_of, asked_in, hook_named, hook_at, workers_named, verify_of, assemble_of, disassemble_of, trace_of, run_of, certify_of, check_of};
+ghost use Rattle.apd_words.specs.Asked.{asked_of, asked_in, hook_named, hook_at, workers_named, verify_of, assemble_of, disassemble_of, trace_of, run_of, certify_of, check_of, explain_of, frames_of, help_of, is_set};
 
 use crate::Request;
 use bpf_regions::Hook;
@@ -23,6 +23,9 @@ pub(crate) fn request<'a>(matches: &ArgMatches<'a>) -> Option<Request<'a>>
         "run" => run(matches),
         "cert" => certify(matches),
         "check" => check(matches),
+        "explain" => explain(matches),
+        "frames" => frames(matches),
+        "help" => help(matches),
         _ => None,
     }
 }
@@ -48,7 +51,12 @@ fn disassemble<'a>(matches: &ArgMatches<'a>) -> Option<Request<'a>>
 {
     let file = value(matches, "FILE")?;
     let config = value(matches, "config");
-    Some(Request::Disassemble { file, config })
+    let slots = flag(matches, "slots");
+    Some(Request::Disassemble {
+        file,
+        config,
+        slots,
+    })
 }
 
 fn trace<'a>(matches: &ArgMatches<'a>) -> Option<Request<'a>>
@@ -101,6 +109,38 @@ fn check<'a>(matches: &ArgMatches<'a>) -> Option<Request<'a>>
         certificate,
         config,
     })
+}
+
+fn explain<'a>(matches: &ArgMatches<'a>) -> Option<Request<'a>>
+    ensures is { option_map asked_of result ≡ explain_of (rows_of (found_of matches.now)) }
+{
+    let number = value(matches, "NUMBER")?;
+    Some(Request::Explain { number })
+}
+
+fn frames<'a>(matches: &ArgMatches<'a>) -> Option<Request<'a>>
+    ensures is { option_map asked_of result ≡ frames_of (rows_of (found_of matches.now)) }
+{
+    let capture = value(matches, "CAPTURE")?;
+    let ticks = !flag(matches, "no-ticks");
+    Some(Request::Frames { capture, ticks })
+}
+
+fn help<'a>(matches: &ArgMatches<'a>) -> Option<Request<'a>>
+    ensures is { option_map asked_of result ≡ help_of (rows_of (found_of matches.now)) }
+{
+    let command = value(matches, "COMMAND");
+    Some(Request::Help { command })
+}
+
+/// Whether a flag was given.
+fn flag(matches: &ArgMatches<'_>, name: &str) -> bool
+    ensures is { result ≡ is_set name.now (rows_of (found_of matches.now)) }
+{
+    match value(matches, name) {
+        Some(text) => text == "true",
+        None => false,
+    }
 }
 
 /// The value of an argument.

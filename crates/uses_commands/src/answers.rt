@@ -92,22 +92,25 @@ fn shows<'a>(rt: &impl Abort, alloc: Global, words: &'a [&'a str], want: (u8, &s
     );
 }
 
-fn judges(rt: &impl Abort, alloc: Global, file: &str, want: (u8, &str)) {
-    shows(
-        rt,
-        alloc,
-        &["apd", "verify", "data", file],
-        (want.0, want.1, ""),
-    );
+fn judges(rt: &impl Abort, alloc: Global, file: &str, want: (u8, &str, &str)) {
+    shows(rt, alloc, &["apd", "verify", "data", file], want);
 }
+
+const CUT: &str = "apd: slot 0: the code is cut within a slot; `apd explain 1` tells more\n";
+
+const EMPTY: &str = "apd: slot 0: there is no code; `apd explain 2` tells more\n";
+
+const NO_MAP: &str = "apd: slot 0: no such map; `apd explain 19` tells more\n";
+
+const UNSET: &str = "apd: slot 0: something unset is read; `apd explain 30` tells more\n";
 
 #[test]
 fn answers_with_the_verdict_on_code(rt: HostRuntime) {
     let alloc = rt.alloc();
-    judges(&rt, alloc, "one.hex", (0, "accepted budget 2\n"));
-    judges(&rt, alloc, "empty.hex", (1, "fault 2 at 0\n"));
-    judges(&rt, alloc, "seven.hex", (1, "fault 1 at 0\n"));
-    judges(&rt, alloc, "exit.hex", (1, "refused 30 at 0\n"));
+    judges(&rt, alloc, "one.hex", (0, "accepted budget 2\n", ""));
+    judges(&rt, alloc, "empty.hex", (1, "fault 2 at 0\n", EMPTY));
+    judges(&rt, alloc, "seven.hex", (1, "fault 1 at 0\n", CUT));
+    judges(&rt, alloc, "exit.hex", (1, "refused 30 at 0\n", UNSET));
 }
 
 #[test]
@@ -128,27 +131,40 @@ fn refuses_code_of_16385_slots(rt: HostRuntime) -> Result<(), Fail> {
         &mut out,
         &mut err,
     );
-    assert!(rt; status == 1 && out.as_slice() == b"fault 3 at 0\n".as_slice() && err.is_empty());
+    assert!(rt; status == 1 && out.as_slice() == b"fault 3 at 0\n".as_slice());
+    assert!(rt; err.starts_with(b"apd: slot 0: the code is too long; ".as_slice()));
     Ok(())
 }
 
 #[test]
 fn knows_the_maps_of_the_configuration(rt: HostRuntime) {
     let alloc = rt.alloc();
-    judges(&rt, alloc, "map.hex", (1, "fault 19 at 0\n"));
+    judges(&rt, alloc, "map.hex", (1, "fault 19 at 0\n", NO_MAP));
     let mut out = Vec::new(alloc);
     let mut err = Vec::new(alloc);
     let words = ["apd", "verify", "addba", "map.hex", "--config", "maps.toml"];
     let files = &mut Folder(FILES.as_slice(), alloc);
     let _ = apd_main(alloc, &words, files, &mut out, &mut err);
-    assert!(rt; !out.starts_with(b"fault ".as_slice()) && err.is_empty());
+    assert!(rt; !out.starts_with(b"fault ".as_slice()));
 }
 
 /// Words with a fault, and what is written of it.
-const AT_FAULT: [(&[&str], &str); 11] = [
+const AT_FAULT: [(&[&str], &str); 14] = [
     (
         &["apd", "verify", "data", "bad.hex"],
-        "apd: bad.hex: not hex digits\n",
+        "apd: bad.hex: line 1: `x` is no hex digit (`apd asm` takes assembler text)\n",
+    ),
+    (
+        &["apd", "explain", "4"],
+        "apd: no refusal has the number `4`\n",
+    ),
+    (
+        &["apd", "explain", "+32\u{1b}"],
+        "apd: no refusal has the number `+32\\u{1b}`\n",
+    ),
+    (
+        &["apd", "help", "load"],
+        "apd: there is no command `load`; `apd help` lists them\n",
     ),
     (
         &["apd", "verify", "data", "odd.hex"],
@@ -156,7 +172,7 @@ const AT_FAULT: [(&[&str], &str); 11] = [
     ),
     (
         &["apd", "verify", "data", "none.hex"],
-        "apd: cannot read none.hex\n",
+        "apd: cannot read none.hex: there is no such file\n",
     ),
     // The configuration is read first.
     (
@@ -165,16 +181,16 @@ const AT_FAULT: [(&[&str], &str); 11] = [
     ),
     (
         &["apd", "verify", "data", "none.hex", "--config", "none.toml"],
-        "apd: cannot read none.toml\n",
+        "apd: cannot read none.toml: there is no such file\n",
     ),
     (
         &["apd", "verify", "data", "none.hex", "--config", "maps.toml"],
-        "apd: cannot read none.hex\n",
+        "apd: cannot read none.hex: there is no such file\n",
     ),
     // The file is read before the frame, and the frame before the file's code is decoded.
     (
         &["apd", "trace", "data", "none.hex", "zz"],
-        "apd: cannot read none.hex\n",
+        "apd: cannot read none.hex: there is no such file\n",
     ),
     (
         &["apd", "trace", "data", "seven.hex", "zz"],
@@ -216,6 +232,7 @@ Options:
   -h, --help  Print help
 ";
     shows(&rt, alloc, &["apd", "asm", "--help"], (0, help, ""));
+    shows(&rt, alloc, &["apd", "help", "asm"], (0, help, ""));
 }
 
 #[test]
@@ -249,7 +266,54 @@ fn leaves_a_beginning_where_a_write_fails(rt: HostRuntime) {
             "room {room}"
         );
         assert!(rt; line.starts_with(out.taken.as_slice()) && out.taken.len() == room.min(18));
+        let why: &[u8] = if room < line.len() {
+            b"apd: cannot write: no storage space\n"
+        } else {
+            b""
+        };
+        assert!(rt; err.as_slice() == why, "room {room}");
     }
+}
+
+#[test]
+fn explains_a_number(rt: HostRuntime) {
+    let page = "38: the verdict is no number
+
+";
+    let mut out = Vec::new(rt.alloc());
+    let mut err = Vec::new(rt.alloc());
+    let words = ["apd", "explain", "38"];
+    let status = apd_main(rt.alloc(), &words, &mut NoRoom, &mut out, &mut err);
+    assert!(rt; status == 0 && out.starts_with(page.as_bytes()) && err.is_empty());
+}
+
+/// A capture: microseconds, plain frames, lowest byte first; its second packet is cut.
+const CAPTURE: &[u8] =
+    b"\xd4\xc3\xb2\xa1\x02\x00\x04\x00\x00\x00\x00\x00\x00\x00\x00\x00\xff\xff\x00\x00\x69\x00\x00\x00\
+\x01\x00\x00\x00\x00\x00\x00\x00\x02\x00\x00\x00\x02\x00\x00\x00\xb0\x00\
+\x01\x00\x00\x00\x00\x04\x00\x00\x01\x00\x00\x00\x02\x00\x00\x00\xb0\
+\x01\x00\x00\x00\xff\x0b\x00\x00\x01\x00\x00\x00\x01\x00\x00\x00\xc0";
+
+#[test]
+fn makes_a_script_of_a_capture(rt: HostRuntime) {
+    let script =
+        "frame b000\ntick 1\n# packet 2 is left out: it was cut when it was captured\ntick 1\nframe c0\n";
+    answers(
+        &rt,
+        rt.alloc(),
+        &["apd", "frames", "file"],
+        CAPTURE,
+        (0, script),
+    );
+    let untimed = "frame b000\n# packet 2 is left out: it was cut when it was captured\nframe c0\n";
+    let words = ["apd", "frames", "file", "--no-ticks"];
+    answers(&rt, rt.alloc(), &words, CAPTURE, (0, untimed));
+    shows(
+        &rt,
+        rt.alloc(),
+        &["apd", "frames", "one.hex"],
+        (2, "", "apd: one.hex: not a capture file\n"),
+    );
 }
 
 #[test]
@@ -310,7 +374,14 @@ fn answers<'a>(
         out.as_slice() == want.1.as_bytes(),
         "out {out:?} {words:?} {file:?}"
     );
-    assert!(rt; err.is_empty());
+    assert!(rt; err.is_empty() == (status == 0));
+}
+
+#[test]
+fn lists_slots_and_marks_targets(rt: HostRuntime) {
+    let listing = "> 0 mov r0, 7\n  1 jeq r0, 7, +1\n  2 mov r0, 5\n> 3 exit\n";
+    let words = ["apd", "disasm", "--slots", "jump.hex"];
+    shows(&rt, rt.alloc(), &words, (0, listing, ""));
 }
 
 #[test]
@@ -326,7 +397,7 @@ fn frame_test_in_text_and_in_slots(rt: HostRuntime) {
         &rt,
         alloc,
         &["apd", "disasm", "map.hex"],
-        (1, "fault 19 at 0\n", ""),
+        (1, "fault 19 at 0\n", NO_MAP),
     );
     let text = "lddw r1, map 0\nmov r0, 0\nexit\n";
     let words = ["apd", "disasm", "map.hex", "--config", "maps.toml"];
@@ -360,7 +431,7 @@ fn the_first_faulty_line_of_a_text(rt: HostRuntime) {
         &rt,
         alloc,
         &["apd", "asm", "none"],
-        (2, "", "apd: cannot read none\n"),
+        (2, "", "apd: cannot read none: there is no such file\n"),
     );
 }
 
@@ -371,11 +442,11 @@ const NOTES: &str =
 #[test]
 fn traces_each_step_of_an_admitted_program(rt: HostRuntime) {
     let alloc = rt.alloc();
-    let cases: [(&[&str], (u8, &str)); 6] = [
-        (&["apd", "trace", "data", "notes.hex", ""], (0, NOTES)),
+    let cases: [(&[&str], (u8, &str, &str)); 6] = [
+        (&["apd", "trace", "data", "notes.hex", ""], (0, NOTES, "")),
         (
             &["apd", "trace", "data", "one.hex", ""],
-            (0, "0 mov r0, 1\n1 exit\nr0 1 steps 2\n"),
+            (0, "0 mov r0, 1\n1 exit\nr0 1 steps 2\n", ""),
         ),
         (
             &[
@@ -387,23 +458,27 @@ fn traces_each_step_of_an_admitted_program(rt: HostRuntime) {
                 "--config",
                 "maps.toml",
             ],
-            (0, "0 mov r0, 1\n1 exit\nr0 1 steps 2\n"),
+            (0, "0 mov r0, 1\n1 exit\nr0 1 steps 2\n", ""),
         ),
         (
             &["apd", "trace", "addba", "jump.hex", "00"],
-            (0, "0 mov r0, 7\n1 jeq r0, 7, +1\n3 exit\nr0 7 steps 3\n"),
+            (
+                0,
+                "0 mov r0, 7\n1 jeq r0, 7, +1\n3 exit\nr0 7 steps 3\n",
+                "",
+            ),
         ),
         (
             &["apd", "trace", "data", "seven.hex", ""],
-            (1, "fault 1 at 0\n"),
+            (1, "fault 1 at 0\n", CUT),
         ),
         (
             &["apd", "trace", "data", "exit.hex", ""],
-            (1, "refused 30 at 0\n"),
+            (1, "refused 30 at 0\n", UNSET),
         ),
     ];
-    for (words, (status, out)) in cases {
-        shows(&rt, alloc, words, (status, out, ""));
+    for (words, want) in cases {
+        shows(&rt, alloc, words, want);
     }
 }
 

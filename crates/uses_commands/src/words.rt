@@ -6,7 +6,7 @@ use std::process::Abort;
 use std::test::Fail;
 
 /// Words, and what they ask for.
-const ASKED: [(&[&str], Request<'static>); 7] = [
+const ASKED: [(&[&str], Request<'static>); 12] = [
     (
         &["apd", "verify", "data", "a.hex", "--config", "c.toml"],
         Request::Verify {
@@ -32,6 +32,36 @@ const ASKED: [(&[&str], Request<'static>); 7] = [
         Request::Disassemble {
             file: "a.hex",
             config: Some("c.toml"),
+            slots: false,
+        },
+    ),
+    (
+        &["apd", "disasm", "--slots", "a.hex"],
+        Request::Disassemble {
+            file: "a.hex",
+            config: None,
+            slots: true,
+        },
+    ),
+    (&["apd", "explain", "32"], Request::Explain { number: "32" }),
+    (
+        &["apd", "frames", "a.pcap"],
+        Request::Frames {
+            capture: "a.pcap",
+            ticks: true,
+        },
+    ),
+    (
+        &["apd", "frames", "a.pcap", "--no-ticks"],
+        Request::Frames {
+            capture: "a.pcap",
+            ticks: false,
+        },
+    ),
+    (
+        &["apd", "help", "asm"],
+        Request::Help {
+            command: Some("asm"),
         },
     ),
     (
@@ -122,6 +152,7 @@ Arguments:
 
 Options:
       --config <C>  The configuration: shapes of maps, first draw word
+      --slots       Print each line's slot before it, and mark jump targets
   -h, --help        Print help
 ";
     for word in ["--help", "-h"] {
@@ -139,13 +170,16 @@ fn lists_the_commands(rt: HostRuntime) {
 Usage: apd <COMMAND>
 
 Commands:
-  verify  Verify a program for a hook and print its budget
-  asm     Assemble a text and print its code, one slot a line
-  disasm  Print a program's instructions, one a line
-  trace   Verify a program, run it on a frame and print each step
-  run     Run a script of frames and commands on an access point
-  cert    Verify a program and print its certificate in hex
-  check   Check a program's certificate and print the budget
+  verify   Verify a program for a hook and print its budget
+  asm      Assemble a text and print its code, one slot a line
+  disasm   Print a program's instructions, one a line
+  trace    Verify a program, run it on a frame and print each step
+  run      Run a script of frames and commands on an access point
+  cert     Verify a program and print its certificate in hex
+  check    Check a program's certificate and print the budget
+  explain  Explain the number of a refusal
+  frames   Print a capture's frames as a script for `apd run`
+  help     Print this help, or that of a command
 
 Options:
   -h, --help     Print help
@@ -201,7 +235,7 @@ For more information, try '--help'.
 ];
 
 /// Words with a fault of some text.
-const FAULTY: [&[&str]; 9] = [
+const FAULTY: [&[&str]; 10] = [
     &[
         "apd", "verify", "data", "a", "--config", "c", "--config", "d",
     ],
@@ -210,7 +244,8 @@ const FAULTY: [&[&str]; 9] = [
     &["apd", "verify", "data", "a", "--config"],
     &["apd", "asm", "a", "--config", "c"],
     &["apd", "run", "c", "s", "--config", "c"],
-    &["apd", "help"],
+    &["apd", "explain"],
+    &["apd", "help", "asm", "disasm"],
     &["apd", "load"],
     &[],
 ];

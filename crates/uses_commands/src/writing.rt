@@ -44,7 +44,11 @@ fn takes_all_or_a_beginning(rt: HostRuntime) -> Result<(), Fail> {
             interrupts: 2,
         };
         let answer = write_whole(&mut writer, text);
-        let want = if room < 18 { Err(Unwritten) } else { Ok(()) };
+        let want = if room < 18 {
+            Err(Unwritten(ErrorKind::StorageFull))
+        } else {
+            Ok(())
+        };
         assert!(rt; answer == want, "room {room}");
         assert!(rt; text.starts_with(writer.taken.as_slice()), "room {room}");
         assert!(rt; writer.taken.len() == room.min(18), "room {room}");

@@ -15,4 +15,4 @@ returns-in-Ok-write_whole g c =
 pub returns : goal.returns
 returns g c =
     let text : c.as_bytes.result.now ≡ printed c.args.answer = c.as_bytes.ensures.value ∙ c.in-Ok.ensures.is in
-    record { is = Beginning (rw text at c.write_whole.ensures.beginning) }
+    record { is = rw c.unwritten.ensures.is (Beginning (rw text at c.write_whole.ensures.beginning)) }

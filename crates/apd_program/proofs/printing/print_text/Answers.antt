@@ -10,4 +10,4 @@ returns-in-Ok g c =
 pub returns-in-Err : goal.returns-in-Err
 returns-in-Err g c =
     let same : c.as_bytes.result.now ≡ c.args.text.now = search rules in
-    record { is = BeginningOfText (rw same at c.write_whole.ensures.beginning) }
+    record { is = rw c.unwritten.ensures.is (BeginningOfText (rw same at c.write_whole.ensures.beginning)) }

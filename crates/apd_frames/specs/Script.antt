@@ -1,0 +1,55 @@
+-- A capture as a script: `frame HEX` for each frame, `tick N` for the time that passes before it in
+-- units of 1024 microseconds, and a comment for each packet that is left out.
+use Rattle.std.specs.Prelude.{ℕ, ◌+◌, ◌-◌, ◌/◌, ◌==◌, ◌&&◌, Bool, nat_lt, min, max, List, [], ◌∷◌, ◌++◌, length, codes, decimal, Result, Ok, Err, if◌then◌else◌}
+use Rattle.hex.specs.Hex.{encode_lower}
+use Rattle.capture.specs.declared.fault.LeftOut.{LeftOut}
+use Rattle.capture.specs.declared.fault.LeftOut.TheVariants.{Cut, Radiotap, CheckSequence}
+use Rattle.capture.specs.Packets.{Seen}
+
+abbrev pub reason_of : LeftOut → List ℕ
+reason_of Cut = codes "it was cut when it was captured"
+reason_of Radiotap = codes "its radiotap header is damaged"
+reason_of CheckSequence = codes "its frame check sequence is cut"
+
+-- packets are counted from 1; a line ends with a line feed (10)
+abbrev pub left_out_line : ℕ → List ℕ → List ℕ
+left_out_line number reason = codes "# packet " ++ (decimal number ++ (codes " is left out: " ++ (reason ++ 10 ∷ [])))
+
+abbrev pub frame_line : List ℕ → List ℕ
+frame_line frame = codes "frame " ++ (encode_lower frame ++ 10 ∷ [])
+
+-- a script has frames of 1 to 2400 bytes
+abbrev pub frame_lines : ℕ → List ℕ → List ℕ
+frame_lines number frame =
+    (if length frame == 0 then left_out_line number (codes "it has no bytes") else
+    (if nat_lt 2400 (length frame) then left_out_line number (codes "it has more than 2400 bytes") else frame_line frame))
+
+abbrev pub packet_lines : ℕ → Result (List ℕ) LeftOut → List ℕ
+packet_lines number (Ok frame) = frame_lines number frame
+packet_lines number (Err left_out) = left_out_line number (reason_of left_out)
+
+abbrev pub tick_line : ℕ → List ℕ
+tick_line units = codes "tick " ++ (decimal units ++ 10 ∷ [])
+
+-- the time from a unit to a later one, at most 2^32 - 1 units, which is what a line can say
+abbrev pub time_lines : Bool → ℕ → ℕ → List ℕ
+time_lines ticks clock now = (if ticks && nat_lt clock now then tick_line (min (now - clock) 4294967295) else [])
+
+-- in which unit after the start a time in nanoseconds lies; in unit 0 where it is earlier
+abbrev pub unit_of : ℕ → ℕ → ℕ
+unit_of start time = (time - start) / 1024000
+
+-- the packets from this number on, `clock` being the latest unit so far
+abbrev pub lines_from : Bool → ℕ → ℕ → ℕ → List Seen → List ℕ
+lines_from ticks start number clock [] = []
+lines_from ticks start number clock (packet ∷ packets) =
+    time_lines ticks clock (unit_of start packet.time) ++ (packet_lines number packet.frame
+    ++ lines_from ticks start (number + 1) (max clock (unit_of start packet.time)) packets)
+
+-- the time of the first packet
+abbrev pub start_of : List Seen → ℕ
+start_of [] = 0
+start_of (packet ∷ packets) = packet.time
+
+abbrev pub script_of : Bool → List Seen → List ℕ
+script_of ticks packets = lines_from ticks (start_of packets) 1 0 packets

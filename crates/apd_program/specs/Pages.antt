@@ -1,0 +1,39 @@
+-- What `explain` and `help` answer.
+use Rattle.std.specs.Prelude.{ℕ, List, [], ◌∷◌, codes, Option, None, Some, string_bytes}
+use Rattle.clap.specs.declared.builder.value_parser.ValueParser.{ValueParser}
+use Rattle.apd_words.specs.CommandLine.{TakesNames, hook_names, worker_names}
+use Rattle.apd_words.specs.Reads.{IsHelp}
+use Rattle.apd_refusals.specs.Pages.{IsPageOf}
+use Rattle.apd_program.specs.declared.answer.Answer.{Answer}
+use Rattle.apd_program.specs.declared.answer.Answer.TheVariants.{Page, Help}
+
+-- `explain` says the page on the number that the word spells
+abbrev pub IsPage : List ℕ → Answer → Type 0
+IsPage word (Page text) = IsPageOf word (string_bytes text)
+IsPage word _ = ⊥
+
+-- of which words have no page nothing is said
+abbrev pub HasNoPage : List ℕ → Type 0
+HasNoPage word = Unit {0}
+
+-- the words that ask for help on a command, or on the program
+abbrev pub help_words : Option (List ℕ) → List (List ℕ)
+help_words None = codes "apd" ∷ codes "--help" ∷ []
+help_words (Some command) = codes "apd" ∷ command ∷ codes "--help" ∷ []
+
+-- help or the version is what the words come to
+pub record IsHelpFor (words : List (List ℕ)) : Type 0 where
+  pub hooks : ValueParser
+  pub numbers : ValueParser
+  pub takes_hooks : TakesNames hooks hook_names
+  pub takes_numbers : TakesNames numbers worker_names
+  pub help : IsHelp hooks numbers words
+
+-- `help` says what `--help` says behind the command
+abbrev pub IsHelpText : List (List ℕ) → Answer → Type 0
+IsHelpText words (Help text) = IsHelpFor words
+IsHelpText words _ = ⊥
+
+-- of which words have no help nothing is said
+abbrev pub HasNoHelp : List (List ℕ) → Type 0
+HasNoHelp words = Unit {0}

@@ -1,0 +1,47 @@
+//! The page on a refusal's number: the command `explain`.
+
+ghost use Rattle.std.specs.Prelude.{◌≡◌, ◌⊎◌, IfOk, IfErr};
+ghost use Rattle.apd_program.specs.Pages.{IsPage, HasNoPage};
+
+use crate::answer::Answer;
+use crate::fault::{ProgramFault, shown};
+use apd_refusals::{explain, page_text};
+use bpf_text::AsmFault;
+use std::alloc::{AllocError, Global};
+
+/// The page on the number that a word spells.
+pub(crate) fn page(alloc: Global, word: &str) -> Result<Answer, ProgramFault>
+    ensures page { IfOk result (IsPage word.now) }
+    ensures fault { IfErr result (λ e. (e ≡ ProgramFault.NoMemory) ⊎ HasNoPage word.now) }
+{
+    match page_text(alloc, word) {
+        Ok(Some(text)) => Ok(Answer::Page(text)),
+        Ok(None) => Err(unknown(alloc, word)),
+        Err(AllocError) => Err(ProgramFault::NoMemory),
+    }
+}
+
+fn unknown(alloc: Global, word: &str) -> ProgramFault {
+    match shown(alloc, word) {
+        Ok(word) => ProgramFault::NoPage(word),
+        Err(AllocError) => ProgramFault::NoMemory,
+    }
+}
+
+/// What a refusal means in one sentence; none where nothing is refused.
+pub(crate) fn sentence(alloc: Global, answer: &Answer) -> Result<Option<String>, AllocError> {
+    let (number, place, at) = match answer {
+        Answer::Fault(fault) => (fault.number(), "slot", fault.slot() as u64),
+        Answer::Refused(refusal) => (refusal.number(), "slot", refusal.pc as u64),
+        Answer::LineFault(AsmFault::Line { line, number }) => (*number, "line", *line),
+        _ => return Ok(None),
+    };
+    let Some(page) = explain(number) else {
+        return Ok(None);
+    };
+    let text = format!(in alloc;
+        "apd: {place} {at}: {}; `apd explain {number}` tells more\n",
+        page.title
+    )?;
+    Ok(Some(text))
+}

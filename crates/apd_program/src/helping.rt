@@ -1,0 +1,38 @@
+//! Help by a command of its own: `apd help`, `apd help COMMAND`.
+
+ghost use Rattle.std.specs.Prelude.{◌≡◌, ◌⊎◌, IfOk, IfErr, map, option_map};
+ghost use Rattle.apd_program.specs.Pages.{IsHelpText, HasNoHelp, help_words};
+
+use crate::answer::Answer;
+use crate::fault::{ProgramFault, shown};
+use apd_words::{Told, read_words};
+use std::alloc::{AllocError, Global};
+
+/// The help that `--help` prints behind a command, or without one that of the program.
+pub(crate) fn help(alloc: Global, command: Option<&str>) -> Result<Answer, ProgramFault>
+    ensures help { IfOk result (IsHelpText (help_words (option_map (λ word. word.now) command.entry))) }
+    ensures fault { IfErr result (λ e. (e ≡ ProgramFault.NoMemory) ⊎ HasNoHelp (help_words (option_map (λ word. word.now) command.entry))) }
+{
+    match command {
+        Some(command) => help_for(alloc, &["apd", command, "--help"], command),
+        None => help_for(alloc, &["apd", "--help"], "help"),
+    }
+}
+
+fn help_for<'a>(alloc: Global, words: &'a [&'a str], command: &str) -> Result<Answer, ProgramFault>
+    ensures help { IfOk result (IsHelpText (map (λ word. word.now) words.entry.now)) }
+    ensures fault { IfErr result (λ e. (e ≡ ProgramFault.NoMemory) ⊎ HasNoHelp (map (λ word. word.now) words.entry.now)) }
+{
+    match read_words(alloc, words) {
+        Err(Told::Help(text)) => Ok(Answer::Help(text)),
+        Err(Told::NoMemory) => Err(ProgramFault::NoMemory),
+        _ => Err(unknown(alloc, command)),
+    }
+}
+
+fn unknown(alloc: Global, command: &str) -> ProgramFault {
+    match shown(alloc, command) {
+        Ok(command) => ProgramFault::NoCommand(command),
+        Err(AllocError) => ProgramFault::NoMemory,
+    }
+}
