@@ -1,0 +1,2 @@
+pub mod Stocks
+pub mod Accesses
