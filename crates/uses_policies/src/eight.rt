@@ -51,7 +51,8 @@ fn decide_at(
 }
 
 /// Handles a list of events at any eight shards in their places, judged by a worker's policies, whatever other seats do
-/// to the maps meanwhile: their entries are link runs in which each verdict is that of the policies.
+/// to the maps meanwhile: their entries are link runs in which each verdict is that of the policies. The policies are
+/// one set for the whole list.
 pub fn go_on(
     alloc: Global,
     shards: &mut [Shard; 8],
@@ -77,7 +78,8 @@ pub fn go_on(
 /// events are, and whatever other seats do to the maps meanwhile, the whole headline holds: no program meets a fault or
 /// passes its budget; what came out is that of the link under these verdicts; no data of a station that was not
 /// associated is passed up; each agreement passes up exactly its accepted numbers below its window, once each, in
-/// rising order.
+/// rising order. One set judges the whole list. Where programs are loaded between events, or where the worker's draw
+/// word and accesses are followed from event to event, `decide` handles one event by the set of its own.
 pub fn serve(
     alloc: Global,
     config: &LinkConfig,

@@ -29,7 +29,8 @@ pub fn view_of<'t>(shard: &Shard, policies: Policies<'_, 't>) -> WorkerView<'t>
 }
 
 /// Handles an event at any one shard, judged by a worker's policies: the whole headline of its entries, whatever other
-/// seats do to the maps meanwhile. An event that is refused for memory changes nothing and asks nothing.
+/// seats do to the maps meanwhile. Each event may have a set of its own, so loads may come between them; the worker's
+/// state goes on from event to event. An event that is refused for memory changes nothing and asks nothing.
 pub fn decide(
     alloc: Global,
     shard: &mut Shard,
