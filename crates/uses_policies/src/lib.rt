@@ -5,6 +5,10 @@
 mod eight;
 mod one;
 mod policies;
+#[cfg(test)]
+mod rows;
+#[cfg(test)]
+mod setting;
 
 pub use eight::{go_on, serve};
 pub use one::decide;
