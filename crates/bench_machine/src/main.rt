@@ -1,17 +1,20 @@
-//! How long `probe` takes for an instruction of a loop of arithmetic, on standard error.
+//! How long `run` and `probe` take for an instruction of a loop of arithmetic, and for a short program's whole run, on
+//! standard error.
 #![tactic(auto)]
 
-use bpf_decode::decode;
+use bpf_decode::{Program, decode};
 use bpf_machine::probing::probe;
-use bpf_machine::{ListPort, Probe};
-use bpf_regions::{Context, Frame, Shapes};
+use bpf_machine::{Accepted, ListPort, Probe, run};
+use bpf_regions::{Context, Frame, Hook, Shapes};
+use bpf_verifier::verify;
+use std::alloc::Global;
 use std::io;
 use std::time::Instant;
 
-/// `mov r0, 0; mov r1, 2500000;` then until R1 is 0 `add r0, 3; xor r0, r1; sub r1, 1; jne r1, 0, -4`, and `exit`.
-const CODE: [u64; 7] = [
+/// `mov r0, 0; mov r1, 1000000;` then until R1 is 0 `add r0, 3; xor r0, r1; sub r1, 1; jne r1, 0, -4`, and `exit`.
+const LOOP: [u64; 7] = [
     0xb700000000000000,
-    0xb7010000a0252600,
+    0xb701000040420f00,
     0x0700000003000000,
     0xaf10000000000000,
     0x1701000001000000,
@@ -19,34 +22,86 @@ const CODE: [u64; 7] = [
     0x9500000000000000,
 ];
 
-fn main(rt: HostRuntime) -> io::Result<()> {
-    let alloc = rt.alloc();
+/// `mov r3, r1; add r3, 26; mov r0, 0; jgt r3, r2, +1; ldxb r0, [r1+24]; exit`.
+const SHORT: [u64; 6] = [
+    0xbf13000000000000,
+    0x070300001a000000,
+    0xb700000000000000,
+    0x2d23010000000000,
+    0x7110180000000000,
+    0x9500000000000000,
+];
+
+/// The program of these slots, each with its first byte as the highest, for no maps.
+fn program_of(alloc: Global, slots: &[u64]) -> io::Result<Option<Program>> {
     let mut bytes = Vec::new(alloc);
-    for slot in CODE {
+    for slot in slots {
         bytes.extend_from_slice(&slot.to_be_bytes())?;
     }
     let Some(shapes) = Shapes::new(Vec::new(alloc)) else {
-        return Ok(());
+        return Ok(None);
     };
-    let Ok(program) = decode(alloc, &bytes, shapes) else {
-        return Ok(());
-    };
-    let Some(frame) = Frame::new(&[]) else {
-        return Ok(());
-    };
-    let mut port = ListPort::new(program.shapes(), &[]);
-    let before = Instant::now(&rt)?;
-    let answer = probe(
-        &program,
-        &frame,
-        &Context::new([0; 32]),
-        &mut port,
-        20_000_000,
-    );
-    let spent = before.elapsed(&rt)?.as_nanos();
+    Ok(decode(alloc, &bytes, shapes).ok())
+}
+
+/// The admitted program of these slots.
+fn admitted(alloc: Global, slots: &[u64]) -> io::Result<Option<Accepted>> {
+    match program_of(alloc, slots)? {
+        Some(program) => Ok(verify(alloc, program, Hook::Data).ok()),
+        None => Ok(None),
+    }
+}
+
+/// Runs the loop once by each machine.
+fn long_runs(rt: &HostRuntime, accepted: &Accepted, frame: &Frame<'_>) -> io::Result<()> {
+    let context = Context::new([0; 32]);
+    let mut port = ListPort::new(accepted.program().shapes(), &[]);
+    let before = Instant::now(rt)?;
+    let outcome = run(accepted, frame, &context, &mut port);
+    let spent = before.elapsed(rt)?.as_nanos();
+    let steps = outcome.steps;
+    eprintln!(rt;
+        "run: {steps} instructions in {spent} ns, R0 {}",
+        outcome.r0
+    )?;
+    let before = Instant::now(rt)?;
+    let answer = probe(accepted.program(), frame, &context, &mut port, steps);
+    let spent = before.elapsed(rt)?.as_nanos();
     if let Probe::Ended(outcome) = answer {
-        let steps = outcome.steps;
-        eprintln!(rt; "{steps} instructions in {spent} ns, R0 {}", outcome.r0)?;
+        eprintln!(rt;
+            "probe: {steps} instructions in {spent} ns, R0 {}",
+            outcome.r0
+        )?;
+    }
+    Ok(())
+}
+
+/// Runs the short program a million times.
+fn short_runs(rt: &HostRuntime, accepted: &Accepted, frame: &Frame<'_>) -> io::Result<()> {
+    let context = Context::new([0; 32]);
+    let mut sum: u64 = 0;
+    let before = Instant::now(rt)?;
+    for _turn in 0..1_000_000u32 {
+        let mut port = ListPort::new(accepted.program().shapes(), &[]);
+        let outcome = run(accepted, frame, &context, &mut port);
+        sum = sum.wrapping_add(outcome.r0);
+    }
+    let spent = before.elapsed(rt)?.as_nanos();
+    eprintln!(rt; "run: 1000000 runs of 6 instructions in {spent} ns, sum {sum}")?;
+    Ok(())
+}
+
+fn main(rt: HostRuntime) -> io::Result<()> {
+    let alloc = rt.alloc();
+    let bytes = [7; 26];
+    let Some(frame) = Frame::new(&bytes) else {
+        return Ok(());
+    };
+    if let Some(accepted) = admitted(alloc, &LOOP)? {
+        long_runs(&rt, &accepted, &frame)?;
+    }
+    if let Some(accepted) = admitted(alloc, &SHORT)? {
+        short_runs(&rt, &accepted, &frame)?;
     }
     Ok(())
 }
