@@ -1,33 +1,12 @@
+//! The bytes of certificates, read and written.
+
+use crate::small::{CODE, no_maps, small};
 use bpf_absval::{AbsRegion, AbsVal};
 use bpf_cert_format::{Certificate, ReadFault, read, write};
 use bpf_regions::{Hook, Shapes};
 use std::alloc::Global;
 use std::process::Abort;
 use std::test::Fail;
-
-/// R0 is 2, and EXIT.
-const CODE: [u8; 16] = [0xb7, 0, 0, 0, 2, 0, 0, 0, 0x95, 0, 0, 0, 0, 0, 0, 0];
-
-/// A certificate for that code with one entry at slot 0, as a run begins, within two instructions.
-fn small(alloc: Global) -> Result<Vec<u8>, Fail> {
-    let mut bytes = Vec::from_slice(alloc, &[0x41, 0x50, 0x43, 0x32, 3, 2, 0])?;
-    bytes.extend_from_slice(&CODE)?;
-    // One entry: slot 0, budget 2, least length 0, no rooms, one call frame that returns to no slot.
-    bytes.extend_from_slice(&[1, 0, 0, 0, 0, 0, 2, 0, 0, 0, 0, 0, 0, 0, 1, 0, 0])?;
-    // R0 is unset, R1 points to the start of the frame.
-    bytes.extend_from_slice(&[0, 2, 0])?;
-    bytes.extend_from_slice(&[0; 52])?;
-    // R2 is the frame's end, R3 points to the start of the context.
-    bytes.extend_from_slice(&[3, 2, 1])?;
-    bytes.extend_from_slice(&[0; 48])?;
-    // R4 to R9 and the stack are unset.
-    bytes.extend_from_slice(&[0; 70])?;
-    Ok(bytes)
-}
-
-fn no_maps(rt: &impl Abort, alloc: Global) -> Shapes {
-    Shapes::new(Vec::new(alloc)).expect(rt, "no maps are valid")
-}
 
 fn is_malformed(alloc: Global, shapes: &Shapes, bytes: &[u8]) -> bool {
     matches!(read(alloc, shapes, bytes), Err(ReadFault::Malformed))

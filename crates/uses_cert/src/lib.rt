@@ -1,5 +1,17 @@
-//! Certificates, read, written and checked, shown by tests.
+//! Certificates in use: bytes read and written, checked, and made of programs.
+//!
+//! It stands on `bpf_cert_format`, `bpf_cert`, `bpf_verifier` and `bpf_text`. The tests show what no clause says: that
+//! bytes of a row are read, which number each fault of them has, and that `certificate` succeeds on what `verify` admits,
+//! with the same budget.
 #![tactic(auto)]
 
 #[cfg(test)]
+mod by_hand;
+#[cfg(test)]
+mod checking;
+#[cfg(test)]
 mod format;
+#[cfg(test)]
+mod making;
+#[cfg(test)]
+mod small;
