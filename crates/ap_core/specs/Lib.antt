@@ -1,5 +1,4 @@
 pub mod AccessPoints
-pub mod DataFrames
 pub mod Handles
 pub mod Noted
 pub mod Shards

@@ -6,4 +6,3 @@ pub mod ScoreboardLaws
 pub mod SameLaws
 pub mod BelowLaws
 pub mod CallLaws
-pub mod AloneLaws
