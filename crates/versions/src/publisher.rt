@@ -172,18 +172,15 @@ impl Publisher {
         )
     }
 
-    /// Waits for the readers, ends, and hands back the set that was published last. From then on a reader that enters
-    /// waits for ever.
-    pub fn close<R: Wait>(self, rt: &R) -> ProgramSet
-        ensures last { result ≡ self }
-    {
+    /// Waits for the readers, and ends. From then on a reader that enters waits for ever.
+    pub fn close<R: Wait>(self, rt: &R) {
         let Publisher {
             writer,
             author: _author,
             known: _known,
             shapes: _shapes,
         } = self;
-        Box::into_inner(writer.take(rt))
+        drop(writer.take(rt));
     }
 
     // All that can be refused comes before the list grows.
