@@ -162,12 +162,7 @@ fn shown_budget(
 }
 
 /// The one call that makes an accepted program of a certificate's. Err where memory for its operations is refused.
-fn accept(
-    alloc: Global,
-    program: Program,
-    hook: Hook,
-    budget: u32,
-) -> Result<Accepted, AllocError>
+fn accept(alloc: Global, program: Program, hook: Hook, budget: u32) -> Result<Accepted, AllocError>
     requires safe { Safe program.slots program.shapes budget }
     requires small { budget ≤ 2 ^ 22 }
     ensures is { IfOk result (λ accepted. accepted ≡ record { code = program; hook = hook; budget = budget }) }
@@ -221,5 +216,6 @@ pub fn check(
     ensures err { IfErr result (Refuses program hook bytes.now) }
 {
     let budget = certified_budget(alloc, &program, hook, bytes)?;
-    Ok(accept(alloc, program, hook, budget)?)
+    let accepted = accept(alloc, program, hook, budget)?;
+    Ok(accepted)
 }
