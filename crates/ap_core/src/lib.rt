@@ -1,4 +1,9 @@
 //! The core of the access point: what each event leads to.
+//!
+//! Main calls: `Shard::handle`, and `handle_all` over eight shards. It stands on `ap_agreements`. A
+//! shard's type keeps that its readings are what its history leads to. `handle` is one step of the link,
+//! with the outs that the relation gives, or a refusal for memory that changes nothing and asks no
+//! judge.
 #![tactic(auto)]
 
 mod access_point;

@@ -1,5 +1,9 @@
 //! What the link of an access point is: its events, what they lead to, who judges, and the relation
 //! that says which outs an event may have (IEEE 802.11-2016, 10.24, 11.3 and 11.5).
+//!
+//! The relation is `Step`, over a shard's readings (`specs/Steps.antt`); a history is a run of such steps
+//! from the opening. Of code there are the types `Event`, `Out`, `LinkConfig`, the trait `Judge`, with `ListJudge`
+//! and `AskLog`. It stands on `hooks` and `blockack`.
 #![tactic(auto)]
 
 mod ask_log;

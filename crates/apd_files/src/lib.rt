@@ -1,7 +1,7 @@
 //! The files of the system, as `apd` reads them.
 //!
-//! `RealFiles` is what `apd_main` is given by the program. Of what files hold no clause says anything: that
-//! they are really read is shown by the programs that the gate runs.
+//! `RealFiles` is what `apd_main` is given by the program. It stands on `apd_program`. Of what files hold
+//! no clause says anything: that they are really read is shown by the programs that the gate runs.
 #![tactic(auto)]
 
 use apd_program::{FileFault, Files};

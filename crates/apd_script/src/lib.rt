@@ -1,4 +1,8 @@
 //! The script of a run: its lines are read before the first of them is done.
+//!
+//! Main call: `read_script`. It stands on `bpf_regions` and `mac_types`. It answers exactly the commands
+//! that the text has, each with the number of its line, or the number of the first line that is
+//! malformed.
 #![tactic(auto)]
 
 mod command;

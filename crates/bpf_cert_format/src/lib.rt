@@ -1,7 +1,8 @@
 //! Certificates as bytes: each has one spelling, which is written and read.
 //!
-//! What a certificate's bytes are is said in `specs/Spelling.antt` and `specs/Fits.antt`; what a certificate is good for
-//! is said elsewhere.
+//! Main calls: `read` and `write`. It stands on the abstract states. What a certificate's bytes are is
+//! said in `specs/Spelling.antt` and `specs/Fits.antt`; `read` answers the one certificate that bytes
+//! spell, or that they spell none. What a certificate is good for is said elsewhere.
 #![tactic(auto)]
 
 pub mod certificate;

@@ -1,4 +1,8 @@
 //! The verifier: it explores a program over abstract states, and admits what is safe within a budget.
+//!
+//! Main calls: `verify` and `explore`. It stands on `bpf_checks`, `bpf_prune` and the laws of the rules. What it admits
+//! is safe within the budget that it answers, for every frame, context and port. A plain program, and
+//! one that is clear by the rules, is refused for memory alone. A refusal has a number and a slot.
 #![tactic(auto)]
 
 pub mod admission;
