@@ -2,9 +2,10 @@
 use Rattle.std.proofs.Common.{◌≡◌, ℕ, List, Option, Some, None, sym, ap, subst, ◌∙◌}
 use Rattle.std.specs.Prelude.{IsSome, slice_index_or, slice_set, remove, insert}
 use Rattle.ap_model.specs.Readings.{Using}
-use Rattle.ap_agreements.specs.Tables.{Kept, key_of, agreement_in, IsRising, IsPlaceOf, IsPlaceFor, Sets}
+use Rattle.ap_agreements.specs.Tables.{Kept, key_of, agreement_in, IsRising, IsPlaceOf, IsPlaceFor, Stands, Sets}
 use Rattle.ap_agreements.proofs.Places.{found, removed, replaced, rises_replaced, inserted, rises_inserted}
 use Rattle.std.proofs.lemmas.Option.{same_Some}
+use Rattle.std.proofs.lemmas.List.{get_or_default}
 
 module _ (ks now : List Kept) (e : ks ≡ now) (rising : IsRising ks) (a : List ℕ) (tid : ℕ) (at : ℕ) (place : IsPlaceOf now (a, tid) at) where
   inside : IsPlaceOf ks (a, tid) at
@@ -15,6 +16,9 @@ module _ (ks now : List Kept) (e : ks ≡ now) (rising : IsRising ks) (a : List 
   got x f =
       subst (λ (l : List Kept). agreement_in l a tid ≡ Some x.using) e
       (found ks rising (a, tid) at inside x ∙ ap (λ (k : Kept). Some k.using) (sym f))
+
+  pub stands : (x : Kept) → x ≡ slice_index_or ks at x → Stands now a tid at x
+  stands x f = record { place = place; is = λ d. ap (λ (l : List Kept). slice_index_or l at d) (sym e) ∙ sym (f ∙ get_or_default ks at x d inside.inside); agreed = got x f }
 
   pub was : (x : Kept) → x ≡ slice_index_or ks at x → (u : Using) → agreement_in now a tid ≡ Some u → x.using ≡ u
   was x f u g = same_Some x.using u (sym (got x f) ∙ g)

@@ -6,7 +6,7 @@ use Rattle.std.specs.declared.cmp.Ordering.TheVariants.{Less, Greater}
 use Rattle.std.specs.Cmp.Lexicographic.{slice_cmp}
 use Rattle.assoc.specs.Standings.{same_address}
 use Rattle.ap_model.specs.Readings.{Using, Held}
-use Rattle.ap_agreements.specs.Uses.{DataUse, RequestUse}
+use Rattle.ap_agreements.specs.Uses.{DataUse, AloneUse, RequestUse}
 
 -- an agreement, with its station and TID
 pub record Kept : Type 0 where
@@ -50,6 +50,12 @@ abbrev pub agreement_in : List Kept → List ℕ → ℕ → Option Using
 agreement_in [] a tid = None
 agreement_in (k ∷ ks) a tid = if is_for a tid k then Some k.using else agreement_in ks a tid
 
+-- the agreement of station a for a TID stands at this place, and is this one
+pub record Stands (ks : List Kept) (a : List ℕ) (tid at : ℕ) (k : Kept) : Type 0 where
+  pub place : IsPlaceOf ks (a, tid) at
+  pub is : (d : Kept) → slice_index_or ks at d ≡ k
+  pub agreed : agreement_in ks a tid ≡ Some k.using
+
 -- the agreement of station a for a TID is so afterwards, and no other changes
 abbrev pub Sets : List Kept → List ℕ → ℕ → Option Using → List Kept → Type 0
 Sets old a tid u new = (q : List ℕ) (t : ℕ) → agreement_in new q t ≡ cond (same_address a q && (tid == t)) u (agreement_in old q t)
@@ -62,6 +68,11 @@ Discards old a new = (q : List ℕ) (t : ℕ) → agreement_in new q t ≡ cond 
 abbrev pub UsesData : Bool → List Kept → List ℕ → ℕ → ℕ → Option Held → ℕ → List Kept → List (ℕ × Held) → Type 0
 UsesData took old a tid number item clock new passed =
     (u : Using) → agreement_in old a tid ≡ Some u → (u2 : Using) × DataUse took number item clock u u2 passed × Sets old a tid (Some u2) new
+
+-- so did data that is passed up at once, and nothing behind it, whatever its item is
+abbrev pub UsesAlone : List Kept → List ℕ → ℕ → ℕ → ℕ → List Kept → Type 0
+UsesAlone old a tid number clock new =
+    (u : Using) → agreement_in old a tid ≡ Some u → (u2 : Using) × AloneUse number clock u u2 × Sets old a tid (Some u2) new
 
 -- so did a BlockAckReq, and this is the scoreboard afterwards
 abbrev pub UsesRequest : List Kept → List ℕ → ℕ → ℕ → ℕ → List Kept → List (ℕ × Held) → ℕ × ℕ → Type 0

@@ -1,7 +1,8 @@
 -- What becomes of an agreement at an event of its own.
-use Rattle.std.specs.Prelude.{◌≡◌, ℕ, Bool, Option, List}
+use Rattle.std.specs.Prelude.{◌≡◌, ℕ, Bool, true, Option, Some, List}
 use Rattle.blockack.specs.Window.{opening}
 use Rattle.blockack.specs.Scoreboard.{ReadsScoreboard, blank}
+use Rattle.blockack.specs.Passed.{frame_of}
 use Rattle.blockack.specs.Reading.{Reads, DataMovesWindow, RequestMovesWindow, DataMarksScoreboard, RequestMovesScoreboard}
 use Rattle.ap_model.specs.Readings.{Using, Held}
 
@@ -20,6 +21,10 @@ pub record DataUse (took : Bool) (number : ℕ) (item : Option Held) (clock : �
   pub marks : DataMarksScoreboard number old.window new.window
   pub timeout : new.timeout ≡ old.timeout
   pub last_use : new.last_use ≡ clock
+
+-- data came at this time that is passed up at once, and nothing behind it: it was taken, whatever its item is
+abbrev pub AloneUse : ℕ → ℕ → Using → Using → Type 0
+AloneUse number clock old new = (item : Option Held) → DataUse true number item clock old new (frame_of number (Some item))
 
 -- a BlockAckReq came at this time
 pub record RequestUse (start clock : ℕ) (old new : Using) (passed : List (ℕ × Held)) : Type 0 where

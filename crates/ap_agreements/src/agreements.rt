@@ -1,11 +1,11 @@
 //! The agreements of a shard.
 
-ghost use Rattle.std.specs.Prelude.{◌≡◌, ◌≤◌, ◌<◌, ◌↔◌, ℕ, List, true, false, IfOk, IfErr, OnOk, OnErr, MatchOption, IsSome, IsSomeAnd, None, Some, [], All, AllPairs, Contains, count_by, map, filter, not, vec_len, vec_capacity};
+ghost use Rattle.std.specs.Prelude.{◌≡◌, ◌≤◌, ◌<◌, ◌↔◌, ℕ, List, true, false, IfOk, IfErr, OnOk, OnErr, MatchOption, IsSome, None, Some, [], All, AllPairs, Contains, count_by, map, filter, not, length, slice_index_or, vec_len, vec_capacity};
 ghost use Rattle.arrayvec.specs.ArrayVec.{array_vec_len};
-ghost use Rattle.blockack.specs.Reading.{IsWanted};
+ghost use Rattle.blockack.specs.Reading.{IsWanted, IsAlone};
 ghost use Rattle.ap_model.specs.Steps.{IsBefore};
 ghost use Rattle.ap_model.specs.Readings.{Using};
-ghost use Rattle.ap_agreements.specs.Tables.{Kept, key_of, agreement_in, is_late, IsRising, IsPlaceOf, IsPlaceFor, IsLateIn, unless_late, Sets, Discards, UsesData, UsesRequest};
+ghost use Rattle.ap_agreements.specs.Tables.{Kept, key_of, agreement_in, is_late, IsRising, IsPlaceOf, IsPlaceFor, IsLateIn, unless_late, Stands, Sets, Discards, UsesData, UsesAlone, UsesRequest};
 
 use crate::entry::{Entry, Released};
 use ap_model::Held;
@@ -70,43 +70,56 @@ impl Agreements {
         }
     }
 
-    /// Data that the agreement's window wants came at this time. The window takes its item, None
-    /// where it was dropped.
+    /// The agreement of a station for a TID, and its place. It stays there until an agreement is put
+    /// in or taken out.
+    pub fn get_placed(&self, station: Address, tid: Tid) -> Option<(usize, &Entry)>
+        ensures { MatchOption result (agreement_in self.now.kept station tid ≡ None) (λ p. Stands self.now.kept station tid p.0 p.1.now) }
+    {
+        match self.find(station, tid) {
+            Ok(at) => Some((at, &self.entries[at])),
+            Err(_) => None,
+        }
+    }
+
+    /// Data that the window of the agreement at this place wants came at this time. The window takes
+    /// its item, None where it was dropped.
     pub fn take(
         &mut self,
-        station: Address,
-        tid: Tid,
+        at: usize,
         number: SequenceNumber,
         item: Option<Held>,
         clock: u64,
         out: &mut Released,
     )
-        requires wanted { IsSomeAnd (agreement_in self.old.kept station tid) (λ u. IsWanted u.window number) }
+        requires inside { at < length self.old.kept }
+        requires wanted { (d : Kept) → IsWanted (slice_index_or self.old.kept at d).using.window number }
         requires empty { array_vec_len out.old ≡ 0 }
-        ensures uses { UsesData true self.old.kept station tid number item clock self.new.kept out.new.items }
+        ensures uses { (a : List ℕ) (tid : ℕ) → IsPlaceOf self.old.kept (a, tid) at → UsesData true self.old.kept a tid number item clock self.new.kept out.new.items }
         ensures numbers { All (λ p. p.0 < 4096) out.new.items }
     {
-        match self.find(station, tid) {
-            Ok(at) => {
-                let entry = &mut self.entries[at];
-                entry.take(number, item, clock, out);
-            }
-            Err(_) => unreachable!(),
-        }
+        let entry = &mut self.entries[at];
+        entry.take(number, item, clock, out);
     }
 
-    /// Data that the agreement's window doesn't want came at this time.
-    pub fn leave(&mut self, station: Address, tid: Tid, number: SequenceNumber, clock: u64)
-        requires { IsSomeAnd (agreement_in self.old.kept station tid) (λ u. IsWanted u.window number → ⊥) }
-        ensures { UsesData false self.old.kept station tid number None clock self.new.kept [] }
+    /// Data that the window of the agreement at this place hands up at once, and nothing behind it,
+    /// came at this time: who calls this passes it up.
+    pub fn pass_alone(&mut self, at: usize, number: SequenceNumber, clock: u64)
+        requires inside { at < length self.old.kept }
+        requires alone { (d : Kept) → IsAlone (slice_index_or self.old.kept at d).using.window number }
+        ensures { (a : List ℕ) (tid : ℕ) → IsPlaceOf self.old.kept (a, tid) at → UsesAlone self.old.kept a tid number clock self.new.kept }
     {
-        match self.find(station, tid) {
-            Ok(at) => {
-                let entry = &mut self.entries[at];
-                entry.leave(number, clock);
-            }
-            Err(_) => unreachable!(),
-        }
+        let entry = &mut self.entries[at];
+        entry.pass_alone(number, clock);
+    }
+
+    /// Data that the window of the agreement at this place doesn't want came at this time.
+    pub fn leave(&mut self, at: usize, number: SequenceNumber, clock: u64)
+        requires inside { at < length self.old.kept }
+        requires unwanted { (d : Kept) → IsWanted (slice_index_or self.old.kept at d).using.window number → ⊥ }
+        ensures { (a : List ℕ) (tid : ℕ) → IsPlaceOf self.old.kept (a, tid) at → UsesData false self.old.kept a tid number None clock self.new.kept [] }
+    {
+        let entry = &mut self.entries[at];
+        entry.leave(number, clock);
     }
 
     /// A BlockAckReq with this start came at this time: answers the scoreboard afterwards, its first

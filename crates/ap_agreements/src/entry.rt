@@ -2,9 +2,9 @@
 
 ghost use Rattle.std.specs.Prelude.{◌≡◌, ◌<◌, ◌≤◌, ◌↔◌, ℕ, IsTrue, IfOk, None, [], true, false, All};
 ghost use Rattle.arrayvec.specs.ArrayVec.{array_vec_len};
-ghost use Rattle.blockack.specs.Reading.{IsWanted, EndPassesUp};
+ghost use Rattle.blockack.specs.Reading.{IsWanted, IsAlone, EndPassesUp};
 ghost use Rattle.ap_agreements.specs.Tables.{key_cmp, key_of, is_late};
-ghost use Rattle.ap_agreements.specs.Uses.{Opens, DataUse, RequestUse};
+ghost use Rattle.ap_agreements.specs.Uses.{Opens, DataUse, AloneUse, RequestUse};
 
 use ap_model::Held;
 use arrayvec::ArrayVec;
@@ -109,6 +109,13 @@ impl Entry {
         self.window.wants(number.number())
     }
 
+    /// Whether data with this number would be passed up at once, and nothing behind it.
+    pub fn passes_alone(&self, number: SequenceNumber) -> bool
+        ensures { IsTrue result ↔ IsAlone self.now.using.window number }
+    {
+        self.window.passes_alone(number.number())
+    }
+
     /// Whether it was not used for as long as its timeout says, if it has one.
     pub fn is_late(&self, clock: u64) -> bool
         ensures { result ≡ is_late clock self.now.using }
@@ -137,6 +144,17 @@ impl Entry {
             Placed::Taken => {}
             Placed::Back(_) => unreachable!(),
         }
+    }
+
+    /// Data came at this time that is passed up at once, and nothing behind it. The window holds
+    /// nothing of it: who calls this passes it up.
+    pub fn pass_alone(&mut self, number: SequenceNumber, clock: u64)
+        requires { IsAlone self.old.using.window number }
+        ensures key { key_of self.new ≡ key_of self.old }
+        ensures uses { AloneUse number clock self.old.using self.new.using }
+    {
+        self.last_use = clock;
+        self.window.pass_alone(number.number());
     }
 
     /// Data that isn't wanted came at this time.

@@ -4,7 +4,8 @@ use Rattle.std.specs.Prelude.{IsSomeAnd}
 use Rattle.bpf_regions.specs.declared.hooks.Hook.TheVariants as hook
 use Rattle.mac_frame.specs.Spelling.{spelling}
 use Rattle.assoc.specs.Standings.{Standings}
-use Rattle.blockack.specs.Reading.{IsWanted}
+use Rattle.blockack.specs.Passed.{frame_of}
+use Rattle.blockack.specs.Reading.{IsWanted, IsAlone}
 use Rattle.hooks.specs.Contexts as contexts
 use Rattle.hooks.specs.declared.verdicts.DataVerdict.{DataVerdict}
 use Rattle.hooks.specs.declared.verdicts.DataVerdict.TheVariants.{Pass, Discard}
@@ -13,10 +14,11 @@ use Rattle.ap_model.specs.declared.event.Out.{Out}
 use Rattle.ap_model.specs.Asks.{Ask}
 use Rattle.ap_model.specs.Readings.{Readings, Using, Held}
 use Rattle.ap_model.specs.Changes.{Agrees}
-use Rattle.ap_model.specs.Agreements.{Packet, agreement_for, data_ask, let_through, item, ups, DataComes, plain, taken, left}
+use Rattle.ap_model.specs.Agreements.{Packet, agreement_for, data_ask, let_through, item, ups, DataComes, up, plain, taken, left}
 use Rattle.ap_agreements.specs.Uses.{DataUse}
-use Rattle.ap_agreements.specs.Tables.{Kept, agreement_in, Sets, UsesData}
+use Rattle.ap_agreements.specs.Tables.{Kept, agreement_in, Sets, UsesData, UsesAlone}
 use Rattle.ap_core.specs.Handles.{held_item}
+use Rattle.ap_core.specs.DataFrames.{IsJudged}
 use Rattle.ap_core.proofs.Handling.{using_is, unchanged}
 
 pub some_and : {P : Using → Type 0} (o : Option Using) → IsSomeAnd o P → (u : Using) × (o ≡ Some u) × P u
@@ -33,19 +35,29 @@ pub asked_with : (r : Readings) (a : List ℕ) (p : Packet) (o : Option Using) (
 asked_with r a p None bytes context e1 e2 e3 = rw (e1, e2, e3) refl
 asked_with r a p (Some u) bytes context e1 e2 e3 = rw (e1, e2, e3) refl
 
+-- data whose verdict was asked so
+pub judged : (st : Standings) (p : Packet) (start : Option ℕ) (bytes context : List ℕ) (verdict : ℕ) (outs : List Out) → bytes ≡ spelling p.frame →
+    context ≡ contexts.data_context p.frame.sender (st p.frame.sender) p.tid p.number start → outs ≡ let_through p.frame.sender p (data_verdict verdict) →
+    IsJudged st p start ((record { hook = hook.Data; frame = bytes; context = context }, verdict) ∷ []) outs
+judged st p start bytes context verdict outs e1 e2 e3 = record { verdict = verdict; asks = rw (e1, e2) refl; is = e3 }
+
 -- data without an agreement, by its verdict
-pub delivered : (r : Readings) (p : Packet) (bytes context : List ℕ) (verdict : ℕ) (outs : List Out) → agreement_for r p.frame.sender p.tid ≡ None →
-    bytes ≡ spelling p.frame → context ≡ contexts.data_context p.frame.sender (r.standing p.frame.sender) p.tid p.number None →
-    outs ≡ let_through p.frame.sender p (data_verdict verdict) →
-    DataComes r p.frame.sender p ((record { hook = hook.Data; frame = bytes; context = context }, verdict) ∷ []) outs r
-delivered r p bytes context verdict outs none e1 e2 e3 =
+pub delivered : (r : Readings) (p : Packet) (asked : List (Ask × ℕ)) (outs : List Out) → agreement_for r p.frame.sender p.tid ≡ None →
+    IsJudged r.standing p None asked outs → DataComes r p.frame.sender p asked outs r
+delivered r p asked outs none j =
     plain (record {
       plain = none;
-      verdict = verdict;
-      asks = ap (λ q. (q, verdict) ∷ []) (asked_with r p.frame.sender p None bytes context none e1 e2);
-      is = e3;
+      verdict = j.verdict;
+      asks = j.asks ∙ ap (λ q. (q, j.verdict) ∷ []) (asked_with r p.frame.sender p None _ _ none refl refl);
+      is = j.is;
       stays = unchanged _;
     })
+
+-- what is let through at once is what a window passes up that hands up this frame alone
+pub alone_ups : (p : Packet) (tid : ℕ) (v : DataVerdict) → p.tid ≡ Some tid →
+    let_through p.frame.sender p v ≡ ups p.frame.sender tid (frame_of p.number (Some (item p v)))
+alone_ups p tid (Pass mark) is_tid = ap (λ t. up p.frame.sender p.destination t p.number mark p.frame.tail ∷ []) is_tid
+alone_ups p tid Discard is_tid = refl
 
 -- what the window takes of it
 pub item_is : (p : Packet) (v : DataVerdict) → held_item p.destination p.frame.tail v ≡ item p v
@@ -126,3 +138,13 @@ module _ (st : Standings) (ks ks2 : List Kept) (clock : ℕ) (p : Packet) (s : L
       let u = w.0 in
       let g = uses u w.1 in
       left_so before after p tid u g.0 is_tid (subst (λ (a : List ℕ). agreement_in ks a tid ≡ Some u) se w.1) outs w.2 g.1 e (set_agrees g.0 g.2)
+
+  pub alone_from : (u : Using) (start : ℕ) → agreement_in ks p.frame.sender tid ≡ Some u → IsAlone u.window p.number → start ≡ u.window.start →
+      (asked : List (Ask × ℕ)) (outs : List Out) → IsJudged st p (Some start) asked outs → UsesAlone ks s tid p.number clock ks2 →
+      DataComes before p.frame.sender p asked outs after
+  alone_from u start agreed alone starts asked outs j uses =
+      let g = uses u (subst (λ (a : List ℕ). agreement_in ks a tid ≡ Some u) (sym se) agreed) in
+      subst (λ (a : List (Ask × ℕ)). DataComes before p.frame.sender p a outs after) (sym j.asks)
+      (taken_so before after p tid u g.0 is_tid agreed (spelling p.frame) _ j.verdict outs (frame_of p.number (Some (item p (data_verdict j.verdict)))) alone.wanted refl
+      (ap (λ n. contexts.data_context p.frame.sender (st p.frame.sender) p.tid p.number (Some n)) starts)
+      (g.1 (item p (data_verdict j.verdict))) (j.is ∙ alone_ups p tid (data_verdict j.verdict) is_tid) (set_agrees g.0 g.2))

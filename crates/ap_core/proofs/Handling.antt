@@ -24,3 +24,8 @@ no_effect outs r e = record { settles = record { silent = refl; is = e }; stays 
 -- an agreement in use is its three parts
 pub using_is : (v : Using) (timeout clock : ℕ) → v.timeout ≡ timeout → v.last_use ≡ clock → v ≡ record { window = v.window; timeout = timeout; last_use = clock }
 using_is v timeout clock e f = λ i. record { window = v.window; timeout = e i; last_use = f i }
+
+-- what a rule says of its asks may be said in other words
+pub handled_by : {S : Type 0} {R : S → Ask → ℕ → S → Type 0} {step step2 : List (Ask × ℕ) → List Out → Type 0} {j j2 : S} {outs : List Out} →
+    ((asked : List (Ask × ℕ)) → step asked outs → step2 asked outs) → Handled R step j outs j2 → Handled R step2 j outs j2
+handled_by also h = record { asked = h.asked; listed = h.listed; does = also h.asked h.does }

@@ -9,12 +9,11 @@ use Rattle.ap_model.specs.declared.event.Out.{Out}
 use Rattle.ap_model.specs.Readings.{Readings, Rules, Using, Config, Held}
 use Rattle.ap_model.specs.Changes.{Agrees}
 use Rattle.ap_model.specs.Associations.{Request}
-use Rattle.ap_model.specs.Agreements.{Packet, Setup, PassesHeld, ups, setup_answer}
+use Rattle.ap_model.specs.Agreements.{Setup, PassesHeld, ups, setup_answer}
 use Rattle.ap_agreements.specs.Tables.{Kept, agreement_in}
 use Rattle.ap_agreements.specs.Uses.{Opens}
 use Rattle.ap_core.specs.declared.state.State.{State}
 use Rattle.ap_core.specs.declared.management.Asked.{Asked}
-use Rattle.ap_core.specs.declared.packets.Read.{Read}
 use Rattle.ap_core.specs.declared.setups.SetupRequest.{SetupRequest}
 
 -- what a shard's state is of its history
@@ -28,10 +27,6 @@ rules shard config = record { shard = shard; config = config }
 -- a request, by its frame and what was read of it
 abbrev pub request : Frame → Asked → Request
 request frame asked = record { frame = frame; capability = asked.capability; listen_interval = asked.listen_interval; again = asked.again }
-
--- a data frame, by its frame and what was read of it
-abbrev pub packet : Frame → Read → Packet
-packet frame read = record { frame = frame; destination = read.destination; tid = read.tid; number = read.number }
 
 -- all that the agreement held is passed up
 pub record PassesAll (k : Kept) (old new : List Out) : Type 0 where

@@ -1,18 +1,16 @@
 //! Data, with an agreement and without (IEEE 802.11-2016, 10.24.7.6.2).
 
-ghost use Rattle.std.specs.Prelude.{◌≡◌, ℕ, true, IfOk, IfErr, IsSomeAnd, Some, None, []};
-ghost use Rattle.mac_frame.specs.Spelling.{spelling};
-ghost use Rattle.blockack.specs.Reading.{IsWanted};
+ghost use Rattle.std.specs.Prelude.{◌≡◌, ℕ, IfOk, IfErr, Some, None};
+ghost use Rattle.blockack.specs.Reading.{IsWanted, IsAlone};
 ghost use Rattle.assoc.specs.Standings.{standing};
 ghost use Rattle.hooks.specs.Contexts as contexts;
 ghost use Rattle.hooks.specs.Verdicts.{data_verdict};
-ghost use Rattle.ap_model.specs.Agreements.{DataComes, agreement_for};
-ghost use Rattle.ap_agreements.specs.Tables.{agreement_in};
-ghost use Rattle.ap_model.specs.Asks.{Handled};
-ghost use Rattle.ap_core.specs.Handles.{reading, packet, held_item};
+ghost use Rattle.ap_model.specs.Agreements.{agreement_for};
+ghost use Rattle.ap_core.specs.Handles.{reading, held_item};
+ghost use Rattle.ap_core.specs.DataFrames.{IsSpelled, IsUnder, HandlesData, JudgesData};
 
 use crate::passing::{MOST_RELEASED, pass_up};
-use crate::room::Room;
+use crate::room::with_out;
 use crate::state::State;
 use ap_agreements::Released;
 use ap_model::{Held, Judge, Octets, Out, Up};
@@ -21,64 +19,104 @@ use hooks::{Asker, DataVerdict, data_context, data_verdict};
 use mac_frame::{Address, MacFrame, SequenceNumber, Tid};
 use std::alloc::{AllocError, Global};
 
-/// What is read of a data frame.
-#[derive(Clone, Copy)]
-pub(crate) struct Read {
+/// A data frame that came: its grammar, its bytes, and what is read of it.
+#[derive(Drop)]
+pub(crate) struct DataFrame<'a, 'b> {
+    pub(crate) frame: MacFrame,
+    pub(crate) bytes: &'a Frame<'b>,
     pub(crate) destination: Address,
     pub(crate) tid: Option<Tid>,
     pub(crate) number: SequenceNumber,
 }
 
-/// What the hook is told of data.
-fn context_of(
-    state: &State,
-    frame: &MacFrame,
-    read: &Read,
-    start: Option<SequenceNumber>,
-) -> Context
-    ensures { result ≡ contexts.data_context frame.now.sender (standing state.now.link frame.now.sender) read.now.tid read.now.number start }
+/// What the hook is told of data, whose agreement's window starts so.
+fn context_of(state: &State, came: &DataFrame<'_, '_>, start: Option<SequenceNumber>) -> Context
+    ensures { result ≡ contexts.data_context came.now.frame.sender (standing state.now.link came.now.frame.sender) came.now.tid came.now.number start }
 {
-    let station = frame.sender();
+    let station = came.frame.sender();
     let asker = Asker {
         station,
         standing: state.link.standing(station),
     };
-    data_context(asker, read.tid, read.number, start)
+    data_context(asker, came.tid, came.number, start)
 }
 
-/// Data without an agreement: all growths are made before the verdict is asked.
+/// Data that is passed up at once, unless its verdict drops it: all growths are made before the
+/// verdict is asked.
+fn deliver<J: Judge>(
+    alloc: Global,
+    state: &State,
+    came: DataFrame<'_, '_>,
+    start: Option<SequenceNumber>,
+    judge: &mut J,
+) -> Result<Vec<Out>, AllocError>
+    requires bytes { IsSpelled came }
+    ensures step { IfOk result (λ outs. JudgesData J.gives state.now came.entry start judge.old outs.items judge.new) }
+    ensures refused { IfErr result (λ _. judge.new ≡ judge.old) }
+{
+    let outs = Vec::with_capacity(alloc, 1)?;
+    let source = came.frame.sender();
+    let context = context_of(state, &came, start);
+    let verdict = judge.judge(Hook::Data, came.bytes, &context);
+    match data_verdict(verdict) {
+        DataVerdict::Pass(mark) => {
+            let up = Up {
+                source,
+                destination: came.destination,
+                tid: came.tid,
+                number: came.number,
+                mark,
+                body: Octets::new(came.frame.into_tail()),
+            };
+            return Ok(with_out(outs, Out::Up(up)));
+        }
+        DataVerdict::Discard => return Ok(outs),
+    }
+}
+
+/// Data without an agreement.
 pub(crate) fn on_plain_data<J: Judge>(
     alloc: Global,
     state: &State,
-    frame: MacFrame,
-    bytes: &Frame<'_>,
-    read: &Read,
+    came: DataFrame<'_, '_>,
     judge: &mut J,
 ) -> Result<Vec<Out>, AllocError>
-    requires bytes { bytes.now ≡ spelling frame }
-    requires plain { agreement_for (reading state.now) frame.sender read.now.tid ≡ None }
-    ensures step { IfOk result (λ outs. Handled J.gives (λ asks outs. DataComes (reading state.now) frame.sender (packet frame read.now) asks outs (reading state.now)) judge.old outs.items judge.new) }
+    requires bytes { IsSpelled came }
+    requires plain { agreement_for (reading state.now) came.frame.sender came.tid ≡ None }
+    ensures step { IfOk result (λ outs. HandlesData J.gives state.now came.entry judge.old outs.items state.now judge.new) }
     ensures refused { IfErr result (λ _. judge.new ≡ judge.old) }
 {
-    let room = Room::new(alloc)?;
-    let source = frame.sender();
-    let context = context_of(state, &frame, read, None);
-    let verdict = judge.judge(Hook::Data, bytes, &context);
-    match data_verdict(verdict) {
-        DataVerdict::Pass(mark) => {
-            let body = Octets::new(frame.into_tail());
-            let up = Up {
-                source,
-                destination: read.destination,
-                tid: read.tid,
-                number: read.number,
-                mark,
-                body,
-            };
-            return Ok(room.pass(up));
-        }
-        DataVerdict::Discard => return Ok(room.nothing()),
-    }
+    let outs = deliver(alloc, state, came, None, judge)?;
+    Ok(outs)
+}
+
+/// Where the agreement of a data frame stands: its place, its TID and its window's first number.
+#[derive(Clone, Copy)]
+pub(crate) struct Under {
+    pub(crate) at: usize,
+    pub(crate) tid: Tid,
+    pub(crate) start: SequenceNumber,
+}
+
+/// Data that its agreement's window hands up at once, and nothing behind it.
+fn on_data_alone<J: Judge>(
+    alloc: Global,
+    state: &mut State,
+    came: DataFrame<'_, '_>,
+    under: Under,
+    judge: &mut J,
+) -> Result<Vec<Out>, AllocError>
+    requires bytes { IsSpelled came }
+    requires under { IsUnder state.old.agreements.kept came under IsAlone }
+    ensures step { IfOk result (λ outs. HandlesData J.gives state.old came.entry judge.old outs.items state.new judge.new) }
+    ensures shard { state.new.link.shard ≡ state.old.link.shard }
+    ensures refused { IfErr result (λ _. (state.new ≡ state.old) × (judge.new ≡ judge.old)) }
+{
+    let number = came.number;
+    let clock = state.clock;
+    let outs = deliver(alloc, state, came, Some(under.start), judge)?;
+    state.agreements.pass_alone(under.at, number, clock);
+    Ok(outs)
 }
 
 /// What a window takes in place of the frame: nothing where it is dropped.
@@ -91,37 +129,34 @@ fn item_of(verdict: u64, destination: Address, body: Octets) -> Option<Held>
     }
 }
 
-/// Data that its agreement's window wants, which starts so: all growths are made before the verdict
-/// is asked.
+/// Data that its agreement's window wants: all growths are made before the verdict is asked.
 fn on_wanted_data<J: Judge>(
     alloc: Global,
     state: &mut State,
-    frame: MacFrame,
-    bytes: &Frame<'_>,
-    read: &Read,
-    tid: Tid,
-    start: SequenceNumber,
+    came: DataFrame<'_, '_>,
+    under: Under,
     judge: &mut J,
 ) -> Result<Vec<Out>, AllocError>
-    requires bytes { bytes.now ≡ spelling frame }
-    requires tid { read.now.tid ≡ Some tid }
-    requires agreed { IsSomeAnd (agreement_in state.old.agreements.kept frame.sender tid) (λ u. IsWanted u.window read.now.number × (start ≡ u.window.start)) }
-    ensures step { IfOk result (λ outs. Handled J.gives (λ asks outs. DataComes (reading state.old) frame.sender (packet frame read.now) asks outs (reading state.new)) judge.old outs.items judge.new) }
+    requires bytes { IsSpelled came }
+    requires under { IsUnder state.old.agreements.kept came under IsWanted }
+    ensures step { IfOk result (λ outs. HandlesData J.gives state.old came.entry judge.old outs.items state.new judge.new) }
     ensures shard { state.new.link.shard ≡ state.old.link.shard }
     ensures refused { IfErr result (λ _. (state.new ≡ state.old) × (judge.new ≡ judge.old)) }
 {
     let mut outs = Vec::with_capacity(alloc, MOST_RELEASED)?;
-    let station = frame.sender();
-    let context = context_of(state, &frame, read, Some(start));
-    let verdict = judge.judge(Hook::Data, bytes, &context);
-    let body = Octets::new(frame.into_tail());
-    let item = item_of(verdict, read.destination, body);
+    let station = came.frame.sender();
+    let context = context_of(state, &came, Some(under.start));
+    let verdict = judge.judge(Hook::Data, came.bytes, &context);
+    let number = came.number;
+    let destination = came.destination;
+    let body = Octets::new(came.frame.into_tail());
+    let item = item_of(verdict, destination, body);
     let clock = state.clock;
     let mut passed = Released::new();
     state
         .agreements
-        .take(station, tid, read.number, item, clock, &mut passed);
-    pass_up(station, tid, passed, &mut outs);
+        .take(under.at, number, item, clock, &mut passed);
+    pass_up(station, under.tid, passed, &mut outs);
     Ok(outs)
 }
 
@@ -129,32 +164,35 @@ fn on_wanted_data<J: Judge>(
 pub(crate) fn on_qos_data<J: Judge>(
     alloc: Global,
     state: &mut State,
-    frame: MacFrame,
-    bytes: &Frame<'_>,
-    read: &Read,
+    came: DataFrame<'_, '_>,
     tid: Tid,
     judge: &mut J,
 ) -> Result<Vec<Out>, AllocError>
-    requires bytes { bytes.now ≡ spelling frame }
-    requires tid { read.now.tid ≡ Some tid }
-    ensures step { IfOk result (λ outs. Handled J.gives (λ asks outs. DataComes (reading state.old) frame.sender (packet frame read.now) asks outs (reading state.new)) judge.old outs.items judge.new) }
+    requires bytes { IsSpelled came }
+    requires tid { came.tid ≡ Some tid }
+    ensures step { IfOk result (λ outs. HandlesData J.gives state.old came.entry judge.old outs.items state.new judge.new) }
     ensures shard { state.new.link.shard ≡ state.old.link.shard }
     ensures refused { IfErr result (λ _. (state.new ≡ state.old) × (judge.new ≡ judge.old)) }
 {
-    let station = frame.sender();
-    match state.agreements.get(station, tid) {
+    let station = came.frame.sender();
+    match state.agreements.get_placed(station, tid) {
         None => {
-            let outs = on_plain_data(alloc, state, frame, bytes, read, judge)?;
+            let outs = on_plain_data(alloc, state, came, judge)?;
             return Ok(outs);
         }
-        Some(entry) => {
+        Some((at, entry)) => {
             let start = entry.start();
-            if entry.wants(read.number) {
-                let outs = on_wanted_data(alloc, state, frame, bytes, read, tid, start, judge)?;
+            let under = Under { at, tid, start };
+            if entry.passes_alone(came.number) {
+                let outs = on_data_alone(alloc, state, came, under, judge)?;
+                return Ok(outs);
+            }
+            if entry.wants(came.number) {
+                let outs = on_wanted_data(alloc, state, came, under, judge)?;
                 return Ok(outs);
             }
             let clock = state.clock;
-            state.agreements.leave(station, tid, read.number, clock);
+            state.agreements.leave(at, came.number, clock);
             return Ok(Vec::new(alloc));
         }
     }

@@ -4,7 +4,7 @@ ghost use Rattle.std.specs.Prelude.{◌≡◌, ◌≤◌, ◌<◌, [], ◌∷◌
 ghost use Rattle.ap_model.specs.declared.event.Out.{Out};
 ghost use Rattle.ap_model.specs.Changes.{sends};
 
-use ap_model::{Octets, Out, Up};
+use ap_model::{Octets, Out};
 use mac_frame::{LONGEST_HEAD, MacFrame, write};
 use std::alloc::{AllocError, Global};
 
@@ -48,7 +48,7 @@ impl FrameRoom {
 }
 
 /// The list with this out, for which there is room.
-fn with_out(outs: Vec<Out>, out: Out) -> Vec<Out>
+pub(crate) fn with_out(outs: Vec<Out>, out: Out) -> Vec<Out>
     requires empty { vec_len outs ≡ 0 }
     requires room { 1 ≤ vec_capacity outs }
     ensures { result.items ≡ out ∷ [] }
@@ -78,18 +78,5 @@ impl Room {
         ensures { result.items ≡ Out.Note number ∷ [] }
     {
         with_out(self.outs, Out::Note(number))
-    }
-
-    /// Data is passed up.
-    pub(crate) fn pass(self, up: Up) -> Vec<Out>
-        ensures { result.items ≡ Out.Up up ∷ [] }
-    {
-        with_out(self.outs, Out::Up(up))
-    }
-
-    pub(crate) fn nothing(self) -> Vec<Out>
-        ensures { result.items ≡ [] }
-    {
-        self.outs
     }
 }

@@ -14,7 +14,7 @@ ghost use Rattle.ap_core.specs.Handles.{reading, rules};
 use crate::ends::on_delba;
 use crate::management::{Asked, on_association, on_authentication};
 use crate::moves::{deauthenticate, disassociate};
-use crate::packets::{Read, on_plain_data, on_qos_data};
+use crate::packets::{DataFrame, on_plain_data, on_qos_data};
 use crate::requests::on_request;
 use crate::setups::{SetupRequest, on_setup};
 use crate::state::State;
@@ -166,21 +166,25 @@ fn on_data_kind<J: Judge>(
 {
     match kind {
         DataKind::Data => {
-            let read = Read {
+            let data = DataFrame {
+                frame,
+                bytes,
                 destination,
                 tid: None,
                 number,
             };
-            let outs = on_plain_data(alloc, state, frame, bytes, &read, judge)?;
+            let outs = on_plain_data(alloc, state, data, judge)?;
             return Ok(outs);
         }
         DataKind::QosData { qos } => {
-            let read = Read {
+            let data = DataFrame {
+                frame,
+                bytes,
                 destination,
                 tid: Some(qos.tid),
                 number,
             };
-            let outs = on_qos_data(alloc, state, frame, bytes, &read, qos.tid, judge)?;
+            let outs = on_qos_data(alloc, state, data, qos.tid, judge)?;
             return Ok(outs);
         }
         DataKind::Null => return Ok(Vec::new(alloc)),

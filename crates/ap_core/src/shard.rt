@@ -83,8 +83,9 @@ impl Shard {
         self.state.link.associated()
     }
 
-    /// Handles an event: what comes out is one step of the link. An event that is refused for memory
-    /// changes nothing and asks nothing.
+    /// Handles an event that concerns this shard (`shard_of`, or a tick): what comes out is one step of
+    /// the link. Of an event that concerns another shard too it is a step of this one, by what this
+    /// one knows. An event that is refused for memory changes nothing and asks nothing.
     pub fn handle<J: Judge>(
         &mut self,
         alloc: Global,

@@ -1,5 +1,6 @@
-//! How long a shard takes for a data frame, on standard error: of one associated station in an agreement, and of 500
-//! stations in agreements in turn, 250 in each of two shards. The argument is how many frames.
+//! How long a shard takes for a data frame of 100 bytes and of 1500, on standard error: of one associated station in an
+//! agreement, and of 500 stations in agreements in turn, 250 in each of two shards; and how long a copy of the frame
+//! takes. The argument is how many frames.
 #![tactic(auto)]
 
 use anyhow::Result;
@@ -67,10 +68,10 @@ fn setup(alloc: Global, station: u16) -> Result<Sent, AllocError> {
     frame(alloc, [0xd0, 0, 0, 0], station, &request)
 }
 
-/// QoS data for TID 0 with a number and 100 bytes.
-fn data(alloc: Global, station: u16, number: u16) -> Result<Sent, AllocError> {
+/// QoS data for TID 0 with a number and this many bytes.
+fn data(alloc: Global, station: u16, number: u16, size: u16) -> Result<Sent, AllocError> {
     let mut rest = Vec::from_slice(alloc, &(number << 4).to_le_bytes())?;
-    rest.resize(104, 0)?;
+    rest.resize(usize::from(size) + 4, 0)?;
     frame(alloc, [0x88, 0x01, 0, 0], station, &rest)
 }
 
@@ -109,15 +110,24 @@ impl Halves {
     }
 }
 
-/// Data of some stations in turn, each with numbers of its own.
-fn data_in_turn(alloc: Global, stations: u16, frames: u64) -> Result<Vec<Sent>, AllocError> {
+/// What is measured: data of how many stations in turn, each with numbers of its own, how many frames, and of how many
+/// bytes.
+#[derive(Clone, Copy)]
+struct Load {
+    stations: u16,
+    frames: u64,
+    size: u16,
+}
+
+/// The frames of a load.
+fn data_in_turn(alloc: Global, load: Load) -> Result<Vec<Sent>, AllocError> {
     let mut events = Vec::new(alloc);
     let mut station = 0u16;
     let mut number = 0u16;
-    for _frame in 0..frames {
-        events.push(data(alloc, station, number)?)?;
+    for _frame in 0..load.frames {
+        events.push(data(alloc, station, number, load.size)?)?;
         station = station.wrapping_add(1);
-        if station >= stations {
+        if station >= load.stations {
             station = 0;
             number = number.wrapping_add(1) % 4096;
         }
@@ -125,19 +135,38 @@ fn data_in_turn(alloc: Global, stations: u16, frames: u64) -> Result<Vec<Sent>, 
     Ok(events)
 }
 
-/// Prints how long data of some stations in turn takes, whose agreements are new.
-fn report(rt: &HostRuntime, halves: &mut Halves, stations: u16, frames: u64) -> Result<()> {
+/// Copies the bytes of each frame, and counts them.
+fn copied(alloc: Global, events: &[Sent]) -> Result<u64, AllocError> {
+    let mut bytes = 0u64;
+    for sent in events {
+        if let Event::Frame(frame) = &sent.event {
+            let copy = Octets::copy(alloc, frame.bytes())?;
+            bytes = bytes.wrapping_add(copy.bytes().len() as u64);
+        }
+    }
+    Ok(bytes)
+}
+
+/// Prints how long a load takes, whose agreements are new, and how long copies of its frames.
+fn report(rt: &HostRuntime, halves: &mut Halves, load: Load) -> Result<()> {
     let alloc = rt.alloc();
-    for station in 0..stations {
+    for station in 0..load.stations {
         halves.handle(alloc, &[setup(alloc, station)?], &[64])?;
     }
-    let events = data_in_turn(alloc, stations, frames)?;
+    let events = data_in_turn(alloc, load)?;
     let start = Instant::now(rt)?;
     let passed = halves.handle(alloc, &events, &[])?;
     let nanos = start.elapsed(rt)?.as_nanos();
+    let start = Instant::now(rt)?;
+    let bytes = copied(alloc, &events)?;
+    let copying = start.elapsed(rt)?.as_nanos();
+    let frames = u128::from(load.frames.max(1));
     eprintln!(rt;
-        "stations {stations}: {} ns a frame, {passed} passed up",
-        nanos / u128::from(frames.max(1))
+        "stations {}, {} bytes: {} ns a frame, {passed} passed up; {} ns a copy, {bytes} bytes copied",
+        load.stations,
+        load.size,
+        nanos / frames,
+        copying / frames
     )?;
     Ok(())
 }
@@ -174,7 +203,15 @@ fn main(rt: HostRuntime) -> Result<()> {
         odd: Shard::new(alloc, 1, &config)?,
     };
     associate(alloc, &mut halves)?;
-    report(&rt, &mut halves, 1, frames)?;
-    report(&rt, &mut halves, STATIONS, frames)?;
+    for size in [100, 1500] {
+        for stations in [1, STATIONS] {
+            let load = Load {
+                stations,
+                frames,
+                size,
+            };
+            report(&rt, &mut halves, load)?;
+        }
+    }
     Ok(())
 }

@@ -6,3 +6,4 @@ pub mod ScoreboardLaws
 pub mod SameLaws
 pub mod BelowLaws
 pub mod CallLaws
+pub mod AloneLaws

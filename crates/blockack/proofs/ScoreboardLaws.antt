@@ -1,13 +1,15 @@
 -- The bitmap of a scoreboard suffices: what holds of it holds of every scoreboard that it is a reading of.
-use Rattle.std.proofs.Common.{◌≡◌, ℕ, ◌+◌, ◌-◌, ◌*◌, ◌/◌, ◌^◌, ◌%◌, ◌<◌, ◌≤◌, ◌≢◌, inl, ⊎_elim, Bool, true, cond, refl, sym, ap, ◌∙◌, arith}
-use Rattle.std.specs.Prelude.{◌==◌, max, bit_or}
+use Rattle.std.proofs.Common.{◌≡◌, ℕ, ◌+◌, ◌-◌, ◌*◌, ◌/◌, ◌^◌, ◌%◌, ◌<◌, ◌≤◌, ◌≢◌, inl, ⊎_elim, Bool, true, false, cond, refl, sym, ap, ◌∙◌, arith}
+use Rattle.std.specs.Prelude.{◌==◌, nat_lt, max, bit_or}
 use Rattle.std.specs.Int.{bit_at, w64}
 use Rattle.std.proofs.Math.Pow.{pow-lt}
 use Rattle.std.proofs.lemmas.Bool.{cases_eq, ne_eqb, eq-eqb}
+use Rattle.std.proofs.lemmas.Bool.Decides.{nat_tests}
 use Rattle.std.proofs.lemmas.Nat.{shr-shr, or_lt}
 use Rattle.std.proofs.lemmas.Nat.Bits.{bit_at-zero, bit_at_above, bit_at_set_same, bit_at_set_other}
 use Rattle.blockack.specs.Window.{IsUnwrapped}
 use Rattle.blockack.specs.Ring.{ahead}
+use Rattle.blockack.specs.Same.{HaveScoreboards}
 use Rattle.blockack.specs.Scoreboard.{Scoreboard, blank, first_number, with_number, ReadsScoreboard, AfterDataMark, AfterRequestMark}
 
 pub shift_bit : (n k i : ℕ) → bit_at (n / 2 ^ k) i ≡ bit_at n (k + i)
@@ -103,4 +105,17 @@ blank_reads start size some fits =
       begins = omega arith;
       residue = omega arith;
       numbers = λ i. sym (ap (λ x. x == 1) (bit_at-zero i));
+    }
+
+pub have_scoreboards : HaveScoreboards
+have_scoreboards size start bits some fits =
+    record {
+      begins = omega arith;
+      residue = omega arith;
+      numbers = λ i.
+          let at : start + size - 1 + 1 - size + i ≡ start + i = omega arith in
+          let past : nat_lt (start + i) start ≡ false = grind (arith, nat_tests) in
+          let back : start + i - start ≡ i = omega arith in
+          ap (λ k. cond (nat_lt k start) false (bit_at bits (k - start) == 1)) at
+          ∙ ap (λ b. cond b false (bit_at bits (start + i - start) == 1)) past ∙ ap (λ k. bit_at bits k == 1) back;
     }

@@ -33,6 +33,12 @@ module _ {F : Type 0} where
     pub near : ahead v.start number < 2048
     pub free : held_at v (ahead v.start number) ≡ None
 
+  -- data with this sequence number is wanted, it is the window's first, and nothing is held for the number after it
+  pub record IsAlone (v : Reading F) (number : ℕ) : Type 0 where
+    pub wanted : IsWanted v number
+    pub first : number ≡ v.start
+    pub next : held_at v 1 ≡ None
+
   -- the answer to whether data would be taken is right, of whatever window the reading is of
   abbrev pub TellsWanted : Bool → Reading F → ℕ → Type 0
   TellsWanted answer v number = (window : Window F) → Reads window v → (IsTrue answer ↔ ((n : ℕ) × Brings window number n))

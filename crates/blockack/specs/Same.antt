@@ -1,6 +1,7 @@
 -- Two windows that took the same numbers, with whatever items.
-use Rattle.std.specs.Prelude.{◌≡◌, ℕ, ◌<◌, Bool, Option, List, is_some}
+use Rattle.std.specs.Prelude.{◌≡◌, ℕ, ◌<◌, ◌≤◌, Bool, Option, List, is_some}
 use Rattle.blockack.specs.Window.{Window, DataStep, RequestStep, EndStep}
+use Rattle.blockack.specs.Scoreboard.{ReadsScoreboard, scoreboard_of}
 use Rattle.blockack.specs.Reading.{Reading, Reads, window_of, held_at, DataMovesWindow, RequestMovesWindow}
 
 -- they start at the same number, and took the same numbers
@@ -35,6 +36,10 @@ EndLeavesTheSame F =
 -- each reading is one of some window
 abbrev pub HaveWindows : Type 0 → Type 0
 HaveWindows F = (v : Reading F) → v.start < 4096 → Reads (window_of v) v
+
+-- so is each first number and bitmap one of some scoreboard
+abbrev pub HaveScoreboards : Type 0
+HaveScoreboards = (size start bits : ℕ) → 1 ≤ size → start < 4096 → ReadsScoreboard (scoreboard_of size start bits) size start bits
 
 -- the same of agreements, by their readings
 abbrev pub DataReadsTheSame : Type 0 → Type 0

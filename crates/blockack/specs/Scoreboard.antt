@@ -1,5 +1,5 @@
 -- The scoreboard of an agreement in full-state operation, over whole numbers that never wrap (IEEE 802.11-2016, 10.24.7.3).
-use Rattle.std.specs.Prelude.{◌≡◌, ℕ, ◌+◌, ◌-◌, ◌^◌, ◌%◌, ◌<◌, ◌≤◌, ◌==◌, max, Bool, true, false, cond, ◌⊎◌}
+use Rattle.std.specs.Prelude.{◌≡◌, ℕ, ◌+◌, ◌-◌, ◌^◌, ◌%◌, ◌<◌, ◌≤◌, ◌==◌, nat_lt, max, Bool, true, false, cond, ◌⊎◌}
 use Rattle.std.specs.Int.{bit_at}
 use Rattle.blockack.specs.Window.{IsUnwrapped}
 
@@ -25,6 +25,10 @@ pub record ReadsScoreboard (board : Scoreboard) (size start bits : ℕ) : Type 0
   pub begins : size ≤ board.end + 1
   pub residue : start ≡ first_number size board % 4096
   pub numbers : (i : ℕ) → board.came (first_number size board + i) ≡ (bit_at bits i == 1)
+
+-- the scoreboard that begins there and to which just the numbers of the bits came
+abbrev pub scoreboard_of : ℕ → ℕ → ℕ → Scoreboard
+scoreboard_of size start bits = record { came = λ k. cond (nat_lt k start) false (bit_at bits (k - start) == 1); end = start + size - 1 }
 
 -- data in the scoreboard's window or after it: its number came, and the window ends at it if it lay after the end
 pub record Marks (size number : ℕ) (old new : Scoreboard) : Type 0 where

@@ -1,9 +1,10 @@
 //! A block acknowledgement agreement: its reorder window and its scoreboard.
-ghost use Rattle.std.specs.Prelude.{◌≡◌, ◌+◌, ◌<◌, ◌≤◌, ◌↔◌, IsTrue};
+ghost use Rattle.std.specs.Prelude.{◌≡◌, ◌+◌, ◌<◌, ◌≤◌, ◌↔◌, IsTrue, true, Some, Option};
 ghost use Rattle.arrayvec.specs.ArrayVec.{array_vec_len};
 ghost use Rattle.blockack.specs.Window.{opening};
 ghost use Rattle.blockack.specs.Scoreboard.{ReadsScoreboard, blank};
-ghost use Rattle.blockack.specs.Reading.{Reads, IsWanted, TellsWanted, DataMovesWindow, RequestMovesWindow, EndPassesUp};
+ghost use Rattle.blockack.specs.Passed.{frame_of};
+ghost use Rattle.blockack.specs.Reading.{Reads, IsWanted, IsAlone, TellsWanted, DataMovesWindow, RequestMovesWindow, EndPassesUp};
 ghost use Rattle.blockack.specs.Reading.{DataMarksScoreboard, RequestMovesScoreboard};
 ghost use Rattle.blockack.specs.Placed.{is_taken, HandsBack};
 
@@ -90,6 +91,30 @@ impl<F: Drop> Agreement<F> {
             return true;
         }
         self.slots[(number % 64) as usize].is_none()
+    }
+
+    /// Whether data with this sequence number would be handed up at once, and nothing behind it: it
+    /// is the first of the window, and nothing is held for the number after it.
+    pub fn passes_alone(&self, number: u16) -> bool
+        requires { number < 4096 }
+        ensures { IsTrue result ↔ IsAlone self.now number }
+    {
+        number == self.start && self.slots[((number + 1) % 64) as usize].is_none()
+    }
+
+    /// Data came (10.24.7.6.2) that is handed up at once, and nothing behind it. The window holds
+    /// nothing of it: whatever its item is, who calls this hands it up. The scoreboard (10.24.7.3)
+    /// marks its number.
+    pub fn pass_alone(&mut self, number: u16)
+        requires number_fits { number < 4096 }
+        requires alone { IsAlone self.old number }
+        ensures size { self.new.size ≡ self.old.size }
+        ensures window { (item : Option F) → DataMovesWindow true number item self.old self.new (frame_of number (Some item)) }
+        ensures scoreboard { DataMarksScoreboard number self.old self.new }
+    {
+        let size = self.size;
+        self.scoreboard.on_data(size, number);
+        self.start = (number + 1) % NUMBERS;
     }
 
     /// Data came (10.24.7.6.2): takes `item` at `number` if it is wanted, and hands up in `out`

@@ -3,7 +3,7 @@ ghost use Rattle.std.specs.Prelude.{◌≡◌, ℕ, ◌<◌, ◌≤◌};
 ghost use Rattle.blockack.specs.Window.{IsUnwrapped};
 ghost use Rattle.blockack.specs.Calls.{HandsUpInOrder, HandsUpAllInOrder};
 ghost use Rattle.blockack.specs.Same.{DataLeavesTheSame, RequestLeavesTheSame, EndLeavesTheSame};
-ghost use Rattle.blockack.specs.Same.{HaveWindows, DataReadsTheSame, RequestReadsTheSame};
+ghost use Rattle.blockack.specs.Same.{HaveWindows, HaveScoreboards, DataReadsTheSame, RequestReadsTheSame};
 
 /// A sequence number means no two whole numbers to one window, and it means one to each window that
 /// starts at 2048 or later. (To an earlier one it may mean a number below 0, which is old.)
@@ -29,11 +29,12 @@ pub fn window_law<F>()
     ensures at_end { EndLeavesTheSame F }
 {}
 
-/// What holds of windows holds of agreements by their readings: each reading is one of some window,
-/// and two agreements that hold the same numbers do so again after the same call, whatever their
+/// What holds of windows and scoreboards holds of agreements by their readings: each reading is one
+/// of some window, and its first number and bits are those of some scoreboard; and two agreements that hold the same numbers do so again after the same call, whatever their
 /// items are.
 pub fn reading_law<F>()
     ensures windows { HaveWindows F }
+    ensures scoreboards { HaveScoreboards }
     ensures at_data { DataReadsTheSame F }
     ensures at_request { RequestReadsTheSame F }
 {}

@@ -169,6 +169,21 @@ fn end_hands_up_all_that_is_held(rt: HostRuntime) -> Result<(), Fail> {
     Ok(())
 }
 
+// 0 comes first, with nothing behind it; then 2 is held, so that 1 isn't alone.
+#[test]
+fn next_number_passes_alone(rt: HostRuntime) -> Result<(), Fail> {
+    let mut agreement: Agreement<u8> = Agreement::open(4095, 1);
+    assert!(rt; agreement.passes_alone(4095));
+    assert!(rt; !agreement.passes_alone(0));
+    agreement.pass_alone(4095);
+    assert_eq!(rt; agreement.start(), 0);
+    assert_eq!(rt; agreement.bitmap(), (4095, 1));
+    let mut agreement = Agreement::open(0, 64);
+    assert_eq!(rt; data(&mut agreement, 1, Some(1)).1.len(), 0);
+    assert!(rt; !agreement.passes_alone(0));
+    Ok(())
+}
+
 #[test]
 fn laws_are_stated(_rt: HostRuntime) {
     unwrap_law();

@@ -252,6 +252,29 @@ fn stations_authenticate_and_associate(rt: HostRuntime) -> Result<(), Fail> {
     )
 }
 
+// The shortest one, of 28 bytes: it has no elements, and so no rates. The station stays in State 2.
+#[test]
+fn a_request_without_elements_is_refused(rt: HostRuntime) -> Result<(), Fail> {
+    leads(
+        &rt,
+        rt.alloc(),
+        &[],
+        &[
+            Frame(AUTHENTICATION),
+            Sends(AUTHENTICATED),
+            Frame("00000000 020000000001 02000000000a 020000000001 2000 0100 0a00"),
+            Sends(
+                "10000000 02000000000a 020000000001 020000000001 0000 0100 0a00 0000 0104 82848b96",
+            ),
+            // Data is of class 3: it isn't associated.
+            Frame(DATA),
+            Sends(DISASSOCIATED_7),
+            Frame(ASSOCIATION),
+            Sends(ASSOCIATED),
+        ],
+    )
+}
+
 /// A frame, from the station whose address ends so.
 fn from(alloc: Global, digits: &str, fifth: u8, last: u8) -> Result<Event, Fail> {
     let mut bytes = spelled(alloc, digits)?;

@@ -1,15 +1,29 @@
-use Rattle.std.proofs.Common.{◌++◌, ◌∙◌, ap}
+use Rattle.std.proofs.Common.{◌≡◌, ◌++◌, ◌∙◌, ap, refl, sym, subst, Option, ℕ, List}
+use Rattle.std.specs.Prelude.{IsSomeAnd}
 use Rattle.assoc.specs.Standings.{standing}
+use Rattle.blockack.specs.Reading.{IsWanted}
+use Rattle.ap_model.specs.Readings.{Using}
 use Rattle.ap_model.specs.Agreements.{ups}
-use Rattle.ap_core.specs.Handles.{packet}
+use Rattle.ap_core.specs.DataFrames.{packet}
 use Rattle.ap_core.proofs.Handling.{asking}
 use Rattle.ap_core.proofs.DataLaws.{taken_from}
 use Rattle.ap_core.proofs.packets.on_wanted_data.Goals as goal
 
+pub take-requires-clause-inside : goal.take-requires-clause-inside
+take-requires-clause-inside g c = c.requires.under.stands.place.inside
+
+pub take-requires-clause-wanted : goal.take-requires-clause-wanted
+take-requires-clause-wanted g c = λ d. rw (c.requires.under.stands.is d) c.requires.under.is
+
 pub returns-clause-step : goal.returns-clause-step
 returns-clause-step g c =
+    let under = c.requires.under in
     asking g.J.Judge.gives _ _ _ _ _ c.judge-verdict.result c.judge-verdict.ensures
-    (taken_from (standing c.args.state.now.link) c.args.state.now.agreements.kept c.take.new.self.kept c.args.state.now.clock (packet c.args.frame c.args.read.now)
-    c.sender-station.result c.sender-station.ensures c.args.tid c.requires.tid c.args.start c.requires.agreed _ _ c.judge-verdict.result c.item_of-item.result
+    (taken_from (standing c.args.state.now.link) c.args.state.now.agreements.kept c.take.new.self.kept c.args.state.now.clock (packet c.args.came)
+    c.args.came.frame.sender refl c.args.under.tid under.tid c.args.under.start
+    (subst (λ (o : Option Using). IsSomeAnd o (λ u. IsWanted u.window c.args.came.number × (c.args.under.start ≡ u.window.start))) (sym under.stands.agreed) (under.is, under.starts))
+    _ _ c.judge-verdict.result c.item_of-item.result
     c.new-body.result c.pass_up.new.outs.items c.take.new.out.items c.requires.bytes c.context_of-context.ensures c.item_of-item.ensures (c.new-body.ensures ∙ c.into_tail.ensures)
-    c.take.ensures.uses (c.pass_up.ensures.outs ∙ ap (λ t. t ++ ups c.sender-station.result c.args.tid c.take.new.out.items) c.in_ok-outs.ensures.items))
+    (c.take.ensures.uses c.args.came.frame.sender c.args.under.tid under.stands.place)
+    (c.pass_up.ensures.outs ∙ ap (λ t. t ++ ups c.sender-station.result c.args.under.tid c.take.new.out.items) c.in_ok-outs.ensures.items
+    ∙ ap (λ (a : List ℕ). ups a c.args.under.tid c.take.new.out.items) c.sender-station.ensures))
