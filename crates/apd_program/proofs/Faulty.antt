@@ -1,6 +1,6 @@
 -- What is at fault in files.
 use Rattle.std.proofs.Math.Nat.{lt_of_not-le}
-use Rattle.std.proofs.Common.{◌≡◌, ◌≢◌, ◌⊎◌, ◌<◌, ◌≤◌, true, false, length, List, ℕ, Err, Option, inl, inr, refl, subst}
+use Rattle.std.proofs.Common.{◌≡◌, ◌≢◌, ◌⊎◌, ◌∙◌, ◌<◌, ◌≤◌, true, false, length, List, ℕ, Err, Option, inl, inr, refl, subst}
 use Rattle.hex.specs.Hex.{decode_of}
 use Rattle.hex.specs.declared.error.FromHexError.{FromHexError}
 use Rattle.hex.specs.declared.error.FromHexError.TheVariants.{OutOfMemory}
@@ -14,7 +14,7 @@ use Rattle.apd_program.specs.declared.fault.ProgramFault.{ProgramFault}
 use Rattle.apd_program.specs.declared.fault.ProgramFault.TheVariants.{NoMemory}
 use Rattle.apd_program.specs.declared.reading.Setup.{Setup}
 use Rattle.apd_program.specs.Held.{Held, Holds, HoldsCode, Configures, code_of}
-use Rattle.apd_program.specs.Faults.{HasBadCode, NoCode, HasBadConfiguration, NoConfiguration, IsBadConfig, HasBadCapture, NoCapture, IsAtFault, OfConfiguration, OfCode, IsNoFrame, NoDigits, HasNoFrame, OfFiles, OfWord}
+use Rattle.apd_program.specs.Faults.{HasBadCode, NoCode, HasBadConfiguration, NoConfiguration, IsBadConfig, HasBadCapture, NoCapture, IsAtFault, OfConfiguration, OfCode, IsNoFrame, NoDigits, HasNoFrame, OfFiles, OfWord, HasNoCertificate, OfOthers, OfCertificate}
 
 pub code_at_fault : (files : Held) (path text slice : List ℕ) (e : FromHexError) (f : ProgramFault) → Holds files path text → slice ≡ text → (e ≡ OutOfMemory) ⊎ (code_of slice ≡ Err e) → (e ≡ OutOfMemory → f ≡ NoMemory)
     → (f ≡ NoMemory) ⊎ HasBadCode files path
@@ -79,6 +79,17 @@ pub HasNoFrame-word : (files later : Held) (file word code : List ℕ) (config :
 HasNoFrame-word files later file word code config setup e same fine held (inl memory) = inl memory
 HasNoFrame-word files later file word code config setup e same fine held (inr bad) =
     inr (OfWord setup code fine (let P : Held → Type 0 = λ f. HoldsCode f file code in subst P same held) bad)
+
+pub HasNoCertificate-others : (files : Held) (file certificate : List ℕ) (config : Option (List ℕ)) (e : ProgramFault) → (e ≡ NoMemory) ⊎ IsAtFault files file config
+    → (e ≡ NoMemory) ⊎ HasNoCertificate files file certificate config
+HasNoCertificate-others files file certificate config e (inl memory) = inl memory
+HasNoCertificate-others files file certificate config e (inr fault) = inr (OfOthers fault)
+
+pub HasNoCertificate-file : (files later last : Held) (file certificate code : List ℕ) (config : Option (List ℕ)) (setup : Setup) (e : ProgramFault) → later ≡ files → last ≡ later → Configures files config setup
+    → HoldsCode later file code → (e ≡ NoMemory) ⊎ HasBadCode last certificate → (e ≡ NoMemory) ⊎ HasNoCertificate files file certificate config
+HasNoCertificate-file files later last file certificate code config setup e same still fine held (inl memory) = inl memory
+HasNoCertificate-file files later last file certificate code config setup e same still fine held (inr bad) =
+    inr (OfCertificate setup code fine (let P : Held → Type 0 = λ f. HoldsCode f file code in subst P same held) (let P : Held → Type 0 = λ f. HasBadCode f certificate in subst P (still ∙ same) bad))
 
 pub frame_at_fault : (word : List ℕ) (e : FromHexError) (f : ProgramFault) → (e ≡ OutOfMemory) ⊎ (decode_of word ≡ Err e) → (e ≡ OutOfMemory → f ≡ NoMemory) → (f ≡ NoMemory) ⊎ IsNoFrame word
 frame_at_fault word e f (inl memory) m = inl (m memory)

@@ -5,7 +5,7 @@ use Rattle.clap.specs.declared.builder.value_parser.ValueParser.{ValueParser}
 use Rattle.apd_words.specs.Asked.{Asked}
 use Rattle.apd_words.specs.Reads.{IsHelp}
 use Rattle.apd_program.specs.declared.answer.Answer.{Answer}
-use Rattle.apd_program.specs.declared.answer.Answer.TheVariants.{Accepted, Code, Instructions, Run, Page, Script, Help, Fault, Refused, LineFault}
+use Rattle.apd_program.specs.declared.answer.Answer.TheVariants.{Accepted, Code, Instructions, Run, Page, Script, Help, Fault, Refused, LineFault, Certificate, Unaccepted}
 use Rattle.apd_program.specs.declared.fault.ProgramFault.{ProgramFault}
 use Rattle.apd_program.specs.declared.fault.ProgramFault.TheVariants as fault
 use Rattle.apd_program.specs.Lines.{status_of}
@@ -57,6 +57,8 @@ status_within (Help text) = omega arith
 status_within (Fault e) = omega arith
 status_within (Refused e) = omega arith
 status_within (LineFault e) = omega arith
+status_within (Certificate bytes) = omega arith
+status_within (Unaccepted e) = omega arith
 
 pub Performs-status : (files : Held) (a : Asked) (old new : Option (List ℕ)) (status : ℕ) → Performs files a old new status → status ≤ 3
 Performs-status files a old new status (Wrote answer is written) = omega (arith, status_within answer)

@@ -12,13 +12,17 @@ use Rattle.bpf_machine.specs.Verified.{Verified}
 use Rattle.bpf_text.specs.declared.fault.AsmFault.TheVariants as asm_fault
 use Rattle.bpf_plain.specs.Walks.{IsPlain}
 use Rattle.bpf_verifier.specs.declared.refusal.Refusal.{Refusal}
+use Rattle.bpf_cert.specs.Certified as shown
+use Rattle.bpf_cert.specs.declared.fault.CertFault.{CertFault}
+use Rattle.bpf_cert.specs.declared.fault.CertFault.TheVariants as cert_fault
 use Rattle.bpf_rules.specs.declared.fault.Fault.TheVariants as verify_fault
 use Rattle.apd_trace.specs.Trace.{IsTrace}
 use Rattle.apd_program.specs.declared.answer.Answer.{Answer}
-use Rattle.apd_program.specs.declared.answer.Answer.TheVariants.{Accepted, Code, Instructions, Run, Page, Script, Help, Fault, Refused, LineFault}
+use Rattle.apd_program.specs.declared.answer.Answer.TheVariants.{Accepted, Code, Instructions, Run, Page, Script, Help, Fault, Refused, LineFault, Certificate, Unaccepted}
 use Rattle.apd_program.specs.declared.fault.ProgramFault.{ProgramFault}
 use Rattle.apd_program.specs.Programs.{IsOfProgram, Undecoded, Decoded}
 use Rattle.apd_program.specs.Verifying.{IsVerdict, NotAdmitted}
+use Rattle.apd_program.specs.Certifying.{IsCertificate, NotMade, IsChecked, NotShown}
 use Rattle.apd_program.specs.Texts.{BreaksOff, broken_off, IsAssembly, Broken}
 
 module _ (says : decoded.Code → Answer → Type 0) (code : List ℕ) (shapes : List Shape) (r : Result Answer ProgramFault) where
@@ -35,6 +39,18 @@ pub IsVerdict-refused : (says : decoded.Code → ℕ → Answer → Type 0) (p :
 IsVerdict-refused says p r e plain begins told =
     let P : Answer → Type 0 = IsVerdict says p in
     IfOk-weaker r (λ a. (a ≡ Refused e) × (e.fault ≢ verify_fault.NoMemory)) P (λ a h. subst P (sym h.0) (NotAdmitted e h.1 begins (λ is_plain. h.1 (plain is_plain)))) told
+
+pub IsCertificate-refused : (hook : Hook) (p : decoded.Code) (r : Result Answer ProgramFault) (e : Refusal) → decoded.Begins p.slots e.pc
+    → IfOk r (λ a. (a ≡ Refused e) × (e.fault ≢ verify_fault.NoMemory)) → IfOk r (IsCertificate hook p)
+IsCertificate-refused hook p r e begins told =
+    let P : Answer → Type 0 = IsCertificate hook p in
+    IfOk-weaker r (λ a. (a ≡ Refused e) × (e.fault ≢ verify_fault.NoMemory)) P (λ a h. subst P (sym h.0) (NotMade e h.1 begins)) told
+
+pub IsChecked-refused : (hook : Hook) (bytes : List ℕ) (p : decoded.Code) (r : Result Answer ProgramFault) (e : CertFault) → shown.Refuses p hook bytes e
+    → IfOk r (λ a. (a ≡ Unaccepted e) × (e ≢ cert_fault.NoMemory)) → IfOk r (IsChecked hook bytes p)
+IsChecked-refused hook bytes p r e refuses told =
+    let P : Answer → Type 0 = IsChecked hook bytes p in
+    IfOk-weaker r (λ a. (a ≡ Unaccepted e) × (e ≢ cert_fault.NoMemory)) P (λ a h. subst P (sym h.0) (NotShown e h.1 refuses)) told
 
 pub IsTrace-of : (accepted : Verified) (p : decoded.Code) (hook : Hook) (frame : List ℕ) (draw : ℕ) (text : List ℕ) → accepted.code ≡ p → accepted.hook ≡ hook → IsTrace accepted frame draw text
     → IsTrace (record { code = p; hook = hook; budget = accepted.budget }) frame draw text
@@ -57,3 +73,5 @@ IsAssembly-broken text front (Script lines) bad same breaks = absurd breaks
 IsAssembly-broken text front (Help lines) bad same breaks = absurd breaks
 IsAssembly-broken text front (Fault e) bad same breaks = absurd breaks
 IsAssembly-broken text front (Refused e) bad same breaks = absurd breaks
+IsAssembly-broken text front (Certificate bytes) bad same breaks = absurd breaks
+IsAssembly-broken text front (Unaccepted e) bad same breaks = absurd breaks

@@ -2,16 +2,17 @@
 use Rattle.std.specs.Prelude.{List, ℕ, Option}
 use Rattle.bpf_regions.specs.declared.hooks.Hook.{Hook}
 use Rattle.bpf_decode.specs.Program.{Code}
-use Rattle.apd_words.specs.Asked.{Asked, Verify, Assemble, Disassemble, Trace, Explain, Frames, Help}
+use Rattle.apd_words.specs.Asked.{Asked, Verify, Assemble, Disassemble, Trace, Explain, Frames, Help, Certify, Check}
 use Rattle.apd_program.specs.declared.answer.Answer.{Answer}
 use Rattle.apd_program.specs.declared.reading.Setup.{Setup}
 use Rattle.apd_program.specs.Held.{Held, Holds, Lacks, HoldsCode, IsFrame, Configures}
-use Rattle.apd_program.specs.Faults.{IsAtFault, HasNoFrame, HasBadCapture}
+use Rattle.apd_program.specs.Faults.{IsAtFault, HasNoFrame, HasBadCapture, HasNoCertificate}
 use Rattle.apd_program.specs.Pages.{IsPage, HasNoPage, IsHelpText, HasNoHelp, help_words}
 use Rattle.apd_program.specs.Scripts.{IsScript}
 use Rattle.apd_program.specs.Programs.{IsOfProgram}
 use Rattle.apd_program.specs.Verifying.{IsVerdict, IsBudget, IsRun}
 use Rattle.apd_program.specs.Texts.{IsAssembly, IsListingWith}
+use Rattle.apd_program.specs.Certifying.{IsCertificate, IsChecked}
 
 -- what is said of the program in the file, with the configuration
 pub record IsOfCode (says : Setup → Code → Answer → Type 0) (files : Held) (file : List ℕ) (config : Option (List ℕ)) (a : Answer) : Type 0 where
@@ -33,6 +34,12 @@ pub record IsTraced (files : Held) (hook : Hook) (file word : List ℕ) (config 
   pub spelled : IsFrame word frame
   pub said : IsOfCode (λ setup. IsVerdict (IsRun hook frame setup.draw)) files file config a
 
+-- what the certificate in one file shows of the program in the other
+pub record IsCheckedFile (files : Held) (hook : Hook) (file certificate : List ℕ) (config : Option (List ℕ)) (a : Answer) : Type 0 where
+  pub bytes : List ℕ
+  pub held : HoldsCode files certificate bytes
+  pub said : IsOfCode (λ setup. IsChecked hook bytes) files file config a
+
 abbrev pub IsAnswer : Held → Asked → Answer → Type 0
 IsAnswer files (Verify hook file config) a = IsOfCode (λ setup. IsVerdict IsBudget) files file config a
 IsAnswer files (Assemble file) a = IsOfText IsAssembly files file a
@@ -41,6 +48,8 @@ IsAnswer files (Trace hook file word config) a = IsTraced files hook file word c
 IsAnswer files (Explain word) a = IsPage word a
 IsAnswer files (Frames capture ticks) a = IsOfText (IsScript ticks) files capture a
 IsAnswer files (Help command) a = IsHelpText (help_words command) a
+IsAnswer files (Certify hook file config) a = IsOfCode (λ setup. IsCertificate hook) files file config a
+IsAnswer files (Check hook file certificate config) a = IsCheckedFile files hook file certificate config a
 IsAnswer files _ a = ⊥
 
 -- there is no answer: a file or a word is at fault, or the command isn't there yet
@@ -52,4 +61,6 @@ HasNoAnswer files (Trace hook file word config) = HasNoFrame files file word con
 HasNoAnswer files (Explain word) = HasNoPage word
 HasNoAnswer files (Frames capture ticks) = HasBadCapture files capture
 HasNoAnswer files (Help command) = HasNoHelp (help_words command)
+HasNoAnswer files (Certify hook file config) = IsAtFault files file config
+HasNoAnswer files (Check hook file certificate config) = HasNoCertificate files file certificate config
 HasNoAnswer files _ = Unit {0}

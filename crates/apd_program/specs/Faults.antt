@@ -44,3 +44,8 @@ pub data IsNoFrame (word : List ℕ) : Type 0 where
 pub data HasNoFrame (files : Held) (file word : List ℕ) (config : Option (List ℕ)) : Type 0 where
   OfFiles : IsAtFault files file config → HasNoFrame files file word config
   OfWord : (setup : Setup) (code : List ℕ) → Configures files config setup → HoldsCode files file code → IsNoFrame word → HasNoFrame files file word config
+
+-- the configuration or the code is at fault, or none is and the certificate's file can't be read, or doesn't hold hex digits in pairs
+pub data HasNoCertificate (files : Held) (file certificate : List ℕ) (config : Option (List ℕ)) : Type 0 where
+  OfOthers : IsAtFault files file config → HasNoCertificate files file certificate config
+  OfCertificate : (setup : Setup) (code : List ℕ) → Configures files config setup → HoldsCode files file code → HasBadCode files certificate → HasNoCertificate files file certificate config

@@ -4,6 +4,7 @@ pub mod Held
 pub mod Faults
 pub mod Programs
 pub mod Verifying
+pub mod Certifying
 pub mod Texts
 pub mod Pages
 pub mod Scripts

@@ -3,9 +3,11 @@ use Rattle.std.specs.Prelude.{ℕ, ◌/◌, List, ◌++◌, length, codes, decim
 use Rattle.bpf_decode.specs.Answer.{fault_text}
 use Rattle.bpf_verifier.specs.Refusals.{refusal_text}
 use Rattle.bpf_text.specs.Refusals as line
+use Rattle.bpf_cert.specs.Faults as certificate
+use Rattle.hex.specs.Hex.{encode_lower}
 use Rattle.apd_program.specs.Slots.{line_of, slot_lines}
 use Rattle.apd_program.specs.declared.answer.Answer.{Answer}
-use Rattle.apd_program.specs.declared.answer.Answer.TheVariants.{Accepted, Code, Instructions, Run, Page, Script, Help, Fault, Refused, LineFault}
+use Rattle.apd_program.specs.declared.answer.Answer.TheVariants.{Accepted, Code, Instructions, Run, Page, Script, Help, Fault, Refused, LineFault, Certificate, Unaccepted}
 
 abbrev pub printed : Answer → List ℕ
 printed (Accepted budget) = line_of (codes "accepted budget " ++ decimal budget)
@@ -18,6 +20,8 @@ printed (Help text) = string_bytes text
 printed (Fault e) = line_of (fault_text e)
 printed (Refused e) = line_of (refusal_text e)
 printed (LineFault e) = line_of (line.text_of e)
+printed (Certificate bytes) = line_of (encode_lower bytes.items)
+printed (Unaccepted e) = line_of (codes "certificate " ++ decimal (certificate.number_of e))
 
 -- 0 for a success, 1 for a refusal
 abbrev pub status_of : Answer → ℕ
@@ -31,3 +35,5 @@ status_of (Help text) = 0
 status_of (Fault e) = 1
 status_of (Refused e) = 1
 status_of (LineFault e) = 1
+status_of (Certificate bytes) = 0
+status_of (Unaccepted e) = 1

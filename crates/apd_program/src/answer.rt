@@ -5,6 +5,7 @@ ghost use Rattle.hex.specs.Hex.{encode_lower};
 ghost use Rattle.apd_program.specs.Slots.{line_of, slot_lines};
 
 use crate::fault::ProgramFault;
+use bpf_cert::CertFault;
 use bpf_decode::DecodeFault;
 use bpf_text::AsmFault;
 use bpf_verifier::{Fault, Refusal};
@@ -33,6 +34,10 @@ pub enum Answer {
     Refused(Refusal),
     /// A line of the text is no instruction.
     LineFault(AsmFault),
+    /// A certificate's bytes.
+    Certificate(Vec<u8>),
+    /// The certificate isn't accepted.
+    Unaccepted(CertFault),
 }
 
 impl Answer {
@@ -43,10 +48,14 @@ impl Answer {
         ensures is { result ≡ status_of self.now }
     {
         match self {
-            Answer::Accepted { .. } | Answer::Code(_) | Answer::Instructions(_) | Answer::Run(_) =>
-                0,
+            Answer::Accepted { .. }
+            | Answer::Code(_)
+            | Answer::Instructions(_)
+            | Answer::Run(_)
+            | Answer::Certificate(_) => 0,
             Answer::Page(_) | Answer::Script(_) | Answer::Help(_) => 0,
-            Answer::Fault(_) | Answer::Refused(_) | Answer::LineFault(_) => 1,
+            Answer::Fault(_) | Answer::Refused(_) | Answer::LineFault(_) | Answer::Unaccepted(_) =>
+                1,
         }
     }
 
@@ -62,6 +71,8 @@ impl Answer {
             Answer::Fault(fault) => format!(in alloc; "{fault}\n"),
             Answer::Refused(refusal) => format!(in alloc; "{refusal}\n"),
             Answer::LineFault(fault) => format!(in alloc; "{fault}\n"),
+            Answer::Certificate(bytes) => certificate_line(alloc, bytes.as_slice()),
+            Answer::Unaccepted(fault) => format!(in alloc; "certificate {}\n", fault.number()),
         }
     }
 }
@@ -86,6 +97,15 @@ pub(crate) fn refused(refusal: Refusal) -> Result<Answer, ProgramFault>
         Fault::NoMemory => Err(ProgramFault::NoMemory),
         _ => Ok(Answer::Refused(refusal)),
     }
+}
+
+/// A certificate in hex digits, on one line.
+fn certificate_line(alloc: Global, bytes: &[u8]) -> Result<String, AllocError>
+    ensures is { IfOk result (λ text. string_bytes text ≡ line_of (encode_lower bytes.now)) }
+{
+    let mut line = hex::encode(alloc, bytes)?;
+    line.push('\n')?;
+    Ok(line)
 }
 
 /// Adds the line of a slot.

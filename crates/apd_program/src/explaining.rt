@@ -30,17 +30,28 @@ fn unknown(alloc: Global, word: &str) -> ProgramFault {
 
 /// What a refusal means in one sentence; none where nothing is refused.
 pub(crate) fn sentence(alloc: Global, answer: &Answer) -> Result<Option<String>, AllocError> {
-    let (number, place, at) = match answer {
-        Answer::Fault(fault) => (fault.number(), "slot", fault.slot() as u64),
-        Answer::Refused(refusal) => (refusal.number(), "slot", refusal.pc as u64),
-        Answer::LineFault(AsmFault::Line { line, number }) => (*number, "line", *line),
-        _ => return Ok(None),
-    };
+    match answer {
+        Answer::Fault(fault) => at(alloc, "slot", fault.slot() as u64, fault.number()),
+        Answer::Refused(refusal) => at(alloc, "slot", refusal.pc as u64, refusal.number()),
+        Answer::LineFault(AsmFault::Line { line, number }) => at(alloc, "line", *line, *number),
+        Answer::Unaccepted(fault) => told(alloc, "", fault.number()),
+        _ => Ok(None),
+    }
+}
+
+/// What a number means at a slot or a line.
+fn at(alloc: Global, place: &str, at: u64, number: u8) -> Result<Option<String>, AllocError> {
+    let place = format!(in alloc; "{place} {at}: ")?;
+    told(alloc, place.as_str(), number)
+}
+
+/// What a number means behind the name of a place; none where it has no page.
+fn told(alloc: Global, place: &str, number: u8) -> Result<Option<String>, AllocError> {
     let Some(page) = explain(number) else {
         return Ok(None);
     };
     let text = format!(in alloc;
-        "apd: {place} {at}: {}; `apd explain {number}` tells more\n",
+        "apd: {place}{}; `apd explain {number}` tells more\n",
         page.title
     )?;
     Ok(Some(text))

@@ -5,10 +5,11 @@ ghost use Rattle.std.specs.Io.KnownBytes.{Keeps};
 ghost use Rattle.apd_words.specs.Asked.{Asked, asked_of};
 ghost use Rattle.apd_words.specs.Spells.{Spells};
 ghost use Rattle.apd_program.specs.Held.{Lacks};
-ghost use Rattle.apd_program.specs.Faults.{IsAtFault, HasNoFrame};
+ghost use Rattle.apd_program.specs.Faults.{IsAtFault, HasNoFrame, HasNoCertificate};
+ghost use Rattle.apd_program.specs.Certifying.{IsCertificate};
 ghost use Rattle.apd_program.specs.Verifying.{IsVerdict, IsBudget};
 ghost use Rattle.apd_program.specs.Texts.{IsAssembly, IsListingWith};
-ghost use Rattle.apd_program.specs.Answers.{IsOfCode, IsOfText, IsTraced, IsAnswer, HasNoAnswer};
+ghost use Rattle.apd_program.specs.Answers.{IsOfCode, IsOfText, IsTraced, IsAnswer, HasNoAnswer, IsCheckedFile};
 ghost use Rattle.apd_program.specs.Program.{Performs, Runs};
 
 use crate::answer::Answer;
@@ -16,7 +17,7 @@ use crate::fault::ProgramFault;
 use crate::files::Files;
 use crate::printing::{complain, print, print_text, say, say_if_any};
 use crate::reading::{code, frame, read, setup_of};
-use crate::{explaining, framing, helping, texts, verifying};
+use crate::{certifying, explaining, framing, helping, texts, verifying};
 use apd_words::{Request, Told, read_words};
 use bpf_regions::{Frame, Hook};
 use std::alloc::Global;
@@ -96,8 +97,13 @@ fn answer<F: Files>(
         Request::Frames { capture, ticks } => framing::frames(alloc, capture, ticks, files),
         Request::Help { command } => helping::help(alloc, command),
         Request::Run { .. } => Err(ProgramFault::NotThere("run")),
-        Request::Certify { .. } => Err(ProgramFault::NotThere("cert")),
-        Request::Check { .. } => Err(ProgramFault::NotThere("check")),
+        Request::Certify { hook, file, config } => certify(alloc, hook, file, config, files),
+        Request::Check {
+            hook,
+            file,
+            certificate,
+            config,
+        } => check(alloc, hook, file, certificate, config, files),
     }
 }
 
@@ -161,4 +167,44 @@ fn trace<F: Files>(
         return Err(ProgramFault::LongFrame);
     };
     verifying::trace(alloc, code.as_slice(), setup, hook, &frame)
+}
+
+/// The certificate of the program in a file, for the maps of a configuration.
+fn certify<F: Files>(
+    alloc: Global,
+    hook: Hook,
+    file: &str,
+    config: Option<&str>,
+    files: &mut F,
+) -> Result<Answer, ProgramFault>
+    ensures certificate { IfOk result (λ a. IsOfCode (λ setup. IsCertificate hook) (F.held files.old) file.now (option_map (λ path. path.now) config.entry) a) }
+    ensures fault { IfErr result (λ e. (e ≡ ProgramFault.NoMemory) ⊎ IsAtFault (F.held files.old) file.now (option_map (λ path. path.now) config.entry)) }
+{
+    let setup = setup_of(alloc, config, files)?;
+    let code = code(alloc, file, files)?;
+    certifying::certify(alloc, code.as_slice(), setup.shapes, hook)
+}
+
+/// What a certificate in a file shows of the program in another.
+fn check<F: Files>(
+    alloc: Global,
+    hook: Hook,
+    file: &str,
+    certificate: &str,
+    config: Option<&str>,
+    files: &mut F,
+) -> Result<Answer, ProgramFault>
+    ensures checked { IfOk result (λ a. IsCheckedFile (F.held files.old) hook file.now certificate.now (option_map (λ path. path.now) config.entry) a) }
+    ensures fault { IfErr result (λ e. (e ≡ ProgramFault.NoMemory) ⊎ HasNoCertificate (F.held files.old) file.now certificate.now (option_map (λ path. path.now) config.entry)) }
+{
+    let setup = setup_of(alloc, config, files)?;
+    let bytes = code(alloc, file, files)?;
+    let shown = code(alloc, certificate, files)?;
+    certifying::check(
+        alloc,
+        bytes.as_slice(),
+        setup.shapes,
+        hook,
+        shown.as_slice(),
+    )
 }

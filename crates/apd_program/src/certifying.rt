@@ -1,0 +1,89 @@
+//! Certificates, made and checked: the commands `cert` and `check`.
+
+ghost use Rattle.std.specs.Prelude.{◌≡◌, ◌≢◌, IfOk, IfErr};
+ghost use Rattle.bpf_cert.specs.declared.fault.CertFault.{CertFault};
+ghost use Rattle.apd_program.specs.Certifying.{IsCertificate, IsChecked};
+ghost use Rattle.apd_program.specs.Programs.{IsOfProgram};
+
+use crate::answer::{Answer, refused, undecoded};
+use crate::fault::ProgramFault;
+use bpf_cert::{CertFault, certificate};
+use bpf_decode::{Program, decode};
+use bpf_regions::{Hook, Shapes};
+use std::alloc::Global;
+
+/// The answer to a certificate that isn't accepted.
+fn unaccepted(fault: CertFault) -> Result<Answer, ProgramFault>
+    ensures fault { IfOk result (λ a. (a ≡ Answer.Unaccepted fault) × (fault ≢ CertFault.NoMemory)) }
+    ensures memory { IfErr result (λ e. e ≡ ProgramFault.NoMemory) }
+{
+    match fault {
+        CertFault::NoMemory => Err(ProgramFault::NoMemory),
+        _ => Ok(Answer::Unaccepted(fault)),
+    }
+}
+
+/// The certificate of a program, or the verifier's refusal.
+fn certified(alloc: Global, program: Program, hook: Hook) -> Result<Answer, ProgramFault>
+    ensures certificate { IfOk result (IsCertificate hook program) }
+    ensures memory { IfErr result (λ e. e ≡ ProgramFault.NoMemory) }
+{
+    match bpf_verifier::verify(alloc, program, hook) {
+        Ok(accepted) => match certificate(alloc, &accepted) {
+            Ok(bytes) => Ok(Answer::Certificate(bytes)),
+            Err(refusal) => refused(refusal),
+        },
+        Err(refusal) => refused(refusal),
+    }
+}
+
+/// The certificate of the program that the code spells, for maps of these shapes.
+pub(crate) fn certify(
+    alloc: Global,
+    code: &[u8],
+    shapes: Shapes,
+    hook: Hook,
+) -> Result<Answer, ProgramFault>
+    ensures certificate { IfOk result (IsOfProgram (IsCertificate hook) code.now shapes) }
+    ensures memory { IfErr result (λ e. e ≡ ProgramFault.NoMemory) }
+{
+    match decode(alloc, code, shapes) {
+        Ok(program) => certified(alloc, program, hook),
+        Err(fault) => undecoded(fault),
+    }
+}
+
+/// What the bytes of a certificate show of a program.
+fn checked(
+    alloc: Global,
+    program: Program,
+    hook: Hook,
+    bytes: &[u8],
+) -> Result<Answer, ProgramFault>
+    ensures checked { IfOk result (IsChecked hook bytes.now program) }
+    ensures memory { IfErr result (λ e. e ≡ ProgramFault.NoMemory) }
+{
+    match bpf_cert::check(alloc, program, hook, bytes) {
+        Ok(accepted) => Ok(Answer::Accepted {
+            budget: accepted.budget(),
+        }),
+        Err(fault) => unaccepted(fault),
+    }
+}
+
+/// What the bytes of a certificate show of the program that the code spells, for maps of these shapes.
+pub(crate) fn check(
+    alloc: Global,
+    code: &[u8],
+    shapes: Shapes,
+    hook: Hook,
+    bytes: &[u8],
+) -> Result<Answer, ProgramFault>
+    ensures checked { IfOk result (IsOfProgram (IsChecked hook bytes.now) code.now shapes) }
+    ensures memory { IfErr result (λ e. e ≡ ProgramFault.NoMemory) }
+{
+    match decode(alloc, code, shapes) {
+        Ok(program) => checked(alloc, program, hook, bytes),
+        Err(fault) => undecoded(fault),
+    }
+}
