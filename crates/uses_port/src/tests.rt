@@ -98,7 +98,7 @@ fn two_workers(alloc: Global, shape: Shape, draws: (u64, u64)) -> Result<Two, Fa
     ensures shapes { IfOk result (λ two. shapes_of two.maps ≡ shape ∷ []) }
 {
     tables_law();
-    let mut maps = one_map(alloc, shape, 2, 2)?;
+    let mut maps = one_map(alloc, shape, 2, 3)?;
     let one = WorkerState::seated(alloc, &mut maps, 0, draws.0)?;
     let other = WorkerState::seated(alloc, &mut maps, 1, draws.1)?;
     Ok(Two { maps, one, other })
@@ -148,25 +148,48 @@ const COUNT: &str = "lddw r1, value 0 0\nmov r2, 1\natomic_add [r1+0], r2\nmov r
 
 const LOAD: &str = "lddw r1, value 0 0\nldxdw r0, [r1+0]\nexit";
 
-/// What each of two workers loads after the one counted three times, the other twice.
-fn counted(alloc: Global, scope: Scope) -> Result<(u64, u64), Fail> {
-    let shape = shape_of(1, WordWidth::Eight, scope);
+/// Two workers, of which the one counted three times, the other twice.
+fn counted(alloc: Global, shape: Shape) -> Result<Two, Fail>
+    requires valid { IsShape shape }
+    ensures shapes { IfOk result (λ two. shapes_of two.maps ≡ shape ∷ []) }
+{
     let mut two = two_workers(alloc, shape, (0, 0))?;
     two.by_one(alloc, shape, COUNT)?;
     two.by_other(alloc, shape, COUNT)?;
     two.by_one(alloc, shape, COUNT)?;
     two.by_other(alloc, shape, COUNT)?;
     two.by_one(alloc, shape, COUNT)?;
-    Ok((
-        two.by_one(alloc, shape, LOAD)?,
-        two.by_other(alloc, shape, LOAD)?,
-    ))
+    Ok(two)
+}
+
+/// The sum of word 0 over the tables of one map of this shape.
+fn sum_of(alloc: Global, maps: [MapTables; 1], shape: Shape) -> Result<u64, Fail>
+    requires shapes { shapes_of maps ≡ shape ∷ [] }
+    requires words { 0 < word_count shape }
+{
+    let mut maps = maps;
+    let mut seats = maps[0].seat_each(alloc)?;
+    Ok(maps[0].sum(&mut seats, 0))
+}
+
+/// What each of the two loads then, and the sum of their word over the tables.
+fn counts(alloc: Global, scope: Scope) -> Result<(u64, u64, u64), Fail> {
+    let shape = shape_of(1, WordWidth::Eight, scope);
+    let mut two = counted(alloc, shape)?;
+    let one = two.by_one(alloc, shape, LOAD)?;
+    let other = two.by_other(alloc, shape, LOAD)?;
+    let Two {
+        maps,
+        one: _one,
+        other: _other,
+    } = two;
+    Ok((one, other, sum_of(alloc, maps, shape)?))
 }
 
 #[test]
 fn each_worker_counts_in_its_own_table(rt: HostRuntime) -> Result<(), Fail> {
-    assert_eq!(rt; counted(rt.alloc(), Scope::Worker)?, (3, 2));
-    assert_eq!(rt; counted(rt.alloc(), Scope::Shared)?, (5, 5));
+    assert_eq!(rt; counts(rt.alloc(), Scope::Worker)?, (3, 2, 5));
+    assert_eq!(rt; counts(rt.alloc(), Scope::Shared)?, (5, 5, 5));
     Ok(())
 }
 
