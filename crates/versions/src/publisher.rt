@@ -172,15 +172,18 @@ impl Publisher {
         )
     }
 
-    /// Waits for the readers, and ends. From then on a reader that enters waits for ever.
-    pub fn close<R: Wait>(self, rt: &R) {
+    /// Waits for the readers, ends, and hands back the set that was published last. From then on a reader that enters
+    /// waits for ever.
+    pub fn close<R: Wait>(self, rt: &R) -> ProgramSet
+        ensures last { result ≡ self }
+    {
         let Publisher {
             writer,
             author: _author,
             known: _known,
             shapes: _shapes,
         } = self;
-        drop(writer.take(rt));
+        Box::into_inner(writer.take(rt))
     }
 
     // All that can be refused comes before the list grows.
