@@ -1,5 +1,5 @@
 -- Edits of a table, as a call sees them: `ks` is what it holds, `now` is its value.
-use Rattle.std.proofs.Common.{◌≡◌, ℕ, List, Option, Some, None, sym, ap, subst, ◌∙◌}
+use Rattle.std.proofs.Common.{◌≡◌, ◌<◌, ℕ, List, length, Option, Some, None, sym, ap, subst, ◌∙◌}
 use Rattle.std.specs.Prelude.{IsSome, slice_index_or, slice_set, remove, insert}
 use Rattle.ap_model.specs.Readings.{Using}
 use Rattle.ap_agreements.specs.Tables.{Kept, key_of, agreement_in, IsRising, IsPlaceOf, IsPlaceFor, Stands, Sets}
@@ -48,3 +48,7 @@ module _ (ks now : List Kept) (e : ks ≡ now) (rising : IsRising ks) (a : List 
 pub not_some : (o : Option Using) → o ≡ None → IsSome o → ⊥
 not_some None e h = absurd (cc)
 not_some (Some u) e h = absurd (cc)
+
+-- what was read at a place stands there
+pub read_at : (ks now : List Kept) → ks ≡ now → (at : ℕ) → at < length now → (x : Kept) → x ≡ slice_index_or ks at x → (d : Kept) → x ≡ slice_index_or now at d
+read_at ks now e at lt x f d = f ∙ ap (λ (l : List Kept). slice_index_or l at x) e ∙ get_or_default now at x d lt

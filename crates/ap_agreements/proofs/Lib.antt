@@ -5,3 +5,4 @@ pub mod Places
 pub mod Filters
 pub mod Halves
 pub mod Edits
+pub mod Late

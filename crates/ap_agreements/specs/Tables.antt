@@ -1,10 +1,11 @@
 -- The agreements of a shard: what a contract sees of them, and how they are looked up.
-use Rattle.std.specs.Prelude.{◌≡◌, ℕ, ◌+◌, ◌<◌, ◌≤◌, nat_le, Bool, true, cond, Option, Some, None, List, [], ◌∷◌, length, slice_index_or, ◌==◌, ◌&&◌, if◌then◌else◌, AllPairs}
+use Rattle.std.specs.Prelude.{◌≡◌, ℕ, ◌+◌, ◌<◌, ◌≤◌, nat_le, Bool, true, cond, Option, Some, None, List, [], ◌∷◌, length, slice_index_or, sum_by, ◌==◌, ◌&&◌, if◌then◌else◌, AllPairs}
 use Rattle.std.specs.Ordering.{nat_cmp, ordering_then}
 use Rattle.std.specs.declared.cmp.Ordering.{Ordering}
 use Rattle.std.specs.declared.cmp.Ordering.TheVariants.{Less, Greater}
 use Rattle.std.specs.Cmp.Lexicographic.{slice_cmp}
 use Rattle.assoc.specs.Standings.{same_address}
+use Rattle.blockack.specs.Reading.{numbers_held}
 use Rattle.ap_model.specs.Readings.{Using, Held}
 use Rattle.ap_agreements.specs.Uses.{DataUse, AloneUse, RequestUse}
 
@@ -50,6 +51,11 @@ abbrev pub agreement_in : List Kept → List ℕ → ℕ → Option Using
 agreement_in [] a tid = None
 agreement_in (k ∷ ks) a tid = if is_for a tid k then Some k.using else agreement_in ks a tid
 
+-- how many numbers an agreement's window holds, none where there is no agreement
+abbrev pub held_under : Option Using → ℕ
+held_under None = 0
+held_under (Some u) = numbers_held u.window
+
 -- the agreement of station a for a TID stands at this place, and is this one
 pub record Stands (ks : List Kept) (a : List ℕ) (tid at : ℕ) (k : Kept) : Type 0 where
   pub place : IsPlaceOf ks (a, tid) at
@@ -84,6 +90,14 @@ UsesRequest old a tid start clock new passed board =
 -- it was not used for as long as its timeout says, if it has one
 abbrev pub is_late : ℕ → Using → Bool
 is_late clock u = nat_le 1 u.timeout && nat_le (u.last_use + u.timeout) clock
+
+-- how many numbers the windows of these agreements hold in all
+abbrev pub all_held : List Kept → ℕ
+all_held ks = sum_by (λ k. numbers_held k.using.window) ks
+
+-- how many those of the late ones do
+abbrev pub late_held : ℕ → List Kept → ℕ
+late_held clock ks = sum_by (λ k. cond (is_late clock k.using) (numbers_held k.using.window) 0) ks
 
 -- it is in the table, and late
 pub record IsLateIn (clock : ℕ) (ks : List Kept) (k : Kept) : Type 0 where

@@ -1,11 +1,11 @@
 //! The agreements of a shard.
 
-ghost use Rattle.std.specs.Prelude.{◌≡◌, ◌≤◌, ◌<◌, ◌↔◌, ℕ, List, true, false, IfOk, IfErr, OnOk, OnErr, MatchOption, IsSome, None, Some, [], All, AllPairs, Contains, count_by, map, filter, not, length, slice_index_or, vec_len, vec_capacity};
+ghost use Rattle.std.specs.Prelude.{◌≡◌, ◌-◌, ◌^◌, ◌≤◌, ◌<◌, ◌↔◌, ℕ, min, List, true, false, IfOk, IfErr, OnOk, OnErr, MatchOption, IsSome, None, Some, [], All, AllPairs, Contains, count_by, map, filter, not, length, slice_index_or, vec_len, vec_capacity};
 ghost use Rattle.arrayvec.specs.ArrayVec.{array_vec_len};
-ghost use Rattle.blockack.specs.Reading.{IsWanted, IsAlone};
+ghost use Rattle.blockack.specs.Reading.{IsWanted, IsAlone, numbers_held, most_passed};
 ghost use Rattle.ap_model.specs.Steps.{IsBefore};
 ghost use Rattle.ap_model.specs.Readings.{Using};
-ghost use Rattle.ap_agreements.specs.Tables.{Kept, key_of, agreement_in, is_late, IsRising, IsPlaceOf, IsPlaceFor, IsLateIn, unless_late, Stands, Sets, Discards, UsesData, UsesAlone, UsesRequest};
+ghost use Rattle.ap_agreements.specs.Tables.{Kept, key_of, agreement_in, is_late, IsRising, IsPlaceOf, IsPlaceFor, IsLateIn, unless_late, all_held, late_held, held_under, Stands, Sets, Discards, UsesData, UsesAlone, UsesRequest};
 
 use crate::entry::{Entry, Released};
 use ap_model::Held;
@@ -70,6 +70,18 @@ impl Agreements {
         }
     }
 
+    /// How many numbers the window of a station's agreement for a TID holds, those of dropped frames
+    /// among them: none without an agreement.
+    pub fn held(&self, station: Address, tid: Tid) -> usize
+        ensures is { result ≡ held_under (agreement_in self.now.kept station tid) }
+        ensures fits { result ≤ 64 }
+    {
+        match self.get(station, tid) {
+            Some(entry) => entry.held(),
+            None => 0,
+        }
+    }
+
     /// The agreement of a station for a TID, and its place. It stays there until an agreement is put
     /// in or taken out.
     pub fn get_placed(&self, station: Address, tid: Tid) -> Option<(usize, &Entry)>
@@ -95,6 +107,8 @@ impl Agreements {
         requires wanted { (d : Kept) → IsWanted (slice_index_or self.old.kept at d).using.window number }
         requires empty { array_vec_len out.old ≡ 0 }
         ensures uses { (a : List ℕ) (tid : ℕ) → IsPlaceOf self.old.kept (a, tid) at → UsesData true self.old.kept a tid number item clock self.new.kept out.new.items }
+        ensures few { (d : Kept)
+            → array_vec_len out.new ≤ most_passed (slice_index_or self.old.kept at d).using.window number }
         ensures numbers { All (λ p. p.0 < 4096) out.new.items }
     {
         let entry = &mut self.entries[at];
@@ -122,29 +136,26 @@ impl Agreements {
         entry.leave(number, clock);
     }
 
-    /// A BlockAckReq with this start came at this time: answers the scoreboard afterwards, its first
-    /// number and a bit for each number from there on.
+    /// A BlockAckReq with this start came for the agreement at this place, at this time: answers the
+    /// scoreboard afterwards, its first number and a bit for each number from there on.
     pub fn request(
         &mut self,
-        station: Address,
-        tid: Tid,
+        at: usize,
         start: SequenceNumber,
         clock: u64,
         out: &mut Released,
     ) -> (SequenceNumber, u64)
-        requires there { IsSome (agreement_in self.old.kept station tid) }
+        requires inside { at < length self.old.kept }
         requires empty { array_vec_len out.old ≡ 0 }
-        ensures uses { UsesRequest self.old.kept station tid start clock self.new.kept out.new.items result }
+        ensures uses { (a : List ℕ) (tid : ℕ) → IsPlaceOf self.old.kept (a, tid) at
+            → UsesRequest self.old.kept a tid start clock self.new.kept out.new.items result }
+        ensures few { (d : Kept)
+            → array_vec_len out.new ≤ numbers_held (slice_index_or self.old.kept at d).using.window }
         ensures numbers { All (λ p. p.0 < 4096) out.new.items }
     {
-        match self.find(station, tid) {
-            Ok(at) => {
-                let entry = &mut self.entries[at];
-                entry.request(start, clock, out);
-                entry.scoreboard()
-            }
-            Err(_) => unreachable!(),
-        }
+        let entry = &mut self.entries[at];
+        entry.request(start, clock, out);
+        entry.scoreboard()
     }
 
     /// Takes the agreement of a station for a TID out.
@@ -193,12 +204,27 @@ impl Agreements {
             .count()
     }
 
+    /// How many numbers the windows of those agreements hold in all, those of dropped frames among
+    /// them; usize::MAX where they are more.
+    pub fn late_held(&self, clock: u64) -> usize
+        ensures { result ≡ min (late_held clock self.now.kept) (2 ^ 64 - 1) }
+    {
+        let mut held = 0usize;
+        for entry in &self.entries {
+            if entry.is_late(clock) {
+                held = held.saturating_add(entry.held());
+            }
+        }
+        held
+    }
+
     /// Moves the agreements that were not used for as long as their timeouts say to `ended`, by
     /// rising address and then TID.
     pub fn take_late(&mut self, clock: u64, ended: &mut Vec<Entry>)
         requires empty { ended.old.items ≡ [] }
         requires room { count_by (λ k. is_late clock k.using) self.old.kept ≤ vec_capacity ended.old }
         ensures many { vec_len ended.new ≡ count_by (λ k. is_late clock k.using) self.old.kept }
+        ensures held { all_held ended.new.items ≡ late_held clock self.old.kept }
         ensures rising { AllPairs IsBefore (map key_of ended.new.items) }
         ensures exact { (k : Kept) → Contains ended.new.items k ↔ IsLateIn clock self.old.kept k }
         ensures others { (a : List ℕ) (tid : ℕ) → agreement_in self.new.kept a tid ≡ unless_late clock (agreement_in self.old.kept a tid) }

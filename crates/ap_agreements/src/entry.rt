@@ -2,7 +2,7 @@
 
 ghost use Rattle.std.specs.Prelude.{◌≡◌, ◌<◌, ◌≤◌, ◌↔◌, ℕ, IsTrue, IfOk, None, [], true, false, All};
 ghost use Rattle.arrayvec.specs.ArrayVec.{array_vec_len};
-ghost use Rattle.blockack.specs.Reading.{IsWanted, IsAlone, EndPassesUp};
+ghost use Rattle.blockack.specs.Reading.{IsWanted, IsAlone, EndPassesUp, numbers_held, most_passed};
 ghost use Rattle.ap_agreements.specs.Tables.{key_cmp, key_of, is_late};
 ghost use Rattle.ap_agreements.specs.Uses.{Opens, DataUse, AloneUse, RequestUse};
 
@@ -109,6 +109,22 @@ impl Entry {
         self.window.wants(number.number())
     }
 
+    /// How many frames data with this number passes up, at most.
+    pub fn most_passed(&self, number: SequenceNumber) -> usize
+        ensures { result ≡ most_passed self.now.using.window number }
+    {
+        self.window.most_passed(number.number())
+    }
+
+    /// How many numbers the window holds, those of dropped frames among them: as many frames as a
+    /// BlockAckReq or the end passes up, at most.
+    pub fn held(&self) -> usize
+        ensures is { result ≡ numbers_held self.now.using.window }
+        ensures fits { result ≤ 64 }
+    {
+        self.window.held()
+    }
+
     /// Whether data with this number would be passed up at once, and nothing behind it.
     pub fn passes_alone(&self, number: SequenceNumber) -> bool
         ensures { IsTrue result ↔ IsAlone self.now.using.window number }
@@ -135,6 +151,7 @@ impl Entry {
         requires empty { array_vec_len out.old ≡ 0 }
         ensures key { key_of self.new ≡ key_of self.old }
         ensures uses { DataUse true number item clock self.old.using self.new.using out.new.items }
+        ensures few { array_vec_len out.new ≤ most_passed self.old.using.window number }
         ensures numbers { All (λ p. p.0 < 4096) out.new.items }
     {
         reading_law::<Held>();
@@ -177,6 +194,7 @@ impl Entry {
         requires empty { array_vec_len out.old ≡ 0 }
         ensures key { key_of self.new ≡ key_of self.old }
         ensures uses { RequestUse start clock self.old.using self.new.using out.new.items }
+        ensures few { array_vec_len out.new ≤ numbers_held self.old.using.window }
         ensures numbers { All (λ p. p.0 < 4096) out.new.items }
     {
         reading_law::<Held>();
@@ -201,6 +219,7 @@ impl Entry {
     pub fn close(self, out: &mut Released)
         requires empty { array_vec_len out.old ≡ 0 }
         ensures passes { EndPassesUp self.using.window out.new.items }
+        ensures few { array_vec_len out.new ≤ numbers_held self.using.window }
         ensures numbers { All (λ p. p.0 < 4096) out.new.items }
     {
         reading_law::<Held>();

@@ -8,8 +8,8 @@ use Rattle.ap_model.specs.Readings.{Readings, Using, Held}
 use Rattle.ap_model.specs.Changes.{Agrees}
 use Rattle.ap_model.specs.Agreements.{ups, PassesHeld, none_held, held_up, Ends}
 use Rattle.ap_agreements.proofs.Lookups.{still_none}
-use Rattle.ap_agreements.specs.Tables.{Kept, key_of, agreement_in, Sets}
-use Rattle.ap_core.specs.Handles.{PassesAll}
+use Rattle.ap_agreements.specs.Tables.{Kept, key_of, agreement_in, Sets, held_under}
+use Rattle.ap_core.specs.Handles.{PassesAll, held_replaced}
 
 pub passes_some : (a : List ℕ) (tid : ℕ) (o : Option Using) (u : Using) (passed : List (ℕ × Held)) → o ≡ Some u → EndPassesUp u.window passed → PassesHeld a tid o (ups a tid passed)
 passes_some a tid o u passed e h = subst (λ (p : Option Using). PassesHeld a tid p (ups a tid passed)) (sym e) (held_up u passed h)
@@ -51,6 +51,9 @@ module _ (st : Standings) (ks ks2 : List Kept) (clock : ℕ) (a : List ℕ) (tid
   end_of_none g e =
       not_ended before before a tid last outs g e (record { standing = λ q. refl; agreement = still_none ks a tid g; clock = refl })
 
+  pub end_of_nothing : agreement_in ks a tid ≡ None → outs ≡ [] → Sets ks a tid None ks2 → Ends before a tid last [] outs after
+  end_of_nothing g e sets = not_ended before after a tid last outs g e (record { standing = λ q. refl; agreement = sets; clock = refl })
+
   pub end_of : (k : Kept) (first : List Out) → (agreement_in ks a tid ≡ Some k.using) × (key_of k ≡ (a, tid)) → Sets ks a tid None ks2 →
       PassesAll k [] first → outs ≡ first ++ last → Ends before a tid last [] outs after
   end_of k first w sets passes e =
@@ -66,3 +69,10 @@ replaced_first ks a tid None first g e = subst (λ (t : List Out). PassesHeld a 
 replaced_first ks a tid (Some k) first w passes =
     let f : first ≡ ups a tid passes.passed = passes.is ∙ ap (λ (p : List ℕ × ℕ). ups p.0 p.1 passes.passed) w.1 in
     subst (λ (t : List Out). PassesHeld a tid (agreement_in ks a tid) t) (sym f) (passes_some a tid (agreement_in ks a tid) k.using passes.passed w.0 passes.ends)
+
+-- how many numbers that agreement holds
+pub held_there : (ks : List Kept) (a : List ℕ) (tid : ℕ) (o : Option Kept) →
+    MatchOption o (agreement_in ks a tid ≡ None) (λ k. (agreement_in ks a tid ≡ Some k.using) × (key_of k ≡ (a, tid))) →
+    held_replaced o ≡ held_under (agreement_in ks a tid)
+held_there ks a tid None g = ap (λ (o : Option Using). held_under o) (sym g)
+held_there ks a tid (Some k) w = ap (λ (o : Option Using). held_under o) (sym w.0)

@@ -5,13 +5,14 @@ use Rattle.std.proofs.lemmas.Bool.{and_parts}
 use Rattle.std.proofs.lemmas.Bool.Decides.{nat_tests}
 use Rattle.std.specs.Prelude.{◌↔◌, nat_le, AllPairs, Contains}
 use Rattle.assoc.specs.Standings.{Standings}
-use Rattle.blockack.specs.Reading.{EndPassesUp}
+use Rattle.blockack.specs.Reading.{EndPassesUp, numbers_held}
 use Rattle.ap_model.specs.declared.event.Out.{Out}
 use Rattle.ap_model.specs.Readings.{Readings, Rules, Using, Held}
 use Rattle.ap_model.specs.Agreements.{ups, delba}
 use Rattle.ap_model.specs.Steps.{IsBefore, IsTimedOut, EndsAt, EndInTurn, nobody_ends, one_end, Ticks}
-use Rattle.ap_agreements.specs.Tables.{Kept, key_of, agreement_in, is_late, IsLateIn, unless_late}
-use Rattle.ap_core.specs.Ticking.{EndInOrder, no_more, next_ends, EndsOne, EndsAll}
+use Rattle.ap_agreements.specs.Tables.{Kept, key_of, agreement_in, is_late, IsLateIn, unless_late, all_held}
+use Rattle.std.proofs.lemmas.List.Sums.{sum_by_push}
+use Rattle.ap_core.specs.Ticking.{EndInOrder, no_more, next_ends, EndsOne, EndsAll, outs_of_ends}
 use Rattle.ap_core.proofs.EndLaws.{passes_some}
 use Rattle.ap_core.proofs.Lists.{image_of, into_image}
 
@@ -43,13 +44,13 @@ pub record Ending (c : Rules) (all : List Kept) (old : List Out) (yielded rest :
   pub more : List Out
   pub ends : EndInOrder c yielded more
   pub outs : now ≡ old ++ more
-  pub few : length now ≤ length old + 65 * length yielded
+  pub few : length now ≤ length old + outs_of_ends yielded
 
 pub ending_none : (c : Rules) (all : List Kept) (old : List Out) → Ending c all old [] all old
 ending_none c all old = record { parts = refl; more = []; ends = no_more; outs = sym (append-nil old); few = omega arith }
 
 pub ending_more : (c : Rules) (all : List Kept) (old : List Out) (yielded rest rest2 : List Kept) (now now2 : List Out) (k : Kept) →
-    Ending c all old yielded rest now → rest ≡ k ∷ rest2 → EndsOne c k now now2 → length now2 ≤ length now + 65 → Ending c all old (yielded ++ k ∷ []) rest2 now2
+    Ending c all old yielded rest now → rest ≡ k ∷ rest2 → EndsOne c k now now2 → length now2 ≤ length now + (numbers_held k.using.window + 1) → Ending c all old (yielded ++ k ∷ []) rest2 now2
 ending_more c all old yielded rest rest2 now now2 k p e o l =
     record {
       parts = p.parts ∙ ap (λ (t : List Kept). yielded ++ t) e ∙ sym (append_assoc yielded (k ∷ []) rest2);
@@ -58,7 +59,9 @@ ending_more c all old yielded rest rest2 now now2 k p e o l =
       outs =
           o.is ∙ ap (λ (t : List Out). t ++ (ups k.station k.tid o.passed ++ delba c k.station k.tid 39 ∷ [])) p.outs
           ∙ append_assoc old p.more (ups k.station k.tid o.passed ++ delba c k.station k.tid 39 ∷ []);
-      few = omega (arith, p.few, l, length-append yielded (k ∷ []));
+      few =
+          let held : all_held (yielded ++ k ∷ []) ≡ all_held yielded + numbers_held k.using.window = sum_by_push (λ (x : Kept). numbers_held x.using.window) yielded k in
+          omega (arith, p.few, l, held, length-append yielded (k ∷ []));
     }
 
 pub all_ended : (c : Rules) (all : List Kept) (old : List Out) (yielded rest : List Kept) (now : List Out) → Ending c all old yielded rest now → rest ≡ [] → EndsAll c all old now

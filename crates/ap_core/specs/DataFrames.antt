@@ -1,9 +1,9 @@
 -- A data frame that came, and what is made of it.
-use Rattle.std.specs.Prelude.{◌≡◌, ℕ, Option, Some, List}
+use Rattle.std.specs.Prelude.{◌≡◌, ◌≤◌, ℕ, Option, Some, List}
 use Rattle.bpf_regions.specs.declared.hooks.Hook.TheVariants as hook
 use Rattle.mac_frame.specs.Spelling.{spelling}
 use Rattle.assoc.specs.Standings.{Standings, standing}
-use Rattle.blockack.specs.Reading.{Reading}
+use Rattle.blockack.specs.Reading.{Reading, IsWanted, most_passed}
 use Rattle.hooks.specs.Contexts as contexts
 use Rattle.hooks.specs.Verdicts.{data_verdict}
 use Rattle.ap_model.specs.declared.event.Out.{Out}
@@ -32,6 +32,11 @@ pub record IsUnder (ks : List Kept) (d : DataFrame) (under : Under) (P : Reading
   pub stands : Stands ks d.frame.sender under.tid under.at kept
   pub starts : under.start ≡ kept.using.window.start
   pub is : P kept.using.window d.number
+
+-- the window wants data with this sequence number, which passes up no more frames than this
+pub record IsWantedFor (most : ℕ) (window : Reading Held) (number : ℕ) : Type 0 where
+  pub wanted : IsWanted window number
+  pub few : most_passed window number ≤ most
 
 -- the verdict on it is asked with its window's start, and lets it through or drops it
 pub record IsJudged (st : Standings) (p : Packet) (start : Option ℕ) (asked : List (Ask × ℕ)) (outs : List Out) : Type 0 where

@@ -2,7 +2,7 @@
 use Rattle.std.specs.Prelude.{◌≡◌, ℕ, List, [], ◌∷◌, ◌++◌, Option, Some, None}
 use Rattle.assoc.specs.Standings.{standing}
 use Rattle.mac_frame.specs.Spelling.{Frame}
-use Rattle.blockack.specs.Reading.{EndPassesUp}
+use Rattle.blockack.specs.Reading.{EndPassesUp, numbers_held}
 use Rattle.hooks.specs.declared.verdicts.DataVerdict.{DataVerdict}
 use Rattle.hooks.specs.declared.verdicts.DataVerdict.TheVariants.{Pass, Discard}
 use Rattle.ap_model.specs.declared.event.Out.{Out}
@@ -33,6 +33,11 @@ pub record PassesAll (k : Kept) (old new : List Out) : Type 0 where
   pub passed : List (ℕ × Held)
   pub ends : EndPassesUp k.using.window passed
   pub is : new ≡ old ++ ups k.station k.tid passed
+
+-- how many numbers an agreement that is replaced holds, none where none is
+abbrev pub held_replaced : Option Kept → ℕ
+held_replaced None = 0
+held_replaced (Some k) = numbers_held k.using.window
 
 -- what a window takes of data with this verdict
 abbrev pub held_item : List ℕ → List ℕ → DataVerdict → Option Held

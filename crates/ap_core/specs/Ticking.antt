@@ -1,11 +1,11 @@
 -- What a tick needs and does.
-use Rattle.std.specs.Prelude.{◌≡◌, ℕ, ◌+◌, ◌-◌, ◌^◌, ◌≤◌, min, List, [], ◌∷◌, ◌++◌, count_by, vec_len, vec_capacity}
+use Rattle.std.specs.Prelude.{◌≡◌, ℕ, ◌+◌, ◌-◌, ◌^◌, ◌≤◌, min, List, [], ◌∷◌, ◌++◌, length, count_by, vec_len, vec_capacity}
 use Rattle.blockack.specs.Reading.{EndPassesUp}
 use Rattle.ap_model.specs.declared.event.Out.{Out}
 use Rattle.ap_model.specs.Readings.{Readings, Rules, Held}
 use Rattle.ap_model.specs.Agreements.{ups, delba}
 use Rattle.ap_model.specs.Steps.{Ticks}
-use Rattle.ap_agreements.specs.Tables.{Kept, is_late}
+use Rattle.ap_agreements.specs.Tables.{Kept, is_late, late_held, all_held}
 use Rattle.ap_core.specs.declared.state.State.{State}
 use Rattle.ap_core.specs.declared.ticks.TickRoom.{TickRoom}
 
@@ -15,6 +15,14 @@ clock_after s units = min (s.clock + units) (2 ^ 64 - 1)
 -- how many agreements end at the tick
 abbrev pub late_count : State → ℕ → ℕ
 late_count s units = count_by (λ k. is_late (clock_after s units) k.using) s.agreements.kept
+
+-- how many outs their ends lead to, at most: the frames that they hold, and a DELBA each
+abbrev pub late_outs : State → ℕ → ℕ
+late_outs s units = late_held (clock_after s units) s.agreements.kept + late_count s units
+
+-- how many outs the ends of these lead to, at most
+abbrev pub outs_of_ends : List Kept → ℕ
+outs_of_ends ks = all_held ks + length ks
 
 -- the room suffices for them
 pub record HasRoom (s : State) (units : ℕ) (room : TickRoom) : Type 0 where

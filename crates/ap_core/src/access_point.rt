@@ -87,11 +87,8 @@ fn tick_below(
     }
     let last = count - 1;
     let room = shards[last].tick_room(alloc, units)?;
-    let most = shards[last].most_outs(units)?;
-    let needed = match beside.checked_add(most) {
-        Some(needed) => needed,
-        None => return Err(AllocError),
-    };
+    let most = shards[last].most_outs(units);
+    let needed = beside.saturating_add(most);
     let mut outs = tick_below(alloc, shards, last, units, needed)?;
     let shard = &mut shards[last];
     shard.tick(alloc, units, room, &mut outs);

@@ -6,7 +6,7 @@ ghost use Rattle.ap_model.specs.Agreements.{Ends, delba};
 ghost use Rattle.ap_model.specs.Steps.{Closes};
 ghost use Rattle.ap_core.specs.Handles.{reading, rules};
 
-use crate::passing::{MOST_RELEASED, pass_all};
+use crate::passing::pass_all;
 use crate::room::{FrameRoom, Room};
 use crate::state::State;
 use ap_model::{LinkConfig, Out};
@@ -27,11 +27,8 @@ pub(crate) fn on_delba(
     ensures shard { state.new.link.shard ≡ state.old.link.shard }
     ensures refused { IfErr result (λ _. state.new ≡ state.old) }
 {
-    match state.agreements.get(station, tid) {
-        None => return Ok(Vec::new(alloc)),
-        Some(_) => {}
-    }
-    let mut outs = Vec::with_capacity(alloc, MOST_RELEASED)?;
+    let held = state.agreements.held(station, tid);
+    let mut outs = Vec::with_capacity(alloc, held)?;
     match state.agreements.remove(station, tid) {
         Some(entry) => {
             pass_all(entry, &mut outs);
@@ -53,11 +50,11 @@ fn close(
     ensures shard { state.new.link.shard ≡ state.old.link.shard }
     ensures refused { IfErr result (λ _. state.new ≡ state.old) }
 {
-    match state.agreements.get(station, tid) {
+    let held = match state.agreements.get(station, tid) {
         None => return Ok(Vec::new(alloc)),
-        Some(_) => {}
-    }
-    let mut outs = Vec::with_capacity(alloc, MOST_RELEASED + 1)?;
+        Some(entry) => entry.held(),
+    };
+    let mut outs = Vec::with_capacity(alloc, held + 1)?;
     let frame = FrameRoom::new(alloc)?;
     match state.agreements.remove(station, tid) {
         Some(entry) => {

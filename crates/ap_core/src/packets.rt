@@ -1,15 +1,15 @@
 //! Data, with an agreement and without (IEEE 802.11-2016, 10.24.7.6.2).
 
 ghost use Rattle.std.specs.Prelude.{◌≡◌, ℕ, IfOk, IfErr, Some, None};
-ghost use Rattle.blockack.specs.Reading.{IsWanted, IsAlone};
+ghost use Rattle.blockack.specs.Reading.{IsAlone};
 ghost use Rattle.assoc.specs.Standings.{standing};
 ghost use Rattle.hooks.specs.Contexts as contexts;
 ghost use Rattle.hooks.specs.Verdicts.{data_verdict};
 ghost use Rattle.ap_model.specs.Agreements.{agreement_for};
 ghost use Rattle.ap_core.specs.Handles.{reading, held_item};
-ghost use Rattle.ap_core.specs.DataFrames.{IsSpelled, IsUnder, HandlesData, JudgesData};
+ghost use Rattle.ap_core.specs.DataFrames.{IsSpelled, IsUnder, IsWantedFor, HandlesData, JudgesData};
 
-use crate::passing::{MOST_RELEASED, pass_up};
+use crate::passing::pass_up;
 use crate::room::with_out;
 use crate::state::State;
 use ap_agreements::Released;
@@ -129,21 +129,23 @@ fn item_of(verdict: u64, destination: Address, body: Octets) -> Option<Held>
     }
 }
 
-/// Data that its agreement's window wants: all growths are made before the verdict is asked.
+/// Data that its agreement's window wants, and that passes up at most so many frames: all growths
+/// are made before the verdict is asked.
 fn on_wanted_data<J: Judge>(
     alloc: Global,
     state: &mut State,
     came: DataFrame<'_, '_>,
     under: Under,
+    most: usize,
     judge: &mut J,
 ) -> Result<Vec<Out>, AllocError>
     requires bytes { IsSpelled came }
-    requires under { IsUnder state.old.agreements.kept came under IsWanted }
+    requires under { IsUnder state.old.agreements.kept came under (IsWantedFor most) }
     ensures step { IfOk result (λ outs. HandlesData J.gives state.old came.entry judge.old outs.items state.new judge.new) }
     ensures shard { state.new.link.shard ≡ state.old.link.shard }
     ensures refused { IfErr result (λ _. (state.new ≡ state.old) × (judge.new ≡ judge.old)) }
 {
-    let mut outs = Vec::with_capacity(alloc, MOST_RELEASED)?;
+    let mut outs = Vec::with_capacity(alloc, most)?;
     let station = came.frame.sender();
     let context = context_of(state, &came, Some(under.start));
     let verdict = judge.judge(Hook::Data, came.bytes, &context);
@@ -188,7 +190,8 @@ pub(crate) fn on_qos_data<J: Judge>(
                 return Ok(outs);
             }
             if entry.wants(came.number) {
-                let outs = on_wanted_data(alloc, state, came, under, judge)?;
+                let most = entry.most_passed(came.number);
+                let outs = on_wanted_data(alloc, state, came, under, most, judge)?;
                 return Ok(outs);
             }
             let clock = state.clock;

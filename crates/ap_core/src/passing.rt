@@ -1,15 +1,14 @@
 //! What a window hands up, passed up.
 
 ghost use Rattle.std.specs.Prelude.{◌≡◌, ℕ, MatchOption, ◌+◌, ◌<◌, ◌≤◌, ◌++◌, All, vec_len, vec_capacity, List};
+ghost use Rattle.arrayvec.specs.ArrayVec.{array_vec_len};
+ghost use Rattle.blockack.specs.Reading.{numbers_held};
 ghost use Rattle.ap_model.specs.Agreements.{ups, up_held};
-ghost use Rattle.ap_core.specs.Handles.{PassesAll};
+ghost use Rattle.ap_core.specs.Handles.{PassesAll, held_replaced};
 
 use ap_agreements::{Entry, Released};
 use ap_model::{Held, Out};
 use mac_frame::{Address, SequenceNumber, Tid};
-
-/// How many frames a window hands up at once, at most.
-pub(crate) const MOST_RELEASED: usize = 64;
 
 /// Passes up a frame that was held.
 fn push_held(station: Address, tid: Tid, number: u16, held: Held, outs: &mut Vec<Out>)
@@ -32,9 +31,9 @@ fn push_held(station: Address, tid: Tid, number: u16, held: Held, outs: &mut Vec
 /// Passes up what a window handed up.
 pub(crate) fn pass_up(station: Address, tid: Tid, passed: Released, outs: &mut Vec<Out>)
     requires numbers { All (λ p. p.0 < 4096) passed.items }
-    requires room { vec_len outs.old + 64 ≤ vec_capacity outs.old }
+    requires room { vec_len outs.old + array_vec_len passed ≤ vec_capacity outs.old }
     ensures outs { outs.new.items ≡ outs.old.items ++ ups station tid passed.items }
-    ensures len { vec_len outs.new ≤ vec_len outs.old + 64 }
+    ensures len { vec_len outs.new ≤ vec_len outs.old + array_vec_len passed }
     ensures capacity { vec_capacity outs.new ≡ vec_capacity outs.old }
 {
     let _count = passed.len();
@@ -45,9 +44,9 @@ pub(crate) fn pass_up(station: Address, tid: Tid, passed: Released, outs: &mut V
 
 /// An agreement ends: passes up all that it held.
 pub(crate) fn pass_all(entry: Entry, outs: &mut Vec<Out>)
-    requires { vec_len outs.old + 64 ≤ vec_capacity outs.old }
+    requires { vec_len outs.old + numbers_held entry.using.window ≤ vec_capacity outs.old }
     ensures passes { PassesAll entry outs.old.items outs.new.items }
-    ensures len { vec_len outs.new ≤ vec_len outs.old + 64 }
+    ensures len { vec_len outs.new ≤ vec_len outs.old + numbers_held entry.using.window }
     ensures capacity { vec_capacity outs.new ≡ vec_capacity outs.old }
 {
     let station = entry.station();
@@ -59,9 +58,9 @@ pub(crate) fn pass_all(entry: Entry, outs: &mut Vec<Out>)
 
 /// The same, if an agreement was replaced.
 pub(crate) fn pass_replaced(replaced: Option<Entry>, outs: &mut Vec<Out>)
-    requires { vec_len outs.old + 64 ≤ vec_capacity outs.old }
+    requires { vec_len outs.old + held_replaced replaced ≤ vec_capacity outs.old }
     ensures passes { MatchOption replaced (outs.new.items ≡ outs.old.items) (λ e. PassesAll e outs.old.items outs.new.items) }
-    ensures len { vec_len outs.new ≤ vec_len outs.old + 64 }
+    ensures len { vec_len outs.new ≤ vec_len outs.old + held_replaced replaced }
     ensures capacity { vec_capacity outs.new ≡ vec_capacity outs.old }
 {
     match replaced {

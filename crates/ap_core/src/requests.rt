@@ -4,7 +4,7 @@ ghost use Rattle.std.specs.Prelude.{◌≡◌, [], IfOk, IfErr};
 ghost use Rattle.ap_model.specs.Agreements.{RequestComes};
 ghost use Rattle.ap_core.specs.Handles.{reading, rules};
 
-use crate::passing::{MOST_RELEASED, pass_up};
+use crate::passing::pass_up;
 use crate::room::FrameRoom;
 use crate::state::State;
 use ap_agreements::Released;
@@ -25,16 +25,14 @@ pub(crate) fn on_request(
     ensures shard { state.new.link.shard ≡ state.old.link.shard }
     ensures refused { IfErr result (λ _. state.new ≡ state.old) }
 {
-    match state.agreements.get(station, tid) {
+    match state.agreements.get_placed(station, tid) {
         None => return Ok(Vec::new(alloc)),
-        Some(_) => {
-            let mut outs = Vec::with_capacity(alloc, MOST_RELEASED + 1)?;
+        Some((at, entry)) => {
+            let mut outs = Vec::with_capacity(alloc, entry.held() + 1)?;
             let frame = FrameRoom::new(alloc)?;
             let clock = state.clock;
             let mut passed = Released::new();
-            let (first, bits) = state
-                .agreements
-                .request(station, tid, start, clock, &mut passed);
+            let (first, bits) = state.agreements.request(at, start, clock, &mut passed);
             pass_up(station, tid, passed, &mut outs);
             let answer = MacFrame::block_ack(alloc, station, config.bssid(), tid, first, bits);
             outs.push_reserved(frame.send(&answer));

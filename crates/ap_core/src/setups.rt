@@ -6,11 +6,11 @@ ghost use Rattle.mac_frame.specs.Spelling.{spelling};
 ghost use Rattle.mac_frame.specs.Spelling.{Frame as SpelledFrame};
 ghost use Rattle.ap_model.specs.Changes.{sends};
 ghost use Rattle.ap_model.specs.Agreements.{SetsUp, setup_answer, setup_ask};
-ghost use Rattle.ap_agreements.specs.Tables.{key_of};
+ghost use Rattle.ap_agreements.specs.Tables.{key_of, agreement_in, held_under};
 ghost use Rattle.ap_model.specs.Asks.{Handled};
 ghost use Rattle.ap_core.specs.Handles.{reading, rules, setup, IsGranted};
 
-use crate::passing::{MOST_RELEASED, pass_replaced};
+use crate::passing::pass_replaced;
 use crate::room::{FrameRoom, Room};
 use crate::state::State;
 use ap_agreements::Entry;
@@ -90,7 +90,7 @@ fn grant(
     requires key { key_of entry ≡ (station, request.now.parameters.tid) }
     requires some { 1 ≤ size }
     requires fits { size ≤ 64 }
-    requires outs { 65 ≤ vec_capacity outs }
+    requires outs { held_under (agreement_in state.old.agreements.kept station request.now.parameters.tid) + 1 ≤ vec_capacity outs }
     requires empty { outs.items ≡ [] }
     ensures step { (frame : SpelledFrame) → IsGranted (rules state.old.link.shard config.now) (reading state.old) station (setup frame request.now) size result.items (reading state.new) }
     ensures shard { state.new.link.shard ≡ state.old.link.shard }
@@ -120,7 +120,8 @@ fn on_immediate<J: Judge>(
     ensures refused { IfErr result (λ _. (state.new ≡ state.old) × (judge.new ≡ judge.old)) }
 {
     let station = frame.sender();
-    let mut outs = Vec::with_capacity(alloc, MOST_RELEASED + 1)?;
+    let held = state.agreements.held(station, request.parameters.tid);
+    let mut outs = Vec::with_capacity(alloc, held + 1)?;
     let room = FrameRoom::new(alloc)?;
     let entry = Entry::new(alloc, station, request.parameters.tid)?;
     state.agreements.reserve()?;

@@ -39,14 +39,14 @@ fn opened(alloc: Global, shard: u16) -> State
 }
 
 impl Shard {
-    ghost use Rattle.std.specs.Prelude.{◌≡◌, ◌+◌, ◌*◌, ◌<◌, ◌≤◌, IfOk, IfErr, [], vec_len, vec_capacity};
+    ghost use Rattle.std.specs.Prelude.{◌≡◌, ◌+◌, ◌-◌, ◌^◌, min, ◌<◌, ◌≤◌, IfOk, IfErr, [], vec_len, vec_capacity};
     ghost use Rattle.ap_model.specs.declared.event.Event.{Event};
     ghost use Rattle.ap_model.specs.Runs.{History, opening};
     ghost use Rattle.ap_model.specs.Stations.{AreAssociated};
     ghost use Rattle.ap_model.specs.Steps.{Step};
     ghost use Rattle.ap_core.specs.Handles.{rules};
     ghost use Rattle.ap_core.specs.Shards.{reads, ruled, Handles};
-    ghost use Rattle.ap_core.specs.Ticking.{late_count, HasRoom, TickStep};
+    ghost use Rattle.ap_core.specs.Ticking.{late_outs, HasRoom, TickStep};
 
     /// A shard that has handled nothing, with a copy of the configuration.
     pub fn new(alloc: Global, shard: u16, config: &LinkConfig) -> Result<Self, AllocError>
@@ -124,9 +124,9 @@ impl Shard {
         tick_room(alloc, &self.state, units)
     }
 
-    /// How many outs a tick leads to, at most.
-    pub(crate) fn most_outs(&self, units: u32) -> Result<usize, AllocError>
-        ensures { IfOk result (λ most. most ≡ 65 * late_count self.now.state units) }
+    /// How many outs a tick leads to, at most; usize::MAX where they are more.
+    pub(crate) fn most_outs(&self, units: u32) -> usize
+        ensures { result ≡ min (late_outs self.now.state units) (2 ^ 64 - 1) }
     {
         most_outs(&self.state, units)
     }
@@ -134,10 +134,10 @@ impl Shard {
     /// Time passes, for which all room is made.
     pub(crate) fn tick(&mut self, alloc: Global, units: u32, room: TickRoom, outs: &mut Vec<Out>)
         requires room { HasRoom self.old.state units room }
-        requires outs { vec_len outs.old + 65 * late_count self.old.state units ≤ vec_capacity outs.old }
+        requires outs { vec_len outs.old + late_outs self.old.state units ≤ vec_capacity outs.old }
         ensures step { TickStep (ruled self.old) (reads self.old) units outs.old.items outs.new.items (reads self.new) }
         ensures rules { ruled self.new ≡ ruled self.old }
-        ensures len { vec_len outs.new ≤ vec_len outs.old + 65 * late_count self.old.state units }
+        ensures len { vec_len outs.new ≤ vec_len outs.old + late_outs self.old.state units }
         ensures capacity { vec_capacity outs.new ≡ vec_capacity outs.old }
     {
         tick(alloc, &mut self.state, &self.config, units, room, outs);
@@ -150,7 +150,7 @@ impl Shard {
         ensures refused { IfErr result (λ _. self.new ≡ self.old) }
     {
         let room = self.tick_room(alloc, units)?;
-        let most = self.most_outs(units)?;
+        let most = self.most_outs(units);
         let mut outs = Vec::with_capacity(alloc, most)?;
         self.tick(alloc, units, room, &mut outs);
         Ok(outs)

@@ -2,11 +2,12 @@
 //! 11.5.4). All growths of a tick are made before it, so that several shards tick together or not
 //! at all.
 
-ghost use Rattle.std.specs.Prelude.{◌≡◌, ℕ, ◌+◌, ◌*◌, ◌≤◌, ◌<◌, List, [], ◌∷◌, ◌++◌, IfOk, OnOk, OnErr, vec_len, vec_capacity, length};
+ghost use Rattle.std.specs.Prelude.{◌≡◌, ℕ, ◌+◌, ◌-◌, ◌^◌, min, ◌≤◌, ◌<◌, List, [], ◌∷◌, ◌++◌, IfOk, OnOk, OnErr, vec_len, vec_capacity, length};
 ghost use Rattle.ap_model.specs.declared.event.Out.{Out};
+ghost use Rattle.blockack.specs.Reading.{numbers_held};
 ghost use Rattle.ap_model.specs.Steps.{Ticks};
 ghost use Rattle.ap_core.specs.Handles.{reading, rules};
-ghost use Rattle.ap_core.specs.Ticking.{clock_after, late_count, HasRoom, EndsOne, EndsAll, TickStep};
+ghost use Rattle.ap_core.specs.Ticking.{clock_after, late_outs, outs_of_ends, HasRoom, EndsOne, EndsAll, TickStep};
 
 use crate::passing::pass_all;
 use crate::room::FrameRoom;
@@ -15,9 +16,6 @@ use ap_agreements::Entry;
 use ap_model::{LinkConfig, Out};
 use mac_frame::{MacFrame, Reason};
 use std::alloc::{AllocError, Global};
-
-/// The outs that the end of an agreement leads to, at most: the frames that it held, and its DELBA.
-const OUTS_OF_AN_END: usize = 65;
 
 /// What a tick needs beside its outs, for the agreements that end.
 #[derive(Drop)]
@@ -55,22 +53,21 @@ pub(crate) fn tick_room(alloc: Global, state: &State, units: u32) -> Result<Tick
     Ok(TickRoom { ended, frames })
 }
 
-/// How many outs a tick leads to, at most. More than can be counted are more than memory has.
-pub(crate) fn most_outs(state: &State, units: u32) -> Result<usize, AllocError>
-    ensures { IfOk result (λ most. most ≡ 65 * late_count state.now units) }
+/// How many outs a tick leads to, at most: the frames that the agreements hold which end, and a
+/// DELBA for each. usize::MAX where they are more, for which memory has no room.
+pub(crate) fn most_outs(state: &State, units: u32) -> usize
+    ensures { result ≡ min (late_outs state.now units) (2 ^ 64 - 1) }
 {
-    let count = state.agreements.late(clock_after(state, units));
-    match count.checked_mul(OUTS_OF_AN_END) {
-        Some(most) => return Ok(most),
-        None => return Err(AllocError),
-    }
+    let clock = clock_after(state, units);
+    let held = state.agreements.late_held(clock);
+    held.saturating_add(state.agreements.late(clock))
 }
 
 /// Ends an agreement: all that it held is passed up, and then its DELBA is sent.
 fn end_one(alloc: Global, config: &LinkConfig, entry: Entry, frame: FrameRoom, outs: &mut Vec<Out>)
-    requires { vec_len outs.old + 65 ≤ vec_capacity outs.old }
+    requires { vec_len outs.old + (numbers_held entry.using.window + 1) ≤ vec_capacity outs.old }
     ensures ends { (shard : ℕ) → EndsOne (rules shard config.now) entry outs.old.items outs.new.items }
-    ensures len { vec_len outs.new ≤ vec_len outs.old + 65 }
+    ensures len { vec_len outs.new ≤ vec_len outs.old + (numbers_held entry.using.window + 1) }
     ensures capacity { vec_capacity outs.new ≡ vec_capacity outs.old }
 {
     let station = entry.station();
@@ -89,9 +86,9 @@ fn end_all(
     outs: &mut Vec<Out>,
 )
     requires frames { vec_len ended ≤ vec_len frames }
-    requires room { vec_len outs.old + 65 * vec_len ended ≤ vec_capacity outs.old }
+    requires room { vec_len outs.old + outs_of_ends ended.items ≤ vec_capacity outs.old }
     ensures ends { (shard : ℕ) → EndsAll (rules shard config.now) ended.items outs.old.items outs.new.items }
-    ensures len { vec_len outs.new ≤ vec_len outs.old + 65 * vec_len ended }
+    ensures len { vec_len outs.new ≤ vec_len outs.old + outs_of_ends ended.items }
     ensures capacity { vec_capacity outs.new ≡ vec_capacity outs.old }
 {
     for entry in ended {
@@ -112,9 +109,9 @@ pub(crate) fn tick(
     outs: &mut Vec<Out>,
 )
     requires room { HasRoom state.old units room }
-    requires outs { vec_len outs.old + 65 * late_count state.old units ≤ vec_capacity outs.old }
+    requires outs { vec_len outs.old + late_outs state.old units ≤ vec_capacity outs.old }
     ensures step { TickStep (rules state.old.link.shard config.now) (reading state.old) units outs.old.items outs.new.items (reading state.new) }
-    ensures len { vec_len outs.new ≤ vec_len outs.old + 65 * late_count state.old units }
+    ensures len { vec_len outs.new ≤ vec_len outs.old + late_outs state.old units }
     ensures capacity { vec_capacity outs.new ≡ vec_capacity outs.old }
     ensures shard { state.new.link.shard ≡ state.old.link.shard }
 {

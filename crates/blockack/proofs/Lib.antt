@@ -2,6 +2,7 @@ pub mod SlotLaws
 pub mod MoveLaws
 pub mod PassedLaws
 pub mod ReadingLaws
+pub mod HeldLaws
 pub mod ScoreboardLaws
 pub mod SameLaws
 pub mod BelowLaws

@@ -1,5 +1,5 @@
 -- What a contract sees of an agreement, and how that stands to its window and its scoreboard over whole numbers.
-use Rattle.std.specs.Prelude.{◌≡◌, ℕ, ◌+◌, ◌-◌, ◌%◌, ◌<◌, ◌↔◌, IsTrue, nat_lt, cond, Option, None, List, Bool, slice_index_or}
+use Rattle.std.specs.Prelude.{◌≡◌, ℕ, ◌+◌, ◌-◌, ◌%◌, ◌<◌, ◌↔◌, ◌&&◌, IsTrue, nat_lt, cond, Option, None, List, Bool, is_some, count_by, slice_index_or}
 use Rattle.blockack.specs.Window.{Items, Window, Brings, DataStep, RequestStep, EndStep}
 use Rattle.blockack.specs.Passed.{PassesUp}
 use Rattle.blockack.specs.Scoreboard.{DataMarks, RequestMarks}
@@ -38,6 +38,16 @@ module _ {F : Type 0} where
     pub wanted : IsWanted v number
     pub first : number ≡ v.start
     pub next : held_at v 1 ≡ None
+
+  -- how many numbers are held, those of dropped frames among them
+  unfoldable pub numbers_held : Reading F → ℕ
+  numbers_held v = count_by is_some v.held
+
+  -- how many frames data with this sequence number passes up, at most: none where it lies in the window behind the first
+  -- number, for which it waits
+  abbrev pub most_passed : Reading F → ℕ → ℕ
+  most_passed v number =
+      cond (nat_lt 0 (ahead v.start number) && nat_lt (ahead v.start number) v.size) 0 (numbers_held v + 1)
 
   -- the answer to whether data would be taken is right, of whatever window the reading is of
   abbrev pub TellsWanted : Bool → Reading F → ℕ → Type 0

@@ -5,6 +5,7 @@ ghost use Rattle.blockack.specs.Window.{opening};
 ghost use Rattle.blockack.specs.Scoreboard.{ReadsScoreboard, blank};
 ghost use Rattle.blockack.specs.Passed.{frame_of};
 ghost use Rattle.blockack.specs.Reading.{Reads, IsWanted, IsAlone, TellsWanted, DataMovesWindow, RequestMovesWindow, EndPassesUp};
+ghost use Rattle.blockack.specs.Reading.{numbers_held, most_passed};
 ghost use Rattle.blockack.specs.Reading.{DataMarksScoreboard, RequestMovesScoreboard};
 ghost use Rattle.blockack.specs.Placed.{is_taken, HandsBack};
 
@@ -93,6 +94,19 @@ impl<F: Drop> Agreement<F> {
         self.slots[(number % 64) as usize].is_none()
     }
 
+    /// How many frames data with this sequence number hands up, at most: none where it only waits
+    /// for a number before it.
+    pub fn most_passed(&self, number: u16) -> usize
+        requires { number < 4096 }
+        ensures { result ≡ most_passed self.now number }
+    {
+        let ahead = distance(self.start, number);
+        if 0 < ahead && ahead < self.size {
+            return 0;
+        }
+        self.held() + 1
+    }
+
     /// Whether data with this sequence number would be handed up at once, and nothing behind it: it
     /// is the first of the window, and nothing is held for the number after it.
     pub fn passes_alone(&self, number: u16) -> bool
@@ -134,6 +148,7 @@ impl<F: Drop> Agreement<F> {
         ensures size { self.new.size ≡ self.old.size }
         ensures window { DataMovesWindow (is_taken result) number item self.old self.new out.new.items }
         ensures scoreboard { DataMarksScoreboard number self.old self.new }
+        ensures few { array_vec_len out.new ≤ most_passed self.old number }
     {
         let wanted = self.wants(number);
         self.scoreboard.on_data(self.size, number);
@@ -154,6 +169,7 @@ impl<F: Drop> Agreement<F> {
         ensures size { self.new.size ≡ self.old.size }
         ensures window { RequestMovesWindow start self.old self.new out.new.items }
         ensures scoreboard { RequestMovesScoreboard start self.old self.new }
+        ensures few { array_vec_len out.new ≤ numbers_held self.old }
     {
         self.scoreboard.on_request(self.size, start);
         let ahead = distance(self.start, start);
@@ -169,7 +185,8 @@ impl<F: Drop> Agreement<F> {
     /// it held first is this access point's own rule.
     pub fn close<A>(self, out: &mut ArrayVec<(u16, F), 64, A>)
         requires empty { array_vec_len out.old ≡ 0 }
-        ensures { EndPassesUp self out.new.items }
+        ensures passes { EndPassesUp self out.new.items }
+        ensures few { array_vec_len out.new ≤ numbers_held self }
     {
         let Agreement {
             mut slots,

@@ -1,5 +1,5 @@
 //! The ring of 64 slots that holds what lies in the window.
-ghost use Rattle.std.specs.Prelude.{◌≡◌, ℕ, ◌+◌, ◌-◌, ◌%◌, ◌<◌, ◌≤◌, ◌++◌, None, slice_index_or};
+ghost use Rattle.std.specs.Prelude.{◌≡◌, ℕ, ◌+◌, ◌-◌, ◌%◌, ◌<◌, ◌≤◌, ◌++◌, None, is_some, count_by, length, slice_index_or};
 ghost use Rattle.arrayvec.specs.ArrayVec.{array_vec_len};
 ghost use Rattle.blockack.specs.Window.{IsNextFree};
 ghost use Rattle.blockack.specs.Ring.{ring_at, held_count, gathered, ahead, stored, Shifts};
@@ -21,6 +21,14 @@ pub(crate) fn empty_slots<F>() -> [Slot<F>; 64]
     ensures { (i : ℕ) → slice_index_or result i None ≡ None }
 {
     array::from_fn(|_| None)
+}
+
+/// How many slots are held.
+pub(crate) fn held_slots<F>(slots: &[Slot<F>; 64]) -> usize
+    ensures is { result ≡ count_by is_some slots.now }
+    ensures of { length slots.now ≡ 64 }
+{
+    slots.iter().filter(|slot| slot.is_some()).count()
 }
 
 /// How far `number` is ahead of `start`, modulo 4096.
@@ -76,6 +84,8 @@ pub(crate) fn skip<F: Drop, A>(
     ensures next { IsNextFree (ring_at slots.old start) least result }
     ensures rest { Shifts result (ring_at slots.old start) (ring_at slots.new ((start + result) % 4096)) }
     ensures frames { out.new.items ≡ gathered (ring_at slots.old start) start result }
+    ensures of { length slots.old ≡ 64 }
+    ensures few { array_vec_len out.new ≤ held_count slots.old }
 {
     advance(slots, start, least, out)
 }
@@ -102,6 +112,8 @@ pub(crate) fn store<F: Drop, A>(
     ensures next { IsNextFree (stored slots.old start number item) (ahead start number + 1 - size) result }
     ensures rest { Shifts result (stored slots.old start number item) (ring_at slots.new ((start + result) % 4096)) }
     ensures frames { out.new.items ≡ gathered (stored slots.old start number item) start result }
+    ensures of { length slots.old ≡ 64 }
+    ensures few { array_vec_len out.new ≤ held_count slots.old + 1 }
 {
     let least = (distance(start, number) + 1).saturating_sub(size);
     let passed = advance(slots, start, least, out);

@@ -1,7 +1,9 @@
 //! What can be read off an agreement.
 ghost use Rattle.std.specs.Prelude.{◌≡◌, ◌^◌, ◌<◌, ◌≤◌};
+ghost use Rattle.blockack.specs.Reading.{numbers_held};
 
 use super::Agreement;
+use crate::ring::held_slots;
 
 impl<F: Drop> Agreement<F> {
     /// The first sequence number of the window, modulo 4096.
@@ -19,6 +21,15 @@ impl<F: Drop> Agreement<F> {
         ensures fits { result ≤ 64 }
     {
         self.size
+    }
+
+    /// How many numbers are held, those of dropped frames among them: as many frames as a
+    /// BlockAckReq or the end hands up, at most.
+    pub fn held(&self) -> usize
+        ensures is { result ≡ numbers_held self.now }
+        ensures fits { result ≤ 64 }
+    {
+        held_slots(&self.slots)
     }
 
     /// What a BlockAck says (10.24.7.5): the scoreboard's first number modulo 4096, and a bit for each

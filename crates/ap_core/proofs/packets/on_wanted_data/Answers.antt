@@ -1,7 +1,9 @@
-use Rattle.std.proofs.Common.{◌≡◌, ◌++◌, ◌∙◌, ap, refl, sym, subst, Option, ℕ, List}
+use Rattle.std.proofs.Common.{◌≡◌, ◌≤◌, ◌++◌, ◌∙◌, ap, refl, sym, subst, Option, ℕ, List, arith}
 use Rattle.std.specs.Prelude.{IsSomeAnd}
 use Rattle.assoc.specs.Standings.{standing}
-use Rattle.blockack.specs.Reading.{IsWanted}
+use Rattle.arrayvec.specs.ArrayVec.{array_vec_len}
+use Rattle.blockack.specs.Reading.{IsWanted, most_passed}
+use Rattle.ap_agreements.specs.Tables.{Kept}
 use Rattle.ap_model.specs.Readings.{Using}
 use Rattle.ap_model.specs.Agreements.{ups}
 use Rattle.ap_core.specs.DataFrames.{packet}
@@ -13,7 +15,14 @@ pub take-requires-clause-inside : goal.take-requires-clause-inside
 take-requires-clause-inside g c = c.requires.under.stands.place.inside
 
 pub take-requires-clause-wanted : goal.take-requires-clause-wanted
-take-requires-clause-wanted g c = λ d. rw (c.requires.under.stands.is d) c.requires.under.is
+take-requires-clause-wanted g c = λ d. rw (c.requires.under.stands.is d) c.requires.under.is.wanted
+
+pub pass_up-requires-clause-room : goal.pass_up-requires-clause-room
+pass_up-requires-clause-room g c =
+    let under = c.requires.under in
+    let few =
+    subst (λ (k : Kept). array_vec_len c.take.new.out ≤ most_passed k.using.window c.args.came.number) (under.stands.is under.kept) (c.take.ensures.few under.kept) in
+    omega (arith, few, under.is.few, c.in_ok-outs.ensures.exact, c.in_ok-outs.ensures.len)
 
 pub returns-clause-step : goal.returns-clause-step
 returns-clause-step g c =
@@ -21,7 +30,7 @@ returns-clause-step g c =
     asking g.J.Judge.gives _ _ _ _ _ c.judge-verdict.result c.judge-verdict.ensures
     (taken_from (standing c.args.state.now.link) c.args.state.now.agreements.kept c.take.new.self.kept c.args.state.now.clock (packet c.args.came)
     c.args.came.frame.sender refl c.args.under.tid under.tid c.args.under.start
-    (subst (λ (o : Option Using). IsSomeAnd o (λ u. IsWanted u.window c.args.came.number × (c.args.under.start ≡ u.window.start))) (sym under.stands.agreed) (under.is, under.starts))
+    (subst (λ (o : Option Using). IsSomeAnd o (λ u. IsWanted u.window c.args.came.number × (c.args.under.start ≡ u.window.start))) (sym under.stands.agreed) (under.is.wanted, under.starts))
     _ _ c.judge-verdict.result c.item_of-item.result
     c.new-body.result c.pass_up.new.outs.items c.take.new.out.items c.requires.bytes c.context_of-context.ensures c.item_of-item.ensures (c.new-body.ensures ∙ c.into_tail.ensures)
     (c.take.ensures.uses c.args.came.frame.sender c.args.under.tid under.stands.place)

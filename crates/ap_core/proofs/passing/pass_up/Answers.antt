@@ -16,7 +16,7 @@ push_held-requires-clause-room c =
     let p = c.loop-number.invariant.2 in
     let e : c.args.passed.items ≡ c.loop-number.yielded ++ (c.in-Some.number, c.in-Some.held) ∷ c.next.new.self =
     p.parts ∙ ap (λ (t : List (ℕ × Held)). c.loop-number.yielded ++ t) c.in-Some.ensures.steps in
-    omega (arith, ap length e, length-append c.loop-number.yielded ((c.in-Some.number, c.in-Some.held) ∷ c.next.new.self), p.few, c.requires.room, c.len-count.ensures.fits, c.len-count.ensures.value, c.loop-number.invariant.3, c.loop-number.outs.ok.0, c.args.outs.now.ok.0)
+    omega (arith, ap length e, length-append c.loop-number.yielded ((c.in-Some.number, c.in-Some.held) ∷ c.next.new.self), p.few, c.requires.room, c.len-count.ensures.value, c.loop-number.invariant.3, c.loop-number.outs.ok.0, c.args.outs.now.ok.0)
 
 pub loop-number-preserved : goal.loop-number-preserved
 loop-number-preserved c = (

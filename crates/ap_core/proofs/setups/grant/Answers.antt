@@ -1,10 +1,19 @@
-use Rattle.std.proofs.Common.{◌≡◌, ℕ, Some, None, List, [], ◌∷◌, ◌++◌, refl, ap, subst, ◌∙◌}
+use Rattle.std.proofs.Common.{◌≡◌, ℕ, Some, None, List, [], ◌∷◌, ◌++◌, length, refl, ap, subst, ◌∙◌, arith}
 use Rattle.std.specs.Prelude.{MatchOption}
 use Rattle.ap_model.specs.declared.event.Out.{Out}
 use Rattle.ap_agreements.specs.Tables.{key_of, agreement_in, Sets}
 use Rattle.ap_core.specs.Handles.{PassesAll}
-use Rattle.ap_core.proofs.EndLaws.{replaced_first}
+use Rattle.ap_core.proofs.EndLaws.{replaced_first, held_there}
 use Rattle.ap_core.proofs.setups.grant.Goals as goal
+
+pub pass_replaced-requires : goal.pass_replaced-requires
+pass_replaced-requires c =
+    let ks = c.args.state.now.agreements.kept in
+    let key : key_of c.opened-opened.result ≡ (c.args.station, c.args.request.now.parameters.tid) = c.opened-opened.ensures.key ∙ c.requires.key in
+    let held = held_there ks c.args.station c.args.request.now.parameters.tid c.put-replaced.result
+    (subst (λ (p : List ℕ × ℕ). MatchOption c.put-replaced.result (agreement_in ks p.0 p.1 ≡ None) (λ k. (agreement_in ks p.0 p.1 ≡ Some k.using) × (key_of k ≡ p))) key
+    c.put-replaced.ensures.was) in
+    omega (arith, held, c.requires.outs, ap length c.requires.empty, c.args.outs.ok.0)
 
 pub returns-clause-step : goal.returns-clause-step
 returns-clause-step c = λ frame.

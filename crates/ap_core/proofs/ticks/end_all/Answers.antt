@@ -1,6 +1,8 @@
-use Rattle.std.proofs.Common.{◌≡◌, List, [], ◌∷◌, ◌++◌, length, arith, refl, sym, ap, subst, ◌∙◌, length-append}
+use Rattle.std.proofs.Common.{◌≡◌, ◌+◌, List, [], ◌∷◌, ◌++◌, length, arith, refl, sym, ap, subst, ◌∙◌, length-append}
 use Rattle.std.specs.Vec.Iter.{into_iter_items}
-use Rattle.ap_agreements.specs.Tables.{Kept}
+use Rattle.std.proofs.lemmas.List.Sums.{sum_by-append, sum_by-cons}
+use Rattle.blockack.specs.Reading.{numbers_held}
+use Rattle.ap_agreements.specs.Tables.{Kept, all_held}
 use Rattle.ap_core.specs.Handles.{rules}
 use Rattle.ap_core.proofs.TickLaws.{Ending, ending_none, ending_more, all_ended}
 use Rattle.ap_core.proofs.ticks.end_all.Goals as goal
@@ -22,7 +24,12 @@ end_one-requires c =
     let p = c.loop-entry.invariant.2 0 in
     let e : c.args.ended.items ≡ c.loop-entry.yielded ++ c.in-Some.entry ∷ into_iter_items c.next.new.self =
     p.parts ∙ ap (λ (t : List Kept). c.loop-entry.yielded ++ t) c.in-Some.ensures.steps.0 in
-    omega (arith, ap length e, length-append c.loop-entry.yielded (c.in-Some.entry ∷ into_iter_items c.next.new.self), p.few, c.requires.room, c.loop-entry.invariant.4, c.loop-entry.outs.ok.0, c.args.outs.now.ok.0, c.args.ended.ok.0)
+    let rest : List Kept = into_iter_items c.next.new.self in
+    let all : all_held c.args.ended.items ≡ all_held (c.loop-entry.yielded ++ c.in-Some.entry ∷ rest) = ap (λ (t : List Kept). all_held t) e in
+    let parts : all_held (c.loop-entry.yielded ++ c.in-Some.entry ∷ rest) ≡ all_held c.loop-entry.yielded + all_held (c.in-Some.entry ∷ rest) =
+    sum_by-append (λ (k : Kept). numbers_held k.using.window) c.loop-entry.yielded (c.in-Some.entry ∷ rest) in
+    let first : all_held (c.in-Some.entry ∷ rest) ≡ numbers_held c.in-Some.entry.using.window + all_held rest = sum_by-cons (λ (k : Kept). numbers_held k.using.window) c.in-Some.entry rest in
+    omega (arith, all, parts, first, ap length e, length-append c.loop-entry.yielded (c.in-Some.entry ∷ into_iter_items c.next.new.self), p.few, c.requires.room, c.loop-entry.invariant.4, c.loop-entry.outs.ok.0, c.args.outs.now.ok.0, c.args.ended.ok.0)
 
 pub loop-entry-preserved : goal.loop-entry-preserved
 loop-entry-preserved c = (
@@ -49,4 +56,7 @@ returns-clause-ends c = λ shard.
 pub returns-clause-len : goal.returns-clause-len
 returns-clause-len c =
     let p = c.loop-entry.invariant.2 0 in
-    omega (arith, p.few, ap length p.parts, length-append c.loop-entry.yielded (into_iter_items c.loop-entry.entry-iterator), c.loop-entry.outs.ok.0, c.args.outs.now.ok.0, c.args.ended.ok.0)
+    let rest : List Kept = into_iter_items c.loop-entry.entry-iterator in
+    let all : all_held c.args.ended.items ≡ all_held (c.loop-entry.yielded ++ rest) = ap (λ (t : List Kept). all_held t) p.parts in
+    let parts : all_held (c.loop-entry.yielded ++ rest) ≡ all_held c.loop-entry.yielded + all_held rest = sum_by-append (λ (k : Kept). numbers_held k.using.window) c.loop-entry.yielded rest in
+    omega (arith, all, parts, p.few, ap length p.parts, length-append c.loop-entry.yielded (into_iter_items c.loop-entry.entry-iterator), c.loop-entry.outs.ok.0, c.args.outs.now.ok.0, c.args.ended.ok.0)

@@ -14,3 +14,6 @@ advance-requires g c =
 pub returns-clause-frames : goal.returns-clause-frames
 returns-clause-frames g c =
     c.advance.ensures.frames ∙ ap (λ xs. xs ++ gathered (ring_at c.args.slots.now c.args.start) c.args.start c.advance.result) (nil_from_length c.args.out.now.items c.requires.empty)
+
+pub returns-clause-few : goal.returns-clause-few
+returns-clause-few g c = omega (arith, c.advance.ensures.room, c.requires.empty)

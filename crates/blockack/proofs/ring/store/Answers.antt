@@ -61,3 +61,10 @@ returns-clause-frames g c =
     let now = ring_at (slice_set c.advance-passed.new.slots (c.args.number % 64) (Some c.args.item)) ((c.args.start + c.advance-passed.result) % 4096) in
     c.advance.ensures.frames ∙ ap (λ xs. xs ++ gathered now ((c.args.start + c.advance-passed.result) % 4096) c.advance.result) (c.advance-passed.ensures.frames ∙ ap (λ xs. xs ++ gathered (ring_at c.args.slots.now c.args.start) c.args.start c.advance-passed.result) none) ∙
     sym (both_gathered (ring_at c.args.slots.now c.args.start) _ c.args.start (ahead c.args.start c.args.number) c.advance-passed.result c.advance.result c.args.item (facts g c.before).before (facts g c.before).put)
+
+pub returns-clause-few : goal.returns-clause-few
+returns-clause-few g c =
+    let len : length c.advance-passed.new.slots ≡ 64 = search rules in
+    let lt1 : c.args.number % 64 < length c.advance-passed.new.slots = omega arith in
+    let put = held_put c.advance-passed.new.slots (c.args.number % 64) c.args.item lt1 (facts g c.before).free in
+    omega (arith, put, c.advance-passed.ensures.room, c.advance.ensures.room, c.requires.empty)

@@ -2,7 +2,9 @@ use Rattle.std.proofs.Common.{◌≡◌, List, ap, sym, subst, ◌∙◌, map}
 use Rattle.std.proofs.lemmas.List.Sums.{length-filter}
 use Rattle.std.specs.Prelude.{length, count_by, AllPairs, Contains, ◌↔◌}
 use Rattle.ap_model.specs.Steps.{IsBefore}
-use Rattle.ap_agreements.specs.Tables.{Table, Kept, key_of, IsRising, IsLateIn, agreement_in, unless_late}
+use Rattle.blockack.specs.Reading.{numbers_held}
+use Rattle.ap_agreements.specs.Tables.{Table, Kept, key_of, IsRising, IsLateIn, agreement_in, unless_late, all_held, late_held}
+use Rattle.ap_agreements.proofs.Late.{sum_passing}
 use Rattle.ap_agreements.proofs.Filters.{late, timely, stay, exactly_late, late_rise, rises_kept}
 use Rattle.ap_agreements.proofs.agreements.Agreements.take_late.Goals as goal
 
@@ -31,3 +33,10 @@ pub returns-clause-many : goal.returns-clause-many
 returns-clause-many c =
     let e = ap (λ (t : Table). t.kept) c.self.view_is in
     c.split_late.new.ended.ok.0 ∙ ap length c.split_late.ensures.ended ∙ length-filter (late c.args.clock) c.self.inside.entries.items ∙ ap (λ (l : List Kept). count_by (late c.args.clock) l) e
+
+pub returns-clause-held : goal.returns-clause-held
+returns-clause-held c =
+    let e = ap (λ (t : Table). t.kept) c.self.view_is in
+    ap (λ (l : List Kept). all_held l) c.split_late.ensures.ended
+    ∙ sum_passing (late c.args.clock) (λ (k : Kept). numbers_held k.using.window) c.self.inside.entries.items
+    ∙ ap (λ (l : List Kept). late_held c.args.clock l) e

@@ -7,4 +7,4 @@ pub returns-clause-numbers : goal.returns-clause-numbers
 returns-clause-numbers c =
     let v = c.into_inner-agreement.result in
     let s : v.start < 4096 = omega (arith, c.start-start.ensures.is, c.start-start.ensures.fits) in
-    passed_below (c.close.ensures (window_of v) (c.reading_law.ensures.windows v s)).passes
+    passed_below (c.close.ensures.passes (window_of v) (c.reading_law.ensures.windows v s)).passes

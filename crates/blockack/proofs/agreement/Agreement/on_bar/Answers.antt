@@ -1,10 +1,11 @@
-use Rattle.std.proofs.Common.{arith, refl, ◌<◌, ◌≤◌, ◌+◌, ◌%◌, ℕ, sym, ◌∙◌, subst}
+use Rattle.std.proofs.Common.{arith, refl, ap, ◌<◌, ◌≤◌, ◌+◌, ◌%◌, ℕ, sym, ◌∙◌, subst}
 use Rattle.std.proofs.lemmas.List.{nil_from_length}
 use Rattle.blockack.specs.Window.{IsNextFree}
-use Rattle.blockack.specs.Reading.{Reading, RequestMovesWindow}
+use Rattle.blockack.specs.Reading.{Reading, RequestMovesWindow, numbers_held}
 use Rattle.blockack.specs.Ring.{ahead, ring_at}
 use Rattle.blockack.proofs.MoveLaws.{sound_moved, short_moved}
 use Rattle.blockack.proofs.ReadingLaws.{held_seen, does_move, does_stay, seen}
+use Rattle.blockack.proofs.HeldLaws.{held_in_all}
 use Rattle.blockack.proofs.agreement.Agreement.on_bar.Goals as goal
 
 pub overflow_add-self : goal.overflow_add-self
@@ -46,3 +47,8 @@ returns-then-ahead-ge-HALF-clause-window g c =
 
 pub returns-then-ahead-ge-HALF-clause-scoreboard : goal.returns-then-ahead-ge-HALF-clause-scoreboard
 returns-then-ahead-ge-HALF-clause-scoreboard g c = rw (← c.self.view_is) c.on_request.ensures.step
+
+pub returns-clause-few : goal.returns-clause-few
+returns-clause-few g c =
+    let held = sym (ap (λ v. numbers_held v) c.self.view_is) ∙ held_in_all c.self.inside.slots c.self.inside.start c.skip-passed.ensures.of c.self.inside.size c.self.inside.scoreboard in
+    omega (arith, held, c.skip-passed.ensures.few)

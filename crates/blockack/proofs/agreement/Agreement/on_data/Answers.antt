@@ -1,9 +1,10 @@
-use Rattle.std.proofs.Common.{arith, rules, refl, ◌≡◌, ◌+◌, ◌%◌, sym, ◌∙◌, subst, None, true, false}
+use Rattle.std.proofs.Common.{arith, rules, refl, ◌≡◌, ◌≤◌, ◌+◌, ◌%◌, length, sym, ◌∙◌, subst, None, true, false}
 use Rattle.std.proofs.lemmas.List.{nil_from_length}
-use Rattle.blockack.specs.Reading.{Reading, IsWanted, DataMovesWindow}
+use Rattle.blockack.specs.Reading.{Reading, IsWanted, DataMovesWindow, most_passed}
 use Rattle.blockack.specs.Ring.{ahead, ring_at}
 use Rattle.blockack.proofs.MoveLaws.{sound_after, short_after}
 use Rattle.blockack.proofs.ReadingLaws.{held_seen, does_take, does_leave, seen}
+use Rattle.blockack.proofs.HeldLaws.{few_passed}
 use Rattle.blockack.proofs.agreement.Agreement.on_data.Goals as goal
 
 pub returns-then-not-wanted-clause-window : goal.returns-then-not-wanted-clause-window
@@ -65,3 +66,10 @@ returns-clause-window g c =
 
 pub returns-clause-scoreboard : goal.returns-clause-scoreboard
 returns-clause-scoreboard g c = rw (← c.self.view_is) c.on_data.ensures.step
+
+pub returns-clause-few : goal.returns-clause-few
+returns-clause-few g c =
+    let P : Reading g.row.F.Denot → Type 0 = λ v. length c.store-passed.new.out.items ≤ most_passed v c.args.number in
+    subst P c.self.view_is
+    (few_passed c.self.inside.slots c.self.inside.start c.self.inside.size c.args.number c.args.item c.self.invariant.0 c.store-passed.ensures.of c.self.inside.scoreboard c.store-passed.result c.store-passed.new.out.items
+    c.store-passed.ensures.next c.store-passed.ensures.frames c.store-passed.ensures.few)
