@@ -1,6 +1,6 @@
 //! A shard with its journal and its books.
 
-ghost use Rattle.std.specs.Prelude.{◌≡◌, ◌<◌, [], IfOk};
+ghost use Rattle.std.specs.Prelude.{◌≡◌, ◌<◌, ◌≤◌, [], IfOk};
 ghost use Rattle.ap_model.specs.Stations.{AreAssociated};
 ghost use Rattle.ap_core.specs.Handles.{rules};
 ghost use Rattle.ap_books.specs.Reading.{Reads};
@@ -99,7 +99,8 @@ impl<B: Ledgers + Journals, const SHARD: usize> Locked<B, SHARD> {
 
     /// How many stations are associated, at most 2007.
     pub fn stations(&self) -> u16
-        ensures { AreAssociated (readings_of self.now).standing result }
+        ensures are { AreAssociated (readings_of self.now).standing result }
+        ensures few { result ≤ 2007 }
     {
         self.shard.stations()
     }
