@@ -1,10 +1,10 @@
 -- What an operator has of its crew.
-use Rattle.std.specs.Prelude.{◌≡◌, ℕ, List, ◌++◌}
+use Rattle.std.specs.Prelude.{◌≡◌, ℕ, ◌+◌, List, ◌++◌}
 use Rattle.ap_books.specs.Counts.{Counts, plus}
 use Rattle.apd_lines.specs.declared.report.Report.{Report}
 use Rattle.apd_crew.specs.Tallies.{tallied}
 
--- how many workers there are, and what those who came back have counted
+-- how many workers have rights, and what those who came back have counted
 pub record Crew : Type 0 where
   pub workers : ℕ
   pub counted : Counts
@@ -12,6 +12,10 @@ pub record Crew : Type 0 where
 -- a worker came back that has counted this
 abbrev pub gains : Crew → Counts → Crew
 gains crew counted = record { workers = crew.workers; counted = plus crew.counted counted }
+
+-- one worker more has rights
+abbrev pub with_one_more : Crew → Crew
+with_one_more crew = record { workers = crew.workers + 1; counted = crew.counted }
 
 -- reports were added to the list, and are what was counted
 pub record Collects (crew crew2 : Crew) (list list2 : List Report) : Type 0 where

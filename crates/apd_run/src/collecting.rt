@@ -33,6 +33,7 @@ fn settled<W: Serving + Drop, O: Operating<W>>(
     operator: &mut O,
     done: Done<W>,
 ) -> (Ready<W>, Vec<Report>)
+    requires alike { (worker : _) → O.taken worker ≡ W.counted worker }
     ensures crew { O.crew operator.new ≡ gains (O.crew operator.old) (tallied result.1.items) }
 {
     let Done {

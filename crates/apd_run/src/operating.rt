@@ -1,14 +1,13 @@
 //! What the operator of a run can do.
 
-ghost use Rattle.std.specs.Prelude.{◌≡◌, IfSome, vec_len};
-ghost use Rattle.ap_books.specs.Counts.{none};
+ghost use Rattle.std.specs.Prelude.{◌≡◌, ◌<◌, IfSome};
+ghost use Rattle.ap_books.specs.Counts.{Counts, none};
 ghost use Rattle.ap_books.specs.Reading.{Reads};
 ghost use Rattle.apd_crew.specs.Tallies.{told_counts};
-ghost use Rattle.apd_run.specs.Crews.{Crew, gains};
+ghost use Rattle.apd_run.specs.Crews.{Crew, gains, with_one_more};
 
 use ap_books::Totals;
 use ap_model::Event;
-use apd_crew::{Ready, Serving};
 use apd_lines::Told;
 use apd_script::Command;
 use std::sync::Wait;
@@ -21,9 +20,12 @@ pub struct Waiting {
 }
 
 /// The operator's side of an access point whose events workers of this kind handle.
-pub trait Operating<W: Serving + Drop> {
-    // How many workers there are, and what those who came back have counted.
+pub trait Operating<W> {
+    // How many workers have its rights, and what those who came back have counted.
     ghost crew: { Self → Crew };
+
+    // What a worker has counted since the operator had it last.
+    ghost taken: { W → Counts };
 
     /// Puts an event of the line into the queue of its shard's worker; a tick for each shard.
     fn submit<R: Wait>(&mut self, rt: &R, line: u64, event: Event) -> Result<(), Waiting>
@@ -40,11 +42,17 @@ pub trait Operating<W: Serving + Drop> {
 
     /// Takes in what a worker has counted, and tells it of the loads so far.
     fn settle(&mut self, worker: &mut W)
-        ensures crew { crew self.new ≡ gains (crew self.old) (W.counted worker.old) }
-        ensures worker { W.counted worker.new ≡ none };
+        ensures crew { crew self.new ≡ gains (crew self.old) (taken worker.old) }
+        ensures worker { taken worker.new ≡ none };
 
-    /// With all workers: what has been counted.
-    fn gather<R: Wait>(self, rt: &R, workers: Vec<Ready<W>>) -> Totals
-        requires all { vec_len workers ≡ (crew self).workers }
+    /// Takes a worker's rights back.
+    fn dismiss(&mut self, worker: W)
+        requires some { 0 < (crew self.old).workers }
+        requires nothing { taken worker ≡ none }
+        ensures crew { crew self.old ≡ with_one_more (crew self.new) };
+
+    /// With all workers' rights: what has been counted.
+    fn gather<R: Wait>(self, rt: &R) -> Totals
+        requires all { (crew self).workers ≡ 0 }
         ensures reads { Reads result (crew self).counted };
 }

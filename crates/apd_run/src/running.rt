@@ -33,7 +33,7 @@ impl<'a, W: Serving + Drop, R: Wait> Task<R> for Work<'a, W> {
 
 /// What is left where all threads have ended.
 #[derive(Drop)]
-pub(crate) struct Ran<W: Serving + Drop, O: Drop, P: Drop> {
+pub(crate) struct Ran<W: Serving + Drop, O: Operating<W> + Drop, P: Drop> {
     pub staff: Staff<W, O>,
     pub writer: P,
     pub memory: Result<bool, PrintFault>,

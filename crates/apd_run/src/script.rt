@@ -6,7 +6,7 @@ ghost use Rattle.apd_run.specs.Shows.{Shows, Breaks, IsBroken, status_of, Finish
 use crate::operating::Operating;
 use crate::running::{Ran, Work, run_threads};
 use crate::setting::{Setting, Staff};
-use apd_crew::{Desk, Serving, Signs};
+use apd_crew::{Desk, Ready, Serving, Signs};
 use apd_lines::{PrintFault, print_totals};
 use apd_script::Numbered;
 use std::alloc::{AllocError, Global};
@@ -42,6 +42,20 @@ fn ended(memory: bool) -> u8
     if memory { 3 } else { 0 }
 }
 
+/// Takes all workers' rights back.
+fn dismiss_all<W: Serving + Drop, O: Operating<W>>(operator: &mut O, workers: Vec<Ready<W>>)
+    requires alike { (worker : _) → O.taken worker ≡ W.counted worker }
+    requires all { vec_len workers ≡ (O.crew operator.old).workers }
+    ensures none { (O.crew operator.new).workers ≡ 0 }
+    ensures counted { (O.crew operator.new).counted ≡ (O.crew operator.old).counted }
+{
+    let mut workers = workers;
+    'workers: while let Some(ready) = workers.pop() {
+        let Ready { worker } = ready;
+        operator.dismiss(worker);
+    }
+}
+
 /// Prints the last line, and answers the status.
 fn finish<W: Serving + Drop, O: Operating<W> + Drop, R: Wait, P: Write>(
     rt: &R,
@@ -54,8 +68,12 @@ fn finish<W: Serving + Drop, O: Operating<W> + Drop, R: Wait, P: Write>(
     ensures finishes { Finishes (P.contents writer.old) (P.contents writer.new)
         (O.crew staff.operator).counted memory result }
 {
-    let Staff { operator, workers } = staff;
-    let totals = operator.gather(rt, workers);
+    let Staff {
+        mut operator,
+        workers,
+    } = staff;
+    dismiss_all(&mut operator, workers);
+    let totals = operator.gather(rt);
     match print_totals(alloc, writer, &totals) {
         Ok(()) => return ended(memory),
         Err(fault) => return broken(fault),

@@ -1,5 +1,8 @@
 //! What all parts of a run need.
 
+ghost use Rattle.std.specs.Prelude.{◌≡◌};
+
+use crate::operating::Operating;
 use apd_crew::{Desk, Ready, Serving, Signs};
 use std::alloc::Global;
 
@@ -12,9 +15,10 @@ pub(crate) struct Setting<'a, W: Serving + Drop, R> {
     pub signs: &'a Signs,
 }
 
-/// An operator with the workers that are at rest.
+/// An operator with the workers that are at rest. Both say alike what a worker has counted.
 #[derive(Drop)]
-pub struct Staff<W: Serving + Drop, O: Drop> {
+pub struct Staff<W: Serving + Drop, O: Operating<W> + Drop> {
     pub operator: O,
     pub workers: Vec<Ready<W>>,
+    pub ghost alike: { (worker : _) → O.taken worker ≡ W.counted worker },
 }
