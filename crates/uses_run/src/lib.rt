@@ -1,5 +1,9 @@
-//! The lines of a run and their order, shown by tests.
+//! The lines of a run and their order, and scripts that are run by several workers, shown by tests.
 #![tactic(auto)]
 
 #[cfg(test)]
+mod echo;
+#[cfg(test)]
 mod lines;
+#[cfg(test)]
+mod running;
