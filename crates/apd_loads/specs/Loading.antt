@@ -28,6 +28,11 @@ pub record IsInForce (hook : Hook) (program : Code) (old new : Beginning) (budge
   pub safe : Safe program.slots program.shapes budget
   pub loaded : new ≡ with_load old (load hook (Some accepted))
 
+-- it is, or memory was refused
+pub data PutsInForce (hook : Hook) (a : Verified) (old new : Beginning) : Told → Type 0 where
+  InForce : IsInForce hook a.code old new a.budget → PutsInForce hook a old new (Loaded a.budget)
+  NoRoomToPut : new ≡ old → PutsInForce hook a old new Memory
+
 -- the verifier doesn't admit the program, which isn't plain then, and nothing changes
 pub record IsRefused (program : Code) (old new : Beginning) (refusal : Refusal) : Type 0 where
   pub reason : refusal.fault ≢ verify.NoMemory

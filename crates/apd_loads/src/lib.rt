@@ -1,11 +1,12 @@
 //! Programs that are put in force while an access point runs.
 //!
-//! Main calls: `Loads::load` and `Loads::unload`. It stands on `apd_inputs`, `bpf_decode`,
-//! `bpf_verifier` and `versions`. What is published is the program that a file's digits spell, which
-//! the verifier admits for the hook; or nothing is, and the answer says why. The answers are what a
+//! Main calls: `Loads::load`, `Loads::adopt` and `Loads::unload`. It stands on `apd_inputs`,
+//! `bpf_decode`, `bpf_verifier`, `bpf_cert` and `versions`. What is published is the program that a
+//! file's digits spell, which the verifier or a certificate admits for the hook; or nothing is, and the answer says why. The answers are what a
 //! run prints of the line.
 #![tactic(auto)]
 
+mod adopting;
 mod loading;
 
 pub use loading::Loads;

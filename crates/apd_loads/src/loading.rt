@@ -3,7 +3,7 @@
 ghost use Rattle.std.specs.Prelude.{◌≡◌, IfOk, None, OnOk, OnErr};
 ghost use Rattle.versions.specs.Lists.{with_load};
 ghost use Rattle.versions.specs.Sets.{load};
-ghost use Rattle.apd_loads.specs.Loading.{LoadsProgram, LoadsCode, LoadsFile};
+ghost use Rattle.apd_loads.specs.Loading.{PutsInForce, LoadsProgram, LoadsCode, LoadsFile};
 
 use apd_inputs::{CodeFault, Files, read_code};
 use apd_lines::Told;
@@ -20,7 +20,7 @@ use versions::{News, PublishFault, Publisher};
 /// Puts programs in force for the maps of a run. Contracts see the list of all that was published.
 /// It is not `Drop`: end it by `close`.
 pub struct Loads {
-    alloc: Global,
+    pub(crate) alloc: Global,
     publisher: Publisher,
     shapes: Shapes,
 }
@@ -98,7 +98,7 @@ impl Loads {
     }
 
     /// A copy of the shapes of the maps in use.
-    fn shapes(&self) -> Result<Shapes, AllocError>
+    pub(crate) fn shapes(&self) -> Result<Shapes, AllocError>
         ensures is { IfOk result (λ shapes. shapes ≡ self.now.shapes) }
     {
         self.shapes.whole();
@@ -143,10 +143,10 @@ impl Loads {
         }
     }
 
-    fn put_in_force<R: Wait>(&mut self, rt: &R, hook: Hook, accepted: Accepted) -> Told
+    pub(crate) fn put_in_force<R: Wait>(&mut self, rt: &R, hook: Hook, accepted: Accepted) -> Told
         requires hook_is { accepted.hook ≡ hook }
         requires shapes_are { accepted.code.shapes ≡ self.old.shapes }
-        ensures { LoadsProgram hook accepted.code self.old self.new result }
+        ensures { PutsInForce hook accepted self.old self.new result }
     {
         let budget = accepted.budget();
         let Ok(shared) = Arc::new(self.alloc, accepted) else {
