@@ -1,0 +1,5 @@
+pub mod Tokens
+pub mod Judged
+pub mod Desks
+pub mod Fates
+pub mod Opening

@@ -1,0 +1,58 @@
+-- What a token has of all shards.
+use Rattle.std.specs.Prelude.{◌≡◌, ◌+◌, ◌<◌}
+use Rattle.ap_books.specs.Holdings.{Holding}
+use Rattle.ap_locked.specs.Tokens.{Token, IsToken, newcomer}
+
+-- a token of each shard
+pub record Eight : Type 0 where
+  pub of0 : Token
+  pub of1 : Token
+  pub of2 : Token
+  pub of3 : Token
+  pub of4 : Token
+  pub of5 : Token
+  pub of6 : Token
+  pub of7 : Token
+
+-- their parts of the ledgers, with what they have counted
+abbrev pub holding_of : Eight → Holding
+holding_of e =
+    record {
+      of0 = e.of0.portion;
+      of1 = e.of1.portion;
+      of2 = e.of2.portion;
+      of3 = e.of3.portion;
+      of4 = e.of4.portion;
+      of5 = e.of5.portion;
+      of6 = e.of6.portion;
+      of7 = e.of7.portion;
+    }
+
+-- shard by shard, two of them stand so
+abbrev pub EachOf : (Token → Token → Type 0) → Eight → Eight → Type 0
+EachOf P a b =
+    P a.of0 b.of0 × P a.of1 b.of1 × P a.of2 b.of2 × P a.of3 b.of3
+    × P a.of4 b.of4 × P a.of5 b.of5 × P a.of6 b.of6 × P a.of7 b.of7
+
+-- more than one part of each ledger
+abbrev pub HasMoreThanOne : Eight → Type 0
+HasMoreThanOne e = EachOf (λ t u. 1 < t.portion.parts) e e
+
+-- one part of each, for one who has seen as much and has no entries yet
+abbrev pub IsNewcomer : Eight → Eight → Type 0
+IsNewcomer a b = EachOf (λ t u. u ≡ newcomer 1 t.seen) a b
+
+-- a token that gave one part away, and keeps all else
+pub record GaveOne (t u : Token) : Type 0 where
+  pub parts : u.portion.parts + 1 ≡ t.portion.parts
+  pub counts : u.portion.counts ≡ t.portion.counts
+  pub seen : u.seen ≡ t.seen
+  pub own : u.own ≡ t.own
+
+-- one part of each was given away
+abbrev pub HasGivenOne : Eight → Eight → Type 0
+HasGivenOne a b = EachOf GaveOne a b
+
+-- what is so of each token, of each of them
+abbrev pub AreTokens : Eight → Type 0
+AreTokens e = EachOf (λ t u. IsToken t) e e

@@ -1,0 +1,102 @@
+//! One event, under the lock of its shard.
+
+ghost use Rattle.std.specs.Prelude.{◌≡◌, ◌<◌};
+ghost use Rattle.bpf_helpers.specs.Hooked.{IsFitting};
+ghost use Rattle.ap_shards.specs.Desks.{ByDesk};
+ghost use Rattle.ap_shards.specs.Fates.{Comes, ComesAt};
+ghost use Rattle.ap_shards.specs.Judged.{HoldsOn, WasTaken};
+
+use crate::desk::Desk;
+use crate::shards::Shards;
+use crate::tokens::ShardTokens;
+use ap_books::Ledgers;
+use ap_locked::{Journals, Locked, ShardToken};
+use ap_model::Event;
+use ap_tagged::Fate;
+use bpf_helpers::{WorkerState, WorkerView};
+use hook_judge::{SetJudge, judging_law};
+use std::sync::{Mutex, Wait};
+
+/// Decides the event at the shard's clock and stations.
+fn decide_at<B: Ledgers + Journals, const SHARD: usize>(
+    locked: &mut Locked<B, SHARD>,
+    mine: &mut ShardToken<B, SHARD>,
+    desk: Desk<'_, '_>,
+    state: &mut WorkerState,
+    event: &Event,
+) -> Fate
+    requires { IsFitting desk.maps.now desk.worker state.old.seats }
+    ensures fate { Comes (ByDesk desk.entry state.old state.new)
+        SHARD mine.old event.now result mine.new }
+    ensures taken { WasTaken result }
+    ensures holds { HoldsOn result state.old state.new }
+    ensures fitting { IsFitting desk.entry.maps.now desk.entry.worker state.new.seats }
+{
+    judging_law();
+    locked.known();
+    let view = WorkerView {
+        maps: desk.maps,
+        worker: desk.worker,
+        clock: locked.clock(),
+        stations: locked.stations(),
+    };
+    let mut judge = SetJudge::new(desk.set, view, state);
+    match locked.decide(desk.alloc, mine, event, &mut judge) {
+        Ok((outs, dropped)) => Fate::Decided { outs, dropped },
+        Err(_) => Fate::Refused,
+    }
+}
+
+/// Takes the lock, and decides the event there.
+fn decide_under<B: Ledgers + Journals, const SHARD: usize, R: Wait>(
+    rt: &R,
+    lock: &Mutex<Locked<B, SHARD>>,
+    mine: &mut ShardToken<B, SHARD>,
+    desk: Desk<'_, '_>,
+    state: &mut WorkerState,
+    event: &Event,
+) -> Fate
+    requires { IsFitting desk.maps.now desk.worker state.old.seats }
+    ensures fate { Comes (ByDesk desk.entry state.old state.new)
+        SHARD mine.old event.now result mine.new }
+    ensures taken { WasTaken result }
+    ensures holds { HoldsOn result state.old state.new }
+    ensures fitting { IsFitting desk.entry.maps.now desk.entry.worker state.new.seats }
+{
+    let mut locked = lock.lock(rt);
+    decide_at(&mut *locked, mine, desk, state, event)
+}
+
+impl<B: Ledgers + Journals> Shards<B> {
+    /// Decides an event under the lock of this shard, by the programs of a published set over a
+    /// worker's tables. `mine` then has its entry, and what it counts. An event that is refused for
+    /// memory changes nothing.
+    pub fn decide<R: Wait>(
+        &self,
+        rt: &R,
+        mine: &mut ShardTokens<B>,
+        desk: Desk<'_, '_>,
+        state: &mut WorkerState,
+        at: (u16, &Event),
+    ) -> Fate
+        requires shard { at.0 < 8 }
+        requires fitting { IsFitting desk.maps.now desk.worker state.old.seats }
+        ensures fate { ComesAt (ByDesk desk.entry state.old state.new)
+            at.entry.0 mine.old at.entry.1.now result mine.new }
+        ensures taken { WasTaken result }
+        ensures holds { HoldsOn result state.old state.new }
+        ensures fitting { IsFitting desk.entry.maps.now desk.entry.worker state.new.seats }
+    {
+        let (shard, event) = at;
+        match shard {
+            0 => decide_under(rt, &self.of0, &mut mine.of0, desk, state, event),
+            1 => decide_under(rt, &self.of1, &mut mine.of1, desk, state, event),
+            2 => decide_under(rt, &self.of2, &mut mine.of2, desk, state, event),
+            3 => decide_under(rt, &self.of3, &mut mine.of3, desk, state, event),
+            4 => decide_under(rt, &self.of4, &mut mine.of4, desk, state, event),
+            5 => decide_under(rt, &self.of5, &mut mine.of5, desk, state, event),
+            6 => decide_under(rt, &self.of6, &mut mine.of6, desk, state, event),
+            _ => decide_under(rt, &self.of7, &mut mine.of7, desk, state, event),
+        }
+    }
+}

@@ -1,0 +1,148 @@
+//! New shards.
+
+ghost use Rattle.std.specs.Prelude.{◌≡◌, ◌<◌, [], IfOk};
+ghost use Rattle.ap_locked.specs.Naming.{IsNamed};
+ghost use Rattle.ap_locked.specs.Tokens.{newcomer};
+
+use crate::shards::Shards;
+use crate::tokens::ShardTokens;
+use ap_books::Ledgers;
+use ap_locked::{Journals, Locked, NewShard, ShardToken};
+use ap_model::LinkConfig;
+use std::alloc::{AllocError, Global};
+use std::sync::Mutex;
+
+/// What the eight shards begin with, which has no name yet: new ledgers and journals.
+#[derive(Drop)]
+pub struct NewShards {
+    pub of0: NewShard,
+    pub of1: NewShard,
+    pub of2: NewShard,
+    pub of3: NewShard,
+    pub of4: NewShard,
+    pub of5: NewShard,
+    pub of6: NewShard,
+    pub of7: NewShard,
+}
+
+impl NewShards {
+    ghost use Rattle.ap_shards.specs.Opening.{AreParted};
+
+    /// New ledgers, each cut into so many parts, and a new journal for each shard.
+    pub fn new(parts: u64) -> NewShards
+        ensures { AreParted parts result }
+    {
+        NewShards {
+            of0: NewShard::new(parts),
+            of1: NewShard::new(parts),
+            of2: NewShard::new(parts),
+            of3: NewShard::new(parts),
+            of4: NewShard::new(parts),
+            of5: NewShard::new(parts),
+            of6: NewShard::new(parts),
+            of7: NewShard::new(parts),
+        }
+    }
+}
+
+/// A shard under its lock, and all parts of its ledgers.
+#[derive(Drop)]
+struct Opened<B: Ledgers + Journals, const SHARD: usize> {
+    lock: Mutex<Locked<B, SHARD>>,
+    mine: ShardToken<B, SHARD>,
+}
+
+/// Two shards.
+#[derive(Drop)]
+struct OpenedTwo<B: Ledgers + Journals, const FIRST: usize, const SECOND: usize> {
+    first: Opened<B, FIRST>,
+    second: Opened<B, SECOND>,
+}
+
+/// A shard before any event.
+fn open_one<B: Ledgers + Journals, const SHARD: usize>(
+    alloc: Global,
+    config: &LinkConfig,
+    new: NewShard,
+) -> Result<Opened<B, SHARD>, AllocError>
+    requires shard { SHARD < 8 }
+    requires named { IsNamed (B.name_of SHARD) B.shares (B.journal_of SHARD) new }
+    requires some { 0 < B.shares }
+    ensures { IfOk result (λ r. r.mine ≡ newcomer B.shares []) }
+{
+    let (locked, mine) = Locked::new(alloc, config, new)?;
+    Ok(Opened {
+        lock: Mutex::new(locked),
+        mine,
+    })
+}
+
+/// Two shards before any event.
+fn open_two<B: Ledgers + Journals, const FIRST: usize, const SECOND: usize>(
+    alloc: Global,
+    config: &LinkConfig,
+    new: (NewShard, NewShard),
+) -> Result<OpenedTwo<B, FIRST, SECOND>, AllocError>
+    requires first { FIRST < 8 }
+    requires second { SECOND < 8 }
+    requires named_first { IsNamed (B.name_of FIRST) B.shares (B.journal_of FIRST) new.0 }
+    requires named_second { IsNamed (B.name_of SECOND) B.shares (B.journal_of SECOND) new.1 }
+    requires some { 0 < B.shares }
+    ensures first { IfOk result (λ r. r.first.mine ≡ newcomer B.shares []) }
+    ensures second { IfOk result (λ r. r.second.mine ≡ newcomer B.shares []) }
+{
+    let first = open_one(alloc, config, new.0)?;
+    let second = open_one(alloc, config, new.1)?;
+    Ok(OpenedTwo { first, second })
+}
+
+impl<B: Ledgers + Journals> Shards<B> {
+    ghost use Rattle.ap_shards.specs.Opening.{AreNamed, whole};
+
+    /// Eight shards before any event, and all parts of their ledgers.
+    pub fn open(
+        alloc: Global,
+        config: &LinkConfig,
+        new: NewShards,
+    ) -> Result<(Shards<B>, ShardTokens<B>), AllocError>
+        requires named { AreNamed B.name_of B.shares B.journal_of new }
+        requires some { 0 < B.shares }
+        ensures tokens { IfOk result (λ r. r.1 ≡ whole B.shares) }
+    {
+        let OpenedTwo { first, second } = open_two(alloc, config, (new.of0, new.of1))?;
+        let OpenedTwo {
+            first: third,
+            second: fourth,
+        } = open_two(alloc, config, (new.of2, new.of3))?;
+        let OpenedTwo {
+            first: fifth,
+            second: sixth,
+        } = open_two(alloc, config, (new.of4, new.of5))?;
+        let OpenedTwo {
+            first: seventh,
+            second: eighth,
+        } = open_two(alloc, config, (new.of6, new.of7))?;
+        Ok((
+            Shards {
+                of0: first.lock,
+                of1: second.lock,
+                of2: third.lock,
+                of3: fourth.lock,
+                of4: fifth.lock,
+                of5: sixth.lock,
+                of6: seventh.lock,
+                of7: eighth.lock,
+            },
+            ShardTokens {
+                of0: first.mine,
+                of1: second.mine,
+                of2: third.mine,
+                of3: fourth.mine,
+                of4: fifth.mine,
+                of5: sixth.mine,
+                of6: seventh.mine,
+                of7: eighth.mine,
+            },
+        ))
+    }
+}

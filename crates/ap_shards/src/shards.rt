@@ -1,0 +1,19 @@
+//! The locked shards.
+
+use ap_books::Ledgers;
+use ap_locked::{Journals, Locked};
+use std::sync::Mutex;
+
+/// Each shard under its own lock. They are eight fields, since which ledgers a shard has is part of its
+/// type.
+#[derive(Drop)]
+pub struct Shards<B: Ledgers + Journals> {
+    pub(crate) of0: Mutex<Locked<B, 0>>,
+    pub(crate) of1: Mutex<Locked<B, 1>>,
+    pub(crate) of2: Mutex<Locked<B, 2>>,
+    pub(crate) of3: Mutex<Locked<B, 3>>,
+    pub(crate) of4: Mutex<Locked<B, 4>>,
+    pub(crate) of5: Mutex<Locked<B, 5>>,
+    pub(crate) of6: Mutex<Locked<B, 6>>,
+    pub(crate) of7: Mutex<Locked<B, 7>>,
+}

@@ -1,0 +1,89 @@
+//! What one who decides events has of all shards.
+
+use ap_books::{Ledgers, Portions};
+use ap_locked::{Journals, ShardToken};
+use std::marker::Model;
+
+/// A token of each shard: parts of its ledgers, what was seen of its journal, one's own entries there.
+#[derive(Drop)]
+pub struct ShardTokens<B: Ledgers + Journals> {
+    pub(crate) of0: ShardToken<B, 0>,
+    pub(crate) of1: ShardToken<B, 1>,
+    pub(crate) of2: ShardToken<B, 2>,
+    pub(crate) of3: ShardToken<B, 3>,
+    pub(crate) of4: ShardToken<B, 4>,
+    pub(crate) of5: ShardToken<B, 5>,
+    pub(crate) of6: ShardToken<B, 6>,
+    pub(crate) of7: ShardToken<B, 7>,
+}
+
+impl<B: Ledgers + Journals> Model for ShardTokens<B> {
+    ghost use Rattle.ap_shards.specs.Tokens.{Eight};
+
+    ghost Value = { Eight };
+
+    ghost view = { λ s. record { of0 = s.of0; of1 = s.of1; of2 = s.of2; of3 = s.of3; of4 = s.of4; of5 = s.of5; of6 = s.of6; of7 = s.of7 } };
+}
+
+impl<B: Ledgers + Journals> ShardTokens<B> {
+    ghost use Rattle.std.specs.Prelude.{◌≡◌};
+    ghost use Rattle.ap_shards.specs.Tokens.{AreTokens, HasMoreThanOne, IsNewcomer, HasGivenOne, holding_of};
+
+    /// Tells a proof what is so of each token, and does nothing.
+    pub fn known(&self)
+        ensures { AreTokens self.now }
+    {
+        self.of0.known();
+        self.of1.known();
+        self.of2.known();
+        self.of3.known();
+        self.of4.known();
+        self.of5.known();
+        self.of6.known();
+        self.of7.known();
+    }
+
+    /// One part of each ledger, for one who has no entries yet.
+    pub fn split_one(&mut self) -> ShardTokens<B>
+        requires { HasMoreThanOne self.old }
+        ensures new { IsNewcomer self.old result }
+        ensures left { HasGivenOne self.old self.new }
+    {
+        ShardTokens {
+            of0: self.of0.split_off(1),
+            of1: self.of1.split_off(1),
+            of2: self.of2.split_off(1),
+            of3: self.of3.split_off(1),
+            of4: self.of4.split_off(1),
+            of5: self.of5.split_off(1),
+            of6: self.of6.split_off(1),
+            of7: self.of7.split_off(1),
+        }
+    }
+
+    /// The parts of the ledgers, with what they have counted.
+    pub fn into_shares(self) -> Portions<B>
+        ensures { result ≡ holding_of self }
+    {
+        let ShardTokens {
+            of0,
+            of1,
+            of2,
+            of3,
+            of4,
+            of5,
+            of6,
+            of7,
+        } = self;
+        Portions {
+            of0: of0.into_shares(),
+            of1: of1.into_shares(),
+            of2: of2.into_shares(),
+            of3: of3.into_shares(),
+            of4: of4.into_shares(),
+            of5: of5.into_shares(),
+            of6: of6.into_shares(),
+            of7: of7.into_shares(),
+        }
+    }
+}
