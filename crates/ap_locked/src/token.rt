@@ -1,6 +1,7 @@
 //! What one who decides events has of a shard.
 
-ghost use Rattle.std.specs.Prelude.{◌≡◌, ◌+◌, ◌<◌};
+ghost use Rattle.std.specs.Prelude.{◌≡◌, ◌+◌, ◌<◌, []};
+ghost use Rattle.ap_books.specs.Counts.{none};
 ghost use Rattle.ap_locked.specs.Tokens.{IsToken, KeepsOwn, newcomer};
 
 use crate::entry::JournalEntry;
@@ -8,6 +9,7 @@ use crate::naming::Journals;
 use ap_books::{Ledgers, Shares};
 use ap_journal::{Known, Past};
 use std::marker::Model;
+use std::mem;
 
 /// What one who decides events has of a shard: parts of its ledgers, what it has seen of its journal,
 /// and its own entries there. At run time it is the number of the entries that it has seen.
@@ -64,6 +66,20 @@ impl<B: Ledgers + Journals, const SHARD: usize> ShardToken<B, SHARD> {
         let seen = self.seen.longer(&other.seen);
         self.seen = seen.again();
         other.seen = seen;
+    }
+
+    /// Takes other parts, which have counted nothing, and gives its own away, with what they have
+    /// counted. Then it has no entries of its own; it has seen what it had.
+    pub fn renew(&mut self, fresh: Shares<B, SHARD>) -> Shares<B, SHARD>
+        requires some { 0 < fresh.parts }
+        requires nothing { fresh.counts ≡ none }
+        ensures given { result ≡ self.old.portion }
+        ensures portion { self.new.portion ≡ fresh }
+        ensures seen { self.new.seen ≡ self.old.seen }
+        ensures own { self.new.own ≡ [] }
+    {
+        self.own = Past::new();
+        mem::replace(&mut self.shares, fresh)
     }
 
     /// The parts of the ledgers alone.
