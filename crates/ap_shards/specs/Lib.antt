@@ -3,3 +3,4 @@ pub mod Judged
 pub mod Desks
 pub mod Fates
 pub mod Opening
+pub mod Renewal

@@ -13,6 +13,7 @@ mod deciding;
 mod desk;
 mod gathering;
 mod opening;
+mod renewing;
 mod shards;
 mod tokens;
 

@@ -1,0 +1,41 @@
+//! Parts of the ledgers that are exchanged.
+
+use crate::tokens::ShardTokens;
+use ap_books::{Ledgers, Portions};
+use ap_locked::Journals;
+
+impl<B: Ledgers + Journals> ShardTokens<B> {
+    ghost use Rattle.std.specs.Prelude.{◌≡◌};
+    ghost use Rattle.ap_shards.specs.Renewal.{AreFresh, AreRenewed};
+    ghost use Rattle.ap_shards.specs.Tokens.{holding_of};
+
+    /// Takes other parts of the ledgers, which have counted nothing, and gives its own away, with what
+    /// they have counted.
+    pub fn renew(&mut self, fresh: Portions<B>) -> Portions<B>
+        requires { AreFresh fresh }
+        ensures given { result ≡ holding_of self.old }
+        ensures taken { holding_of self.new ≡ fresh }
+        ensures renewed { AreRenewed self.old self.new }
+    {
+        let Portions {
+            of0,
+            of1,
+            of2,
+            of3,
+            of4,
+            of5,
+            of6,
+            of7,
+        } = fresh;
+        Portions {
+            of0: self.of0.renew(of0),
+            of1: self.of1.renew(of1),
+            of2: self.of2.renew(of2),
+            of3: self.of3.renew(of3),
+            of4: self.of4.renew(of4),
+            of5: self.of5.renew(of5),
+            of6: self.of6.renew(of6),
+            of7: self.of7.renew(of7),
+        }
+    }
+}
