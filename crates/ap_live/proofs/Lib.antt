@@ -1,0 +1,4 @@
+pub mod Sums
+pub mod Growing
+pub mod Going
+pub mod Keeping

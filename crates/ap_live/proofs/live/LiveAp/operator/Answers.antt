@@ -1,0 +1,22 @@
+use Rattle.std.proofs.Common.{refl}
+use Rattle.ap_live.specs.Lives.{Live}
+use Rattle.ap_live.proofs.Keeping.{live_kept}
+use Rattle.ap_live.proofs.live.LiveAp.operator.Goals as goal
+
+pub invariant_of-self : goal.invariant_of-self
+invariant_of-self g c =
+    let a : Live = record { queues = c.self.inside.lines; stock = c.self.inside.tables; list = c.self.inside.entrance; draw = c.self.inside.draw } in
+    let b : Live = record a { stock = c.operator-2.new.self } in
+    live_kept a b (record { queues = refl; tables = c.operator-2.ensures.tables; workers = c.operator-2.ensures.workers; list = refl; draw = refl }) c.self.invariant
+
+pub invariant_of-self-then-left-le1 : goal.invariant_of-self-then-left-le1
+invariant_of-self-then-left-le1 g c =
+    let a : Live = record { queues = c.self.inside.lines; stock = c.self.inside.tables; list = c.self.inside.entrance; draw = c.self.inside.draw } in
+    let b : Live = record a { stock = c.operator-2.new.self } in
+    live_kept a b (record { queues = refl; tables = c.operator-2.ensures.tables; workers = c.operator-2.ensures.workers; list = refl; draw = refl }) c.self.invariant
+
+pub invariant_of-self-2 : goal.invariant_of-self-2
+invariant_of-self-2 g c =
+    let a : Live = record { queues = c.self.inside.lines; stock = c.self.inside.tables; list = c.self.inside.entrance; draw = c.self.inside.draw } in
+    let b : Live = record a { stock = c.operator-2.new.self } in
+    live_kept a b (record { queues = refl; tables = c.operator-2.ensures.tables; workers = c.operator-2.ensures.workers; list = refl; draw = refl }) c.self.invariant

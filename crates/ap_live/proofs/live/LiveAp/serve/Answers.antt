@@ -1,0 +1,28 @@
+use Rattle.std.proofs.Common.{◌≡◌, ◌++◌, ◌∷◌, [], List, ap, refl, ◌∙◌}
+use Rattle.ap_tagged.specs.declared.tagged.Tagged.{Tagged}
+use Rattle.ap_live.proofs.Going.{served_more, served_none}
+use Rattle.ap_live.proofs.live.LiveAp.serve.Goals as goal
+
+pub loop-init : goal.loop-init
+loop-init g c =
+    let w = c.args.worker.now in
+    let l = c.args.list.now.items in (tt, tt, c.requires, refl, served_none c.args.self.now w w l l refl refl)
+
+pub returns-then-stopped-clause-served : goal.returns-then-stopped-clause-served
+returns-then-stopped-clause-served g c =
+    let t : Tagged = c.in-Some-serve_one.tagged in
+    let listed : c.push_reserved.new.self.items ≡ c.loop.list.items ++ t ∷ [] = c.push_reserved.ensures.items ∙ ap (λ (l : List Tagged). l ++ t ∷ []) c.reserve.ensures.items in
+    served_more c.args.self.now c.args.worker.now c.loop.worker c.serve_one.new.worker c.args.list.now.items c.loop.list.items c.push_reserved.new.self.items t c.loop.invariant.4 c.loop.invariant.3
+    c.in-Some-serve_one.ensures.served listed
+
+pub loop-preserved : goal.loop-preserved
+loop-preserved g c =
+    let t : Tagged = c.in-Some-serve_one.tagged in
+    let listed : c.push_reserved.new.self.items ≡ c.loop.list.items ++ t ∷ [] = c.push_reserved.ensures.items ∙ ap (λ (l : List Tagged). l ++ t ∷ []) c.reserve.ensures.items in (
+      tt,
+      tt,
+      c.serve_one.ensures.own,
+      c.serve_one.ensures.number ∙ c.loop.invariant.3,
+      served_more c.args.self.now c.args.worker.now c.loop.worker c.serve_one.new.worker c.args.list.now.items c.loop.list.items c.push_reserved.new.self.items t c.loop.invariant.4 c.loop.invariant.3
+          c.in-Some-serve_one.ensures.served listed,
+    )

@@ -1,0 +1,5 @@
+pub mod Lives
+pub mod Tokens
+pub mod Counting
+pub mod Opening
+pub mod Serving

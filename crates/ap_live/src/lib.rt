@@ -1,0 +1,25 @@
+//! An access point that several threads serve: eight shards, each under its own lock, a queue for each
+//! worker, the tables of the maps, and the programs in force.
+//!
+//! Main calls: `LiveAp::submit`, which puts an event into its shard's worker's queue; `LiveAp::serve`,
+//! by which a worker decides what its queue holds, each event under its shard's lock and by the programs
+//! of one whole published set; `LiveAp::act`, by which an operator decides a command at once;
+//! `LiveAp::gather`, which reads the totals. It stands on `ap_shards`, `ap_lines`, `ap_tables` and
+//! `versions`. Promised: `serve` hands on one `Tagged` for each event that it took, in order, and the
+//! worker's shares grow by exactly what these count; with all shares the totals are the sum of the
+//! books.
+#![tactic(auto)]
+
+mod acting;
+mod laws;
+mod live;
+mod maps;
+mod opening;
+mod serving;
+mod submitting;
+mod tokens;
+
+pub use laws::{newcomers_law, tokens_law};
+pub use live::{LiveAp, Settings};
+pub use opening::Opened;
+pub use tokens::{LeftTokens, OperatorToken, WorkerToken};

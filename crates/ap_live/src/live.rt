@@ -1,0 +1,101 @@
+//! What the threads of an access point share.
+
+ghost use Rattle.std.specs.Prelude.{◌≡◌};
+ghost use Rattle.ap_books.specs.Holdings.{HasParts, sum_of};
+ghost use Rattle.ap_books.specs.Reading.{Reads};
+ghost use Rattle.versions.specs.Lists.{Begins};
+ghost use Rattle.ap_live.specs.Tokens.{IsWorker};
+
+use crate::tokens::WorkerToken;
+use ap_books::{Ledgers, Portions, Totals};
+use ap_lines::EventLines;
+use ap_locked::Journals;
+use ap_model::LinkConfig;
+use ap_shards::Shards;
+use ap_tables::ApTables;
+use bpf_regions::Shapes;
+use core::mem::replace_with;
+use std::marker::Model;
+use std::sync::Wait;
+use versions::{Entrance, News};
+
+/// What an access point is made with: its link, the shapes of its maps, the first word that each worker
+/// draws, and how many workers there are, of 1 to 8.
+#[derive(Drop)]
+pub struct Settings {
+    pub link: LinkConfig,
+    pub shapes: Shapes,
+    pub draw: u64,
+    pub workers: u32,
+}
+
+/// An access point. Threads share it by reference.
+#[derive(Drop)]
+pub struct LiveAp<B: Ledgers + Journals> {
+    pub(crate) shards: Shards<B>,
+    pub(crate) lines: EventLines,
+    pub(crate) tables: ApTables,
+    pub(crate) entrance: Entrance,
+    pub(crate) draw: u64,
+}
+
+impl<B: Ledgers + Journals> Model for LiveAp<B> {
+    ghost use Rattle.ap_live.specs.Lives.{Live, IsLive};
+
+    ghost Value = { Live };
+
+    ghost view = { λ a. record { queues = a.lines; stock = a.tables; list = a.entrance; draw = a.draw } };
+
+    ghost invariant = { λ a. IsLive (record { queues = a.lines; stock = a.tables; list = a.entrance; draw = a.draw }) };
+}
+
+impl<B: Ledgers + Journals> LiveAp<B> {
+    /// With all parts of all ledgers: the sum of the books, which is what all shares count, mod 2^64.
+    pub fn gather<R: Wait>(&self, rt: &R, all: &mut Portions<B>) -> Totals
+        requires { HasParts B.shares all.old }
+        ensures same { all.new ≡ all.old }
+        ensures sum { Reads result (sum_of all.old) }
+    {
+        self.shards.gather(rt, all)
+    }
+
+    /// From now on the worker takes no set without the loads of the news.
+    pub fn learn(&self, worker: &mut WorkerToken<B>, news: News)
+        requires own { IsWorker self.now worker.old }
+        requires news { news.list ≡ self.now.list.list }
+        ensures own { IsWorker self.now worker.new }
+        ensures seen { Begins worker.old.seen worker.new.seen }
+        ensures told { Begins news worker.new.seen }
+        ensures same { worker.new ≡ record worker.old { seen = worker.new.seen } }
+    {
+        replace_with(worker, (self, news), |worker, (ap, news)| {
+            (ap.learned(worker, news), ())
+        })
+    }
+
+    /// The worker with a reader that has learned the news.
+    fn learned(&self, worker: WorkerToken<B>, news: News) -> WorkerToken<B>
+        requires own { IsWorker self.now worker }
+        requires news { news.list ≡ self.now.list.list }
+        ensures own { IsWorker self.now result }
+        ensures seen { Begins worker.seen result.seen }
+        ensures told { Begins news result.seen }
+        ensures same { result ≡ record worker { seen = result.seen } }
+    {
+        let WorkerToken {
+            number,
+            pass,
+            reader,
+            state,
+            shards,
+        } = worker;
+        let reader = self.entrance.learn(reader, news);
+        WorkerToken {
+            number,
+            pass,
+            reader,
+            state,
+            shards,
+        }
+    }
+}

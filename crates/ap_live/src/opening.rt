@@ -1,0 +1,194 @@
+//! A new access point, and the tokens of those who use it.
+
+ghost use Rattle.std.specs.Prelude.{◌≡◌, ◌<◌, ◌≤◌, [], IfOk, OnErr, OnOk};
+ghost use Rattle.versions.specs.Lists.{readers_of};
+ghost use Rattle.ap_shards.specs.Opening.{AreNamed, whole};
+ghost use Rattle.ap_shards.specs.Tokens.{IsNewcomer};
+ghost use Rattle.ap_live.specs.Lives.{KeepsLive};
+ghost use Rattle.ap_live.specs.Opening.{ArePlaces, GaveNothing, GaveToken, IsOpened, parts_in_all};
+ghost use Rattle.ap_live.specs.Tokens.{AreLeft, IsOperator, IsWorker};
+
+use crate::live::{LiveAp, Settings};
+use crate::tokens::{LeftTokens, OperatorToken, WorkerToken};
+use ap_books::Ledgers;
+use ap_lines::{EventLines, LineFault, LinePasses};
+use ap_locked::Journals;
+use ap_shards::{NewShards, ShardTokens, Shards};
+use ap_tables::ApTables;
+use bpf_regions::Shapes;
+use std::alloc::{AllocError, Global};
+use std::sync::Wait;
+use versions::opening::published;
+use versions::{Published, Publisher};
+
+/// Into how many parts each ledger is cut: one for each of 8 operators and of 8 workers, and one that
+/// stays.
+pub const PARTS: u64 = 17;
+
+/// A new access point, its publisher, and what gives its tokens.
+pub struct Opened<B: Ledgers + Journals> {
+    pub ap: LiveAp<B>,
+    pub publisher: Publisher,
+    pub left: LeftTokens<B>,
+}
+
+/// The queues of so many workers, with all their passes, and their tables.
+#[derive(Drop)]
+struct Places {
+    lines: EventLines,
+    passes: LinePasses,
+    tables: ApTables,
+}
+
+/// Empty queues, and tables of zeros.
+fn open_places(alloc: Global, shapes: &Shapes, workers: u32) -> Result<Places, AllocError>
+    requires some { 0 < workers }
+    requires few { workers ≤ 8 }
+    ensures { IfOk result (λ p. ArePlaces workers shapes.now p.lines p.passes p.tables) }
+{
+    let (lines, passes) = EventLines::open(alloc, workers as usize)?;
+    let tables = ApTables::new(alloc, shapes, workers)?;
+    Ok(Places {
+        lines,
+        passes,
+        tables,
+    })
+}
+
+/// An access point of shards, places, and a list of published loads.
+fn assembled<B: Ledgers + Journals>(
+    shards: (Shards<B>, ShardTokens<B>),
+    places: Places,
+    list: (Publisher, Published),
+    draw: u64,
+    workers: u32,
+) -> Opened<B>
+    requires some { 0 < workers }
+    requires tokens { shards.1 ≡ whole parts_in_all }
+    requires places { ArePlaces workers list.0.shapes places.lines places.passes places.tables }
+    requires empty { list.0.loads ≡ [] }
+    requires readers { list.1 ≡ readers_of list.0 workers }
+    ensures { IsOpened workers list.0.shapes draw result.ap result.publisher result.left }
+{
+    let (shards, tokens) = shards;
+    let (publisher, readers) = list;
+    let Places {
+        lines,
+        passes,
+        tables,
+    } = places;
+    let ap = LiveAp {
+        shards,
+        lines,
+        tables,
+        entrance: readers.entrance(),
+        draw,
+    };
+    let left = LeftTokens {
+        readers,
+        passes,
+        parts: PARTS,
+        shards: tokens,
+    };
+    Opened {
+        ap,
+        publisher,
+        left,
+    }
+}
+
+impl<B: Ledgers + Journals> LiveAp<B> {
+    /// An access point before any event, with no program, and tables of zeros. Its ledgers, which are
+    /// cut into `PARTS` parts, and its journals are those of the new shards.
+    pub fn open<R: Wait>(
+        rt: &R,
+        alloc: Global,
+        settings: Settings,
+        new: NewShards,
+    ) -> Result<Opened<B>, AllocError>
+        requires some { 0 < settings.workers }
+        requires few { settings.workers ≤ 8 }
+        requires named { AreNamed B.name_of B.shares B.journal_of new }
+        requires parts { B.shares ≡ parts_in_all }
+        ensures { IfOk result (λ o. IsOpened settings.workers settings.shapes settings.draw o.ap o.publisher o.left) }
+    {
+        let Settings {
+            link,
+            shapes,
+            draw,
+            workers,
+        } = settings;
+        let shards = Shards::open(alloc, &link, new)?;
+        let places = open_places(alloc, &shapes, workers)?;
+        let list = published(rt, alloc, shapes, workers)?;
+        Ok(assembled(shards, places, list, draw, workers))
+    }
+
+    /// The token of the next operator. 62 comes where all are given out: only tests show that 8 are.
+    pub fn operator(
+        &mut self,
+        alloc: Global,
+        left: &mut LeftTokens<B>,
+    ) -> Result<OperatorToken<B>, LineFault>
+        requires { AreLeft self.old left.old }
+        ensures keeps { KeepsLive self.old self.new }
+        ensures left { AreLeft self.new left.new }
+        ensures own { IfOk result (IsOperator self.new) }
+        ensures new { IfOk result (λ o. IsNewcomer left.old.shards o.shards) }
+        ensures given { OnOk result (GaveToken left.old left.new) }
+        ensures refused { OnErr result (GaveNothing left.old left.new) }
+    {
+        let lines = self.lines.operator(alloc, &mut left.passes)?;
+        let Ok(seats) = self.tables.operator(alloc) else {
+            return Err(LineFault::NoMemory);
+        };
+        if left.parts <= 1 {
+            return Err(LineFault::NoPass);
+        }
+        left.parts -= 1;
+        let shards = left.shards.split_one();
+        Ok(OperatorToken {
+            lines,
+            seats,
+            shards,
+        })
+    }
+
+    /// The token of a worker, once. Then 62 comes. Only tests show that it is given.
+    pub fn worker(
+        &mut self,
+        alloc: Global,
+        left: &mut LeftTokens<B>,
+        number: usize,
+    ) -> Result<WorkerToken<B>, LineFault>
+        requires own { AreLeft self.old left.old }
+        requires there { number < self.old.stock.workers }
+        ensures keeps { KeepsLive self.old self.new }
+        ensures left { AreLeft self.new left.new }
+        ensures own { IfOk result (IsWorker self.new) }
+        ensures number { IfOk result (λ w. w.number ≡ number) }
+        ensures new { IfOk result (λ w. IsNewcomer left.old.shards w.shards) }
+        ensures given { OnOk result (GaveToken left.old left.new) }
+        ensures refused { OnErr result (GaveNothing left.old left.new) }
+    {
+        let pass = self.lines.worker(&mut left.passes, number)?;
+        let Ok(reader) = left.readers.reader() else {
+            return Err(LineFault::NoPass);
+        };
+        let Ok(state) = self.tables.worker(alloc, number, self.draw) else {
+            return Err(LineFault::NoMemory);
+        };
+        if left.parts <= 1 {
+            return Err(LineFault::NoPass);
+        }
+        left.parts -= 1;
+        let shards = left.shards.split_one();
+        Ok(WorkerToken {
+            number,
+            pass,
+            reader,
+            state,
+            shards,
+        })
+    }
+}

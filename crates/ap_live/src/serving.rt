@@ -1,0 +1,148 @@
+//! What a worker does.
+
+ghost use Rattle.std.specs.Prelude.{◌≡◌, ◌<◌, IfNone, IfSome};
+ghost use Rattle.ap_live.specs.Serving.{Becomes, Served, ServedOne, progress_of};
+ghost use Rattle.ap_live.specs.Tokens.{IsWorker};
+
+use crate::live::LiveAp;
+use crate::tokens::WorkerToken;
+use ap_books::Ledgers;
+use ap_locked::Journals;
+use ap_model::Event;
+use ap_queue::Item;
+use ap_shards::Desk;
+use ap_tagged::{Fate, Gate, Tagged};
+use core::mem::replace_with;
+use std::alloc::{AllocError, Global};
+use std::sync::Wait;
+
+/// How many shards there are.
+const SHARDS: u16 = 8;
+
+impl<B: Ledgers + Journals> LiveAp<B> {
+    /// Serves what the worker's queue holds, until it is found empty or the gate says stop. Each event
+    /// that was taken is handed on, in order. At a refusal the list holds what was served.
+    pub fn serve<R: Wait, G: Gate>(
+        &self,
+        rt: &R,
+        alloc: Global,
+        worker: &mut WorkerToken<B>,
+        gate: &G,
+        list: &mut Vec<Tagged>,
+    ) -> Result<(), AllocError>
+        requires { IsWorker self.now worker.old }
+        ensures own { IsWorker self.now worker.new }
+        ensures number { worker.new.number ≡ worker.old.number }
+        ensures served { Served self.now worker.old worker.new list.old.items list.new.items }
+    {
+        for _ in rt.forever() {
+            if list.reserve(1).is_err() {
+                return Err(AllocError);
+            }
+            let Some(tagged) = self.serve_one(rt, alloc, worker, gate) else {
+                return Ok(());
+            };
+            let stopped = matches!(tagged.fate, Fate::NotHandled);
+            list.push_reserved(tagged);
+            if stopped {
+                return Ok(());
+            }
+        }
+        unreachable!()
+    }
+
+    /// Serves the oldest event of the worker's queue, and hands it on, or None where there is none. It
+    /// is decided under its shard's lock, by the programs of one whole published set, unless the gate
+    /// says stop: then it is handed on as one that was not handled.
+    pub fn serve_one<R: Wait, G: Gate>(
+        &self,
+        rt: &R,
+        alloc: Global,
+        worker: &mut WorkerToken<B>,
+        gate: &G,
+    ) -> Option<Tagged>
+        requires { IsWorker self.now worker.old }
+        ensures own { IsWorker self.now worker.new }
+        ensures number { worker.new.number ≡ worker.old.number }
+        ensures served { IfSome result (λ t. ServedOne self.now worker.old t worker.new) }
+        ensures none { IfNone result (progress_of worker.new ≡ progress_of worker.old) }
+    {
+        let queue = self.lines.queue(worker.number);
+        let queued = queue.take(rt, &mut worker.pass)?;
+        let Item { call, shard, event } = queued.item;
+        let fate = self.handle(rt, alloc, worker, gate, call, (shard, &event));
+        Some(Tagged { call, shard, fate })
+    }
+
+    /// What becomes of an event that was taken.
+    fn handle<R: Wait, G: Gate>(
+        &self,
+        rt: &R,
+        alloc: Global,
+        worker: &mut WorkerToken<B>,
+        gate: &G,
+        call: u64,
+        at: (u16, &Event),
+    ) -> Fate
+        requires { IsWorker self.now worker.old }
+        ensures own { IsWorker self.now worker.new }
+        ensures number { worker.new.number ≡ worker.old.number }
+        ensures pass { worker.new.pass ≡ worker.old.pass }
+        ensures became { Becomes self.now worker.old.number (progress_of worker.old) at.entry.1.now at.entry.0 result (progress_of worker.new) }
+    {
+        if gate.stop(call) {
+            return Fate::NotHandled;
+        }
+        if at.0 >= SHARDS {
+            return Fate::Refused;
+        }
+        gate.begin(call);
+        let fate = replace_with(
+            worker,
+            (self, rt, alloc, at),
+            |worker, (ap, rt, alloc, at)| { ap.decided(rt, alloc, worker, at) },
+        );
+        gate.end(call);
+        fate
+    }
+
+    /// Enters the published set, decides the event by it under the shard's lock, and leaves the set.
+    fn decided<R: Wait>(
+        &self,
+        rt: &R,
+        alloc: Global,
+        worker: WorkerToken<B>,
+        at: (u16, &Event),
+    ) -> (WorkerToken<B>, Fate)
+        requires own { IsWorker self.now worker }
+        requires inside { at.0 < 8 }
+        ensures own { IsWorker self.now result.0 }
+        ensures number { result.0.number ≡ worker.number }
+        ensures pass { result.0.pass ≡ worker.pass }
+        ensures became { Becomes self.now worker.number (progress_of worker) at.entry.1.now at.entry.0 result.1 (progress_of result.0) }
+    {
+        let WorkerToken {
+            number,
+            pass,
+            reader,
+            mut state,
+            mut shards,
+        } = worker;
+        let entered = self.entrance.enter(rt, reader);
+        let desk = Desk {
+            alloc,
+            set: entered.set(),
+            maps: self.tables.maps(),
+            worker: number,
+        };
+        let fate = self.shards.decide(rt, &mut shards, desk, &mut state, at);
+        let worker = WorkerToken {
+            number,
+            pass,
+            reader: entered.leave(),
+            state,
+            shards,
+        };
+        (worker, fate)
+    }
+}

@@ -1,0 +1,123 @@
+//! What one who uses an access point has of it.
+
+use ap_books::{Ledgers, Portions};
+use ap_lines::{LinePasses, OperatorLines};
+use ap_locked::Journals;
+use ap_queue::WorkerPass;
+use ap_shards::ShardTokens;
+use ap_tables::OperatorSeats;
+use bpf_helpers::WorkerState;
+use std::marker::Model;
+use versions::{Published, Reader};
+
+/// The right of an operator: a pass of each queue, a seat at each table, a part of each ledger.
+#[derive(Drop)]
+pub struct OperatorToken<B: Ledgers + Journals> {
+    pub(crate) lines: OperatorLines,
+    pub(crate) seats: OperatorSeats,
+    pub(crate) shards: ShardTokens<B>,
+}
+
+impl<B: Ledgers + Journals> Model for OperatorToken<B> {
+    ghost use Rattle.ap_live.specs.Tokens.{Operator};
+
+    ghost Value = { Operator };
+
+    ghost view = { λ o. record { lines = o.lines; seats = o.seats; shards = o.shards } };
+}
+
+/// The right of a worker: the pass of its queue, a reader of the published sets, what its programs
+/// change, a part of each ledger. It may move to another thread.
+#[derive(Drop)]
+pub struct WorkerToken<B: Ledgers + Journals> {
+    pub(crate) number: usize,
+    pub(crate) pass: WorkerPass,
+    pub(crate) reader: Reader,
+    pub(crate) state: WorkerState,
+    pub(crate) shards: ShardTokens<B>,
+}
+
+impl<B: Ledgers + Journals> Model for WorkerToken<B> {
+    ghost use Rattle.ap_live.specs.Tokens.{Worker};
+
+    ghost Value = { Worker };
+
+    ghost view = { λ w. record { number = w.number; pass = w.pass; seen = w.reader; held = w.state; shards = w.shards } };
+}
+
+/// What was not given out yet. It stays in one thread.
+#[derive(Drop)]
+pub struct LeftTokens<B: Ledgers + Journals> {
+    pub(crate) readers: Published,
+    pub(crate) passes: LinePasses,
+    pub(crate) parts: u64,
+    pub(crate) shards: ShardTokens<B>,
+}
+
+impl<B: Ledgers + Journals> Model for LeftTokens<B> {
+    ghost use Rattle.ap_books.specs.Holdings.{HasParts};
+    ghost use Rattle.ap_shards.specs.Tokens.{holding_of};
+    ghost use Rattle.ap_live.specs.Tokens.{Left};
+
+    ghost Value = { Left };
+
+    ghost view = { λ l. record { readers = l.readers; passes = l.passes; parts = l.parts; shards = l.shards } };
+
+    ghost invariant = { λ l. HasParts l.parts (holding_of l.shards) };
+}
+
+impl<B: Ledgers + Journals> OperatorToken<B> {
+    ghost use Rattle.std.specs.Prelude.{◌≡◌};
+    ghost use Rattle.ap_shards.specs.Tokens.{holding_of};
+
+    /// The parts of the ledgers, with what they have counted.
+    pub fn into_shares(self) -> Portions<B>
+        ensures { result ≡ holding_of self.shards }
+    {
+        let OperatorToken { shards, .. } = self;
+        shards.into_shares()
+    }
+}
+
+impl<B: Ledgers + Journals> WorkerToken<B> {
+    ghost use Rattle.std.specs.Prelude.{◌≡◌};
+    ghost use Rattle.ap_shards.specs.Tokens.{holding_of};
+    ghost use Rattle.ap_shards.specs.Renewal.{AreFresh, AreRenewed};
+    ghost use Rattle.ap_live.specs.Lives.{Live};
+    ghost use Rattle.ap_live.specs.Tokens.{IsWorker};
+
+    /// Takes other parts of the ledgers, which have counted nothing, and gives its own away, with what
+    /// they have counted.
+    pub fn renew(&mut self, fresh: Portions<B>) -> Portions<B>
+        requires { AreFresh fresh }
+        ensures given { result ≡ holding_of self.old.shards }
+        ensures taken { holding_of self.new.shards ≡ fresh }
+        ensures renewed { AreRenewed self.old.shards self.new.shards }
+        ensures same { self.new ≡ record self.old { shards = self.new.shards } }
+    {
+        self.shards.renew(fresh)
+    }
+
+    /// The parts of the ledgers, with what they have counted.
+    pub fn into_shares(self) -> Portions<B>
+        ensures { result ≡ holding_of self.shards }
+    {
+        let WorkerToken { shards, .. } = self;
+        shards.into_shares()
+    }
+}
+
+impl<B: Ledgers + Journals> LeftTokens<B> {
+    ghost use Rattle.std.specs.Prelude.{◌≡◌};
+    ghost use Rattle.ap_books.specs.Holdings.{HasParts};
+    ghost use Rattle.ap_shards.specs.Tokens.{holding_of};
+
+    /// The parts of the ledgers that were not given out.
+    pub fn into_shares(self) -> Portions<B>
+        ensures is { result ≡ holding_of self.shards }
+        ensures parts { HasParts self.parts result }
+    {
+        let LeftTokens { shards, .. } = self;
+        shards.into_shares()
+    }
+}
