@@ -43,8 +43,11 @@ HasSplit n a b = EachOf (λ p q r. (r.parts + n ≡ p.parts) × (r.counts ≡ p.
 
 -- the parts and the counts of both, portion by portion
 abbrev pub HasMerged : Holding → Holding → Holding → Type 0
-HasMerged a b c = EachOf (λ p q r. (r.parts ≡ p.parts + q.parts) × (r.counts ≡ plus p.counts q.counts)) a b c
+HasMerged a b c =
+    EachOf (λ p q r. (r.parts ≡ p.parts + q.parts) × (r.counts ≡ plus p.counts q.counts)) a b c
 
 -- what all portions have counted together
 abbrev pub sum_of : Holding → Counts
-sum_of h = plus (plus (plus (plus (plus (plus (plus h.of0.counts h.of1.counts) h.of2.counts) h.of3.counts) h.of4.counts) h.of5.counts) h.of6.counts) h.of7.counts
+sum_of h =
+    plus (plus (plus (plus (plus (plus (plus h.of0.counts h.of1.counts) h.of2.counts) h.of3.counts)
+    h.of4.counts) h.of5.counts) h.of6.counts) h.of7.counts

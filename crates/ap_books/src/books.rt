@@ -24,7 +24,13 @@ pub struct ShardBooks<B: Ledgers, const SHARD: usize> {
 impl<B: Ledgers, const SHARD: usize> Model for ShardBooks<B, SHARD> {
     ghost Value = { Counts };
 
-    ghost view = { λ s. record { events = s.events.book.total; sent = s.sent.book.total; up = s.up.book.total; dropped = s.dropped.book.total; notes = s.notes.book.total } };
+    ghost view = { λ s. record {
+      events = s.events.book.total;
+      sent = s.sent.book.total;
+      up = s.up.book.total;
+      dropped = s.dropped.book.total;
+      notes = s.notes.book.total;
+    } };
 }
 
 impl<B: Ledgers, const SHARD: usize> ShardBooks<B, SHARD> {

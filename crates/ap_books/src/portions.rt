@@ -22,7 +22,16 @@ impl<B: Ledgers> Model for Portions<B> {
 
     ghost Value = { Holding };
 
-    ghost view = { λ s. record { of0 = s.of0; of1 = s.of1; of2 = s.of2; of3 = s.of3; of4 = s.of4; of5 = s.of5; of6 = s.of6; of7 = s.of7 } };
+    ghost view = { λ s. record {
+      of0 = s.of0;
+      of1 = s.of1;
+      of2 = s.of2;
+      of3 = s.of3;
+      of4 = s.of4;
+      of5 = s.of5;
+      of6 = s.of6;
+      of7 = s.of7;
+    } };
 }
 
 impl<B: Ledgers> Portions<B> {

@@ -23,9 +23,19 @@ impl<B: Ledgers, const SHARD: usize> Model for Shares<B, SHARD> {
 
     ghost Value = { Portion };
 
-    ghost view = { λ s. record { parts = s.events.parts; counts = record { events = s.events.amount; sent = s.sent.amount; up = s.up.amount; dropped = s.dropped.amount; notes = s.notes.amount } } };
+    ghost view = { λ s. record {
+      parts = s.events.parts;
+      counts = record {
+        events = s.events.amount;
+        sent = s.sent.amount;
+        up = s.up.amount;
+        dropped = s.dropped.amount;
+        notes = s.notes.amount;
+      };
+    } };
 
-    ghost invariant = { λ s. (s.sent.parts ≡ s.events.parts) × (s.up.parts ≡ s.events.parts) × (s.dropped.parts ≡ s.events.parts) × (s.notes.parts ≡ s.events.parts) };
+    ghost invariant = { λ s. (s.sent.parts ≡ s.events.parts) × (s.up.parts ≡ s.events.parts)
+        × (s.dropped.parts ≡ s.events.parts) × (s.notes.parts ≡ s.events.parts) };
 }
 
 impl<B: Ledgers, const SHARD: usize> Shares<B, SHARD> {

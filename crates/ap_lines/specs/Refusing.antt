@@ -9,7 +9,8 @@ use Rattle.ap_lines.specs.Putting.{served}
 
 -- The event comes back. The shards before the one that is named were told of it, as if that were all; that one's
 -- worker had a full queue.
-pub record StopsAt (queues : List EventQueue) (old new : OperatorLines) (call : ℕ) (e : Event) (first count : ℕ) (u : Unserved) : Type 0 where
+pub record StopsAt (queues : List EventQueue) (old new : OperatorLines) (call : ℕ) (e : Event)
+    (first count : ℕ) (u : Unserved) : Type 0 where
   pub event : u.event ≡ e
   pub first_is : first ≤ u.shard
   pub within : u.shard < first + count

@@ -94,7 +94,8 @@ impl EventLines {
         requires own { ArePassesOf self.now left.old }
         requires there { worker < length self.now }
         ensures left { ArePassesOf self.now left.new }
-        ensures own { IfOk result (λ p. (q : EventQueue) → slice_get self.now worker ≡ Some q → IsWorkerOf q p) }
+        ensures own { IfOk result
+            (λ p. (q : EventQueue) → slice_get self.now worker ≡ Some q → IsWorkerOf q p) }
     {
         match left.workers[worker].take() {
             Some(pass) => Ok(pass),

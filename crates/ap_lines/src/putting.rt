@@ -44,8 +44,10 @@ impl EventLines {
     ) -> Result<(), Unserved>
         requires own { AreLinesOf self.now operator.old }
         ensures own { AreLinesOf self.now operator.new }
-        ensures put { OnOk result (puts_of operator.new ≡ served (puts_of operator.old) call event (first_shard event) (shard_count event)) }
-        ensures refused { IfErr result (StopsAt self.now operator.old operator.new call event (first_shard event) (shard_count event)) }
+        ensures put { OnOk result (puts_of operator.new
+            ≡ served (puts_of operator.old) call event (first_shard event) (shard_count event)) }
+        ensures refused { IfErr result (StopsAt self.now operator.old operator.new call event
+            (first_shard event) (shard_count event)) }
     {
         match shard_of(&event) {
             None => self.submit_at(rt, operator, call, event, 0),
@@ -66,8 +68,10 @@ impl EventLines {
         requires tick { IsTick event }
         requires below { shard < 8 }
         ensures own { AreLinesOf self.now operator.new }
-        ensures put { OnOk result (puts_of operator.new ≡ served (puts_of operator.old) call event shard (8 - shard)) }
-        ensures refused { IfErr result (StopsAt self.now operator.old operator.new call event shard (8 - shard)) }
+        ensures put { OnOk result
+            (puts_of operator.new ≡ served (puts_of operator.old) call event shard (8 - shard)) }
+        ensures refused { IfErr result
+            (StopsAt self.now operator.old operator.new call event shard (8 - shard)) }
     {
         let Event::Tick(units) = event else {
             unreachable!()
@@ -100,8 +104,10 @@ impl EventLines {
     ) -> Result<(), Unserved>
         requires own { AreLinesOf self.now operator.old }
         ensures own { AreLinesOf self.now operator.new }
-        ensures put { OnOk result (puts_of operator.new ≡ served (puts_of operator.old) call event shard 1) }
-        ensures refused { IfErr result (StopsAt self.now operator.old operator.new call event shard 1) }
+        ensures put { OnOk result
+            (puts_of operator.new ≡ served (puts_of operator.old) call event shard 1) }
+        ensures refused { IfErr result
+            (StopsAt self.now operator.old operator.new call event shard 1) }
     {
         let item = Item { call, shard, event };
         match self.put_one(rt, operator, item) {

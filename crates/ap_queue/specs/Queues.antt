@@ -14,7 +14,16 @@ of p (x ∷ xs) = if x.operator == p then x.item ∷ of p xs else of p xs
 
 -- may do nothing
 abbrev pub nobody : View
-nobody = record { makes = false; made = 0; takes = false; taken = []; puts = false; operator = 0; put = [] }
+nobody =
+    record {
+      makes = false;
+      made = 0;
+      takes = false;
+      taken = [];
+      puts = false;
+      operator = 0;
+      put = [];
+    }
 
 -- makes operators, so many so far
 abbrev pub maker : ℕ → View
@@ -30,7 +39,8 @@ operator p put = record nobody { puts = true; operator = p; put = put }
 
 -- has taken these, and holds the place of the operator p meanwhile
 abbrev pub both : List Queued → ℕ → List Item → View
-both taken p put = record nobody { takes = true; taken = taken; puts = true; operator = p; put = put }
+both taken p put =
+    record nobody { takes = true; taken = taken; puts = true; operator = p; put = put }
 
 -- makes operators and takes
 abbrev pub founder : View
@@ -48,9 +58,11 @@ Fits root taker made seat put taken pass v =
 -- wasn't made was put
 abbrev pub OneQueue : List Queued → List View → Type 0
 OneQueue items views =
-    (root : ℕ) × (taker : ℕ) × (made : ℕ) × (seat : ℕ → ℕ) × (put : List Queued) × (taken : List Queued)
+    (root : ℕ) × (taker : ℕ) × (made : ℕ) × (seat : ℕ → ℕ)
+    × (put : List Queued) × (taken : List Queued)
     × (put ≡ taken ++ items) × ((p : ℕ) → made ≤ p → of p put ≡ [])
-    × ((pass : ℕ) (v : View) → get_elem? views pass ≡ some v → Fits root taker made seat put taken pass v)
+    × ((pass : ℕ) (v : View) → get_elem? views pass ≡ some v →
+    Fits root taker made seat put taken pass v)
 
 -- of what the operator put, the last ones are those of its own among these
 abbrev pub EndsIn : View → List Queued → Type 0

@@ -17,7 +17,8 @@ pub fn decide<J: Judge>(
     event: &Event,
     judge: &mut J,
 ) -> Result<(Vec<Out>, bool), AllocError>
-    ensures entry { IfOk result (λ r. Decides J.gives shard.old event.now judge.old r.0.items r.1 shard.new judge.new) }
+    ensures entry { IfOk result
+        (λ r. Decides J.gives shard.old event.now judge.old r.0.items r.1 shard.new judge.new) }
     ensures rules { ruled shard.new ≡ ruled shard.old }
     ensures refused { IfErr result (λ _. (shard.new ≡ shard.old) × (judge.new ≡ judge.old)) }
 {

@@ -55,7 +55,8 @@ impl<J: Judge> Judge for DropWatch<'_, J> {
 
     ghost asks = { λ w. J.asks w.judge.now };
 
-    ghost gives = { λ w q a w2. (w2.judge.ghost_name ≡ w.judge.ghost_name) × J.gives w.judge.now q a w2.judge.now × (w2.dropped ≡ (w.dropped || drops_by q.hook a)) };
+    ghost gives = { λ w q a w2. (w2.judge.ghost_name ≡ w.judge.ghost_name)
+        × J.gives w.judge.now q a w2.judge.now × (w2.dropped ≡ (w.dropped || drops_by q.hook a)) };
 
     ghost lists = { λ p p2 q a h. J.lists p.judge.now p2.judge.now q a h.1 };
 

@@ -84,8 +84,10 @@ pub record HasBadMapValue (m : Members) (k : MapKey) : Type 0 where
 
 -- what a fault says of the table of the map with that number
 abbrev pub TellsOfMap : Members → ℕ → ConfigFault → Type 0
-TellsOfMap m number (fault.UnknownMapKey map key) = (map ≡ number) × HasUnknownKey m is_map_key (string_bytes key)
-TellsOfMap m number (fault.MissingInMap map key) = (map ≡ number) × (key ≢ in_map.Scope) × LacksKey m (map_text_of key)
+TellsOfMap m number (fault.UnknownMapKey map key) =
+    (map ≡ number) × HasUnknownKey m is_map_key (string_bytes key)
+TellsOfMap m number (fault.MissingInMap map key) =
+    (map ≡ number) × (key ≢ in_map.Scope) × LacksKey m (map_text_of key)
 TellsOfMap m number (fault.ValueInMap map key) = (map ≡ number) × HasBadMapValue m key
 TellsOfMap m number fault.NoMemory = Unit {0}
 TellsOfMap m number _ = ⊥

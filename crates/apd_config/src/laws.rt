@@ -7,6 +7,7 @@ ghost use Rattle.apd_config.specs.declared.fault.ConfigFault.{ConfigFault};
 
 /// The law of configurations: the text of one has no fault.
 pub fn faultless_law()
-    ensures is { (text : List ℕ) (c : Configuration) (f : ConfigFault) → IsTextOf text c → TellsOfText text f
+    ensures is { (text : List ℕ) (c : Configuration) (f : ConfigFault) →
+        IsTextOf text c → TellsOfText text f
         → f ≢ ConfigFault.NoMemory → ⊥ }
 {}

@@ -54,7 +54,8 @@ fn as_scope(value: &Value) -> Option<Scope>
 
 /// The value of a key that the map's table has to have.
 fn value(map: usize, table: &Table, key: MapKey) -> Result<&Value, ConfigFault>
-    ensures found { IfOk result (λ v. get_member (map_text_of key) (table_view table.now) ≡ Some (view v.now)) }
+    ensures found { IfOk result
+        (λ v. get_member (map_text_of key) (table_view table.now) ≡ Some (view v.now)) }
     ensures missing { IfErr result (λ e. e ≡ ConfigFault.MissingInMap map key) }
     ensures lacks { IfErr result (λ _. LacksKey (table_view table.now) (map_text_of key)) }
 {
@@ -65,7 +66,8 @@ fn value(map: usize, table: &Table, key: MapKey) -> Result<&Value, ConfigFault>
 }
 
 fn entries(map: usize, table: &Table) -> Result<u32, ConfigFault>
-    ensures value { IfOk result (λ n. option_and_then (count_of 4096) (get_member (codes "entries") (table_view table.now)) ≡ Some n) }
+    ensures value { IfOk result (λ n. option_and_then (count_of 4096)
+        (get_member (codes "entries") (table_view table.now)) ≡ Some n) }
     ensures fault { IfErr result (TellsOfMap (table_view table.now) map) }
 {
     let value = value(map, table, MapKey::Entries)?;
@@ -79,7 +81,8 @@ fn entries(map: usize, table: &Table) -> Result<u32, ConfigFault>
 }
 
 fn words(map: usize, table: &Table) -> Result<u32, ConfigFault>
-    ensures value { IfOk result (λ n. option_and_then (count_of 8) (get_member (codes "words") (table_view table.now)) ≡ Some n) }
+    ensures value { IfOk result (λ n.
+        option_and_then (count_of 8) (get_member (codes "words") (table_view table.now)) ≡ Some n) }
     ensures fault { IfErr result (TellsOfMap (table_view table.now) map) }
 {
     let value = value(map, table, MapKey::Words)?;
@@ -93,7 +96,8 @@ fn words(map: usize, table: &Table) -> Result<u32, ConfigFault>
 }
 
 fn width(map: usize, table: &Table) -> Result<WordWidth, ConfigFault>
-    ensures value { IfOk result (λ w. option_and_then width_of (get_member (codes "width") (table_view table.now)) ≡ Some w) }
+    ensures value { IfOk result (λ w.
+        option_and_then width_of (get_member (codes "width") (table_view table.now)) ≡ Some w) }
     ensures fault { IfErr result (TellsOfMap (table_view table.now) map) }
 {
     let value = value(map, table, MapKey::Width)?;
@@ -108,7 +112,8 @@ fn width(map: usize, table: &Table) -> Result<WordWidth, ConfigFault>
 
 /// The scope, shared where the table doesn't say it.
 fn scope(map: usize, table: &Table) -> Result<Scope, ConfigFault>
-    ensures value { IfOk result (λ s. scope_or_shared (get_member (codes "scope") (table_view table.now)) ≡ Some s) }
+    ensures value { IfOk result
+        (λ s. scope_or_shared (get_member (codes "scope") (table_view table.now)) ≡ Some s) }
     ensures fault { IfErr result (TellsOfMap (table_view table.now) map) }
 {
     let Some(value) = value_at(table, MapKey::Scope.as_str()) else {
@@ -131,7 +136,8 @@ fn is_map_key(text: &str) -> bool
 
 /// The first key that no map has.
 fn unknown_key(table: &Table) -> Option<&String>
-    ensures is { option_map (λ key. string_bytes key.now) result ≡ find (λ key. not (is_map_key key)) (keys_in (table_view table.now)) }
+    ensures is { option_map (λ key. string_bytes key.now) result
+        ≡ find (λ key. not (is_map_key key)) (keys_in (table_view table.now)) }
 {
     table.keys().find(|key| !is_map_key(key.as_str()))
 }

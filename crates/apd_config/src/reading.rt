@@ -55,7 +55,8 @@ fn is_key(text: &str) -> bool
 
 /// The first key that no configuration has.
 fn unknown_key(table: &Table) -> Option<&String>
-    ensures is { option_map (λ key. string_bytes key.now) result ≡ find (λ key. not (is_key key)) (keys_in (table_view table.now)) }
+    ensures is { option_map (λ key. string_bytes key.now) result
+        ≡ find (λ key. not (is_key key)) (keys_in (table_view table.now)) }
 {
     table.keys().find(|key| !is_key(key.as_str()))
 }

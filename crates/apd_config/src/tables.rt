@@ -8,7 +8,8 @@ use toml::{Table, Value};
 
 /// The value at a key.
 pub(crate) fn value_at<'t>(table: &'t Table, key: &str) -> Option<&'t Value>
-    ensures is { option_map (λ value. view value.now) result ≡ get_member key.now (table_view table.now) }
+    ensures is { option_map (λ value. view value.now) result
+        ≡ get_member key.now (table_view table.now) }
 {
     table.get(key)
 }

@@ -17,7 +17,8 @@ use toml::{Table, Value};
 
 /// The value of a key that has to be there.
 fn value(table: &Table, key: Key) -> Result<&Value, ConfigFault>
-    ensures found { IfOk result (λ v. get_member (text_of key) (table_view table.now) ≡ Some (view v.now)) }
+    ensures found { IfOk result
+        (λ v. get_member (text_of key) (table_view table.now) ≡ Some (view v.now)) }
     ensures missing { IfErr result (λ e. e ≡ ConfigFault.Missing key) }
     ensures lacks { IfErr result (λ _. LacksKey (table_view table.now) (text_of key)) }
 {
@@ -57,7 +58,8 @@ fn as_draw(value: &Value) -> Option<u64>
 
 /// The access point's address, of 12 hex digits.
 pub(crate) fn bssid(table: &Table) -> Result<[u8; 6], ConfigFault>
-    ensures value { IfOk result (λ bssid. option_and_then bssid_of (get_member (codes "bssid") (table_view table.now)) ≡ Some bssid) }
+    ensures value { IfOk result (λ bssid.
+        option_and_then bssid_of (get_member (codes "bssid") (table_view table.now)) ≡ Some bssid) }
     ensures fault { IfErr result (Tells (table_view table.now)) }
 {
     let value = value(table, Key::Bssid)?;
@@ -69,7 +71,8 @@ pub(crate) fn bssid(table: &Table) -> Result<[u8; 6], ConfigFault>
 
 /// The network's name, of at most 32 bytes.
 pub(crate) fn ssid(alloc: Global, table: &Table) -> Result<Vec<u8>, ConfigFault>
-    ensures value { IfOk result (λ name. option_and_then ssid_of (get_member (codes "ssid") (table_view table.now)) ≡ Some name.items) }
+    ensures value { IfOk result (λ name. option_and_then ssid_of
+        (get_member (codes "ssid") (table_view table.now)) ≡ Some name.items) }
     ensures fits { IfOk result (λ name. vec_len name ≤ 32) }
     ensures fault { IfErr result (Tells (table_view table.now)) }
 {
@@ -85,7 +88,8 @@ pub(crate) fn ssid(alloc: Global, table: &Table) -> Result<Vec<u8>, ConfigFault>
 
 /// The rates, 1 to 8 bytes in hex.
 pub(crate) fn rates(alloc: Global, table: &Table) -> Result<Vec<u8>, ConfigFault>
-    ensures value { IfOk result (λ rates. option_and_then rates_of (get_member (codes "rates") (table_view table.now)) ≡ Some rates.items) }
+    ensures value { IfOk result (λ rates. option_and_then rates_of
+        (get_member (codes "rates") (table_view table.now)) ≡ Some rates.items) }
     ensures some { IfOk result (λ rates. 1 ≤ vec_len rates) }
     ensures fits { IfOk result (λ rates. vec_len rates ≤ 8) }
     ensures fault { IfErr result (Tells (table_view table.now)) }
@@ -103,7 +107,8 @@ pub(crate) fn rates(alloc: Global, table: &Table) -> Result<Vec<u8>, ConfigFault
 
 /// The first draw word, a number from 0 on.
 pub(crate) fn draw(table: &Table) -> Result<u64, ConfigFault>
-    ensures value { IfOk result (λ draw. option_and_then draw_of (get_member (codes "draw") (table_view table.now)) ≡ Some draw) }
+    ensures value { IfOk result (λ draw.
+        option_and_then draw_of (get_member (codes "draw") (table_view table.now)) ≡ Some draw) }
     ensures fits { IfOk result (λ draw. draw < 2 ^ 63) }
     ensures fault { IfErr result (Tells (table_view table.now)) }
 {

@@ -13,7 +13,8 @@ reason_of CheckSequence = codes "its frame check sequence is cut"
 
 -- packets are counted from 1; a line ends with a line feed (10)
 abbrev pub left_out_line : ℕ → List ℕ → List ℕ
-left_out_line number reason = codes "# packet " ++ (decimal number ++ (codes " is left out: " ++ (reason ++ 10 ∷ [])))
+left_out_line number reason =
+    codes "# packet " ++ (decimal number ++ (codes " is left out: " ++ (reason ++ 10 ∷ [])))
 
 abbrev pub frame_line : List ℕ → List ℕ
 frame_line frame = codes "frame " ++ (encode_lower frame ++ 10 ∷ [])
@@ -22,7 +23,8 @@ frame_line frame = codes "frame " ++ (encode_lower frame ++ 10 ∷ [])
 abbrev pub frame_lines : ℕ → List ℕ → List ℕ
 frame_lines number frame =
     (if length frame == 0 then left_out_line number (codes "it has no bytes") else
-    (if nat_lt 2400 (length frame) then left_out_line number (codes "it has more than 2400 bytes") else frame_line frame))
+    (if nat_lt 2400 (length frame)
+    then left_out_line number (codes "it has more than 2400 bytes") else frame_line frame))
 
 abbrev pub packet_lines : ℕ → Result (List ℕ) LeftOut → List ℕ
 packet_lines number (Ok frame) = frame_lines number frame
@@ -33,7 +35,8 @@ tick_line units = codes "tick " ++ (decimal units ++ 10 ∷ [])
 
 -- the time from a unit to a later one, at most 2^32 - 1 units, which is what a line can say
 abbrev pub time_lines : Bool → ℕ → ℕ → List ℕ
-time_lines ticks clock now = (if ticks && nat_lt clock now then tick_line (min (now - clock) 4294967295) else [])
+time_lines ticks clock now =
+    (if ticks && nat_lt clock now then tick_line (min (now - clock) 4294967295) else [])
 
 -- in which unit after the start a time in nanoseconds lies; in unit 0 where it is earlier
 abbrev pub unit_of : ℕ → ℕ → ℕ

@@ -21,14 +21,16 @@ fn reason(left_out: LeftOut) -> &'static str
 }
 
 fn append_left_out(text: &mut String, number: u64, reason: &str) -> Result<(), AllocError>
-    ensures ok { IfOk result (λ _. string_bytes text.new ≡ string_bytes text.old ++ left_out_line number reason.now) }
+    ensures ok { IfOk result
+        (λ _. string_bytes text.new ≡ string_bytes text.old ++ left_out_line number reason.now) }
 {
     writeln!(text, "# packet {number} is left out: {reason}")?;
     Ok(())
 }
 
 fn append_frame(alloc: Global, text: &mut String, frame: &[u8]) -> Result<(), AllocError>
-    ensures ok { IfOk result (λ _. string_bytes text.new ≡ string_bytes text.old ++ frame_line frame.now) }
+    ensures ok { IfOk result
+        (λ _. string_bytes text.new ≡ string_bytes text.old ++ frame_line frame.now) }
 {
     let digits = hex::encode(alloc, frame)?;
     writeln!(text, "frame {digits}")?;
@@ -42,7 +44,8 @@ fn append_bytes(
     number: u64,
     frame: &[u8],
 ) -> Result<(), AllocError>
-    ensures ok { IfOk result (λ _. string_bytes text.new ≡ string_bytes text.old ++ frame_lines number frame.now) }
+    ensures ok { IfOk result
+        (λ _. string_bytes text.new ≡ string_bytes text.old ++ frame_lines number frame.now) }
 {
     if frame.is_empty() {
         return append_left_out(text, number, "it has no bytes");
@@ -60,7 +63,8 @@ pub(crate) fn append_packet(
     number: u64,
     frame: Result<&[u8], LeftOut>,
 ) -> Result<(), AllocError>
-    ensures ok { IfOk result (λ _. string_bytes text.new ≡ string_bytes text.old ++ packet_lines number (bytes_in frame.entry)) }
+    ensures ok { IfOk result (λ _. string_bytes text.new
+        ≡ string_bytes text.old ++ packet_lines number (bytes_in frame.entry)) }
 {
     match frame {
         Ok(frame) => append_bytes(alloc, text, number, frame),
@@ -69,7 +73,8 @@ pub(crate) fn append_packet(
 }
 
 fn append_tick(text: &mut String, units: u64) -> Result<(), AllocError>
-    ensures ok { IfOk result (λ _. string_bytes text.new ≡ string_bytes text.old ++ tick_line units) }
+    ensures ok { IfOk result
+        (λ _. string_bytes text.new ≡ string_bytes text.old ++ tick_line units) }
 {
     writeln!(text, "tick {units}")?;
     Ok(())
@@ -82,7 +87,8 @@ pub(crate) fn append_time(
     clock: u64,
     now: u64,
 ) -> Result<(), AllocError>
-    ensures ok { IfOk result (λ _. string_bytes text.new ≡ string_bytes text.old ++ time_lines ticks clock now) }
+    ensures ok { IfOk result
+        (λ _. string_bytes text.new ≡ string_bytes text.old ++ time_lines ticks clock now) }
 {
     if ticks && clock < now {
         append_tick(text, (now - clock).min(4_294_967_295))?;

@@ -30,7 +30,8 @@ fn unit(start: u64, time: u64) -> u64
 /// with `tick N` before it for the units of 1024 microseconds that have passed, and a comment for
 /// each packet that is left out.
 pub fn script_text(alloc: Global, packets: &[Packet<'_>], ticks: bool) -> Result<String, AllocError>
-    ensures is { IfOk result (λ text. string_bytes text ≡ script_of ticks (map seen_of packets.now)) }
+    ensures is { IfOk result
+        (λ text. string_bytes text ≡ script_of ticks (map seen_of packets.now)) }
 {
     let mut text = String::new(alloc);
     let start = start(packets);

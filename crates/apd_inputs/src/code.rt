@@ -22,7 +22,8 @@ pub enum CodeFault {
 /// The code that hex digits with white space between them spell.
 fn code_in(alloc: Global, text: &[u8]) -> Result<Vec<u8>, FromHexError>
     ensures code { IfOk result (λ code. code_of text.now ≡ Ok code.items) }
-    ensures fault { IfErr result (λ e. (e ≡ FromHexError.OutOfMemory) ⊎ (code_of text.now ≡ Err e)) }
+    ensures fault { IfErr result
+        (λ e. (e ≡ FromHexError.OutOfMemory) ⊎ (code_of text.now ≡ Err e)) }
 {
     let digits: Vec<u8> = text
         .iter()

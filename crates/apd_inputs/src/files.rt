@@ -19,7 +19,9 @@ pub trait Files {
 
     /// The bytes of the file at the path. The files stay as they are.
     fn read(&mut self, path: &str) -> Result<Vec<u8>, FileFault>
-        ensures ok { IfOk result (λ bytes. IfSome (held self.old path.now) (λ file. file ≡ Some bytes.items)) }
-        ensures missing { IsErrOf result FileFault.Missing → IfSome (held self.old path.now) (λ file. file ≡ None) }
+        ensures ok { IfOk result
+            (λ bytes. IfSome (held self.old path.now) (λ file. file ≡ Some bytes.items)) }
+        ensures missing { IsErrOf result FileFault.Missing →
+            IfSome (held self.old path.now) (λ file. file ≡ None) }
         ensures same { held self.new ≡ held self.old };
 }

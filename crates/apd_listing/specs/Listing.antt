@@ -14,7 +14,8 @@ abbrev pub listing_line : Bool → ℕ → Insn → List ℕ
 listing_line target slot insn = mark_of target ++ (decimal slot ++ (32 ∷ (text_of insn ++ 10 ∷ [])))
 
 -- the line of a slot where an instruction starts
-pub record IsLine (slots : List (Option Insn)) (slot : ℕ) (insn : Insn) (line : List ℕ) : Type 0 where
+pub record IsLine
+    (slots : List (Option Insn)) (slot : ℕ) (insn : Insn) (line : List ℕ) : Type 0 where
   pub target : Bool
   pub told : IsTrue target ↔ IsTarget slots slot
   pub is : line ≡ listing_line target slot insn
@@ -34,7 +35,8 @@ pub record Grows (slots : List (Option Insn)) (slot : ℕ) (old new : List ℕ) 
 -- the lines of the first n slots
 pub data IsListed (slots : List (Option Insn)) : ℕ → List ℕ → Type 0 where
   Nothing : IsListed slots 0 []
-  More : (n : ℕ) (text line : List ℕ) → IsListed slots n text → IsLineAt slots n (slice_get slots n) line → IsListed slots (suc n) (text ++ line)
+  More : (n : ℕ) (text line : List ℕ) → IsListed slots n text →
+      IsLineAt slots n (slice_get slots n) line → IsListed slots (suc n) (text ++ line)
 
 -- the lines of all slots
 abbrev pub IsListing : List (Option Insn) → List ℕ → Type 0

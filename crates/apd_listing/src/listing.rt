@@ -18,7 +18,8 @@ fn mark(target: bool) -> &'static str
 }
 
 fn append_line(text: &mut String, target: bool, slot: usize, insn: Insn) -> Result<(), AllocError>
-    ensures ok { IfOk result (λ _. string_bytes text.new ≡ string_bytes text.old ++ listing_line target slot insn) }
+    ensures ok { IfOk result
+        (λ _. string_bytes text.new ≡ string_bytes text.old ++ listing_line target slot insn) }
 {
     writeln!(text, "{}{slot} {}", mark(target), InsnText(insn))?;
     Ok(())
@@ -26,7 +27,8 @@ fn append_line(text: &mut String, target: bool, slot: usize, insn: Insn) -> Resu
 
 /// The line of a slot, where an instruction starts there.
 fn append_slot(text: &mut String, program: &Program, slot: usize) -> Result<(), AllocError>
-    ensures ok { IfOk result (λ _. Grows program.now.slots slot (string_bytes text.old) (string_bytes text.new)) }
+    ensures ok { IfOk result
+        (λ _. Grows program.now.slots slot (string_bytes text.old) (string_bytes text.new)) }
 {
     match program.insn_at(slot) {
         Some(Some(insn)) => append_line(text, program.is_target(slot), slot, insn),

@@ -20,7 +20,8 @@ use Rattle.apd_lines.specs.declared.report.Told.{Told}
 use Rattle.apd_lines.specs.declared.report.Told.TheVariants.{Memory, Loaded, Fault, Refused, Unreadable}
 
 -- the program is in force for the hook from now on, and safe within its budget
-pub record IsInForce (hook : Hook) (program : Code) (old new : Beginning) (budget : ℕ) : Type 0 where
+pub record IsInForce
+    (hook : Hook) (program : Code) (old new : Beginning) (budget : ℕ) : Type 0 where
   pub accepted : Verified
   pub code_is : accepted.code ≡ program
   pub hook_is : accepted.hook ≡ hook
@@ -42,21 +43,26 @@ pub record IsRefused (program : Code) (old new : Beginning) (refusal : Refusal) 
 
 -- what is done with a program, and what is told of it
 pub data LoadsProgram (hook : Hook) (program : Code) (old new : Beginning) : Told → Type 0 where
-  Admitted : (budget : ℕ) → IsInForce hook program old new budget → LoadsProgram hook program old new (Loaded budget)
-  NotAdmitted : (refusal : Refusal) → IsRefused program old new refusal → LoadsProgram hook program old new (Refused refusal)
+  Admitted : (budget : ℕ) → IsInForce hook program old new budget →
+      LoadsProgram hook program old new (Loaded budget)
+  NotAdmitted : (refusal : Refusal) → IsRefused program old new refusal →
+      LoadsProgram hook program old new (Refused refusal)
   NoRoomToLoad : new ≡ old → LoadsProgram hook program old new Memory
 
 -- the same of code, which spells one program for the maps in use, or has a fault
 pub data LoadsCode (hook : Hook) (code : List ℕ) (old new : Beginning) : Told → Type 0 where
   Decoded : (program : Code) (told : Told) → Spells code program → program.shapes ≡ old.shapes
       → LoadsProgram hook program old new told → LoadsCode hook code old new told
-  NotDecoded : (fault : DecodeFault) → fault ≢ decode.NoMemory → Refuses code old.shapes fault → new ≡ old
+  NotDecoded : (fault : DecodeFault) → fault ≢ decode.NoMemory →
+      Refuses code old.shapes fault → new ≡ old
       → LoadsCode hook code old new (Fault fault)
   NoRoomToDecode : new ≡ old → LoadsCode hook code old new Memory
 
 -- the same of a file, as far as is known what it holds
-pub data LoadsFile (files : Held) (hook : Hook) (path : List ℕ) (old new : Beginning) : Told → Type 0 where
-  Read : (code : List ℕ) (told : Told) → HoldsCode files path code → LoadsCode hook code old new told
+pub data LoadsFile
+    (files : Held) (hook : Hook) (path : List ℕ) (old new : Beginning) : Told → Type 0 where
+  Read : (code : List ℕ) (told : Told) → HoldsCode files path code →
+      LoadsCode hook code old new told
       → LoadsFile files hook path old new told
   NotRead : (fault : CodeFault) → fault ≢ read.NoMemory → IsFaultOf files path fault → new ≡ old
       → LoadsFile files hook path old new Unreadable

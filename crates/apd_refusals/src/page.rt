@@ -61,7 +61,8 @@ pub fn explain(number: u8) -> Option<Explanation>
 
 /// The text of the page on a number, which begins with the number.
 fn text_on(alloc: Global, number: u8) -> Result<Option<String>, AllocError>
-    ensures begins { IfOk result (λ found. IfSome found (λ text. Begins number (string_bytes text))) }
+    ensures begins { IfOk result
+        (λ found. IfSome found (λ text. Begins number (string_bytes text))) }
 {
     let Some(page) = explain(number) else {
         return Ok(None);
@@ -74,7 +75,8 @@ fn text_on(alloc: Global, number: u8) -> Result<Option<String>, AllocError>
 /// The text of the page on the number that a word spells, in decimal digits without zeros in
 /// front. None where no refusal has it.
 pub fn page_text(alloc: Global, word: &str) -> Result<Option<String>, AllocError>
-    ensures page { IfOk result (λ found. IfSome found (λ text. IsPageOf word.now (string_bytes text))) }
+    ensures page { IfOk result
+        (λ found. IfSome found (λ text. IsPageOf word.now (string_bytes text))) }
 {
     let Ok(number) = word.parse::<u8>() else {
         return Ok(None);

@@ -8,7 +8,8 @@ use Rattle.apd_script.specs.Script.{IsMalformedAfter}
 
 -- the number, from 1, of the first malformed line; want of memory says nothing of the text
 abbrev pub Refuses : List Shape → List ℕ → ScriptFault → Type 0
-Refuses maps text (Line number) = (before : ℕ) × (number ≡ before + 1) × IsMalformedAfter maps text before
+Refuses maps text (Line number) =
+    (before : ℕ) × (number ≡ before + 1) × IsMalformedAfter maps text before
 Refuses maps text NoMemory = Unit {0}
 
 abbrev pub text_of : ScriptFault → List ℕ

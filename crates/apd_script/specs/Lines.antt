@@ -53,7 +53,8 @@ unload_said _ = None
 
 -- `adopt HOOK FILE CERTIFICATE`
 abbrev pub adopt_said : List (List ℕ) → Option Asked
-adopt_said (name ∷ path ∷ certificate ∷ []) = option_map (λ hook. Adopt hook path certificate) (hook_named name)
+adopt_said (name ∷ path ∷ certificate ∷ []) =
+    option_map (λ hook. Adopt hook path certificate) (hook_named name)
 adopt_said _ = None
 
 abbrev pub is_scope : Scope → Scope → Bool
@@ -66,7 +67,8 @@ abbrev pub word_in : Scope → ℕ → Shape → List ℕ → List ℕ → Optio
 word_in scope map shape index word = do
   entry ← number_below shape.entries index
   place ← number_below shape.words word
-  (if is_scope shape.scope scope then Some (record { map = map; word = entry * shape.words + place }) else None)
+  (if is_scope shape.scope scope
+      then Some (record { map = map; word = entry * shape.words + place }) else None)
 
 -- a word of a map of that scope, by the map's number, an entry's index and a place in the entry
 abbrev pub word_said : List Shape → Scope → List ℕ → List ℕ → List ℕ → Option MapWord
@@ -117,7 +119,8 @@ command_said maps keyword operands =
 abbrev pub words_said : List Shape → List (List ℕ) → Option (Option Asked)
 words_said maps [] = Some None
 words_said maps (keyword ∷ operands) =
-    (if begins_comment keyword then Some None else option_map Some (command_said maps keyword operands))
+    (if begins_comment keyword then Some None
+    else option_map Some (command_said maps keyword operands))
 
 -- what the words of a text say
 abbrev pub says : List Shape → List ℕ → Option (Option Asked)

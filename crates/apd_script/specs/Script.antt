@@ -18,7 +18,8 @@ line_count text = length (lines_of text)
 -- the first line of a text, and what follows its line feed, if it has one
 abbrev pub Cuts : List ℕ → List ℕ → Option (Bor (List ℕ)) → Type 0
 Cuts text line None = lines_of text ≡ line ∷ []
-Cuts text line (Some rest) = (lines_of text ≡ line ∷ lines_of rest.now) × (length rest.now < length text)
+Cuts text line (Some rest) =
+    (lines_of text ≡ line ∷ lines_of rest.now) × (length rest.now < length text)
 
 -- what a line with a number asks for, before what later lines ask for
 abbrev pub numbered : ℕ → Option Asked → List (ℕ × Asked) → List (ℕ × Asked)
@@ -28,11 +29,13 @@ numbered number (Some asked) rest = (number, asked) ∷ rest
 -- what lines ask for, each with its number, the first line having this number
 abbrev pub asked_from : List Shape → ℕ → List (List ℕ) → List (ℕ × Asked)
 asked_from maps number [] = []
-asked_from maps number (line ∷ lines) = numbered number (line_asks maps line) (asked_from maps (number + 1) lines)
+asked_from maps number (line ∷ lines) =
+    numbered number (line_asks maps line) (asked_from maps (number + 1) lines)
 
 -- the commands `old` and then what the line with this number asks for
 abbrev pub AddsLine : List Shape → ℕ → List ℕ → List Numbered → List Numbered → Type 0
-AddsLine maps number line old new = commands_of new ≡ commands_of old ++ numbered number (line_asks maps line) []
+AddsLine maps number line old new =
+    commands_of new ≡ commands_of old ++ numbered number (line_asks maps line) []
 
 -- no line of the text is malformed, and these are its commands, with their lines' numbers from 1
 pub record IsScript (maps : List Shape) (text : List ℕ) (commands : List (ℕ × Asked)) : Type 0 where

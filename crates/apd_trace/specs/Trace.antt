@@ -30,7 +30,8 @@ pub record IsTrace (program : Verified) (frame : List ℕ) (draw : ℕ) (text : 
   pub port : Plain
   pub log : List Step
   pub outcome : Outcome
-  pub run : Traced Gives (setting_of program.code frame (context_of program.hook)) (port_of program.code.shapes draw) port log outcome
+  pub run : Traced Gives (setting_of program.code frame (context_of program.hook))
+      (port_of program.code.shapes draw) port log outcome
   pub begins : All (λ step. Begins program.code.slots step.pc) log
   pub within : outcome.steps ≤ program.budget
   pub is : text ≡ run_text program.code.slots log outcome.r0 outcome.steps

@@ -24,11 +24,14 @@ pub data Asked : Type 0 where
 abbrev pub asked_of : Request → Asked
 asked_of (request.Verify hook file config) = Verify hook file.now (option_map (λ s. s.now) config)
 asked_of (request.Assemble file) = Assemble file.now
-asked_of (request.Disassemble file config slots) = Disassemble file.now (option_map (λ s. s.now) config) slots
-asked_of (request.Trace hook file frame config) = Trace hook file.now frame.now (option_map (λ s. s.now) config)
+asked_of (request.Disassemble file config slots) =
+    Disassemble file.now (option_map (λ s. s.now) config) slots
+asked_of (request.Trace hook file frame config) =
+    Trace hook file.now frame.now (option_map (λ s. s.now) config)
 asked_of (request.Run config script workers) = Run config.now script.now workers
 asked_of (request.Certify hook file config) = Certify hook file.now (option_map (λ s. s.now) config)
-asked_of (request.Check hook file certificate config) = Check hook file.now certificate.now (option_map (λ s. s.now) config)
+asked_of (request.Check hook file certificate config) =
+    Check hook file.now certificate.now (option_map (λ s. s.now) config)
 asked_of (request.Explain number) = Explain number.now
 asked_of (request.Frames capture ticks) = Frames capture.now ticks
 asked_of (request.Help command) = Help (option_map (λ s. s.now) command)
@@ -45,7 +48,8 @@ hook_named text =
 
 -- one digit from 1 to 8 (as text, 49 to 56)
 abbrev pub workers_named : Text → Option ℕ
-workers_named (digit ∷ []) = (if nat_le 49 digit && nat_le digit 56 then Some (digit - 48) else None)
+workers_named (digit ∷ []) =
+    (if nat_le 49 digit && nat_le digit 56 then Some (digit - 48) else None)
 workers_named _ = None
 
 -- ---- what the arguments of a command ask for; `first_of id rows` is the value of an argument

@@ -11,7 +11,9 @@ abbrev pub hook_names : List Text
 hook_names = codes "assoc" ∷ codes "addba" ∷ codes "data" ∷ []
 
 abbrev pub worker_names : List Text
-worker_names = codes "1" ∷ codes "2" ∷ codes "3" ∷ codes "4" ∷ codes "5" ∷ codes "6" ∷ codes "7" ∷ codes "8" ∷ []
+worker_names =
+    codes "1" ∷ codes "2" ∷ codes "3" ∷ codes "4" ∷ codes "5" ∷ codes "6"
+    ∷ codes "7" ∷ codes "8" ∷ []
 
 -- a value is one of these names
 pub record TakesNames (parser : ValueParser) (names : List Text) : Type 0 where
@@ -45,7 +47,8 @@ abbrev pub hook : ValueParser → Rule
 hook hooks = record (required (codes "HOOK")) { parser = Some hooks }
 
 abbrev pub workers : ValueParser → Rule
-workers numbers = record (option (codes "workers")) { parser = Some numbers; defaults = codes "2" ∷ [] }
+workers numbers =
+    record (option (codes "workers")) { parser = Some numbers; defaults = codes "2" ∷ [] }
 
 abbrev pub command : Text → List Rule → Shape
 command name rules = record (new_shape name) { rules = rules }
@@ -67,7 +70,8 @@ abbrev pub trace : ValueParser → Shape
 trace hooks = hook_command (codes "trace") hooks (required (codes "FRAME") ∷ config ∷ [])
 
 abbrev pub run : ValueParser → Shape
-run numbers = command (codes "run") (required (codes "C") ∷ required (codes "SCRIPT") ∷ workers numbers ∷ [])
+run numbers =
+    command (codes "run") (required (codes "C") ∷ required (codes "SCRIPT") ∷ workers numbers ∷ [])
 
 abbrev pub certify : ValueParser → Shape
 certify hooks = hook_command (codes "cert") hooks (config ∷ [])
@@ -97,13 +101,15 @@ program = record {
 }
 
 abbrev pub with_code_commands : ValueParser → App → App
-with_code_commands hooks a = with_subcommand (with_subcommand (with_subcommand a (verify hooks)) assemble) disassemble
+with_code_commands hooks a =
+    with_subcommand (with_subcommand (with_subcommand a (verify hooks)) assemble) disassemble
 
 abbrev pub with_run_commands : ValueParser → ValueParser → App → App
 with_run_commands hooks numbers a = with_subcommand (with_subcommand a (trace hooks)) (run numbers)
 
 abbrev pub with_certificate_commands : ValueParser → App → App
-with_certificate_commands hooks a = with_subcommand (with_subcommand a (certify hooks)) (check hooks)
+with_certificate_commands hooks a =
+    with_subcommand (with_subcommand a (certify hooks)) (check hooks)
 
 abbrev pub with_reading_commands : App → App
 with_reading_commands a = with_subcommand (with_subcommand (with_subcommand a explain) frames) help
@@ -111,4 +117,5 @@ with_reading_commands a = with_subcommand (with_subcommand (with_subcommand a ex
 -- the whole command line, by what reads a hook and a number of workers
 abbrev pub command_line : ValueParser → ValueParser → App
 command_line hooks numbers =
-    with_reading_commands (with_certificate_commands hooks (with_run_commands hooks numbers (with_code_commands hooks program)))
+    with_reading_commands (with_certificate_commands hooks
+    (with_run_commands hooks numbers (with_code_commands hooks program)))

@@ -48,4 +48,5 @@ pub record Reads (words : List Text) (r : Result Request Told) : Type 0 where
   pub numbers : ValueParser
   pub takes_hooks : TakesNames hooks hook_names
   pub takes_numbers : TakesNames numbers worker_names
-  pub at : MatchResult r (λ request. AsksFor hooks numbers words (asked_of request)) (TellsOf hooks numbers words)
+  pub at : MatchResult r (λ request. AsksFor hooks numbers words (asked_of request))
+      (TellsOf hooks numbers words)

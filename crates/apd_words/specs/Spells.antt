@@ -17,7 +17,8 @@ IsOperand (first ∷ rest) = first ≢ 45
 -- words that always ask for this
 abbrev pub Spells : List Text → Asked → Type 0
 Spells words a =
-    (hooks numbers : ValueParser) → TakesNames hooks hook_names → TakesNames numbers worker_names → AsksFor hooks numbers words a
+    (hooks numbers : ValueParser) → TakesNames hooks hook_names → TakesNames numbers worker_names →
+    AsksFor hooks numbers words a
 
 -- the words were read as what they ask for, unless memory ran out
 abbrev pub IsReadAs : Asked → Result Request Told → Type 0

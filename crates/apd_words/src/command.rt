@@ -30,7 +30,8 @@ pub(crate) fn command_line<'a>(
     hooks: &'a [&'a str],
     numbers: &'a [&'a str],
 ) -> Result<Command<'a>, AllocError>
-    ensures is { IfOk result (λ c. app_of c ≡ command_line (Names hooks.entry) (Names numbers.entry)) }
+    ensures is { IfOk result
+        (λ c. app_of c ≡ command_line (Names hooks.entry) (Names numbers.entry)) }
 {
     let command = with_code_commands(alloc, program(alloc), hooks)?;
     let command = with_run_commands(alloc, command, hooks, numbers)?;
@@ -58,7 +59,8 @@ fn with_code_commands<'a>(
     hooks: &'a [&'a str],
 ) -> Result<Command<'a>, AllocError>
     requires local { (fields_of command).has_globals ≡ false }
-    ensures is { IfOk result (λ c. app_of c ≡ with_code_commands (Names hooks.entry) (app_of command.entry)) }
+    ensures is { IfOk result
+        (λ c. app_of c ≡ with_code_commands (Names hooks.entry) (app_of command.entry)) }
     ensures local { IfOk result (λ c. (fields_of c).has_globals ≡ false) }
 {
     command
@@ -74,7 +76,8 @@ fn with_run_commands<'a>(
     numbers: &'a [&'a str],
 ) -> Result<Command<'a>, AllocError>
     requires local { (fields_of command).has_globals ≡ false }
-    ensures is { IfOk result (λ c. app_of c ≡ with_run_commands (Names hooks.entry) (Names numbers.entry) (app_of command.entry)) }
+    ensures is { IfOk result (λ c. app_of c
+        ≡ with_run_commands (Names hooks.entry) (Names numbers.entry) (app_of command.entry)) }
     ensures local { IfOk result (λ c. (fields_of c).has_globals ≡ false) }
 {
     command
@@ -88,7 +91,8 @@ fn with_certificate_commands<'a>(
     hooks: &'a [&'a str],
 ) -> Result<Command<'a>, AllocError>
     requires local { (fields_of command).has_globals ≡ false }
-    ensures is { IfOk result (λ c. app_of c ≡ with_certificate_commands (Names hooks.entry) (app_of command.entry)) }
+    ensures is { IfOk result
+        (λ c. app_of c ≡ with_certificate_commands (Names hooks.entry) (app_of command.entry)) }
     ensures local { IfOk result (λ c. (fields_of c).has_globals ≡ false) }
 {
     command
@@ -112,7 +116,8 @@ fn hook_command<'a>(
     name: &'a str,
     hooks: &'a [&'a str],
 ) -> Result<Command<'a>, AllocError>
-    ensures is { IfOk result (λ c. shape_of c ≡ hook_command name.entry.now (Names hooks.entry) []) }
+    ensures is { IfOk result
+        (λ c. shape_of c ≡ hook_command name.entry.now (Names hooks.entry) []) }
     ensures local { IfOk result (λ c. (fields_of c).has_globals ≡ false) }
 {
     Command::new(alloc, name)

@@ -11,8 +11,10 @@ ghost use Rattle.apd_words.specs.Spells.{IsOperand, Spells};
 pub fn verify_law()
     ensures plain { (program file : List ℕ) (hook : Hook) → IsOperand file
         → Spells (program ∷ codes "verify" ∷ name_of hook ∷ file ∷ []) (Verify hook file None) }
-    ensures configured { (program file config : List ℕ) (hook : Hook) → IsOperand file → IsOperand config
-        → Spells (program ∷ codes "verify" ∷ name_of hook ∷ file ∷ codes "--config" ∷ config ∷ []) (Verify hook file (Some config)) }
+    ensures configured { (program file config : List ℕ) (hook : Hook) →
+        IsOperand file → IsOperand config
+        → Spells (program ∷ codes "verify" ∷ name_of hook ∷ file ∷ codes "--config" ∷ config ∷ [])
+        (Verify hook file (Some config)) }
 {}
 
 /// The law of `apd asm FILE`: the words ask for what they say, unless a FILE
@@ -28,5 +30,6 @@ pub fn disassemble_law()
     ensures plain { (program file : List ℕ) → IsOperand file
         → Spells (program ∷ codes "disasm" ∷ file ∷ []) (Disassemble file None false) }
     ensures configured { (program file config : List ℕ) → IsOperand file → IsOperand config
-        → Spells (program ∷ codes "disasm" ∷ file ∷ codes "--config" ∷ config ∷ []) (Disassemble file (Some config) false) }
+        → Spells (program ∷ codes "disasm" ∷ file ∷ codes "--config" ∷ config ∷ [])
+        (Disassemble file (Some config) false) }
 {}

@@ -145,7 +145,8 @@ fn flag(matches: &ArgMatches<'_>, name: &str) -> bool
 
 /// The value of an argument.
 fn value<'a>(matches: &ArgMatches<'a>, name: &str) -> Option<&'a str>
-    ensures is { option_map (λ text. text.now) result ≡ first_of name.now (rows_of (found_of matches.now)) }
+    ensures is { option_map (λ text. text.now) result
+        ≡ first_of name.now (rows_of (found_of matches.now)) }
 {
     matches.get_str(name)
 }

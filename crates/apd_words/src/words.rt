@@ -15,7 +15,8 @@ use std::alloc::{AllocError, Global};
 /// What the words ask for, the first being the program's own name.
 pub fn read_words<'a>(alloc: Global, words: &'a [&'a str]) -> Result<Request<'a>, Told>
     ensures reads { Reads (map (λ word. word.now) words.entry.now) result }
-    ensures spelled { (a : Asked) → Spells (map (λ word. word.now) words.entry.now) a → IsReadAs a result }
+    ensures spelled { (a : Asked) →
+        Spells (map (λ word. word.now) words.entry.now) a → IsReadAs a result }
 {
     let Ok(command) = command_line(alloc, HOOKS.as_slice(), WORKERS.as_slice()) else {
         return Err(Told::NoMemory);

@@ -33,9 +33,11 @@ class_number Three = 3
 -- what answers a frame that is not permitted: in State 1 a deauthentication, in State 2 a disassociation; reason 6 is
 -- 'class 2 frame from a nonauthenticated station', 7 'class 3 frame from a nonassociated station' (Table 9-45)
 abbrev pub rejection : ℕ → ℕ → ClassAnswer
-rejection state class = if state == 1 then Deauthenticate (if class == 2 then 6 else 7) else Disassociate 7
+rejection state class =
+    if state == 1 then Deauthenticate (if class == 2 then 6 else 7) else Disassociate 7
 
 -- a frame of class c is permitted in each state from c on
 abbrev pub class_answer : Standing → Class → ClassAnswer
 class_answer standing class =
-    if nat_le (class_number class) (state_of standing) then Permitted else rejection (state_of standing) (class_number class)
+    if nat_le (class_number class) (state_of standing) then Permitted
+    else rejection (state_of standing) (class_number class)

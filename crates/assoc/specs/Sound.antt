@@ -3,13 +3,17 @@ use Rattle.std.specs.Prelude.{◌≡◌, ◌≢◌, ℕ, ◌+◌, ◌*◌, ◌/�
 use Rattle.assoc.specs.declared.standing.Known.TheVariants.{Associated}
 use Rattle.assoc.specs.Standings.{Standings, IsOwn}
 
-pub record IsSound (s : ℕ) (f : Standings) (count : ℕ) (holders : List (Option (List ℕ))) : Type 0 where
+pub record IsSound
+    (s : ℕ) (f : Standings) (count : ℕ) (holders : List (Option (List ℕ))) : Type 0 where
   pub shard : s < 8
   pub few : count ≤ 512
   pub own : (a : List ℕ) (n : ℕ) → f a ≡ Some (Associated n) → IsOwn s n
-  pub holds : (a : List ℕ) (n : ℕ) → f a ≡ Some (Associated n) → slice_index_or holders (n / 8) None ≡ Some a
-  pub held : (k : ℕ) (a : List ℕ) → slice_index_or holders k None ≡ Some a → f a ≡ Some (Associated (8 * k + s))
+  pub holds : (a : List ℕ) (n : ℕ) → f a ≡ Some (Associated n) →
+      slice_index_or holders (n / 8) None ≡ Some a
+  pub held : (k : ℕ) (a : List ℕ) → slice_index_or holders k None ≡ Some a →
+      f a ≡ Some (Associated (8 * k + s))
 
 -- the identifier at place k is none that the shard may grant, or another station than a has it
 abbrev pub IsTaken : ℕ → List (Option (List ℕ)) → List ℕ → ℕ → Type 0
-IsTaken s holders a k = IsOwn s (8 * k + s) → (b : List ℕ) × (slice_index_or holders k None ≡ Some b) × (b ≢ a)
+IsTaken s holders a k =
+    IsOwn s (8 * k + s) → (b : List ℕ) × (slice_index_or holders k None ≡ Some b) × (b ≢ a)

@@ -83,8 +83,10 @@ standing v a = lookup (same_address a) v.stations
 
 -- the identifiers are held just as the stations stand
 pub record HoldsAsTheyStand (v : Linked) : Type 0 where
-  pub held : (k : ℕ) (a : List ℕ) → slice_index_or v.holders k None ≡ Some a → standing v a ≡ Some (Associated (8 * k + v.shard))
-  pub holds : (a : List ℕ) (n : ℕ) → standing v a ≡ Some (Associated n) → slice_index_or v.holders (n / 8) None ≡ Some a
+  pub held : (k : ℕ) (a : List ℕ) → slice_index_or v.holders k None ≡ Some a →
+      standing v a ≡ Some (Associated (8 * k + v.shard))
+  pub holds : (a : List ℕ) (n : ℕ) → standing v a ≡ Some (Associated n) →
+      slice_index_or v.holders (n / 8) None ≡ Some a
   pub own : (a : List ℕ) (n : ℕ) → standing v a ≡ Some (Associated n) → IsOwn v.shard n
 
 -- how many stations are associated: as many as identifiers are held

@@ -34,9 +34,11 @@ impl Model for Link {
 
     ghost Value = { Linked };
 
-    ghost view = { λ l. record { shard = l.shard; stations = l.stations.entries; holders = l.holders } };
+    ghost view = { λ l.
+        record { shard = l.shard; stations = l.stations.entries; holders = l.holders } };
 
-    ghost invariant = { λ l. IsSound l.shard (λ a. get same_address l.stations a) (hash_map_len l.stations) l.holders };
+    ghost invariant = { λ l. IsSound l.shard (λ a. get same_address l.stations a)
+        (hash_map_len l.stations) l.holders };
 }
 
 /// Whether an identifier with this holder is free for the station.
@@ -109,7 +111,8 @@ impl Link {
     /// and its identifier is free. Nothing else changes.
     pub fn on_disassoc(&mut self, station: Address)
         ensures shard { self.new.shard ≡ self.old.shard }
-        ensures moves { IsMoved (standing self.old) station (disassociated (standing self.old station)) (standing self.new) }
+        ensures moves { IsMoved (standing self.old) station
+            (disassociated (standing self.old station)) (standing self.new) }
     {
         if let Some(Known::Associated(aid)) = self.standing(station) {
             self.take_back(station, aid);
@@ -119,7 +122,8 @@ impl Link {
     fn take_back(&mut self, station: Address, aid: u16)
         requires { standing self.old station ≡ Some (Known.Associated aid) }
         ensures shard { self.new.shard ≡ self.old.shard }
-        ensures moves { IsMoved (standing self.old) station (Some Known.Authenticated) (standing self.new) }
+        ensures moves { IsMoved (standing self.old) station
+            (Some Known.Authenticated) (standing self.new) }
     {
         self.holders[(aid / 8) as usize] = None;
         match self.stations.insert(station, Known::Authenticated) {
@@ -132,7 +136,8 @@ impl Link {
     /// identifier. Where memory runs out nothing changes; a known station needs none.
     pub fn on_auth(&mut self, station: Address) -> Result<(), AllocError>
         requires { IsSome (standing self.old station) ⊎ (IsFull (standing self.old) → ⊥) }
-        ensures moves { OnOk result (IsMoved (standing self.old) station (Some Known.Authenticated) (standing self.new)) }
+        ensures moves { OnOk result
+            (IsMoved (standing self.old) station (Some Known.Authenticated) (standing self.new)) }
         ensures shard { self.new.shard ≡ self.old.shard }
         ensures known { OnErr result (standing self.old station ≡ None) }
         ensures refused { OnErr result (self.new ≡ self.old) }
@@ -149,7 +154,8 @@ impl Link {
     fn admit(&mut self, station: Address) -> Result<(), AllocError>
         requires unknown { standing self.old station ≡ None }
         requires room { IsFull (standing self.old) → ⊥ }
-        ensures moves { OnOk result (IsMoved (standing self.old) station (Some Known.Authenticated) (standing self.new)) }
+        ensures moves { OnOk result
+            (IsMoved (standing self.old) station (Some Known.Authenticated) (standing self.new)) }
         ensures shard { self.new.shard ≡ self.old.shard }
         ensures refused { OnErr result (self.new ≡ self.old) }
     {
@@ -182,7 +188,8 @@ impl Link {
     /// The least identifier that may be granted to the station; its own counts as free. None where
     /// others have all.
     pub fn free_aid(&self, station: Address) -> Option<u16>
-        ensures { MatchOption result ((n : ℕ) → IsFree self.now.shard (standing self.now) station n → ⊥) (IsLeastFree self.now.shard (standing self.now) station) }
+        ensures { MatchOption result ((n : ℕ) → IsFree self.now.shard (standing self.now) station
+            n → ⊥) (IsLeastFree self.now.shard (standing self.now) station) }
     {
         for place in 0..251u16 {
             let aid = 8 * place + self.shard;
@@ -199,7 +206,8 @@ impl Link {
         requires known { IsSome (standing self.old station) }
         requires free { IsFree self.old.shard (standing self.old) station aid }
         ensures shard { self.new.shard ≡ self.old.shard }
-        ensures moves { IsMoved (standing self.old) station (Some (Known.Associated aid)) (standing self.new) }
+        ensures moves { IsMoved (standing self.old) station
+            (Some (Known.Associated aid)) (standing self.new) }
     {
         self.on_disassoc(station);
         self.grant(station, aid);
@@ -209,7 +217,8 @@ impl Link {
         requires known { standing self.old station ≡ Some Known.Authenticated }
         requires free { IsFree self.old.shard (standing self.old) station aid }
         ensures shard { self.new.shard ≡ self.old.shard }
-        ensures moves { IsMoved (standing self.old) station (Some (Known.Associated aid)) (standing self.new) }
+        ensures moves { IsMoved (standing self.old) station
+            (Some (Known.Associated aid)) (standing self.new) }
     {
         self.holders[(aid / 8) as usize] = Some(station);
         match self.stations.insert(station, Known::Associated(aid)) {

@@ -30,33 +30,44 @@ with_signed a s = num_of a.range s a.bits
 
 -- a > b
 unfoldable pub num_greater : Num → Num → NumPair
-num_greater a b = and_then (after_greater a.range b.range) (λ p. pair_of (with_range a p.0) (with_range b p.1))
+num_greater a b =
+    and_then (after_greater a.range b.range) (λ p. pair_of (with_range a p.0) (with_range b p.1))
 
 -- a <= b
 unfoldable pub num_at_most : Num → Num → NumPair
-num_at_most a b = and_then (after_at_most a.range b.range) (λ p. pair_of (with_range a p.0) (with_range b p.1))
+num_at_most a b =
+    and_then (after_at_most a.range b.range) (λ p. pair_of (with_range a p.0) (with_range b p.1))
 
 -- the same for the signed readings; in JMP32 no low half is negative, and they are as the others
 unfoldable pub num_signed_greater : Bool → Num → Num → NumPair
 num_signed_greater wide a b =
-    (if wide then and_then (after_greater a.signed b.signed) (λ p. pair_of (with_signed a p.0) (with_signed b p.1)) else num_greater a b)
+    (if wide
+    then and_then (after_greater a.signed b.signed)
+    (λ p. pair_of (with_signed a p.0) (with_signed b p.1))
+    else num_greater a b)
 
 unfoldable pub num_signed_at_most : Bool → Num → Num → NumPair
 num_signed_at_most wide a b =
-    (if wide then and_then (after_at_most a.signed b.signed) (λ p. pair_of (with_signed a p.0) (with_signed b p.1)) else num_at_most a b)
+    (if wide
+    then and_then (after_at_most a.signed b.signed)
+    (λ p. pair_of (with_signed a p.0) (with_signed b p.1))
+    else num_at_most a b)
 
 -- a = b: each part of one is met with that of the other; in JMP32 the signed intervals stay
 unfoldable pub num_equal : Bool → Num → Num → NumPair
 num_equal wide a b =
     and_then (bounds_meet a.range b.range) (λ r.
     and_then (tnum_meet a.bits b.bits) (λ t.
-    (if wide then and_then (bounds_meet a.signed b.signed) (λ s. pair_of (num_of r s t) (num_of r s t))
+    (if wide
+    then and_then (bounds_meet a.signed b.signed) (λ s. pair_of (num_of r s t) (num_of r s t))
     else pair_of (num_of r a.signed t) (num_of r b.signed t))))
 
 -- a is not c: an end of either interval that equals c moves by one; in JMP32 the signed interval stays
 unfoldable pub num_without : Bool → Num → ℕ → Option Num
 num_without wide a c =
-    and_then (without_end a.range c) (λ r. and_then (if wide then without_end a.signed (place c) else Some a.signed) (λ s. Some (num_of r s a.bits)))
+    and_then (without_end a.range c) (λ r.
+    and_then (if wide then without_end a.signed (place c) else Some a.signed) (λ s.
+    Some (num_of r s a.bits)))
 
 -- the words of a that are also in t
 unfoldable pub num_met : Num → Bits → Option Num
@@ -121,7 +132,8 @@ tells wide compare a b =
 
 -- whether the comparison holds of two words
 abbrev pub compares : Bool → Compare → ℕ → ℕ → Bool
-compares wide compare x y = (if wide then holds 64 compare x y else holds 32 compare (x % 2 ^ 32) (y % 2 ^ 32))
+compares wide compare x y =
+    (if wide then holds 64 compare x y else holds 32 compare (x % 2 ^ 32) (y % 2 ^ 32))
 
 -- whether a jump goes this way, by what its comparison says
 abbrev pub goes : Bool → Bool → Bool
@@ -130,5 +142,8 @@ goes taken holding = (if taken then holding else not holding)
 -- The way on which a comparison is `taken` or isn't: decided where both are single.
 unfoldable pub num_branch : Bool → Compare → Bool → Num → Num → NumPair
 num_branch wide compare taken a b =
-    (if is_single a && is_single b then (if goes taken (compares wide compare a.range.low b.range.low) then Some (a, b) else None)
-    else (if tells wide compare a b then (if taken then num_holds wide compare a b else num_fails wide compare a b) else Some (a, b)))
+    (if is_single a && is_single b
+    then (if goes taken (compares wide compare a.range.low b.range.low) then Some (a, b) else None)
+    else (if tells wide compare a b
+    then (if taken then num_holds wide compare a b else num_fails wide compare a b)
+    else Some (a, b)))

@@ -40,16 +40,23 @@ CutContains = (a : Num) (x : ℕ) → InNum a x → InNum (num_cut a) (x % 2 ^ 3
 -- ---- each result of the machine is in the result
 
 abbrev pub AluContains : Type 0
-AluContains = (wide : Bool) (op : AluOp) (a b : Num) (x y : ℕ) → InNum a x → InNum b y → InNum (num_alu wide op a b) (computed wide op x y)
+AluContains =
+    (wide : Bool) (op : AluOp) (a b : Num) (x y : ℕ) → InNum a x → InNum b y →
+    InNum (num_alu wide op a b) (computed wide op x y)
 
 abbrev pub NegatedContains : Type 0
-NegatedContains = (wide : Bool) (a : Num) (x : ℕ) → InNum a x → InNum (num_negated wide a) (negation wide x)
+NegatedContains =
+    (wide : Bool) (a : Num) (x : ℕ) → InNum a x → InNum (num_negated wide a) (negation wide x)
 
 abbrev pub ExtendedContains : Type 0
-ExtendedContains = (from : Extension) (wide : Bool) (a : Num) (x : ℕ) → InNum a x → InNum (num_extended from wide a) (extended from wide x)
+ExtendedContains =
+    (from : Extension) (wide : Bool) (a : Num) (x : ℕ) → InNum a x →
+    InNum (num_extended from wide a) (extended from wide x)
 
 abbrev pub OrderedContains : Type 0
-OrderedContains = (order : ByteOrder) (width : OrderWidth) (a : Num) (x : ℕ) → InNum a x → InNum (num_ordered order width a) (ordered order width x)
+OrderedContains =
+    (order : ByteOrder) (width : OrderWidth) (a : Num) (x : ℕ) → InNum a x →
+    InNum (num_ordered order width a) (ordered order width x)
 
 abbrev pub WithinContains : Type 0
 WithinContains = (r : Bounds) (x : ℕ) → InBounds r x → InNum (num_within r) x
@@ -58,9 +65,12 @@ abbrev pub LoadedContains : Type 0
 LoadedContains = (n x : ℕ) → n ≤ 64 → x < 2 ^ n → InNum (num_loaded n) x
 
 abbrev pub LoadedSignedContains : Type 0
-LoadedSignedContains = (n x : ℕ) → 1 ≤ n → n ≤ 64 → InNum (num_loaded_signed n) (sign_extended 64 n x)
+LoadedSignedContains =
+    (n x : ℕ) → 1 ≤ n → n ≤ 64 → InNum (num_loaded_signed n) (sign_extended 64 n x)
 
 -- ---- each pair that takes a way is in what is left on it, and so a way is not visited only where none takes it
 abbrev pub BranchKeeps : Type 0
-BranchKeeps = (wide : Bool) (compare : Compare) (taken : Bool) (a b : Num) (x y : ℕ) → InNum a x → InNum b y → compares wide compare x y ≡ taken
+BranchKeeps =
+    (wide : Bool) (compare : Compare) (taken : Bool) (a b : Num) (x y : ℕ) → InNum a x → InNum b y →
+    compares wide compare x y ≡ taken
     → (r : Num × Num) × (num_branch wide compare taken a b ≡ Some r) × InNum r.0 x × InNum r.1 y

@@ -32,7 +32,9 @@ is_single a = a.range.low == a.range.high
 
 -- each word of a is one of b
 unfoldable pub num_included : Num → Num → Bool
-num_included a b = bounds_included a.range b.range && bounds_included a.signed b.signed && tnum_included a.bits b.bits
+num_included a b =
+    bounds_included a.range b.range && bounds_included a.signed b.signed
+    && tnum_included a.bits b.bits
 
 -- ---- tightening: what each part tells of the others
 
@@ -49,7 +51,9 @@ abbrev pub shared_bits : ℕ → ℕ → Bits
 shared_bits l h = let p = ones_up_to (bit_xor l h) in tnum_of (bit_and l (word_not p)) p
 
 unfoldable pub tightened_between : ℕ → ℕ → Bits → Option (Bounds × Bits)
-tightened_between l h t = (if nat_le l h then and_then (tnum_meet t (shared_bits l h)) (λ u. Some (bounds l h, u)) else None)
+tightened_between l h t =
+    (if nat_le l h
+    then and_then (tnum_meet t (shared_bits l h)) (λ u. Some (bounds l h, u)) else None)
 
 -- an interval and a tristate number, once each way: the ends move to the least and the greatest word of t, and then t is
 -- met with what the words between the ends share
@@ -63,7 +67,8 @@ sign_step r s k = and_then (narrowed r s) (λ s1. and_then (narrowed s1 r) (λ r
 -- the step between the intervals, the interval with the tristate number, and that step again; nothing where no word is left
 unfoldable pub num_tighten : Bounds → Bounds → Bits → Option Num
 num_tighten r s t =
-    sign_step r s (λ r1 s1. and_then (tightened r1 t) (λ p. sign_step p.0 s1 (λ r2 s2. Some (num_of r2 s2 p.1))))
+    sign_step r s
+    (λ r1 s1. and_then (tightened r1 t) (λ p. sign_step p.0 s1 (λ r2 s2. Some (num_of r2 s2 p.1))))
 
 -- a once more
 abbrev pub num_again : Num → Option Num

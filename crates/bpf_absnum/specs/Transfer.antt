@@ -31,10 +31,14 @@ abbrev pub kept : Num → Num
 kept a = or_full (num_again a)
 
 unfoldable pub row_add : Bool → Num → Num → Num
-row_add wide a b = num_tight (bounds_add a.range b.range) (in_wide wide (signed_add a.signed b.signed)) (tnum_add a.bits b.bits)
+row_add wide a b =
+    num_tight (bounds_add a.range b.range)
+    (in_wide wide (signed_add a.signed b.signed)) (tnum_add a.bits b.bits)
 
 unfoldable pub row_sub : Bool → Num → Num → Num
-row_sub wide a b = num_tight (bounds_sub a.range b.range) (in_wide wide (signed_sub a.signed b.signed)) (tnum_sub a.bits b.bits)
+row_sub wide a b =
+    num_tight (bounds_sub a.range b.range)
+    (in_wide wide (signed_sub a.signed b.signed)) (tnum_sub a.bits b.bits)
 
 unfoldable pub row_mul : Num → Num → Num
 row_mul a b = num_tight (bounds_mul a.range b.range) bounds_full (tnum_mul a.bits b.bits)
@@ -78,13 +82,15 @@ row_rsh a c = num_tight (bounds_shr a.range c) bounds_full (tnum_shr a.bits c)
 -- as RSH where no word is negative
 unfoldable pub row_arsh : Bool → Num → ℕ → Num
 row_arsh wide a c =
-    (if nat_lt a.range.high (if wide then 2 ^ 63 else 2 ^ 31) then num_tight (bounds_shr a.range c) (in_wide wide (signed_sar a.signed c)) (tnum_shr a.bits c)
+    (if nat_lt a.range.high (if wide then 2 ^ 63 else 2 ^ 31)
+    then num_tight (bounds_shr a.range c) (in_wide wide (signed_sar a.signed c)) (tnum_shr a.bits c)
     else num_tight bounds_full (in_wide wide (signed_sar a.signed c)) tnum_full)
 
 -- the divisor of SDIV and SMOD, if it is single and, read as signed, at least 1; ALU has no row for them
 unfoldable pub divisor_of : Bool → Num → Option ℕ
 divisor_of wide b =
-    (if wide && is_single b && nat_le 1 b.range.low && nat_lt b.range.low (2 ^ 63) then Some b.range.low else None)
+    (if wide && is_single b && nat_le 1 b.range.low && nat_lt b.range.low (2 ^ 63)
+    then Some b.range.low else None)
 
 unfoldable pub row_sdiv : Num → ℕ → Num
 row_sdiv a c = num_tight bounds_full (signed_div a.signed c) tnum_full
@@ -121,7 +127,8 @@ unfoldable pub num_alu : Bool → AluOp → Num → Num → Num
 num_alu wide op a b =
     (if wide && is_move op then b
     else (if all_single op a b then num_single (computed wide op a.range.low b.range.low)
-    else (if wide then num_row true op a b else num_cut (num_row false op (num_cut a) (num_cut b)))))
+    else (if wide then num_row true op a b
+    else num_cut (num_row false op (num_cut a) (num_cut b)))))
 
 -- NEG
 unfoldable pub num_negated : Bool → Num → Num
@@ -141,16 +148,19 @@ row_extended_32 n a = (if nat_lt a.range.high (2 ^ (n - 1)) then kept a else num
 unfoldable pub num_extended : Extension → Bool → Num → Num
 num_extended from wide a =
     (if is_single a then num_single (extended from wide a.range.low)
-    else (if wide then row_extended (extension_bits from) a else num_cut (row_extended_32 (extension_bits from) (num_cut a))))
+    else (if wide then row_extended (extension_bits from) a
+    else num_cut (row_extended_32 (extension_bits from) (num_cut a))))
 
 -- END: the host's order keeps the low bits
 unfoldable pub row_ordered : ByteOrder → OrderWidth → Num → Num
 row_ordered Little width.Double a = num_tight a.range bounds_full a.bits
-row_ordered Little w a = num_tight (bounds_of_bits (order_bits w)) bounds_full (tnum_cut (order_bits w) a.bits)
+row_ordered Little w a =
+    num_tight (bounds_of_bits (order_bits w)) bounds_full (tnum_cut (order_bits w) a.bits)
 row_ordered order w a = num_tight (bounds_of_bits (order_bits w)) bounds_full tnum_full
 
 unfoldable pub num_ordered : ByteOrder → OrderWidth → Num → Num
-num_ordered order w a = (if is_single a then num_single (ordered order w a.range.low) else row_ordered order w a)
+num_ordered order w a =
+    (if is_single a then num_single (ordered order w a.range.low) else row_ordered order w a)
 
 -- the words of an interval, as a helper answers them
 unfoldable pub num_within : Bounds → Num

@@ -21,7 +21,8 @@ ValuesHold e rooms (a ∷ more) [] = ⊥
 ValuesHold e rooms (a ∷ more) (v ∷ vs) = Holds e rooms a v × ValuesHold e rooms more vs
 
 -- each slot holds what the abstract one at its place says
-pub record StackHolds (e : Labels) (rooms : List Room) (a : CallFrame) (f : StackFrame) : Type 0 where
+pub record StackHolds
+    (e : Labels) (rooms : List Room) (a : CallFrame) (f : StackFrame) : Type 0 where
   pub frame : IsStackFrame f
   pub all : length a.stack ≡ 64
   pub slots : (i : ℕ) → i < 64 → SlotHolds e rooms (slice_index_or a.stack i slot.Unset) f i
@@ -33,7 +34,8 @@ StacksHold e rooms (a ∷ more) [] = ⊥
 StacksHold e rooms (a ∷ more) (f ∷ fs) = StackHolds e rooms a f × StacksHold e rooms more fs
 
 -- the caller, of stack frame k, waits for the function of this call frame
-pub record CallerHolds (e : Labels) (rooms : List Room) (k : ℕ) (a : CallFrame) (c : Caller) : Type 0 where
+pub record CallerHolds
+    (e : Labels) (rooms : List Room) (k : ℕ) (a : CallFrame) (c : Caller) : Type 0 where
   pub slot : c.slot ≡ a.return_slot
   pub kept : ValuesHold e rooms a.kept (c.r6 ∷ c.r7 ∷ c.r8 ∷ c.r9 ∷ [])
   pub r10 : c.r10 ≡ value.Pointer (region.Stack k) 512
@@ -42,7 +44,8 @@ unfoldable pub CallersHold : Labels → List Room → ℕ → List CallFrame →
 CallersHold e rooms k [] [] = Unit {0}
 CallersHold e rooms k [] (c ∷ cs) = ⊥
 CallersHold e rooms k (a ∷ more) [] = ⊥
-CallersHold e rooms k (a ∷ more) (c ∷ cs) = CallerHolds e rooms k a c × CallersHold e rooms (k + 1) more cs
+CallersHold e rooms k (a ∷ more) (c ∷ cs) =
+    CallerHolds e rooms k a c × CallersHold e rooms (k + 1) more cs
 
 -- With these places of the labels the state is as the abstract one says. R10 always points to the end of the newest stack frame.
 pub record HoldsIn (e : Labels) (a : View) (s : State) : Type 0 where

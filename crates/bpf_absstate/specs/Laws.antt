@@ -18,7 +18,9 @@ use Rattle.bpf_absstate.specs.WellFormed.{IsView}
 
 -- each state of an included abstract state is one of the including one
 abbrev pub InclusionKeeps : Type 0
-InclusionKeeps = (p : Setting) (a b : View) (s : State) → IsView b → state_included a b ≡ true → Contains p a s → Contains p b s
+InclusionKeeps =
+    (p : Setting) (a b : View) (s : State) → IsView b → state_included a b ≡ true →
+    Contains p a s → Contains p b s
 
 -- every run begins in the entry
 abbrev pub EntryContains : Type 0
@@ -28,7 +30,9 @@ EntryContains = (p : Setting) → Contains p entry_view entry
 
 -- a register holds what the abstract one allows
 abbrev pub RegistersHold : Type 0
-RegistersHold = (e : Labels) (a : View) (s : State) (r : ℕ) → HoldsIn e a s → Holds e a.rooms (register a r) (reg s r)
+RegistersHold =
+    (e : Labels) (a : View) (s : State) (r : ℕ) → HoldsIn e a s →
+    Holds e a.rooms (register a r) (reg s r)
 
 -- there are as many live stack frames as call frames, and a caller waits for each of them but the first
 pub record SameDepth (a : View) (s : State) : Type 0 where
@@ -40,47 +44,60 @@ DepthsAgree = (e : Labels) (a : View) (s : State) → HoldsIn e a s → SameDept
 
 -- each slot of a live stack frame holds what the abstract one says
 abbrev pub StacksAgree : Type 0
-StacksAgree = (e : Labels) (a : View) (s : State) (k : ℕ) → HoldsIn e a s → k < length a.frames → StackHolds e a.rooms (frame_of a k) (stack_frame s k)
+StacksAgree =
+    (e : Labels) (a : View) (s : State) (k : ℕ) → HoldsIn e a s → k < length a.frames →
+    StackHolds e a.rooms (frame_of a k) (stack_frame s k)
 
 -- ---- what is changed
 
 -- going on at another slot is followed
 abbrev pub GoingHolds : Type 0
-GoingHolds = (e : Labels) (a : View) (s : State) (pc : ℕ) → HoldsIn e a s → HoldsIn e (at_slot a pc) (goto s pc)
+GoingHolds =
+    (e : Labels) (a : View) (s : State) (pc : ℕ) → HoldsIn e a s →
+    HoldsIn e (at_slot a pc) (goto s pc)
 
 -- so is a change of a register other than R10
 abbrev pub ChangesHold : Type 0
 ChangesHold =
-    (e : Labels) (a : View) (s : State) (r : ℕ) (v : AbsVal) (x : Value) → HoldsIn e a s → r ≢ 10 → Holds e a.rooms v x →
+    (e : Labels) (a : View) (s : State) (r : ℕ) (v : AbsVal) (x : Value) → HoldsIn e a s →
+    r ≢ 10 → Holds e a.rooms v x →
     HoldsIn e (with_register a r v) (record s { regs = slice_set s.regs r x })
 
 -- more may be known of what a register holds
 abbrev pub RefinementHolds : Type 0
 RefinementHolds =
-    (e : Labels) (a : View) (s : State) (r : ℕ) (v : AbsVal) → HoldsIn e a s → Holds e a.rooms v (reg s r) → HoldsIn e (with_register a r v) s
+    (e : Labels) (a : View) (s : State) (r : ℕ) (v : AbsVal) → HoldsIn e a s →
+    Holds e a.rooms v (reg s r) → HoldsIn e (with_register a r v) s
 
 -- so is a change of a live stack frame, as far as its slots hold what is said anew
 abbrev pub StackChangesHold : Type 0
 StackChangesHold =
-    (e : Labels) (a : View) (s : State) (k : ℕ) (stack : List AbsSlot) (f : StackFrame) → HoldsIn e a s → StackHolds e a.rooms (record (frame_of a k) { stack = stack }) f →
-    HoldsIn e (record a { frames = slice_set a.frames k (record (frame_of a k) { stack = stack }) }) (with_frame s k f)
+    (e : Labels) (a : View) (s : State) (k : ℕ) (stack : List AbsSlot) (f : StackFrame) →
+    HoldsIn e a s → StackHolds e a.rooms (record (frame_of a k) { stack = stack }) f →
+    HoldsIn e (record a { frames = slice_set a.frames k (record (frame_of a k) { stack = stack }) })
+    (with_frame s k f)
 
 -- a slot and its bytes are as they were
 pub record SameSlot (f g : StackFrame) (i : ℕ) : Type 0 where
   pub spill : slice_index_or g.spills i value.Unset ≡ slice_index_or f.spills i value.Unset
-  pub bytes : (j : ℕ) → j < 8 → slice_index_or g.bytes (8 * i + j) None ≡ slice_index_or f.bytes (8 * i + j) None
+  pub bytes : (j : ℕ) → j < 8 →
+      slice_index_or g.bytes (8 * i + j) None ≡ slice_index_or f.bytes (8 * i + j) None
 
 -- a change of one slot of a live stack frame is followed
 abbrev pub SlotChangesHold : Type 0
 SlotChangesHold =
-    (e : Labels) (a : View) (s : State) (k i : ℕ) (x : AbsSlot) (f : StackFrame) → HoldsIn e a s → k < length a.frames → i < 64 → IsStackFrame f →
-    ((j : ℕ) → j < 64 → j ≢ i → SameSlot (stack_frame s k) f j) → SlotHolds e a.rooms x f i → HoldsIn e (with_slot a k i x) (with_frame s k f)
+    (e : Labels) (a : View) (s : State) (k i : ℕ) (x : AbsSlot) (f : StackFrame) → HoldsIn e a s →
+    k < length a.frames → i < 64 → IsStackFrame f →
+    ((j : ℕ) → j < 64 → j ≢ i → SameSlot (stack_frame s k) f j) → SlotHolds e a.rooms x f i →
+    HoldsIn e (with_slot a k i x) (with_frame s k f)
 
 -- so is a change of two, in either order
 abbrev pub TwoSlotsHold : Type 0
 TwoSlotsHold =
-    (e : Labels) (a : View) (s : State) (k i j : ℕ) (x y : AbsSlot) (f : StackFrame) → HoldsIn e a s → k < length a.frames → i < 64 → j < 64 → i ≢ j → IsStackFrame f →
-    ((l : ℕ) → l < 64 → l ≢ i → l ≢ j → SameSlot (stack_frame s k) f l) → SlotHolds e a.rooms x f i → SlotHolds e a.rooms y f j →
+    (e : Labels) (a : View) (s : State) (k i j : ℕ) (x y : AbsSlot) (f : StackFrame) →
+    HoldsIn e a s → k < length a.frames → i < 64 → j < 64 → i ≢ j → IsStackFrame f →
+    ((l : ℕ) → l < 64 → l ≢ i → l ≢ j → SameSlot (stack_frame s k) f l) →
+    SlotHolds e a.rooms x f i → SlotHolds e a.rooms y f j →
     HoldsIn e (with_slot (with_slot a k i x) k j y) (with_frame s k f)
 
 -- ---- calls and returns
@@ -96,7 +113,9 @@ entered s to =
     }
 
 abbrev pub CallHolds : Type 0
-CallHolds = (e : Labels) (a : View) (s : State) (to : ℕ) → HoldsIn e a s → HoldsIn e (called a to (a.pc + 1)) (entered s to)
+CallHolds =
+    (e : Labels) (a : View) (s : State) (to : ℕ) → HoldsIn e a s →
+    HoldsIn e (called a to (a.pc + 1)) (entered s to)
 
 -- the state in which that caller goes on
 abbrev pub resumed : State → Caller → State
@@ -111,16 +130,23 @@ resumed s c =
 -- the newest caller goes on
 abbrev pub ReturnHolds : Type 0
 ReturnHolds =
-    (e : Labels) (a : View) (s : State) (c : Caller) → HoldsIn e a s → slice_get s.callers (length s.callers - 1) ≡ Some c → HoldsIn e (returned a) (resumed s c)
+    (e : Labels) (a : View) (s : State) (c : Caller) → HoldsIn e a s →
+    slice_get s.callers (length s.callers - 1) ≡ Some c → HoldsIn e (returned a) (resumed s c)
 
 -- ---- what is known besides
 
 -- a label may name another place from now on
 abbrev pub ForgettingHolds : Type 0
-ForgettingHolds = (e d : Labels) (label : ℕ) (a : View) (s : State) → AgreeApart label e d → HoldsIn e a s → HoldsIn d (without_label a label) s
+ForgettingHolds =
+    (e d : Labels) (label : ℕ) (a : View) (s : State) → AgreeApart label e d → HoldsIn e a s →
+    HoldsIn d (without_label a label) s
 
 abbrev pub LeastHolds : Type 0
-LeastHolds = (e : Labels) (a : View) (s : State) (n : ℕ) → n ≤ length e.setting.frame → HoldsIn e a s → HoldsIn e (with_least a n) s
+LeastHolds =
+    (e : Labels) (a : View) (s : State) (n : ℕ) → n ≤ length e.setting.frame → HoldsIn e a s →
+    HoldsIn e (with_least a n) s
 
 abbrev pub RoomsHold : Type 0
-RoomsHold = (e : Labels) (a : View) (s : State) (label n : ℕ) → e.base label + n ≤ length e.setting.frame → HoldsIn e a s → HoldsIn e (with_room a label n) s
+RoomsHold =
+    (e : Labels) (a : View) (s : State) (label n : ℕ) → e.base label + n ≤ length e.setting.frame →
+    HoldsIn e a s → HoldsIn e (with_room a label n) s

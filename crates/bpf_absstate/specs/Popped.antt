@@ -10,7 +10,8 @@ use Rattle.bpf_absstate.specs.declared.frames.Chain.{Chain}
 -- the newest frame keeps that, and the others are these
 pub record IsPopped (fs : List CallFrame) (left : Left) (below : List CallFrame) : Type 0 where
   pub stack : List AbsSlot
-  pub is : fs ≡ below ++ record { return_slot = left.return_slot; kept = left.kept; stack = stack } ∷ []
+  pub is :
+      fs ≡ below ++ record { return_slot = left.return_slot; kept = left.kept; stack = stack } ∷ []
 
 abbrev pub Popped : List CallFrame → Option (Left × Rc Chain Global) → Type 0
 Popped fs None = fs ≡ []

@@ -28,7 +28,12 @@ abbrev pub empty_stack : List AbsSlot
 empty_stack = replicate 64 slot.Unset
 
 abbrev pub main_frame : CallFrame
-main_frame = record { return_slot = 0; kept = abs.Unset ∷ abs.Unset ∷ abs.Unset ∷ abs.Unset ∷ []; stack = empty_stack }
+main_frame =
+    record {
+      return_slot = 0;
+      kept = abs.Unset ∷ abs.Unset ∷ abs.Unset ∷ abs.Unset ∷ [];
+      stack = empty_stack;
+    }
 
 -- the call frame of that number
 abbrev pub frame_of : View → ℕ → CallFrame
@@ -45,12 +50,14 @@ stack_end k = abs.Pointer (place.Stack k) (num_single 512)
 -- R1 points to the frame's start, R2 is the frame's end, R3 points to the context, and all others may be unset
 abbrev pub entry_registers : List AbsVal
 entry_registers =
-    abs.Unset ∷ abs.Frame (num_single 0) None ∷ abs.FrameEnd ∷ abs.Pointer place.Context (num_single 0) ∷ abs.Unset ∷
+    abs.Unset ∷ abs.Frame (num_single 0) None ∷ abs.FrameEnd
+    ∷ abs.Pointer place.Context (num_single 0) ∷ abs.Unset ∷
     abs.Unset ∷ abs.Unset ∷ abs.Unset ∷ abs.Unset ∷ abs.Unset ∷ stack_end 0 ∷ []
 
 -- what is known where a run begins
 abbrev pub entry_view : View
-entry_view = record { pc = 0; registers = entry_registers; frames = main_frame ∷ []; least = 0; rooms = [] }
+entry_view =
+    record { pc = 0; registers = entry_registers; frames = main_frame ∷ []; least = 0; rooms = [] }
 
 abbrev pub at_slot : View → ℕ → View
 at_slot a pc = record a { pc = pc }
@@ -61,7 +68,9 @@ with_register a r v = record a { registers = slice_set a.registers r v }
 -- one slot of the stack of call frame k
 abbrev pub with_frame_slot : List CallFrame → ℕ → ℕ → AbsSlot → List CallFrame
 with_frame_slot fs k i s =
-    slice_set fs k (record (slice_index_or fs k main_frame) { stack = slice_set (slice_index_or fs k main_frame).stack i s })
+    slice_set fs k (record (slice_index_or fs k main_frame) {
+      stack = slice_set (slice_index_or fs k main_frame).stack i s;
+    })
 
 abbrev pub with_slot : View → ℕ → ℕ → AbsSlot → View
 with_slot a k i s = record a { frames = with_frame_slot a.frames k i s }
@@ -77,7 +86,8 @@ with_room a label n = record a { rooms = raised a.rooms label n }
 -- ---- a label is forgotten: no value has it, and no room is known behind it
 
 abbrev pub frame_unlabelled : ℕ → CallFrame → CallFrame
-frame_unlabelled label f = record f { kept = map (unlabelled label) f.kept; stack = map (slot_unlabelled label) f.stack }
+frame_unlabelled label f =
+    record f { kept = map (unlabelled label) f.kept; stack = map (slot_unlabelled label) f.stack }
 
 abbrev pub without_label : View → ℕ → View
 without_label a label =
@@ -92,13 +102,15 @@ without_label a label =
 -- the callee has R1 to R5 and its own stack frame
 abbrev pub callee_registers : List AbsVal → ℕ → List AbsVal
 callee_registers rs depth =
-    slice_set (slice_set (slice_set (slice_set (slice_set (slice_set rs 0 abs.Unset) 6 abs.Unset) 7 abs.Unset) 8 abs.Unset) 9 abs.Unset)
+    slice_set (slice_set (slice_set (slice_set
+    (slice_set (slice_set rs 0 abs.Unset) 6 abs.Unset) 7 abs.Unset) 8 abs.Unset) 9 abs.Unset)
     10 (stack_end depth)
 
 -- R6 to R9
 abbrev pub kept_of : List AbsVal → List AbsVal
 kept_of rs =
-    slice_index_or rs 6 abs.Unset ∷ slice_index_or rs 7 abs.Unset ∷ slice_index_or rs 8 abs.Unset ∷ slice_index_or rs 9 abs.Unset ∷ []
+    slice_index_or rs 6 abs.Unset ∷ slice_index_or rs 7 abs.Unset ∷ slice_index_or rs 8 abs.Unset
+    ∷ slice_index_or rs 9 abs.Unset ∷ []
 
 -- what the caller keeps
 abbrev pub kept_registers : View → List AbsVal
@@ -110,19 +122,23 @@ called a to back =
     record a {
       pc = to;
       registers = callee_registers a.registers (length a.frames);
-      frames = a.frames ++ record { return_slot = back; kept = kept_registers a; stack = empty_stack } ∷ [];
+      frames = a.frames
+          ++ record { return_slot = back; kept = kept_registers a; stack = empty_stack } ∷ [];
     }
 
 -- after a call R1 to R5 are unset
 abbrev pub without_arguments : List AbsVal → List AbsVal
 without_arguments rs =
-    slice_set (slice_set (slice_set (slice_set (slice_set rs 1 abs.Unset) 2 abs.Unset) 3 abs.Unset) 4 abs.Unset) 5 abs.Unset
+    slice_set (slice_set (slice_set (slice_set (slice_set rs 1 abs.Unset) 2 abs.Unset) 3 abs.Unset)
+    4 abs.Unset) 5 abs.Unset
 
 -- at the return the caller has R6 to R10 as before, and R0
 abbrev pub caller_registers : List AbsVal → List AbsVal → ℕ → List AbsVal
 caller_registers rs kept depth =
-    slice_set (slice_set (slice_set (slice_set (slice_set (without_arguments rs) 6 (slice_index_or kept 0 abs.Unset)) 7 (slice_index_or kept 1 abs.Unset))
-    8 (slice_index_or kept 2 abs.Unset)) 9 (slice_index_or kept 3 abs.Unset)) 10 (stack_end (depth - 1))
+    slice_set (slice_set (slice_set (slice_set (slice_set (without_arguments rs) 6
+    (slice_index_or kept 0 abs.Unset)) 7 (slice_index_or kept 1 abs.Unset))
+    8 (slice_index_or kept 2 abs.Unset)) 9 (slice_index_or kept 3 abs.Unset))
+    10 (stack_end (depth - 1))
 
 -- the newest function has returned; there is a caller
 abbrev pub returned : View → View

@@ -48,7 +48,8 @@ impl Clone for CallFrame {
 impl CallFrame {
     /// A frame with an unset stack.
     pub fn new(alloc: Global, return_slot: u16, kept: Kept) -> CallFrame
-        ensures is { result ≡ record { return_slot = return_slot; kept = kept; stack = empty_stack } }
+        ensures is { result
+            ≡ record { return_slot = return_slot; kept = kept; stack = empty_stack } }
     {
         CallFrame {
             return_slot,
@@ -168,7 +169,8 @@ impl Chain {
         requires whole { count ≡ length self.now }
         requires within { k < count }
         requires inside { index < 64 }
-        ensures is { result ≡ slice_index_or (slice_index_or self.now k main_frame).stack index Unset }
+        ensures is { result
+            ≡ slice_index_or (slice_index_or self.now k main_frame).stack index Unset }
     {
         match &self.link {
             Link::End => AbsSlot::Unset,

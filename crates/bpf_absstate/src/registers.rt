@@ -385,7 +385,8 @@ impl Registers {
 
     /// What a caller goes on with that kept those values and has the stack frame of that number.
     pub fn returned(&self, kept: &Kept, number: u8) -> Result<Registers, AllocError>
-        ensures is { IfOk result (λ registers. registers ≡ caller_registers self.now kept.now (number + 1)) }
+        ensures is { IfOk result
+            (λ registers. registers ≡ caller_registers self.now kept.now (number + 1)) }
     {
         let mut shared = self.shared.clone()?;
         let values = Rc::make_mut(&mut shared)?;

@@ -33,9 +33,21 @@ impl Model for AbsState {
 
     ghost Value = { View };
 
-    ghost view = { λ a. record { pc = a.pc; registers = a.registers; frames = a.frames.value; least = a.least; rooms = a.rooms.value } };
+    ghost view = { λ a. record {
+      pc = a.pc;
+      registers = a.registers;
+      frames = a.frames.value;
+      least = a.least;
+      rooms = a.rooms.value;
+    } };
 
-    ghost invariant = { λ a. IsState a.depth (record { pc = a.pc; registers = a.registers; frames = a.frames.value; least = a.least; rooms = a.rooms.value }) };
+    ghost invariant = { λ a. IsState a.depth (record {
+      pc = a.pc;
+      registers = a.registers;
+      frames = a.frames.value;
+      least = a.least;
+      rooms = a.rooms.value;
+    }) };
 }
 
 impl Clone for AbsState {
@@ -182,7 +194,8 @@ impl AbsState {
 
     /// R1 to R5 are unset after a call. Where memory is wanting the state stays as it is.
     pub fn clear_arguments(&mut self) -> Result<(), AllocError>
-        ensures ok { OnOk result (self.new ≡ record self.old { registers = without_arguments self.old.registers }) }
+        ensures ok { OnOk result
+            (self.new ≡ record self.old { registers = without_arguments self.old.registers }) }
         ensures err { OnErr result (self.new ≡ self.old) }
     {
         let registers = self.registers.without_arguments()?;

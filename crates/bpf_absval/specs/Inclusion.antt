@@ -28,14 +28,17 @@ abbrev pub label_included : List Room → List Room → Option Label → Option 
 label_included rooms others a None = true
 label_included rooms others None (Some l) = false
 label_included rooms others (Some k) (Some l) =
-    k.label == l.label && k.distance == l.distance && room_included (find_room rooms l.label) (find_room others l.label)
+    k.label == l.label && k.distance == l.distance
+    && room_included (find_room rooms l.label) (find_room others l.label)
 
 -- what may be unset includes anything
 abbrev pub value_included : List Room → List Room → AbsVal → AbsVal → Bool
 value_included rooms others a abs.Unset = true
 value_included rooms others (abs.Number a) (abs.Number b) = num_included a b
-value_included rooms others (abs.Frame a k) (abs.Frame b l) = num_included a b && label_included rooms others k l
-value_included rooms others (abs.Pointer r a) (abs.Pointer s b) = region_same r s && num_included a b
+value_included rooms others (abs.Frame a k) (abs.Frame b l) =
+    num_included a b && label_included rooms others k l
+value_included rooms others (abs.Pointer r a) (abs.Pointer s b) =
+    region_same r s && num_included a b
 value_included rooms others abs.FrameEnd abs.FrameEnd = true
 value_included rooms others (abs.MapReference m) (abs.MapReference n) = m == n
 value_included rooms others (abs.Lookup m) (abs.Lookup n) = m == n

@@ -18,11 +18,14 @@ use Rattle.bpf_absval.specs.Inclusion.{value_included, slot_included}
 -- ---- inclusion: what the first contains, the second contains
 
 abbrev pub ValueKeeps : Type 0
-ValueKeeps = (e : Labels) (rooms others : List Room) (a b : AbsVal) (v : Value) → IsVal b → value_included rooms others a b ≡ true → Holds e rooms a v → Holds e others b v
+ValueKeeps =
+    (e : Labels) (rooms others : List Room) (a b : AbsVal) (v : Value) → IsVal b →
+    value_included rooms others a b ≡ true → Holds e rooms a v → Holds e others b v
 
 abbrev pub SlotKeeps : Type 0
 SlotKeeps =
-    (e : Labels) (rooms others : List Room) (a b : AbsSlot) (f : StackFrame) (i : ℕ) → IsStackFrame f → IsSlot b → slot_included rooms others a b ≡ true
+    (e : Labels) (rooms others : List Room) (a b : AbsSlot) (f : StackFrame) (i : ℕ) →
+    IsStackFrame f → IsSlot b → slot_included rooms others a b ≡ true
     → SlotHolds e rooms a f i → SlotHolds e others b f i
 
 -- ---- a label is forgotten
@@ -37,12 +40,16 @@ abbrev pub placed : Labels → ℕ → ℕ → Labels
 placed e label at = record e { base = λ l. if l == label then at else e.base l }
 
 abbrev pub ValueForgets : Type 0
-ValueForgets = (label : ℕ) (e d : Labels) (rooms : List Room) (a : AbsVal) (v : Value) → AgreeApart label e d → Holds e rooms a v → Holds d (rooms_without label rooms) (unlabelled label a) v
+ValueForgets =
+    (label : ℕ) (e d : Labels) (rooms : List Room) (a : AbsVal) (v : Value) → AgreeApart label e d →
+    Holds e rooms a v → Holds d (rooms_without label rooms) (unlabelled label a) v
 
 abbrev pub SlotForgets : Type 0
 SlotForgets =
-    (label : ℕ) (e d : Labels) (rooms : List Room) (a : AbsSlot) (f : StackFrame) (i : ℕ) → AgreeApart label e d
-    → SlotHolds e rooms a f i → SlotHolds d (rooms_without label rooms) (slot_unlabelled label a) f i
+    (label : ℕ) (e d : Labels) (rooms : List Room) (a : AbsSlot) (f : StackFrame) (i : ℕ) →
+    AgreeApart label e d
+    → SlotHolds e rooms a f i →
+    SlotHolds d (rooms_without label rooms) (slot_unlabelled label a) f i
 
 abbrev pub NothingBehind : Type 0
 NothingBehind = (label : ℕ) (rooms : List Room) → find_room (rooms_without label rooms) label ≡ None
@@ -51,14 +58,20 @@ NothingBehind = (label : ℕ) (rooms : List Room) → find_room (rooms_without l
 abbrev pub ValueLabelled : Type 0
 ValueLabelled =
     (label x : ℕ) (e : Labels) (rooms : List Room) (offset : Num) → InNum offset x
-    → AgreeApart label e (placed e label x) × Holds (placed e label x) (rooms_without label rooms) (abs.Frame offset (Some (record { label = label; distance = 0 }))) (value.Pointer region.Frame x)
+    → AgreeApart label e (placed e label x)
+    × Holds (placed e label x) (rooms_without label rooms) (abs.Frame offset
+    (Some (record { label = label; distance = 0 }))) (value.Pointer region.Frame x)
 
 -- ---- a room is raised to what is there
 
 abbrev pub ValueRaises : Type 0
-ValueRaises = (label n : ℕ) (e : Labels) (rooms : List Room) (a : AbsVal) (v : Value) → e.base label + n ≤ length e.setting.frame → Holds e rooms a v → Holds e (raised rooms label n) a v
+ValueRaises =
+    (label n : ℕ) (e : Labels) (rooms : List Room) (a : AbsVal) (v : Value) →
+    e.base label + n ≤ length e.setting.frame → Holds e rooms a v →
+    Holds e (raised rooms label n) a v
 
 abbrev pub SlotRaises : Type 0
 SlotRaises =
-    (label n : ℕ) (e : Labels) (rooms : List Room) (a : AbsSlot) (f : StackFrame) (i : ℕ) → e.base label + n ≤ length e.setting.frame
+    (label n : ℕ) (e : Labels) (rooms : List Room) (a : AbsSlot) (f : StackFrame) (i : ℕ) →
+    e.base label + n ≤ length e.setting.frame
     → SlotHolds e rooms a f i → SlotHolds e (raised rooms label n) a f i

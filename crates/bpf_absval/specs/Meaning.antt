@@ -57,12 +57,14 @@ RegionHolds e a r = ⊥
 abbrev pub Holds : Labels → List Room → AbsVal → Value → Type 0
 Holds e rooms abs.Unset v = Unit {0}
 Holds e rooms (abs.Number a) (value.Number x) = InNum a x
-Holds e rooms (abs.Frame offset label) (value.Pointer region.Frame x) = InNum offset x × LabelHolds e rooms label x
+Holds e rooms (abs.Frame offset label) (value.Pointer region.Frame x) =
+    InNum offset x × LabelHolds e rooms label x
 Holds e rooms (abs.Pointer at offset) (value.Pointer r x) = RegionHolds e at r × InNum offset x
 Holds e rooms abs.FrameEnd value.FrameEnd = Unit {0}
 Holds e rooms (abs.MapReference m) (value.MapReference n) = m ≡ n
 Holds e rooms (abs.Lookup m) (value.Number x) = x ≡ 0
-Holds e rooms (abs.Lookup m) (value.Pointer (region.Entry n index) x) = (m ≡ n) × IsEntry e.setting.shapes n index × (x ≡ 0)
+Holds e rooms (abs.Lookup m) (value.Pointer (region.Entry n index) x) =
+    (m ≡ n) × IsEntry e.setting.shapes n index × (x ≡ 0)
 Holds e rooms a v = ⊥
 
 abbrev pub number_held : Result ℕ ℕ → Value
@@ -72,7 +74,8 @@ number_held (Err cause) = value.Unset
 -- what the eight bytes of a slot hold: what is spilled there, and else the number that they spell, if all are set
 abbrev pub held : StackFrame → ℕ → Value
 held f i =
-    (if is_unset (slice_index_or f.spills i value.Unset) then number_held (set_bytes f (8 * i) 8) else slice_index_or f.spills i value.Unset)
+    (if is_unset (slice_index_or f.spills i value.Unset) then number_held (set_bytes f (8 * i) 8)
+    else slice_index_or f.spills i value.Unset)
 
 abbrev pub is_number : Value → Bool
 is_number (value.Number x) = true
@@ -85,11 +88,14 @@ pub record IsStackFrame (f : StackFrame) : Type 0 where
   pub slots : length f.spills ≡ 64
   pub small : (at b : ℕ) → slice_get f.bytes at ≡ Some (Some b) → b < 256
   pub references : (i : ℕ) → is_number (slice_index_or f.spills i value.Unset) ≡ false
-  pub apart : (i j : ℕ) → i < 64 → j < 8 → is_unset (slice_index_or f.spills i value.Unset) ≡ false → slice_get f.bytes (8 * i + j) ≡ Some None
+  pub apart :
+      (i j : ℕ) → i < 64 → j < 8 → is_unset (slice_index_or f.spills i value.Unset) ≡ false →
+      slice_get f.bytes (8 * i + j) ≡ Some None
 
 -- the bytes of a slot whose bits are 1 are set
 abbrev pub AreSet : ℕ → StackFrame → ℕ → Type 0
-AreSet mask f i = (j : ℕ) → j < 8 → bit_at mask j ≡ 1 → (b : ℕ) × (slice_get f.bytes (8 * i + j) ≡ Some (Some b))
+AreSet mask f i =
+    (j : ℕ) → j < 8 → bit_at mask j ≡ 1 → (b : ℕ) × (slice_get f.bytes (8 * i + j) ≡ Some (Some b))
 
 abbrev pub SlotHolds : Labels → List Room → AbsSlot → StackFrame → ℕ → Type 0
 SlotHolds e rooms slot.Unset f i = Unit {0}

@@ -10,7 +10,8 @@ find_room (r ∷ rs) label = (if r.label == label then Some r.size else find_roo
 -- at least n bytes lie behind the label's place
 unfoldable pub raised : List Room → ℕ → ℕ → List Room
 raised [] label n = record { label = label; size = n } ∷ []
-raised (r ∷ rs) label n = (if r.label == label then record r { size = max r.size n } ∷ rs else r ∷ raised rs label n)
+raised (r ∷ rs) label n =
+    (if r.label == label then record r { size = max r.size n } ∷ rs else r ∷ raised rs label n)
 
 -- nothing is known behind the label
 abbrev pub rooms_without : ℕ → List Room → List Room

@@ -90,7 +90,8 @@ fn way_of_numbers(
     x: &AbsNum,
     y: &AbsNum,
 ) -> Result<Option<AbsState>, AllocError>
-    ensures is { IfOk result (λ way. way ≡ number_way state.now wide compare taken dst source.now x.now y.now) }
+    ensures is { IfOk result
+        (λ way. way ≡ number_way state.now wide compare taken dst source.now x.now y.now) }
 {
     let itself = same_register(dst, source);
     match narrow(wide, compare, itself, taken, *x, *y) {
@@ -112,7 +113,8 @@ fn ways_of_numbers(
     x: &AbsNum,
     y: &AbsNum,
 ) -> Result<Split, AllocError>
-    ensures is { IfOk result (λ ways. ways ≡ number_ways state.now wide compare dst source.now x.now y.now) }
+    ensures is { IfOk result
+        (λ ways. ways ≡ number_ways state.now wide compare dst source.now x.now y.now) }
 {
     let fall = way_of_numbers(state, wide, compare, false, dst, source, x, y)?;
     let jump = way_of_numbers(state, wide, compare, true, dst, source, x, y)?;
@@ -259,7 +261,8 @@ fn way_of_end(
     compare: Compare,
     taken: bool,
 ) -> Result<Option<AbsState>, AllocError>
-    ensures is { IfOk result (λ way. way ≡ taught state.now offset label.now (lesson compare taken)) }
+    ensures is { IfOk result
+        (λ way. way ≡ taught state.now offset label.now (lesson compare taken)) }
 {
     match taught_by(compare, taken) {
         None => {

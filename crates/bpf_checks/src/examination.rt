@@ -47,7 +47,9 @@ fn arithmetic(
     source: &Source,
 ) -> Result<Ways, Fault>
     requires inside { state.now.pc < 16384 }
-    ensures is { IsOrNoMemory result (on (alu state.now.pc op wide (register state.now dst) (source_value state.now source.now)) (operated state.now op dst (register state.now dst) (source_value state.now source.now))) }
+    ensures is { IsOrNoMemory result
+        (on (alu state.now.pc op wide (register state.now dst) (source_value state.now source.now))
+        (operated state.now op dst (register state.now dst) (source_value state.now source.now))) }
 {
     let a = state.register(dst);
     let b = source_of(state, source);
@@ -78,7 +80,8 @@ fn branch(
 ) -> Result<Ways, Fault>
     requires inside { state.now.pc < 16384 }
     requires leads { (t : ℕ) × IsJump state.now.pc by t }
-    ensures is { IsOrNoMemory result (on (split state.now wide compare dst source.now) (λ w. Ok (branched state.now by w))) }
+    ensures is { IsOrNoMemory result
+        (on (split state.now wide compare dst source.now) (λ w. Ok (branched state.now by w))) }
 {
     match split_ways(state, wide, compare, dst, source) {
         Err(fault) => Err(fault),
@@ -92,7 +95,8 @@ fn branch(
 /// A helper call.
 fn help(state: &AbsState, helper: i32) -> Result<Ways, Fault>
     requires inside { state.now.pc < 16384 }
-    ensures is { IsOrNoMemory result (on (helped state.now (word_of helper)) (λ v. Ok (One (answered state.now v)))) }
+    ensures is { IsOrNoMemory result
+        (on (helped state.now (word_of helper)) (λ v. Ok (One (answered state.now v)))) }
 {
     match helper_answer(state, word_of_int(helper)) {
         Err(fault) => Err(fault),
@@ -111,7 +115,8 @@ fn load(
     by: i16,
 ) -> Result<Ways, Fault>
     requires inside { state.now.pc < 16384 }
-    ensures is { IsOrNoMemory result (on (loads shapes.now state.now (size_bytes size) signed (register state.now src) by) (put state.now 1 dst)) }
+    ensures is { IsOrNoMemory result (on (loads shapes.now state.now (size_bytes size) signed
+        (register state.now src) by) (put state.now 1 dst)) }
 {
     match load_through(
         shapes,
@@ -136,7 +141,9 @@ fn store(
     source: &Source,
 ) -> Result<Ways, Fault>
     requires inside { state.now.pc < 16384 }
-    ensures is { IsOrNoMemory result (on (stores shapes.now state.now (size_bytes size) (source_value state.now source.now) (register state.now dst) by) (λ b. Ok (One (next_pc b)))) }
+    ensures is { IsOrNoMemory result
+        (on (stores shapes.now state.now (size_bytes size) (source_value state.now source.now)
+        (register state.now dst) by) (λ b. Ok (One (next_pc b)))) }
 {
     let value = source_of(state, source);
     match store_through(
@@ -166,7 +173,9 @@ fn atomic(
     by: i16,
 ) -> Result<Ways, Fault>
     requires inside { state.now.pc < 16384 }
-    ensures is { IsOrNoMemory result (on (atomics shapes.now state.now (atomic_bytes wide) op src by (register state.now dst) (register state.now src) (compared op state.now)) (λ b. Ok (One (next_pc b)))) }
+    ensures is { IsOrNoMemory result
+        (on (atomics shapes.now state.now (atomic_bytes wide) op src by (register state.now dst)
+        (register state.now src) (compared op state.now)) (λ b. Ok (One (next_pc b)))) }
 {
     let pointer = state.register(dst);
     let number = state.register(src);
@@ -193,7 +202,8 @@ fn atomic(
 
 fn extend(state: &AbsState, from: Extension, wide: bool, dst: Reg, src: Reg) -> Result<Ways, Fault>
     requires inside { state.now.pc < 16384 }
-    ensures is { IsOrNoMemory result (put_numbers state.now dst (num_extended from wide) (register state.now src)) }
+    ensures is { IsOrNoMemory result
+        (put_numbers state.now dst (num_extended from wide) (register state.now src)) }
 {
     match number_of(state.register(src)) {
         Err(fault) => Err(fault),
@@ -203,7 +213,8 @@ fn extend(state: &AbsState, from: Extension, wide: bool, dst: Reg, src: Reg) -> 
 
 fn negate(state: &AbsState, wide: bool, dst: Reg) -> Result<Ways, Fault>
     requires inside { state.now.pc < 16384 }
-    ensures is { IsOrNoMemory result (put_numbers state.now dst (num_negated wide) (register state.now dst)) }
+    ensures is { IsOrNoMemory result
+        (put_numbers state.now dst (num_negated wide) (register state.now dst)) }
 {
     match number_of(state.register(dst)) {
         Err(fault) => Err(fault),
@@ -213,7 +224,8 @@ fn negate(state: &AbsState, wide: bool, dst: Reg) -> Result<Ways, Fault>
 
 fn order(state: &AbsState, order: ByteOrder, width: OrderWidth, dst: Reg) -> Result<Ways, Fault>
     requires inside { state.now.pc < 16384 }
-    ensures is { IsOrNoMemory result (put_numbers state.now dst (num_ordered order width) (register state.now dst)) }
+    ensures is { IsOrNoMemory result
+        (put_numbers state.now dst (num_ordered order width) (register state.now dst)) }
 {
     match number_of(state.register(dst)) {
         Err(fault) => Err(fault),
@@ -234,7 +246,8 @@ fn jump(state: &AbsState, by: i32) -> Result<Ways, Fault>
 fn call(alloc: Global, state: &AbsState, by: i32) -> Result<Ways, Fault>
     requires inside { state.now.pc < 16384 }
     requires leads { (t : ℕ) × IsJump state.now.pc by t }
-    ensures is { IsOrNoMemory result (on (calls state.now (landing state.now.pc by)) (λ b. Ok (One b))) }
+    ensures is { IsOrNoMemory result
+        (on (calls state.now (landing state.now.pc by)) (λ b. Ok (One b))) }
 {
     call_at(alloc, state, target(state.pc(), by))
 }
@@ -303,7 +316,8 @@ fn examine_insn(alloc: Global, shapes: &Shapes, insn: Insn, state: &AbsState) ->
 /// The ways on from an abstract state, or the fault that its instruction meets first.
 pub fn examine(alloc: Global, program: &Program, state: &AbsState) -> Result<Ways, Fault>
     requires begins { Begins program.now.slots state.now.pc }
-    ensures is { (i : Insn) → Holds program.now.slots state.now.pc i → IsOrNoMemory result (examined program.now.shapes i state.now) }
+    ensures is { (i : Insn) → Holds program.now.slots state.now.pc i →
+        IsOrNoMemory result (examined program.now.shapes i state.now) }
 {
     program.whole();
     match program.insn_at(state.pc()) {

@@ -54,7 +54,8 @@ pub fn put_result(
     value: AbsVal,
 ) -> Result<Ways, Fault>
     requires inside { state.now.pc < 16384 }
-    ensures is { IsOrNoMemory result (put (if labels then without_label state.now (state.now.pc + 1) else state.now) 1 dst value) }
+    ensures is { IsOrNoMemory result (put
+        (if labels then without_label state.now (state.now.pc + 1) else state.now) 1 dst value) }
 {
     if !labels {
         return put_value(state, 1, dst, value);

@@ -211,7 +211,8 @@ fn store_in_stack(
 
 /// A copy of the state with a number stored in a map, which is not followed.
 fn store_in_map(state: &AbsState, fault: Option<Fault>, value: AbsVal) -> Result<AbsState, Fault>
-    ensures is { (shape : Option Shape) (at : Num) (n : ℕ) → fault ≡ entry_fault shape at n → IsOrNoMemory result (stored_in_map state.now shape at n value) }
+    ensures is { (shape : Option Shape) (at : Num) (n : ℕ) → fault ≡ entry_fault shape at n →
+        IsOrNoMemory result (stored_in_map state.now shape at n value) }
 {
     match value {
         AbsVal::Number(_) => match fault {
@@ -381,7 +382,8 @@ pub fn atomic_through(
 ) -> Result<AbsState, Fault>
     requires few { n ≤ 8 }
     requires some { 1 ≤ n }
-    ensures is { IsOrNoMemory result (atomic shapes.now state.now n op src by pointer number expected) }
+    ensures is { IsOrNoMemory result
+        (atomic shapes.now state.now n op src by pointer number expected) }
 {
     let AbsVal::Pointer { region, offset } = pointer else {
         return Err(fault_of_operands(pointer, number, expected));

@@ -5,5 +5,9 @@ use Rattle.bpf_decode.specs.declared.fault.SlotFault.TheVariants as fault
 
 abbrev pub lowest_fault : Bool → Bool → Bool → Bool → Bool → Option SlotFault
 lowest_fault astray past frame helper map =
-    (if astray then Some fault.JumpAstray else (if past then Some fault.PastEnd else (if frame then Some fault.FrameWritten else
-    (if helper then Some fault.UnknownHelper else (if map then Some fault.UnknownMap else None)))))
+    (if astray then Some fault.JumpAstray
+    else (if past then Some fault.PastEnd
+    else (if frame then Some fault.FrameWritten
+    else (if helper then Some fault.UnknownHelper
+    else (if map then Some fault.UnknownMap
+    else None)))))

@@ -54,8 +54,10 @@ pub data RuleFault (code : List ℕ) (shapes : List Shape) (k : ℕ) (i : Insn) 
 
 -- the faults of the code: a slot and a number
 pub data FaultAt (code : List ℕ) (shapes : List Shape) (k : ℕ) : ℕ → Type 0 where
-  InFields : (e : FieldFault) → Starts code k → HasFault (fields_at (slot code k)) (half_at (slot_if code (k + 1))) e → FaultAt code shapes k (number_of e)
-  InRules : (i : Insn) (n : ℕ) → Starts code k → At code k i → RuleFault code shapes k i n → FaultAt code shapes k n
+  InFields : (e : FieldFault) → Starts code k → HasFault (fields_at (slot code k))
+      (half_at (slot_if code (k + 1))) e → FaultAt code shapes k (number_of e)
+  InRules : (i : Insn) (n : ℕ) → Starts code k → At code k i →
+      RuleFault code shapes k i n → FaultAt code shapes k n
 
 -- the least pair: the lowest slot, then the lowest number
 pub record IsFirst (code : List ℕ) (shapes : List Shape) (k n : ℕ) : Type 0 where

@@ -50,7 +50,8 @@ fn leads(code: &[u8], heads: &[bool], at: usize, by: i32) -> bool
     requires count { length heads.now ≡ count code.now }
     requires small { count code.now ≤ 16384 }
     requires place { at < count code.now }
-    requires heads { (k : ℕ) → k < length heads.now → slice_index_or heads.now k false ≡ starts code.now k }
+    requires heads { (k : ℕ) → k < length heads.now →
+        slice_index_or heads.now k false ≡ starts code.now k }
     ensures is { IsTrue result ↔ Leads code.now at by }
 {
     match jump_target(at, by) {
@@ -64,7 +65,8 @@ fn jumps_inside(code: &[u8], heads: &[bool], at: usize, insn: &Insn) -> bool
     requires count { length heads.now ≡ count code.now }
     requires small { count code.now ≤ 16384 }
     requires place { at < count code.now }
-    requires heads { (k : ℕ) → k < length heads.now → slice_index_or heads.now k false ≡ starts code.now k }
+    requires heads { (k : ℕ) → k < length heads.now →
+        slice_index_or heads.now k false ≡ starts code.now k }
     ensures is { IsTrue result ↔ JumpsInside code.now at (jump_of insn.now) }
 {
     match jump_offset(insn) {
@@ -76,7 +78,8 @@ fn jumps_inside(code: &[u8], heads: &[bool], at: usize, insn: &Insn) -> bool
 /// Whether an instruction is the last, and goes on past the end.
 fn goes_past_end(heads: &[bool], at: usize, insn: &Insn) -> bool
     requires place { at < length heads.now }
-    ensures is { IsTrue result ↔ ((at + size_of insn.now ≡ length heads.now) × (ends insn.now ≡ false)) }
+    ensures is { IsTrue result
+        ↔ ((at + size_of insn.now ≡ length heads.now) × (ends insn.now ≡ false)) }
 {
     at + slot_count(insn) == heads.len() && !is_end(insn)
 }
@@ -120,10 +123,12 @@ pub(crate) fn rule_fault(
     requires count { length heads.now ≡ count code.now }
     requires small { count code.now ≤ 16384 }
     requires place { at < count code.now }
-    requires heads { (k : ℕ) → k < length heads.now → slice_index_or heads.now k false ≡ starts code.now k }
+    requires heads { (k : ℕ) → k < length heads.now →
+        slice_index_or heads.now k false ≡ starts code.now k }
     ensures none { IfNone result ((n : ℕ) → RuleFault code.now shapes.now at insn.now n → ⊥) }
     ensures some { IfSome result (λ e. RuleFault code.now shapes.now at insn.now (slot_number e)) }
-    ensures least { IfSome result (λ e. (m : ℕ) → RuleFault code.now shapes.now at insn.now m → slot_number e ≤ m) }
+    ensures least { IfSome result
+        (λ e. (m : ℕ) → RuleFault code.now shapes.now at insn.now m → slot_number e ≤ m) }
 {
     let inside = jumps_inside(code, heads, at, insn);
     let past = goes_past_end(heads, at, insn);

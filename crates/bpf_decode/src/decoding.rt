@@ -25,7 +25,8 @@ fn entry_at(
     requires count { length heads.now ≡ count code.now }
     requires small { count code.now ≤ 16384 }
     requires place { at < count code.now }
-    requires heads { (k : ℕ) → k < length heads.now → slice_index_or heads.now k false ≡ starts code.now k }
+    requires heads { (k : ℕ) → k < length heads.now →
+        slice_index_or heads.now k false ≡ starts code.now k }
     ensures clean { IfOk result (λ _. (n : ℕ) → FaultAt code.now shapes.now at n → ⊥) }
     ensures entry { IfOk result (λ o. IsEntry code.now at o) }
     ensures fault { IfErr result (λ e. IsLowest code.now shapes.now at (slot_number e)) }
@@ -51,7 +52,8 @@ fn entries_of(
 ) -> Result<Vec<Option<Insn>>, DecodeFault>
     requires count { length heads.now ≡ count code.now }
     requires small { count code.now ≤ 16384 }
-    requires heads { (k : ℕ) → k < length heads.now → slice_index_or heads.now k false ≡ starts code.now k }
+    requires heads { (k : ℕ) → k < length heads.now →
+        slice_index_or heads.now k false ≡ starts code.now k }
     ensures clean { IfOk result (λ _. (k n : ℕ) → FaultAt code.now shapes.now k n → ⊥) }
     ensures table { IfOk result (λ v. IsTable code.now v.items (count code.now)) }
     ensures fault { IfErr result (λ e. FindsFirst code.now shapes.now e) }

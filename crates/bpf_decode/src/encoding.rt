@@ -41,7 +41,8 @@ fn slot_bytes(slots: &[Option<Insn>], at: usize) -> [u8; 8]
 /// The bytes of all slots.
 fn bytes_of(alloc: Global, slots: &[Option<Insn>]) -> Result<Vec<u8>, AllocError>
     requires insns { (k : ℕ) (i : Insn) → Holds slots.now k i → IsInsn i }
-    ensures is { IfOk result (λ v. (bytes : List ℕ) → IsTable bytes slots.now (count bytes) → length bytes ≡ 8 * count bytes → v.items ≡ bytes) }
+    ensures is { IfOk result (λ v. (bytes : List ℕ) → IsTable bytes slots.now (count bytes) →
+        length bytes ≡ 8 * count bytes → v.items ≡ bytes) }
 {
     // The check must be told of a type that an instruction holds.
     let _source: Option<Source> = None;
@@ -64,5 +65,6 @@ pub fn encode(alloc: Global, program: &Program) -> Result<Vec<u8>, AllocError>
 /// So `encode` gives back the bytes that `decode` was given.
 pub fn spelling_law()
     ensures one_text { (a b : List ℕ) (c : Code) → Spells a c → Spells b c → a ≡ b }
-    ensures one_program { (a : List ℕ) (c d : Code) → Spells a c → Spells a d → c.shapes ≡ d.shapes → c ≡ d }
+    ensures one_program { (a : List ℕ) (c d : Code) → Spells a c → Spells a d →
+        c.shapes ≡ d.shapes → c ≡ d }
 {}

@@ -23,7 +23,8 @@ impl Model for Program {
 
     ghost view = { λ s. record { slots = s.slots.items; shapes = s.shapes } };
 
-    ghost invariant = { λ s. IsProgram (record { slots = s.slots.items; shapes = s.shapes }) s.targets.items };
+    ghost invariant = { λ s. IsProgram
+        (record { slots = s.slots.items; shapes = s.shapes }) s.targets.items };
 }
 
 /// What a table of slots tells of one; false outside it.
@@ -38,7 +39,8 @@ impl Program {
 
     /// A program from its parts: slots that some well-formed bytes spell, and the table of their targets.
     pub(crate) fn new(slots: Vec<Option<Insn>>, targets: Vec<bool>, shapes: Shapes) -> Program
-        requires decoded { IsProgram (record { slots = slots.items; shapes = shapes }) targets.items }
+        requires decoded { IsProgram
+            (record { slots = slots.items; shapes = shapes }) targets.items }
         ensures slots { result.slots ≡ slots.items }
         ensures shapes { result.shapes ≡ shapes }
     {

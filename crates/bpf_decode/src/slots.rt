@@ -45,7 +45,8 @@ fn next_starts(starts: bool, wide: bool) -> bool
 /// Which slots start an instruction.
 pub(crate) fn starts_of(alloc: Global, code: &[u8]) -> Result<Vec<bool>, AllocError>
     ensures count { IfOk result (λ v. length v.items ≡ count code.now) }
-    ensures told { IfOk result (λ v. (k : ℕ) → k < length v.items → slice_index_or v.items k false ≡ starts code.now k) }
+    ensures told { IfOk result
+        (λ v. (k : ℕ) → k < length v.items → slice_index_or v.items k false ≡ starts code.now k) }
 {
     let mut table = Vec::new(alloc);
     let mut start = true;

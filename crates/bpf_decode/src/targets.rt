@@ -33,7 +33,8 @@ fn return_slot(at: usize, insn: &Insn) -> Option<usize>
 
 /// Marks a slot, if there is one and the table has it.
 fn mark(targets: &mut [bool], slot: Option<usize>)
-    ensures is { (t : ℕ) → IsTrue (slice_index_or targets.new t false) ↔ (IsTrue (slice_index_or targets.old t false) ⊎ ((t < length targets.old) × (slot ≡ Some t))) }
+    ensures is { (t : ℕ) → IsTrue (slice_index_or targets.new t false) ↔ (IsTrue
+        (slice_index_or targets.old t false) ⊎ ((t < length targets.old) × (slot ≡ Some t))) }
 {
     if let Some(at) = slot {
         if at < targets.len() {
@@ -45,7 +46,9 @@ fn mark(targets: &mut [bool], slot: Option<usize>)
 /// Marks the targets that the instruction at a slot makes.
 fn mark_all(targets: &mut [bool], at: usize, slot: &Option<Insn>)
     requires small { at ≤ 16384 }
-    ensures is { (t : ℕ) → IsTrue (slice_index_or targets.new t false) ↔ (IsTrue (slice_index_or targets.old t false) ⊎ ((t < length targets.old) × MakesTarget at slot.now t)) }
+    ensures is { (t : ℕ) →
+        IsTrue (slice_index_or targets.new t false) ↔ (IsTrue (slice_index_or targets.old t false)
+        ⊎ ((t < length targets.old) × MakesTarget at slot.now t)) }
 {
     if let Some(insn) = slot {
         mark(targets, jump_slot(at, insn));
@@ -56,7 +59,8 @@ fn mark_all(targets: &mut [bool], at: usize, slot: &Option<Insn>)
 /// Marks the targets that the instructions of a program make.
 fn mark_each(targets: &mut [bool], slots: &[Option<Insn>])
     requires small { length slots.now ≤ 16384 }
-    ensures is { (t : ℕ) → IsTrue (slice_index_or targets.new t false) ↔ (IsTrue (slice_index_or targets.old t false) ⊎ ((t < length targets.old) × IsMade slots.now t)) }
+    ensures is { (t : ℕ) → IsTrue (slice_index_or targets.new t false) ↔ (IsTrue
+        (slice_index_or targets.old t false) ⊎ ((t < length targets.old) × IsMade slots.now t)) }
 {
     for at in 0..slots.len() {
         mark_all(targets, at, &slots[at]);
@@ -66,7 +70,8 @@ fn mark_each(targets: &mut [bool], slots: &[Option<Insn>])
 /// A table with slot 0 marked.
 fn start_table(alloc: Global, count: usize) -> Result<Vec<bool>, AllocError>
     ensures len { IfOk result (λ v. length v.items ≡ count) }
-    ensures told { IfOk result (λ v. (t : ℕ) → IsTrue (slice_index_or v.items t false) ↔ ((t < count) × (t ≡ 0))) }
+    ensures told { IfOk result
+        (λ v. (t : ℕ) → IsTrue (slice_index_or v.items t false) ↔ ((t < count) × (t ≡ 0))) }
 {
     let mut targets = Vec::new(alloc);
     for at in 0..count {
@@ -78,7 +83,8 @@ fn start_table(alloc: Global, count: usize) -> Result<Vec<bool>, AllocError>
 /// Which slots of a program are targets.
 pub(crate) fn targets_of(alloc: Global, slots: &[Option<Insn>]) -> Result<Vec<bool>, AllocError>
     requires small { length slots.now ≤ 16384 }
-    ensures told { IfOk result (λ v. (t : ℕ) → IsTrue (slice_index_or v.items t false) ↔ ((t < length slots.now) × IsTarget slots.now t)) }
+    ensures told { IfOk result (λ v. (t : ℕ) →
+        IsTrue (slice_index_or v.items t false) ↔ ((t < length slots.now) × IsTarget slots.now t)) }
 {
     let mut targets = start_table(alloc, slots.len())?;
     mark_each(&mut targets, slots);

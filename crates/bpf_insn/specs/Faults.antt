@@ -22,7 +22,9 @@ abbrev pub Broken : Use → ℤ → FieldFault → Type 0
 Broken u v e = (Meets u v → ⊥) × (e ≡ fault_of u)
 
 abbrev pub InFields : Uses → Fields → FieldFault → Type 0
-InFields u f e = Broken u.dst (pos f.dst) e ⊎ (Broken u.src (pos f.src) e ⊎ (Broken u.offset f.offset e ⊎ Broken u.imm f.imm e))
+InFields u f e =
+    Broken u.dst (pos f.dst) e
+    ⊎ (Broken u.src (pos f.src) e ⊎ (Broken u.offset f.offset e ⊎ Broken u.imm f.imm e))
 
 -- the first four bytes of a second half are zero
 pub record IsHalf (f : Fields) : Type 0 where
@@ -34,7 +36,8 @@ pub record IsHalf (f : Fields) : Type 0 where
 -- in the second half of a wide load whose register field is s
 abbrev pub InHalf : ℕ → Option Fields → FieldFault → Type 0
 InHalf s None e = e ≡ CutWide
-InHalf s (Some f) e = ((s ≡ 5) × (f.imm ≢ pos 0) × (e ≡ UnusedSet)) ⊎ ((IsHalf f → ⊥) × (e ≡ CutWide))
+InHalf s (Some f) e =
+    ((s ≡ 5) × (f.imm ≢ pos 0) × (e ≡ UnusedSet)) ⊎ ((IsHalf f → ⊥) × (e ≡ CutWide))
 
 abbrev pub InSecond : Kind → Fields → Option Fields → FieldFault → Type 0
 InSecond kind.LoadWide f second e = InHalf f.src second e
@@ -43,9 +46,12 @@ InSecond _ f second e = ⊥
 -- e is a fault of the slot with these fields, whose next slot has the fields second: no kind of instruction has the opcode, or the kind that has it
 -- doesn't allow a field's value, or the second half
 pub data HasFault (f : Fields) (second : Option Fields) (e : FieldFault) : Type 0 where
-  NoKind : ((k : Kind) → IsKind k → opcode_of k ≢ f.opcode) → e ≡ UnknownOpcode → HasFault f second e
-  WrongField : (k : Kind) → IsKind k → opcode_of k ≡ f.opcode → InFields (uses_of k) f e → HasFault f second e
-  WrongSecond : (k : Kind) → IsKind k → opcode_of k ≡ f.opcode → InSecond k f second e → HasFault f second e
+  NoKind : ((k : Kind) → IsKind k → opcode_of k ≢ f.opcode) →
+      e ≡ UnknownOpcode → HasFault f second e
+  WrongField : (k : Kind) → IsKind k → opcode_of k ≡ f.opcode →
+      InFields (uses_of k) f e → HasFault f second e
+  WrongSecond : (k : Kind) → IsKind k → opcode_of k ≡ f.opcode →
+      InSecond k f second e → HasFault f second e
 
 -- e is the fault with the lowest number of those in P
 pub record IsLeast (P : FieldFault → Type 0) (e : FieldFault) : Type 0 where

@@ -12,18 +12,41 @@ use Rattle.bpf_insn.specs.declared.kind.Kind.TheVariants as kind
 
 abbrev pub op_at : ℕ → Option AluOp
 op_at c =
-    (if nat_eq c 0 then Some alu.Add else (if nat_eq c 1 then Some alu.Sub else (if nat_eq c 2 then Some alu.Mul else (if nat_eq c 3 then Some alu.Div else
-    (if nat_eq c 4 then Some alu.Or else (if nat_eq c 5 then Some alu.And else (if nat_eq c 6 then Some alu.Lsh else (if nat_eq c 7 then Some alu.Rsh else
-    (if nat_eq c 9 then Some alu.Mod else (if nat_eq c 10 then Some alu.Xor else (if nat_eq c 11 then Some alu.Mov else (if nat_eq c 12 then Some alu.Arsh else None))))))))))))
+    (if nat_eq c 0 then Some alu.Add
+    else (if nat_eq c 1 then Some alu.Sub
+    else (if nat_eq c 2 then Some alu.Mul
+    else (if nat_eq c 3 then Some alu.Div
+    else (if nat_eq c 4 then Some alu.Or
+    else (if nat_eq c 5 then Some alu.And
+    else (if nat_eq c 6 then Some alu.Lsh
+    else (if nat_eq c 7 then Some alu.Rsh
+    else (if nat_eq c 9 then Some alu.Mod
+    else (if nat_eq c 10 then Some alu.Xor
+    else (if nat_eq c 11 then Some alu.Mov
+    else (if nat_eq c 12 then Some alu.Arsh
+    else None))))))))))))
 
 abbrev pub compare_at : ℕ → Option Compare
 compare_at c =
-    (if nat_eq c 1 then Some compare.Eq else (if nat_eq c 2 then Some compare.Gt else (if nat_eq c 3 then Some compare.Ge else (if nat_eq c 4 then Some compare.Set else
-    (if nat_eq c 5 then Some compare.Ne else (if nat_eq c 6 then Some compare.Sgt else (if nat_eq c 7 then Some compare.Sge else (if nat_eq c 10 then Some compare.Lt else
-    (if nat_eq c 11 then Some compare.Le else (if nat_eq c 12 then Some compare.Slt else (if nat_eq c 13 then Some compare.Sle else None)))))))))))
+    (if nat_eq c 1 then Some compare.Eq
+    else (if nat_eq c 2 then Some compare.Gt
+    else (if nat_eq c 3 then Some compare.Ge
+    else (if nat_eq c 4 then Some compare.Set
+    else (if nat_eq c 5 then Some compare.Ne
+    else (if nat_eq c 6 then Some compare.Sgt
+    else (if nat_eq c 7 then Some compare.Sge
+    else (if nat_eq c 10 then Some compare.Lt
+    else (if nat_eq c 11 then Some compare.Le
+    else (if nat_eq c 12 then Some compare.Slt
+    else (if nat_eq c 13 then Some compare.Sle
+    else None)))))))))))
 
 abbrev pub size_at : ℕ → Size
-size_at c = (if nat_eq c 0 then size.Word else (if nat_eq c 1 then size.Half else (if nat_eq c 2 then size.Byte else size.Double)))
+size_at c =
+    (if nat_eq c 0 then size.Word
+    else (if nat_eq c 1 then size.Half
+    else (if nat_eq c 2 then size.Byte
+    else size.Double)))
 
 abbrev pub with_op : Option AluOp → Bool → Bool → Option Kind
 with_op None register wide = None
@@ -37,7 +60,8 @@ end_at false false = Some (kind.End order.Little)
 
 abbrev pub arithmetic_at : ℕ → Bool → Bool → Option Kind
 arithmetic_at c register wide =
-    (if nat_eq c 8 then (if register then None else Some (kind.Neg wide)) else (if nat_eq c 13 then end_at register wide else with_op (op_at c) register wide))
+    (if nat_eq c 8 then (if register then None else Some (kind.Neg wide))
+    else (if nat_eq c 13 then end_at register wide else with_op (op_at c) register wide))
 
 abbrev pub with_compare : Option Compare → Bool → Bool → Option Kind
 with_compare None register wide = None
@@ -45,9 +69,11 @@ with_compare (Some op) register wide = Some (kind.Branch op wide register)
 
 abbrev pub branch_at : ℕ → Bool → Bool → Option Kind
 branch_at c register wide =
-    (if nat_eq c 0 then (if register then None else (if wide then Some kind.Jump else Some kind.JumpLong)) else
-    (if nat_eq c 8 then (if wide && not register then Some kind.Call else None) else
-    (if nat_eq c 9 then (if wide && not register then Some kind.Exit else None) else with_compare (compare_at c) register wide)))
+    (if nat_eq c 0
+    then (if register then None else (if wide then Some kind.Jump else Some kind.JumpLong))
+    else (if nat_eq c 8 then (if wide && not register then Some kind.Call else None)
+    else (if nat_eq c 9 then (if wide && not register then Some kind.Exit else None)
+    else with_compare (compare_at c) register wide)))
 
 abbrev pub signed_load : Size → Option Kind
 signed_load size.Double = None
@@ -56,7 +82,9 @@ signed_load size.Half = Some (kind.Load size.Half true)
 signed_load size.Word = Some (kind.Load size.Word true)
 
 abbrev pub load_at : ℕ → Size → Option Kind
-load_at mode z = (if nat_eq mode 3 then Some (kind.Load z false) else (if nat_eq mode 4 then signed_load z else None))
+load_at mode z =
+    (if nat_eq mode 3 then Some (kind.Load z false)
+    else (if nat_eq mode 4 then signed_load z else None))
 
 abbrev pub atomic_at : Size → Option Kind
 atomic_at size.Word = Some (kind.Atomic false)
@@ -66,7 +94,8 @@ atomic_at size.Half = None
 
 abbrev pub store_at : ℕ → Size → Bool → Option Kind
 store_at mode z register =
-    (if nat_eq mode 3 then Some (kind.Store z register) else (if nat_eq mode 6 then (if register then atomic_at z else None) else None))
+    (if nat_eq mode 3 then Some (kind.Store z register)
+    else (if nat_eq mode 6 then (if register then atomic_at z else None) else None))
 
 -- by the class, the low three bits
 abbrev pub kind_at : ℕ → Option Kind
@@ -79,4 +108,5 @@ kind_at o =
     (if nat_eq (o % 8) 3 then store_at (o / 32) z true else
     (if nat_eq (o % 8) 4 then arithmetic_at (o / 16) register false else
     (if nat_eq (o % 8) 5 then branch_at (o / 16) register true else
-    (if nat_eq (o % 8) 6 then branch_at (o / 16) register false else arithmetic_at (o / 16) register true)))))))
+    (if nat_eq (o % 8) 6 then branch_at (o / 16) register false
+    else arithmetic_at (o / 16) register true)))))))

@@ -71,14 +71,18 @@ signed_op alu.Mod n = (if nat_eq n 1 then alu.Smod else alu.Mod)
 signed_op op n = op
 
 abbrev pub extension_at : ℕ → Extension
-extension_at n = (if nat_eq n 8 then extension.Byte else (if nat_eq n 16 then extension.Half else extension.Word))
+extension_at n =
+    (if nat_eq n 8 then extension.Byte
+    else (if nat_eq n 16 then extension.Half else extension.Word))
 
 abbrev pub order_width_at : ℕ → OrderWidth
-order_width_at n = (if nat_eq n 16 then width.Half else (if nat_eq n 32 then width.Word else width.Double))
+order_width_at n =
+    (if nat_eq n 16 then width.Half else (if nat_eq n 32 then width.Word else width.Double))
 
 abbrev pub move_at : Bool → Fields → Insn
 move_at w f =
-    (if nat_eq (unsigned_abs f.offset) 0 then insn.Alu alu.Mov w f.dst (source.Reg f.src) else insn.MovSx (extension_at (unsigned_abs f.offset)) w f.dst f.src)
+    (if nat_eq (unsigned_abs f.offset) 0 then insn.Alu alu.Mov w f.dst (source.Reg f.src)
+    else insn.MovSx (extension_at (unsigned_abs f.offset)) w f.dst f.src)
 
 abbrev pub register_alu : AluOp → Bool → Fields → Insn
 register_alu alu.Mov w f = move_at w f
@@ -86,14 +90,23 @@ register_alu op w f = insn.Alu (signed_op op (unsigned_abs f.offset)) w f.dst (s
 
 abbrev pub update_at : ℕ → AtomicOp
 update_at n =
-    (if nat_eq n 0x40 then atomic.Or else (if nat_eq n 0x50 then atomic.And else (if nat_eq n 0xa0 then atomic.Xor else
-    (if nat_eq n 0x01 then atomic.FetchAdd else (if nat_eq n 0x41 then atomic.FetchOr else (if nat_eq n 0x51 then atomic.FetchAnd else
-    (if nat_eq n 0xa1 then atomic.FetchXor else (if nat_eq n 0xe1 then atomic.Xchg else (if nat_eq n 0xf1 then atomic.Cmpxchg else atomic.Add)))))))))
+    (if nat_eq n 0x40 then atomic.Or
+    else (if nat_eq n 0x50 then atomic.And
+    else (if nat_eq n 0xa0 then atomic.Xor
+    else (if nat_eq n 0x01 then atomic.FetchAdd
+    else (if nat_eq n 0x41 then atomic.FetchOr
+    else (if nat_eq n 0x51 then atomic.FetchAnd
+    else (if nat_eq n 0xa1 then atomic.FetchXor
+    else (if nat_eq n 0xe1 then atomic.Xchg
+    else (if nat_eq n 0xf1 then atomic.Cmpxchg
+    else atomic.Add)))))))))
 
 abbrev pub wide_at : Fields → ℤ → Wide
 wide_at f high =
-    (if nat_eq f.src 0 then wide.Number (cast_unsigned w32 f.imm + 2 ^ 32 * cast_unsigned w32 high) else
-    (if nat_eq f.src 5 then wide.Map (cast_unsigned w32 f.imm) else wide.MapValue (cast_unsigned w32 f.imm) (cast_unsigned w32 high)))
+    (if nat_eq f.src 0
+    then wide.Number (cast_unsigned w32 f.imm + 2 ^ 32 * cast_unsigned w32 high) else
+    (if nat_eq f.src 5 then wide.Map (cast_unsigned w32 f.imm)
+    else wide.MapValue (cast_unsigned w32 f.imm) (cast_unsigned w32 high)))
 
 abbrev pub read_alu : AluOp → Bool → Bool → Fields → Insn
 read_alu op w false f = insn.Alu (signed_op op (unsigned_abs f.offset)) w f.dst (source.Imm f.imm)

@@ -6,7 +6,9 @@ use Rattle.bpf_insn.specs.declared.fields.Fields.{Fields}
 
 -- the bytes of a slot: the destination register in the low four bits of the second byte, the source register in the high four
 unfoldable pub slot_of : Fields → List ℕ
-slot_of f = f.opcode ∷ (f.dst + 16 * f.src) ∷ (little_bytes 2 (cast_unsigned w16 f.offset) ++ little_bytes 4 (cast_unsigned w32 f.imm))
+slot_of f =
+    f.opcode ∷ (f.dst + 16 * f.src)
+    ∷ (little_bytes 2 (cast_unsigned w16 f.offset) ++ little_bytes 4 (cast_unsigned w32 f.imm))
 
 -- what its fields can hold
 pub record FitsSlot (f : Fields) : Type 0 where

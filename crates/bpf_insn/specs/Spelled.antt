@@ -62,7 +62,8 @@ fields o d s x i = record { opcode = o; dst = d; src = s; offset = x; imm = i }
 abbrev pub fields_of : Insn → Fields
 fields_of (insn.Alu op w d (source.Imm n)) = fields (alu_opcode op w false) d 0 (alu_sign op) n
 fields_of (insn.Alu op w d (source.Reg r)) = fields (alu_opcode op w true) d r (alu_sign op) (pos 0)
-fields_of (insn.MovSx from w d s) = fields (alu_opcode alu.Mov w true) d s (pos (extension_bits from)) (pos 0)
+fields_of (insn.MovSx from w d s) =
+    fields (alu_opcode alu.Mov w true) d s (pos (extension_bits from)) (pos 0)
 fields_of (insn.Neg w d) = fields (neg_opcode w) d 0 (pos 0) (pos 0)
 fields_of (insn.End order width d) = fields (end_code order) d 0 (pos 0) (pos (order_bits width))
 fields_of (insn.Jump x) = fields 0x05 0 0 x (pos 0)

@@ -9,8 +9,12 @@ ghost use Rattle.bpf_insn.specs.Spelled.{IsInsn, Spelled, fields_of, second_of, 
 /// again; what `from_slots` reads is written as the slots again, the second one where the instruction has one. So the
 /// same slots are never read as two instructions.
 pub fn slots_law()
-    ensures again { (i : Insn) → IsInsn i → Spelled (slot_of (fields_of i)) (second_slot_of (second_of i)) i }
-    ensures first { (a : List ℕ) (b : Option (List ℕ)) (i : Insn) → Spelled a b i → slot_of (fields_of i) ≡ a }
-    ensures second { (a : List ℕ) (b : Option (List ℕ)) (i : Insn) → Spelled a b i → IsSome (second_of i) → second_slot_of (second_of i) ≡ b }
-    ensures one { (a : List ℕ) (b : Option (List ℕ)) (i j : Insn) → Spelled a b i → Spelled a b j → i ≡ j }
+    ensures again { (i : Insn) → IsInsn i →
+        Spelled (slot_of (fields_of i)) (second_slot_of (second_of i)) i }
+    ensures first { (a : List ℕ) (b : Option (List ℕ)) (i : Insn) → Spelled a b i →
+        slot_of (fields_of i) ≡ a }
+    ensures second { (a : List ℕ) (b : Option (List ℕ)) (i : Insn) → Spelled a b i →
+        IsSome (second_of i) → second_slot_of (second_of i) ≡ b }
+    ensures one { (a : List ℕ) (b : Option (List ℕ)) (i j : Insn) →
+        Spelled a b i → Spelled a b j → i ≡ j }
 {}

@@ -285,7 +285,8 @@ fn first_fault(kind: Kind, fields: Fields, half: Option<Fields>) -> Option<Field
     requires { FitsSlot fields }
     ensures fields { IfNone result (Fine (uses_of kind) fields) }
     ensures second { IfNone result (IsFineHalf kind fields half) }
-    ensures some { IfSome result (λ e. IsLeast (λ g. InFields (uses_of kind) fields g ⊎ InSecond kind fields half g) e) }
+    ensures some { IfSome result
+        (λ e. IsLeast (λ g. InFields (uses_of kind) fields g ⊎ InSecond kind fields half g) e) }
 {
     let uses = uses_in(kind);
     let dst = uses.dst.breach(i32::from(fields.dst));
@@ -335,7 +336,8 @@ impl Insn {
     pub fn from_slots(first: [u8; 8], second: Option<[u8; 8]>) -> Result<Insn, FieldFault>
         ensures ok { (i : Insn) → (result ≡ Ok i) ↔ Spelled first second i }
         ensures err { IfErr result (λ e. IsLeast (HasFault (fields_at first) (half_at second)) e) }
-        ensures faultless { IfOk result (λ _. (e : FieldFault) → HasFault (fields_at first) (half_at second) e → ⊥) }
+        ensures faultless { IfOk result
+            (λ _. (e : FieldFault) → HasFault (fields_at first) (half_at second) e → ⊥) }
     {
         let fields = fields_in(&first);
         let half = half_of(second);

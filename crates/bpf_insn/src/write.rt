@@ -119,7 +119,8 @@ fn width_imm(width: OrderWidth) -> i32
 }
 
 fn fields(opcode: u8, dst: u8, src: u8, offset: i16, imm: i32) -> Fields
-    ensures { result ≡ record { opcode = opcode; dst = dst; src = src; offset = offset; imm = imm } }
+    ensures { result
+        ≡ record { opcode = opcode; dst = dst; src = src; offset = offset; imm = imm } }
 {
     Fields {
         opcode,

@@ -18,10 +18,13 @@ abbrev pub bounds_full : Bounds
 bounds_full = record { low = 0; high = 2 ^ 64 - 1 }
 
 abbrev pub bounds_add : Bounds → Bounds → Bounds
-bounds_add a b = (if nat_lt (a.high + b.high) (2 ^ 64) then bounds (a.low + b.low) (a.high + b.high) else bounds_full)
+bounds_add a b =
+    (if nat_lt (a.high + b.high) (2 ^ 64)
+    then bounds (a.low + b.low) (a.high + b.high) else bounds_full)
 
 abbrev pub bounds_sub : Bounds → Bounds → Bounds
-bounds_sub a b = (if nat_le b.high a.low then bounds (a.low - b.high) (a.high - b.low) else bounds_full)
+bounds_sub a b =
+    (if nat_le b.high a.low then bounds (a.low - b.high) (a.high - b.low) else bounds_full)
 
 abbrev pub bounds_and : Bounds → Bounds → Bounds
 bounds_and a b = bounds 0 (min a.high b.high)
@@ -30,11 +33,14 @@ abbrev pub bounds_or : Bounds → Bounds → Bounds
 bounds_or a b = bounds (max a.low b.low) (2 ^ 64 - 1)
 
 abbrev pub bounds_mul : Bounds → Bounds → Bounds
-bounds_mul a b = (if nat_lt (a.high * b.high) (2 ^ 64) then bounds (a.low * b.low) (a.high * b.high) else bounds_full)
+bounds_mul a b =
+    (if nat_lt (a.high * b.high) (2 ^ 64)
+    then bounds (a.low * b.low) (a.high * b.high) else bounds_full)
 
 -- a quotient by 0 is 0
 abbrev pub bounds_div : Bounds → Bounds → Bounds
-bounds_div a b = (if nat_le 1 b.low then bounds (a.low / b.high) (a.high / b.low) else bounds 0 a.high)
+bounds_div a b =
+    (if nat_le 1 b.low then bounds (a.low / b.high) (a.high / b.low) else bounds 0 a.high)
 
 -- a remainder by 0 is what was divided
 abbrev pub bounds_rem : Bounds → Bounds → Bounds
@@ -42,7 +48,9 @@ bounds_rem a b = (if nat_le 1 b.low then bounds 0 (min a.high (b.high - 1)) else
 
 -- shifts by one count
 abbrev pub bounds_shl : Bounds → ℕ → Bounds
-bounds_shl a c = (if nat_le a.high ((2 ^ 64 - 1) / 2 ^ c) then bounds (a.low * 2 ^ c) (a.high * 2 ^ c) else bounds_full)
+bounds_shl a c =
+    (if nat_le a.high ((2 ^ 64 - 1) / 2 ^ c)
+    then bounds (a.low * 2 ^ c) (a.high * 2 ^ c) else bounds_full)
 
 abbrev pub bounds_shr : Bounds → ℕ → Bounds
 bounds_shr a c = bounds (a.low / 2 ^ c) (a.high / 2 ^ c)
@@ -68,17 +76,21 @@ bounds_meet a b = ordered (max a.low b.low) (min a.high b.high)
 -- the first is greater
 abbrev pub after_greater : Bounds → Bounds → Option (Bounds × Bounds)
 after_greater a b =
-    (if nat_lt b.low a.high then Some (bounds (max a.low (b.low + 1)) a.high, bounds b.low (min b.high (a.high - 1))) else None)
+    (if nat_lt b.low a.high
+    then Some (bounds (max a.low (b.low + 1)) a.high, bounds b.low (min b.high (a.high - 1)))
+    else None)
 
 -- the first is at most the second
 abbrev pub after_at_most : Bounds → Bounds → Option (Bounds × Bounds)
 after_at_most a b =
-    (if nat_le a.low b.high then Some (bounds a.low (min a.high b.high), bounds (max b.low a.low) b.high) else None)
+    (if nat_le a.low b.high
+    then Some (bounds a.low (min a.high b.high), bounds (max b.low a.low) b.high) else None)
 
 -- the word isn't c: an end that equals c moves by one
 abbrev pub without_end : Bounds → ℕ → Option Bounds
 without_end a c =
-    (if nat_eq a.low c then ordered (a.low + 1) a.high else (if nat_eq a.high c then Some (bounds a.low (a.high - 1)) else Some a))
+    (if nat_eq a.low c then ordered (a.low + 1) a.high
+    else (if nat_eq a.high c then Some (bounds a.low (a.high - 1)) else Some a))
 
 -- each word of a is one of b
 abbrev pub bounds_included : Bounds → Bounds → Bool

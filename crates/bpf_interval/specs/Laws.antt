@@ -7,10 +7,14 @@ use Rattle.bpf_interval.specs.Signed.{InSigned, place, narrowed, signed_bounds, 
 
 -- f contains each result of g on words
 abbrev pub ContainsResults : (Bounds → Bounds → Bounds) → (ℕ → ℕ → ℕ) → Type 0
-ContainsResults f g = (a b : Bounds) (x y : ℕ) → x < 2 ^ 64 → y < 2 ^ 64 → InBounds a x → InBounds b y → InBounds (f a b) (g x y)
+ContainsResults f g =
+    (a b : Bounds) (x y : ℕ) → x < 2 ^ 64 → y < 2 ^ 64 → InBounds a x →
+    InBounds b y → InBounds (f a b) (g x y)
 
 abbrev pub ContainsSigned : (Bounds → Bounds → Bounds) → (ℕ → ℕ → ℕ) → Type 0
-ContainsSigned f g = (a b : Bounds) (x y : ℕ) → x < 2 ^ 64 → y < 2 ^ 64 → InSigned a x → InSigned b y → InSigned (f a b) (g x y)
+ContainsSigned f g =
+    (a b : Bounds) (x y : ℕ) → x < 2 ^ 64 → y < 2 ^ 64 → InSigned a x →
+    InSigned b y → InSigned (f a b) (g x y)
 
 abbrev pub CutContains : Type 0
 CutContains = (a : Bounds) (x : ℕ) → InBounds a x → InBounds (bounds_cut a) (x % 2 ^ 32)
@@ -19,23 +23,33 @@ abbrev pub WidthContains : Type 0
 WidthContains = (n x : ℕ) → n ≤ 64 → x < 2 ^ n → InBounds (bounds_of_bits n) x
 
 abbrev pub MeetKeeps : Type 0
-MeetKeeps = (a b : Bounds) (x : ℕ) → InBounds a x → InBounds b x → (r : Bounds) × (bounds_meet a b ≡ Some r) × InBounds r x
+MeetKeeps =
+    (a b : Bounds) (x : ℕ) → InBounds a x → InBounds b x →
+    (r : Bounds) × (bounds_meet a b ≡ Some r) × InBounds r x
 
 -- a refinement by a relation keeps the pairs in that relation
 abbrev pub KeepsPairs : (Bounds → Bounds → Option (Bounds × Bounds)) → (ℕ → ℕ → Type 0) → Type 0
-KeepsPairs f R = (a b : Bounds) (x y : ℕ) → InBounds a x → InBounds b y → R x y → (r : Bounds × Bounds) × (f a b ≡ Some r) × InBounds r.0 x × InBounds r.1 y
+KeepsPairs f R =
+    (a b : Bounds) (x y : ℕ) → InBounds a x → InBounds b y → R x y →
+    (r : Bounds × Bounds) × (f a b ≡ Some r) × InBounds r.0 x × InBounds r.1 y
 
 abbrev pub WithoutKeeps : Type 0
-WithoutKeeps = (a : Bounds) (c x : ℕ) → InBounds a x → (x ≡ c → ⊥) → (r : Bounds) × (without_end a c ≡ Some r) × InBounds r x
+WithoutKeeps =
+    (a : Bounds) (c x : ℕ) → InBounds a x → (x ≡ c → ⊥) →
+    (r : Bounds) × (without_end a c ≡ Some r) × InBounds r x
 
 abbrev pub IncludedKeeps : Type 0
-IncludedKeeps = (a b : Bounds) (x : ℕ) → b.high < 2 ^ 64 → bounds_included a b ≡ true → InBounds a x → InBounds b x
+IncludedKeeps =
+    (a b : Bounds) (x : ℕ) → b.high < 2 ^ 64 → bounds_included a b ≡ true →
+    InBounds a x → InBounds b x
 
 -- ---- signed
 
 -- places are in the order of the signed numbers
 abbrev pub PlacesOrder : Type 0
-PlacesOrder = (x y : ℕ) → x < 2 ^ 64 → y < 2 ^ 64 → (cast_signed w64 x <ℤ cast_signed w64 y) ↔ (place x < place y)
+PlacesOrder =
+    (x y : ℕ) → x < 2 ^ 64 → y < 2 ^ 64 →
+    (cast_signed w64 x <ℤ cast_signed w64 y) ↔ (place x < place y)
 
 -- the words of a signed interval are those that read as numbers between its ends
 abbrev pub SignedReads : Type 0
@@ -48,23 +62,35 @@ PlaceTwice = (x : ℕ) → x < 2 ^ 64 → place (place x) ≡ x
 
 -- what an unsigned interval tells of a signed one, and the other way round
 abbrev pub SignedNarrowKeeps : Type 0
-SignedNarrowKeeps = (a b : Bounds) (x : ℕ) → InBounds a x → InSigned b x → (r : Bounds) × (narrowed a b ≡ Some r) × InSigned r x
+SignedNarrowKeeps =
+    (a b : Bounds) (x : ℕ) → InBounds a x → InSigned b x →
+    (r : Bounds) × (narrowed a b ≡ Some r) × InSigned r x
 
 abbrev pub UnsignedNarrowKeeps : Type 0
-UnsignedNarrowKeeps = (a b : Bounds) (x : ℕ) → x < 2 ^ 64 → InSigned a x → InBounds b x → (r : Bounds) × (narrowed a b ≡ Some r) × InBounds r x
+UnsignedNarrowKeeps =
+    (a b : Bounds) (x : ℕ) → x < 2 ^ 64 → InSigned a x → InBounds b x →
+    (r : Bounds) × (narrowed a b ≡ Some r) × InBounds r x
 
 abbrev pub SarContains : Type 0
-SarContains = (a : Bounds) (c x : ℕ) → x < 2 ^ 64 → InSigned a x → InSigned (signed_sar a c) (shifted_right_signed 64 x c)
+SarContains =
+    (a : Bounds) (c x : ℕ) → x < 2 ^ 64 → InSigned a x →
+    InSigned (signed_sar a c) (shifted_right_signed 64 x c)
 
 abbrev pub DivContains : Type 0
-DivContains = (a : Bounds) (c x : ℕ) → 1 ≤ c → c < 2 ^ 63 → x < 2 ^ 64 → InSigned a x → InSigned (signed_div a c) (signed_quotient 64 x c)
+DivContains =
+    (a : Bounds) (c x : ℕ) → 1 ≤ c → c < 2 ^ 63 → x < 2 ^ 64 → InSigned a x →
+    InSigned (signed_div a c) (signed_quotient 64 x c)
 
 abbrev pub RemContains : Type 0
-RemContains = (a : Bounds) (c x : ℕ) → 1 ≤ c → c < 2 ^ 63 → x < 2 ^ 64 → InSigned a x → InSigned (signed_rem a c) (signed_remainder 64 x c)
+RemContains =
+    (a : Bounds) (c x : ℕ) → 1 ≤ c → c < 2 ^ 63 → x < 2 ^ 64 → InSigned a x →
+    InSigned (signed_rem a c) (signed_remainder 64 x c)
 
 -- a word of n bits with its sign is one of the signed numbers of n bits, and each of those is its own low n bits with sign
 abbrev pub ExtensionContains : Type 0
 ExtensionContains = (n x : ℕ) → 1 ≤ n → n ≤ 64 → InSigned (signed_of_bits n) (sign_extended 64 n x)
 
 abbrev pub ExtensionKeeps : Type 0
-ExtensionKeeps = (n x : ℕ) → 1 ≤ n → n ≤ 64 → x < 2 ^ 64 → InSigned (signed_of_bits n) x → sign_extended 64 n x ≡ x
+ExtensionKeeps =
+    (n x : ℕ) → 1 ≤ n → n ≤ 64 → x < 2 ^ 64 →
+    InSigned (signed_of_bits n) x → sign_extended 64 n x ≡ x

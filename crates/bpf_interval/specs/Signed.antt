@@ -23,7 +23,9 @@ signed_bounds l h = bounds (place (word_of l)) (place (word_of h))
 
 -- Where a has one sign, it is read the other way (as signed if a is unsigned, as unsigned if a is signed) and met with b.
 abbrev pub narrowed : Bounds → Bounds → Option Bounds
-narrowed a b = (if nat_lt a.high (2 ^ 63) || nat_le (2 ^ 63) a.low then bounds_meet b (bounds (place a.low) (place a.high)) else Some b)
+narrowed a b =
+    (if nat_lt a.high (2 ^ 63) || nat_le (2 ^ 63) a.low
+    then bounds_meet b (bounds (place a.low) (place a.high)) else Some b)
 
 abbrev pub in_range : ℕ → Option ℕ
 in_range n = (if nat_lt n (2 ^ 64) then Some n else None)
@@ -61,7 +63,8 @@ signed_div a c = at_ends (λ x. signed_quotient 64 x c) a
 -- from -(c - 1) to c - 1, on one side of 0 where the interval is
 unfoldable pub signed_rem : Bounds → ℕ → Bounds
 signed_rem a c =
-    bounds (if nat_le (2 ^ 63) a.low then 2 ^ 63 else 2 ^ 63 - (c - 1)) (if nat_le a.high (2 ^ 63) then 2 ^ 63 else 2 ^ 63 + (c - 1))
+    bounds (if nat_le (2 ^ 63) a.low then 2 ^ 63 else 2 ^ 63 - (c - 1))
+    (if nat_le a.high (2 ^ 63) then 2 ^ 63 else 2 ^ 63 + (c - 1))
 
 -- the signed numbers of n bits: from -2 ^ (n - 1) to 2 ^ (n - 1) - 1
 unfoldable pub signed_of_bits : ℕ → Bounds

@@ -16,7 +16,8 @@ pub fn arithmetic_law()
     ensures mul { ContainsResults bounds_mul (λ x y. (x * y) % 2 ^ 64) }
     ensures div { ContainsResults bounds_div quotient }
     ensures rem { ContainsResults bounds_rem remainder }
-    ensures shl { (a : Bounds) (c x : ℕ) → InBounds a x → InBounds (bounds_shl a c) ((x * 2 ^ c) % 2 ^ 64) }
+    ensures shl { (a : Bounds) (c x : ℕ) → InBounds a x →
+        InBounds (bounds_shl a c) ((x * 2 ^ c) % 2 ^ 64) }
     ensures shr { (a : Bounds) (c x : ℕ) → InBounds a x → InBounds (bounds_shr a c) (x / 2 ^ c) }
     ensures cut { CutContains }
     ensures width { WidthContains }

@@ -43,19 +43,23 @@ load_said l a b = on (both (register a) (memory b)) (λ x. Ok (insn.Load l.0 l.1
 
 -- `stb [r1-8], 5`
 abbrev pub store_said : Size → List ℕ → List ℕ → Said
-store_said size a b = on (both (memory a) (imm b)) (λ x. Ok (insn.Store size x.0.0 x.0.1 (source.Imm x.1)))
+store_said size a b =
+    on (both (memory a) (imm b)) (λ x. Ok (insn.Store size x.0.0 x.0.1 (source.Imm x.1)))
 
 -- `stxb [r1-8], r2`
 abbrev pub store_register_said : Size → List ℕ → List ℕ → Said
-store_register_said size a b = on (both (memory a) (register b)) (λ x. Ok (insn.Store size x.0.0 x.0.1 (source.Reg x.1)))
+store_register_said size a b =
+    on (both (memory a) (register b)) (λ x. Ok (insn.Store size x.0.0 x.0.1 (source.Reg x.1)))
 
 -- `atomic_add [r1+0], r2`
 abbrev pub atomic_said : AtomicOp → Bool → List ℕ → List ℕ → Said
-atomic_said op wide a b = on (both (memory a) (register b)) (λ x. Ok (insn.Atomic op wide x.0.0 x.1 x.0.1))
+atomic_said op wide a b =
+    on (both (memory a) (register b)) (λ x. Ok (insn.Atomic op wide x.0.0 x.1 x.0.1))
 
 -- `lddw r0, 7`
 abbrev pub wide_said : List ℕ → List ℕ → Said
-wide_said a b = on (both (register a) (wide_number b)) (λ x. Ok (insn.LoadWide x.0 (wide.Number x.1)))
+wide_said a b =
+    on (both (register a) (wide_number b)) (λ x. Ok (insn.LoadWide x.0 (wide.Number x.1)))
 
 -- operations with the suffix 32 or without
 abbrev pub suffixed : Option AluOp → Option AtomicOp → Bool → List ℕ → List ℕ → Said
@@ -66,9 +70,11 @@ suffixed None None wide a b = Err Grammar
 abbrev pub stored : Option Size → Option Size → List ℕ → List ℕ → List ℕ → Said
 stored (Some size) register name a b = store_said size a b
 stored None (Some size) name a b = store_register_said size a b
-stored None None name a b = suffixed (alu_named (base_of name)) (atomic_named (base_of name)) (not (is_narrow name)) a b
+stored None None name a b =
+    suffixed (alu_named (base_of name)) (atomic_named (base_of name)) (not (is_narrow name)) a b
 
-abbrev pub loaded : Option (Extension × Bool) → Option (Size × Bool) → List ℕ → List ℕ → List ℕ → Said
+abbrev pub loaded :
+    Option (Extension × Bool) → Option (Size × Bool) → List ℕ → List ℕ → List ℕ → Said
 loaded (Some e) load name a b = extension_said e a b
 loaded None (Some l) name a b = load_said l a b
 loaded None None name a b = stored (store_named name) (store_register_named name) name a b
@@ -76,13 +82,15 @@ loaded None None name a b = stored (store_named name) (store_register_named name
 -- a name and two operands
 abbrev pub two_said : List ℕ → List ℕ → List ℕ → Said
 two_said name a b =
-    (if bytes_eq name (codes "lddw") then wide_said a b else loaded (extension_named name) (load_named name) name a b)
+    (if bytes_eq name (codes "lddw") then wide_said a b
+    else loaded (extension_named name) (load_named name) name a b)
 
 -- `jeq r0, r1, +2`, `jeq32 r0, 5, -1`
 abbrev pub branch_said : Option Compare → Bool → List ℕ → List ℕ → List ℕ → Said
 branch_said None wide a b c = Err Grammar
 branch_said (Some compare) wide a b c =
-    on (both (both (register a) (source_of b)) (offset c)) (λ x. Ok (insn.Branch compare wide x.0.0 x.0.1 x.1))
+    on (both (both (register a) (source_of b)) (offset c))
+    (λ x. Ok (insn.Branch compare wide x.0.0 x.0.1 x.1))
 
 -- `le16 r0`, `neg r0`
 abbrev pub order_said : Option (ByteOrder × OrderWidth) → List ℕ → Said
@@ -95,11 +103,12 @@ neg_said wide a = on (register a) (λ r. Ok (insn.Neg wide r))
 -- a name and one operand: `ja +2`, `ja32 +2`, `call 1`
 abbrev pub one_said : List ℕ → List ℕ → Said
 one_said name a =
-    (if bytes_eq name (codes "ja") then on (offset a) (λ x. Ok (insn.Jump x)) else
-    (if bytes_eq name (codes "ja32") then on (long_offset a) (λ x. Ok (insn.JumpLong x)) else
-    (if bytes_eq name (codes "call") then on (imm a) (λ x. Ok (insn.Call x)) else
-    (if bytes_eq name (codes "neg") then neg_said true a else
-    (if bytes_eq name (codes "neg32") then neg_said false a else order_said (order_named name) a)))))
+    (if bytes_eq name (codes "ja") then on (offset a) (λ x. Ok (insn.Jump x))
+    else (if bytes_eq name (codes "ja32") then on (long_offset a) (λ x. Ok (insn.JumpLong x))
+    else (if bytes_eq name (codes "call") then on (imm a) (λ x. Ok (insn.Call x))
+    else (if bytes_eq name (codes "neg") then neg_said true a
+    else (if bytes_eq name (codes "neg32") then neg_said false a
+    else order_said (order_named name) a)))))
 
 -- `call local +2`
 abbrev pub local_said : List ℕ → Said
@@ -107,31 +116,37 @@ local_said a = on (long_offset a) (λ x. Ok (insn.CallLocal x))
 
 -- `lddw r1, map 0`
 abbrev pub map_said : List ℕ → List ℕ → Said
-map_said a m = on (both (register a) (imm m)) (λ x. Ok (insn.LoadWide x.0 (wide.Map (cast_unsigned w32 x.1))))
+map_said a m =
+    on (both (register a) (imm m)) (λ x. Ok (insn.LoadWide x.0 (wide.Map (cast_unsigned w32 x.1))))
 
 -- `lddw r1, value 0 8`
 abbrev pub value_said : List ℕ → List ℕ → List ℕ → Said
 value_said a m o =
     on (both (both (register a) (imm m)) (imm o))
-    (λ x. Ok (insn.LoadWide x.0.0 (wide.MapValue (cast_unsigned w32 x.0.1) (cast_unsigned w32 x.1))))
+    (λ x. Ok
+    (insn.LoadWide x.0.0 (wide.MapValue (cast_unsigned w32 x.0.1) (cast_unsigned w32 x.1))))
 
 abbrev pub is_comma : List ℕ → Bool
 is_comma t = bytes_eq t (codes ",")
 
 abbrev pub is_load_of : List ℕ → List ℕ → List ℕ → List ℕ → Bool
-is_load_of name kind comma what = bytes_eq name (codes "lddw") && (is_comma comma && bytes_eq what kind)
+is_load_of name kind comma what =
+    bytes_eq name (codes "lddw") && (is_comma comma && bytes_eq what kind)
 
 -- a line that has some words
 abbrev pub said : List (List ℕ) → Said
 said [] = Err Grammar
 said (a ∷ []) = (if bytes_eq a (codes "exit") then Ok insn.Exit else Err Grammar)
 said (a ∷ b ∷ []) = one_said a b
-said (a ∷ b ∷ c ∷ []) = (if bytes_eq a (codes "call") && bytes_eq b (codes "local") then local_said c else Err Grammar)
+said (a ∷ b ∷ c ∷ []) =
+    (if bytes_eq a (codes "call") && bytes_eq b (codes "local") then local_said c else Err Grammar)
 said (a ∷ b ∷ c ∷ d ∷ []) = (if is_comma c then two_said a b d else Err Grammar)
-said (a ∷ b ∷ c ∷ d ∷ e ∷ []) = (if is_load_of a (codes "map") c d then map_said b e else Err Grammar)
+said (a ∷ b ∷ c ∷ d ∷ e ∷ []) =
+    (if is_load_of a (codes "map") c d then map_said b e else Err Grammar)
 said (a ∷ b ∷ c ∷ d ∷ e ∷ f ∷ []) =
     (if is_load_of a (codes "value") c d then value_said b e f else
-    (if is_comma c && is_comma e then branch_said (compare_named (base_of a)) (not (is_narrow a)) b d f else Err Grammar))
+    (if is_comma c && is_comma e
+    then branch_said (compare_named (base_of a)) (not (is_narrow a)) b d f else Err Grammar))
 said (a ∷ b ∷ c ∷ d ∷ e ∷ f ∷ g ∷ more) = Err Grammar
 
 abbrev as_some : Said → Result (Option Insn) LineFault

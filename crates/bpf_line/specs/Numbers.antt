@@ -44,7 +44,8 @@ starts c (d ∷ ds) = nat_eq d c
 
 -- an imm: from -2147483648 to 4294967295, kept mod 2^32
 abbrev pub imm : List ℕ → Result ℤ LineFault
-imm t = (if starts 45 t then on (numeral 10 (drop 1 t)) (below_zero (2 ^ 31)) else on (unsigned t) word)
+imm t =
+    (if starts 45 t then on (numeral 10 (drop 1 t)) (below_zero (2 ^ 31)) else on (unsigned t) word)
 
 -- a target or an offset begins with its sign
 abbrev pub signed : (ℕ → Result ℤ LineFault) → ℕ → List ℕ → Result ℤ LineFault

@@ -7,7 +7,8 @@ use Rattle.bpf_insn.specs.declared.insn.Source.TheVariants as source
 use Rattle.bpf_line.specs.Numbers.{starts, imm, offset}
 
 -- two parts of a line; a part that is not in the grammar counts before a number out of range
-abbrev pub both : {A B : Type 0} → Result A LineFault → Result B LineFault → Result (A × B) LineFault
+abbrev pub both :
+    {A B : Type 0} → Result A LineFault → Result B LineFault → Result (A × B) LineFault
 both (Ok a) (Ok b) = Ok (a, b)
 both (Ok a) (Err fault) = Err fault
 both (Err Grammar) b = Err Grammar
@@ -17,10 +18,18 @@ both (Err Range) (Err fault) = Err fault
 -- r0 to r10
 abbrev pub register : List ℕ → Result ℕ LineFault
 register t =
-    (if bytes_eq t (codes "r0") then Ok 0 else (if bytes_eq t (codes "r1") then Ok 1 else (if bytes_eq t (codes "r2") then Ok 2 else
-    (if bytes_eq t (codes "r3") then Ok 3 else (if bytes_eq t (codes "r4") then Ok 4 else (if bytes_eq t (codes "r5") then Ok 5 else
-    (if bytes_eq t (codes "r6") then Ok 6 else (if bytes_eq t (codes "r7") then Ok 7 else (if bytes_eq t (codes "r8") then Ok 8 else
-    (if bytes_eq t (codes "r9") then Ok 9 else (if bytes_eq t (codes "r10") then Ok 10 else Err Grammar)))))))))))
+    (if bytes_eq t (codes "r0") then Ok 0
+    else (if bytes_eq t (codes "r1") then Ok 1
+    else (if bytes_eq t (codes "r2") then Ok 2
+    else (if bytes_eq t (codes "r3") then Ok 3
+    else (if bytes_eq t (codes "r4") then Ok 4
+    else (if bytes_eq t (codes "r5") then Ok 5
+    else (if bytes_eq t (codes "r6") then Ok 6
+    else (if bytes_eq t (codes "r7") then Ok 7
+    else (if bytes_eq t (codes "r8") then Ok 8
+    else (if bytes_eq t (codes "r9") then Ok 9
+    else (if bytes_eq t (codes "r10") then Ok 10
+    else Err Grammar)))))))))))
 
 abbrev as_register : Result ℕ LineFault → Result Source LineFault
 as_register (Ok r) = Ok (source.Reg r)
@@ -43,6 +52,7 @@ place t =
 -- memory: `[r1+24]`
 abbrev pub memory : List ℕ → Result (ℕ × ℤ) LineFault
 memory t =
-    (if nat_le 2 (length t) && (nat_eq (slice_index t 0) 91 && nat_eq (slice_index t (length t - 1)) 93)
+    (if nat_le 2 (length t)
+    && (nat_eq (slice_index t 0) 91 && nat_eq (slice_index t (length t - 1)) 93)
     then place (take (length t - 1 - 1) (drop 1 t))
     else Err Grammar)

@@ -7,4 +7,5 @@ use Rattle.bpf_line.specs.declared.words.Piece.TheVariants.{End, Space, Word}
 abbrev pub Begins : List ℕ → Piece → Type 0
 Begins text End = words text ≡ []
 Begins text (Space rest) = (words text ≡ words rest.now) × (length rest.now < length text)
-Begins text (Word word rest) = (words text ≡ word.now ∷ words rest.now) × (length rest.now < length text)
+Begins text (Word word rest) =
+    (words text ≡ word.now ∷ words rest.now) × (length rest.now < length text)

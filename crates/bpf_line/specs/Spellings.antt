@@ -133,17 +133,24 @@ wide_text (wide.MapValue m o) = codes "value " ++ (decimal m ++ (codes " " ++ de
 -- the text of an instruction, in decimal, an imm signed, one space after a comma
 abbrev pub text_of : Insn → List ℕ
 text_of (insn.Alu op w d s) = two_text (alu_name op ++ suffix w) (register_text d) (source_text s)
-text_of (insn.MovSx from w d s) = two_text (extension_name from w) (register_text d) (register_text s)
+text_of (insn.MovSx from w d s) =
+    two_text (extension_name from w) (register_text d) (register_text s)
 text_of (insn.Neg w d) = one_text (codes "neg" ++ suffix w) (register_text d)
 text_of (insn.End order width d) = one_text (order_name order width) (register_text d)
 text_of (insn.Jump x) = one_text (codes "ja") (offset_text x)
 text_of (insn.JumpLong x) = one_text (codes "ja32") (offset_text x)
-text_of (insn.Branch c w d s x) = two_text (compare_name c ++ suffix w) (register_text d) (source_text s ++ (codes ", " ++ offset_text x))
+text_of (insn.Branch c w d s x) =
+    two_text (compare_name c ++ suffix w) (register_text d)
+    (source_text s ++ (codes ", " ++ offset_text x))
 text_of (insn.Call helper) = one_text (codes "call") (signed_decimal helper)
 text_of (insn.CallLocal x) = one_text (codes "call local") (offset_text x)
 text_of insn.Exit = codes "exit"
-text_of (insn.Load z signed d s x) = two_text (load_name z signed) (register_text d) (memory_text s x)
-text_of (insn.Store z d x (source.Imm n)) = two_text (codes "st" ++ size_name z) (memory_text d x) (signed_decimal n)
-text_of (insn.Store z d x (source.Reg r)) = two_text (codes "stx" ++ size_name z) (memory_text d x) (register_text r)
-text_of (insn.Atomic op w d s x) = two_text (atomic_name op ++ suffix w) (memory_text d x) (register_text s)
+text_of (insn.Load z signed d s x) =
+    two_text (load_name z signed) (register_text d) (memory_text s x)
+text_of (insn.Store z d x (source.Imm n)) =
+    two_text (codes "st" ++ size_name z) (memory_text d x) (signed_decimal n)
+text_of (insn.Store z d x (source.Reg r)) =
+    two_text (codes "stx" ++ size_name z) (memory_text d x) (register_text r)
+text_of (insn.Atomic op w d s x) =
+    two_text (atomic_name op ++ suffix w) (memory_text d x) (register_text s)
 text_of (insn.LoadWide d v) = two_text (codes "lddw") (register_text d) (wide_text v)

@@ -26,4 +26,6 @@ words (c ∷ cs) =
 
 -- how far the first word of a text goes, or the space before it
 abbrev pub piece_len : List ℕ → ℕ
-piece_len t = (if nat_eq (slice_index t 0) 32 || nat_eq (slice_index t 0) 44 then 1 else position_or_len ends_word t)
+piece_len t =
+    (if nat_eq (slice_index t 0) 32 || nat_eq (slice_index t 0) 44 then 1
+    else position_or_len ends_word t)

@@ -9,5 +9,6 @@ ghost use Rattle.bpf_line.specs.Spellings.{text_of};
 /// The text of an instruction is read as that instruction, and is one line.
 pub fn text_law()
     ensures again { (insn : Insn) → IsInsn insn → line_said (text_of insn) ≡ Ok (Some insn) }
-    ensures one_line { (insn : Insn) (k : ℕ) → IsInsn insn → k < length (text_of insn) → slice_index (text_of insn) k ≢ 10 }
+    ensures one_line { (insn : Insn) (k : ℕ) → IsInsn insn → k < length (text_of insn) →
+        slice_index (text_of insn) k ≢ 10 }
 {}

@@ -182,7 +182,8 @@ fn branch_of(compare: Compare, wide: bool, dst: &str, second: &str, target: &str
 }
 
 fn branch(name: &str, dst: &str, second: &str, target: &str) -> Said
-    ensures is { result ≡ branch_said (compare_named (base_of name.now)) (not (is_narrow name.now)) dst.now second.now target.now }
+    ensures is { result ≡ branch_said (compare_named (base_of name.now))
+        (not (is_narrow name.now)) dst.now second.now target.now }
     ensures valid { IfOk result IsInsn }
 {
     let (base, wide) = base_of(name);
@@ -305,7 +306,8 @@ fn of_five(name: &str, dst: &str, comma: &str, what: &str, operand: &str) -> Sai
 }
 
 fn of_six(name: &str, first: &str, comma: &str, second: &str, third: &str, fourth: &str) -> Said
-    ensures is { result ≡ said (name.now ∷ first.now ∷ comma.now ∷ second.now ∷ third.now ∷ fourth.now ∷ []) }
+    ensures is { result
+        ≡ said (name.now ∷ first.now ∷ comma.now ∷ second.now ∷ third.now ∷ fourth.now ∷ []) }
     ensures valid { IfOk result IsInsn }
 {
     if name == "lddw" && comma == "," && second == "value" {

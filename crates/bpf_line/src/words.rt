@@ -52,7 +52,8 @@ pub(crate) fn first_piece(text: &str) -> Piece<'_>
 
 /// Puts the words of a line in order, and tells how many there are; None for more than six.
 pub(crate) fn cut_words<'a>(line: &'a str, cut: &mut [&'a str; 6]) -> Option<usize>
-    ensures few { IfSome result (λ count. (count ≤ 6) × (words line.now ≡ map (λ w. w.now) (take count cut.new))) }
+    ensures few { IfSome result
+        (λ count. (count ≤ 6) × (words line.now ≡ map (λ w. w.now) (take count cut.new))) }
     ensures six { length cut.new ≡ 6 }
     ensures many { IfNone result (7 ≤ length (words line.now)) }
 {

@@ -7,5 +7,6 @@ ghost use Rattle.bpf_model.specs.Run.{Safe, IsSafeWithin};
 
 /// Code whose entry states are all safe within a budget, state by state, is `Safe` within it.
 pub fn within_law()
-    ensures { (code : List (Option Insn)) (shapes : List Shape) (b : ℕ) → IsSafeWithin code shapes b → Safe code shapes b }
+    ensures { (code : List (Option Insn)) (shapes : List Shape) (b : ℕ) →
+        IsSafeWithin code shapes b → Safe code shapes b }
 {}

@@ -46,7 +46,8 @@ pub struct Caller {
 
 impl Default for Caller {
     fn default() -> Self
-        ensures is { result ≡ record { slot = 0; r6 = Unset; r7 = Unset; r8 = Unset; r9 = Unset; r10 = Unset } }
+        ensures is { result
+            ≡ record { slot = 0; r6 = Unset; r7 = Unset; r8 = Unset; r9 = Unset; r10 = Unset } }
     {
         Caller {
             slot: 0,

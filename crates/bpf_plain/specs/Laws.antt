@@ -13,7 +13,8 @@ use Rattle.bpf_plain.specs.Walks.{IsPlain, HasWalk}
 -- ways lead from instructions to instructions
 abbrev pub WaysStand : Type 0
 WaysStand =
-    (c : Code) (i : Insn) (a : View) (w : Ways) → IsWhole c → Holds c.slots a.pc i → Stands c.slots a → examined c.shapes i a ≡ Ok w →
+    (c : Code) (i : Insn) (a : View) (w : Ways) → IsWhole c → Holds c.slots a.pc i →
+    Stands c.slots a → examined c.shapes i a ≡ Ok w →
     EachWay w (Stands c.slots)
 
 -- the start stands at an instruction
@@ -23,12 +24,14 @@ EntryStands = (c : Code) → IsWhole c → Stands c.slots entry_view
 -- in a plain program each way is one step of a walk
 abbrev pub WaysFollow : Type 0
 WaysFollow =
-    (c : Code) (i : Insn) (a : View) (w : Ways) → IsWhole c → IsPlain c.slots → Holds c.slots a.pc i → IsMain a → examined c.shapes i a ≡ Ok w →
+    (c : Code) (i : Insn) (a : View) (w : Ways) → IsWhole c → IsPlain c.slots →
+    Holds c.slots a.pc i → IsMain a → examined c.shapes i a ≡ Ok w →
     EachWay w (IsNextOf c.slots a.pc)
 
 -- from each instruction of a plain program a path leads to an EXIT
 abbrev pub PlainReaches : Type 0
-PlainReaches = (c : Code) → IsWhole c → IsPlain c.slots → (k : ℕ) → Begins c.slots k → Reaches c.slots k 1
+PlainReaches =
+    (c : Code) → IsWhole c → IsPlain c.slots → (k : ℕ) → Begins c.slots k → Reaches c.slots k 1
 
 -- a path from slot 0 is a walk
 abbrev pub PathsWalk : Type 0

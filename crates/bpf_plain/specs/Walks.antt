@@ -14,13 +14,16 @@ use Rattle.bpf_decode.specs.Program.{Holds}
 -- Control goes from slot k to slot t, whatever the values are: to the next instruction, or where this one jumps (RFC 9669 section 4.3).
 pub data Follows (slots : List (Option Insn)) (k t : ℕ) : Type 0 where
   Falls : (i : Insn) → Holds slots k i → ends i ≡ false → t ≡ k + size_of i → Follows slots k t
-  Jumps : (i : Insn) (x : ℤ) → Holds slots k i → jump_of i ≡ Some x → IsJump k x t → Follows slots k t
+  Jumps : (i : Insn) (x : ℤ) → Holds slots k i → jump_of i ≡ Some x →
+      IsJump k x t → Follows slots k t
 
 -- A walk: a path from slot 0 to an EXIT, as the list of its slots. Its length counts instructions.
 pub record IsWalk (slots : List (Option Insn)) (walk : List ℕ) : Type 0 where
   pub starts : slice_get walk 0 ≡ Some 0
-  pub follows : (n from to : ℕ) → slice_get walk n ≡ Some from → slice_get walk (n + 1) ≡ Some to → Follows slots from to
-  pub exits : (n last : ℕ) → length walk ≡ n + 1 → slice_get walk n ≡ Some last → Holds slots last insn.Exit
+  pub follows : (n from to : ℕ) → slice_get walk n ≡ Some from →
+      slice_get walk (n + 1) ≡ Some to → Follows slots from to
+  pub exits :
+      (n last : ℕ) → length walk ≡ n + 1 → slice_get walk n ≡ Some last → Holds slots last insn.Exit
 
 -- some walk has at least n instructions
 pub record HasWalk (slots : List (Option Insn)) (n : ℕ) : Type 0 where
@@ -103,4 +106,5 @@ is_conditional o = false
 pub record IsPlain (slots : List (Option Insn)) : Type 0 where
   pub operations : (k : ℕ) (i : Insn) → Holds slots k i → IsPlainInsn i
   pub few : count_by is_conditional slots ≤ 8
-  pub written : (walk : List ℕ) (n r : ℕ) → IsWalk slots walk → ReadsAt slots walk n r → (m : ℕ) × (m < n) × WritesAt slots walk m r
+  pub written : (walk : List ℕ) (n r : ℕ) → IsWalk slots walk → ReadsAt slots walk n r →
+      (m : ℕ) × (m < n) × WritesAt slots walk m r

@@ -17,7 +17,8 @@ or_else None other = other
 -- the budget of the newest entry in which a state lies
 unfoldable pub newest_covering : List Entry → View → Option ℕ
 newest_covering [] a = None
-newest_covering (e ∷ es) a = or_else (newest_covering es a) (if state_included a e.state then Some e.budget else None)
+newest_covering (e ∷ es) a =
+    or_else (newest_covering es a) (if state_included a e.state then Some e.budget else None)
 
 -- one of these entries has that budget, and the state lies in its state, which is well formed
 pub record Covers (es : List Entry) (a : View) (budget : ℕ) : Type 0 where

@@ -25,7 +25,8 @@ Split = Option View × Option View
 
 -- JMP32 compares the low 32 bits of an immediate
 abbrev pub compared_value : Bool → View → Source → AbsVal
-compared_value wide a (source.Imm i) = Number (num_single (if wide then word_of i else word_of i % 2 ^ 32))
+compared_value wide a (source.Imm i) =
+    Number (num_single (if wide then word_of i else word_of i % 2 ^ 32))
 compared_value wide a (source.Reg r) = register a r
 
 -- both sides are one register
@@ -35,7 +36,8 @@ is_itself dst (source.Reg r) = r == dst
 
 -- what is left of both operands; of a register beside itself that isn't one word, all
 abbrev pub narrowed : Bool → Compare → Bool → Bool → Num → Num → Option (Num × Num)
-narrowed wide compare itself taken x y = (if itself && not (is_single x) then Some (x, y) else num_branch wide compare taken x y)
+narrowed wide compare itself taken x y =
+    (if itself && not (is_single x) then Some (x, y) else num_branch wide compare taken x y)
 
 abbrev pub with_source : View → Source → Num → View
 with_source a (source.Imm i) y = a
@@ -49,10 +51,12 @@ with_operands a dst s None = None
 with_operands a dst s (Some p) = Some (narrowed_state a dst s p.0 p.1)
 
 abbrev pub number_way : View → Bool → Compare → Bool → ℕ → Source → Num → Num → Option View
-number_way a wide compare taken dst s x y = with_operands a dst s (narrowed wide compare (is_itself dst s) taken x y)
+number_way a wide compare taken dst s x y =
+    with_operands a dst s (narrowed wide compare (is_itself dst s) taken x y)
 
 abbrev pub number_ways : View → Bool → Compare → ℕ → Source → Num → Num → Split
-number_ways a wide compare dst s x y = (number_way a wide compare false dst s x y, number_way a wide compare true dst s x y)
+number_ways a wide compare dst s x y =
+    (number_way a wide compare false dst s x y, number_way a wide compare true dst s x y)
 
 -- ---- tests for null: a pointer is never 0
 
@@ -70,7 +74,8 @@ by_null taken set null = (if taken then (null, set) else (set, null))
 abbrev pub lookup_ways : View → ℕ → ℕ → Option Bool → Result Split Fault
 lookup_ways a dst map None = Err fault.NotTested
 lookup_ways a dst map (Some taken) =
-    Ok (by_null taken (Some (with_register a dst (Pointer (place.Entry map) (num_single 0)))) (Some (with_register a dst (Number (num_single 0)))))
+    Ok (by_null taken (Some (with_register a dst (Pointer (place.Entry map) (num_single 0))))
+    (Some (with_register a dst (Number (num_single 0)))))
 
 abbrev pub pointer_ways : View → Option Bool → Result Split Fault
 pointer_ways a None = Err fault.WrongOperand
@@ -103,12 +108,14 @@ lesson compare taken = Nothing
 -- the room behind a label's place, where no offset lies before the place
 abbrev pub with_reach : View → Num → Option Label → ℕ → View
 with_reach a offset None more = a
-with_reach a offset (Some l) more = (if nat_le l.distance offset.range.low then with_room a l.label (l.distance + more) else a)
+with_reach a offset (Some l) more =
+    (if nat_le l.distance offset.range.low then with_room a l.label (l.distance + more) else a)
 
 -- the frame has at least the least offset and `more` bytes; no frame has above 2400
 abbrev pub learnt : View → Num → Option Label → ℕ → Option View
 learnt a offset l more =
-    (if nat_le (offset.range.low + more) 2400 then Some (with_reach (with_least a (offset.range.low + more)) offset l more) else None)
+    (if nat_le (offset.range.low + more) 2400
+    then Some (with_reach (with_least a (offset.range.low + more)) offset l more) else None)
 
 abbrev pub taught : View → Num → Option Label → Lesson → Option View
 taught a offset l Nothing = Some a
@@ -116,7 +123,8 @@ taught a offset l AtMost = learnt a offset l 0
 taught a offset l Below = learnt a offset l 1
 
 abbrev pub end_ways : View → Num → Option Label → Compare → Split
-end_ways a offset l compare = (taught a offset l (lesson compare false), taught a offset l (lesson compare true))
+end_ways a offset l compare =
+    (taught a offset l (lesson compare false), taught a offset l (lesson compare true))
 
 -- a frame pointer is compared with the frame end by the unsigned orders alone
 abbrev pub end_test : View → Num → Option Label → Option Compare → Result Split Fault
@@ -134,9 +142,12 @@ is_order compare = None
 
 abbrev pub wide_ways : View → Compare → ℕ → Source → AbsVal → AbsVal → Result Split Fault
 wide_ways a compare dst s (Number x) (Number y) = Ok (number_ways a true compare dst s x y)
-wide_ways a compare dst s (Lookup map) (Number y) = lookup_ways a dst map (null_test compare (is_zero s))
-wide_ways a compare dst s (Frame offset l) (Number y) = pointer_ways a (null_test compare (is_zero s))
-wide_ways a compare dst s (Pointer region offset) (Number y) = pointer_ways a (null_test compare (is_zero s))
+wide_ways a compare dst s (Lookup map) (Number y) =
+    lookup_ways a dst map (null_test compare (is_zero s))
+wide_ways a compare dst s (Frame offset l) (Number y) =
+    pointer_ways a (null_test compare (is_zero s))
+wide_ways a compare dst s (Pointer region offset) (Number y) =
+    pointer_ways a (null_test compare (is_zero s))
 wide_ways a compare dst s (Frame offset l) FrameEnd = end_test a offset l (is_order compare)
 wide_ways a compare dst s FrameEnd (Frame offset l) = end_test a offset l (turned compare)
 wide_ways a compare dst s x y = Err (wrong_two x y)

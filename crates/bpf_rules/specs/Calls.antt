@@ -30,7 +30,8 @@ answered a v = record a { pc = a.pc + 1; registers = without_arguments (slice_se
 
 -- at most 8 call frames
 abbrev pub call : View → ℕ → Result View Fault
-call a to = (if nat_lt (length a.frames) 8 then Ok (called a to (a.pc + 1)) else Err fault.TooManyFrames)
+call a to =
+    (if nat_lt (length a.frames) 8 then Ok (called a to (a.pc + 1)) else Err fault.TooManyFrames)
 
 -- EXIT wants a number in R0
 abbrev pub exit_number : AbsVal → Result Num Fault

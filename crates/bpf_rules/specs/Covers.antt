@@ -35,5 +35,6 @@ Covers p a w = (s : State) → Contains p a s → IsFine p.shapes (next p s) (In
 -- whatever comes next where this instruction stands lies in one of the ways that its examination gives
 abbrev pub InsnCovers : Insn → Type 0
 InsnCovers i =
-    (c : Code) (p : Setting) (a : View) (w : Ways) → IsWhole c → IsSetting c p → Holds c.slots a.pc i → examined c.shapes i a ≡ Ok w →
+    (c : Code) (p : Setting) (a : View) (w : Ways) → IsWhole c → IsSetting c p →
+    Holds c.slots a.pc i → examined c.shapes i a ≡ Ok w →
     Covers p a w

@@ -68,20 +68,28 @@ compared op a = Number (num_single 0)
 
 abbrev pub examined : List Shape → Insn → View → Result Ways Fault
 examined shapes (insn.Alu op wide dst s) a =
-    on (alu a.pc op wide (register a dst) (source_value a s)) (operated a op dst (register a dst) (source_value a s))
-examined shapes (insn.MovSx from wide dst src) a = put_number a dst (num_extended from wide) (register a src)
+    on (alu a.pc op wide (register a dst) (source_value a s))
+    (operated a op dst (register a dst) (source_value a s))
+examined shapes (insn.MovSx from wide dst src) a =
+    put_number a dst (num_extended from wide) (register a src)
 examined shapes (insn.Neg wide dst) a = put_number a dst (num_negated wide) (register a dst)
-examined shapes (insn.End order width dst) a = put_number a dst (num_ordered order width) (register a dst)
+examined shapes (insn.End order width dst) a =
+    put_number a dst (num_ordered order width) (register a dst)
 examined shapes (insn.Jump by) a = Ok (One (at_slot a (landing a.pc by)))
 examined shapes (insn.JumpLong by) a = Ok (One (at_slot a (landing a.pc by)))
-examined shapes (insn.Branch compare wide dst s by) a = on (split a wide compare dst s) (λ w. Ok (branched a by w))
+examined shapes (insn.Branch compare wide dst s by) a =
+    on (split a wide compare dst s) (λ w. Ok (branched a by w))
 examined shapes (insn.Call helper) a = on (helped a (word_of helper)) (λ v. Ok (One (answered a v)))
 examined shapes (insn.CallLocal by) a = on (call a (landing a.pc by)) (λ b. Ok (One b))
 examined shapes insn.Exit a = on (exit_number (register a 0)) (λ x. Ok (exited a))
 examined shapes (insn.Load size signed dst src by) a =
     on (load shapes a (size_bytes size) signed (register a src) by) (put a 1 dst)
 examined shapes (insn.Store size dst by s) a =
-    on (store shapes a (size_bytes size) (source_value a s) (register a dst) by) (λ b. Ok (One (next_pc b)))
+    on (store shapes a (size_bytes size) (source_value a s) (register a dst) by)
+    (λ b. Ok (One (next_pc b)))
 examined shapes (insn.Atomic op wide dst src by) a =
-    on (atomic shapes a (atomic_bytes wide) op src by (register a dst) (register a src) (compared op a)) (λ b. Ok (One (next_pc b)))
+    on
+    (atomic shapes a (atomic_bytes wide) op src by (register a dst) (register a src)
+    (compared op a))
+    (λ b. Ok (One (next_pc b)))
 examined shapes (insn.LoadWide dst v) a = put a 2 dst (wide_value v)

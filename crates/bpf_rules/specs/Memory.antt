@@ -43,12 +43,14 @@ room_reaches (Some size) end = nat_le end size
 -- n bytes behind a labelled pointer lie in the room that is known of its label
 abbrev pub in_room : List Room → Option Label → ℤ → ℕ → Bool
 in_room rooms None by n = false
-in_room rooms (Some l) by n = room_reaches (find_room rooms l.label) (word_add l.distance (word_of by) + n)
+in_room rooms (Some l) by n =
+    room_reaches (find_room rooms l.label) (word_add l.distance (word_of by) + n)
 
 -- in the received frame: below the least length that is known, or in the label's room
 abbrev pub frame_fault : View → Num → Option Label → ℤ → ℕ → Option Fault
 frame_fault a offset l by n =
-    (if nat_le ((offset_of offset by).range.high + n) a.least || in_room a.rooms l by n then None else Some fault.OutsideRegion)
+    (if nat_le ((offset_of offset by).range.high + n) a.least || in_room a.rooms l by n then None
+    else Some fault.OutsideRegion)
 
 abbrev pub context_fault : Num → ℕ → Option Fault
 context_fault at n = (if nat_le (at.range.high + n) 32 then None else Some fault.OutsideRegion)
@@ -64,11 +66,13 @@ entry_fault (Some shape) at n =
 -- in a stack: at one offset, in a stack frame that lives
 abbrev pub stack_fault : View → ℕ → Num → ℕ → Option Fault
 stack_fault a k at n =
-    (if is_single at && nat_lt k (length a.frames) && nat_le (at.range.low + n) 512 then None else Some fault.OutsideRegion)
+    (if is_single at && nat_lt k (length a.frames) && nat_le (at.range.low + n) 512 then None
+    else Some fault.OutsideRegion)
 
 -- the same at a multiple of n, which is tested first
 abbrev pub aligned_fault : View → ℕ → Num → ℕ → Option Fault
-aligned_fault a k at n = (if are_multiples n at then stack_fault a k at n else Some fault.Misaligned)
+aligned_fault a k at n =
+    (if are_multiples n at then stack_fault a k at n else Some fault.Misaligned)
 
 abbrev pub unless : {A : Type 0} → Option Fault → Result A Fault → Result A Fault
 unless None r = r
@@ -90,7 +94,8 @@ is_stored s = false
 -- bytes of a slot that are read: part of a stored value other than a number is 31, else an unset one 30
 abbrev pub bytes_fault : AbsSlot → ℕ → Option Fault
 bytes_fault s needed =
-    (if bit_and (bytes_set s) needed == needed then None else (if is_stored s then Some fault.WrongOperand else Some fault.Unset))
+    (if bit_and (bytes_set s) needed == needed then None
+    else (if is_stored s then Some fault.WrongOperand else Some fault.Unset))
 
 -- of two faults 30 comes first
 abbrev pub is_unset_fault : Option Fault → Bool
@@ -104,7 +109,8 @@ worse (Some e) b = (if is_unset_fault b then b else Some e)
 -- n bytes of a stack that are read
 abbrev pub read_fault : List AbsSlot → ℕ → ℕ → Option Fault
 read_fault stack at n =
-    worse (bytes_fault (slot_at stack (at / 8)) (touched at n % 256)) (bytes_fault (slot_at stack (at / 8 + 1)) (touched at n / 256))
+    worse (bytes_fault (slot_at stack (at / 8)) (touched at n % 256))
+    (bytes_fault (slot_at stack (at / 8 + 1)) (touched at n / 256))
 
 abbrev pub with_bytes : AbsSlot → ℕ → AbsSlot
 with_bytes s mask = slot.Bytes (bit_or (bytes_set s) mask)
@@ -114,7 +120,8 @@ abbrev pub bytes_stored : View → ℕ → ℕ → ℕ → View
 bytes_stored a k at n =
     let b = with_slot a k (at / 8) (with_bytes (slot_at (stack_of a k) (at / 8)) (touched at n % 256)) in
     (if touched at n / 256 == 0 then b
-    else with_slot b k (at / 8 + 1) (with_bytes (slot_at (stack_of a k) (at / 8 + 1)) (touched at n / 256)))
+    else with_slot b k (at / 8 + 1)
+    (with_bytes (slot_at (stack_of a k) (at / 8 + 1)) (touched at n / 256)))
 
 -- eight bytes at a multiple of 8
 abbrev pub is_whole : ℕ → ℕ → Bool
@@ -122,7 +129,8 @@ is_whole at n = n == 8 && at % 8 == 0
 
 -- a value is stored whole, a number's bytes are set otherwise
 abbrev pub stored : View → ℕ → ℕ → ℕ → AbsVal → View
-stored a k at n v = (if is_whole at n then with_slot a k (at / 8) (slot.Stored v) else bytes_stored a k at n)
+stored a k at n v =
+    (if is_whole at n then with_slot a k (at / 8) (slot.Stored v) else bytes_stored a k at n)
 
 abbrev pub next_pc : View → View
 next_pc a = at_slot a (a.pc + 1)
@@ -142,17 +150,23 @@ loaded_whole s r = r
 
 abbrev pub loaded_stack : List AbsSlot → ℕ → ℕ → Bool → Result AbsVal Fault
 loaded_stack stack at n signed =
-    (if is_whole at n && not signed then loaded_whole (slot_at stack (at / 8)) (loaded_bytes stack at n signed) else loaded_bytes stack at n signed)
+    (if is_whole at n && not signed
+    then loaded_whole (slot_at stack (at / 8)) (loaded_bytes stack at n signed)
+    else loaded_bytes stack at n signed)
 
 abbrev pub loaded_from : List Shape → View → AbsRegion → Num → ℕ → Bool → Result AbsVal Fault
 loaded_from shapes a place.Context at n signed = unless (context_fault at n) (Ok (loaded signed n))
-loaded_from shapes a (place.Stack k) at n signed = unless (stack_fault a k at n) (loaded_stack (stack_of a k) at.range.low n signed)
-loaded_from shapes a (place.Entry m) at n signed = unless (entry_fault (slice_get shapes m) at n) (Ok (loaded signed n))
+loaded_from shapes a (place.Stack k) at n signed =
+    unless (stack_fault a k at n) (loaded_stack (stack_of a k) at.range.low n signed)
+loaded_from shapes a (place.Entry m) at n signed =
+    unless (entry_fault (slice_get shapes m) at n) (Ok (loaded signed n))
 
 -- what a load through a pointer gives
 abbrev pub load : List Shape → View → ℕ → Bool → AbsVal → ℤ → Result AbsVal Fault
-load shapes a n signed (Frame offset l) by = unless (frame_fault a offset l by n) (Ok (loaded signed n))
-load shapes a n signed (Pointer region offset) by = loaded_from shapes a region (offset_of offset by) n signed
+load shapes a n signed (Frame offset l) by =
+    unless (frame_fault a offset l by n) (Ok (loaded signed n))
+load shapes a n signed (Pointer region offset) by =
+    loaded_from shapes a region (offset_of offset by) n signed
 load shapes a n signed v by = Err (wrong v)
 
 -- ---- stores
@@ -165,7 +179,8 @@ strays k v = false
 -- A value other than a number is stored in 8 bytes at one multiple of 8, and a pointer to a stack frame into that frame alone.
 abbrev pub spilled : View → ℕ → Num → ℕ → AbsVal → Result View Fault
 spilled a k at n v =
-    (if n == 8 then unless (aligned_fault a k at 8) (if strays k v then Err fault.StackPointerStored else Ok (stored a k at.range.low 8 v))
+    (if n == 8 then unless (aligned_fault a k at 8)
+    (if strays k v then Err fault.StackPointerStored else Ok (stored a k at.range.low 8 v))
     else Err fault.WrongOperand)
 
 -- a lookup's answer is stored so, or it is used untested
@@ -173,8 +188,10 @@ abbrev pub is_spill : Num → ℕ → Bool
 is_spill at n = n == 8 && is_single at && at.range.low % 8 == 0
 
 abbrev pub stored_in_stack : View → ℕ → Num → ℕ → AbsVal → Result View Fault
-stored_in_stack a k at n (Number x) = unless (stack_fault a k at n) (Ok (stored a k at.range.low n (Number x)))
-stored_in_stack a k at n (Lookup m) = (if is_spill at n then spilled a k at n (Lookup m) else Err fault.NotTested)
+stored_in_stack a k at n (Number x) =
+    unless (stack_fault a k at n) (Ok (stored a k at.range.low n (Number x)))
+stored_in_stack a k at n (Lookup m) =
+    (if is_spill at n then spilled a k at n (Lookup m) else Err fault.NotTested)
 stored_in_stack a k at n v = spilled a k at n v
 
 -- a map takes numbers alone
@@ -194,7 +211,8 @@ stored_into shapes a (place.Entry m) at n v = stored_in_map a (slice_get shapes 
 -- what a store through a pointer leaves
 abbrev pub store : List Shape → View → ℕ → AbsVal → AbsVal → ℤ → Result View Fault
 store shapes a n Unset to by = Err fault.Unset
-store shapes a n v (Pointer region offset) by = stored_into shapes a region (offset_of offset by) n v
+store shapes a n v (Pointer region offset) by =
+    stored_into shapes a region (offset_of offset by) n v
 store shapes a n v to by = Err (wrong_two to v)
 
 -- ---- atomics
@@ -207,16 +225,20 @@ with_old a (Some r) n = with_register a r (loaded false n)
 abbrev pub atomic_on : List Shape → View → ℕ → AbsRegion → Num → Result View Fault
 atomic_on shapes a n place.Context at = Err fault.WrongOperand
 atomic_on shapes a n (place.Stack k) at =
-    unless (aligned_fault a k at n) (unless (read_fault (stack_of a k) at.range.low n) (Ok (bytes_stored a k at.range.low n)))
+    unless (aligned_fault a k at n)
+    (unless (read_fault (stack_of a k) at.range.low n) (Ok (bytes_stored a k at.range.low n)))
 atomic_on shapes a n (place.Entry m) at = unless (entry_fault (slice_get shapes m) at n) (Ok a)
 
 abbrev pub operands_fault : AbsVal → AbsVal → AbsVal → Fault
 operands_fault to v r0 =
     (if is_unset to || is_unset v || is_unset r0 then fault.Unset
-    else (if is_untested to || is_untested v || is_untested r0 then fault.NotTested else fault.WrongOperand))
+    else (if is_untested to || is_untested v || is_untested r0
+    then fault.NotTested else fault.WrongOperand))
 
 -- an atomic through a pointer, with src's number and, for CMPXCHG, R0's
-abbrev pub atomic : List Shape → View → ℕ → AtomicOp → ℕ → ℤ → AbsVal → AbsVal → AbsVal → Result View Fault
+abbrev pub atomic :
+    List Shape → View → ℕ → AtomicOp → ℕ → ℤ → AbsVal → AbsVal → AbsVal → Result View Fault
 atomic shapes a n op src by (Pointer region offset) (Number x) (Number r0) =
-    on (atomic_on shapes a n region (offset_of offset by)) (λ b. Ok (with_old b (old_into op src) n))
+    on (atomic_on shapes a n region (offset_of offset by))
+    (λ b. Ok (with_old b (old_into op src) n))
 atomic shapes a n op src by to v r0 = Err (operands_fault to v r0)

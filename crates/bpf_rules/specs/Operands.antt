@@ -29,7 +29,9 @@ is_untested v = false
 
 -- the fault of a value of the wrong kind
 abbrev pub wrong : AbsVal → Fault
-wrong a = (if is_unset a then fault.Unset else (if is_untested a then fault.NotTested else fault.WrongOperand))
+wrong a =
+    (if is_unset a then fault.Unset
+    else (if is_untested a then fault.NotTested else fault.WrongOperand))
 
 abbrev pub wrong_two : AbsVal → AbsVal → Fault
 wrong_two a b =
@@ -54,7 +56,8 @@ numbers wide op a b = Err (wrong_two a b)
 -- A labelled pointer keeps its label where its distance stays within 0 and 2400. Distances are words: what lies before
 -- the label's place is far above 2400.
 abbrev pub within_reach : ℕ → ℕ → Option Label
-within_reach label distance = (if nat_le distance 2400 then Some (record { label = label; distance = distance }) else None)
+within_reach label distance =
+    (if nat_le distance 2400 then Some (record { label = label; distance = distance }) else None)
 
 abbrev pub label_moved : (ℕ → ℕ → ℕ) → ℕ → Option Label → Option Label
 label_moved f c None = None
@@ -62,13 +65,17 @@ label_moved f c (Some l) = within_reach l.label (f l.distance c)
 
 -- A number that is one word moves a frame pointer; any other gives it a label of its own, the slot's number and 1.
 abbrev pub label_after : ℕ → (ℕ → ℕ → ℕ) → Num → Option Label → Option Label
-label_after pc f n l = (if is_single n then label_moved f n.range.low l else Some (record { label = pc + 1; distance = 0 }))
+label_after pc f n l =
+    (if is_single n then label_moved f n.range.low l
+    else Some (record { label = pc + 1; distance = 0 }))
 
 -- a number and a pointer, in either order, give a pointer into the same region
 abbrev pub sum : ℕ → AbsVal → AbsVal → Result AbsVal Fault
 sum pc (Number x) (Number y) = Ok (Number (num_alu true Add x y))
-sum pc (Number x) (Frame offset l) = Ok (Frame (num_alu true Add offset x) (label_after pc word_add x l))
-sum pc (Frame offset l) (Number y) = Ok (Frame (num_alu true Add offset y) (label_after pc word_add y l))
+sum pc (Number x) (Frame offset l) =
+    Ok (Frame (num_alu true Add offset x) (label_after pc word_add x l))
+sum pc (Frame offset l) (Number y) =
+    Ok (Frame (num_alu true Add offset y) (label_after pc word_add y l))
 sum pc (Number x) (Pointer region offset) = Ok (Pointer region (num_alu true Add offset x))
 sum pc (Pointer region offset) (Number y) = Ok (Pointer region (num_alu true Add offset y))
 sum pc a b = Err (wrong_two a b)
@@ -76,7 +83,8 @@ sum pc a b = Err (wrong_two a b)
 -- a number is taken from a pointer, and no pointer from anything
 abbrev pub difference : ℕ → AbsVal → AbsVal → Result AbsVal Fault
 difference pc (Number x) (Number y) = Ok (Number (num_alu true Sub x y))
-difference pc (Frame offset l) (Number y) = Ok (Frame (num_alu true Sub offset y) (label_after pc word_sub y l))
+difference pc (Frame offset l) (Number y) =
+    Ok (Frame (num_alu true Sub offset y) (label_after pc word_sub y l))
 difference pc (Pointer region offset) (Number y) = Ok (Pointer region (num_alu true Sub offset y))
 difference pc a b = Err (wrong_two a b)
 

@@ -15,13 +15,15 @@ abbrev pub AluCovers : Type 0
 AluCovers = (op : AluOp) (wide : Bool) (dst : ℕ) (s : Source) → InsnCovers (insn.Alu op wide dst s)
 
 abbrev pub MovSxCovers : Type 0
-MovSxCovers = (from : Extension) (wide : Bool) (dst src : ℕ) → InsnCovers (insn.MovSx from wide dst src)
+MovSxCovers =
+    (from : Extension) (wide : Bool) (dst src : ℕ) → InsnCovers (insn.MovSx from wide dst src)
 
 abbrev pub NegCovers : Type 0
 NegCovers = (wide : Bool) (dst : ℕ) → InsnCovers (insn.Neg wide dst)
 
 abbrev pub EndCovers : Type 0
-EndCovers = (order : ByteOrder) (width : OrderWidth) (dst : ℕ) → InsnCovers (insn.End order width dst)
+EndCovers =
+    (order : ByteOrder) (width : OrderWidth) (dst : ℕ) → InsnCovers (insn.End order width dst)
 
 abbrev pub LoadWideCovers : Type 0
 LoadWideCovers = (dst : ℕ) (v : Wide) → InsnCovers (insn.LoadWide dst v)
@@ -33,7 +35,9 @@ abbrev pub JumpLongCovers : Type 0
 JumpLongCovers = (by : ℤ) → InsnCovers (insn.JumpLong by)
 
 abbrev pub BranchCovers : Type 0
-BranchCovers = (compare : Compare) (wide : Bool) (dst : ℕ) (s : Source) (by : ℤ) → InsnCovers (insn.Branch compare wide dst s by)
+BranchCovers =
+    (compare : Compare) (wide : Bool) (dst : ℕ) (s : Source) (by : ℤ) →
+    InsnCovers (insn.Branch compare wide dst s by)
 
 abbrev pub CallCovers : Type 0
 CallCovers = (helper : ℤ) → InsnCovers (insn.Call helper)

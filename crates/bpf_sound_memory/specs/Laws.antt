@@ -34,10 +34,12 @@ Puts e a s dst u t = (y : Value) × (t ≡ put s dst y) × Holds e a.rooms u y
 -- a load through a value
 abbrev pub LoadHolds : Type 0
 LoadHolds =
-    (e : Labels) (a : View) (s : State) (size : Size) (signed : Bool) (dst : ℕ) (v u : AbsVal) (x : Value) (by : ℤ) →
+    (e : Labels) (a : View) (s : State) (size : Size) (signed : Bool) (dst : ℕ)
+    (v u : AbsVal) (x : Value) (by : ℤ) →
     IsInput e.setting → HoldsIn e a s → word_of by < 2 ^ 64 → Holds e a.rooms v x →
     load e.setting.shapes a (size_bytes size) signed v by ≡ Ok u →
-    IsFine e.setting.shapes (machine.load e.setting s (size_bytes size) signed dst x by) (Puts e a s dst u)
+    IsFine e.setting.shapes
+    (machine.load e.setting s (size_bytes size) signed dst x by) (Puts e a s dst u)
 
 -- a store of a value through another
 abbrev pub StoreHolds : Type 0
@@ -45,23 +47,31 @@ StoreHolds =
     (e : Labels) (a b : View) (s : State) (size : Size) (v to : AbsVal) (x t : Value) (by : ℤ) →
     HoldsIn e a s → word_of by < 2 ^ 64 → Holds e a.rooms v x → Holds e a.rooms to t →
     store e.setting.shapes a (size_bytes size) v to by ≡ Ok b →
-    IsFine e.setting.shapes (machine.store e.setting s (size_bytes size) x t by) (HoldsIn e (next_pc b))
+    IsFine e.setting.shapes
+    (machine.store e.setting s (size_bytes size) x t by) (HoldsIn e (next_pc b))
 
 -- an atomic through a value; no operation writes R10
 abbrev pub AtomicHolds : Type 0
 AtomicHolds =
-    (e : Labels) (a b : View) (s : State) (op : AtomicOp) (wide : Bool) (src : ℕ) (to v r0 : AbsVal) (t x y : Value) (by : ℤ) →
-    HoldsIn e a s → old_into op src ≢ Some 10 → word_of by < 2 ^ 64 → Holds e a.rooms to t → Holds e a.rooms v x → Holds e a.rooms r0 y →
+    (e : Labels) (a b : View) (s : State) (op : AtomicOp) (wide : Bool) (src : ℕ) (to v r0 : AbsVal)
+    (t x y : Value) (by : ℤ) →
+    HoldsIn e a s → old_into op src ≢ Some 10 → word_of by < 2 ^ 64 → Holds e a.rooms to t →
+    Holds e a.rooms v x → Holds e a.rooms r0 y →
     atomic e.setting.shapes a (atomic_bytes wide) op src by to v r0 ≡ Ok b →
-    IsFine e.setting.shapes (machine.atomic e.setting s (atomic_bytes wide) op src by t x y) (HoldsIn e (next_pc b))
+    IsFine e.setting.shapes
+    (machine.atomic e.setting s (atomic_bytes wide) op src by t x y) (HoldsIn e (next_pc b))
 
 -- ---- for instructions
 
 abbrev pub LoadCovers : Type 0
-LoadCovers = (size : Size) (signed : Bool) (dst src : ℕ) (by : ℤ) → InsnCovers (insn.Load size signed dst src by)
+LoadCovers =
+    (size : Size) (signed : Bool) (dst src : ℕ) (by : ℤ) →
+    InsnCovers (insn.Load size signed dst src by)
 
 abbrev pub StoreCovers : Type 0
 StoreCovers = (size : Size) (dst : ℕ) (by : ℤ) (s : Source) → InsnCovers (insn.Store size dst by s)
 
 abbrev pub AtomicCovers : Type 0
-AtomicCovers = (op : AtomicOp) (wide : Bool) (dst src : ℕ) (by : ℤ) → InsnCovers (insn.Atomic op wide dst src by)
+AtomicCovers =
+    (op : AtomicOp) (wide : Bool) (dst src : ℕ) (by : ℤ) →
+    InsnCovers (insn.Atomic op wide dst src by)

@@ -11,5 +11,7 @@ below (Unset depth) = omega arith
 below (Leaf one) = omega arith
 below (Fork pair) = omega arith
 
-pub fall : (l r : Slots) → IsEven (slots_of l) (slots_of r) → max (deep-Slots l) (max (deep-Slots r) 0) ≤ length (slots_of l ++ slots_of r)
-fall l r h = omega (arith, below l, below r, length-append (slots_of l) (slots_of r), h.same, h.some)
+pub fall : (l r : Slots) → IsEven (slots_of l) (slots_of r) →
+    max (deep-Slots l) (max (deep-Slots r) 0) ≤ length (slots_of l ++ slots_of r)
+fall l r h =
+    omega (arith, below l, below r, length-append (slots_of l) (slots_of r), h.same, h.some)

@@ -8,4 +8,5 @@ unfoldable pub slots_included : List Room → List Room → List AbsSlot → Lis
 slots_included rooms others [] [] = true
 slots_included rooms others [] (b ∷ bs) = false
 slots_included rooms others (a ∷ more) [] = false
-slots_included rooms others (a ∷ more) (b ∷ bs) = slot_included rooms others a b && slots_included rooms others more bs
+slots_included rooms others (a ∷ more) (b ∷ bs) =
+    slot_included rooms others a b && slots_included rooms others more bs

@@ -103,7 +103,8 @@ impl Slots {
     ) -> Result<Slots, AllocError>
         requires whole { count ≡ 2 ^ depth }
         requires within { index < count }
-        ensures { IfOk result (λ slots. slots_of slots ≡ slice_set (replicate count cell.Unset) index slot) }
+        ensures { IfOk result
+            (λ slots. slots_of slots ≡ slice_set (replicate count cell.Unset) index slot) }
     {
         if depth == 0 {
             let leaf = Rc::new(alloc, slot)?;
@@ -180,7 +181,8 @@ impl Slots {
 
     /// Whether unset slots lie in this row.
     fn admits_unset(&self, rooms: &Rooms, others: &Rooms) -> bool
-        ensures { result ≡ list_all (slot_included rooms.now others.now cell.Unset) (slots_of self.now) }
+        ensures { result
+            ≡ list_all (slot_included rooms.now others.now cell.Unset) (slots_of self.now) }
     {
         match self {
             Slots::Unset(_) => true,
@@ -195,7 +197,8 @@ impl Slots {
     /// Whether each slot of this row lies in the other's at the same place.
     pub fn is_included(&self, other: &Slots, rooms: &Rooms, others: &Rooms) -> bool
         requires { length (slots_of self.now) ≡ length (slots_of other.now) }
-        ensures { result ≡ slots_included rooms.now others.now (slots_of self.now) (slots_of other.now) }
+        ensures { result
+            ≡ slots_included rooms.now others.now (slots_of self.now) (slots_of other.now) }
     {
         match self {
             Slots::Unset(_) => other.admits_unset(rooms, others),
@@ -245,7 +248,8 @@ impl Slots {
 
     /// The row without a label; parts that do not have it are shared.
     pub fn without_label(&self, alloc: Global, label: u16) -> Result<Slots, AllocError>
-        ensures { IfOk result (λ slots. slots_of slots ≡ map (slot_unlabelled label) (slots_of self.now)) }
+        ensures { IfOk result
+            (λ slots. slots_of slots ≡ map (slot_unlabelled label) (slots_of self.now)) }
     {
         if !self.has_label(label) {
             let slots = self.clone()?;

@@ -23,4 +23,5 @@ stored_to input x offset s = store (given input) s x.size x.value x.to offset
 
 -- what comes next by this atomic operation, at this offset from its pointer
 abbrev pub changed_at : Input → Atomic → ℤ → State → Next
-changed_at input x offset s = atomic (given input) s (atomic_bytes x.wide) x.op x.src offset x.to x.value x.compared
+changed_at input x offset s =
+    atomic (given input) s (atomic_bytes x.wide) x.op x.src offset x.to x.value x.compared

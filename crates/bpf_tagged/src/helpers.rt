@@ -46,7 +46,8 @@ fn entry_found(map: u32, index: u64, shape: Option<Shape>) -> Value
 
 fn perform_lookup(shapes: &Shapes, machine: &mut Machine) -> Stepped
     requires { machine.old.pc < 65536 }
-    ensures { Moves (λ s. lookup (setting [] shapes.now [] []) s (reg s 1) (reg s 2)) result machine.old machine.new }
+    ensures { Moves (λ s. lookup (setting [] shapes.now [] []) s (reg s 1) (reg s 2)) result
+        machine.old machine.new }
 {
     let a = machine.regs[1];
     let b = machine.regs[2];
@@ -75,7 +76,8 @@ fn perform_note(machine: &mut Machine) -> Stepped
 
 fn perform_ask<P: Port>(machine: &mut Machine, port: &mut P, helper: Helper) -> Stepped
     requires { machine.old.pc < 65536 }
-    ensures performs { Performs P.gives (P.shapes port.old) (λ s. Asks (Help helper) (λ a. answered s (Number a)))
+    ensures performs { Performs P.gives (P.shapes port.old)
+        (λ s. Asks (Help helper) (λ a. answered s (Number a)))
         result port.old port.new machine.old machine.new }
     ensures shapes { P.shapes port.new ≡ P.shapes port.old }
     ensures paired { IsPaired machine.old → IsPaired machine.new }
@@ -94,7 +96,8 @@ pub fn perform_help<P: Port>(
 ) -> Stepped
     requires here { machine.old.pc < 65536 }
     requires shapes { P.shapes port.old ≡ shapes.now }
-    ensures performs { Performs P.gives shapes.now (λ s. help (setting [] shapes.now [] []) s helper)
+    ensures performs { Performs P.gives shapes.now
+        (λ s. help (setting [] shapes.now [] []) s helper)
         result port.old port.new machine.old machine.new }
     ensures shapes { P.shapes port.new ≡ P.shapes port.old }
     ensures paired { IsPaired machine.old → IsPaired machine.new }

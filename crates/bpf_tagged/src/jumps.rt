@@ -108,7 +108,8 @@ pub fn perform_branch(
 ) -> Stepped
     requires { machine.old.pc < 65536 }
     ensures { (p : Setting) → length p.frame ≡ frame_length →
-        Moves (next_of p (Branch test.compare test.wide test.dst test.source offset)) result machine.old machine.new }
+        Moves (next_of p (Branch test.compare test.wide test.dst test.source offset)) result
+        machine.old machine.new }
 {
     let a = read(machine, test.dst);
     let Operand { value, zero } = operand_of(machine, test.source);

@@ -90,7 +90,8 @@ pub struct Target {
 /// The pointer that a load goes through, or the load's fault.
 fn load_target(from: Value) -> Result<Target, u8>
     ensures ok { IfOk result (λ t. from ≡ Value.Pointer t.region t.base) }
-    ensures err { IfErr result (λ cause. (p : Setting) (s : State) (n : ℕ) (signed : Bool) (dst : ℕ) (offset : ℤ) →
+    ensures err { IfErr result
+        (λ cause. (p : Setting) (s : State) (n : ℕ) (signed : Bool) (dst : ℕ) (offset : ℤ) →
         load_of p s n signed dst from offset ≡ Fault cause) }
 {
     match from {

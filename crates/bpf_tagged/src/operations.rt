@@ -33,7 +33,8 @@ pub fn perform_alu(
     source: Source,
 ) -> Stepped
     requires { machine.old.pc < 65536 }
-    ensures { (p : Setting) → Moves (next_of p (Alu op wide dst source)) result machine.old machine.new }
+    ensures { (p : Setting) →
+        Moves (next_of p (Alu op wide dst source)) result machine.old machine.new }
 {
     let a = read(machine, dst);
     let b = source_of(machine, source);
@@ -55,7 +56,8 @@ pub fn perform_extension(
     src: Reg,
 ) -> Stepped
     requires { machine.old.pc < 65536 }
-    ensures { (p : Setting) → Moves (next_of p (MovSx from wide dst src)) result machine.old machine.new }
+    ensures { (p : Setting) →
+        Moves (next_of p (MovSx from wide dst src)) result machine.old machine.new }
 {
     match number_in(read(machine, src)) {
         Ok(x) => {
@@ -88,7 +90,8 @@ pub fn perform_order(
     dst: Reg,
 ) -> Stepped
     requires { machine.old.pc < 65536 }
-    ensures { (p : Setting) → Moves (next_of p (End order width dst)) result machine.old machine.new }
+    ensures { (p : Setting) →
+        Moves (next_of p (End order width dst)) result machine.old machine.new }
 {
     match number_in(read(machine, dst)) {
         Ok(x) => {
@@ -102,7 +105,8 @@ pub fn perform_order(
 /// A wide load, which takes two slots.
 pub fn perform_wide_load(machine: &mut Machine, dst: Reg, value: Wide) -> Stepped
     requires { machine.old.pc < 65536 }
-    ensures { (p : Setting) → Moves (next_of p (LoadWide dst value)) result machine.old machine.new }
+    ensures { (p : Setting) →
+        Moves (next_of p (LoadWide dst value)) result machine.old machine.new }
 {
     machine.regs[dst.number() as usize] = wide_load(value);
     machine.pc += 2;

@@ -172,7 +172,8 @@ pub fn perform_slot<P: Port>(
     requires here { IfSome slot (λ held. machine.old.pc < 65536) }
     requires shapes { P.shapes port.old ≡ shapes.now }
     requires paired { IsPaired machine.old }
-    ensures performs { Performs P.gives shapes.now (next_at (setting [] shapes.now frame.now context.now) slot)
+    ensures performs { Performs P.gives shapes.now
+        (next_at (setting [] shapes.now frame.now context.now) slot)
         result port.old port.new machine.old machine.new }
     ensures shapes { P.shapes port.new ≡ P.shapes port.old }
     ensures paired { IsPaired machine.new }

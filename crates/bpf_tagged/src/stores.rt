@@ -34,7 +34,8 @@ fn store_placed<P: Port>(
 ) -> Stepped
     requires here { machine.old.pc < 65536 }
     requires size { IsSize size }
-    requires inside { IsStorable (P.shapes port.old) (length machine.old.stack.items) size value place }
+    requires inside { IsStorable (P.shapes port.old)
+        (length machine.old.stack.items) size value place }
     ensures performs { Performs P.gives (P.shapes port.old) (λ s. store_at s size value place)
         result port.old port.new machine.old machine.new }
     ensures shapes { P.shapes port.new ≡ P.shapes port.old }

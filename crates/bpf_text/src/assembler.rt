@@ -54,7 +54,9 @@ fn add_line(code: &mut Vec<u8>, line: &str, number: u64) -> Result<(), AsmFault>
 
 /// The first line of a text, and what follows its line feed.
 fn first_line(text: &str) -> (&str, Option<&str>)
-    ensures cut { MatchOption result.1 (lines_of text.now ≡ result.0.now ∷ []) (λ rest. (lines_of text.now ≡ result.0.now ∷ lines_of rest.now) × (length rest.now < length text.now)) }
+    ensures cut { MatchOption result.1 (lines_of text.now ≡ result.0.now ∷ [])
+        (λ rest. (lines_of text.now ≡ result.0.now ∷ lines_of rest.now)
+        × (length rest.now < length text.now)) }
 {
     match text.split_once('\n') {
         Some((line, rest)) => (line, Some(rest)),

@@ -13,7 +13,8 @@ use std::alloc::{AllocError, Global};
 use std::fmt::Write;
 
 fn append_line(text: &mut String, insn: Insn) -> Result<(), AllocError>
-    ensures ok { IfOk result (λ _. string_bytes text.new ≡ string_bytes text.old ++ (text_of insn ++ 10 ∷ [])) }
+    ensures ok { IfOk result
+        (λ _. string_bytes text.new ≡ string_bytes text.old ++ (text_of insn ++ 10 ∷ [])) }
 {
     writeln!(text, "{}", InsnText(insn))?;
     Ok(())
@@ -35,7 +36,8 @@ fn text_of_slots(alloc: Global, slots: &[Option<Insn>]) -> Result<String, AllocE
 /// the bytes that the program was decoded from.
 pub fn disassemble(alloc: Global, program: &Program) -> Result<String, AllocError>
     ensures ok { IfOk result (λ text. string_bytes text ≡ disassembled program.now.slots) }
-    ensures again { IfOk result (λ text. (bytes : List ℕ) → Spells bytes program.now → assembled 1 [] (lines_of (string_bytes text)) ≡ Ok bytes) }
+    ensures again { IfOk result (λ text. (bytes : List ℕ) → Spells bytes program.now →
+        assembled 1 [] (lines_of (string_bytes text)) ≡ Ok bytes) }
 {
     let text = text_of_slots(alloc, program.slots())?;
     Ok(text)

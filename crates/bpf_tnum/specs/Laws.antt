@@ -18,8 +18,12 @@ SingleContains = (x : ℕ) → x < 2 ^ 64 → InTnum (tnum_single x) x
 
 -- meeting loses no number of both
 abbrev pub MeetKeeps : Type 0
-MeetKeeps = (a b : Bits) (x : ℕ) → InTnum a x → InTnum b x → (r : Bits) × (tnum_meet a b ≡ Some r) × InTnum r x
+MeetKeeps =
+    (a b : Bits) (x : ℕ) → InTnum a x → InTnum b x →
+    (r : Bits) × (tnum_meet a b ≡ Some r) × InTnum r x
 
 -- where a is included in b, each number of a is one of b; b is as every tristate number is
 abbrev pub IncludedKeeps : Type 0
-IncludedKeeps = (a b : Bits) (x : ℕ) → b.value < 2 ^ 64 → b.mask < 2 ^ 64 → bit_and b.value b.mask ≡ 0 → tnum_included a b ≡ true → InTnum a x → InTnum b x
+IncludedKeeps =
+    (a b : Bits) (x : ℕ) → b.value < 2 ^ 64 → b.mask < 2 ^ 64 → bit_and b.value b.mask ≡ 0 →
+    tnum_included a b ≡ true → InTnum a x → InTnum b x

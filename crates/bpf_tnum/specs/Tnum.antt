@@ -32,7 +32,10 @@ tnum_sub a b =
 unfoldable pub tnum_and : Bits → Bits → Bits
 tnum_and a b =
     let v = bit_and a.value b.value in
-    record { value = v; mask = bit_and (bit_and (bit_or a.value a.mask) (bit_or b.value b.mask)) (word_not v) }
+    record {
+      value = v;
+      mask = bit_and (bit_and (bit_or a.value a.mask) (bit_or b.value b.mask)) (word_not v);
+    }
 
 unfoldable pub tnum_or : Bits → Bits → Bits
 tnum_or a b =
@@ -79,4 +82,5 @@ tnum_meet a b =
 
 unfoldable pub tnum_included : Bits → Bits → Bool
 tnum_included a b =
-    nat_eq (bit_and (bit_xor a.value b.value) (word_not b.mask)) 0 && nat_eq (bit_and a.mask (word_not b.mask)) 0
+    nat_eq (bit_and (bit_xor a.value b.value) (word_not b.mask)) 0
+    && nat_eq (bit_and a.mask (word_not b.mask)) 0

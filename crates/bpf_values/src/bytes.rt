@@ -214,7 +214,8 @@ pub fn store_in(stack: &mut [StackFrame], k: usize, at: usize, count: usize, val
     requires inside { at + count ≤ 512 }
     requires size { IsSize count }
     requires whole { IsWhole value at }
-    ensures { stack.new ≡ slice_set stack.old k (stored (slice_index_or stack.old k empty_frame) at count value) }
+    ensures { stack.new
+        ≡ slice_set stack.old k (stored (slice_index_or stack.old k empty_frame) at count value) }
 {
     store_value(&mut stack[k], at, count, value);
 }
@@ -225,7 +226,8 @@ pub fn store_number_in(stack: &mut [StackFrame], k: usize, at: usize, count: usi
     requires live { k < length stack.old }
     requires inside { at + count ≤ 512 }
     requires size { IsSize count }
-    ensures { stack.new ≡ slice_set stack.old k (number_stored (slice_index_or stack.old k empty_frame) at count number) }
+    ensures { stack.new ≡ slice_set stack.old k
+        (number_stored (slice_index_or stack.old k empty_frame) at count number) }
 {
     store_number(&mut stack[k], at, count, number);
 }

@@ -72,7 +72,8 @@ pub fn place_of(
 ) -> Result<Place, u8>
     requires { size ≤ 8 }
     ensures is { result ≡ place (setting [] shapes.now frame.now context.now) depth region at size }
-    ensures inside { IfOk result (λ p. IsInside shapes.now (length frame.now) (length context.now) depth size p) }
+    ensures inside { IfOk result
+        (λ p. IsInside shapes.now (length frame.now) (length context.now) depth size p) }
 {
     match region {
         Region::Frame => {

@@ -53,7 +53,8 @@ versioned file endian unit =
 
 abbrev pub with_magic : List ℕ → Option (Endian × TimeUnit) → Result Form CaptureFault
 with_magic file None = Err NoCapture
-with_magic file (Some magic) = (if nat_lt (length file) 24 then Err CutHeader else versioned file magic.0 magic.1)
+with_magic file (Some magic) =
+    (if nat_lt (length file) 24 then Err CutHeader else versioned file magic.0 magic.1)
 
 -- what the header of a file says, or its first fault
 abbrev pub form_of : List ℕ → Result Form CaptureFault

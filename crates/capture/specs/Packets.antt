@@ -35,7 +35,8 @@ linked_frame Radiotap bytes = radiotap_frame bytes
 
 -- the frame of captured bytes, where the packet had `original` bytes
 abbrev pub frame_of : Link → ℕ → List ℕ → Result (List ℕ) LeftOut
-frame_of link original bytes = (if nat_lt (length bytes) original then Err out.Cut else linked_frame link bytes)
+frame_of link original bytes =
+    (if nat_lt (length bytes) original then Err out.Cut else linked_frame link bytes)
 
 -- how many bytes of the first record's packet were captured
 abbrev pub captured : Form → List ℕ → ℕ
@@ -45,7 +46,8 @@ captured form bytes = number_at form.endian 4 8 bytes
 abbrev pub packet_of : Form → List ℕ → Seen
 packet_of form bytes = record {
   time = time_of form.unit (number_at form.endian 4 0 bytes) (number_at form.endian 4 4 bytes);
-  frame = frame_of form.link (number_at form.endian 4 12 bytes) (take (captured form bytes) (drop 16 bytes));
+  frame = frame_of form.link (number_at form.endian 4 12 bytes)
+      (take (captured form bytes) (drop 16 bytes));
 }
 
 -- the same, None where the record is cut
@@ -61,12 +63,14 @@ after form bytes = drop (captured form bytes) (drop 16 bytes)
 -- the first record's packet and what follows it, or that it is cut
 abbrev pub First : Form → List ℕ → Option (Packet × Bor (List ℕ)) → Type 0
 First form bytes None = packet_at form bytes ≡ None
-First form bytes (Some (packet, rest)) = (packet_at form bytes ≡ Some (seen_of packet)) × (rest.now ≡ after form bytes)
+First form bytes (Some (packet, rest)) =
+    (packet_at form bytes ≡ Some (seen_of packet)) × (rest.now ≡ after form bytes)
 
 -- bytes begin with the records of these packets, and `rest` follows
 abbrev pub BeginWith : Form → List ℕ → List Seen → List ℕ → Type 0
 BeginWith form bytes [] rest = rest ≡ bytes
-BeginWith form bytes (packet ∷ packets) rest = (packet_at form bytes ≡ Some packet) × BeginWith form (after form bytes) packets rest
+BeginWith form bytes (packet ∷ packets) rest =
+    (packet_at form bytes ≡ Some packet) × BeginWith form (after form bytes) packets rest
 
 -- behind its header a file has the records of these packets, and `rest` follows
 pub record HoldsThen (file : List ℕ) (packets : List Seen) (rest : List ℕ) : Type 0 where

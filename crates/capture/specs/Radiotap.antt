@@ -15,7 +15,8 @@ bytes_in (Err reason) = Err reason
 
 -- how many bytes the words of present fields have; None where the last one is cut
 abbrev pub words_len : List ℕ → Option ℕ
-words_len (a ∷ b ∷ c ∷ d ∷ rest) = (if nat_lt d 128 then Some 4 else option_map (λ more. 4 + more) (words_len rest))
+words_len (a ∷ b ∷ c ∷ d ∷ rest) =
+    (if nat_lt d 128 then Some 4 else option_map (λ more. 4 + more) (words_len rest))
 words_len _ = None
 
 -- where the flags stand: behind the present words, or behind the time of 8 bytes at a multiple of 8

@@ -22,7 +22,8 @@ unused = 0 ∷ 0 ∷ 0 ∷ 0 ∷ 0 ∷ 0 ∷ 0 ∷ 0 ∷ 0 ∷ 0 ∷ 0 ∷ 0 ∷
 -- or 0, 10 the TID or 255, 11 unused, 12 and 13, 14 and 15, 16 and 17 the hook's own three numbers
 abbrev pub context : Hook → List ℕ → Standing → ℕ → ℕ → ℕ → ℕ → List ℕ
 context asks station standing tid first second third =
-    station ++ (number_of asks ∷ state_of standing ∷ (word (aid_of standing) ++ (tid ∷ 0 ∷ (word first ++ (word second ++ (word third ++ unused))))))
+    station ++ (number_of asks ∷ state_of standing ∷ (word (aid_of standing)
+    ++ (tid ∷ 0 ∷ (word first ++ (word second ++ (word third ++ unused))))))
 
 -- of a (re)association request: 12 the capability, 14 the listen interval, 16 whether it is a reassociation
 abbrev pub association_context : List ℕ → Standing → ℕ → ℕ → Bool → List ℕ
@@ -31,7 +32,8 @@ association_context station standing capability listen_interval reassociation =
 
 -- of an ADDBA request: 12 the asked size as it was sent, 14 the timeout, 16 the starting sequence number
 abbrev pub addba_context : List ℕ → Standing → ℕ → ℕ → ℕ → ℕ → List ℕ
-addba_context station standing tid asked timeout start = context hook.Addba station standing tid asked timeout start
+addba_context station standing tid asked timeout start =
+    context hook.Addba station standing tid asked timeout start
 
 abbrev pub tid_or_none : Option ℕ → ℕ
 tid_or_none None = 255
@@ -48,4 +50,5 @@ is_there (Some start) = true
 -- of data: 12 its sequence number, 14 the start of its agreement's window or 0, 16 whether there is an agreement
 abbrev pub data_context : List ℕ → Standing → Option ℕ → ℕ → Option ℕ → List ℕ
 data_context station standing tid number window =
-    context hook.Data station standing (tid_or_none tid) number (start_or_zero window) (flag (is_there window))
+    context hook.Data station standing (tid_or_none tid) number
+    (start_or_zero window) (flag (is_there window))

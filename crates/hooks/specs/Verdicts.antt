@@ -20,7 +20,8 @@ agreement_size r asked = if r == 0 then None else Some (min (min r (wanted_size 
 
 -- on data, by the low two bits: 0 passes with mark 0, 2 passes with bits 8 to 15 as the mark, 1 and 3 discard
 abbrev pub data_verdict : ℕ → DataVerdict
-data_verdict r = if r % 4 == 0 then Pass 0 else (if r % 4 == 2 then Pass (r / 256 % 256) else Discard)
+data_verdict r =
+    if r % 4 == 0 then Pass 0 else (if r % 4 == 2 then Pass (r / 256 % 256) else Discard)
 
 -- what counts as R0 where a hook has no program
 abbrev pub no_program : Hook → ℕ

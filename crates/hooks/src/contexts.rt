@@ -29,7 +29,8 @@ struct Told {
 
 /// The context of a station's frame.
 fn context(hook: Hook, asker: Asker, told: Told) -> Context
-    ensures { result ≡ context hook asker.station asker.standing told.tid told.first told.second told.third }
+    ensures { result
+        ≡ context hook asker.station asker.standing told.tid told.first told.second told.third }
 {
     let [a, b, c, d, e, f] = asker.station.octets();
     let [aid_low, aid_high] = aid_of(asker.standing).to_le_bytes();
@@ -79,7 +80,8 @@ pub fn association_context(
     listen_interval: u16,
     reassociation: bool,
 ) -> Context
-    ensures { result ≡ association_context asker.station asker.standing capability listen_interval reassociation }
+    ensures { result ≡ association_context asker.station asker.standing capability
+        listen_interval reassociation }
 {
     let told = Told {
         tid: NO_TID,

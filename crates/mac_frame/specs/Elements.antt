@@ -31,7 +31,8 @@ abbrev pub elements_within : ℕ → List ℕ → List Element
 elements_within zero bytes = []
 elements_within (suc most) [] = []
 elements_within (suc most) (id ∷ []) = []
-elements_within (suc most) (id ∷ len ∷ rest) = record { id = id; bytes = take len rest } ∷ elements_within most (drop len rest)
+elements_within (suc most) (id ∷ len ∷ rest) =
+    record { id = id; bytes = take len rest } ∷ elements_within most (drop len rest)
 
 -- the elements that bytes spell
 unfoldable pub elements_in : List ℕ → List Element

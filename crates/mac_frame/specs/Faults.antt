@@ -27,11 +27,17 @@ first (test ∷ tests) = if test.0 then Some test.1 else first tests
 -- ---- in the header: the flags of byte 1, the sequence control, the QoS control
 
 abbrev pub header_tests : HeaderKind → List ℕ → List Test
-header_tests headers.Management b = (not (are_flags false (slice_index b 1)), ReservedUse) ∷ (not (is_sequence_control (word_at b 22)), ReservedUse) ∷ []
+header_tests headers.Management b =
+    (not (are_flags false (slice_index b 1)), ReservedUse)
+    ∷ (not (is_sequence_control (word_at b 22)), ReservedUse) ∷ []
 header_tests headers.Control b = (not (are_flags false (slice_index b 1)), ReservedUse) ∷ []
-header_tests headers.Data b = (not (are_flags true (slice_index b 1)), ReservedUse) ∷ (not (is_sequence_control (word_at b 22)), ReservedUse) ∷ []
+header_tests headers.Data b =
+    (not (are_flags true (slice_index b 1)), ReservedUse)
+    ∷ (not (is_sequence_control (word_at b 22)), ReservedUse) ∷ []
 header_tests headers.QosData b =
-    (not (are_flags true (slice_index b 1)), ReservedUse) ∷ (not (is_sequence_control (word_at b 22)), ReservedUse) ∷ (not (is_qos_control (word_at b 24)), ReservedUse) ∷ []
+    (not (are_flags true (slice_index b 1)), ReservedUse)
+    ∷ (not (is_sequence_control (word_at b 22)), ReservedUse)
+    ∷ (not (is_qos_control (word_at b 24)), ReservedUse) ∷ []
 
 -- ---- in the body
 
@@ -47,14 +53,20 @@ action_length action = if action == 2 then 30 else 33
 -- response's parameters, a DELBA's parameters
 abbrev pub are_action_fields : ℕ → List ℕ → Bool
 are_action_fields action b =
-    if action == 0 then are_block_ack_parameters (word_at b 27) && is_sequence_control (word_at b 31)
-    else (if action == 1 then are_block_ack_parameters (word_at b 29) else are_delba_parameters (word_at b 26))
+    if action == 0
+    then are_block_ack_parameters (word_at b 27) && is_sequence_control (word_at b 31)
+    else (if action == 1 then are_block_ack_parameters (word_at b 29)
+    else are_delba_parameters (word_at b 26))
 
 abbrev pub body_tests : Subtype → List ℕ → List Test
-body_tests AssociationRequest b = (nat_lt (length b) 28, BodyLength) ∷ (is_cut (drop 28 b), ElementCut) ∷ []
-body_tests AssociationResponse b = (nat_lt (length b) 30, BodyLength) ∷ (is_cut (drop 30 b), ElementCut) ∷ []
-body_tests ReassociationRequest b = (nat_lt (length b) 34, BodyLength) ∷ (is_cut (drop 34 b), ElementCut) ∷ []
-body_tests ReassociationResponse b = (nat_lt (length b) 30, BodyLength) ∷ (is_cut (drop 30 b), ElementCut) ∷ []
+body_tests AssociationRequest b =
+    (nat_lt (length b) 28, BodyLength) ∷ (is_cut (drop 28 b), ElementCut) ∷ []
+body_tests AssociationResponse b =
+    (nat_lt (length b) 30, BodyLength) ∷ (is_cut (drop 30 b), ElementCut) ∷ []
+body_tests ReassociationRequest b =
+    (nat_lt (length b) 34, BodyLength) ∷ (is_cut (drop 34 b), ElementCut) ∷ []
+body_tests ReassociationResponse b =
+    (nat_lt (length b) 30, BodyLength) ∷ (is_cut (drop 30 b), ElementCut) ∷ []
 body_tests Disassociation b = (not (length b == 26), BodyLength) ∷ []
 body_tests Authentication b = (not (length b == 30), BodyLength) ∷ []
 body_tests Deauthentication b = (not (length b == 26), BodyLength) ∷ []
@@ -64,9 +76,11 @@ body_tests Action b =
     ∷ (not (length b == action_length (slice_index b 25)), BodyLength)
     ∷ (not (are_action_fields (slice_index b 25) b), ReservedUse) ∷ []
 body_tests BlockAckReq b =
-    (not (length b == 20), BodyLength) ∷ (not (is_block_ack_control (word_at b 16)), ReservedUse) ∷ (not (is_sequence_control (word_at b 18)), ReservedUse) ∷ []
+    (not (length b == 20), BodyLength) ∷ (not (is_block_ack_control (word_at b 16)), ReservedUse)
+    ∷ (not (is_sequence_control (word_at b 18)), ReservedUse) ∷ []
 body_tests BlockAck b =
-    (not (length b == 28), BodyLength) ∷ (not (is_block_ack_control (word_at b 16)), ReservedUse) ∷ (not (is_sequence_control (word_at b 18)), ReservedUse) ∷ []
+    (not (length b == 28), BodyLength) ∷ (not (is_block_ack_control (word_at b 16)), ReservedUse)
+    ∷ (not (is_sequence_control (word_at b 18)), ReservedUse) ∷ []
 body_tests Data b = []
 body_tests Null b = (not (length b == 24), BodyLength) ∷ []
 body_tests QosData b = []
@@ -77,7 +91,9 @@ body_tests QosNull b = (not (length b == 26), BodyLength) ∷ []
 -- once the first byte is known
 abbrev pub tests_of : Option Subtype → List ℕ → List Test
 tests_of None b = (true, Unsupported) ∷ []
-tests_of (Some kind) b = (nat_lt (length b) (header_length (header_of kind)), TooShort) ∷ (header_tests (header_of kind) b ++ body_tests kind b)
+tests_of (Some kind) b =
+    (nat_lt (length b) (header_length (header_of kind)), TooShort)
+    ∷ (header_tests (header_of kind) b ++ body_tests kind b)
 
 abbrev pub tests : List ℕ → List Test
 tests b =

@@ -72,7 +72,8 @@ has_elements (management.ReassociationResponse capability status aid) = true
 has_elements _ = false
 
 abbrev pub elements_by : Content → List ℕ → List Element
-elements_by (content.Management bssid sequence body) tail = if has_elements body then elements_in tail else []
+elements_by (content.Management bssid sequence body) tail =
+    if has_elements body then elements_in tail else []
 elements_by (content.Control body) tail = []
 elements_by (content.Data destination sequence kind) tail = []
 
@@ -95,8 +96,23 @@ no_flags = record { retry = false; power_management = false; more_data = false }
 -- a management frame from an access point to a station
 abbrev pub sent_management : List ℕ → List ℕ → Management → List ℕ → Frame
 sent_management station bssid body tail =
-    record { flags = no_flags; duration = 0; receiver = station; sender = bssid; content = content.Management bssid 0 body; tail = tail }
+    record {
+      flags = no_flags;
+      duration = 0;
+      receiver = station;
+      sender = bssid;
+      content = content.Management bssid 0 body;
+      tail = tail;
+    }
 
 -- a control frame from an access point to a station
 abbrev pub sent_control : List ℕ → List ℕ → Control → Frame
-sent_control station bssid body = record { flags = no_flags; duration = 0; receiver = station; sender = bssid; content = content.Control body; tail = [] }
+sent_control station bssid body =
+    record {
+      flags = no_flags;
+      duration = 0;
+      receiver = station;
+      sender = bssid;
+      content = content.Control body;
+      tail = [];
+    }

@@ -8,7 +8,8 @@ use Rattle.mac_frame.specs.declared.subtype.Subtype.TheVariants.{AssociationRequ
 
 abbrev pub subtypes : List (ℕ × Subtype)
 subtypes =
-    (0x00, AssociationRequest) ∷ (0x10, AssociationResponse) ∷ (0x20, ReassociationRequest) ∷ (0x30, ReassociationResponse)
+    (0x00, AssociationRequest) ∷ (0x10, AssociationResponse) ∷ (0x20, ReassociationRequest)
+    ∷ (0x30, ReassociationResponse)
     ∷ (0xa0, Disassociation) ∷ (0xb0, Authentication) ∷ (0xc0, Deauthentication) ∷ (0xd0, Action)
     ∷ (0x84, BlockAckReq) ∷ (0x94, BlockAck)
     ∷ (0x08, Data) ∷ (0x48, Null) ∷ (0x88, QosData) ∷ (0xc8, QosNull) ∷ []

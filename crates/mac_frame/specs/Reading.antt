@@ -38,7 +38,8 @@ pub record IsBody (kind : Subtype) (b : List ℕ) (body : Management) (tail : Li
   pub spelled : drop 24 b ≡ management_text body tail
   pub fits : IsManagement body tail
 
-pub record IsControlBody (kind : Subtype) (b : List ℕ) (body : Control) (tail : List ℕ) : Type 0 where
+pub record IsControlBody
+    (kind : Subtype) (b : List ℕ) (body : Control) (tail : List ℕ) : Type 0 where
   pub faultless : first (body_tests kind b) ≡ None
   pub subtype : control_subtype body ≡ kind
   pub spelled : drop 16 b ≡ control_text body tail
@@ -51,7 +52,8 @@ pub record IsDataBody (kind : Subtype) (b : List ℕ) (body : DataKind) (tail : 
   pub fits : IsData body tail
 
 -- the header and the body
-pub record IsContentBody (kind : Subtype) (b : List ℕ) (flags : FrameFlags) (body : Content) (tail : List ℕ) : Type 0 where
+pub record IsContentBody (kind : Subtype) (b : List ℕ) (flags : FrameFlags) (body : Content)
+    (tail : List ℕ) : Type 0 where
   pub faultless : first (header_tests (header_of kind) b ++ body_tests kind b) ≡ None
   pub subtype : content_subtype body ≡ kind
   pub octet : slice_index b 1 ≡ flags_octet (to_ds body) flags

@@ -30,11 +30,15 @@ pub record Frame : Type 0 where
 
 abbrev pub management_subtype : Management → Subtype
 management_subtype (management.AssociationRequest capability interval) = subtypes.AssociationRequest
-management_subtype (management.AssociationResponse capability status aid) = subtypes.AssociationResponse
-management_subtype (management.ReassociationRequest capability interval current) = subtypes.ReassociationRequest
-management_subtype (management.ReassociationResponse capability status aid) = subtypes.ReassociationResponse
+management_subtype (management.AssociationResponse capability status aid) =
+    subtypes.AssociationResponse
+management_subtype (management.ReassociationRequest capability interval current) =
+    subtypes.ReassociationRequest
+management_subtype (management.ReassociationResponse capability status aid) =
+    subtypes.ReassociationResponse
 management_subtype (management.Disassociation reason) = subtypes.Disassociation
-management_subtype (management.Authentication algorithm transaction status) = subtypes.Authentication
+management_subtype (management.Authentication algorithm transaction status) =
+    subtypes.Authentication
 management_subtype (management.Deauthentication reason) = subtypes.Deauthentication
 management_subtype (management.AddbaRequest token parameters timeout start) = subtypes.Action
 management_subtype (management.AddbaResponse token status parameters timeout) = subtypes.Action
@@ -69,24 +73,34 @@ word n = to_le_bytes w16 n
 
 -- the bodies of management frames: 9.3.3.5 to 9.3.3.9, 9.3.3.12, 9.3.3.13, and of action frames 9.6.5
 abbrev pub management_text : Management → List ℕ → List ℕ
-management_text (management.AssociationRequest capability interval) tail = word capability ++ (word interval ++ tail)
-management_text (management.AssociationResponse capability status aid) tail = word capability ++ (word status ++ (word aid ++ tail))
-management_text (management.ReassociationRequest capability interval current) tail = word capability ++ (word interval ++ (current ++ tail))
-management_text (management.ReassociationResponse capability status aid) tail = word capability ++ (word status ++ (word aid ++ tail))
+management_text (management.AssociationRequest capability interval) tail =
+    word capability ++ (word interval ++ tail)
+management_text (management.AssociationResponse capability status aid) tail =
+    word capability ++ (word status ++ (word aid ++ tail))
+management_text (management.ReassociationRequest capability interval current) tail =
+    word capability ++ (word interval ++ (current ++ tail))
+management_text (management.ReassociationResponse capability status aid) tail =
+    word capability ++ (word status ++ (word aid ++ tail))
 management_text (management.Disassociation reason) tail = word reason ++ tail
-management_text (management.Authentication algorithm transaction status) tail = word algorithm ++ (word transaction ++ (word status ++ tail))
+management_text (management.Authentication algorithm transaction status) tail =
+    word algorithm ++ (word transaction ++ (word status ++ tail))
 management_text (management.Deauthentication reason) tail = word reason ++ tail
 management_text (management.AddbaRequest token parameters timeout start) tail =
-    3 ∷ 0 ∷ token ∷ (word (block_ack_parameters parameters) ++ (word timeout ++ (word (sequence_control start) ++ tail)))
+    3 ∷ 0 ∷ token ∷ (word (block_ack_parameters parameters)
+    ++ (word timeout ++ (word (sequence_control start) ++ tail)))
 management_text (management.AddbaResponse token status parameters timeout) tail =
-    3 ∷ 1 ∷ token ∷ (word status ++ (word (block_ack_parameters parameters) ++ (word timeout ++ tail)))
-management_text (management.Delba parameters reason) tail = 3 ∷ 2 ∷ (word (delba_parameters parameters) ++ (word reason ++ tail))
+    3 ∷ 1 ∷ token
+    ∷ (word status ++ (word (block_ack_parameters parameters) ++ (word timeout ++ tail)))
+management_text (management.Delba parameters reason) tail =
+    3 ∷ 2 ∷ (word (delba_parameters parameters) ++ (word reason ++ tail))
 
 -- 9.3.1.8 and 9.3.1.9, compressed
 abbrev pub control_text : Control → List ℕ → List ℕ
-control_text (control.BlockAckReq tid start) tail = word (block_ack_control tid) ++ (word (sequence_control start) ++ tail)
+control_text (control.BlockAckReq tid start) tail =
+    word (block_ack_control tid) ++ (word (sequence_control start) ++ tail)
 control_text (control.BlockAck tid start bitmap) tail =
-    word (block_ack_control tid) ++ (word (sequence_control start) ++ (to_le_bytes w64 bitmap ++ tail))
+    word (block_ack_control tid)
+    ++ (word (sequence_control start) ++ (to_le_bytes w64 bitmap ++ tail))
 
 -- 9.3.2.1
 abbrev pub data_text : DataKind → List ℕ → List ℕ
@@ -97,31 +111,43 @@ data_text (kinds.QosNull qos) tail = word (qos_control qos) ++ tail
 
 -- what stands behind the first two addresses: address 3 and the sequence control, where there are any, and the body
 abbrev pub content_text : Content → List ℕ → List ℕ
-content_text (content.Management bssid sequence body) tail = bssid ++ (word (sequence_control sequence) ++ management_text body tail)
+content_text (content.Management bssid sequence body) tail =
+    bssid ++ (word (sequence_control sequence) ++ management_text body tail)
 content_text (content.Control body) tail = control_text body tail
-content_text (content.Data destination sequence kind) tail = destination ++ (word (sequence_control sequence) ++ data_text kind tail)
+content_text (content.Data destination sequence kind) tail =
+    destination ++ (word (sequence_control sequence) ++ data_text kind tail)
 
 abbrev pub spelling : Frame → List ℕ
 spelling f =
-    first_byte (content_subtype f.content) ∷ flags_octet (to_ds f.content) f.flags ∷ (word f.duration ++ (f.receiver ++ (f.sender ++ content_text f.content f.tail)))
+    first_byte (content_subtype f.content) ∷ flags_octet (to_ds f.content) f.flags
+    ∷ (word f.duration ++ (f.receiver ++ (f.sender ++ content_text f.content f.tail)))
 
 -- ---- the grammar: which frames are spelled
 
 abbrev pub IsManagement : Management → List ℕ → Type 0
-IsManagement (management.AssociationRequest capability interval) tail = IsWord capability × IsWord interval × AreElements tail
-IsManagement (management.AssociationResponse capability status aid) tail = IsWord capability × IsWord status × IsWord aid × AreElements tail
-IsManagement (management.ReassociationRequest capability interval current) tail = IsWord capability × IsWord interval × IsAddress current × AreElements tail
-IsManagement (management.ReassociationResponse capability status aid) tail = IsWord capability × IsWord status × IsWord aid × AreElements tail
+IsManagement (management.AssociationRequest capability interval) tail =
+    IsWord capability × IsWord interval × AreElements tail
+IsManagement (management.AssociationResponse capability status aid) tail =
+    IsWord capability × IsWord status × IsWord aid × AreElements tail
+IsManagement (management.ReassociationRequest capability interval current) tail =
+    IsWord capability × IsWord interval × IsAddress current × AreElements tail
+IsManagement (management.ReassociationResponse capability status aid) tail =
+    IsWord capability × IsWord status × IsWord aid × AreElements tail
 IsManagement (management.Disassociation reason) tail = IsWord reason × (tail ≡ [])
-IsManagement (management.Authentication algorithm transaction status) tail = IsWord algorithm × IsWord transaction × IsWord status × (tail ≡ [])
+IsManagement (management.Authentication algorithm transaction status) tail =
+    IsWord algorithm × IsWord transaction × IsWord status × (tail ≡ [])
 IsManagement (management.Deauthentication reason) tail = IsWord reason × (tail ≡ [])
-IsManagement (management.AddbaRequest token parameters timeout start) tail = IsBlockAckParameters parameters × IsWord timeout × IsSequenceNumber start × (tail ≡ [])
-IsManagement (management.AddbaResponse token status parameters timeout) tail = IsWord status × IsBlockAckParameters parameters × IsWord timeout × (tail ≡ [])
-IsManagement (management.Delba parameters reason) tail = IsDelbaParameters parameters × IsWord reason × (tail ≡ [])
+IsManagement (management.AddbaRequest token parameters timeout start) tail =
+    IsBlockAckParameters parameters × IsWord timeout × IsSequenceNumber start × (tail ≡ [])
+IsManagement (management.AddbaResponse token status parameters timeout) tail =
+    IsWord status × IsBlockAckParameters parameters × IsWord timeout × (tail ≡ [])
+IsManagement (management.Delba parameters reason) tail =
+    IsDelbaParameters parameters × IsWord reason × (tail ≡ [])
 
 abbrev pub IsControl : Control → List ℕ → Type 0
 IsControl (control.BlockAckReq tid start) tail = IsTid tid × IsSequenceNumber start × (tail ≡ [])
-IsControl (control.BlockAck tid start bitmap) tail = IsTid tid × IsSequenceNumber start × (bitmap < 2 ^ 64) × (tail ≡ [])
+IsControl (control.BlockAck tid start bitmap) tail =
+    IsTid tid × IsSequenceNumber start × (bitmap < 2 ^ 64) × (tail ≡ [])
 
 abbrev pub IsData : DataKind → List ℕ → Type 0
 IsData kinds.Data tail = Unit {0}
@@ -130,9 +156,11 @@ IsData (kinds.QosData qos) tail = IsQosControl qos
 IsData (kinds.QosNull qos) tail = IsQosControl qos × (tail ≡ [])
 
 abbrev pub IsContent : Content → List ℕ → Type 0
-IsContent (content.Management bssid sequence body) tail = IsAddress bssid × IsSequenceNumber sequence × IsManagement body tail
+IsContent (content.Management bssid sequence body) tail =
+    IsAddress bssid × IsSequenceNumber sequence × IsManagement body tail
 IsContent (content.Control body) tail = IsControl body tail
-IsContent (content.Data destination sequence kind) tail = IsAddress destination × IsSequenceNumber sequence × IsData kind tail
+IsContent (content.Data destination sequence kind) tail =
+    IsAddress destination × IsSequenceNumber sequence × IsData kind tail
 
 -- what the frame grammar spells
 pub record IsFrame (f : Frame) : Type 0 where

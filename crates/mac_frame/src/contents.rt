@@ -79,7 +79,8 @@ fn qos_body(subtype: Subtype, bytes: &[u8], qos: QosControl) -> Result<(DataKind
 fn management_parts(subtype: Subtype, bytes: &[u8]) -> Result<Parts<'_>, Fault>
     requires header { header_of subtype ≡ headers.Management }
     requires long { 24 ≤ length bytes.now }
-    ensures fault { IfErr result (λ f. first (header_tests (header_of subtype) bytes.now ++ body_tests subtype bytes.now) ≡ Some f) }
+    ensures fault { IfErr result (λ f. first
+        (header_tests (header_of subtype) bytes.now ++ body_tests subtype bytes.now) ≡ Some f) }
     ensures found { IfOk result (λ p. IsContentBody subtype bytes.now p.0 p.1 p.2.now) }
 {
     let Some(header) = management_header(bytes) else {
@@ -100,7 +101,8 @@ fn management_parts(subtype: Subtype, bytes: &[u8]) -> Result<Parts<'_>, Fault>
 fn control_parts(subtype: Subtype, bytes: &[u8]) -> Result<Parts<'_>, Fault>
     requires header { header_of subtype ≡ headers.Control }
     requires long { 16 ≤ length bytes.now }
-    ensures fault { IfErr result (λ f. first (header_tests (header_of subtype) bytes.now ++ body_tests subtype bytes.now) ≡ Some f) }
+    ensures fault { IfErr result (λ f. first
+        (header_tests (header_of subtype) bytes.now ++ body_tests subtype bytes.now) ≡ Some f) }
     ensures found { IfOk result (λ p. IsContentBody subtype bytes.now p.0 p.1 p.2.now) }
 {
     let Some(flags) = control_flags(bytes) else {
@@ -116,7 +118,8 @@ fn control_parts(subtype: Subtype, bytes: &[u8]) -> Result<Parts<'_>, Fault>
 fn data_parts(subtype: Subtype, bytes: &[u8]) -> Result<Parts<'_>, Fault>
     requires header { header_of subtype ≡ headers.Data }
     requires long { 24 ≤ length bytes.now }
-    ensures fault { IfErr result (λ f. first (header_tests (header_of subtype) bytes.now ++ body_tests subtype bytes.now) ≡ Some f) }
+    ensures fault { IfErr result (λ f. first
+        (header_tests (header_of subtype) bytes.now ++ body_tests subtype bytes.now) ≡ Some f) }
     ensures found { IfOk result (λ p. IsContentBody subtype bytes.now p.0 p.1 p.2.now) }
 {
     let Some(header) = data_header(bytes) else {
@@ -137,7 +140,8 @@ fn data_parts(subtype: Subtype, bytes: &[u8]) -> Result<Parts<'_>, Fault>
 fn qos_parts(subtype: Subtype, bytes: &[u8]) -> Result<Parts<'_>, Fault>
     requires header { header_of subtype ≡ headers.QosData }
     requires long { 26 ≤ length bytes.now }
-    ensures fault { IfErr result (λ f. first (header_tests (header_of subtype) bytes.now ++ body_tests subtype bytes.now) ≡ Some f) }
+    ensures fault { IfErr result (λ f. first
+        (header_tests (header_of subtype) bytes.now ++ body_tests subtype bytes.now) ≡ Some f) }
     ensures found { IfOk result (λ p. IsContentBody subtype bytes.now p.0 p.1 p.2.now) }
 {
     let Some((header, qos)) = qos_header(bytes) else {
@@ -158,7 +162,8 @@ fn qos_parts(subtype: Subtype, bytes: &[u8]) -> Result<Parts<'_>, Fault>
 fn parts_by_header(subtype: Subtype, kind: HeaderKind, bytes: &[u8]) -> Result<Parts<'_>, Fault>
     requires header { header_of subtype ≡ kind }
     requires long { header_length kind ≤ length bytes.now }
-    ensures fault { IfErr result (λ f. first (header_tests (header_of subtype) bytes.now ++ body_tests subtype bytes.now) ≡ Some f) }
+    ensures fault { IfErr result (λ f. first
+        (header_tests (header_of subtype) bytes.now ++ body_tests subtype bytes.now) ≡ Some f) }
     ensures found { IfOk result (λ p. IsContentBody subtype bytes.now p.0 p.1 p.2.now) }
 {
     match kind {

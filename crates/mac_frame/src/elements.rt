@@ -136,7 +136,8 @@ pub(crate) fn ends_within(bytes: &[u8]) -> bool
 fn split_first(bytes: &[u8]) -> Option<(u8, &[u8], &[u8])>
     requires { AreElements bytes.now }
     ensures none { IfNone result (elements_in bytes.now ≡ []) }
-    ensures first { IfSome result (λ x. elements_in bytes.now ≡ record { id = x.0; bytes = x.1.now } ∷ elements_in x.2.now) }
+    ensures first { IfSome result
+        (λ x. elements_in bytes.now ≡ record { id = x.0; bytes = x.1.now } ∷ elements_in x.2.now) }
     ensures rest { IfSome result (λ x. AreElements x.2.now) }
     ensures shorter { IfSome result (λ x. length x.2.now < length bytes.now) }
 {

@@ -106,7 +106,8 @@ pub(crate) fn sequence_from(bytes: &[u8], at: usize) -> Option<SequenceNumber>
     requires { at + 2 ≤ length bytes.now }
     ensures variant { is_some result ≡ is_sequence_control (word_at bytes.now at) }
     ensures fits { IfSome result IsSequenceNumber }
-    ensures spelled { IfSome result (λ n. drop at bytes.now ≡ word (sequence_control n) ++ drop (at + 2) bytes.now) }
+    ensures spelled { IfSome result
+        (λ n. drop at bytes.now ≡ word (sequence_control n) ++ drop (at + 2) bytes.now) }
 {
     SequenceNumber::from_control(word_from(bytes, at))
 }
@@ -116,7 +117,8 @@ pub(crate) fn qos_from(bytes: &[u8], at: usize) -> Option<QosControl>
     requires { at + 2 ≤ length bytes.now }
     ensures variant { is_some result ≡ is_qos_control (word_at bytes.now at) }
     ensures fits { IfSome result IsQosControl }
-    ensures spelled { IfSome result (λ q. drop at bytes.now ≡ word (qos_control q) ++ drop (at + 2) bytes.now) }
+    ensures spelled { IfSome result
+        (λ q. drop at bytes.now ≡ word (qos_control q) ++ drop (at + 2) bytes.now) }
 {
     QosControl::from_field(word_from(bytes, at))
 }
@@ -126,7 +128,8 @@ pub(crate) fn parameters_from(bytes: &[u8], at: usize) -> Option<BlockAckParamet
     requires { at + 2 ≤ length bytes.now }
     ensures variant { is_some result ≡ are_block_ack_parameters (word_at bytes.now at) }
     ensures fits { IfSome result IsBlockAckParameters }
-    ensures spelled { IfSome result (λ p. drop at bytes.now ≡ word (block_ack_parameters p) ++ drop (at + 2) bytes.now) }
+    ensures spelled { IfSome result
+        (λ p. drop at bytes.now ≡ word (block_ack_parameters p) ++ drop (at + 2) bytes.now) }
 {
     BlockAckParameters::from_field(word_from(bytes, at))
 }
@@ -136,7 +139,8 @@ pub(crate) fn delba_parameters_from(bytes: &[u8], at: usize) -> Option<DelbaPara
     requires { at + 2 ≤ length bytes.now }
     ensures variant { is_some result ≡ are_delba_parameters (word_at bytes.now at) }
     ensures fits { IfSome result IsDelbaParameters }
-    ensures spelled { IfSome result (λ p. drop at bytes.now ≡ word (delba_parameters p) ++ drop (at + 2) bytes.now) }
+    ensures spelled { IfSome result
+        (λ p. drop at bytes.now ≡ word (delba_parameters p) ++ drop (at + 2) bytes.now) }
 {
     DelbaParameters::from_field(word_from(bytes, at))
 }
@@ -146,7 +150,8 @@ pub(crate) fn block_ack_tid_from(bytes: &[u8], at: usize) -> Option<Tid>
     requires { at + 2 ≤ length bytes.now }
     ensures variant { is_some result ≡ is_block_ack_control (word_at bytes.now at) }
     ensures fits { IfSome result IsTid }
-    ensures spelled { IfSome result (λ t. drop at bytes.now ≡ word (block_ack_control t) ++ drop (at + 2) bytes.now) }
+    ensures spelled { IfSome result
+        (λ t. drop at bytes.now ≡ word (block_ack_control t) ++ drop (at + 2) bytes.now) }
 {
     Tid::from_block_ack_control(word_from(bytes, at))
 }

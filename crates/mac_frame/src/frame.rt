@@ -38,13 +38,28 @@ impl Model for MacFrame {
 
     ghost Value = { Frame };
 
-    ghost view = { λ f. record { flags = f.flags; duration = f.duration; receiver = f.receiver; sender = f.sender; content = f.content; tail = f.tail.items } };
+    ghost view = { λ f. record {
+      flags = f.flags;
+      duration = f.duration;
+      receiver = f.receiver;
+      sender = f.sender;
+      content = f.content;
+      tail = f.tail.items;
+    } };
 
-    ghost invariant = { λ f. IsFrame (record { flags = f.flags; duration = f.duration; receiver = f.receiver; sender = f.sender; content = f.content; tail = f.tail.items }) };
+    ghost invariant = { λ f. IsFrame (record {
+      flags = f.flags;
+      duration = f.duration;
+      receiver = f.receiver;
+      sender = f.sender;
+      content = f.content;
+      tail = f.tail.items;
+    }) };
 }
 
 fn read(alloc: Global, bytes: &[u8]) -> Result<MacFrame, FrameFault>
-    ensures found { IfOk result (λ f. IsFrame f × (bytes.now ≡ spelling f) × (first_fault bytes.now ≡ None)) }
+    ensures found { IfOk result
+        (λ f. IsFrame f × (bytes.now ≡ spelling f) × (first_fault bytes.now ≡ None)) }
     ensures fault { IfErr result (λ e. IsFault e (first_fault bytes.now)) }
 {
     let (flags, content, tail) = match parts_from(bytes) {
@@ -65,9 +80,11 @@ fn read(alloc: Global, bytes: &[u8]) -> Result<MacFrame, FrameFault>
 /// The frame that the bytes spell, or the first of their faults, or want of memory.
 pub fn parse(alloc: Global, bytes: &[u8]) -> Result<MacFrame, FrameFault>
     // What is read is in the grammar and spelled so, and the bytes have no fault.
-    ensures found { IfOk result (λ f. IsFrame f × (bytes.now ≡ spelling f) × (first_fault bytes.now ≡ None)) }
+    ensures found { IfOk result
+        (λ f. IsFrame f × (bytes.now ≡ spelling f) × (first_fault bytes.now ≡ None)) }
     // What is in the grammar and spelled so is read, unless memory runs out.
-    ensures only { (f : Frame) → IsFrame f → bytes.now ≡ spelling f → MatchResult result (λ g. g ≡ f) (λ e. e ≡ FrameFault.Memory) }
+    ensures only { (f : Frame) → IsFrame f → bytes.now ≡ spelling f →
+        MatchResult result (λ g. g ≡ f) (λ e. e ≡ FrameFault.Memory) }
     // Which fault it is.
     ensures fault { IfErr result (λ e. IsFault e (first_fault bytes.now)) }
 {
@@ -81,7 +98,8 @@ pub const LONGEST_HEAD: usize = 34;
 /// and the frame's tail. Where memory runs out, the vector stays as it was.
 pub fn write(frame: &MacFrame, out: &mut Vec<u8>) -> Result<(), AllocError>
     ensures ok { OnOk result (out.new.items ≡ out.old.items ++ spelling frame.now) }
-    ensures room { vec_len out.old + (LONGEST_HEAD + length frame.now.tail) ≤ vec_capacity out.old → IsOk result }
+    ensures room { vec_len out.old + (LONGEST_HEAD + length frame.now.tail) ≤ vec_capacity out.old →
+        IsOk result }
     ensures err { OnErr result (out.new.items ≡ out.old.items) }
 {
     let subtype = frame.content.subtype().first_byte();
@@ -265,7 +283,8 @@ impl MacFrame {
         algorithm: u16,
         status: Status,
     ) -> Self
-        ensures { result ≡ sent_management station bssid (Management.Authentication algorithm 2 status) [] }
+        ensures { result
+            ≡ sent_management station bssid (Management.Authentication algorithm 2 status) [] }
     {
         status.known();
         let body = Management::Authentication {
@@ -284,7 +303,8 @@ impl MacFrame {
         aid: AidField,
         elements: ElementsBuf,
     ) -> Self
-        ensures { result ≡ sent_management station bssid (Management.AssociationResponse 1 status aid) elements }
+        ensures { result
+            ≡ sent_management station bssid (Management.AssociationResponse 1 status aid) elements }
     {
         status.known();
         aid.known();
@@ -304,7 +324,8 @@ impl MacFrame {
         aid: AidField,
         elements: ElementsBuf,
     ) -> Self
-        ensures { result ≡ sent_management station bssid (Management.ReassociationResponse 1 status aid) elements }
+        ensures { result ≡ sent_management station bssid
+            (Management.ReassociationResponse 1 status aid) elements }
     {
         status.known();
         aid.known();
@@ -342,7 +363,8 @@ impl MacFrame {
         parameters: BlockAckParameters,
         timeout: u16,
     ) -> Self
-        ensures { result ≡ sent_management station bssid (Management.AddbaResponse dialog_token status parameters timeout) [] }
+        ensures { result ≡ sent_management station bssid
+            (Management.AddbaResponse dialog_token status parameters timeout) [] }
     {
         status.known();
         parameters.tid.known();
@@ -358,7 +380,8 @@ impl MacFrame {
 
     /// The end of an agreement, by the recipient of its data.
     pub fn delba(alloc: Global, station: Address, bssid: Address, tid: Tid, reason: Reason) -> Self
-        ensures { result ≡ sent_management station bssid (Management.Delba (record { initiator = false; tid = tid }) reason) [] }
+        ensures { result ≡ sent_management station bssid
+            (Management.Delba (record { initiator = false; tid = tid }) reason) [] }
     {
         tid.known();
         reason.known();

@@ -14,7 +14,8 @@ use mac_types::{FrameFlags, QosControl};
 /// The header of a management frame. None where it holds what it may not.
 pub(crate) fn management_header(bytes: &[u8]) -> Option<Header>
     requires { 24 ≤ length bytes.now }
-    ensures none { IfNone result (first (header_tests headers.Management bytes.now) ≡ Some ReservedUse) }
+    ensures none { IfNone result
+        (first (header_tests headers.Management bytes.now) ≡ Some ReservedUse) }
     ensures found { IfSome result (IsHeader headers.Management false bytes.now) }
 {
     let flags = FrameFlags::from_octet(bytes[1], false)?;
@@ -44,7 +45,8 @@ pub(crate) fn data_header(bytes: &[u8]) -> Option<Header>
 /// The header of a data frame with QoS Control.
 pub(crate) fn qos_header(bytes: &[u8]) -> Option<(Header, QosControl)>
     requires { 26 ≤ length bytes.now }
-    ensures none { IfNone result (first (header_tests headers.QosData bytes.now) ≡ Some ReservedUse) }
+    ensures none { IfNone result
+        (first (header_tests headers.QosData bytes.now) ≡ Some ReservedUse) }
     ensures found { IfSome result (λ h. IsHeader headers.QosData true bytes.now h.0) }
     ensures qos { IfSome result (λ h. IsQosHeader bytes.now h.1) }
 {
@@ -56,7 +58,8 @@ pub(crate) fn qos_header(bytes: &[u8]) -> Option<(Header, QosControl)>
 /// The flags of a control frame.
 pub(crate) fn control_flags(bytes: &[u8]) -> Option<FrameFlags>
     requires { 16 ≤ length bytes.now }
-    ensures none { IfNone result (first (header_tests headers.Control bytes.now) ≡ Some ReservedUse) }
+    ensures none { IfNone result
+        (first (header_tests headers.Control bytes.now) ≡ Some ReservedUse) }
     ensures found { IfSome result (λ f. first (header_tests headers.Control bytes.now) ≡ None) }
     ensures octet { IfSome result (λ f. slice_index bytes.now 1 ≡ flags_octet false f) }
 {

@@ -34,7 +34,8 @@ fn elements_from(bytes: &[u8], at: usize) -> Result<&[u8], Fault>
 
 pub(crate) fn association_request(bytes: &[u8]) -> Result<(Management, &[u8]), Fault>
     requires { 24 ≤ length bytes.now }
-    ensures fault { IfErr result (λ f. first (body_tests subtypes.AssociationRequest bytes.now) ≡ Some f) }
+    ensures fault { IfErr result
+        (λ f. first (body_tests subtypes.AssociationRequest bytes.now) ≡ Some f) }
     ensures found { IfOk result (λ x. IsBody subtypes.AssociationRequest bytes.now x.0 x.1.now) }
 {
     if bytes.len() < 28 {
@@ -50,7 +51,8 @@ pub(crate) fn association_request(bytes: &[u8]) -> Result<(Management, &[u8]), F
 
 pub(crate) fn association_response(bytes: &[u8]) -> Result<(Management, &[u8]), Fault>
     requires { 24 ≤ length bytes.now }
-    ensures fault { IfErr result (λ f. first (body_tests subtypes.AssociationResponse bytes.now) ≡ Some f) }
+    ensures fault { IfErr result
+        (λ f. first (body_tests subtypes.AssociationResponse bytes.now) ≡ Some f) }
     ensures found { IfOk result (λ x. IsBody subtypes.AssociationResponse bytes.now x.0 x.1.now) }
 {
     if bytes.len() < 30 {
@@ -67,7 +69,8 @@ pub(crate) fn association_response(bytes: &[u8]) -> Result<(Management, &[u8]), 
 
 pub(crate) fn reassociation_request(bytes: &[u8]) -> Result<(Management, &[u8]), Fault>
     requires { 24 ≤ length bytes.now }
-    ensures fault { IfErr result (λ f. first (body_tests subtypes.ReassociationRequest bytes.now) ≡ Some f) }
+    ensures fault { IfErr result
+        (λ f. first (body_tests subtypes.ReassociationRequest bytes.now) ≡ Some f) }
     ensures found { IfOk result (λ x. IsBody subtypes.ReassociationRequest bytes.now x.0 x.1.now) }
 {
     if bytes.len() < 34 {
@@ -84,7 +87,8 @@ pub(crate) fn reassociation_request(bytes: &[u8]) -> Result<(Management, &[u8]),
 
 pub(crate) fn reassociation_response(bytes: &[u8]) -> Result<(Management, &[u8]), Fault>
     requires { 24 ≤ length bytes.now }
-    ensures fault { IfErr result (λ f. first (body_tests subtypes.ReassociationResponse bytes.now) ≡ Some f) }
+    ensures fault { IfErr result
+        (λ f. first (body_tests subtypes.ReassociationResponse bytes.now) ≡ Some f) }
     ensures found { IfOk result (λ x. IsBody subtypes.ReassociationResponse bytes.now x.0 x.1.now) }
 {
     if bytes.len() < 30 {
@@ -101,7 +105,8 @@ pub(crate) fn reassociation_response(bytes: &[u8]) -> Result<(Management, &[u8])
 
 pub(crate) fn disassociation(bytes: &[u8]) -> Result<(Management, &[u8]), Fault>
     requires { 24 ≤ length bytes.now }
-    ensures fault { IfErr result (λ f. first (body_tests subtypes.Disassociation bytes.now) ≡ Some f) }
+    ensures fault { IfErr result
+        (λ f. first (body_tests subtypes.Disassociation bytes.now) ≡ Some f) }
     ensures found { IfOk result (λ x. IsBody subtypes.Disassociation bytes.now x.0 x.1.now) }
 {
     if bytes.len() != 26 {
@@ -115,7 +120,8 @@ pub(crate) fn disassociation(bytes: &[u8]) -> Result<(Management, &[u8]), Fault>
 
 pub(crate) fn authentication(bytes: &[u8]) -> Result<(Management, &[u8]), Fault>
     requires { 24 ≤ length bytes.now }
-    ensures fault { IfErr result (λ f. first (body_tests subtypes.Authentication bytes.now) ≡ Some f) }
+    ensures fault { IfErr result
+        (λ f. first (body_tests subtypes.Authentication bytes.now) ≡ Some f) }
     ensures found { IfOk result (λ x. IsBody subtypes.Authentication bytes.now x.0 x.1.now) }
 {
     if bytes.len() != 30 {
@@ -131,7 +137,8 @@ pub(crate) fn authentication(bytes: &[u8]) -> Result<(Management, &[u8]), Fault>
 
 pub(crate) fn deauthentication(bytes: &[u8]) -> Result<(Management, &[u8]), Fault>
     requires { 24 ≤ length bytes.now }
-    ensures fault { IfErr result (λ f. first (body_tests subtypes.Deauthentication bytes.now) ≡ Some f) }
+    ensures fault { IfErr result
+        (λ f. first (body_tests subtypes.Deauthentication bytes.now) ≡ Some f) }
     ensures found { IfOk result (λ x. IsBody subtypes.Deauthentication bytes.now x.0 x.1.now) }
 {
     if bytes.len() != 26 {

@@ -15,7 +15,8 @@ use Rattle.mac_types.specs.Numbers.{IsTid, IsBufferSize}
 -- 3 Retry, 4 Power Management, 5 More Data, 6 Protected Frame, 7 Order
 
 abbrev pub flags_octet : Bool → FrameFlags → ℕ
-flags_octet to_ds f = bit_of to_ds + 8 * bit_of f.retry + 16 * bit_of f.power_management + 32 * bit_of f.more_data
+flags_octet to_ds f =
+    bit_of to_ds + 8 * bit_of f.retry + 16 * bit_of f.power_management + 32 * bit_of f.more_data
 
 abbrev pub IsFrameFlags : FrameFlags → Type 0
 IsFrameFlags f = Unit {0}
@@ -23,7 +24,8 @@ IsFrameFlags f = Unit {0}
 -- To DS as it has to be, and no From DS, More Fragments, Protected Frame or Order
 abbrev pub are_flags : Bool → ℕ → Bool
 are_flags to_ds octet =
-    (bits octet 0 1 == bit_of to_ds) && ((bits octet 1 1 == 0) && ((bits octet 2 1 == 0) && ((bits octet 6 1 == 0) && (bits octet 7 1 == 0))))
+    (bits octet 0 1 == bit_of to_ds) && ((bits octet 1 1 == 0)
+    && ((bits octet 2 1 == 0) && ((bits octet 6 1 == 0) && (bits octet 7 1 == 0))))
 
 -- ---- QoS Control (9.2.4.5): bits 0 to 3 the TID, 4 the end of a service period, 5 and 6 the Ack Policy, 7 A-MSDU
 -- Present, 8 to 15 on transmission opportunities and queues
@@ -35,7 +37,8 @@ ack_policy policies.NoExplicitAck = 2
 ack_policy policies.BlockAck = 3
 
 abbrev pub qos_control : QosControl → ℕ
-qos_control q = q.tid + 16 * bit_of q.end_of_service_period + 32 * ack_policy q.ack_policy + 256 * q.upper
+qos_control q =
+    q.tid + 16 * bit_of q.end_of_service_period + 32 * ack_policy q.ack_policy + 256 * q.upper
 
 abbrev pub IsQosControl : QosControl → Type 0
 IsQosControl q = IsTid q.tid × (q.upper < 256)
@@ -52,14 +55,21 @@ block_ack_policy block_policies.Delayed = 0
 block_ack_policy block_policies.Immediate = 1
 
 abbrev pub block_ack_parameters : BlockAckParameters → ℕ
-block_ack_parameters p = bit_of p.amsdu_supported + 2 * block_ack_policy p.policy + 4 * p.tid + 64 * p.buffer_size
+block_ack_parameters p =
+    bit_of p.amsdu_supported + 2 * block_ack_policy p.policy + 4 * p.tid + 64 * p.buffer_size
 
 abbrev pub IsBlockAckParameters : BlockAckParameters → Type 0
 IsBlockAckParameters p = IsTid p.tid × IsBufferSize p.buffer_size
 
 -- immediate acknowledgement, and no A-MSDU
 abbrev pub immediate_parameters : ℕ → ℕ → BlockAckParameters
-immediate_parameters tid size = record { amsdu_supported = false; policy = block_policies.Immediate; tid = tid; buffer_size = size }
+immediate_parameters tid size =
+    record {
+      amsdu_supported = false;
+      policy = block_policies.Immediate;
+      tid = tid;
+      buffer_size = size;
+    }
 
 -- a TID below 8
 abbrev pub are_block_ack_parameters : ℕ → Bool

@@ -36,4 +36,6 @@ block_ack_control tid = 4 + 4096 * tid
 
 -- a TID below 8, a compressed bitmap, and nothing else
 abbrev pub is_block_ack_control : ℕ → Bool
-is_block_ack_control field = nat_lt (bits field 12 4) 8 && ((bits field 2 1 == 1) && ((bits field 0 2 == 0) && (bits field 3 9 == 0)))
+is_block_ack_control field =
+    nat_lt (bits field 12 4) 8
+    && ((bits field 2 1 == 1) && ((bits field 0 2 == 0) && (bits field 3 9 == 0)))

@@ -2,8 +2,10 @@
 use Rattle.std.specs.Prelude.{◌≡◌, ℕ, ◌<◌, Bool, true}
 
 -- a field passes the test where it spells a value, and then it spells just one
-pub record IsSpelling {V : Type 0} (limit : ℕ) (Fits : V → Type 0) (field_of : V → ℕ) (test : ℕ → Bool) : Type 0 where
+pub record IsSpelling
+    {V : Type 0} (limit : ℕ) (Fits : V → Type 0) (field_of : V → ℕ) (test : ℕ → Bool) : Type 0 where
   pub below : (v : V) → Fits v → field_of v < limit
   pub passes : (v : V) → Fits v → test (field_of v) ≡ true
-  pub found : (field : ℕ) → field < limit → test field ≡ true → (v : V) × Fits v × (field ≡ field_of v)
+  pub found :
+      (field : ℕ) → field < limit → test field ≡ true → (v : V) × Fits v × (field ≡ field_of v)
   pub one : (v w : V) → Fits v → Fits w → field_of v ≡ field_of w → v ≡ w

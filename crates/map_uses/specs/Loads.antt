@@ -13,7 +13,8 @@ pub record IsSeatAt (tables : List Map) (at word : ℕ) (seat : Place) : Type 0 
   pub inside : word < word_count table.shape
 
 -- the seat has loaded the word
-pub record Loaded (tables : List Map) (at word : ℕ) (seat : Place) (answer : ℕ) (seat' : Place) : Type 0 where
+pub record Loaded
+    (tables : List Map) (at word : ℕ) (seat : Place) (answer : ℕ) (seat' : Place) : Type 0 where
   pub table : Map
   pub table_is : slice_get tables at ≡ Some table
   pub same_table : seat'.table ≡ seat.table

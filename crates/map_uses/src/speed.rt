@@ -61,10 +61,13 @@ fn add_by_four<R: Threads + Sync>(
     join(
         rt,
         || -> ()
-            requires { IsSync R.row × (one.table ≡ table.now.table) × (two.table ≡ table.now.table) × (near.0 < word_count table.now.shape) × (near.1 < word_count table.now.shape) }
+            requires { IsSync R.row × (one.table ≡ table.now.table) × (two.table ≡ table.now.table)
+                × (near.0 < word_count table.now.shape) × (near.1 < word_count table.now.shape) }
         { add_by_two(rt, table, near, one, two) },
         || -> ()
-            requires { IsSync R.row × (three.table ≡ table.now.table) × (four.table ≡ table.now.table) × (far.0 < word_count table.now.shape) × (far.1 < word_count table.now.shape) }
+            requires { IsSync R.row × (three.table ≡ table.now.table)
+                × (four.table ≡ table.now.table) × (far.0 < word_count table.now.shape)
+                × (far.1 < word_count table.now.shape) }
         { add_by_two(rt, table, far, three, four) },
     );
 }

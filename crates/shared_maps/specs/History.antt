@@ -39,11 +39,13 @@ IsAnswer width (Store x) answer = answer ≡ 0
 IsAnswer width operation answer = answer < modulus width
 
 abbrev pub entry : ℕ → ℕ → MapOp → ℕ → Entry
-entry seat word operation answer = record { seat = seat; word = word; operation = operation; answer = answer }
+entry seat word operation answer =
+    record { seat = seat; word = word; operation = operation; answer = answer }
 
 -- the array after an access
 abbrev pub array_after : ℕ → List ℕ → Entry → List ℕ
-array_after m array e = slice_set array e.word (number_after m e.operation (slice_index array e.word))
+array_after m array e =
+    slice_set array e.word (number_after m e.operation (slice_index array e.word))
 
 -- the array after all accesses
 abbrev pub array_of : ℕ → List ℕ → List Entry → List ℕ
@@ -53,7 +55,9 @@ array_of m array (e ∷ es) = array_of m (array_after m array e) es
 -- each answer is what the array gives at that point
 abbrev pub Answers : ℕ → List ℕ → List Entry → Type 0
 Answers m array [] = Unit {0}
-Answers m array (e ∷ es) = (e.word < length array) × (e.answer ≡ answer_to e.operation (slice_index array e.word)) × Answers m (array_after m array e) es
+Answers m array (e ∷ es) =
+    (e.word < length array) × (e.answer ≡ answer_to e.operation (slice_index array e.word))
+    × Answers m (array_after m array e) es
 
 -- the words of a new map
 abbrev pub zeros : Shape → List ℕ

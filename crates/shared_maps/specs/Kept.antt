@@ -32,7 +32,8 @@ pub record IsKept (shape : Shape) (words : List ℕ) (views : List View) : Type 
   pub places : List ℕ
   pub some_place : 0 < length places
   pub legal : IsLegal shape log
-  pub words_are : words ≡ map (λ n. n * 2 ^ shift_of shape.width) (array_of (modulus shape.width) (zeros shape) log)
+  pub words_are : words
+      ≡ map (λ n. n * 2 ^ shift_of shape.width) (array_of (modulus shape.width) (zeros shape) log)
   pub nobody : accesses_by 0 log ≡ []
   pub later : (n : ℕ) → length places ≤ n → accesses_by n log ≡ []
   pub each : (id : ℕ) (v : View) → get_elem? views id ≡ some v → Fits log places id v
@@ -50,7 +51,8 @@ known v = record { number = v.number; seen = v.seen; own = v.own }
 -- what an access tells: at a store the number found is the one stored, and plays no part
 abbrev pub Made : Shape → MapOp → Step Unit → Me Unit View → ℕ → Me Unit View → Type 0
 Made shape operation s me found me' =
-    (me'.1 ≡ me.1) × Extends shape (known me.0) s.word operation (answer_to operation (found / 2 ^ shift_of shape.width)) (known me'.0)
+    (me'.1 ≡ me.1) × Extends shape (known me.0) s.word operation
+    (answer_to operation (found / 2 ^ shift_of shape.width)) (known me'.0)
 
 -- the next seat, and the view that numbers seats after it
 abbrev pub seated : View → View
@@ -64,10 +66,12 @@ abbrev pub note : List Entry → View
 note seen = record { number = 0; following = 0; seen = seen; own = []; told = [] }
 
 abbrev pub hearing : View → View → View
-hearing v w = record { number = v.number; following = v.following; seen = v.seen; own = v.own; told = w.seen }
+hearing v w =
+    record { number = v.number; following = v.following; seen = v.seen; own = v.own; told = w.seen }
 
 abbrev pub following : View → View → View
-following v w = record { number = v.number; following = v.following; seen = w.seen; own = v.own; told = v.told }
+following v w =
+    record { number = v.number; following = v.following; seen = w.seen; own = v.own; told = v.told }
 
 -- what a look tells: the history so far
 pub record Learned (shape : Shape) (me me' : Me Unit View) : Type 0 where

@@ -20,7 +20,8 @@ pub record Witnesses (shape : Shape) (v : Known) : Type 0 where
   pub own : accesses_by v.number v.seen ≡ v.own
 
 -- After an access the seat has seen a history that begins with what it had seen and ends with this access.
-pub record Extends (shape : Shape) (v : Known) (word : ℕ) (operation : MapOp) (answer : ℕ) (w : Known) : Type 0 where
+pub record Extends (shape : Shape) (v : Known) (word : ℕ) (operation : MapOp) (answer : ℕ)
+    (w : Known) : Type 0 where
   pub between : List Entry
   pub number : w.number ≡ v.number
   pub seen : w.seen ≡ (v.seen ++ between) ++ entry v.number word operation answer ∷ []

@@ -51,7 +51,8 @@ pub fn step<J: Asking>(
     requires own { seat.old.table_id ≡ table.now.shared.table_id }
     requires inside { word < table.now.shared.table_id.words }
     requires numbered { 0 < seat.old.me.0.number }
-    ensures own { (seat.new.table_id ≡ seat.old.table_id) × (seat.new.id ≡ seat.old.id) × (seat.new.me.1 ≡ seat.old.me.1) }
+    ensures own { (seat.new.table_id ≡ seat.old.table_id) × (seat.new.id ≡ seat.old.id)
+        × (seat.new.me.1 ≡ seat.old.me.1) }
     ensures made { Extends shape (known seat.old.me.0) word operation result (known seat.new.me.0) }
     ensures in_range { result < modulus shape.width }
 {

@@ -32,9 +32,15 @@ pub struct MapTable {
 impl Model for MapTable {
     ghost Value = { Map };
 
-    ghost view = { λ t. record { table = t.table.shared.table_id; shape = t.shape; seats = t.seats; given = t.given } };
+    ghost view = { λ t. record {
+      table = t.table.shared.table_id;
+      shape = t.shape;
+      seats = t.seats;
+      given = t.given;
+    } };
 
-    ghost invariant = { λ t. IsLaid t.table.shared.table_id t.table.shared.key t.shape × IsNumbering t.table.shared.table_id t.root t.given × (t.given ≤ t.seats) };
+    ghost invariant = { λ t. IsLaid t.table.shared.table_id t.table.shared.key t.shape
+        × IsNumbering t.table.shared.table_id t.root t.given × (t.given ≤ t.seats) };
 }
 
 /// One user's place at a table: what it has seen of the table's history, and its own accesses. It may move to another thread.
@@ -99,8 +105,10 @@ impl MapTable {
     /// The next seat. Fault 62 comes once all are given out.
     /// Nothing is said of a seat that is left: only tests show that it is given.
     pub fn seat(&mut self) -> Result<MapSeat, MapFault>
-        ensures same { (self.new.table ≡ self.old.table) × (self.new.shape ≡ self.old.shape) × (self.new.seats ≡ self.old.seats) }
-        ensures given { MatchResult result (λ seat. self.new.given ≡ self.old.given + 1) (λ _. self.new.given ≡ self.old.given) }
+        ensures same { (self.new.table ≡ self.old.table) × (self.new.shape ≡ self.old.shape)
+            × (self.new.seats ≡ self.old.seats) }
+        ensures given { MatchResult result (λ seat. self.new.given ≡ self.old.given + 1)
+            (λ _. self.new.given ≡ self.old.given) }
         ensures few { self.new.given ≤ self.new.seats }
 
         ensures own { IfOk result (λ seat. seat.table ≡ self.old.table) }
@@ -142,7 +150,8 @@ impl MapTable {
     pub fn meet(&self, one: &mut MapSeat, other: &mut MapSeat)
         requires own { (one.old.table ≡ self.now.table) × (other.old.table ≡ self.now.table) }
         ensures tables { (one.new.table ≡ one.old.table) × (other.new.table ≡ other.old.table) }
-        ensures met { Meets self.now.shape one.old.known other.old.known one.new.known other.new.known }
+        ensures met { Meets self.now.shape one.old.known other.old.known
+            one.new.known other.new.known }
     {
         let shared = &self.table.shared;
         let told = shared.split_seat::<Tells>(&mut other.seat);
