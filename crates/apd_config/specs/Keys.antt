@@ -5,6 +5,7 @@ use Rattle.apd_config.specs.declared.keys.Key.TheVariants.{Bssid, Ssid, Rates, D
 use Rattle.apd_config.specs.declared.keys.MapKey.{MapKey}
 use Rattle.apd_config.specs.declared.keys.MapKey.TheVariants.{Entries, Words, Width, Scope}
 
+-- the keys of a configuration
 abbrev pub text_of : Key → List ℕ
 text_of Bssid = codes "bssid"
 text_of Ssid = codes "ssid"
@@ -12,6 +13,7 @@ text_of Rates = codes "rates"
 text_of Draw = codes "draw"
 text_of Map = codes "map"
 
+-- the keys of a map's table
 abbrev pub map_text_of : MapKey → List ℕ
 map_text_of Entries = codes "entries"
 map_text_of Words = codes "words"

@@ -23,6 +23,7 @@ abbrev pub ssid_of : Data → Option (List ℕ)
 ssid_of (string text) = (if nat_le (length text) 32 then Some text else None)
 ssid_of _ = None
 
+-- 1 to 8 of them
 abbrev pub if_few : List ℕ → Option (List ℕ)
 if_few rates = (if nat_le 1 (length rates) && nat_le (length rates) 8 then Some rates else None)
 
@@ -41,10 +42,12 @@ abbrev pub count_of : ℕ → Data → Option ℕ
 count_of limit (integer (pos n)) = (if nat_le 1 n && nat_le n limit then Some n else None)
 count_of limit _ = None
 
+-- words of 4 or 8 bytes
 abbrev pub width_of : Data → Option WordWidth
 width_of (integer (pos n)) = (if n == 4 then Some Four else (if n == 8 then Some Eight else None))
 width_of _ = None
 
+-- `shared` by all workers, or one for each `worker`
 abbrev pub scope_of : Data → Option Scope
 scope_of (string text) =
     (if bytes_eq text (codes "shared") then Some Shared
@@ -58,6 +61,7 @@ scope_or_shared (Some d) = scope_of d
 
 -- ---- tables
 
+-- the keys of a table, in order
 abbrev pub keys_in : Members → List (List ℕ)
 keys_in no_members = []
 keys_in (member key value rest) = key ∷ keys_in rest
@@ -75,6 +79,7 @@ is_map_key text =
     bytes_eq text (codes "entries") || (bytes_eq text (codes "words")
     || (bytes_eq text (codes "width") || bytes_eq text (codes "scope")))
 
+-- a map's table says this shape, and has no other keys
 pub record SaysShape (m : Members) (s : Shape) : Type 0 where
   pub keys : list_all is_map_key (keys_in m) ≡ true
   pub entries : option_and_then (count_of 4096) (get_member (codes "entries") m) ≡ Some s.entries
@@ -82,6 +87,7 @@ pub record SaysShape (m : Members) (s : Shape) : Type 0 where
   pub width : option_and_then width_of (get_member (codes "width") m) ≡ Some s.width
   pub scope : scope_or_shared (get_member (codes "scope") m) ≡ Some s.scope
 
+-- the item is a table that says this shape
 abbrev pub SaysMap : Data → Shape → Type 0
 SaysMap (table m) s = SaysShape m s
 SaysMap _ s = ⊥

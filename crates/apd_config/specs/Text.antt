@@ -33,14 +33,17 @@ pub record IsTextOf (text : List ℕ) (c : Configuration) : Type 0 where
 
 -- ---- faults
 
+-- the data is a table
 abbrev pub is_table : Data → Bool
 is_table (table m) = true
 is_table _ = false
 
+-- all items are tables
 abbrev pub are_tables : Items → Bool
 are_tables no_items = true
 are_tables (item d rest) = is_table d && are_tables rest
 
+-- how many items there are
 abbrev pub count_items : Items → ℕ
 count_items no_items = 0
 count_items (item d rest) = suc (count_items rest)
@@ -58,12 +61,14 @@ IsNoValue top.Rates d = rates_of d ≡ None
 IsNoValue top.Draw d = draw_of d ≡ None
 IsNoValue top.Map d = are_maps d ≡ false
 
+-- the data is no value of a map's key
 abbrev pub IsNoMapValue : MapKey → Data → Type 0
 IsNoMapValue in_map.Entries d = count_of 4096 d ≡ None
 IsNoMapValue in_map.Words d = count_of 8 d ≡ None
 IsNoMapValue in_map.Width d = width_of d ≡ None
 IsNoMapValue in_map.Scope d = scope_of d ≡ None
 
+-- the table has a key that is none of those known
 pub record HasUnknownKey (t : Members) (known : List ℕ → Bool) (text : List ℕ) : Type 0 where
   pub there : Contains (keys_in t) text
   pub unknown : known text ≡ false
@@ -72,11 +77,13 @@ pub record HasUnknownKey (t : Members) (known : List ℕ → Bool) (text : List 
 abbrev pub LacksKey : Members → List ℕ → Type 0
 LacksKey t text = get_member text t ≡ None
 
+-- the table has the key, with data that is no value of it
 pub record HasBadValue (t : Members) (k : Key) : Type 0 where
   pub value : Data
   pub there : get_member (text_of k) t ≡ Some value
   pub bad : IsNoValue k value
 
+-- a map's table has the key, with data that is no value of it
 pub record HasBadMapValue (m : Members) (k : MapKey) : Type 0 where
   pub value : Data
   pub there : get_member (map_text_of k) m ≡ Some value
@@ -105,6 +112,7 @@ pub record TellsOfSomeItem (maps : Items) (f : ConfigFault) : Type 0 where
   pub there : get_item number maps ≡ Some (table map)
   pub tells : TellsOfMap map number f
 
+-- the configuration has an array of maps, one of which has the fault
 pub record TellsOfSomeMap (t : Members) (f : ConfigFault) : Type 0 where
   pub maps : Items
   pub there : get_member (codes "map") t ≡ Some (array maps)

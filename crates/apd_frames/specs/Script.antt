@@ -6,6 +6,7 @@ use Rattle.capture.specs.declared.fault.LeftOut.{LeftOut}
 use Rattle.capture.specs.declared.fault.LeftOut.TheVariants.{Cut, Radiotap, CheckSequence}
 use Rattle.capture.specs.Packets.{Seen}
 
+-- why a packet has no frame, in words
 abbrev pub reason_of : LeftOut → List ℕ
 reason_of Cut = codes "it was cut when it was captured"
 reason_of Radiotap = codes "its radiotap header is damaged"
@@ -16,6 +17,7 @@ abbrev pub left_out_line : ℕ → List ℕ → List ℕ
 left_out_line number reason =
     codes "# packet " ++ (decimal number ++ (codes " is left out: " ++ (reason ++ 10 ∷ [])))
 
+-- `frame HEX`
 abbrev pub frame_line : List ℕ → List ℕ
 frame_line frame = codes "frame " ++ (encode_lower frame ++ 10 ∷ [])
 
@@ -26,10 +28,12 @@ frame_lines number frame =
     (if nat_lt 2400 (length frame)
     then left_out_line number (codes "it has more than 2400 bytes") else frame_line frame))
 
+-- the frame of a packet, or why it is left out
 abbrev pub packet_lines : ℕ → Result (List ℕ) LeftOut → List ℕ
 packet_lines number (Ok frame) = frame_lines number frame
 packet_lines number (Err left_out) = left_out_line number (reason_of left_out)
 
+-- `tick N`
 abbrev pub tick_line : ℕ → List ℕ
 tick_line units = codes "tick " ++ (decimal units ++ 10 ∷ [])
 
@@ -54,5 +58,6 @@ abbrev pub start_of : List Seen → ℕ
 start_of [] = 0
 start_of (packet ∷ packets) = packet.time
 
+-- the whole capture, with its times or without; the time of the first packet is the start
 abbrev pub script_of : Bool → List Seen → List ℕ
 script_of ticks packets = lines_from ticks (start_of packets) 1 0 packets

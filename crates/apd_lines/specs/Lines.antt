@@ -30,6 +30,7 @@ told_text number (told.Certificate fault) =
 told_text number told.Unreadable = line_of number (codes "unreadable")
 told_text number (told.Word value) = line_of number (then (codes "word") (decimal value))
 
+-- the lines of one report
 abbrev pub report_text : Report → List ℕ
 report_text r = told_text r.line r.told
 

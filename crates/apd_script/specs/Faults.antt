@@ -12,6 +12,7 @@ Refuses maps text (Line number) =
     (before : ℕ) × (number ≡ before + 1) × IsMalformedAfter maps text before
 Refuses maps text NoMemory = Unit {0}
 
+-- a fault as it is printed
 abbrev pub text_of : ScriptFault → List ℕ
 text_of (Line number) = codes "script line " ++ decimal number
 text_of NoMemory = codes "out of memory"

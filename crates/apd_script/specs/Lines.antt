@@ -12,6 +12,7 @@ use Rattle.apd_script.specs.Asked.{Asked, Frame, Tick, Kick, Close, Load, Unload
 use Rattle.apd_script.specs.Words.{words, is_forbidden, begins_comment, number_below, address, hook_named}
 
 infixl 10 ◌>>=◌
+-- what follows from a part that is there
 abbrev pub ◌>>=◌ : {A B : Type 0} → Option A → (A → Option B) → Option B
 o >>= f = option_and_then f o
 
@@ -57,6 +58,7 @@ adopt_said (name ∷ path ∷ certificate ∷ []) =
     option_map (λ hook. Adopt hook path certificate) (hook_named name)
 adopt_said _ = None
 
+-- both are the same scope
 abbrev pub is_scope : Scope → Scope → Bool
 is_scope Shared Shared = true
 is_scope Worker Worker = true

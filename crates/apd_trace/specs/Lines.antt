@@ -8,9 +8,11 @@ use Rattle.bpf_machine.specs.declared.outcome.Step.{Step}
 abbrev pub insn_line : ℕ → Insn → List ℕ
 insn_line pc insn = decimal pc ++ (32 ∷ (text_of insn ++ 10 ∷ []))
 
+-- `note N`
 abbrev pub note_line : ℕ → List ℕ
 note_line n = codes "note " ++ (decimal n ++ 10 ∷ [])
 
+-- `r0 N steps N`: the result, and how many steps were made
 abbrev pub end_line : ℕ → ℕ → List ℕ
 end_line r0 steps = codes "r0 " ++ (decimal r0 ++ (codes " steps " ++ (decimal steps ++ 10 ∷ [])))
 
@@ -20,6 +22,7 @@ line_at pc (Some (Some insn)) = insn_line pc insn
 line_at pc (Some None) = []
 line_at pc None = []
 
+-- the note of a step, if it made one
 abbrev pub noted_line : Option ℕ → List ℕ
 noted_line (Some n) = note_line n
 noted_line None = []
@@ -28,6 +31,7 @@ noted_line None = []
 abbrev pub step_lines : List (Option Insn) → Step → List ℕ
 step_lines slots step = line_at step.pc (slice_get slots step.pc) ++ noted_line step.note
 
+-- the lines of all steps, in order
 abbrev pub steps_text : List (Option Insn) → List Step → List ℕ
 steps_text slots [] = []
 steps_text slots (step ∷ log) = step_lines slots step ++ steps_text slots log

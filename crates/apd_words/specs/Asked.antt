@@ -21,6 +21,7 @@ pub data Asked : Type 0 where
   Frames : Text → Bool → Asked
   Help : Option Text → Asked
 
+-- what a request asks for
 abbrev pub asked_of : Request → Asked
 asked_of (request.Verify hook file config) = Verify hook file.now (option_map (λ s. s.now) config)
 asked_of (request.Assemble file) = Assemble file.now
@@ -37,9 +38,11 @@ asked_of (request.Frames capture ticks) = Frames capture.now ticks
 asked_of (request.Help command) = Help (option_map (λ s. s.now) command)
 
 infixl 10 ◌>>=◌
+-- what follows from a part that is there
 abbrev pub ◌>>=◌ : {A B : Type 0} → Option A → (A → Option B) → Option B
 o >>= f = option_and_then f o
 
+-- the hook of a name
 abbrev pub hook_named : Text → Option Hook
 hook_named text =
     (if bytes_eq text (codes "assoc") then Some Association
@@ -58,25 +61,30 @@ workers_named _ = None
 abbrev pub is_set : Text → List Row → Bool
 is_set flag rows = option_map_or (λ text. bytes_eq text (codes "true")) (first_of flag rows) false
 
+-- the hook that the argument HOOK names
 abbrev pub hook_at : List Row → Option Hook
 hook_at rows = option_and_then hook_named (first_of (codes "HOOK") rows)
 
+-- `verify HOOK FILE [--config C]`
 abbrev pub verify_of : List Row → Option Asked
 verify_of rows = do
   hook ← hook_at rows
   file ← first_of (codes "FILE") rows
   Some (Verify hook file (first_of (codes "config") rows))
 
+-- `asm FILE`
 abbrev pub assemble_of : List Row → Option Asked
 assemble_of rows = do
   file ← first_of (codes "FILE") rows
   Some (Assemble file)
 
+-- `disasm FILE [--config C] [--slots]`
 abbrev pub disassemble_of : List Row → Option Asked
 disassemble_of rows = do
   file ← first_of (codes "FILE") rows
   Some (Disassemble file (first_of (codes "config") rows) (is_set (codes "slots") rows))
 
+-- `trace HOOK FILE FRAME [--config C]`
 abbrev pub trace_of : List Row → Option Asked
 trace_of rows = do
   hook ← hook_at rows
@@ -84,6 +92,7 @@ trace_of rows = do
   frame ← first_of (codes "FRAME") rows
   Some (Trace hook file frame (first_of (codes "config") rows))
 
+-- `run C SCRIPT [--workers N]`
 abbrev pub run_of : List Row → Option Asked
 run_of rows = do
   config ← first_of (codes "C") rows
@@ -91,12 +100,14 @@ run_of rows = do
   workers ← option_and_then workers_named (first_of (codes "workers") rows)
   Some (Run config script workers)
 
+-- `cert HOOK FILE [--config C]`
 abbrev pub certify_of : List Row → Option Asked
 certify_of rows = do
   hook ← hook_at rows
   file ← first_of (codes "FILE") rows
   Some (Certify hook file (first_of (codes "config") rows))
 
+-- `check HOOK FILE CERT [--config C]`
 abbrev pub check_of : List Row → Option Asked
 check_of rows = do
   hook ← hook_at rows
@@ -104,16 +115,19 @@ check_of rows = do
   certificate ← first_of (codes "CERT") rows
   Some (Check hook file certificate (first_of (codes "config") rows))
 
+-- `explain NUMBER`
 abbrev pub explain_of : List Row → Option Asked
 explain_of rows = do
   number ← first_of (codes "NUMBER") rows
   Some (Explain number)
 
+-- `frames CAPTURE [--no-ticks]`
 abbrev pub frames_of : List Row → Option Asked
 frames_of rows = do
   capture ← first_of (codes "CAPTURE") rows
   Some (Frames capture (not (is_set (codes "no-ticks") rows)))
 
+-- `help [COMMAND]`
 abbrev pub help_of : List Row → Option Asked
 help_of rows = Some (Help (first_of (codes "COMMAND") rows))
 
@@ -131,5 +145,6 @@ command_asks name rows =
     else (if bytes_eq name (codes "frames") then frames_of rows
     else (if bytes_eq name (codes "help") then help_of rows else None))))))))))
 
+-- what the words ask for, by the command that they name and its arguments
 abbrev pub asked_in : Option (Text × List Row) → Option Asked
 asked_in = option_and_then (λ c. command_asks c.0 c.1)

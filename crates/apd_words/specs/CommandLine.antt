@@ -7,9 +7,11 @@ use Rattle.clap.specs.declared.builder.action.ArgAction.TheVariants.{Set, SetTru
 use Rattle.clap.specs.declared.builder.value_parser.ValueParser.{ValueParser}
 use Rattle.clap.specs.declared.builder.value_parser.ValueParser.TheVariants.{Names}
 
+-- the names of the hooks
 abbrev pub hook_names : List Text
 hook_names = codes "assoc" ∷ codes "addba" ∷ codes "data" ∷ []
 
+-- the numbers of workers that may be asked for
 abbrev pub worker_names : List Text
 worker_names =
     codes "1" ∷ codes "2" ∷ codes "3" ∷ codes "4" ∷ codes "5" ∷ codes "6"
@@ -37,19 +39,24 @@ flag name = record (new_rule name) { long = Some name; action = Some SetTrue }
 abbrev pub option : Text → Rule
 option name = record (new_rule name) { long = Some name; value_names = 1; action = Some Set }
 
+-- the argument FILE
 abbrev pub file : Rule
 file = required (codes "FILE")
 
+-- `--config C`
 abbrev pub config : Rule
 config = option (codes "config")
 
+-- the argument HOOK, which has to be the name of one
 abbrev pub hook : ValueParser → Rule
 hook hooks = record (required (codes "HOOK")) { parser = Some hooks }
 
+-- `--workers N`, 2 where it is left out
 abbrev pub workers : ValueParser → Rule
 workers numbers =
     record (option (codes "workers")) { parser = Some numbers; defaults = codes "2" ∷ [] }
 
+-- a command with these arguments
 abbrev pub command : Text → List Rule → Shape
 command name rules = record (new_shape name) { rules = rules }
 
@@ -57,34 +64,44 @@ command name rules = record (new_shape name) { rules = rules }
 abbrev pub hook_command : Text → ValueParser → List Rule → Shape
 hook_command name hooks more = command name (hook hooks ∷ file ∷ more)
 
+-- `verify HOOK FILE [--config C]`
 abbrev pub verify : ValueParser → Shape
 verify hooks = hook_command (codes "verify") hooks (config ∷ [])
 
+-- `asm FILE`
 abbrev pub assemble : Shape
 assemble = command (codes "asm") (file ∷ [])
 
+-- `disasm FILE [--config C] [--slots]`
 abbrev pub disassemble : Shape
 disassemble = command (codes "disasm") (file ∷ config ∷ flag (codes "slots") ∷ [])
 
+-- `trace HOOK FILE FRAME [--config C]`
 abbrev pub trace : ValueParser → Shape
 trace hooks = hook_command (codes "trace") hooks (required (codes "FRAME") ∷ config ∷ [])
 
+-- `run C SCRIPT [--workers N]`
 abbrev pub run : ValueParser → Shape
 run numbers =
     command (codes "run") (required (codes "C") ∷ required (codes "SCRIPT") ∷ workers numbers ∷ [])
 
+-- `cert HOOK FILE [--config C]`
 abbrev pub certify : ValueParser → Shape
 certify hooks = hook_command (codes "cert") hooks (config ∷ [])
 
+-- `check HOOK FILE CERT [--config C]`
 abbrev pub check : ValueParser → Shape
 check hooks = hook_command (codes "check") hooks (required (codes "CERT") ∷ config ∷ [])
 
+-- `explain NUMBER`
 abbrev pub explain : Shape
 explain = command (codes "explain") (required (codes "NUMBER") ∷ [])
 
+-- `frames CAPTURE [--no-ticks]`
 abbrev pub frames : Shape
 frames = command (codes "frames") (required (codes "CAPTURE") ∷ flag (codes "no-ticks") ∷ [])
 
+-- `help [COMMAND]`
 abbrev pub help : Shape
 help = command (codes "help") (optional (codes "COMMAND") ∷ [])
 
@@ -100,17 +117,21 @@ program = record {
   subs = [];
 }
 
+-- the commands on programs' text and code
 abbrev pub with_code_commands : ValueParser → App → App
 with_code_commands hooks a =
     with_subcommand (with_subcommand (with_subcommand a (verify hooks)) assemble) disassemble
 
+-- the commands that run programs
 abbrev pub with_run_commands : ValueParser → ValueParser → App → App
 with_run_commands hooks numbers a = with_subcommand (with_subcommand a (trace hooks)) (run numbers)
 
+-- the commands on certificates
 abbrev pub with_certificate_commands : ValueParser → App → App
 with_certificate_commands hooks a =
     with_subcommand (with_subcommand a (certify hooks)) (check hooks)
 
+-- the commands that explain and read something
 abbrev pub with_reading_commands : App → App
 with_reading_commands a = with_subcommand (with_subcommand (with_subcommand a explain) frames) help
 

@@ -19,6 +19,7 @@ pub record AsksFor (hooks numbers : ValueParser) (words : List Text) (a : Asked)
 abbrev pub WantsText : ErrorKind → Type 0
 WantsText k = (k ≡ DisplayHelp) ⊎ (k ≡ DisplayVersion)
 
+-- the words come to help or the version
 pub record IsHelp (hooks numbers : ValueParser) (words : List Text) : Type 0 where
   pub kind : ErrorKind
   pub wants : WantsText kind

@@ -25,6 +25,7 @@ class_of frames.Action = Three
 class_of frames.BlockAckReq = Three
 class_of frames.BlockAck = Three
 
+-- classes are counted from 1
 abbrev pub class_number : Class → ℕ
 class_number One = 1
 class_number Two = 2

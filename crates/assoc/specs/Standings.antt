@@ -18,6 +18,7 @@ Standings = List ℕ → Standing
 abbrev pub same_address : List ℕ → List ℕ → Bool
 same_address = pointwise nat_eq
 
+-- the state of a station that is at least authenticated: 2, or 3
 abbrev pub known_state : Known → ℕ
 known_state Authenticated = 2
 known_state (Associated n) = 3
@@ -27,6 +28,7 @@ abbrev pub state_of : Standing → ℕ
 state_of None = 1
 state_of (Some k) = known_state k
 
+-- its association identifier; 0 while it has none
 abbrev pub known_aid : Known → ℕ
 known_aid Authenticated = 0
 known_aid (Associated n) = n
@@ -36,6 +38,7 @@ abbrev pub aid_of : Standing → ℕ
 aid_of None = 0
 aid_of (Some k) = known_aid k
 
+-- it has no association any more
 abbrev pub only_authenticated : Known → Known
 only_authenticated k = Authenticated
 
@@ -78,6 +81,7 @@ pub record Linked : Type 0 where
   pub stations : List (List ℕ × Known)
   pub holders : List (Option (List ℕ))
 
+-- where a station stands, by the table of stations
 abbrev pub standing : Linked → Standings
 standing v a = lookup (same_address a) v.stations
 

@@ -11,6 +11,7 @@ use Rattle.bpf_interval.specs.Interval.{Bounds, after_greater, after_at_most, bo
 use Rattle.bpf_interval.specs.Signed.{place}
 use Rattle.bpf_absnum.specs.Number.{Num, num_of, num_again, is_single, and_then}
 
+-- what is left of both numbers; nothing where no pair takes the way
 abbrev pub NumPair : Type 0
 NumPair = Option (Num × Num)
 
@@ -22,9 +23,11 @@ pair_of a b = and_then (num_again a) (λ u. and_then (num_again b) (λ v. Some (
 abbrev pub turned : NumPair → NumPair
 turned o = and_then o (λ p. Some (p.1, p.0))
 
+-- a with this interval
 abbrev pub with_range : Num → Bounds → Num
 with_range a r = num_of r a.signed a.bits
 
+-- a with this interval of its signed readings
 abbrev pub with_signed : Num → Bounds → Num
 with_signed a s = num_of a.range s a.bits
 
@@ -46,6 +49,7 @@ num_signed_greater wide a b =
     (λ p. pair_of (with_signed a p.0) (with_signed b p.1))
     else num_greater a b)
 
+-- a <= b, of the signed readings
 unfoldable pub num_signed_at_most : Bool → Num → Num → NumPair
 num_signed_at_most wide a b =
     (if wide
@@ -117,6 +121,7 @@ num_fails wide Sge a b = num_holds wide Slt a b
 num_fails wide Slt a b = num_holds wide Sge a b
 num_fails wide Sle a b = num_holds wide Sgt a b
 
+-- the comparison reads both words as signed ones
 abbrev pub is_signed : Compare → Bool
 is_signed Sgt = true
 is_signed Sge = true

@@ -28,42 +28,52 @@ TightenKeeps = (a : Num) (x : ℕ) → InNum a x → (r : Num) × (num_again a �
 abbrev pub IncludedKeeps : Type 0
 IncludedKeeps = (a b : Num) (x : ℕ) → IsNum b → num_included a b ≡ true → InNum a x → InNum b x
 
+-- what stands for all words has each of them
 abbrev pub FullContains : Type 0
 FullContains = (x : ℕ) → x < 2 ^ 64 → InNum num_full x
 
+-- what stands for one word has it
 abbrev pub SingleContains : Type 0
 SingleContains = (x : ℕ) → x < 2 ^ 64 → InNum (num_single x) x
 
+-- the low 32 bits of each word of a are in what a is cut to
 abbrev pub CutContains : Type 0
 CutContains = (a : Num) (x : ℕ) → InNum a x → InNum (num_cut a) (x % 2 ^ 32)
 
 -- ---- each result of the machine is in the result
 
+-- what the machine computes of two words is in what is computed of their abstract numbers
 abbrev pub AluContains : Type 0
 AluContains =
     (wide : Bool) (op : AluOp) (a b : Num) (x y : ℕ) → InNum a x → InNum b y →
     InNum (num_alu wide op a b) (computed wide op x y)
 
+-- so is the negation of a word
 abbrev pub NegatedContains : Type 0
 NegatedContains =
     (wide : Bool) (a : Num) (x : ℕ) → InNum a x → InNum (num_negated wide a) (negation wide x)
 
+-- so is a word that extends the sign of another
 abbrev pub ExtendedContains : Type 0
 ExtendedContains =
     (from : Extension) (wide : Bool) (a : Num) (x : ℕ) → InNum a x →
     InNum (num_extended from wide a) (extended from wide x)
 
+-- so is a word in another byte order
 abbrev pub OrderedContains : Type 0
 OrderedContains =
     (order : ByteOrder) (width : OrderWidth) (a : Num) (x : ℕ) → InNum a x →
     InNum (num_ordered order width a) (ordered order width x)
 
+-- a word of an interval is in the number made of it
 abbrev pub WithinContains : Type 0
 WithinContains = (r : Bounds) (x : ℕ) → InBounds r x → InNum (num_within r) x
 
+-- a word of n bits is in what a load of n bits gives
 abbrev pub LoadedContains : Type 0
 LoadedContains = (n x : ℕ) → n ≤ 64 → x < 2 ^ n → InNum (num_loaded n) x
 
+-- so is one that extends the sign of n bits, for a load with sign
 abbrev pub LoadedSignedContains : Type 0
 LoadedSignedContains =
     (n x : ℕ) → 1 ≤ n → n ≤ 64 → InNum (num_loaded_signed n) (sign_extended 64 n x)

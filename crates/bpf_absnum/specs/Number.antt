@@ -6,6 +6,7 @@ use Rattle.bpf_tnum.specs.Tnum.{Bits, InTnum, tnum_of, tnum_meet, tnum_full, tnu
 use Rattle.bpf_interval.specs.Interval.{Bounds, InBounds, bounds, bounds_full, bounds_included}
 use Rattle.bpf_interval.specs.Signed.{InSigned, place, narrowed}
 
+-- an abstract number stands for the words that all three parts have
 pub record Num : Type 0 where
   pub range : Bounds
   pub signed : Bounds
@@ -17,12 +18,15 @@ pub record InNum (a : Num) (x : ℕ) : Type 0 where
   pub reads : InSigned a.signed x
   pub known : InTnum a.bits x
 
+-- the abstract number of three parts
 abbrev pub num_of : Bounds → Bounds → Bits → Num
 num_of r s t = record { range = r; signed = s; bits = t }
 
+-- all words
 abbrev pub num_full : Num
 num_full = num_of bounds_full bounds_full tnum_full
 
+-- one word
 abbrev pub num_single : ℕ → Num
 num_single n = num_of (bounds n n) (bounds (place n) (place n)) (tnum_single n)
 
@@ -38,6 +42,7 @@ num_included a b =
 
 -- ---- tightening: what each part tells of the others
 
+-- what follows from a part that is there
 abbrev pub and_then : {X Y : Type 0} → Option X → (X → Option Y) → Option Y
 and_then None f = None
 and_then (Some x) f = f x
@@ -50,6 +55,7 @@ ones_up_to n = 2 ^ (64 - leading_zeros w64 n) - 1
 abbrev pub shared_bits : ℕ → ℕ → Bits
 shared_bits l h = let p = ones_up_to (bit_xor l h) in tnum_of (bit_and l (word_not p)) p
 
+-- the interval of two ends, and t met with what its words share; nothing where no word is left
 unfoldable pub tightened_between : ℕ → ℕ → Bits → Option (Bounds × Bits)
 tightened_between l h t =
     (if nat_le l h
@@ -74,6 +80,7 @@ num_tighten r s t =
 abbrev pub num_again : Num → Option Num
 num_again a = num_tighten a.range a.signed a.bits
 
+-- all words where nothing is told
 abbrev pub or_full : Option Num → Num
 or_full o = unwrap_or o num_full
 

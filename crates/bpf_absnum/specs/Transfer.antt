@@ -30,31 +30,39 @@ in_wide wide s = (if wide then s else bounds_full)
 abbrev pub kept : Num → Num
 kept a = or_full (num_again a)
 
+-- ADD
 unfoldable pub row_add : Bool → Num → Num → Num
 row_add wide a b =
     num_tight (bounds_add a.range b.range)
     (in_wide wide (signed_add a.signed b.signed)) (tnum_add a.bits b.bits)
 
+-- SUB
 unfoldable pub row_sub : Bool → Num → Num → Num
 row_sub wide a b =
     num_tight (bounds_sub a.range b.range)
     (in_wide wide (signed_sub a.signed b.signed)) (tnum_sub a.bits b.bits)
 
+-- MUL
 unfoldable pub row_mul : Num → Num → Num
 row_mul a b = num_tight (bounds_mul a.range b.range) bounds_full (tnum_mul a.bits b.bits)
 
+-- DIV, of which the interval alone tells something
 unfoldable pub row_div : Num → Num → Num
 row_div a b = num_tight (bounds_div a.range b.range) bounds_full tnum_full
 
+-- MOD, likewise
 unfoldable pub row_mod : Num → Num → Num
 row_mod a b = num_tight (bounds_rem a.range b.range) bounds_full tnum_full
 
+-- AND
 unfoldable pub row_and : Num → Num → Num
 row_and a b = num_tight (bounds_and a.range b.range) bounds_full (tnum_and a.bits b.bits)
 
+-- OR
 unfoldable pub row_or : Num → Num → Num
 row_or a b = num_tight (bounds_or a.range b.range) bounds_full (tnum_or a.bits b.bits)
 
+-- XOR, of which the tristate numbers alone tell something
 unfoldable pub row_xor : Num → Num → Num
 row_xor a b = num_tight bounds_full bounds_full (tnum_xor a.bits b.bits)
 
@@ -73,9 +81,11 @@ abbrev pub num_by : Option ℕ → (ℕ → Num) → Num
 num_by None f = num_full
 num_by (Some c) f = f c
 
+-- LSH by one count
 unfoldable pub row_lsh : Num → ℕ → Num
 row_lsh a c = num_tight (bounds_shl a.range c) bounds_full (tnum_shl a.bits c)
 
+-- RSH by one count
 unfoldable pub row_rsh : Num → ℕ → Num
 row_rsh a c = num_tight (bounds_shr a.range c) bounds_full (tnum_shr a.bits c)
 
@@ -92,12 +102,15 @@ divisor_of wide b =
     (if wide && is_single b && nat_le 1 b.range.low && nat_lt b.range.low (2 ^ 63)
     then Some b.range.low else None)
 
+-- SDIV by one divisor, of which the signed interval alone tells something
 unfoldable pub row_sdiv : Num → ℕ → Num
 row_sdiv a c = num_tight bounds_full (signed_div a.signed c) tnum_full
 
+-- SMOD, likewise
 unfoldable pub row_smod : Num → ℕ → Num
 row_smod a c = num_tight bounds_full (signed_rem a.signed c) tnum_full
 
+-- the row of each operation (RFC 9669 section 4.1)
 unfoldable pub num_row : Bool → AluOp → Num → Num → Num
 num_row wide Add a b = row_add wide a b
 num_row wide Sub a b = row_sub wide a b
@@ -114,6 +127,7 @@ num_row wide Arsh a b = num_by (count_of wide b) (row_arsh wide a)
 num_row wide Sdiv a b = num_by (divisor_of wide b) (row_sdiv a)
 num_row wide Smod a b = num_by (divisor_of wide b) (row_smod a)
 
+-- MOV, which doesn't read its destination
 abbrev pub is_move : AluOp → Bool
 is_move Mov = true
 is_move op = false
@@ -145,6 +159,7 @@ row_extended n a =
 unfoldable pub row_extended_32 : ℕ → Num → Num
 row_extended_32 n a = (if nat_lt a.range.high (2 ^ (n - 1)) then kept a else num_full)
 
+-- MOVSX
 unfoldable pub num_extended : Extension → Bool → Num → Num
 num_extended from wide a =
     (if is_single a then num_single (extended from wide a.range.low)
@@ -158,6 +173,7 @@ row_ordered Little w a =
     num_tight (bounds_of_bits (order_bits w)) bounds_full (tnum_cut (order_bits w) a.bits)
 row_ordered order w a = num_tight (bounds_of_bits (order_bits w)) bounds_full tnum_full
 
+-- END: the machine's result where the operand is single
 unfoldable pub num_ordered : ByteOrder → OrderWidth → Num → Num
 num_ordered order w a =
     (if is_single a then num_single (ordered order w a.range.low) else row_ordered order w a)

@@ -27,6 +27,7 @@ pub record StackHolds
   pub all : length a.stack ≡ 64
   pub slots : (i : ℕ) → i < 64 → SlotHolds e rooms (slice_index_or a.stack i slot.Unset) f i
 
+-- there are as many live stack frames as call frames, and each holds what its call frame says
 unfoldable pub StacksHold : Labels → List Room → List CallFrame → List StackFrame → Type 0
 StacksHold e rooms [] [] = Unit {0}
 StacksHold e rooms [] (f ∷ fs) = ⊥
@@ -40,6 +41,7 @@ pub record CallerHolds
   pub kept : ValuesHold e rooms a.kept (c.r6 ∷ c.r7 ∷ c.r8 ∷ c.r9 ∷ [])
   pub r10 : c.r10 ≡ value.Pointer (region.Stack k) 512
 
+-- there are as many callers as these call frames, from number k on, and each keeps what its own says
 unfoldable pub CallersHold : Labels → List Room → ℕ → List CallFrame → List Caller → Type 0
 CallersHold e rooms k [] [] = Unit {0}
 CallersHold e rooms k [] (c ∷ cs) = ⊥

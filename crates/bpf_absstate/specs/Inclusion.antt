@@ -7,6 +7,7 @@ use Rattle.bpf_stack.specs.Included.{slots_included}
 use Rattle.bpf_absstate.specs.declared.frames.CallFrame.{CallFrame}
 use Rattle.bpf_absstate.specs.View.{View}
 
+-- both are as many, and each value lies in that at its place
 unfoldable pub values_included : List Room → List Room → List AbsVal → List AbsVal → Bool
 values_included rooms others [] [] = true
 values_included rooms others [] (b ∷ bs) = false
@@ -14,11 +15,13 @@ values_included rooms others (a ∷ more) [] = false
 values_included rooms others (a ∷ more) (b ∷ bs) =
     value_included rooms others a b && values_included rooms others more bs
 
+-- the same return, and what the caller keeps and the stack lie in those of the other
 abbrev pub frame_included : List Room → List Room → CallFrame → CallFrame → Bool
 frame_included rooms others f g =
     f.return_slot == g.return_slot && values_included rooms others f.kept g.kept
     && slots_included rooms others f.stack g.stack
 
+-- as many call frames, and each lies in that at its place
 unfoldable pub frames_included : List Room → List Room → List CallFrame → List CallFrame → Bool
 frames_included rooms others [] [] = true
 frames_included rooms others [] (g ∷ gs) = false

@@ -39,6 +39,7 @@ pub record SameDepth (a : View) (s : State) : Type 0 where
   pub stacks : length s.stack ≡ length a.frames
   pub callers : length s.callers + 1 ≡ length a.frames
 
+-- a state has as many stack frames and callers as its abstract state says
 abbrev pub DepthsAgree : Type 0
 DepthsAgree = (e : Labels) (a : View) (s : State) → HoldsIn e a s → SameDepth a s
 
@@ -112,6 +113,7 @@ entered s to =
       callers = s.callers ++ caller_of s ∷ [];
     }
 
+-- a call of a function is followed
 abbrev pub CallHolds : Type 0
 CallHolds =
     (e : Labels) (a : View) (s : State) (to : ℕ) → HoldsIn e a s →
@@ -141,11 +143,13 @@ ForgettingHolds =
     (e d : Labels) (label : ℕ) (a : View) (s : State) → AgreeApart label e d → HoldsIn e a s →
     HoldsIn d (without_label a label) s
 
+-- a least length may be noted that the frame has
 abbrev pub LeastHolds : Type 0
 LeastHolds =
     (e : Labels) (a : View) (s : State) (n : ℕ) → n ≤ length e.setting.frame → HoldsIn e a s →
     HoldsIn e (with_least a n) s
 
+-- so may room behind a label
 abbrev pub RoomsHold : Type 0
 RoomsHold =
     (e : Labels) (a : View) (s : State) (label n : ℕ) → e.base label + n ≤ length e.setting.frame →

@@ -13,6 +13,7 @@ pub record IsPopped (fs : List CallFrame) (left : Left) (below : List CallFrame)
   pub is :
       fs ≡ below ++ record { return_slot = left.return_slot; kept = left.kept; stack = stack } ∷ []
 
+-- there is no frame, or the newest one is taken away
 abbrev pub Popped : List CallFrame → Option (Left × Rc Chain Global) → Type 0
 Popped fs None = fs ≡ []
 Popped fs (Some p) = IsPopped fs p.0 p.1.value

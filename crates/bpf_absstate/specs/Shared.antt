@@ -4,5 +4,6 @@ use Rattle.std.specs.declared.alloc.Global.{Global}
 use Rattle.std.specs.declared.rc.Rc.{Rc}
 use Rattle.bpf_absval.specs.declared.value.AbsVal.{AbsVal}
 
+-- the value that each pointer holds
 abbrev pub held_by : List (Rc AbsVal Global) → List AbsVal
 held_by rs = map (λ r. r.value) rs

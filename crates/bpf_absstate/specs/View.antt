@@ -24,9 +24,11 @@ pub record View : Type 0 where
 abbrev pub register : View → ℕ → AbsVal
 register a r = slice_index_or a.registers r abs.Unset
 
+-- 64 slots that may be unset
 abbrev pub empty_stack : List AbsSlot
 empty_stack = replicate 64 slot.Unset
 
+-- the main function's call frame: it has no caller
 abbrev pub main_frame : CallFrame
 main_frame =
     record {
@@ -59,9 +61,11 @@ abbrev pub entry_view : View
 entry_view =
     record { pc = 0; registers = entry_registers; frames = main_frame ∷ []; least = 0; rooms = [] }
 
+-- the state goes on at that slot
 abbrev pub at_slot : View → ℕ → View
 at_slot a pc = record a { pc = pc }
 
+-- a register has another value
 abbrev pub with_register : View → ℕ → AbsVal → View
 with_register a r v = record a { registers = slice_set a.registers r v }
 
@@ -72,6 +76,7 @@ with_frame_slot fs k i s =
       stack = slice_set (slice_index_or fs k main_frame).stack i s;
     })
 
+-- slot i of stack k has another value
 abbrev pub with_slot : View → ℕ → ℕ → AbsSlot → View
 with_slot a k i s = record a { frames = with_frame_slot a.frames k i s }
 
@@ -85,10 +90,12 @@ with_room a label n = record a { rooms = raised a.rooms label n }
 
 -- ---- a label is forgotten: no value has it, and no room is known behind it
 
+-- in a call frame, in what its caller keeps and in its stack
 abbrev pub frame_unlabelled : ℕ → CallFrame → CallFrame
 frame_unlabelled label f =
     record f { kept = map (unlabelled label) f.kept; stack = map (slot_unlabelled label) f.stack }
 
+-- in the registers, the call frames and the rooms
 abbrev pub without_label : View → ℕ → View
 without_label a label =
     record a {

@@ -11,6 +11,7 @@ use Rattle.bpf_absval.specs.declared.slot.AbsSlot.TheVariants as slot
 use Rattle.bpf_absval.specs.declared.room.Room.{Room}
 use Rattle.bpf_absval.specs.Rooms.{find_room}
 
+-- both are the same region
 abbrev pub region_same : AbsRegion → AbsRegion → Bool
 region_same place.Context place.Context = true
 region_same (place.Stack i) (place.Stack j) = i == j
@@ -51,6 +52,7 @@ bytes_set (slot.Stored (abs.Number a)) = 255
 bytes_set (slot.Stored v) = 0
 bytes_set (slot.Bytes mask) = mask
 
+-- slot by slot: in an unset one lies each; bytes lie in bytes that ask for no more
 abbrev pub slot_included : List Room → List Room → AbsSlot → AbsSlot → Bool
 slot_included rooms others a slot.Unset = true
 slot_included rooms others (slot.Stored a) (slot.Stored b) = value_included rooms others a b

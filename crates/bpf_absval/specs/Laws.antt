@@ -17,11 +17,13 @@ use Rattle.bpf_absval.specs.Inclusion.{value_included, slot_included}
 
 -- ---- inclusion: what the first contains, the second contains
 
+-- what an abstract value contains is in each one that includes it
 abbrev pub ValueKeeps : Type 0
 ValueKeeps =
     (e : Labels) (rooms others : List Room) (a b : AbsVal) (v : Value) → IsVal b →
     value_included rooms others a b ≡ true → Holds e rooms a v → Holds e others b v
 
+-- so it is with what a slot of a stack frame holds
 abbrev pub SlotKeeps : Type 0
 SlotKeeps =
     (e : Labels) (rooms others : List Room) (a b : AbsSlot) (f : StackFrame) (i : ℕ) →
@@ -39,11 +41,13 @@ pub record AgreeApart (label : ℕ) (e d : Labels) : Type 0 where
 abbrev pub placed : Labels → ℕ → ℕ → Labels
 placed e label at = record e { base = λ l. if l == label then at else e.base l }
 
+-- a value stays one of its abstract value when a label is forgotten
 abbrev pub ValueForgets : Type 0
 ValueForgets =
     (label : ℕ) (e d : Labels) (rooms : List Room) (a : AbsVal) (v : Value) → AgreeApart label e d →
     Holds e rooms a v → Holds d (rooms_without label rooms) (unlabelled label a) v
 
+-- so does what a slot holds
 abbrev pub SlotForgets : Type 0
 SlotForgets =
     (label : ℕ) (e d : Labels) (rooms : List Room) (a : AbsSlot) (f : StackFrame) (i : ℕ) →
@@ -51,6 +55,7 @@ SlotForgets =
     → SlotHolds e rooms a f i →
     SlotHolds d (rooms_without label rooms) (slot_unlabelled label a) f i
 
+-- behind a forgotten label no room is known
 abbrev pub NothingBehind : Type 0
 NothingBehind = (label : ℕ) (rooms : List Room) → find_room (rooms_without label rooms) label ≡ None
 
@@ -64,12 +69,14 @@ ValueLabelled =
 
 -- ---- a room is raised to what is there
 
+-- a value stays one of its abstract value when room is noted that the frame has behind a label
 abbrev pub ValueRaises : Type 0
 ValueRaises =
     (label n : ℕ) (e : Labels) (rooms : List Room) (a : AbsVal) (v : Value) →
     e.base label + n ≤ length e.setting.frame → Holds e rooms a v →
     Holds e (raised rooms label n) a v
 
+-- so does what a slot holds
 abbrev pub SlotRaises : Type 0
 SlotRaises =
     (label n : ℕ) (e : Labels) (rooms : List Room) (a : AbsSlot) (f : StackFrame) (i : ℕ) →

@@ -38,6 +38,7 @@ pub record IsLabelled (e : Labels) (rooms : List Room) (l : Label) (x : ℕ) : T
   pub far : x ≡ word_add (e.base l.label) l.distance
   pub room : RoomHolds e l.label (find_room rooms l.label)
 
+-- the offset x lies as its label says, if it has one
 abbrev pub LabelHolds : Labels → List Room → Option Label → ℕ → Type 0
 LabelHolds e rooms None x = Unit {0}
 LabelHolds e rooms (Some l) x = IsLabelled e rooms l x
@@ -48,12 +49,14 @@ pub record IsEntry (shapes : List Shape) (map index : ℕ) : Type 0 where
   pub known : slice_get shapes map ≡ Some shape
   pub within : index < shape.entries
 
+-- the region of a run is the one that stands here; of a map's entries any one
 abbrev pub RegionHolds : Labels → AbsRegion → Region → Type 0
 RegionHolds e place.Context region.Context = Unit {0}
 RegionHolds e (place.Stack k) (region.Stack j) = k ≡ j
 RegionHolds e (place.Entry m) (region.Entry n index) = (m ≡ n) × IsEntry e.setting.shapes n index
 RegionHolds e a r = ⊥
 
+-- v is one of the values that the abstract value stands for; an unset one stands for any
 abbrev pub Holds : Labels → List Room → AbsVal → Value → Type 0
 Holds e rooms abs.Unset v = Unit {0}
 Holds e rooms (abs.Number a) (value.Number x) = InNum a x
@@ -67,6 +70,7 @@ Holds e rooms (abs.Lookup m) (value.Pointer (region.Entry n index) x) =
     (m ≡ n) × IsEntry e.setting.shapes n index × (x ≡ 0)
 Holds e rooms a v = ⊥
 
+-- the number that bytes spell; unset where some are
 abbrev pub number_held : Result ℕ ℕ → Value
 number_held (Ok x) = value.Number x
 number_held (Err cause) = value.Unset
@@ -77,6 +81,7 @@ held f i =
     (if is_unset (slice_index_or f.spills i value.Unset) then number_held (set_bytes f (8 * i) 8)
     else slice_index_or f.spills i value.Unset)
 
+-- the value is a number
 abbrev pub is_number : Value → Bool
 is_number (value.Number x) = true
 is_number v = false
@@ -97,6 +102,7 @@ abbrev pub AreSet : ℕ → StackFrame → ℕ → Type 0
 AreSet mask f i =
     (j : ℕ) → j < 8 → bit_at mask j ≡ 1 → (b : ℕ) × (slice_get f.bytes (8 * i + j) ≡ Some (Some b))
 
+-- what slot i of a stack frame holds: anything, a value, or set bytes
 abbrev pub SlotHolds : Labels → List Room → AbsSlot → StackFrame → ℕ → Type 0
 SlotHolds e rooms slot.Unset f i = Unit {0}
 SlotHolds e rooms (slot.Stored a) f i = Holds e rooms a (held f i)

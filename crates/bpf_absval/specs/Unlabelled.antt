@@ -6,6 +6,7 @@ use Rattle.bpf_absval.specs.declared.value.Label.{Label}
 use Rattle.bpf_absval.specs.declared.slot.AbsSlot.{AbsSlot}
 use Rattle.bpf_absval.specs.declared.slot.AbsSlot.TheVariants as slot
 
+-- the label, unless it is the forgotten one
 abbrev pub drop_label : ℕ → Option Label → Option Label
 drop_label label None = None
 drop_label label (Some l) = (if l.label == label then None else Some l)
@@ -20,6 +21,7 @@ abbrev pub slot_unlabelled : ℕ → AbsSlot → AbsSlot
 slot_unlabelled label (slot.Stored v) = slot.Stored (unlabelled label v)
 slot_unlabelled label s = s
 
+-- it is that label
 abbrev pub is_label : ℕ → Option Label → Bool
 is_label label None = false
 is_label label (Some l) = l.label == label

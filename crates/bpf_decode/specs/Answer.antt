@@ -8,6 +8,7 @@ use Rattle.bpf_decode.specs.declared.fault.DecodeFault.{DecodeFault}
 use Rattle.bpf_decode.specs.declared.fault.DecodeFault.TheVariants as fault
 use Rattle.bpf_decode.specs.Code.{count, IsFirst}
 
+-- the number of a slot's fault
 abbrev pub slot_number : SlotFault → ℕ
 slot_number (slot.Field e) = field.number_of e
 slot_number slot.JumpAstray = 15
@@ -29,6 +30,7 @@ abbrev pub fault_slot : DecodeFault → ℕ
 fault_slot (fault.At k e) = k
 fault_slot _ = 0
 
+-- a fault as it is printed: its number and its slot
 abbrev pub fault_text : DecodeFault → List ℕ
 fault_text fault.NoMemory = codes "out of memory"
 fault_text e = codes "fault " ++ decimal (fault_number e) ++ codes " at " ++ decimal (fault_slot e)

@@ -12,6 +12,7 @@ use Rattle.bpf_decode.specs.Flow.{jump_of, IsJump, size_of, ends, written, Knows
 abbrev pub count : List ℕ → ℕ
 count code = length code / 8
 
+-- the eight bytes of slot k
 abbrev pub slot : List ℕ → ℕ → List ℕ
 slot code k = take 8 (drop (8 * k) code)
 
@@ -28,6 +29,7 @@ unfoldable pub starts : List ℕ → ℕ → Bool
 starts code zero = true
 starts code (suc k) = not (starts code k && is_wide code k)
 
+-- the code has a slot k, and an instruction starts there
 abbrev pub Starts : List ℕ → ℕ → Type 0
 Starts code k = (k < count code) × (starts code k ≡ true)
 

@@ -10,6 +10,7 @@ use Rattle.bpf_insn.specs.declared.fault.FieldFault.TheVariants.{UnknownOpcode, 
 use Rattle.bpf_insn.specs.Opcodes.{opcode_of, IsKind}
 use Rattle.bpf_insn.specs.Uses.{Meets, fault_of, uses_of}
 
+-- the number by which a fault is told
 abbrev pub number_of : FieldFault → ℕ
 number_of UnknownOpcode = 10
 number_of HighRegister = 11
@@ -21,6 +22,7 @@ number_of CutWide = 14
 abbrev pub Broken : Use → ℤ → FieldFault → Type 0
 Broken u v e = (Meets u v → ⊥) × (e ≡ fault_of u)
 
+-- the faults of the four fields beside the opcode, by what each is used for
 abbrev pub InFields : Uses → Fields → FieldFault → Type 0
 InFields u f e =
     Broken u.dst (pos f.dst) e
@@ -39,6 +41,7 @@ InHalf s None e = e ≡ CutWide
 InHalf s (Some f) e =
     ((s ≡ 5) × (f.imm ≢ pos 0) × (e ≡ UnusedSet)) ⊎ ((IsHalf f → ⊥) × (e ≡ CutWide))
 
+-- only a wide load has a second half that could be wrong
 abbrev pub InSecond : Kind → Fields → Option Fields → FieldFault → Type 0
 InSecond kind.LoadWide f second e = InHalf f.src second e
 InSecond _ f second e = ⊥

@@ -10,6 +10,7 @@ use Rattle.bpf_insn.specs.declared.insn.ByteOrder.TheVariants as order
 use Rattle.bpf_insn.specs.declared.kind.Kind.{Kind}
 use Rattle.bpf_insn.specs.declared.kind.Kind.TheVariants as kind
 
+-- the arithmetic operation of a code; DIV and MOD stand for the signed ones too (RFC 9669 section 4.1)
 abbrev pub op_at : ℕ → Option AluOp
 op_at c =
     (if nat_eq c 0 then Some alu.Add
@@ -26,6 +27,7 @@ op_at c =
     else (if nat_eq c 12 then Some alu.Arsh
     else None))))))))))))
 
+-- the comparison of a code (RFC 9669 section 4.3)
 abbrev pub compare_at : ℕ → Option Compare
 compare_at c =
     (if nat_eq c 1 then Some compare.Eq
@@ -41,6 +43,7 @@ compare_at c =
     else (if nat_eq c 13 then Some compare.Sle
     else None)))))))))))
 
+-- the size of a code, of which there are four (RFC 9669 section 5)
 abbrev pub size_at : ℕ → Size
 size_at c =
     (if nat_eq c 0 then size.Word
@@ -48,25 +51,30 @@ size_at c =
     else (if nat_eq c 2 then size.Byte
     else size.Double)))
 
+-- arithmetic on a register or a number, in 64 or 32 bits, if the code is one of an operation
 abbrev pub with_op : Option AluOp → Bool → Bool → Option Kind
 with_op None register wide = None
 with_op (Some op) register wide = Some (kind.Alu op wide register)
 
+-- byte orders, by the source bit and the class: ALU64 has the swap alone (RFC 9669 section 4.2)
 abbrev pub end_at : Bool → Bool → Option Kind
 end_at true true = None
 end_at false true = Some (kind.End order.Swap)
 end_at true false = Some (kind.End order.Big)
 end_at false false = Some (kind.End order.Little)
 
+-- the classes ALU and ALU64 by their code: NEG takes no register, END has kinds of its own
 abbrev pub arithmetic_at : ℕ → Bool → Bool → Option Kind
 arithmetic_at c register wide =
     (if nat_eq c 8 then (if register then None else Some (kind.Neg wide))
     else (if nat_eq c 13 then end_at register wide else with_op (op_at c) register wide))
 
+-- a conditional jump, if the code is one of a comparison
 abbrev pub with_compare : Option Compare → Bool → Bool → Option Kind
 with_compare None register wide = None
 with_compare (Some op) register wide = Some (kind.Branch op wide register)
 
+-- the classes JMP and JMP32 by their code; CALL and EXIT are in JMP alone (RFC 9669 section 4.3)
 abbrev pub branch_at : ℕ → Bool → Bool → Option Kind
 branch_at c register wide =
     (if nat_eq c 0
@@ -75,23 +83,27 @@ branch_at c register wide =
     else (if nat_eq c 9 then (if wide && not register then Some kind.Exit else None)
     else with_compare (compare_at c) register wide)))
 
+-- a load with its sign; eight bytes have none to extend (RFC 9669 section 5.2)
 abbrev pub signed_load : Size → Option Kind
 signed_load size.Double = None
 signed_load size.Byte = Some (kind.Load size.Byte true)
 signed_load size.Half = Some (kind.Load size.Half true)
 signed_load size.Word = Some (kind.Load size.Word true)
 
+-- the class LDX by its mode: MEM, or MEMSX (RFC 9669 sections 5.1 and 5.2)
 abbrev pub load_at : ℕ → Size → Option Kind
 load_at mode z =
     (if nat_eq mode 3 then Some (kind.Load z false)
     else (if nat_eq mode 4 then signed_load z else None))
 
+-- atomics have 4 or 8 bytes (RFC 9669 section 5.3)
 abbrev pub atomic_at : Size → Option Kind
 atomic_at size.Word = Some (kind.Atomic false)
 atomic_at size.Double = Some (kind.Atomic true)
 atomic_at size.Byte = None
 atomic_at size.Half = None
 
+-- the classes ST and STX by their mode: MEM, or ATOMIC, which is in STX alone (RFC 9669 sections 5.1 and 5.3)
 abbrev pub store_at : ℕ → Size → Bool → Option Kind
 store_at mode z register =
     (if nat_eq mode 3 then Some (kind.Store z register)

@@ -39,6 +39,7 @@ abbrev pub alu_opcode : AluOp → Bool → Bool → ℕ
 alu_opcode op wide false = 16 * alu_code op + alu_class wide
 alu_opcode op wide true = 16 * alu_code op + 8 + alu_class wide
 
+-- NEG, which has no source
 abbrev pub neg_opcode : Bool → ℕ
 neg_opcode wide = 0x80 + alu_class wide
 
@@ -67,6 +68,7 @@ abbrev pub jump_class : Bool → ℕ
 jump_class true = 5
 jump_class false = 6
 
+-- a comparison, whether it has 64 bits, and whether its source is a register
 abbrev pub branch_opcode : Compare → Bool → Bool → ℕ
 branch_opcode c wide false = 16 * compare_code c + jump_class wide
 branch_opcode c wide true = 16 * compare_code c + 8 + jump_class wide
@@ -83,6 +85,7 @@ abbrev pub load_code : Bool → ℕ
 load_code false = 0x61
 load_code true = 0x81
 
+-- a load of a size, with its sign or without
 abbrev pub load_opcode : Size → Bool → ℕ
 load_opcode z signed = load_code signed + 8 * size_code z
 

@@ -27,6 +27,7 @@ use Rattle.bpf_insn.specs.Uses.{Meets, uses_of}
 use Rattle.bpf_insn.specs.declared.fault.FieldFault.TheVariants.{UnknownOpcode}
 use Rattle.bpf_insn.specs.Faults.{IsHalf, InFields, InSecond, number_of}
 
+-- each field has a value that its use allows
 pub record Fine (u : Uses) (f : Fields) : Type 0 where
   pub dst : Meets u.dst (pos f.dst)
   pub src : Meets u.src (pos f.src)
@@ -38,6 +39,7 @@ abbrev pub HalfFine : ℕ → Option Fields → Type 0
 HalfFine s None = ⊥
 HalfFine s (Some g) = IsHalf g × (s ≡ 5 → g.imm ≡ pos 0)
 
+-- a wide load has a second half with which nothing is wrong; no other kind needs one
 abbrev pub IsFineHalf : Kind → Fields → Option Fields → Type 0
 IsFineHalf kind.LoadWide f g = HalfFine f.src g
 IsFineHalf _ f g = Unit {0}
@@ -47,6 +49,7 @@ abbrev pub InKind : Option Kind → Fields → Option Fields → FieldFault → 
 InKind None f second e = e ≡ UnknownOpcode
 InKind (Some k) f second e = InFields (uses_of k) f e ⊎ InSecond k f second e
 
+-- the faults of fields, by the kind of their opcode
 abbrev pub ReadsFault : Fields → Option Fields → FieldFault → Type 0
 ReadsFault f second e = InKind (kind_at f.opcode) f second e
 
@@ -61,33 +64,40 @@ abbrev pub IsHalfOf : Option Fields → Option (List ℕ) → Type 0
 IsHalfOf None s = s ≡ None
 IsHalfOf (Some f) s = s ≡ Some (slot_of f)
 
+-- the number in the second half; 0 where there is none
 abbrev pub half_imm : Option Fields → ℤ
 half_imm None = pos 0
 half_imm (Some g) = g.imm
 
+-- division with 1 as its offset is signed (RFC 9669 section 4.1)
 abbrev pub signed_op : AluOp → ℕ → AluOp
 signed_op alu.Div n = (if nat_eq n 1 then alu.Sdiv else alu.Div)
 signed_op alu.Mod n = (if nat_eq n 1 then alu.Smod else alu.Mod)
 signed_op op n = op
 
+-- how many bits MOVSX reads, by its offset: 8, 16 or 32 (RFC 9669 section 4.1)
 abbrev pub extension_at : ℕ → Extension
 extension_at n =
     (if nat_eq n 8 then extension.Byte
     else (if nat_eq n 16 then extension.Half else extension.Word))
 
+-- how many bits END turns, by its number: 16, 32 or 64 (RFC 9669 section 4.2)
 abbrev pub order_width_at : ℕ → OrderWidth
 order_width_at n =
     (if nat_eq n 16 then width.Half else (if nat_eq n 32 then width.Word else width.Double))
 
+-- MOV of a register; with an offset it is MOVSX (RFC 9669 section 4.1)
 abbrev pub move_at : Bool → Fields → Insn
 move_at w f =
     (if nat_eq (unsigned_abs f.offset) 0 then insn.Alu alu.Mov w f.dst (source.Reg f.src)
     else insn.MovSx (extension_at (unsigned_abs f.offset)) w f.dst f.src)
 
+-- arithmetic on two registers
 abbrev pub register_alu : AluOp → Bool → Fields → Insn
 register_alu alu.Mov w f = move_at w f
 register_alu op w f = insn.Alu (signed_op op (unsigned_abs f.offset)) w f.dst (source.Reg f.src)
 
+-- the atomic operation of a number (RFC 9669 section 5.3)
 abbrev pub update_at : ℕ → AtomicOp
 update_at n =
     (if nat_eq n 0x40 then atomic.Or
@@ -101,6 +111,7 @@ update_at n =
     else (if nat_eq n 0xf1 then atomic.Cmpxchg
     else atomic.Add)))))))))
 
+-- what a wide load loads, by its source register: a number, a map, or a map's value (RFC 9669 section 5.4)
 abbrev pub wide_at : Fields → ℤ → Wide
 wide_at f high =
     (if nat_eq f.src 0
@@ -108,18 +119,22 @@ wide_at f high =
     (if nat_eq f.src 5 then wide.Map (cast_unsigned w32 f.imm)
     else wide.MapValue (cast_unsigned w32 f.imm) (cast_unsigned w32 high)))
 
+-- arithmetic with a number, or with a register, as its source
 abbrev pub read_alu : AluOp → Bool → Bool → Fields → Insn
 read_alu op w false f = insn.Alu (signed_op op (unsigned_abs f.offset)) w f.dst (source.Imm f.imm)
 read_alu op w true f = register_alu op w f
 
+-- a conditional jump that compares with a number, or with a register
 abbrev pub read_branch : Compare → Bool → Bool → Fields → Insn
 read_branch c w false f = insn.Branch c w f.dst (source.Imm f.imm) f.offset
 read_branch c w true f = insn.Branch c w f.dst (source.Reg f.src) f.offset
 
+-- a store of a number, or of a register
 abbrev pub read_store : Size → Bool → Fields → Insn
 read_store z false f = insn.Store z f.dst f.offset (source.Imm f.imm)
 read_store z true f = insn.Store z f.dst f.offset (source.Reg f.src)
 
+-- the instruction of a kind with these fields; the last number is that of the second half
 abbrev pub insn_at : Kind → Fields → ℤ → Insn
 insn_at (kind.Alu op w r) f high = read_alu op w r f
 insn_at (kind.Neg w) f high = insn.Neg w f.dst

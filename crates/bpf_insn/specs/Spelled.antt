@@ -45,16 +45,19 @@ wide_kind (wide.Number n) = 0
 wide_kind (wide.Map m) = 5
 wide_kind (wide.MapValue m o) = 6
 
+-- the number in its first slot, as a signed one of 32 bits
 abbrev pub wide_low : Wide → ℤ
 wide_low (wide.Number n) = cast_signed w32 (n % 2 ^ 32)
 wide_low (wide.Map m) = cast_signed w32 m
 wide_low (wide.MapValue m o) = cast_signed w32 m
 
+-- the number in its second slot, as a signed one of 32 bits
 abbrev pub wide_high : Wide → ℤ
 wide_high (wide.Number n) = cast_signed w32 (n / 2 ^ 32)
 wide_high (wide.Map m) = pos 0
 wide_high (wide.MapValue m o) = cast_signed w32 o
 
+-- the opcode, destination, source, offset and number of a slot
 abbrev pub fields : ℕ → ℕ → ℕ → ℤ → ℤ → Fields
 fields o d s x i = record { opcode = o; dst = d; src = s; offset = x; imm = i }
 
@@ -84,15 +87,18 @@ abbrev pub second_of : Insn → Option Fields
 second_of (insn.LoadWide d v) = Some (fields 0 0 0 (pos 0) (wide_high v))
 second_of _ = None
 
+-- a number of 32 bits with a sign, or one of the registers R0 to R10
 abbrev pub IsSource : Source → Type 0
 IsSource (source.Imm n) = FitsSigned w32 n
 IsSource (source.Reg r) = r ≤ 10
 
+-- a number of 64 bits, or a map, or a map and an offset, of 32 bits each
 abbrev pub IsWide : Wide → Type 0
 IsWide (wide.Number n) = n < 2 ^ 64
 IsWide (wide.Map m) = m < 2 ^ 32
 IsWide (wide.MapValue m o) = (m < 2 ^ 32) × (o < 2 ^ 32)
 
+-- a load with its sign has fewer than eight bytes (RFC 9669 section 5.2)
 abbrev pub IsSigned : Bool → Size → Type 0
 IsSigned true z = z ≢ size.Double
 IsSigned false z = Unit {0}

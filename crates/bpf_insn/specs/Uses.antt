@@ -31,9 +31,11 @@ fault_of Unused = UnusedSet
 fault_of Register = HighRegister
 fault_of _ = Undefined
 
+-- what the destination, source, offset and number are used for
 abbrev uses : Use → Use → Use → Use → Uses
 uses d s o i = record { dst = d; src = s; offset = o; imm = i }
 
+-- the offset of an operation with a number: the sign of a division, and else unused
 abbrev pub sign_use : AluOp → Use
 sign_use alu.Div = Sign
 sign_use alu.Mod = Sign

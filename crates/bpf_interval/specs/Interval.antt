@@ -1,6 +1,7 @@
 -- Intervals of words: which words they stand for, and what the operations on them give.
 use Rattle.std.specs.Prelude.{ℕ, ◌+◌, ◌-◌, ◌*◌, ◌/◌, ◌^◌, ◌<◌, ◌≤◌, min, max, nat_lt, nat_le, nat_eq, Bool, ◌&&◌, if◌then◌else◌, Option, Some, None}
 
+-- the words from the lowest to the highest, both included
 pub record Bounds : Type 0 where
   pub low : ℕ
   pub high : ℕ
@@ -11,27 +12,34 @@ pub record InBounds (a : Bounds) (x : ℕ) : Type 0 where
   pub below : x ≤ a.high
   pub fits : a.high < 2 ^ 64
 
+-- the interval with these two ends
 abbrev pub bounds : ℕ → ℕ → Bounds
 bounds l h = record { low = l; high = h }
 
+-- all words
 abbrev pub bounds_full : Bounds
 bounds_full = record { low = 0; high = 2 ^ 64 - 1 }
 
+-- sums; all words where one might wrap
 abbrev pub bounds_add : Bounds → Bounds → Bounds
 bounds_add a b =
     (if nat_lt (a.high + b.high) (2 ^ 64)
     then bounds (a.low + b.low) (a.high + b.high) else bounds_full)
 
+-- differences; all words where one might wrap
 abbrev pub bounds_sub : Bounds → Bounds → Bounds
 bounds_sub a b =
     (if nat_le b.high a.low then bounds (a.low - b.high) (a.high - b.low) else bounds_full)
 
+-- bitwise AND is at most each of both
 abbrev pub bounds_and : Bounds → Bounds → Bounds
 bounds_and a b = bounds 0 (min a.high b.high)
 
+-- bitwise OR is at least each of both
 abbrev pub bounds_or : Bounds → Bounds → Bounds
 bounds_or a b = bounds (max a.low b.low) (2 ^ 64 - 1)
 
+-- products; all words where one might wrap
 abbrev pub bounds_mul : Bounds → Bounds → Bounds
 bounds_mul a b =
     (if nat_lt (a.high * b.high) (2 ^ 64)
@@ -52,6 +60,7 @@ bounds_shl a c =
     (if nat_le a.high ((2 ^ 64 - 1) / 2 ^ c)
     then bounds (a.low * 2 ^ c) (a.high * 2 ^ c) else bounds_full)
 
+-- shifts to the right by one count
 abbrev pub bounds_shr : Bounds → ℕ → Bounds
 bounds_shr a c = bounds (a.low / 2 ^ c) (a.high / 2 ^ c)
 

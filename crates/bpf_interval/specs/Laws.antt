@@ -11,17 +11,21 @@ ContainsResults f g =
     (a b : Bounds) (x y : ℕ) → x < 2 ^ 64 → y < 2 ^ 64 → InBounds a x →
     InBounds b y → InBounds (f a b) (g x y)
 
+-- the same for intervals of signed words
 abbrev pub ContainsSigned : (Bounds → Bounds → Bounds) → (ℕ → ℕ → ℕ) → Type 0
 ContainsSigned f g =
     (a b : Bounds) (x y : ℕ) → x < 2 ^ 64 → y < 2 ^ 64 → InSigned a x →
     InSigned b y → InSigned (f a b) (g x y)
 
+-- the low 32 bits of each word of a are in what a is cut to
 abbrev pub CutContains : Type 0
 CutContains = (a : Bounds) (x : ℕ) → InBounds a x → InBounds (bounds_cut a) (x % 2 ^ 32)
 
+-- a word of n bits is in the interval of such words
 abbrev pub WidthContains : Type 0
 WidthContains = (n x : ℕ) → n ≤ 64 → x < 2 ^ n → InBounds (bounds_of_bits n) x
 
+-- a word of both is in what both meet in
 abbrev pub MeetKeeps : Type 0
 MeetKeeps =
     (a b : Bounds) (x : ℕ) → InBounds a x → InBounds b x →
@@ -33,11 +37,13 @@ KeepsPairs f R =
     (a b : Bounds) (x y : ℕ) → InBounds a x → InBounds b y → R x y →
     (r : Bounds × Bounds) × (f a b ≡ Some r) × InBounds r.0 x × InBounds r.1 y
 
+-- a word other than c is still there when c is taken from an end
 abbrev pub WithoutKeeps : Type 0
 WithoutKeeps =
     (a : Bounds) (c x : ℕ) → InBounds a x → (x ≡ c → ⊥) →
     (r : Bounds) × (without_end a c ≡ Some r) × InBounds r x
 
+-- a word of an interval is in one that includes it
 abbrev pub IncludedKeeps : Type 0
 IncludedKeeps =
     (a b : Bounds) (x : ℕ) → b.high < 2 ^ 64 → bounds_included a b ≡ true →
@@ -66,21 +72,25 @@ SignedNarrowKeeps =
     (a b : Bounds) (x : ℕ) → InBounds a x → InSigned b x →
     (r : Bounds) × (narrowed a b ≡ Some r) × InSigned r x
 
+-- a word of both stays where the signed interval narrows the unsigned one
 abbrev pub UnsignedNarrowKeeps : Type 0
 UnsignedNarrowKeeps =
     (a b : Bounds) (x : ℕ) → x < 2 ^ 64 → InSigned a x → InBounds b x →
     (r : Bounds) × (narrowed a b ≡ Some r) × InBounds r x
 
+-- arithmetic shifts by one count
 abbrev pub SarContains : Type 0
 SarContains =
     (a : Bounds) (c x : ℕ) → x < 2 ^ 64 → InSigned a x →
     InSigned (signed_sar a c) (shifted_right_signed 64 x c)
 
+-- signed quotients by one divisor above 0
 abbrev pub DivContains : Type 0
 DivContains =
     (a : Bounds) (c x : ℕ) → 1 ≤ c → c < 2 ^ 63 → x < 2 ^ 64 → InSigned a x →
     InSigned (signed_div a c) (signed_quotient 64 x c)
 
+-- signed remainders by one divisor above 0
 abbrev pub RemContains : Type 0
 RemContains =
     (a : Bounds) (c x : ℕ) → 1 ≤ c → c < 2 ^ 63 → x < 2 ^ 64 → InSigned a x →
@@ -90,6 +100,7 @@ RemContains =
 abbrev pub ExtensionContains : Type 0
 ExtensionContains = (n x : ℕ) → 1 ≤ n → n ≤ 64 → InSigned (signed_of_bits n) (sign_extended 64 n x)
 
+-- a word that is a signed number of n bits is its own sign extension
 abbrev pub ExtensionKeeps : Type 0
 ExtensionKeeps =
     (n x : ℕ) → 1 ≤ n → n ≤ 64 → x < 2 ^ 64 →

@@ -6,6 +6,7 @@ use Rattle.std.specs.Prelude.{ℕ, ◌+◌, ◌-◌, ◌^◌, ◌||◌, nat_lt, 
 use Rattle.bpf_words.specs.Word.{word_of, signed_place, shifted_right_signed, signed_quotient}
 use Rattle.bpf_interval.specs.Interval.{Bounds, InBounds, bounds, bounds_full, bounds_meet}
 
+-- the place of a word
 abbrev pub place : ℕ → ℕ
 place x = signed_place 64 x
 
@@ -27,6 +28,7 @@ narrowed a b =
     (if nat_lt a.high (2 ^ 63) || nat_le (2 ^ 63) a.low
     then bounds_meet b (bounds (place a.low) (place a.high)) else Some b)
 
+-- a place, if there is one of this number
 abbrev pub in_range : ℕ → Option ℕ
 in_range n = (if nat_lt n (2 ^ 64) then Some n else None)
 
@@ -34,17 +36,21 @@ in_range n = (if nat_lt n (2 ^ 64) then Some n else None)
 abbrev pub signed_sum : ℕ → ℕ → Option ℕ
 signed_sum p q = (if nat_le (2 ^ 63) (p + q) then in_range (p + q - 2 ^ 63) else None)
 
+-- the difference, likewise
 abbrev pub signed_difference : ℕ → ℕ → Option ℕ
 signed_difference p q = (if nat_le q (p + 2 ^ 63) then in_range (p + 2 ^ 63 - q) else None)
 
+-- the interval of two ends; all words where an end is missing
 abbrev pub between : Option ℕ → Option ℕ → Bounds
 between None _ = bounds_full
 between (Some l) None = bounds_full
 between (Some l) (Some h) = bounds l h
 
+-- sums; all words where one might leave the signed range
 unfoldable pub signed_add : Bounds → Bounds → Bounds
 signed_add a b = between (signed_sum a.low b.low) (signed_sum a.high b.high)
 
+-- differences; all words where one might leave the signed range
 unfoldable pub signed_sub : Bounds → Bounds → Bounds
 signed_sub a b = between (signed_difference a.low b.high) (signed_difference a.high b.low)
 

@@ -19,6 +19,7 @@ use Rattle.bpf_line.specs.Numbers.{on, imm, offset, long_offset, wide_number}
 use Rattle.bpf_line.specs.Names.{alu_named, compare_named, atomic_named, extension_named, order_named, load_named, store_named, store_register_named}
 use Rattle.bpf_line.specs.Operands.{both, register, source_of, memory}
 
+-- the instruction that words spell, or what is wrong with them
 abbrev pub Said : Type 0
 Said = Result Insn LineFault
 
@@ -26,6 +27,7 @@ Said = Result Insn LineFault
 abbrev pub is_narrow : List ℕ → Bool
 is_narrow t = bytes_eq (drop (length t - 2) t) (codes "32")
 
+-- a name without the suffix 32
 abbrev pub base_of : List ℕ → List ℕ
 base_of t = (if is_narrow t then take (length t - 2) t else t)
 
@@ -67,12 +69,14 @@ suffixed (Some op) atomic wide a b = alu_said op wide a b
 suffixed None (Some op) wide a b = atomic_said op wide a b
 suffixed None None wide a b = Err Grammar
 
+-- stores, of a number or of a register, and else operations on two operands
 abbrev pub stored : Option Size → Option Size → List ℕ → List ℕ → List ℕ → Said
 stored (Some size) register name a b = store_said size a b
 stored None (Some size) name a b = store_register_said size a b
 stored None None name a b =
     suffixed (alu_named (base_of name)) (atomic_named (base_of name)) (not (is_narrow name)) a b
 
+-- moves that extend a sign, loads, and else what isn't one of these
 abbrev pub loaded :
     Option (Extension × Bool) → Option (Size × Bool) → List ℕ → List ℕ → List ℕ → Said
 loaded (Some e) load name a b = extension_said e a b
@@ -97,6 +101,7 @@ abbrev pub order_said : Option (ByteOrder × OrderWidth) → List ℕ → Said
 order_said None a = Err Grammar
 order_said (Some o) a = on (register a) (λ r. Ok (insn.End o.0 o.1 r))
 
+-- `neg r0`, `neg32 r0`
 abbrev pub neg_said : Bool → List ℕ → Said
 neg_said wide a = on (register a) (λ r. Ok (insn.Neg wide r))
 
@@ -126,9 +131,11 @@ value_said a m o =
     (λ x. Ok
     (insn.LoadWide x.0.0 (wide.MapValue (cast_unsigned w32 x.0.1) (cast_unsigned w32 x.1))))
 
+-- the word is a comma
 abbrev pub is_comma : List ℕ → Bool
 is_comma t = bytes_eq t (codes ",")
 
+-- `lddw r1, map ..` or `lddw r1, value ..`
 abbrev pub is_load_of : List ℕ → List ℕ → List ℕ → List ℕ → Bool
 is_load_of name kind comma what =
     bytes_eq name (codes "lddw") && (is_comma comma && bytes_eq what kind)
@@ -149,10 +156,12 @@ said (a ∷ b ∷ c ∷ d ∷ e ∷ f ∷ []) =
     then branch_said (compare_named (base_of a)) (not (is_narrow a)) b d f else Err Grammar))
 said (a ∷ b ∷ c ∷ d ∷ e ∷ f ∷ g ∷ more) = Err Grammar
 
+-- an instruction, or the same fault
 abbrev as_some : Said → Result (Option Insn) LineFault
 as_some (Ok insn) = Ok (Some insn)
 as_some (Err fault) = Err fault
 
+-- nothing where there are no words, and else what they say
 abbrev pub said_or_blank : List (List ℕ) → Result (Option Insn) LineFault
 said_or_blank [] = Ok None
 said_or_blank (w ∷ ws) = as_some (said (w ∷ ws))

@@ -35,9 +35,11 @@ word n = (if nat_lt n (2 ^ 32) then Ok (cast_signed w32 n) else Err Range)
 abbrev pub below_zero : ℕ → ℕ → Result ℤ LineFault
 below_zero most n = (if nat_le n most then Ok (neg_ℤ (pos n)) else Err Range)
 
+-- n, of at most `most`
 abbrev pub above_zero : ℕ → ℕ → Result ℤ LineFault
 above_zero most n = (if nat_le n most then Ok (pos n) else Err Range)
 
+-- the text begins with this character
 abbrev pub starts : ℕ → List ℕ → Bool
 starts c [] = false
 starts c (d ∷ ds) = nat_eq d c
@@ -61,6 +63,7 @@ offset t = signed (above_zero (2 ^ 15 - 1)) (2 ^ 15) t
 abbrev pub long_offset : List ℕ → Result ℤ LineFault
 long_offset t = signed word (2 ^ 31) t
 
+-- with a minus sign 0 alone is in range
 abbrev only_zero : ℕ → Result ℕ LineFault
 only_zero n = (if nat_eq n 0 then Ok 0 else Err Range)
 

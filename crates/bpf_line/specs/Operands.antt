@@ -31,10 +31,12 @@ register t =
     else (if bytes_eq t (codes "r10") then Ok 10
     else Err Grammar)))))))))))
 
+-- a register as an operand
 abbrev as_register : Result ℕ LineFault → Result Source LineFault
 as_register (Ok r) = Ok (source.Reg r)
 as_register (Err fault) = Err fault
 
+-- a number as an operand
 abbrev as_imm : Result ℤ LineFault → Result Source LineFault
 as_imm (Ok n) = Ok (source.Imm n)
 as_imm (Err fault) = Err fault

@@ -22,6 +22,7 @@ use Rattle.bpf_insn.specs.declared.insn.Source.TheVariants as source
 use Rattle.bpf_insn.specs.declared.insn.Wide.TheVariants as wide
 use Rattle.bpf_insn.specs.declared.insn.Insn.TheVariants as insn
 
+-- the names of arithmetic
 abbrev pub alu_name : AluOp → List ℕ
 alu_name alu.Add = codes "add"
 alu_name alu.Sub = codes "sub"
@@ -38,6 +39,7 @@ alu_name alu.Arsh = codes "arsh"
 alu_name alu.Sdiv = codes "sdiv"
 alu_name alu.Smod = codes "smod"
 
+-- the names of conditional jumps
 abbrev pub compare_name : Compare → List ℕ
 compare_name compare.Eq = codes "jeq"
 compare_name compare.Gt = codes "jgt"
@@ -51,6 +53,7 @@ compare_name compare.Le = codes "jle"
 compare_name compare.Slt = codes "jslt"
 compare_name compare.Sle = codes "jsle"
 
+-- the names of atomics
 abbrev pub atomic_name : AtomicOp → List ℕ
 atomic_name atomic.Add = codes "atomic_add"
 atomic_name atomic.Or = codes "atomic_or"
@@ -63,6 +66,7 @@ atomic_name atomic.FetchXor = codes "fetch_xor"
 atomic_name atomic.Xchg = codes "xchg"
 atomic_name atomic.Cmpxchg = codes "cmpxchg"
 
+-- the names of moves that extend a sign, to 64 bits and to 32
 abbrev pub extension_name : Extension → Bool → List ℕ
 extension_name extension.Byte true = codes "movsx8"
 extension_name extension.Half true = codes "movsx16"
@@ -71,6 +75,7 @@ extension_name extension.Byte false = codes "movsx8_32"
 extension_name extension.Half false = codes "movsx16_32"
 extension_name extension.Word false = codes "movsx32_32"
 
+-- the names of byte orders
 abbrev pub order_name : ByteOrder → OrderWidth → List ℕ
 order_name order.Little width.Half = codes "le16"
 order_name order.Little width.Word = codes "le32"
@@ -82,6 +87,7 @@ order_name order.Swap width.Half = codes "swap16"
 order_name order.Swap width.Word = codes "swap32"
 order_name order.Swap width.Double = codes "swap64"
 
+-- the names of loads, without and with their sign
 abbrev pub load_name : Size → Bool → List ℕ
 load_name size.Byte false = codes "ldxb"
 load_name size.Half false = codes "ldxh"
@@ -92,6 +98,7 @@ load_name size.Half true = codes "ldsxh"
 load_name size.Word true = codes "ldsxw"
 load_name size.Double true = codes "ldsxdw"
 
+-- the last letters of a store's name
 abbrev pub size_name : Size → List ℕ
 size_name size.Byte = codes "b"
 size_name size.Half = codes "h"
@@ -103,6 +110,7 @@ abbrev pub suffix : Bool → List ℕ
 suffix true = []
 suffix false = codes "32"
 
+-- `r0`
 abbrev pub register_text : ℕ → List ℕ
 register_text r = codes "r" ++ decimal r
 
@@ -111,10 +119,12 @@ abbrev pub offset_text : ℤ → List ℕ
 offset_text (pos n) = codes "+" ++ decimal n
 offset_text (negsuc n) = codes "-" ++ decimal (suc n)
 
+-- a number or a register
 abbrev pub source_text : Source → List ℕ
 source_text (source.Imm n) = signed_decimal n
 source_text (source.Reg r) = register_text r
 
+-- `[r1+24]`
 abbrev pub memory_text : ℕ → ℤ → List ℕ
 memory_text r x = codes "[" ++ (register_text r ++ (offset_text x ++ codes "]"))
 
@@ -122,9 +132,11 @@ memory_text r x = codes "[" ++ (register_text r ++ (offset_text x ++ codes "]"))
 abbrev pub two_text : List ℕ → List ℕ → List ℕ → List ℕ
 two_text name a b = name ++ (codes " " ++ (a ++ (codes ", " ++ b)))
 
+-- a name and one operand
 abbrev pub one_text : List ℕ → List ℕ → List ℕ
 one_text name a = name ++ (codes " " ++ a)
 
+-- what a wide load loads: `7`, `map 0`, `value 0 8`
 abbrev pub wide_text : Wide → List ℕ
 wide_text (wide.Number n) = decimal n
 wide_text (wide.Map m) = codes "map " ++ decimal m

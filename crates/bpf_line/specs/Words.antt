@@ -16,6 +16,7 @@ abbrev pub joined : ℕ → List (List ℕ) → List (List ℕ)
 joined c [] = (c ∷ []) ∷ []
 joined c (w ∷ ws) = (c ∷ w) ∷ ws
 
+-- the words of a line, in order
 unfoldable pub words : List ℕ → List (List ℕ)
 words [] = []
 words (c ∷ cs) =

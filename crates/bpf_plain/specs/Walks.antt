@@ -31,6 +31,7 @@ pub record HasWalk (slots : List (Option Insn)) (n : ℕ) : Type 0 where
   pub is_walk : IsWalk slots walk
   pub long : n ≤ length walk
 
+-- the operand is this register
 abbrev pub ReadsSource : Source → ℕ → Type 0
 ReadsSource (source.Imm n) r = ⊥
 ReadsSource (source.Reg s) r = r ≡ s
@@ -97,6 +98,7 @@ IsPlainInsn insn.Exit = Unit {0}
 IsPlainInsn (insn.LoadWide d (wide.Number n)) = Unit {0}
 IsPlainInsn _ = ⊥
 
+-- a conditional jump stands there
 abbrev pub is_conditional : Option Insn → Bool
 is_conditional (Some (insn.Branch compare w d s x)) = true
 is_conditional o = false

@@ -10,6 +10,7 @@ use Rattle.bpf_prune.specs.declared.kept.Entry.{Entry}
 unfoldable pub with_newest : List Entry → Entry → List Entry
 with_newest es e = (if length es == 64 then drop 1 es else es) ++ e ∷ []
 
+-- the first, if it is there, and else the second
 abbrev pub or_else : Option ℕ → Option ℕ → Option ℕ
 or_else (Some budget) other = Some budget
 or_else None other = other

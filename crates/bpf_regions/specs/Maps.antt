@@ -5,6 +5,7 @@ use Rattle.bpf_regions.specs.declared.maps.WordWidth.{WordWidth}
 use Rattle.bpf_regions.specs.declared.maps.WordWidth.TheVariants.{Four, Eight}
 use Rattle.bpf_regions.specs.declared.maps.Shape.{Shape}
 
+-- the bytes of a word
 abbrev pub bytes_of : WordWidth → ℕ
 bytes_of Four = 4
 bytes_of Eight = 8
@@ -17,12 +18,14 @@ entry_bytes s = s.words * bytes_of s.width
 abbrev pub word_count : Shape → ℕ
 word_count s = s.entries * s.words
 
+-- a map has 1 to 4096 entries of 1 to 8 words
 pub record IsShape (s : Shape) : Type 0 where
   pub some_entries : 1 ≤ s.entries
   pub few_entries : s.entries ≤ 4096
   pub some_words : 1 ≤ s.words
   pub few_words : s.words ≤ 8
 
+-- a program has at most 16 maps, each of such a shape
 pub record AreShapes (shapes : List Shape) : Type 0 where
   pub few : length shapes ≤ 16
   pub each : All IsShape shapes

@@ -39,21 +39,26 @@ abbrev pub narrowed : Bool → Compare → Bool → Bool → Num → Num → Opt
 narrowed wide compare itself taken x y =
     (if itself && not (is_single x) then Some (x, y) else num_branch wide compare taken x y)
 
+-- the source has what is left of it, if it is a register
 abbrev pub with_source : View → Source → Num → View
 with_source a (source.Imm i) y = a
 with_source a (source.Reg r) y = with_register a r (Number y)
 
+-- both operands have what is left of them
 abbrev pub narrowed_state : View → ℕ → Source → Num → Num → View
 narrowed_state a dst s x y = with_source (with_register a dst (Number x)) s y
 
+-- a way that no pair of operands takes isn't visited
 abbrev pub with_operands : View → ℕ → Source → Option (Num × Num) → Option View
 with_operands a dst s None = None
 with_operands a dst s (Some p) = Some (narrowed_state a dst s p.0 p.1)
 
+-- the way on which numbers compare so, or don't
 abbrev pub number_way : View → Bool → Compare → Bool → ℕ → Source → Num → Num → Option View
 number_way a wide compare taken dst s x y =
     with_operands a dst s (narrowed wide compare (is_itself dst s) taken x y)
 
+-- both ways: the jump isn't taken, and it is
 abbrev pub number_ways : View → Bool → Compare → ℕ → Source → Num → Num → Split
 number_ways a wide compare dst s x y =
     (number_way a wide compare false dst s x y, number_way a wide compare true dst s x y)
@@ -77,6 +82,7 @@ lookup_ways a dst map (Some taken) =
     Ok (by_null taken (Some (with_register a dst (Pointer (place.Entry map) (num_single 0))))
     (Some (with_register a dst (Number (num_single 0)))))
 
+-- a pointer goes the way of what isn't 0; no other comparison of one is defined
 abbrev pub pointer_ways : View → Option Bool → Result Split Fault
 pointer_ways a None = Err fault.WrongOperand
 pointer_ways a (Some taken) = Ok (by_null taken (Some a) None)
@@ -117,11 +123,13 @@ learnt a offset l more =
     (if nat_le (offset.range.low + more) 2400
     then Some (with_reach (with_least a (offset.range.low + more)) offset l more) else None)
 
+-- the way with its lesson; nothing where that asks for a frame of more than 2400 bytes
 abbrev pub taught : View → Num → Option Label → Lesson → Option View
 taught a offset l Nothing = Some a
 taught a offset l AtMost = learnt a offset l 0
 taught a offset l Below = learnt a offset l 1
 
+-- both ways of a comparison with the frame end, each with its lesson
 abbrev pub end_ways : View → Num → Option Label → Compare → Split
 end_ways a offset l compare =
     (taught a offset l (lesson compare false), taught a offset l (lesson compare true))
@@ -131,6 +139,7 @@ abbrev pub end_test : View → Num → Option Label → Option Compare → Resul
 end_test a offset l None = Err fault.WrongOperand
 end_test a offset l (Some compare) = Ok (end_ways a offset l compare)
 
+-- the unsigned orders alone
 abbrev pub is_order : Compare → Option Compare
 is_order Gt = Some Gt
 is_order Ge = Some Ge
@@ -140,6 +149,7 @@ is_order compare = None
 
 -- ---- all of them
 
+-- JMP: numbers, tests for null, and a frame pointer with the frame end, in either order
 abbrev pub wide_ways : View → Compare → ℕ → Source → AbsVal → AbsVal → Result Split Fault
 wide_ways a compare dst s (Number x) (Number y) = Ok (number_ways a true compare dst s x y)
 wide_ways a compare dst s (Lookup map) (Number y) =
@@ -152,6 +162,7 @@ wide_ways a compare dst s (Frame offset l) FrameEnd = end_test a offset l (is_or
 wide_ways a compare dst s FrameEnd (Frame offset l) = end_test a offset l (turned compare)
 wide_ways a compare dst s x y = Err (wrong_two x y)
 
+-- JMP32 compares numbers alone
 abbrev pub narrow_ways : View → Compare → ℕ → Source → AbsVal → AbsVal → Result Split Fault
 narrow_ways a compare dst s (Number x) (Number y) = Ok (number_ways a false compare dst s x y)
 narrow_ways a compare dst s x y = Err (wrong_two x y)

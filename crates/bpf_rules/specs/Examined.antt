@@ -40,6 +40,7 @@ put_number a dst f v = on (number v) (λ x. put a 1 dst (Number (f x)))
 abbrev pub before_put : View → AluOp → AbsVal → AbsVal → View
 before_put a op x y = (if makes_label op x y then without_label a (a.pc + 1) else a)
 
+-- an operation's result in its register
 abbrev pub operated : View → AluOp → ℕ → AbsVal → AbsVal → AbsVal → Result Ways Fault
 operated a op dst x y v = put (before_put a op x y) 1 dst v
 
@@ -50,10 +51,12 @@ ways (Some x) None = One x
 ways None (Some y) = One y
 ways (Some x) (Some y) = Two x y
 
+-- a way that is visited goes on at that slot
 abbrev pub moved_to : ℕ → Option View → Option View
 moved_to pc None = None
 moved_to pc (Some a) = Some (at_slot a pc)
 
+-- the next slot where a jump isn't taken, and its target where it is
 abbrev pub branched : View → ℤ → Split → Ways
 branched a by s = ways (moved_to (a.pc + 1) s.0) (moved_to (landing a.pc by) s.1)
 
@@ -66,6 +69,7 @@ abbrev pub compared : AtomicOp → View → AbsVal
 compared Cmpxchg a = register a 0
 compared op a = Number (num_single 0)
 
+-- one case for each kind of instruction
 abbrev pub examined : List Shape → Insn → View → Result Ways Fault
 examined shapes (insn.Alu op wide dst s) a =
     on (alu a.pc op wide (register a dst) (source_value a s))

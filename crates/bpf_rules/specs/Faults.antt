@@ -3,6 +3,7 @@ use Rattle.std.specs.Prelude.{◌≡◌, ◌⊎◌, ℕ, Result, Ok, Err}
 use Rattle.bpf_rules.specs.declared.fault.Fault.{Fault}
 use Rattle.bpf_rules.specs.declared.fault.Fault.TheVariants.{Unset, WrongOperand, OutsideRegion, Misaligned, NotTested, TooManyFrames, TooManyVisits, StackPointerStored, NoResult, NoMemory}
 
+-- the number by which a fault is told
 abbrev pub number_of : Fault → ℕ
 number_of Unset = 30
 number_of WrongOperand = 31

@@ -36,6 +36,7 @@ are_multiples n at = bit_and (bit_or at.bits.value at.bits.mask) (n - 1) == 0
 
 -- ---- where an access lies
 
+-- a room is known that has so many bytes
 abbrev pub room_reaches : Option ℕ → ℕ → Bool
 room_reaches None end = false
 room_reaches (Some size) end = nat_le end size
@@ -52,6 +53,7 @@ frame_fault a offset l by n =
     (if nat_le ((offset_of offset by).range.high + n) a.least || in_room a.rooms l by n then None
     else Some fault.OutsideRegion)
 
+-- in the context, which has 32 bytes
 abbrev pub context_fault : Num → ℕ → Option Fault
 context_fault at n = (if nat_le (at.range.high + n) 32 then None else Some fault.OutsideRegion)
 
@@ -74,6 +76,7 @@ abbrev pub aligned_fault : View → ℕ → Num → ℕ → Option Fault
 aligned_fault a k at n =
     (if are_multiples n at then stack_fault a k at n else Some fault.Misaligned)
 
+-- an outcome, unless a fault was met before it
 abbrev pub unless : {A : Type 0} → Option Fault → Result A Fault → Result A Fault
 unless None r = r
 unless (Some e) r = Err e
@@ -84,9 +87,11 @@ unless (Some e) r = Err e
 abbrev pub touched : ℕ → ℕ → ℕ
 touched at n = (2 ^ n - 1) * 2 ^ (at % 8)
 
+-- slot i of a stack
 abbrev pub slot_at : List AbsSlot → ℕ → AbsSlot
 slot_at stack i = slice_index_or stack i slot.Unset
 
+-- the slot has a value that was stored whole
 abbrev pub is_stored : AbsSlot → Bool
 is_stored (slot.Stored v) = true
 is_stored s = false
@@ -102,6 +107,7 @@ abbrev pub is_unset_fault : Option Fault → Bool
 is_unset_fault (Some fault.Unset) = true
 is_unset_fault e = false
 
+-- the fault of two that comes first
 abbrev pub worse : Option Fault → Option Fault → Option Fault
 worse None b = b
 worse (Some e) b = (if is_unset_fault b then b else Some e)
@@ -112,6 +118,7 @@ read_fault stack at n =
     worse (bytes_fault (slot_at stack (at / 8)) (touched at n % 256))
     (bytes_fault (slot_at stack (at / 8 + 1)) (touched at n / 256))
 
+-- more bytes of a slot are set; what was stored whole in it is gone
 abbrev pub with_bytes : AbsSlot → ℕ → AbsSlot
 with_bytes s mask = slot.Bytes (bit_or (bytes_set s) mask)
 
@@ -132,14 +139,17 @@ abbrev pub stored : View → ℕ → ℕ → ℕ → AbsVal → View
 stored a k at n v =
     (if is_whole at n then with_slot a k (at / 8) (slot.Stored v) else bytes_stored a k at n)
 
+-- the state at the next slot
 abbrev pub next_pc : View → View
 next_pc a = at_slot a (a.pc + 1)
 
 -- ---- loads
 
+-- any number of n bytes, with its sign or without
 abbrev pub loaded : Bool → ℕ → AbsVal
 loaded signed n = Number (if signed then num_loaded_signed (8 * n) else num_loaded (8 * n))
 
+-- bytes of a stack give a number, if all are set
 abbrev pub loaded_bytes : List AbsSlot → ℕ → ℕ → Bool → Result AbsVal Fault
 loaded_bytes stack at n signed = unless (read_fault stack at n) (Ok (loaded signed n))
 
@@ -148,12 +158,14 @@ abbrev pub loaded_whole : AbsSlot → Result AbsVal Fault → Result AbsVal Faul
 loaded_whole (slot.Stored v) r = (if is_unset v then Err fault.Unset else Ok v)
 loaded_whole s r = r
 
+-- eight bytes at a multiple of 8 give back what was stored whole
 abbrev pub loaded_stack : List AbsSlot → ℕ → ℕ → Bool → Result AbsVal Fault
 loaded_stack stack at n signed =
     (if is_whole at n && not signed
     then loaded_whole (slot_at stack (at / 8)) (loaded_bytes stack at n signed)
     else loaded_bytes stack at n signed)
 
+-- from the context, a stack, or a map's entry
 abbrev pub loaded_from : List Shape → View → AbsRegion → Num → ℕ → Bool → Result AbsVal Fault
 loaded_from shapes a place.Context at n signed = unless (context_fault at n) (Ok (loaded signed n))
 loaded_from shapes a (place.Stack k) at n signed =
@@ -187,6 +199,7 @@ spilled a k at n v =
 abbrev pub is_spill : Num → ℕ → Bool
 is_spill at n = n == 8 && is_single at && at.range.low % 8 == 0
 
+-- a number may be stored anywhere in a stack; for other values there is more to test
 abbrev pub stored_in_stack : View → ℕ → Num → ℕ → AbsVal → Result View Fault
 stored_in_stack a k at n (Number x) =
     unless (stack_fault a k at n) (Ok (stored a k at.range.low n (Number x)))
@@ -203,6 +216,7 @@ stored_in_map a shape at n v = Err (wrong v)
 abbrev pub read_only : AbsVal → Fault
 read_only v = (if is_untested v then fault.NotTested else fault.WrongOperand)
 
+-- into a stack or a map's entry; the context is read-only
 abbrev pub stored_into : List Shape → View → AbsRegion → Num → ℕ → AbsVal → Result View Fault
 stored_into shapes a place.Context at n v = Err (read_only v)
 stored_into shapes a (place.Stack k) at n v = stored_in_stack a k at n v
@@ -222,6 +236,7 @@ abbrev pub with_old : View → Option ℕ → ℕ → View
 with_old a None n = a
 with_old a (Some r) n = with_register a r (loaded false n)
 
+-- on bytes of a stack that are set, or on a map's entry; the context is read-only
 abbrev pub atomic_on : List Shape → View → ℕ → AbsRegion → Num → Result View Fault
 atomic_on shapes a n place.Context at = Err fault.WrongOperand
 atomic_on shapes a n (place.Stack k) at =
@@ -229,6 +244,7 @@ atomic_on shapes a n (place.Stack k) at =
     (unless (read_fault (stack_of a k) at.range.low n) (Ok (bytes_stored a k at.range.low n)))
 atomic_on shapes a n (place.Entry m) at = unless (entry_fault (slice_get shapes m) at n) (Ok a)
 
+-- the fault of operands that aren't a pointer and numbers
 abbrev pub operands_fault : AbsVal → AbsVal → AbsVal → Fault
 operands_fault to v r0 =
     (if is_unset to || is_unset v || is_unset r0 then fault.Unset

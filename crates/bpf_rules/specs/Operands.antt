@@ -18,6 +18,7 @@ use Rattle.bpf_absstate.specs.View.{View, register}
 use Rattle.bpf_rules.specs.declared.fault.Fault.{Fault}
 use Rattle.bpf_rules.specs.declared.fault.Fault.TheVariants as fault
 
+-- the value may be unset
 abbrev pub is_unset : AbsVal → Bool
 is_unset Unset = true
 is_unset v = false
@@ -33,6 +34,7 @@ wrong a =
     (if is_unset a then fault.Unset
     else (if is_untested a then fault.NotTested else fault.WrongOperand))
 
+-- the fault of two values that don't go together
 abbrev pub wrong_two : AbsVal → AbsVal → Fault
 wrong_two a b =
     (if is_unset a || is_unset b then fault.Unset
@@ -59,6 +61,7 @@ abbrev pub within_reach : ℕ → ℕ → Option Label
 within_reach label distance =
     (if nat_le distance 2400 then Some (record { label = label; distance = distance }) else None)
 
+-- a pointer moves by c, and with it its distance from the label's place
 abbrev pub label_moved : (ℕ → ℕ → ℕ) → ℕ → Option Label → Option Label
 label_moved f c None = None
 label_moved f c (Some l) = within_reach l.label (f l.distance c)

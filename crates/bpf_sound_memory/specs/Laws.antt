@@ -63,14 +63,17 @@ AtomicHolds =
 
 -- ---- for instructions
 
+-- loads
 abbrev pub LoadCovers : Type 0
 LoadCovers =
     (size : Size) (signed : Bool) (dst src : ℕ) (by : ℤ) →
     InsnCovers (insn.Load size signed dst src by)
 
+-- stores
 abbrev pub StoreCovers : Type 0
 StoreCovers = (size : Size) (dst : ℕ) (by : ℤ) (s : Source) → InsnCovers (insn.Store size dst by s)
 
+-- atomics
 abbrev pub AtomicCovers : Type 0
 AtomicCovers =
     (op : AtomicOp) (wide : Bool) (dst src : ℕ) (by : ℤ) →

@@ -11,6 +11,7 @@ below (Unset depth) = omega arith
 below (Leaf one) = omega arith
 below (Fork pair) = omega arith
 
+-- two even halves have together at least as many slots as either of them is deep
 pub fall : (l r : Slots) → IsEven (slots_of l) (slots_of r) →
     max (deep-Slots l) (max (deep-Slots r) 0) ≤ length (slots_of l ++ slots_of r)
 fall l r h =

@@ -6,6 +6,7 @@ use Rattle.bpf_absval.specs.WellFormed.{IsSlot}
 use Rattle.bpf_stack.specs.declared.tree.Slots.{Slots}
 use Rattle.bpf_stack.specs.declared.tree.Slots.TheVariants.{Unset, Leaf, Fork}
 
+-- an unset row of any depth, one slot, or both halves in turn
 abbrev pub slots_of : Slots → List AbsSlot
 slots_of (Unset depth) = replicate (2 ^ depth) slot.Unset
 slots_of (Leaf one) = one.value ∷ []

@@ -15,6 +15,7 @@ abbrev pub RefusesLine : ℕ → List ℕ → List ℕ → AsmFault → Type 0
 RefusesLine at code line NoMemory = Unit {0}
 RefusesLine at code line (Line l number) = (l ≡ at) × (after_line code line ≡ Err number)
 
+-- a refusal as it is printed
 abbrev pub text_of : AsmFault → List ℕ
 text_of NoMemory = codes "out of memory"
 text_of (Line line number) = codes "line " ++ (decimal line ++ (codes " fault " ++ decimal number))

@@ -14,6 +14,7 @@ use Rattle.bpf_line.specs.Spellings.{text_of}
 abbrev pub lines_of : List ℕ → List (List ℕ)
 lines_of text = slice_split (λ b. b == 10) text
 
+-- the bytes of a second half, if there is one
 abbrev pub second_bytes : Option Fields → List ℕ
 second_bytes None = []
 second_bytes (Some f) = slot_of f
@@ -33,6 +34,7 @@ after_said code (Ok None) = Ok code
 after_said code (Ok (Some insn)) = added code (bytes_of insn)
 after_said code (Err fault) = Err (number_of fault)
 
+-- the code with what a line says at its end, or the line's fault
 abbrev pub after_line : List ℕ → List ℕ → Result (List ℕ) ℕ
 after_line code line = after_said code (line_said line)
 

@@ -10,9 +10,11 @@ ContainsResults f g = (a b : Bits) (x y : ℕ) → InTnum a x → InTnum b y →
 abbrev pub ContainsImages : (Bits → Bits) → (ℕ → ℕ) → Type 0
 ContainsImages f g = (a : Bits) (x : ℕ) → InTnum a x → InTnum (f a) (g x)
 
+-- what stands for all words has each of them
 abbrev pub FullContains : Type 0
 FullContains = (x : ℕ) → x < 2 ^ 64 → InTnum tnum_full x
 
+-- what stands for one word has it
 abbrev pub SingleContains : Type 0
 SingleContains = (x : ℕ) → x < 2 ^ 64 → InTnum (tnum_single x) x
 

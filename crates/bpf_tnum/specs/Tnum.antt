@@ -14,21 +14,25 @@ pub record InTnum (t : Bits) (x : ℕ) : Type 0 where
   pub is_word : x < 2 ^ 64
   pub known : bit_and x (word_not t.mask) ≡ t.value
 
+-- a tristate number of these known bits and this mask
 abbrev pub tnum_of : ℕ → ℕ → Bits
 tnum_of v m = record { value = v; mask = m }
 
+-- sums; a bit that a carry may reach isn't known
 unfoldable pub tnum_add : Bits → Bits → Bits
 tnum_add a b =
     let sum = word_add a.value b.value in
     let mu = bit_or (bit_or (bit_xor (word_add (word_add a.mask b.mask) sum) sum) a.mask) b.mask in
     record { value = bit_and sum (word_not mu); mask = mu }
 
+-- differences; a bit that a borrow may reach isn't known
 unfoldable pub tnum_sub : Bits → Bits → Bits
 tnum_sub a b =
     let difference = word_sub a.value b.value in
     let mu = bit_or (bit_or (bit_xor (word_add difference a.mask) (word_sub difference b.mask)) a.mask) b.mask in
     record { value = bit_and difference (word_not mu); mask = mu }
 
+-- bitwise AND: a bit that is 0 in one of both is known to be 0
 unfoldable pub tnum_and : Bits → Bits → Bits
 tnum_and a b =
     let v = bit_and a.value b.value in
@@ -37,19 +41,23 @@ tnum_and a b =
       mask = bit_and (bit_and (bit_or a.value a.mask) (bit_or b.value b.mask)) (word_not v);
     }
 
+-- bitwise OR: a bit that is 1 in one of both is known to be 1
 unfoldable pub tnum_or : Bits → Bits → Bits
 tnum_or a b =
     let v = bit_or a.value b.value in
     record { value = v; mask = bit_and (bit_or a.mask b.mask) (word_not v) }
 
+-- bitwise XOR: a bit is known where both are
 unfoldable pub tnum_xor : Bits → Bits → Bits
 tnum_xor a b =
     let mu = bit_or a.mask b.mask in
     record { value = bit_and (bit_xor a.value b.value) (word_not mu); mask = mu }
 
+-- no bit is known: all words
 abbrev pub tnum_full : Bits
 tnum_full = record { value = 0; mask = 2 ^ 64 - 1 }
 
+-- all bits are known: one word
 abbrev pub tnum_single : ℕ → Bits
 tnum_single n = record { value = n; mask = 0 }
 
@@ -61,18 +69,23 @@ tnum_low t = record { value = 0; mask = 2 ^ 64 - 2 ^ t }
 abbrev pub tnum_zeros : Bits → ℕ
 tnum_zeros a = trailing_zeros w64 (bit_or a.value a.mask)
 
+-- products: known are the lowest zeros, as many as both factors have together
 unfoldable pub tnum_mul : Bits → Bits → Bits
 tnum_mul a b = tnum_low (min (tnum_zeros a + tnum_zeros b) 64)
 
+-- a shift to the left: known are the lowest zeros, c more than before
 unfoldable pub tnum_shl : Bits → ℕ → Bits
 tnum_shl a c = tnum_low (min (tnum_zeros a + c) 64)
 
+-- a shift to the right: known are the lowest zeros, c fewer than before
 unfoldable pub tnum_shr : Bits → ℕ → Bits
 tnum_shr a c = (if nat_lt c (tnum_zeros a) then tnum_low (tnum_zeros a - c) else tnum_full)
 
+-- the low w bits
 unfoldable pub tnum_cut : ℕ → Bits → Bits
 tnum_cut w a = record { value = a.value % 2 ^ w; mask = a.mask % 2 ^ w }
 
+-- the words of both; nothing where a bit is known to be 0 in one and 1 in the other
 unfoldable pub tnum_meet : Bits → Bits → Option Bits
 tnum_meet a b =
     let mu = bit_and a.mask b.mask in
@@ -80,6 +93,7 @@ tnum_meet a b =
     then Some (record { value = bit_and (bit_or a.value b.value) (word_not mu); mask = mu })
     else None)
 
+-- each word of a is one of b
 unfoldable pub tnum_included : Bits → Bits → Bool
 tnum_included a b =
     nat_eq (bit_and (bit_xor a.value b.value) (word_not b.mask)) 0

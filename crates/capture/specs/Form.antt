@@ -37,6 +37,7 @@ IsOfHeader NoMemory = ⊥
 IsOfHeader (CutRecord count) = ⊥
 IsOfHeader _ = Unit {0}
 
+-- the header's form, unless its link type is unknown
 abbrev pub with_link : Endian → TimeUnit → Result Link CaptureFault → Result Form CaptureFault
 with_link endian unit (Ok link) = Ok (record { endian = endian; unit = unit; link = link })
 with_link endian unit (Err fault) = Err fault
@@ -45,12 +46,14 @@ with_link endian unit (Err fault) = Err fault
 abbrev pub is_known : ℕ → ℕ → Bool
 is_known major minor = major == 2 && minor == 4
 
+-- the form, by the version and the link type
 abbrev pub versioned : List ℕ → Endian → TimeUnit → Result Form CaptureFault
 versioned file endian unit =
     (if is_known (number_at endian 2 4 file) (number_at endian 2 6 file)
     then with_link endian unit (link_of (number_at endian 4 20 file))
     else Err (Version (number_at endian 2 4 file) (number_at endian 2 6 file)))
 
+-- the form, by the magic number; a file without a known one is no capture
 abbrev pub with_magic : List ℕ → Option (Endian × TimeUnit) → Result Form CaptureFault
 with_magic file None = Err NoCapture
 with_magic file (Some magic) =

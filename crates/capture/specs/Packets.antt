@@ -21,6 +21,7 @@ pub record Seen : Type 0 where
   pub time : ℕ
   pub frame : Result (List ℕ) LeftOut
 
+-- a packet as contracts see it
 abbrev pub seen_of : Packet → Seen
 seen_of p = record { time = p.time; frame = bytes_in p.frame }
 
@@ -29,6 +30,7 @@ abbrev pub time_of : TimeUnit → ℕ → ℕ → ℕ
 time_of Microsecond seconds part = 1000000000 * seconds + 1000 * part
 time_of Nanosecond seconds part = 1000000000 * seconds + part
 
+-- the frame in a record's bytes, by the link type
 abbrev pub linked_frame : Link → List ℕ → Result (List ℕ) LeftOut
 linked_frame Plain bytes = Ok bytes
 linked_frame Radiotap bytes = radiotap_frame bytes

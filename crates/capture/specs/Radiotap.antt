@@ -39,6 +39,7 @@ without_check flags frame =
     (if flags / 16 % 2 == 0 then Ok frame else
     (if nat_lt (length frame) 4 then Err out.CheckSequence else Ok (take (length frame - 4) frame)))
 
+-- the frame behind a header of these flags; a header whose flags are cut is damaged
 abbrev pub with_flags : Option ℕ → List ℕ → Result (List ℕ) LeftOut
 with_flags None frame = Err out.Radiotap
 with_flags (Some flags) frame = without_check flags frame

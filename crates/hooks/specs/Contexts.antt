@@ -7,9 +7,11 @@ use Rattle.bpf_regions.specs.declared.hooks.Hook.TheVariants as hook
 use Rattle.bpf_regions.specs.Hooks.{number_of}
 use Rattle.assoc.specs.Standings.{Standing, state_of, aid_of}
 
+-- two bytes, the low one first
 abbrev pub word : ℕ → List ℕ
 word n = to_le_bytes w16 n
 
+-- 1 where it holds
 abbrev pub flag : Bool → ℕ
 flag true = 1
 flag false = 0
@@ -35,14 +37,17 @@ abbrev pub addba_context : List ℕ → Standing → ℕ → ℕ → ℕ → ℕ
 addba_context station standing tid asked timeout start =
     context hook.Addba station standing tid asked timeout start
 
+-- the TID; 255 where there is none
 abbrev pub tid_or_none : Option ℕ → ℕ
 tid_or_none None = 255
 tid_or_none (Some tid) = tid
 
+-- the window's start; 0 where there is none
 abbrev pub start_or_zero : Option ℕ → ℕ
 start_or_zero None = 0
 start_or_zero (Some start) = start
 
+-- there is a window
 abbrev pub is_there : Option ℕ → Bool
 is_there None = false
 is_there (Some start) = true

@@ -1,6 +1,7 @@
 -- Elements (IEEE 802.11-2016, 9.4.2.1), and their one spelling.
 use Rattle.std.specs.Prelude.{◌≡◌, ◌≤◌, ℕ, zero, suc, ◌==◌, if◌then◌else◌, Bool, true, false, List, [], ◌∷◌, ◌++◌, length, take, drop, Option, Some, None, ◌↔◌}
 
+-- an identifier and what stands after its length
 pub record Element : Type 0 where
   pub id : ℕ
   pub bytes : List ℕ
@@ -23,6 +24,7 @@ cut_after (suc skipped) (byte ∷ rest) = cut_after skipped rest
 cut_after zero (id ∷ []) = true
 cut_after zero (id ∷ len ∷ rest) = cut_after len rest
 
+-- the last element has fewer bytes than its length says, or no length
 unfoldable pub is_cut : List ℕ → Bool
 is_cut bytes = cut_after 0 bytes
 

@@ -26,6 +26,7 @@ first (test ∷ tests) = if test.0 then Some test.1 else first tests
 
 -- ---- in the header: the flags of byte 1, the sequence control, the QoS control
 
+-- the tests of a header, by its kind
 abbrev pub header_tests : HeaderKind → List ℕ → List Test
 header_tests headers.Management b =
     (not (are_flags false (slice_index b 1)), ReservedUse)
@@ -58,6 +59,7 @@ are_action_fields action b =
     else (if action == 1 then are_block_ack_parameters (word_at b 29)
     else are_delba_parameters (word_at b 26))
 
+-- the tests of a body, by the frame's kind
 abbrev pub body_tests : Subtype → List ℕ → List Test
 body_tests AssociationRequest b =
     (nat_lt (length b) 28, BodyLength) ∷ (is_cut (drop 28 b), ElementCut) ∷ []
@@ -95,6 +97,7 @@ tests_of (Some kind) b =
     (nat_lt (length b) (header_length (header_of kind)), TooShort)
     ∷ (header_tests (header_of kind) b ++ body_tests kind b)
 
+-- all tests of the bytes of a frame
 abbrev pub tests : List ℕ → List Test
 tests b =
     (nat_lt 2400 (length b), BodyLength)

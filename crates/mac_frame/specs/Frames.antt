@@ -21,6 +21,7 @@ bssid_by (content.Management bssid sequence body) receiver = Some bssid
 bssid_by (content.Control body) receiver = None
 bssid_by (content.Data destination sequence kind) receiver = Some receiver
 
+-- the BSSID of a frame, if it tells one
 abbrev pub bssid_of : Frame → Option (List ℕ)
 bssid_of f = bssid_by f.content f.receiver
 
@@ -36,6 +37,7 @@ parameters_by (management.AddbaRequest token parameters timeout start) = Some pa
 parameters_by (management.AddbaResponse token status parameters timeout) = Some parameters
 parameters_by _ = None
 
+-- the Block Ack Parameter Set, if the frame has one
 abbrev pub parameters_of : Content → Option BlockAckParameters
 parameters_of (content.Management bssid sequence body) = parameters_by body
 parameters_of (content.Control body) = None
@@ -48,16 +50,19 @@ management_tid (management.AddbaResponse token status parameters timeout) = Some
 management_tid (management.Delba parameters reason) = Some parameters.tid
 management_tid _ = None
 
+-- the TID that a control frame is about
 abbrev pub control_tid : Control → ℕ
 control_tid (control.BlockAckReq tid start) = tid
 control_tid (control.BlockAck tid start bitmap) = tid
 
+-- the TID of QoS data; other data has none
 abbrev pub data_tid : DataKind → Option ℕ
 data_tid kinds.Data = None
 data_tid kinds.Null = None
 data_tid (kinds.QosData qos) = Some qos.tid
 data_tid (kinds.QosNull qos) = Some qos.tid
 
+-- the TID of a frame, if it tells one
 abbrev pub tid_of : Content → Option ℕ
 tid_of (content.Management bssid sequence body) = management_tid body
 tid_of (content.Control body) = Some (control_tid body)
@@ -71,12 +76,14 @@ has_elements (management.ReassociationRequest capability interval current) = tru
 has_elements (management.ReassociationResponse capability status aid) = true
 has_elements _ = false
 
+-- the elements behind a management frame's fixed fields; other frames have none
 abbrev pub elements_by : Content → List ℕ → List Element
 elements_by (content.Management bssid sequence body) tail =
     if has_elements body then elements_in tail else []
 elements_by (content.Control body) tail = []
 elements_by (content.Data destination sequence kind) tail = []
 
+-- the elements of a frame
 abbrev pub elements_of : Frame → List Element
 elements_of f = elements_by f.content f.tail
 
@@ -90,6 +97,7 @@ rates_of f = first_with 1 (nonempty (elements_of f))
 
 -- ---- what is sent
 
+-- no flag is set
 abbrev pub no_flags : FrameFlags
 no_flags = record { retry = false; power_management = false; more_data = false }
 

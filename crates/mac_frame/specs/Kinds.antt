@@ -6,6 +6,7 @@ use Rattle.mac_frame.specs.declared.subtype.HeaderKind.TheVariants as headers
 use Rattle.mac_frame.specs.declared.subtype.Subtype.{Subtype}
 use Rattle.mac_frame.specs.declared.subtype.Subtype.TheVariants.{AssociationRequest, AssociationResponse, ReassociationRequest, ReassociationResponse, Disassociation, Authentication, Deauthentication, Action, BlockAckReq, BlockAck, Data, Null, QosData, QosNull}
 
+-- the first byte of each kind that is supported
 abbrev pub subtypes : List (ℕ × Subtype)
 subtypes =
     (0x00, AssociationRequest) ∷ (0x10, AssociationResponse) ∷ (0x20, ReassociationRequest)
@@ -14,6 +15,7 @@ subtypes =
     ∷ (0x84, BlockAckReq) ∷ (0x94, BlockAck)
     ∷ (0x08, Data) ∷ (0x48, Null) ∷ (0x88, QosData) ∷ (0xc8, QosNull) ∷ []
 
+-- the kind of a first byte, if it stands in the table
 abbrev pub in_table : List (ℕ × Subtype) → ℕ → Option Subtype
 in_table [] byte = None
 in_table (row ∷ rows) byte = if byte == row.0 then Some row.1 else in_table rows byte
@@ -56,6 +58,7 @@ header_of Null = headers.Data
 header_of QosData = headers.QosData
 header_of QosNull = headers.QosData
 
+-- how many bytes a header has
 abbrev pub header_length : HeaderKind → ℕ
 header_length headers.Management = 24
 header_length headers.Control = 16

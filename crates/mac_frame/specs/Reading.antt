@@ -38,6 +38,7 @@ pub record IsBody (kind : Subtype) (b : List ℕ) (body : Management) (tail : Li
   pub spelled : drop 24 b ≡ management_text body tail
   pub fits : IsManagement body tail
 
+-- the bytes after a control frame's header spell this body, and nothing is wrong with them
 pub record IsControlBody
     (kind : Subtype) (b : List ℕ) (body : Control) (tail : List ℕ) : Type 0 where
   pub faultless : first (body_tests kind b) ≡ None
@@ -45,6 +46,7 @@ pub record IsControlBody
   pub spelled : drop 16 b ≡ control_text body tail
   pub fits : IsControl body tail
 
+-- the bytes after a data frame's header spell this body, likewise
 pub record IsDataBody (kind : Subtype) (b : List ℕ) (body : DataKind) (tail : List ℕ) : Type 0 where
   pub faultless : first (body_tests kind b) ≡ None
   pub subtype : data_subtype body ≡ kind

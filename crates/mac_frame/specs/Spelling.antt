@@ -28,6 +28,7 @@ pub record Frame : Type 0 where
 
 -- ---- the kinds of frames
 
+-- the kind of a management frame; block acknowledgement is agreed by Action frames
 abbrev pub management_subtype : Management → Subtype
 management_subtype (management.AssociationRequest capability interval) = subtypes.AssociationRequest
 management_subtype (management.AssociationResponse capability status aid) =
@@ -44,16 +45,19 @@ management_subtype (management.AddbaRequest token parameters timeout start) = su
 management_subtype (management.AddbaResponse token status parameters timeout) = subtypes.Action
 management_subtype (management.Delba parameters reason) = subtypes.Action
 
+-- the kind of a control frame
 abbrev pub control_subtype : Control → Subtype
 control_subtype (control.BlockAckReq tid start) = subtypes.BlockAckReq
 control_subtype (control.BlockAck tid start bitmap) = subtypes.BlockAck
 
+-- the kind of a data frame
 abbrev pub data_subtype : DataKind → Subtype
 data_subtype kinds.Data = subtypes.Data
 data_subtype kinds.Null = subtypes.Null
 data_subtype (kinds.QosData qos) = subtypes.QosData
 data_subtype (kinds.QosNull qos) = subtypes.QosNull
 
+-- the kind of a frame, by what it carries
 abbrev pub content_subtype : Content → Subtype
 content_subtype (content.Management bssid sequence body) = management_subtype body
 content_subtype (content.Control body) = control_subtype body
@@ -117,6 +121,7 @@ content_text (content.Control body) tail = control_text body tail
 content_text (content.Data destination sequence kind) tail =
     destination ++ (word (sequence_control sequence) ++ data_text kind tail)
 
+-- the bytes of a frame: its kind, flags, duration and two addresses, and what it carries
 abbrev pub spelling : Frame → List ℕ
 spelling f =
     first_byte (content_subtype f.content) ∷ flags_octet (to_ds f.content) f.flags
@@ -124,6 +129,7 @@ spelling f =
 
 -- ---- the grammar: which frames are spelled
 
+-- the values of a management body and what stands behind its fixed fields
 abbrev pub IsManagement : Management → List ℕ → Type 0
 IsManagement (management.AssociationRequest capability interval) tail =
     IsWord capability × IsWord interval × AreElements tail
@@ -144,17 +150,20 @@ IsManagement (management.AddbaResponse token status parameters timeout) tail =
 IsManagement (management.Delba parameters reason) tail =
     IsDelbaParameters parameters × IsWord reason × (tail ≡ [])
 
+-- the values of a control body, behind which nothing stands
 abbrev pub IsControl : Control → List ℕ → Type 0
 IsControl (control.BlockAckReq tid start) tail = IsTid tid × IsSequenceNumber start × (tail ≡ [])
 IsControl (control.BlockAck tid start bitmap) tail =
     IsTid tid × IsSequenceNumber start × (bitmap < 2 ^ 64) × (tail ≡ [])
 
+-- the values of a data body; Null and QoS Null carry no data
 abbrev pub IsData : DataKind → List ℕ → Type 0
 IsData kinds.Data tail = Unit {0}
 IsData kinds.Null tail = tail ≡ []
 IsData (kinds.QosData qos) tail = IsQosControl qos
 IsData (kinds.QosNull qos) tail = IsQosControl qos × (tail ≡ [])
 
+-- the values of what a frame carries
 abbrev pub IsContent : Content → List ℕ → Type 0
 IsContent (content.Management bssid sequence body) tail =
     IsAddress bssid × IsSequenceNumber sequence × IsManagement body tail

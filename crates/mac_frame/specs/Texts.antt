@@ -5,6 +5,7 @@ use Rattle.mac_frame.specs.declared.fault.Fault.TheVariants.{TooShort, WrongVers
 use Rattle.mac_frame.specs.declared.fault.FrameFault.{FrameFault}
 use Rattle.mac_frame.specs.declared.fault.FrameFault.TheVariants as answers
 
+-- what is wrong with a frame, in words
 abbrev pub fault_text : Fault → List ℕ
 fault_text TooShort = codes "the frame ends within its header"
 fault_text WrongVersion = codes "the protocol version is not 0"
@@ -13,6 +14,7 @@ fault_text ReservedUse = codes "a field holds a reserved value"
 fault_text ElementCut = codes "an element is cut"
 fault_text BodyLength = codes "the body has the wrong length"
 
+-- why no frame is read, in words
 abbrev pub frame_fault_text : FrameFault → List ℕ
 frame_fault_text answers.Memory = codes "out of memory"
 frame_fault_text (answers.Fault fault) = fault_text fault

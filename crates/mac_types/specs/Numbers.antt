@@ -2,6 +2,7 @@
 use Rattle.std.specs.Prelude.{ℕ, ◌+◌, ◌*◌, ◌<◌, ◌^◌, ◌≡◌, Bool, ◌&&◌, ◌==◌, nat_lt, List, length}
 use Rattle.mac_types.specs.Bits.{bits}
 
+-- an address has six octets (IEEE 802.11-2016, 9.2.4.3)
 abbrev pub IsAddress : List ℕ → Type 0
 IsAddress octets = length octets ≡ 6
 
@@ -9,18 +10,22 @@ IsAddress octets = length octets ≡ 6
 abbrev pub IsWord : ℕ → Type 0
 IsWord field = field < 2 ^ 16
 
+-- a TID of a traffic class, 0 to 7
 abbrev pub IsTid : ℕ → Type 0
 IsTid tid = tid < 8
 
+-- sequence numbers are counted mod 4096
 abbrev pub IsSequenceNumber : ℕ → Type 0
 IsSequenceNumber number = number < 4096
 
+-- a buffer size has ten bits
 abbrev pub IsBufferSize : ℕ → Type 0
 IsBufferSize size = size < 1024
 
 -- ---- Sequence Control (IEEE 802.11-2016, 9.2.4.4) and Block Ack Starting Sequence Control (9.3.1.8): bits 0 to 3
 -- the fragment number, 4 to 15 the sequence number
 
+-- the field of a sequence number, without a fragment
 abbrev pub sequence_control : ℕ → ℕ
 sequence_control number = 16 * number
 
@@ -31,6 +36,7 @@ is_sequence_control field = bits field 0 4 == 0
 -- ---- BAR Control (9.3.1.8) and BA Control (9.3.1.9): bit 0 the Ack Policy, 1 Multi-TID, 2 Compressed Bitmap,
 -- 3 to 11 GCR and reserved, 12 to 15 the TID
 
+-- the field of a TID, with a compressed bitmap
 abbrev pub block_ack_control : ℕ → ℕ
 block_ack_control tid = 4 + 4096 * tid
 

@@ -38,6 +38,7 @@ abbrev pub IsAnswer : WordWidth → MapOp → ℕ → Type 0
 IsAnswer width (Store x) answer = answer ≡ 0
 IsAnswer width operation answer = answer < modulus width
 
+-- an access of a seat to a word, with its answer
 abbrev pub entry : ℕ → ℕ → MapOp → ℕ → Entry
 entry seat word operation answer =
     record { seat = seat; word = word; operation = operation; answer = answer }
@@ -72,5 +73,6 @@ abbrev pub accesses_by : ℕ → List Entry → List Entry
 accesses_by seat [] = []
 accesses_by seat (e ∷ es) = if e.seat == seat then e ∷ accesses_by seat es else accesses_by seat es
 
+-- what was seen is a beginning of the history
 abbrev pub StartsWith : List Entry → List Entry → Type 0
 StartsWith history seen = (more : List Entry) × (history ≡ seen ++ more)

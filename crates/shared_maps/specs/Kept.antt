@@ -38,6 +38,7 @@ pub record IsKept (shape : Shape) (words : List ℕ) (views : List View) : Type 
   pub later : (n : ℕ) → length places ≤ n → accesses_by n log ≡ []
   pub each : (id : ℕ) (v : View) → get_elem? views id ≡ some v → Fits log places id v
 
+-- the rule, as the steps of a table keep it
 abbrev pub Kept : Shape → State Unit View → Type 0
 Kept shape s = IsKept shape s.words s.views
 
@@ -45,6 +46,7 @@ Kept shape s = IsKept shape s.words s.views
 abbrev pub numbering : ℕ → View
 numbering n = record { number = 0; following = n; seen = []; own = []; told = [] }
 
+-- what a seat knows, by its view
 abbrev pub known : View → Known
 known v = record { number = v.number; seen = v.seen; own = v.own }
 
@@ -58,6 +60,7 @@ Made shape operation s me found me' =
 abbrev pub seated : View → View
 seated v = record { number = v.following; following = 0; seen = []; own = []; told = [] }
 
+-- the view that numbers seats after the next one
 abbrev pub numbered : View → View
 numbered v = numbering (v.following + 1)
 
@@ -65,10 +68,12 @@ numbered v = numbering (v.following + 1)
 abbrev pub note : List Entry → View
 note seen = record { number = 0; following = 0; seen = seen; own = []; told = [] }
 
+-- v has been told what w has seen
 abbrev pub hearing : View → View → View
 hearing v w =
     record { number = v.number; following = v.following; seen = v.seen; own = v.own; told = w.seen }
 
+-- v has seen what w has
 abbrev pub following : View → View → View
 following v w =
     record { number = v.number; following = v.following; seen = w.seen; own = v.own; told = v.told }

@@ -11,6 +11,7 @@ pub record Known : Type 0 where
   pub seen : List Entry
   pub own : List Entry
 
+-- a seat that has seen nothing and made no access
 abbrev pub newcomer : ℕ → Known
 newcomer number = record { number = number; seen = []; own = [] }
 
