@@ -1,0 +1,4 @@
+pub mod Sums
+pub mod Serving
+pub mod Loading
+pub mod OneByOne
