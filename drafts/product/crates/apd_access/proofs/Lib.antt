@@ -1,4 +1,0 @@
-pub mod Sums
-pub mod Serving
-pub mod Loading
-pub mod OneByOne
