@@ -6,7 +6,7 @@ _apd() {
         asm) options='--help' first='' ;;
         disasm) options='--config --slots --help' first='' ;;
         trace) options='--config --help' first='assoc addba data' ;;
-        run) options='--workers --help' first='' ;;
+        run) options='--workers --quiet --help' first='' ;;
         cert) options='--config --help' first='assoc addba data' ;;
         check) options='--config --help' first='assoc addba data' ;;
         explain) options='--help' first='' ;;

@@ -15,6 +15,7 @@ pub record Kept : Type 0 where
   pub tid : ℕ
   pub using : Using
 
+-- the station and the TID of an agreement that is kept
 abbrev pub key_of : Kept → List ℕ × ℕ
 key_of k = (k.station, k.tid)
 

@@ -72,6 +72,8 @@ fn late_agreements_end_in_order(rt: HostRuntime) -> Result<(), Fail> {
     }
     assert_eq!(rt; agreements.late(12), 0);
     assert_eq!(rt; agreements.late(13), 2);
+    assert_eq!(rt; agreements.late_held(13), 0);
+    assert_eq!(rt; agreements.held(station(3), tid(0)?), 0);
     let count = agreements.late(13);
     let mut ended = Vec::with_capacity(alloc, count)?;
     agreements.take_late(13, &mut ended);
@@ -93,8 +95,11 @@ fn windows_hand_up_in_order(rt: HostRuntime) -> Result<(), Fail> {
     let third = number(102)?;
     let frame = held(alloc, b"c")?;
     assert!(rt; entry.wants(third));
+    assert_eq!(rt; entry.most_passed(third), 0);
     entry.take(third, Some(frame), 4, &mut out);
     assert_eq!(rt; out.len(), 0);
+    assert_eq!(rt; entry.held(), 1);
+    assert_eq!(rt; entry.most_passed(number(100)?), 2);
     assert!(rt; !entry.wants(third));
     entry.leave(third, 5);
     entry.request(number(101)?, 6, &mut out);

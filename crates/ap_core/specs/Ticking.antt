@@ -9,6 +9,7 @@ use Rattle.ap_agreements.specs.Tables.{Kept, is_late, late_held, all_held}
 use Rattle.ap_core.specs.declared.state.State.{State}
 use Rattle.ap_core.specs.declared.ticks.TickRoom.{TickRoom}
 
+-- the clock after so many time units more, which stays at 2^64 - 1 once it is there
 abbrev pub clock_after : State → ℕ → ℕ
 clock_after s units = min (s.clock + units) (2 ^ 64 - 1)
 

@@ -24,14 +24,17 @@ pub data Alongside : List Entry → List Entry → Type 0 where
 abbrev pub window_start : Readings → List ℕ → ℕ → Option ℕ
 window_start r a tid = option_map (λ u. u.window.start) (r.agreement a tid)
 
+-- the windows of both readings begin at the same numbers
 abbrev pub SameStarts : Readings → Readings → Type 0
 SameStarts one other = (a : List ℕ) (tid : ℕ) → window_start one a tid ≡ window_start other a tid
 
+-- runs of one shard whose entries go alongside leave windows that begin at the same numbers
 abbrev pub RunsLeaveSameStarts : Type 0
 RunsLeaveSameStarts =
     (c : Rules) (r one other : Readings) (ones others : List Entry) →
     HoldsOnce c r → HoldsAgreements r → Run c r ones one → Run c r others other → Alongside ones others → SameStarts one other
 
+-- and so do runs of eight shards, each of whose entries go alongside
 abbrev pub LinkRunsLeaveSameStarts : Type 0
 LinkRunsLeaveSameStarts =
     (c : ℕ → Rules) (r one other : ℕ → Readings) (ones others : List Turn) →

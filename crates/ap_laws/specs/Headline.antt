@@ -72,6 +72,7 @@ pub record EventHolds {S : Type 0} (R : S → Ask → ℕ → S → Type 0) (c :
   pub listed : Answered R j asked j2
   pub holds : LinkHolds c (entries ++ record { event = event; asked = asked; outs = outs } ∷ []) r2
 
+-- what the headline says holds of each event that a shard handles after a run from the opening
 abbrev pub EventsHold : {S : Type 0} → (S → Ask → ℕ → S → Type 0) → Type 0
 EventsHold {S} R =
     (c : Rules) (r r2 : Readings) (entries : List Entry) (event : Event) (j j2 : S) (outs : List Out) → Run c opening entries r →
@@ -89,6 +90,7 @@ pub record AccessPointHolds {S : Type 0} (R : S → Ask → ℕ → S → Type 0
   pub shards : (s : ℕ) → s < 8 → LinkHolds (c s) (entries s ++ entries_of s turns) (r2 s)
   pub identifiers : NoTwoHold r2
 
+-- what the headline says holds of each list of events to eight shards after runs from the opening
 abbrev pub AccessPointsHold : {S : Type 0} → (S → Ask → ℕ → S → Type 0) → Type 0
 AccessPointsHold {S} R =
     (c : ℕ → Rules) (r r2 : ℕ → Readings) (entries : ℕ → List Entry) (events : List Event) (j j2 : S) (results : List (Option (List Out))) →

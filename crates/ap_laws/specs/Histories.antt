@@ -17,6 +17,7 @@ pub record ReadsAgreement (g : Agreement) (u : Using) : Type 0 where
   pub timeout : u.timeout ≡ g.timeout
   pub last_use : u.last_use ≡ g.last_use
 
+-- the agreement that stands by the history is the one that is read, or there is none in both
 abbrev pub ReadsAgreed : Option Agreement → Option Using → Type 0
 ReadsAgreed None None = Unit {0}
 ReadsAgreed None (Some u) = ⊥

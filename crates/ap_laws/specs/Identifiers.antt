@@ -17,12 +17,15 @@ NoTwoHold r =
     (s t : ℕ) (a b : List ℕ) (n : ℕ) → s < 8 → t < 8 →
     (r s).standing a ≡ Some (Associated n) → (r t).standing b ≡ Some (Associated n) → (s ≡ t) × (a ≡ b)
 
+-- nobody holds an association identifier in the opening
 abbrev pub OpeningHoldsOnce : Type 0
 OpeningHoldsOnce = (c : Rules) → HoldsOnce c opening
 
+-- a run leaves each association identifier of a shard held at most once
 abbrev pub RunHoldsOnce : Type 0
 RunHoldsOnce = (c : Rules) (r r2 : Readings) (entries : List Entry) → HoldsOnce c r → Run c r entries r2 → HoldsOnce c r2
 
+-- no two stations of any shards hold one association identifier after a run of the link
 abbrev pub AccessPointHoldsOnce : Type 0
 AccessPointHoldsOnce =
     (c : ℕ → Rules) (r r2 : ℕ → Readings) (turns : List Turn) →

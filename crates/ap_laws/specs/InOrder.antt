@@ -15,11 +15,13 @@ abbrev pub is_tid : ℕ → Option ℕ → Bool
 is_tid tid None = false
 is_tid tid (Some t) = tid == t
 
+-- whether data of that station with that TID is passed up
 abbrev pub is_up_of : List ℕ → ℕ → Out → Bool
 is_up_of a tid (out.Up d) = same_address a d.source && is_tid tid d.tid
 is_up_of a tid (out.Send bytes) = false
 is_up_of a tid (out.Note number) = false
 
+-- the data of a station with a TID that a list of outs passes up
 abbrev pub ups_of : List ℕ → ℕ → List Out → List Out
 ups_of a tid [] = []
 ups_of a tid (o ∷ outs) = if is_up_of a tid o then o ∷ ups_of a tid outs else ups_of a tid outs
@@ -67,6 +69,7 @@ pub record EndedInOrder (a : List ℕ) (tid : ℕ) (old : Window Held) (passed :
   pub ends : EndStep old last
   pub order : PassedInOrder a tid last passed
 
+-- what an agreement passed up, till it ended or another took its place, was in order
 abbrev pub EndsInOrder : Type 0
 EndsInOrder =
     (c : Rules) (entries : List Entry) (r r2 : Readings) (e : Entry) (a : List ℕ) (tid : ℕ) → Run c opening entries r → Handles c r e r2 →

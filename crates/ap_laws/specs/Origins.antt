@@ -76,9 +76,11 @@ pub record HoldsAgreements (r : Readings) : Type 0 where
   pub associated : (a : List ℕ) (tid : ℕ) (u : Using) → r.agreement a tid ≡ Some u → IsAssociated a r
   pub start : (a : List ℕ) (tid : ℕ) (u : Using) → r.agreement a tid ≡ Some u → u.window.start < 4096
 
+-- each agreement of the opening is held by an associated station: there is none
 abbrev pub OpeningHoldsAgreements : Type 0
 OpeningHoldsAgreements = HoldsAgreements opening
 
+-- a run leaves agreements with associated stations alone
 abbrev pub RunHoldsAgreements : Type 0
 RunHoldsAgreements = (c : Rules) (r r2 : Readings) (entries : List Entry) → HoldsAgreements r → Run c r entries r2 → HoldsAgreements r2
 
@@ -89,6 +91,7 @@ FromAnyReadings =
     HoldsAgreements r → Run c r entries at → Handles c at e r2 → Contains e.outs (out.Up d) →
     ComesAssociated c r (entries ++ e ∷ []) r2 d ⊎ WaitsAssociated c r (entries ++ e ∷ []) r2 d
 
+-- what is passed up after a run from the opening comes from an associated station
 abbrev pub FromTheOpening : Type 0
 FromTheOpening =
     (c : Rules) (at r2 : Readings) (entries : List Entry) (e : Entry) (d : Up) →

@@ -28,6 +28,7 @@ pub record Progress : Type 0 where
   pub held : Held
   pub shards : Eight
 
+-- what a worker's token has taken, seen and held, and its shares
 abbrev pub progress_of : Worker → Progress
 progress_of w = record { taken = taken_by w.pass; seen = w.seen; held = w.held; shards = w.shards }
 

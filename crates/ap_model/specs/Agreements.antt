@@ -32,6 +32,7 @@ pub record Packet : Type 0 where
   pub tid : Option ℕ
   pub number : ℕ
 
+-- data that is passed up, by its parts
 abbrev pub up : List ℕ → List ℕ → Option ℕ → ℕ → ℕ → List ℕ → Out
 up source destination tid number mark body =
     Up (record { source = source; destination = destination; tid = tid; number = number; mark = mark; body = body })
@@ -72,6 +73,7 @@ data_ask r a p =
 
 -- ---- data without an agreement is passed up at once
 
+-- data for which there is no agreement: the judge's verdict alone decides whether it is passed up
 pub record Delivers (r : Readings) (a : List ℕ) (p : Packet) (asked : List (Ask × ℕ)) (outs : List Out) (r2 : Readings) : Type 0 where
   pub plain : agreement_for r a p.tid ≡ None
   pub verdict : ℕ
@@ -113,9 +115,11 @@ pub data DataComes (r : Readings) (a : List ℕ) (p : Packet) (asked : List (Ask
 -- ---- BlockAckReq (10.24.7.6.3): what the window passes up, and then the BlockAck with the scoreboard; a use of the
 -- agreement
 
+-- the BlockAck that reports a window's scoreboard (IEEE 802.11-2016, 9.3.1.9)
 abbrev pub block_ack : Rules → List ℕ → ℕ → Reading Held → Out
 block_ack c a tid v = sends (sent_control a c.config.bssid (control.BlockAck tid v.scoreboard_start v.scoreboard_bits))
 
+-- a BlockAckReq: the window moves, what it passes by is passed up, and a BlockAck reports it
 pub record Reports (c : Rules) (r : Readings) (a : List ℕ) (tid start : ℕ) (u : Using) (asked : List (Ask × ℕ)) (outs : List Out) (r2 : Readings) : Type 0 where
   pub window : Reading Held
   pub size : window.size ≡ u.window.size
@@ -125,12 +129,14 @@ pub record Reports (c : Rules) (r : Readings) (a : List ℕ) (tid start : ℕ) (
   pub settles : Settles (ups a tid passed ++ block_ack c a tid window ∷ []) asked outs
   pub agrees : Agrees r a tid (Some (record { window = window; timeout = u.timeout; last_use = r.clock })) r2
 
+-- a BlockAckReq: nothing without an agreement, else a report
 pub data RequestComes (c : Rules) (r : Readings) (a : List ℕ) (tid start : ℕ) (asked : List (Ask × ℕ)) (outs : List Out) (r2 : Readings) : Type 0 where
   unagreed : r.agreement a tid ≡ None → Nothing r asked outs r2 → RequestComes c r a tid start asked outs r2
   agreed : (u : Using) → r.agreement a tid ≡ Some u → Reports c r a tid start u asked outs r2 → RequestComes c r a tid start asked outs r2
 
 -- ---- the end of an agreement (11.5.3): all that is held is passed up first
 
+-- what an agreement that ends still holds is passed up
 pub data PassesHeld (a : List ℕ) (tid : ℕ) : Option Using → List Out → Type 0 where
   none_held : PassesHeld a tid None []
   held_up : (u : Using) (passed : List (ℕ × Held)) → EndPassesUp u.window passed → PassesHeld a tid (Some u) (ups a tid passed)
@@ -148,6 +154,7 @@ delba c a tid reason = sends (sent_management a c.config.bssid (management.Delba
 
 -- ---- ADDBA request (11.5.2)
 
+-- what an ADDBA request asks for (IEEE 802.11-2016, 9.6.5.2)
 pub record Setup : Type 0 where
   pub frame : Frame
   pub token : ℕ
@@ -161,6 +168,7 @@ abbrev pub setup_answer : Rules → List ℕ → Setup → ℕ → ℕ → Out
 setup_answer c a s status size =
     sends (sent_management a c.config.bssid (management.AddbaResponse s.token status (immediate_parameters s.parameters.tid size) s.timeout) [])
 
+-- what the judge of agreements is asked of an ADDBA request
 abbrev pub setup_ask : Readings → List ℕ → Setup → Ask
 setup_ask r a s =
     record {

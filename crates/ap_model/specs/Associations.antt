@@ -42,6 +42,7 @@ pub record Request : Type 0 where
   pub listen_interval : ℕ
   pub again : Bool
 
+-- the answer to a request (IEEE 802.11-2016, 9.3.3.7 and 9.3.3.9)
 abbrev pub response : Bool → ℕ → ℕ → Management
 response true status aid = management.ReassociationResponse 1 status aid
 response false status aid = management.AssociationResponse 1 status aid
@@ -63,6 +64,7 @@ pub record Suits (q : Request) : Type 0 where
 abbrev pub Names : Rules → Request → Type 0
 Names c q = ssid_of q.frame ≡ Some c.config.ssid
 
+-- what the judge of associations is asked of a request
 abbrev pub association_ask : Readings → List ℕ → Request → Ask
 association_ask r a q =
     record {

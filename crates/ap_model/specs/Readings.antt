@@ -9,6 +9,7 @@ pub record Config : Type 0 where
   pub ssid : List ℕ
   pub rates : List ℕ
 
+-- a network's name of at most 32 octets, and one to eight supported rates (IEEE 802.11-2016, 9.4.2)
 pub record IsConfig (c : Config) : Type 0 where
   pub name : length c.ssid ≤ 32
   pub some : 1 ≤ length c.rates

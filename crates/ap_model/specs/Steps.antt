@@ -40,9 +40,11 @@ pub record IsOurs (c : Rules) (f : Frame) : Type 0 where
   pub bssid : NamesBssid c.config.bssid (bssid_of f)
   pub single : slice_index f.sender 0 % 2 ≡ 0
 
+-- a Disassociation with that reason (IEEE 802.11-2016, 9.3.3.5)
 abbrev pub disassociation : Rules → List ℕ → ℕ → Out
 disassociation c a reason = sends (sent_management a c.config.bssid (management.Disassociation reason) [])
 
+-- a Deauthentication with that reason (IEEE 802.11-2016, 9.3.3.13)
 abbrev pub deauthentication : Rules → List ℕ → ℕ → Out
 deauthentication c a reason = sends (sent_management a c.config.bssid (management.Deauthentication reason) [])
 
@@ -50,6 +52,7 @@ deauthentication c a reason = sends (sent_management a c.config.bssid (managemen
 abbrev pub OctetsBefore : List ℕ → List ℕ → Type 0
 OctetsBefore a b = slice_cmp nat_cmp a b ≡ Less
 
+-- agreements in the order of their stations' addresses, and of their TIDs
 abbrev pub IsBefore : (List ℕ × ℕ) → (List ℕ × ℕ) → Type 0
 IsBefore p q = OctetsBefore p.0 q.0 ⊎ ((p.0 ≡ q.0) × (p.1 < q.1))
 

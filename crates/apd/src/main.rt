@@ -1,38 +1,45 @@
-//! The program `apd`: programs of a programmable access point's hooks, from the command line.
+//! The program `apd`: a programmable access point that runs scripts, and programs of its hooks, from the command line.
 #![tactic(auto)]
 
+use apd_entry::Messages;
 use apd_files::RealFiles;
-use apd_program::apd_main;
-use std::alloc::AllocError;
-use std::io::ErrorKind;
+use std::alloc::{AllocError, Global};
+use std::io::{ErrorKind, IsTerminal, Write};
 use std::process::ExitCode;
 use std::rt::Env;
-use std::{env, io};
+use std::sync::Wait;
+use std::thread::Threads;
+use std::time::Clock;
+use std::{env, io, rt};
 
 fn main(rt: HostRuntime) -> ExitCode {
-    match run(&rt) {
+    let mut err = rt.stderr();
+    let watched = err.is_terminal();
+    let messages = Messages {
+        err: &mut err,
+        watched,
+    };
+    match run(&rt, rt.alloc(), rt.stdout(), messages) {
         Ok(status) => ExitCode::from(status),
         Err(error) => ExitCode::from(failed(&rt, &error)),
     }
 }
 
 /// Runs the program on its words, and answers its status.
-fn run(rt: &HostRuntime) -> io::Result<u8> {
-    let alloc = rt.alloc();
+fn run<R, O, E>(rt: &R, alloc: Global, out: O, messages: Messages<'_, E>) -> io::Result<u8>
+where
+    R: Threads + Wait + Sync + Clock + Eprint + Env + rt::Files + AllocGlobal,
+    O: Write + Drop,
+    E: Write,
+{
     let given = given_words(rt)?;
     let mut words = Vec::new(alloc);
     for word in &given {
         words.push(word.as_str()).map_err(AllocError::from)?;
     }
-    let mut out = rt.stdout();
-    let mut err = rt.stderr();
-    Ok(apd_main(
-        alloc,
-        words.as_slice(),
-        &mut RealFiles(rt),
-        &mut out,
-        &mut err,
-    ))
+    let mut files = RealFiles(rt);
+    let (_, status) = apd_entry::perform(rt, alloc, words.as_slice(), &mut files, out, messages);
+    Ok(status)
 }
 
 /// The words that the program was started with, its own name first.

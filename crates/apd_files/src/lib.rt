@@ -1,10 +1,10 @@
 //! The files of the system, as `apd` reads them.
 //!
-//! `RealFiles` is what `apd_main` is given by the program. It stands on `apd_program`. Of what files hold
-//! no clause says anything: that they are really read is shown by the programs that the gate runs.
+//! `RealFiles` is what the commands are given by the program. It stands on `apd_inputs`. Of what files
+//! hold no clause says anything: that they are really read is shown by the programs that the gate runs.
 #![tactic(auto)]
 
-use apd_program::{FileFault, Files};
+use apd_inputs::{FileFault, Files};
 use std::io::ErrorKind;
 use std::{fs, rt};
 

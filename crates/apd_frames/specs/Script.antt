@@ -1,6 +1,6 @@
 -- A capture as a script: `frame HEX` for each frame, `tick N` for the time that passes before it in
 -- units of 1024 microseconds, and a comment for each packet that is left out.
-use Rattle.std.specs.Prelude.{ℕ, ◌+◌, ◌-◌, ◌/◌, ◌==◌, ◌&&◌, Bool, nat_lt, min, max, List, [], ◌∷◌, ◌++◌, length, codes, decimal, Result, Ok, Err, if◌then◌else◌}
+use Rattle.std.specs.Prelude.{ℕ, ◌+◌, ◌-◌, ◌/◌, ◌==◌, ◌&&◌, Bool, nat_lt, min, max, List, [], ◌∷◌, ◌++◌, length, codes, decimal, Option, Some, None, Result, Ok, Err, if◌then◌else◌}
 use Rattle.hex.specs.Hex.{encode_lower}
 use Rattle.capture.specs.declared.fault.LeftOut.{LeftOut}
 use Rattle.capture.specs.declared.fault.LeftOut.TheVariants.{Cut, Radiotap, CheckSequence}
@@ -42,9 +42,11 @@ abbrev pub time_lines : Bool → ℕ → ℕ → List ℕ
 time_lines ticks clock now =
     (if ticks && nat_lt clock now then tick_line (min (now - clock) 4294967295) else [])
 
--- in which unit after the start a time in nanoseconds lies; in unit 0 where it is earlier
-abbrev pub unit_of : ℕ → ℕ → ℕ
-unit_of start time = (time - start) / 1024000
+-- in which unit after the start a time in nanoseconds lies; in unit 0 where it is earlier, or isn't
+-- known, so that no time passes before the packet
+abbrev pub unit_of : ℕ → Option ℕ → ℕ
+unit_of start None = 0
+unit_of start (Some time) = (time - start) / 1024000
 
 -- the packets from this number on, `clock` being the latest unit so far
 abbrev pub lines_from : Bool → ℕ → ℕ → ℕ → List Seen → List ℕ
@@ -53,11 +55,16 @@ lines_from ticks start number clock (packet ∷ packets) =
     time_lines ticks clock (unit_of start packet.time) ++ (packet_lines number packet.frame
     ++ lines_from ticks start (number + 1) (max clock (unit_of start packet.time)) packets)
 
--- the time of the first packet
+-- a packet's time, or the first one behind it
+abbrev pub time_or : Option ℕ → ℕ → ℕ
+time_or None later = later
+time_or (Some time) later = time
+
+-- the first time that is known, 0 where none is
 abbrev pub start_of : List Seen → ℕ
 start_of [] = 0
-start_of (packet ∷ packets) = packet.time
+start_of (packet ∷ packets) = time_or packet.time (start_of packets)
 
--- the whole capture, with its times or without; the time of the first packet is the start
+-- the whole capture, with its times or without; the first time is the start
 abbrev pub script_of : Bool → List Seen → List ℕ
 script_of ticks packets = lines_from ticks (start_of packets) 1 0 packets

@@ -9,26 +9,32 @@ use crate::lines::{append_packet, append_time};
 use capture::Packet;
 use std::alloc::{AllocError, Global};
 
-/// The time of the first packet.
+/// The first time that is known, 0 where none is.
 fn start(packets: &[Packet<'_>]) -> u64
     ensures is { result ≡ start_of (map seen_of packets.now) }
 {
-    match packets.first() {
-        Some(packet) => packet.time,
+    for packet in packets {
+        if let Some(time) = packet.time {
+            return time;
+        }
+    }
+    0
+}
+
+/// In which unit of 1024 microseconds after the start a time lies; in unit 0 where it is earlier, or
+/// isn't known.
+fn unit(start: u64, time: Option<u64>) -> u64
+    ensures is { result ≡ unit_of start time }
+{
+    match time {
+        Some(time) => time.saturating_sub(start) / 1_024_000,
         None => 0,
     }
 }
 
-/// In which unit of 1024 microseconds after the start a time lies; in unit 0 where it is earlier.
-fn unit(start: u64, time: u64) -> u64
-    ensures is { result ≡ unit_of start time }
-{
-    time.saturating_sub(start) / 1_024_000
-}
-
 /// The packets of a capture as a script: a line `frame HEX` for each frame, where `ticks` says so
 /// with `tick N` before it for the units of 1024 microseconds that have passed, and a comment for
-/// each packet that is left out.
+/// each packet that is left out. Before a packet of no known time none passes.
 pub fn script_text(alloc: Global, packets: &[Packet<'_>], ticks: bool) -> Result<String, AllocError>
     ensures is { IfOk result
         (λ text. string_bytes text ≡ script_of ticks (map seen_of packets.now)) }

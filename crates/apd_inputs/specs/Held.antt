@@ -4,7 +4,7 @@ use Rattle.std.specs.Char.{is_ascii_whitespace}
 use Rattle.hex.specs.Hex.{decode_of}
 use Rattle.hex.specs.declared.error.FromHexError.{FromHexError}
 
--- What is known of files, by their paths: nothing, or the file's bytes, or that there is none.
+-- What is known of files, by their paths: nothing, or the file's bytes, or that there is none to be read.
 abbrev pub Held : Type 0
 Held = List ℕ → Option (Option (List ℕ))
 
@@ -12,7 +12,7 @@ Held = List ℕ → Option (Option (List ℕ))
 abbrev pub Holds : Held → List ℕ → List ℕ → Type 0
 Holds files path bytes = IfSome (files path) (λ file. file ≡ Some bytes)
 
--- there is no such file, as far as is known
+-- there is no such file that can be read, as far as is known
 abbrev pub Lacks : Held → List ℕ → Type 0
 Lacks files path = IfSome (files path) (λ file. file ≡ None)
 

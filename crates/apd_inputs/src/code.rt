@@ -12,15 +12,16 @@ use std::alloc::Global;
 #[derive(Clone, Copy, Debug, PartialEq, Eq)]
 pub enum CodeFault {
     /// There is no such file, or it can't be read.
-    Missing,
+    Unreadable,
     /// Without its white space it isn't hex digits in pairs.
     Digits(FromHexError),
     /// Memory ran out.
     NoMemory,
 }
 
-/// The code that hex digits with white space between them spell.
-fn code_in(alloc: Global, text: &[u8]) -> Result<Vec<u8>, FromHexError>
+/// The code that hex digits of either case spell, with white space between any two. Err: without the
+/// white space these are no hex digits in pairs, or memory ran out.
+pub fn code_in(alloc: Global, text: &[u8]) -> Result<Vec<u8>, FromHexError>
     ensures code { IfOk result (λ code. code_of text.now ≡ Ok code.items) }
     ensures fault { IfErr result
         (λ e. (e ≡ FromHexError.OutOfMemory) ⊎ (code_of text.now ≡ Err e)) }
@@ -33,7 +34,8 @@ fn code_in(alloc: Global, text: &[u8]) -> Result<Vec<u8>, FromHexError>
     hex::decode(alloc, digits)
 }
 
-/// The code that a file spells in hex digits of either case, with white space between any two.
+/// The code that a file spells in hex digits of either case, with white space between any two. Of a file
+/// that isn't read no reason is kept.
 pub fn read_code<F: Files>(alloc: Global, path: &str, files: &mut F) -> Result<Vec<u8>, CodeFault>
     ensures code { IfOk result (λ code. HoldsCode (F.held files.old) path.now code.items) }
     ensures fault { IfErr result (IsFaultOf (F.held files.old) path.now) }
@@ -41,8 +43,8 @@ pub fn read_code<F: Files>(alloc: Global, path: &str, files: &mut F) -> Result<V
 {
     let text = match files.read(path) {
         Ok(text) => text,
-        Err(FileFault::Missing) => return Err(CodeFault::Missing),
         Err(FileFault::NoMemory) => return Err(CodeFault::NoMemory),
+        Err(_) => return Err(CodeFault::Unreadable),
     };
     match code_in(alloc, text.as_slice()) {
         Ok(code) => return Ok(code),

@@ -14,7 +14,7 @@ use std::sync::Wait;
 impl Loads {
     /// Reads two files, whose hex digits spell code and a certificate, and puts the code's program in
     /// force for a hook where the certificate shows that it is safe. The answer is `Unreadable` where a
-    /// file is missing or holds no hex digits in pairs; the code's fault; the number of the
+    /// file can't be read or holds no hex digits in pairs; the code's fault; the number of the
     /// certificate's fault; `Memory`; or the budget that is shown. All but the last leave what is in
     /// force.
     pub fn adopt<R: Wait, F: Files>(
@@ -31,7 +31,7 @@ impl Loads {
         let code = match read_code(self.alloc, path, files) {
             Ok(code) => code,
             Err(CodeFault::NoMemory) => return Told::Memory,
-            Err(CodeFault::Missing) => return Told::Unreadable,
+            Err(CodeFault::Unreadable) => return Told::Unreadable,
             Err(CodeFault::Digits(_)) => return Told::Unreadable,
         };
         match read_code(self.alloc, certificate, files) {
@@ -40,7 +40,7 @@ impl Loads {
                 return told;
             }
             Err(CodeFault::NoMemory) => return Told::Memory,
-            Err(CodeFault::Missing) => return Told::Unreadable,
+            Err(CodeFault::Unreadable) => return Told::Unreadable,
             Err(CodeFault::Digits(_)) => return Told::Unreadable,
         }
     }

@@ -68,7 +68,7 @@ impl Loads {
     }
 
     /// Reads a file, whose hex digits spell code, and puts the code's program in force for a hook.
-    /// The answer is `Unreadable` where the file is missing or holds no hex digits in pairs; the
+    /// The answer is `Unreadable` where the file can't be read or holds no hex digits in pairs; the
     /// code's fault; the verifier's refusal; `Memory`; or the program's budget. All but the last
     /// leave what is in force.
     pub fn load<R: Wait, F: Files>(&mut self, rt: &R, files: &mut F, hook: Hook, path: &str) -> Told
@@ -81,7 +81,7 @@ impl Loads {
                 return told;
             }
             Err(CodeFault::NoMemory) => return Told::Memory,
-            Err(CodeFault::Missing) => return Told::Unreadable,
+            Err(CodeFault::Unreadable) => return Told::Unreadable,
             Err(CodeFault::Digits(_)) => return Told::Unreadable,
         }
     }

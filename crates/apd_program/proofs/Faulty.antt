@@ -7,13 +7,14 @@ use Rattle.hex.specs.declared.error.FromHexError.TheVariants.{OutOfMemory}
 use Rattle.apd_config.specs.Text.{TellsOfText}
 use Rattle.apd_config.specs.declared.fault.ConfigFault.{ConfigFault}
 use Rattle.apd_config.specs.declared.fault.ConfigFault.TheVariants as config
-use Rattle.capture.specs.Packets.{Refuses}
+use Rattle.capture.specs.Captures.{Refuses}
 use Rattle.capture.specs.declared.fault.CaptureFault.{CaptureFault}
 use Rattle.capture.specs.declared.fault.CaptureFault.TheVariants as capture
 use Rattle.apd_program.specs.declared.fault.ProgramFault.{ProgramFault}
 use Rattle.apd_program.specs.declared.fault.ProgramFault.TheVariants.{NoMemory}
 use Rattle.apd_program.specs.declared.reading.Setup.{Setup}
-use Rattle.apd_program.specs.Held.{Held, Holds, HoldsCode, Configures, code_of}
+use Rattle.apd_inputs.specs.Held.{Held, Holds, HoldsCode, code_of}
+use Rattle.apd_program.specs.Setups.{Configures}
 use Rattle.apd_program.specs.Faults.{HasBadCode, NoCode, HasBadConfiguration, NoConfiguration, IsBadConfig, HasBadCapture, NoCapture, IsAtFault, OfConfiguration, OfCode, IsNoFrame, NoDigits, HasNoFrame, OfFiles, OfWord, HasNoCertificate, OfOthers, OfCertificate}
 
 pub code_at_fault : (files : Held) (path text slice : List ℕ) (e : FromHexError) (f : ProgramFault) → Holds files path text → slice ≡ text → (e ≡ OutOfMemory) ⊎ (code_of slice ≡ Err e) → (e ≡ OutOfMemory → f ≡ NoMemory)
@@ -45,6 +46,9 @@ known_capture capture.CutHeader = inr (λ h. cc)
 known_capture (capture.Version major minor) = inr (λ h. cc)
 known_capture (capture.LinkType number) = inr (λ h. cc)
 known_capture (capture.CutRecord count) = inr (λ h. cc)
+known_capture (capture.Resolution resolution) = inr (λ h. cc)
+known_capture (capture.CutBlock place) = inr (λ h. cc)
+known_capture (capture.BadBlock place) = inr (λ h. cc)
 
 capture_by : (files : Held) (path text slice : List ℕ) (e : CaptureFault) (f : ProgramFault) → Holds files path text → slice ≡ text → Refuses slice e → (e ≡ capture.NoMemory → f ≡ NoMemory) → (e ≡ capture.NoMemory) ⊎ (e ≢ capture.NoMemory)
     → (f ≡ NoMemory) ⊎ HasBadCapture files path

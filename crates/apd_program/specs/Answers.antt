@@ -5,7 +5,8 @@ use Rattle.bpf_decode.specs.Program.{Code}
 use Rattle.apd_words.specs.Asked.{Asked, Verify, Assemble, Disassemble, Trace, Explain, Frames, Help, Certify, Check}
 use Rattle.apd_program.specs.declared.answer.Answer.{Answer}
 use Rattle.apd_program.specs.declared.reading.Setup.{Setup}
-use Rattle.apd_program.specs.Held.{Held, Holds, Lacks, HoldsCode, IsFrame, Configures}
+use Rattle.apd_inputs.specs.Held.{Held, Holds, Lacks, HoldsCode}
+use Rattle.apd_program.specs.Setups.{IsFrame, Configures}
 use Rattle.apd_program.specs.Faults.{IsAtFault, HasNoFrame, HasBadCapture, HasNoCertificate}
 use Rattle.apd_program.specs.Pages.{IsPage, HasNoPage, IsHelpText, HasNoHelp, help_words}
 use Rattle.apd_program.specs.Scripts.{IsScript}
@@ -40,6 +41,7 @@ pub record IsCheckedFile (files : Held) (hook : Hook) (file certificate : List �
   pub held : HoldsCode files certificate bytes
   pub said : IsOfCode (λ setup. IsChecked hook bytes) files file config a
 
+-- what is answered to each command, by what the files hold
 abbrev pub IsAnswer : Held → Asked → Answer → Type 0
 IsAnswer files (Verify hook file config) a = IsOfCode (λ setup. IsVerdict IsBudget) files file config a
 IsAnswer files (Assemble file) a = IsOfText IsAssembly files file a

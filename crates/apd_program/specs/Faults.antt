@@ -5,11 +5,12 @@ use Rattle.hex.specs.declared.error.FromHexError.{FromHexError}
 use Rattle.apd_config.specs.Text.{TellsOfText}
 use Rattle.apd_config.specs.declared.fault.ConfigFault.{ConfigFault}
 use Rattle.apd_config.specs.declared.fault.ConfigFault.TheVariants as config
-use Rattle.capture.specs.Packets.{Refuses}
+use Rattle.capture.specs.Captures.{Refuses}
 use Rattle.capture.specs.declared.fault.CaptureFault.{CaptureFault}
 use Rattle.capture.specs.declared.fault.CaptureFault.TheVariants as capture
 use Rattle.apd_program.specs.declared.reading.Setup.{Setup}
-use Rattle.apd_program.specs.Held.{Held, Holds, Lacks, HoldsCode, Configures, code_of}
+use Rattle.apd_inputs.specs.Held.{Held, Holds, Lacks, HoldsCode, code_of}
+use Rattle.apd_program.specs.Setups.{Configures}
 
 -- the file can't be read, or doesn't hold hex digits in pairs
 pub data HasBadCode (files : Held) (path : List ℕ) : Type 0 where
@@ -26,6 +27,7 @@ pub data HasBadCapture (files : Held) (path : List ℕ) : Type 0 where
   NoFile : Lacks files path → HasBadCapture files path
   NoCapture : (text : List ℕ) (e : CaptureFault) → Holds files path text → e ≢ capture.NoMemory → Refuses text e → HasBadCapture files path
 
+-- a configuration is named, and its file is none
 abbrev pub IsBadConfig : Held → Option (List ℕ) → Type 0
 IsBadConfig files None = ⊥
 IsBadConfig files (Some path) = HasBadConfiguration files path

@@ -1,6 +1,6 @@
 pub mod Slots
 pub mod Lines
-pub mod Held
+pub mod Setups
 pub mod Faults
 pub mod Programs
 pub mod Verifying

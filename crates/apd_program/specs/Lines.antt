@@ -9,6 +9,7 @@ use Rattle.apd_program.specs.Slots.{line_of, slot_lines}
 use Rattle.apd_program.specs.declared.answer.Answer.{Answer}
 use Rattle.apd_program.specs.declared.answer.Answer.TheVariants.{Accepted, Code, Instructions, Run, Page, Script, Help, Fault, Refused, LineFault, Certificate, Unaccepted}
 
+-- what is printed of an answer
 abbrev pub printed : Answer → List ℕ
 printed (Accepted budget) = line_of (codes "accepted budget " ++ decimal budget)
 printed (Code code) = slot_lines (length code.items / 8) code.items

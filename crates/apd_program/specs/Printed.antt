@@ -18,6 +18,7 @@ pub data PrintsText (text : List ℕ) (old new : Option (List ℕ)) : ℕ → Ty
   WholeText : Appends old new text → PrintsText text old new 0
   BeginningOfText : AppendsBeginning old new text → PrintsText text old new 2
 
+-- the status of a fault: 3 for want of memory, else 2
 abbrev pub fault_status : ProgramFault → ℕ
 fault_status NoMemory = 3
 fault_status _ = 2

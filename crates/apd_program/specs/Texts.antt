@@ -20,6 +20,7 @@ first_broken last (Err (line, number)) = (if nat_lt line last then (line, number
 abbrev pub broken_off : List ℕ → ℕ × ℕ
 broken_off front = first_broken (count_by (λ b. b == 10) front + 1) (assembled 1 [] (lines_of front))
 
+-- the fault is that of the line at which the text's reading broke off
 abbrev pub BreaksOff : List ℕ → Answer → Type 0
 BreaksOff front (LineFault (asm_fault.Line line number)) = broken_off front ≡ (line, number)
 BreaksOff front _ = ⊥
@@ -44,6 +45,7 @@ abbrev pub IsSlotListing : decoded.Code → Answer → Type 0
 IsSlotListing p (Instructions text) = listing.IsListing p.slots (string_bytes text)
 IsSlotListing p _ = ⊥
 
+-- a program's text, with the numbers of its slots or without them
 abbrev pub IsListingWith : Bool → decoded.Code → Answer → Type 0
 IsListingWith true p a = IsSlotListing p a
 IsListingWith false p a = IsListing p a

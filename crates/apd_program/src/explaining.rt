@@ -4,7 +4,8 @@ ghost use Rattle.std.specs.Prelude.{◌≡◌, ◌⊎◌, IfOk, IfErr};
 ghost use Rattle.apd_program.specs.Pages.{IsPage, HasNoPage};
 
 use crate::answer::Answer;
-use crate::fault::{ProgramFault, shown};
+use crate::fault::ProgramFault;
+use apd_inputs::shown;
 use apd_refusals::{explain, page_text};
 use bpf_text::AsmFault;
 use std::alloc::{AllocError, Global};

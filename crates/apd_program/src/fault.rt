@@ -3,12 +3,11 @@
 ghost use Rattle.std.specs.Prelude.{◌≡◌};
 ghost use Rattle.apd_program.specs.declared.fault.ProgramFault.TheVariants.{NoMemory};
 
-use crate::files::FileFault;
 use apd_config::ConfigFault;
+use apd_inputs::{FileFault, shown};
 use capture::CaptureFault;
 use hex::FromHexError;
 use std::alloc::{AllocError, Global};
-use std::fmt::Write;
 use thiserror::Error;
 
 /// Why a command gives no answer. Its text is told on standard error.
@@ -111,19 +110,6 @@ fn shown_byte(alloc: Global, byte: u8) -> Result<String, AllocError> {
     } else {
         format!(in alloc; "\\x{byte:02x}")
     }
-}
-
-/// A word as it can be repeated in a message: control characters are escaped.
-pub(crate) fn shown(alloc: Global, word: &str) -> Result<String, AllocError> {
-    let mut text = String::new(alloc);
-    for character in word.chars() {
-        if character.is_control() {
-            write!(text, "{}", character.escape_debug())?;
-        } else {
-            text.push(character)?;
-        }
-    }
-    Ok(text)
 }
 
 /// The fault of a file that is no configuration.

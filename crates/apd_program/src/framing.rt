@@ -7,9 +7,9 @@ ghost use Rattle.apd_program.specs.Scripts.{IsScript};
 
 use crate::answer::Answer;
 use crate::fault::{ProgramFault, of_capture};
-use crate::files::Files;
 use crate::reading::read;
 use apd_frames::script_text;
+use apd_inputs::Files;
 use capture::read_capture;
 use std::alloc::Global;
 

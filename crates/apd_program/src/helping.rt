@@ -4,7 +4,8 @@ ghost use Rattle.std.specs.Prelude.{◌≡◌, ◌⊎◌, IfOk, IfErr, map, opti
 ghost use Rattle.apd_program.specs.Pages.{IsHelpText, HasNoHelp, help_words};
 
 use crate::answer::Answer;
-use crate::fault::{ProgramFault, shown};
+use crate::fault::ProgramFault;
+use apd_inputs::shown;
 use apd_words::{Told, read_words};
 use std::alloc::{AllocError, Global};
 

@@ -1,7 +1,8 @@
 //! The program `apd` as a function of its words, its files and two writers.
 //!
-//! Main call: `apd_main`, generic over `Files` and writers. It stands on `bpf_verifier`,
-//! `bpf_cert`, `bpf_text`, `apd_trace`, `apd_words`, `apd_config` and `apd_output`. The status is
+//! Main call: `apd_main`, generic over `apd_inputs::Files` and writers. It stands on `bpf_verifier`,
+//! `bpf_cert`, `bpf_text`, `apd_trace`, `apd_words`, `apd_config`,
+//! `apd_inputs` and `apd_output`. The status is
 //! 0 to 3. For `verify`, `asm`, `disasm`, `trace`, `cert` and `check` the whole text of the answer
 //! is written, or a beginning of it where a write fails; status 3 leaves the output as it was. Of
 //! the system's own files no contract speaks.
@@ -11,7 +12,6 @@ mod answer;
 mod certifying;
 mod explaining;
 mod fault;
-mod files;
 mod framing;
 mod helping;
 mod printing;
@@ -21,5 +21,4 @@ mod texts;
 mod verifying;
 
 pub use answer::Answer;
-pub use files::{FileFault, Files};
 pub use program::apd_main;

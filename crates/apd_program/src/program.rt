@@ -4,7 +4,7 @@ ghost use Rattle.std.specs.Prelude.{◌≡◌, ◌≤◌, ◌⊎◌, IfOk, IfErr
 ghost use Rattle.std.specs.Io.KnownBytes.{Keeps};
 ghost use Rattle.apd_words.specs.Asked.{Asked, asked_of};
 ghost use Rattle.apd_words.specs.Spells.{Spells};
-ghost use Rattle.apd_program.specs.Held.{Lacks};
+ghost use Rattle.apd_inputs.specs.Held.{Lacks};
 ghost use Rattle.apd_program.specs.Faults.{IsAtFault, HasNoFrame, HasNoCertificate};
 ghost use Rattle.apd_program.specs.Certifying.{IsCertificate};
 ghost use Rattle.apd_program.specs.Verifying.{IsVerdict, IsBudget};
@@ -14,10 +14,10 @@ ghost use Rattle.apd_program.specs.Program.{Performs, Runs};
 
 use crate::answer::Answer;
 use crate::fault::ProgramFault;
-use crate::files::Files;
 use crate::printing::{complain, print, print_text, say, say_if_any};
 use crate::reading::{code, frame, read, setup_of};
 use crate::{certifying, explaining, framing, helping, texts, verifying};
+use apd_inputs::Files;
 use apd_words::{Request, Told, read_words};
 use bpf_regions::{Frame, Hook};
 use std::alloc::Global;

@@ -1,15 +1,15 @@
 //! Configurations and code from files, and frames from words.
 
-ghost use Rattle.std.specs.Prelude.{◌≡◌, ◌⊎◌, Ok, Err, [], IfOk, IfErr, option_map};
+ghost use Rattle.std.specs.Prelude.{◌≡◌, ◌⊎◌, Ok, [], IfOk, IfErr, option_map};
 ghost use Rattle.hex.specs.Hex.{decode_of};
-ghost use Rattle.apd_program.specs.Held.{Holds, Lacks, HoldsSetup, HoldsCode, Configures, code_of};
+ghost use Rattle.apd_inputs.specs.Held.{Holds, Lacks, HoldsCode};
+ghost use Rattle.apd_program.specs.Setups.{HoldsSetup, Configures};
 ghost use Rattle.apd_program.specs.Faults.{HasBadCode, HasBadConfiguration, IsBadConfig, IsNoFrame};
 
-use crate::fault::{ProgramFault, of_code, of_configuration, of_digits, shown};
-use crate::files::{FileFault, Files};
+use crate::fault::{ProgramFault, of_code, of_configuration, of_digits};
 use apd_config::read_configuration;
+use apd_inputs::{FileFault, Files, code_in, shown};
 use bpf_regions::Shapes;
-use hex::FromHexError;
 use std::alloc::Global;
 
 /// What a configuration tells of the maps and the draws.
@@ -84,19 +84,6 @@ pub(crate) fn setup_of<F: Files>(
             draw: 0,
         }),
     }
-}
-
-/// The code that hex digits with white space between them spell.
-fn code_in(alloc: Global, text: &[u8]) -> Result<Vec<u8>, FromHexError>
-    ensures code { IfOk result (λ code. code_of text.now ≡ Ok code.items) }
-    ensures fault { IfErr result (λ e. (e ≡ FromHexError.OutOfMemory) ⊎ (code_of text.now ≡ Err e)) }
-{
-    let digits: Vec<u8> = text
-        .iter()
-        .copied()
-        .filter(|byte| !byte.is_ascii_whitespace())
-        .collect(alloc)?;
-    hex::decode(alloc, digits)
 }
 
 /// The code that a file spells.

@@ -4,6 +4,7 @@ use Rattle.apd_script.specs.declared.command.Command.{Command}
 use Rattle.apd_script.specs.declared.command.Command.TheVariants.{Wait}
 use Rattle.apd_script.specs.declared.command.Numbered.{Numbered}
 
+-- whether a command waits for all that came before it
 abbrev pub is_wait : Command → Bool
 is_wait Wait = true
 is_wait _ = false

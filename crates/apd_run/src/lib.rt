@@ -16,6 +16,8 @@ mod running;
 mod script;
 mod setting;
 
+pub use apd_crew::{Ready, Serving};
+pub use apd_lines::{Report, Told};
 pub use operating::{Operating, Waiting};
 pub use script::run_script;
 pub use setting::Staff;

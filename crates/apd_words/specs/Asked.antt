@@ -14,7 +14,7 @@ pub data Asked : Type 0 where
   Assemble : Text → Asked
   Disassemble : Text → Option Text → Bool → Asked
   Trace : Hook → Text → Text → Option Text → Asked
-  Run : Text → Text → ℕ → Asked
+  Run : Text → Text → ℕ → Bool → Asked
   Certify : Hook → Text → Option Text → Asked
   Check : Hook → Text → Text → Option Text → Asked
   Explain : Text → Asked
@@ -29,7 +29,7 @@ asked_of (request.Disassemble file config slots) =
     Disassemble file.now (option_map (λ s. s.now) config) slots
 asked_of (request.Trace hook file frame config) =
     Trace hook file.now frame.now (option_map (λ s. s.now) config)
-asked_of (request.Run config script workers) = Run config.now script.now workers
+asked_of (request.Run config script workers quiet) = Run config.now script.now workers quiet
 asked_of (request.Certify hook file config) = Certify hook file.now (option_map (λ s. s.now) config)
 asked_of (request.Check hook file certificate config) =
     Check hook file.now certificate.now (option_map (λ s. s.now) config)
@@ -92,13 +92,13 @@ trace_of rows = do
   frame ← first_of (codes "FRAME") rows
   Some (Trace hook file frame (first_of (codes "config") rows))
 
--- `run C SCRIPT [--workers N]`
+-- `run C SCRIPT [--workers N] [--quiet]`
 abbrev pub run_of : List Row → Option Asked
 run_of rows = do
   config ← first_of (codes "C") rows
   script ← first_of (codes "SCRIPT") rows
   workers ← option_and_then workers_named (first_of (codes "workers") rows)
-  Some (Run config script workers)
+  Some (Run config script workers (is_set (codes "quiet") rows))
 
 -- `cert HOOK FILE [--config C]`
 abbrev pub certify_of : List Row → Option Asked

@@ -80,10 +80,11 @@ disassemble = command (codes "disasm") (file ∷ config ∷ flag (codes "slots")
 abbrev pub trace : ValueParser → Shape
 trace hooks = hook_command (codes "trace") hooks (required (codes "FRAME") ∷ config ∷ [])
 
--- `run C SCRIPT [--workers N]`
+-- `run C SCRIPT [--workers N] [--quiet]`
 abbrev pub run : ValueParser → Shape
 run numbers =
-    command (codes "run") (required (codes "C") ∷ required (codes "SCRIPT") ∷ workers numbers ∷ [])
+    command (codes "run") (required (codes "C") ∷ required (codes "SCRIPT")
+    ∷ workers numbers ∷ flag (codes "quiet") ∷ [])
 
 -- `cert HOOK FILE [--config C]`
 abbrev pub certify : ValueParser → Shape

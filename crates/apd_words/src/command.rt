@@ -1,6 +1,6 @@
 //! The commands of `apd`, with their arguments and help.
 
-ghost use Rattle.std.specs.Prelude.{◌≡◌, ◌∷◌, false, IfOk, []};
+ghost use Rattle.std.specs.Prelude.{◌≡◌, ◌∷◌, false, codes, IfOk, []};
 ghost use Rattle.clap.specs.Words.{app_of, rule_of};
 ghost use Rattle.clap.specs.declared.builder.command.Command.TheViews.{out-Command as fields_of};
 ghost use Rattle.clap.specs.Simple.{shape_of};
@@ -172,15 +172,25 @@ fn trace<'a>(alloc: Global, hooks: &'a [&'a str]) -> Result<Command<'a>, AllocEr
         .arg(config(alloc))
 }
 
+/// A command on a configuration and a script.
+fn script_command<'a>(alloc: Global, name: &'a str) -> Result<Command<'a>, AllocError>
+    ensures is { IfOk result (λ c. shape_of c
+        ≡ command name.entry.now (required (codes "C") ∷ required (codes "SCRIPT") ∷ [])) }
+    ensures local { IfOk result (λ c. (fields_of c).has_globals ≡ false) }
+{
+    Command::new(alloc, name)
+        .arg(required(alloc, "C").help("The configuration"))?
+        .arg(required(alloc, "SCRIPT").help("The script"))
+}
+
 fn run<'a>(alloc: Global, numbers: &'a [&'a str]) -> Result<Command<'a>, AllocError>
     ensures is { IfOk result (λ c. shape_of c ≡ run (Names numbers.entry)) }
     ensures local { IfOk result (λ c. (fields_of c).has_globals ≡ false) }
 {
-    Command::new(alloc, "run")
+    script_command(alloc, "run")?
         .about("Run a script of frames and commands on an access point")
-        .arg(required(alloc, "C").help("The configuration"))?
-        .arg(required(alloc, "SCRIPT").help("The script"))?
-        .arg(workers(alloc, numbers))
+        .arg(workers(alloc, numbers))?
+        .arg(flag(alloc, "quiet").help("Tell no progress on standard error"))
 }
 
 fn certify<'a>(alloc: Global, hooks: &'a [&'a str]) -> Result<Command<'a>, AllocError>
@@ -217,7 +227,7 @@ fn frames<'a>(alloc: Global) -> Result<Command<'a>, AllocError>
 {
     Command::new(alloc, "frames")
         .about("Print a capture's frames as a script for `apd run`")
-        .arg(required(alloc, "CAPTURE").help("A capture of 802.11 frames"))?
+        .arg(required(alloc, "CAPTURE").help("A capture of 802.11 frames, as pcap or pcapng"))?
         .arg(flag(alloc, "no-ticks").help("Leave out the time between frames"))
 }
 

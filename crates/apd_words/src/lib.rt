@@ -40,11 +40,12 @@ pub enum Request<'a> {
         frame: &'a str,
         config: Option<&'a str>,
     },
-    /// The workers are 1 to 8.
+    /// The workers are 1 to 8. `quiet` asks for no progress on standard error.
     Run {
         config: &'a str,
         script: &'a str,
         workers: u8,
+        quiet: bool,
     },
     Certify {
         hook: Hook,

@@ -80,10 +80,12 @@ fn run<'a>(matches: &ArgMatches<'a>) -> Option<Request<'a>>
     let config = value(matches, "C")?;
     let script = value(matches, "SCRIPT")?;
     let workers = workers_named(value(matches, "workers")?)?;
+    let quiet = flag(matches, "quiet");
     Some(Request::Run {
         config,
         script,
         workers,
+        quiet,
     })
 }
 

@@ -80,6 +80,7 @@ HandsUpInOrder F =
     (start : ℕ) (events : List (Event F)) (first last : Reading F) (out : List (ℕ × F)) →
     Reads (opening start) first → Calls events first last out → HandsUp start first.size events last out
 
+-- calls from an opened window hand up all accepted data once each, in the order of its numbers
 abbrev pub HandsUpAllInOrder : Type 0 → Type 0
 HandsUpAllInOrder F =
     (start : ℕ) (events : List (Event F)) (first last : Reading F) (out more : List (ℕ × F)) →

@@ -49,6 +49,7 @@ DataReadsTheSame F =
     DataMovesWindow took number item one one2 out → DataMovesWindow took2 number item2 other other2 out2 →
     (took ≡ took2) × ReadTheSame one2 other2
 
+-- a request moves windows that read the same to windows that read the same
 abbrev pub RequestReadsTheSame : Type 0 → Type 0
 RequestReadsTheSame F =
     (number : ℕ) (one other one2 other2 : Reading F) (out out2 : List (ℕ × F)) →

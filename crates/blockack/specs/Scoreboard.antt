@@ -81,6 +81,7 @@ abbrev pub DataMarks : ℕ → ℕ → ℕ → ℕ → ℕ → ℕ → Type 0
 DataMarks size number start bits start2 bits2 =
     (board : Scoreboard) → ReadsScoreboard board size start bits → AfterDataMark size number board start2 bits2
 
+-- a scoreboard that reads as the first numbers reads as the others after a request
 abbrev pub RequestMarks : ℕ → ℕ → ℕ → ℕ → ℕ → ℕ → Type 0
 RequestMarks size number start bits start2 bits2 =
     (board : Scoreboard) → ReadsScoreboard board size start bits → AfterRequestMark size number board start2 bits2

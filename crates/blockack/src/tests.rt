@@ -66,6 +66,10 @@ fn request_hands_up_what_is_older(rt: HostRuntime) -> Result<(), Fail> {
     let mut agreement = Agreement::open(100, 8);
     assert_eq!(rt; data(&mut agreement, 102, Some(2)).1.len(), 0);
     assert_eq!(rt; data(&mut agreement, 104, Some(4)).1.len(), 0);
+    assert_eq!(rt; agreement.held(), 2);
+    assert_eq!(rt; agreement.most_passed(100), 3);
+    assert_eq!(rt; agreement.most_passed(103), 0);
+    assert_eq!(rt; agreement.most_passed(108), 3);
     assert!(rt; agreement.wants(103));
     assert!(rt; !agreement.wants(104));
     assert!(rt; !agreement.wants(99));

@@ -5,6 +5,7 @@ use Rattle.bpf_cert_format.specs.declared.fault.ReadFault.TheVariants as read
 use Rattle.bpf_cert.specs.declared.fault.CertFault.{CertFault}
 use Rattle.bpf_cert.specs.declared.fault.CertFault.TheVariants.{NoMemory, Malformed, Other, NotCovered}
 
+-- the number of each refusal of a certificate
 abbrev pub number_of : CertFault → ℕ
 number_of NoMemory = 40
 number_of Malformed = 70

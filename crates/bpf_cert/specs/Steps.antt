@@ -24,6 +24,7 @@ pub record IsSame (P Q : Type 0) : Type 0 where
   pub back : Q → P
   pub forth : P → Q
 
+-- a step that says why the claim fails, or leads to other claims within their budgets
 abbrev pub Goes : Code → List Claim → ℕ → Type 0 → Step → Type 0
 Goes c es n P (Decided told) = Tells told P
 Goes c es n P (Onward x) = IsSame P (LeadsWithin c es n x) × Stands c.slots x

@@ -12,6 +12,7 @@ abbrev pub Fails : {Y : Type 0} → ReadFault → Option Y → Type 0
 Fails Memory read = Unit {0}
 Fails Malformed read = read ≡ None
 
+-- the answer is what was read, or the fault of a reading that failed
 abbrev pub Gives : {X Y : Type 0} → (X → Y) → Result X ReadFault → Option Y → Type 0
 Gives view (Ok x) read = read ≡ Some (view x)
 Gives view (Err e) read = Fails e read

@@ -29,6 +29,7 @@ pub record FitsLabel (l : Label) : Type 0 where
   pub label : l.label < 2 ^ 16
   pub distance : l.distance ≤ 2400
 
+-- a label, if there is one, fits its bytes
 abbrev pub FitsLabels : Option Label → Type 0
 FitsLabels None = Unit {0}
 FitsLabels (Some l) = FitsLabel l
@@ -54,6 +55,7 @@ abbrev pub FitsStored : ℕ → ℕ → AbsVal → Type 0
 FitsStored maps frames abs.Unset = ⊥
 FitsStored maps frames v = FitsValue maps frames v
 
+-- what stands in a slot of the stack fits its bytes
 abbrev pub FitsCell : ℕ → ℕ → AbsSlot → Type 0
 FitsCell maps frames slot.Unset = Unit {0}
 FitsCell maps frames (slot.Stored v) = FitsStored maps frames v
@@ -77,6 +79,7 @@ abbrev pub IsMainFirst : List Frame → Type 0
 IsMainFirst [] = ⊥
 IsMainFirst (f ∷ fs) = f.return_slot ≡ 0
 
+-- an entry's numbers and lists fit their bytes
 pub record FitsEntry (maps : ℕ) (e : EntryView) : Type 0 where
   pub pc : e.pc < 2 ^ 16
   pub budget : e.budget < 2 ^ 32

@@ -19,10 +19,12 @@ use Rattle.bpf_cert_format.specs.declared.frame.Frame.{Frame}
 use Rattle.bpf_cert_format.specs.Views.{EntryView, CertificateView}
 
 infixl 10 ◌>>=◌
+-- read on with what was read, if it was
 abbrev pub ◌>>=◌ : {A B : Type 0} → Option A → (A → Option B) → Option B
 None >>= f = None
 (Some x) >>= f = f x
 
+-- a value read from the front of some bytes, with the bytes that are left
 abbrev pub Reader : Type 0 → Type 0
 Reader A = List ℕ → Option (A × List ℕ)
 
@@ -45,6 +47,7 @@ many r (suc n) bytes = r bytes >>= λ x. many r n x.1 >>= λ y. Some (x.0 ∷ y.
 
 -- ---- fields
 
+-- one byte
 abbrev pub byte_at : Reader ℕ
 byte_at [] = None
 byte_at (b ∷ rest) = Some (b, rest)
@@ -61,15 +64,19 @@ word_at w bytes = (if nat_lt (length bytes) (byte_len w) then None else Some (fr
 abbrev pub pair_at : Reader (ℕ × ℕ)
 pair_at = chained (word_at w64) (λ _. word_at w64)
 
+-- whether the least number is at most the greatest
 abbrev pub are_ordered : ℕ × ℕ → Bool
 are_ordered p = nat_le p.0 p.1
 
+-- whether no bit is both known and unknown
 abbrev pub are_apart : ℕ × ℕ → Bool
 are_apart p = bit_and p.0 p.1 == 0
 
+-- whether the least signed number is at most the greatest
 abbrev pub are_signed_ordered : ℕ × ℕ → Bool
 are_signed_ordered p = nat_le (signed_place p.0) (signed_place p.1)
 
+-- an abstract number by its unsigned bounds, its signed bounds and its known bits
 abbrev pub number_of : ((ℕ × ℕ) × ((ℕ × ℕ) × (ℕ × ℕ))) → Num
 number_of p = num_of (bounds p.0.0 p.0.1) (bounds (signed_place p.1.1.0) (signed_place p.1.1.1)) (tnum_of p.1.0.0 p.1.0.1)
 
@@ -81,6 +88,7 @@ number_at =
 abbrev pub is_label : ℕ × ℕ → Bool
 is_label p = (if p.0 == 0 then p.1 == 0 else nat_le p.1 2400)
 
+-- no label for the number 0
 abbrev pub label_of : ℕ × ℕ → Option Label
 label_of p = (if p.0 == 0 then None else Some (record { label = p.0; distance = p.1 }))
 
@@ -89,6 +97,7 @@ label_at = read_as label_of (only_if is_label (chained (word_at w16) (λ _. word
 
 -- ---- values
 
+-- the region that a byte names: the context, a stack frame from 16 on, a map's entry from 32 on
 abbrev pub region_named : ℕ → ℕ → ℕ → Option AbsRegion
 region_named maps frames b =
     (if b == 1 then Some place.Context
@@ -96,9 +105,11 @@ region_named maps frames b =
     else (if nat_le 32 b && nat_lt b (32 + maps) then Some (place.Entry (b - 32))
     else None)))
 
+-- the number of one of the maps
 abbrev pub map_at : ℕ → Reader ℕ
 map_at maps = only_if (λ m. nat_lt m maps) byte_at
 
+-- a pointer to the frame: its offset and its label
 abbrev pub frame_pointer_at : Reader AbsVal
 frame_pointer_at = read_as (λ x. abs.Frame x.0 x.1) (chained number_at (λ _. label_at))
 
@@ -135,9 +146,11 @@ frame_at maps count =
     read_as (λ p. record { return_slot = p.0; registers = p.1.0; stack = p.1.1 })
     (chained (word_at w16) (λ _. chained (many (value_at maps count) 10) (λ _. many (cell_at maps count) 64)))
 
+-- whether there can be so many frames of the stack: 1 to 8
 abbrev pub is_count : ℕ → Bool
 is_count n = nat_le 1 n && nat_le n 8
 
+-- whether the first frame of the stack returns nowhere
 abbrev pub is_main_first : List Frame → Bool
 is_main_first [] = false
 is_main_first (f ∷ fs) = f.return_slot == 0
@@ -156,6 +169,7 @@ are_rising above (r ∷ rs) = nat_lt above r.label && nat_le r.size 2400 && are_
 unfoldable pub rooms_at : Reader (List Room)
 rooms_at = only_if (are_rising 0) (read_as (λ p. p.1) (chained (word_at w16) (λ n. many room_at n)))
 
+-- an entry by its parts
 abbrev pub entry_of : ℕ × (ℕ × (ℕ × (List Room × List Frame))) → EntryView
 entry_of p = record { pc = p.0; budget = p.1.0; least = p.1.1.0; rooms = p.1.1.1.0; frames = p.1.1.1.1 }
 
@@ -169,6 +183,7 @@ entry_at maps =
 unfoldable pub magic_at : Reader ℕ
 magic_at = only_if (λ n. n == 843272257) (word_at w32)
 
+-- the hook that a byte names
 abbrev pub hook_named : ℕ → Option Hook
 hook_named b =
     (if b == 1 then Some Association else (if b == 2 then Some Addba else (if b == 3 then Some Data else None)))
@@ -182,6 +197,7 @@ code_at = read_as (λ p. p.1) (chained (word_at w16) (λ n. taken (8 * n)))
 unfoldable pub entries_at : ℕ → Reader (List EntryView)
 entries_at maps = read_as (λ p. p.1) (chained (word_at w32) (λ n. many (entry_at maps) n))
 
+-- a certificate by its parts
 abbrev pub certificate_of : ℕ × (Hook × (List ℕ × List EntryView)) → CertificateView
 certificate_of p = record { hook = p.1.0; code = p.1.1.0; entries = p.1.1.1 }
 

@@ -39,6 +39,7 @@ region place.Context = 1
 region (place.Stack k) = 16 + k
 region (place.Entry m) = 32 + m
 
+-- the bytes of an abstract value: its kind, then its parts
 abbrev pub value : AbsVal → List ℕ
 value abs.Unset = 0 ∷ []
 value (abs.Number n) = 1 ∷ number n
@@ -58,12 +59,15 @@ cell (slot.Bytes set) = 6 ∷ set ∷ []
 abbrev pub frame : Frame → List ℕ
 frame f = to_le_bytes w16 f.return_slot ++ (flat_map value f.registers ++ flat_map cell f.stack)
 
+-- the bytes of a label and of how many bytes are known behind it
 abbrev pub room : Room → List ℕ
 room r = to_le_bytes w16 r.label ++ to_le_bytes w16 r.size
 
+-- how many there are, and each of them
 abbrev pub rooms : List Room → List ℕ
 rooms rs = to_le_bytes w16 (length rs) ++ flat_map room rs
 
+-- how many there are, and each of them
 abbrev pub frames : List Frame → List ℕ
 frames fs = length fs ∷ flat_map frame fs
 
@@ -76,6 +80,7 @@ entry e =
 abbrev pub code : List ℕ → List ℕ
 code bytes = to_le_bytes w16 (length bytes / 8) ++ bytes
 
+-- how many there are, and each of them
 abbrev pub entries : List EntryView → List ℕ
 entries es = to_le_bytes w32 (length es) ++ flat_map entry es
 

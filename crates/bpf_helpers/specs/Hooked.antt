@@ -31,6 +31,7 @@ pub record Held : Type 0 where
 abbrev pub table_at : List Tables → ℕ → ℕ → Option Map
 table_at maps worker at = option_and_then (λ m. table_of m worker) (slice_get maps at)
 
+-- the shapes of lent maps
 abbrev pub shapes_of : List Tables → List Shape
 shapes_of maps = map (λ m. m.shape) maps
 

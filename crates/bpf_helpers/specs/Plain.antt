@@ -47,6 +47,7 @@ pub record Plain : Type 0 where
   pub stations : ℕ
   pub draw : ℕ
 
+-- the shape of a table
 abbrev pub shape_of : Table → Shape
 shape_of t = t.shape
 

@@ -3,3 +3,4 @@ pub mod Listing
 pub mod Standing
 pub mod Stood
 pub mod Noting
+pub mod Stopping

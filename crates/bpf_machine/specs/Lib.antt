@@ -4,3 +4,4 @@ pub mod SoFar
 pub mod Listed
 pub mod Standing
 pub mod Keeps
+pub mod Stops

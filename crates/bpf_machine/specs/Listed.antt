@@ -18,6 +18,7 @@ pub record Listed : Type 0 where
 abbrev pub taken : Listed → ℕ
 taken p = slice_index p.left 0
 
+-- the answers that are left after one was given
 abbrev pub left_after : Listed → Listed
 left_after p = record p { left = drop 1 p.left }
 
@@ -26,10 +27,12 @@ abbrev pub cut_to_word : Option Shape → ℕ → ℕ
 cut_to_word None x = 0
 cut_to_word (Some shape) x = x % 2 ^ (8 * bytes_of shape.width)
 
+-- an answer cut to the word that is accessed: a store answers 0
 abbrev pub cut_to_access : MapOp → Option Shape → ℕ → ℕ
 cut_to_access (Store y) shape x = 0
 cut_to_access op shape x = cut_to_word shape x
 
+-- an answer cut to what the helper can answer: at most 2007 stations
 abbrev pub cut_to_helper : Helper → ℕ → ℕ
 cut_to_helper Now x = x
 cut_to_helper Stations x = x % 2008

@@ -6,6 +6,7 @@ use Rattle.bpf_stack.specs.declared.tree.Slots.TheVariants.{Unset, Leaf, Fork}
 use Rattle.bpf_stack.specs.declared.tree.Pair.TheDeep.{deep-Slots}
 use Rattle.bpf_stack.specs.Leaves.{slots_of, IsEven}
 
+-- the measure falls by what lies below the top
 below : (s : Slots) → deep-Slots s ≤ length (slots_of s) + 1
 below (Unset depth) = omega arith
 below (Leaf one) = omega arith

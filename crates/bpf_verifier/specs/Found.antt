@@ -23,6 +23,7 @@ pub record IsFresh (c : Code) (e : Exploration) : Type 0 where
 abbrev pub IsCountedSoFar : Exploration → Type 0
 IsCountedSoFar e = IsCounted e.path.items e.after e.finished e.visits
 
+-- what was explored so far is paid for by the visits that were counted
 abbrev pub IsPaidSoFar : Exploration → Unwound → Type 0
 IsPaidSoFar e u = IsPaid e.path.items e.after e.visits u
 
@@ -34,6 +35,7 @@ IsBegunSoFar slots e = AreBegun slots e.path.items
 abbrev pub IsSafeSoFar : Setting → View → View → Exploration → Type 0
 IsSafeSoFar p start a e = Linked (LeadsSafely p) (IsExplored p) e.path.items e.after start a × AreSafe p e.finished
 
+-- what is left to explore from here on is ongoing, and finished states are safe
 abbrev pub IsSafeAfter : Setting → View → Exploration → Unwound → Type 0
 IsSafeAfter p start e u = IsOngoing p e.path.items e.after start u × AreSafe p e.finished
 
@@ -41,6 +43,7 @@ IsSafeAfter p start e u = IsOngoing p e.path.items e.after start u × AreSafe p 
 abbrev pub IsWalkedSoFar : List (Option Insn) → View → View → Exploration → Type 0
 IsWalkedSoFar slots start a e = Linked (LeadsBySlots slots) (IsWalked slots) e.path.items e.after start a × AreWalked slots e.finished
 
+-- what is left to explore is walked on from here, and finished states were walked
 abbrev pub IsWalkedAfter : List (Option Insn) → View → Exploration → Unwound → Type 0
 IsWalkedAfter slots start e u = IsWalkedOn slots e.path.items e.after start u × AreWalked slots e.finished
 
@@ -48,5 +51,6 @@ IsWalkedAfter slots start e u = IsWalkedOn slots e.path.items e.after start u ×
 abbrev pub IsClearSoFar : Code → ℕ → Exploration → Type 0
 IsClearSoFar c n e = AreClear c e.path.items n
 
+-- what is left to explore is clear within so many states
 abbrev pub IsClearAfter : Code → ℕ → Exploration → Unwound → Type 0
 IsClearAfter c n e u = IsClearOn c e.path.items n u

@@ -12,6 +12,7 @@ use Rattle.bpf_verifier.specs.declared.exploration.Unwound.{Unwound}
 use Rattle.bpf_verifier.specs.declared.exploration.Unwound.TheVariants.{Onward, Over}
 use Rattle.bpf_verifier.specs.Path.{Leads, Opens, Linked}
 
+-- a state that a way's abstract state contains
 abbrev pub InWay : Setting → Option View → State → Type 0
 InWay p None s = ⊥
 InWay p (Some a) s = Contains p a s

@@ -1,2 +1,6 @@
+mod Named
+mod Options
+mod Passing
 mod Present
 mod Records
+mod Units

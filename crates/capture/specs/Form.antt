@@ -3,7 +3,7 @@
 use Rattle.std.specs.Prelude.{ℕ, ◌==◌, ◌&&◌, Bool, nat_lt, List, [], ◌∷◌, length, take, Option, Some, None, Result, Ok, Err, if◌then◌else◌}
 use Rattle.std.specs.Str.{bytes_eq}
 use Rattle.capture.specs.declared.fault.CaptureFault.{CaptureFault}
-use Rattle.capture.specs.declared.fault.CaptureFault.TheVariants.{NoCapture, CutHeader, Version, LinkType, CutRecord, NoMemory}
+use Rattle.capture.specs.declared.fault.CaptureFault.TheVariants.{NoCapture, CutHeader, Version, LinkType}
 use Rattle.capture.specs.declared.fields.Endian.{Endian}
 use Rattle.capture.specs.declared.fields.Endian.TheVariants.{Little, Big}
 use Rattle.capture.specs.declared.form.TimeUnit.{TimeUnit}
@@ -33,9 +33,11 @@ link_of number =
 
 -- a fault of the header
 abbrev pub IsOfHeader : CaptureFault → Type 0
-IsOfHeader NoMemory = ⊥
-IsOfHeader (CutRecord count) = ⊥
-IsOfHeader _ = Unit {0}
+IsOfHeader NoCapture = Unit {0}
+IsOfHeader CutHeader = Unit {0}
+IsOfHeader (Version major minor) = Unit {0}
+IsOfHeader (LinkType number) = Unit {0}
+IsOfHeader _ = ⊥
 
 -- the header's form, unless its link type is unknown
 abbrev pub with_link : Endian → TimeUnit → Result Link CaptureFault → Result Form CaptureFault

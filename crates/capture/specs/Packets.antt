@@ -1,6 +1,6 @@
--- The packets of a capture file. A record has a header of 16 bytes (seconds, parts of a second,
+-- The packets of a classic capture file. A record has a header of 16 bytes (seconds, parts of a second,
 -- captured bytes, bytes of the packet, 4 each) and the captured bytes.
-use Rattle.std.specs.Prelude.{◌≡◌, ℕ, ◌+◌, ◌*◌, ◌^◌, ◌<◌, ◌||◌, nat_lt, List, [], ◌∷◌, length, take, drop, Option, Some, None, Result, Ok, Err, if◌then◌else◌}
+use Rattle.std.specs.Prelude.{◌≡◌, ℕ, ◌+◌, ◌*◌, ◌<◌, ◌||◌, nat_lt, List, [], ◌∷◌, length, take, drop, Option, Some, None, Result, Ok, Err, if◌then◌else◌}
 use Rattle.std.specs.Borrow.{Bor}
 use Rattle.capture.specs.declared.fault.LeftOut.{LeftOut}
 use Rattle.capture.specs.declared.fault.LeftOut.TheVariants as out
@@ -16,9 +16,10 @@ use Rattle.capture.specs.Fields.{number_at}
 use Rattle.capture.specs.Form.{form_of}
 use Rattle.capture.specs.Radiotap.{bytes_in, radiotap_frame}
 
--- a packet: its time in nanoseconds since the start of 1970, and its frame, or why it has none
+-- a packet: its time in nanoseconds since the start of 1970, if it has one, and its frame, or why it
+-- has none
 pub record Seen : Type 0 where
-  pub time : ℕ
+  pub time : Option ℕ
   pub frame : Result (List ℕ) LeftOut
 
 -- a packet as contracts see it
@@ -47,7 +48,8 @@ captured form bytes = number_at form.endian 4 8 bytes
 -- the packet of the first record
 abbrev pub packet_of : Form → List ℕ → Seen
 packet_of form bytes = record {
-  time = time_of form.unit (number_at form.endian 4 0 bytes) (number_at form.endian 4 4 bytes);
+  time = Some (time_of form.unit (number_at form.endian 4 0 bytes)
+      (number_at form.endian 4 4 bytes));
   frame = frame_of form.link (number_at form.endian 4 12 bytes)
       (take (captured form bytes) (drop 16 bytes));
 }
@@ -81,9 +83,9 @@ pub record HoldsThen (file : List ℕ) (packets : List Seen) (rest : List ℕ) :
   pub records : BeginWith form (drop 24 file) packets rest
   pub cut : 0 < length rest → packet_at form rest ≡ None
 
--- the packets of a file
-abbrev pub Holds : List ℕ → List Seen → Type 0
-Holds file packets = HoldsThen file packets []
+-- the packets of a file of records
+abbrev pub HoldsRecords : List ℕ → List Seen → Type 0
+HoldsRecords file packets = HoldsThen file packets []
 
 -- a file whose record after `count` packets is cut
 pub record IsCutAfter (file : List ℕ) (count : ℕ) : Type 0 where
@@ -93,8 +95,7 @@ pub record IsCutAfter (file : List ℕ) (count : ℕ) : Type 0 where
   pub some : 0 < length rest
   pub records : HoldsThen file packets rest
 
--- what a fault says of the file; want of memory says nothing
-abbrev pub Refuses : List ℕ → CaptureFault → Type 0
-Refuses file (fault.CutRecord count) = IsCutAfter file count
-Refuses file fault.NoMemory = Unit {0}
-Refuses file f = form_of file ≡ Err f
+-- what a fault says of a file of records
+abbrev pub RefusesRecord : List ℕ → CaptureFault → Type 0
+RefusesRecord file (fault.CutRecord count) = IsCutAfter file count
+RefusesRecord file f = form_of file ≡ Err f

@@ -14,7 +14,7 @@ pub enum CaptureFault {
     NoCapture,
     #[error("the header is cut")]
     CutHeader,
-    /// Not version 2.4, the only one in use.
+    /// Not version 2.4, the only one of pcap in use, nor 1.0 or 1.2, which are those of pcapng.
     #[error("unknown version {major}.{minor}")]
     Version { major: u16, minor: u16 },
     /// Neither 105, IEEE 802.11, nor 127, IEEE 802.11 behind a radiotap header.
@@ -23,6 +23,16 @@ pub enum CaptureFault {
     /// What follows so many whole records is no whole record.
     #[error("the file is cut after {0} records")]
     CutRecord(u64),
+    /// A second has more units of time than 64 bits count (pcapng 4.2, `if_tsresol`).
+    #[error("unknown time resolution {0}")]
+    Resolution(u8),
+    /// The file ends within the block that begins behind so many bytes.
+    #[error("the file is cut in the block at byte {0}")]
+    CutBlock(u64),
+    /// The block that begins behind so many bytes has lengths that don't fit, or names an interface that
+    /// its section hasn't described.
+    #[error("the block at byte {0} is damaged")]
+    BadBlock(u64),
     #[error("out of memory")]
     NoMemory,
 }

@@ -1,4 +1,4 @@
-//! The header of a capture file.
+//! The header of a classic capture file.
 
 ghost use Rattle.std.specs.Prelude.{◌≡◌, ◌≤◌, length, IfErr, OnOk};
 ghost use Rattle.capture.specs.Form.{magic_of, link_of, form_of, IsOfHeader};
@@ -42,7 +42,8 @@ fn magic(file: &[u8]) -> Option<(Endian, TimeUnit)>
     }
 }
 
-fn link_named(number: u32) -> Result<Link, CaptureFault>
+/// The kind of packet that a link type stands for.
+pub(crate) fn link_named(number: u32) -> Result<Link, CaptureFault>
     ensures is { result ≡ link_of number }
     ensures fault { IfErr result IsOfHeader }
 {

@@ -1,4 +1,4 @@
-//! One record of a capture file.
+//! One record of a classic capture file.
 
 ghost use Rattle.std.specs.Prelude.{◌≡◌, ◌<◌, length, IfSome};
 ghost use Rattle.capture.specs.Radiotap.{bytes_in};
@@ -9,11 +9,11 @@ use crate::fields::u32_at;
 use crate::form::{Form, Link, TimeUnit};
 use crate::radiotap::radiotap_frame;
 
-/// A packet of a capture: its time in nanoseconds since the start of 1970, and the frame without
-/// radiotap header and frame check sequence, or why there is none.
+/// A packet of a capture: its time in nanoseconds since the start of 1970, if it has one, and the frame
+/// without radiotap header and frame check sequence, or why there is none.
 #[derive(Clone, Copy, Debug, PartialEq, Eq)]
 pub struct Packet<'a> {
-    pub time: u64,
+    pub time: Option<u64>,
     pub frame: Result<&'a [u8], LeftOut>,
 }
 
@@ -28,7 +28,7 @@ fn time(unit: TimeUnit, seconds: u32, part: u32) -> u64
 }
 
 /// The frame of captured bytes, where the packet had `original` bytes.
-fn frame(link: Link, original: usize, bytes: &[u8]) -> Result<&[u8], LeftOut>
+pub(crate) fn frame(link: Link, original: usize, bytes: &[u8]) -> Result<&[u8], LeftOut>
     ensures is { bytes_in result ≡ frame_of link original bytes.now }
 {
     if bytes.len() < original {
@@ -58,7 +58,7 @@ pub(crate) fn first_packet(form: Form, bytes: &[u8]) -> Option<(Packet<'_>, &[u8
     let seconds = u32_at(form.endian, head, 0);
     let part = u32_at(form.endian, head, 4);
     let packet = Packet {
-        time: time(form.unit, seconds, part),
+        time: Some(time(form.unit, seconds, part)),
         frame: frame(form.link, original, captured),
     };
     Some((packet, after))

@@ -1,18 +1,45 @@
 //! The packets of a capture file.
 
-ghost use Rattle.std.specs.Prelude.{◌≡◌, map, IfOk, IfErr};
-ghost use Rattle.capture.specs.Packets.{seen_of, Holds, Refuses};
+ghost use Rattle.std.specs.Prelude.{◌≡◌, ◌⊎◌, map, IfOk, IfErr};
+ghost use Rattle.capture.specs.Packets.{seen_of, HoldsRecords, RefusesRecord};
+ghost use Rattle.capture.specs.Captures.{has_sections, Holds, Refuses};
 
 use crate::fault::CaptureFault;
 use crate::form::read_form;
 use crate::packet::{Packet, first_packet};
+use crate::section::read_sections;
 use std::alloc::Global;
 
-/// The packets of a capture file, in their order. A packet whose frame can't be told says why. A
-/// header that is no capture's, or a record that is cut, refuses the file.
+/// The packets of a capture file, in their order: of a classic one, or of one in the form pcapng
+/// (draft-ietf-opsawg-pcapng). A packet whose frame can't be told says why. A simple packet block has no
+/// time. A header that is no capture's, a record or a block that is cut, and a block that is damaged
+/// refuse the file. Blocks of other types than section header, interface description, enhanced and simple
+/// packet are passed over, and of an interface's options only `if_tsresol` is read.
 pub fn read_capture<'a>(alloc: Global, file: &'a [u8]) -> Result<Vec<Packet<'a>>, CaptureFault>
     ensures packets { IfOk result (λ packets. Holds file.entry.now (map seen_of packets.items)) }
     ensures fault { IfErr result (Refuses file.entry.now) }
+{
+    if has_sections(file) {
+        return read_sections(alloc, file);
+    }
+    read_records(alloc, file)
+}
+
+fn has_sections(file: &[u8]) -> bool
+    ensures is { result ≡ has_sections file.now }
+{
+    match file {
+        [0x0a, 0x0d, 0x0d, 0x0a, ..] => true,
+        _ => false,
+    }
+}
+
+/// The packets of a classic capture file.
+fn read_records<'a>(alloc: Global, file: &'a [u8]) -> Result<Vec<Packet<'a>>, CaptureFault>
+    ensures packets { IfOk result
+        (λ packets. HoldsRecords file.entry.now (map seen_of packets.items)) }
+    ensures fault { IfErr result
+        (λ e. (e ≡ CaptureFault.NoMemory) ⊎ RefusesRecord file.entry.now e) }
 {
     let form = read_form(file)?;
     let mut packets = Vec::new(alloc);

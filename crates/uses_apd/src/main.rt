@@ -4,10 +4,15 @@
 //! is printed alone. A status other than 0 is told after the answer. The texts on standard error are not compared.
 #![tactic(auto)]
 
+use apd_entry::Messages;
 use apd_files::RealFiles;
-use apd_program::apd_main;
 use std::alloc::{AllocError, Global};
 use std::io;
+use std::io::Write;
+use std::rt::Files;
+use std::sync::Wait;
+use std::thread::Threads;
+use std::time::Clock;
 
 fn main(rt: HostRuntime) -> io::Result<()> {
     let alloc = rt.alloc();
@@ -17,7 +22,12 @@ fn main(rt: HostRuntime) -> io::Result<()> {
             println!(rt; "{line}")?;
         } else {
             println!(rt; "$ apd {line}")?;
-            let status = perform(&rt, alloc, &line)?;
+            let mut err = rt.stderr();
+            let messages = Messages {
+                err: &mut err,
+                watched: false,
+            };
+            let status = perform(&rt, alloc, &line, rt.stdout(), messages)?;
             if status != 0 {
                 println!(rt; "status {status}")?;
             }
@@ -27,17 +37,22 @@ fn main(rt: HostRuntime) -> io::Result<()> {
 }
 
 /// Runs `apd` on the words of a line, and answers its status.
-fn perform(rt: &HostRuntime, alloc: Global, line: &str) -> io::Result<u8> {
+fn perform<R, O, E>(
+    rt: &R,
+    alloc: Global,
+    line: &str,
+    out: O,
+    messages: Messages<'_, E>,
+) -> io::Result<u8>
+where
+    R: Threads + Wait + Sync + Clock + Eprint + Files + AllocGlobal,
+    O: Write + Drop,
+    E: Write,
+{
     let words = words_of(alloc, line)?;
-    let mut out = rt.stdout();
-    let mut err = rt.stderr();
-    Ok(apd_main(
-        alloc,
-        words.as_slice(),
-        &mut RealFiles(rt),
-        &mut out,
-        &mut err,
-    ))
+    let mut files = RealFiles(rt);
+    let (_, status) = apd_entry::perform(rt, alloc, words.as_slice(), &mut files, out, messages);
+    Ok(status)
 }
 
 /// The program's name and the words of a line.

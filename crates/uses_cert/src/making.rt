@@ -27,12 +27,16 @@ fn shapes_of(alloc: Global, map: Option<(u32, u32)>) -> Result<Shapes, Fail> {
     }
 }
 
-fn program(alloc: Global, text: &str, map: Option<(u32, u32)>) -> Result<Program, Fail> {
+pub(crate) fn program(alloc: Global, text: &str, map: Option<(u32, u32)>) -> Result<Program, Fail> {
     let code = assemble(alloc, text)?;
     Ok(decode(alloc, &code, shapes_of(alloc, map)?)?)
 }
 
-fn verified(alloc: Global, text: &str, map: Option<(u32, u32)>) -> Result<Accepted, Fail> {
+pub(crate) fn verified(
+    alloc: Global,
+    text: &str,
+    map: Option<(u32, u32)>,
+) -> Result<Accepted, Fail> {
     Ok(verify(alloc, program(alloc, text, map)?, Hook::Data)?)
 }
 

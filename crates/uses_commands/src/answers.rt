@@ -1,7 +1,8 @@
 //! What `apd` answers for files in memory.
 
 use crate::writing::Narrow;
-use apd_program::{Answer, FileFault, Files, apd_main};
+use apd_inputs::{FileFault, Files};
+use apd_program::{Answer, apd_main};
 use bpf_decode::DecodeFault;
 use bpf_text::AsmFault;
 use bpf_verifier::{Fault, Refusal};

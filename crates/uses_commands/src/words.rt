@@ -108,13 +108,15 @@ fn reads_the_number_of_workers(rt: HostRuntime) {
         config: "c.toml",
         script: "s.txt",
         workers: 2,
+        quiet: false,
     };
     assert!(rt; read_words(alloc, &words).is_ok_and(|r| r == want));
-    let words = ["apd", "run", "--workers=8", "c.toml", "s.txt"];
+    let words = ["apd", "run", "--workers=8", "c.toml", "s.txt", "--quiet"];
     let want = Request::Run {
         config: "c.toml",
         script: "s.txt",
         workers: 8,
+        quiet: true,
     };
     assert!(rt; read_words(alloc, &words).is_ok_and(|r| r == want));
     for number in ["0", "9", "10", "02", "+2", "two", ""] {

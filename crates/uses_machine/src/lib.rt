@@ -7,6 +7,12 @@
 #![tactic(auto)]
 
 #[cfg(test)]
+mod alike;
+#[cfg(test)]
+mod bare;
+#[cfg(test)]
+mod policies;
+#[cfg(test)]
 mod tests;
 #[cfg(test)]
 mod verifying;

@@ -1,3 +1,4 @@
+use crate::alike::compare_on_frames;
 use bpf_decode::{Program, decode};
 use bpf_helpers::PlainPort;
 use bpf_machine::probing::probe;
@@ -62,6 +63,20 @@ fn check(rt: &impl Abort, answer: Probe, want: Want, first: u64) {
     }
 }
 
+/// A program that is admitted comes to the same on both machines.
+fn compare_admitted(
+    rt: &impl Abort,
+    alloc: Global,
+    slots: &[u64],
+    map: Option<Shape>,
+) -> Result<(), Fail> {
+    let program = program_of(alloc, slots, shapes_of(rt, alloc, map)?)?;
+    match verify(alloc, program, Hook::Data) {
+        Ok(accepted) => compare_on_frames(rt, &accepted, "slots"),
+        Err(_) => Ok(()),
+    }
+}
+
 /// Probes a program on a frame, with answers from a list.
 fn probe_on(
     rt: &impl Abort,
@@ -72,6 +87,7 @@ fn probe_on(
     answers: &[u64],
     limit: u32,
 ) -> Result<Probe, Fail> {
+    compare_admitted(rt, alloc, slots, map)?;
     let program = program_of(alloc, slots, shapes_of(rt, alloc, map)?)?;
     let frame = Frame::new(bytes).expect(rt, "the frame is short");
     let mut port = ListPort::new(program.shapes(), answers);
@@ -474,6 +490,7 @@ fn probe_plain(
     map: Option<Shape>,
     draw: u64,
 ) -> Result<Probe, Fail> {
+    compare_admitted(rt, alloc, slots, map)?;
     let program = program_of(alloc, slots, shapes_of(rt, alloc, map)?)?;
     let frame = Frame::new(&[]).expect(rt, "the frame is short");
     let mut port = PlainPort::new(alloc, program.shapes(), 11, 2007, draw)?;

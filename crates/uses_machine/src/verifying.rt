@@ -1,5 +1,6 @@
 //! Programs by their text: what admission says of them, and what their runs come to.
 
+use crate::alike::compare_on_frames;
 use bpf_decode::{DecodeFault, decode};
 use bpf_machine::{Accepted, ListPort, Outcome, run};
 use bpf_regions::{Context, Frame, Hook, Scope, Shape, Shapes, WordWidth};
@@ -40,7 +41,7 @@ fn shapes_of(alloc: Global, map: Option<(u32, u32)>) -> Result<Shapes, Fail> {
 }
 
 /// Asks for admission of a program, by its text.
-fn ask(
+pub fn ask(
     alloc: Global,
     text: &str,
     map: Option<(u32, u32)>,
@@ -73,7 +74,7 @@ fn check_run(
     assert_eq!(rt; accepted.budget(), budget, "the budget of {text}");
     let outcome = outcome_of(&accepted, given)?;
     assert_eq!(rt; (outcome.r0, outcome.steps), end, "the run of {text}");
-    Ok(())
+    compare_on_frames(rt, &accepted, text)
 }
 
 /// The program is refused with this number at this slot.

@@ -15,6 +15,7 @@ pub record Programs : Type 0 where
   pub addba : Option Verified
   pub frames : Option Verified
 
+-- the set without programs
 abbrev pub no_programs : Programs
 no_programs = record { association = None; addba = None; frames = None }
 

@@ -15,6 +15,7 @@ abbrev pub IsOf : Book → Option Beginning → Type 0
 IsOf list None = Unit {0}
 IsOf list (Some k) = k.list ≡ list
 
+-- what each reader was told is a beginning of the list of the set
 abbrev pub OneList : Beginning → List (Option Beginning) → Type 0
 OneList set views = (seat : ℕ) (v : Option Beginning) → get_elem? views seat ≡ some v → IsOf set.list v
 

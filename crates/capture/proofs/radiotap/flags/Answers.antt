@@ -1,4 +1,4 @@
-use Rattle.std.proofs.Common.{◌≡◌, ◌≢◌, ◌/◌, ◌%◌, rules, tests, arith, sym, ◌∙◌, ap, Some, drop, slice_get, slice_index}
+use Rattle.std.proofs.Common.{◌≡◌, ◌≢◌, ◌/◌, ◌%◌, rules, arith, sym, ◌∙◌, ap, Some, drop, slice_get, slice_index}
 use Rattle.std.proofs.lemmas.Bool.Decides.{nat_tests}
 use Rattle.capture.specs.Radiotap.{words_len}
 use Rattle.capture.proofs.Present.{flags_of-words, item_copied}

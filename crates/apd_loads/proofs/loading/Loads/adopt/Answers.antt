@@ -8,9 +8,9 @@ use Rattle.apd_loads.proofs.loading.Loads.adopt.Goals as goal
 pub returns-in-Err-NoMemory-clause-adopts : goal.returns-in-Err-NoMemory-clause-adopts
 returns-in-Err-NoMemory-clause-adopts g c = NoRoomToRead refl
 
-pub returns-in-Err-Missing-clause-adopts : goal.returns-in-Err-Missing-clause-adopts
-returns-in-Err-Missing-clause-adopts g c =
-    CodeNotRead read.Missing (λ e. cc) (rw c.in-Err-Missing.field-0-is at c.in-Err-Missing.ensures.fault) refl
+pub returns-in-Err-Unreadable-clause-adopts : goal.returns-in-Err-Unreadable-clause-adopts
+returns-in-Err-Unreadable-clause-adopts g c =
+    CodeNotRead read.Unreadable (λ e. cc) (rw c.in-Err-Unreadable.field-0-is at c.in-Err-Unreadable.ensures.fault) refl
 
 pub returns-in-Err-Digits-clause-adopts : goal.returns-in-Err-Digits-clause-adopts
 returns-in-Err-Digits-clause-adopts g c =
@@ -26,11 +26,11 @@ returns-in-Ok-read_code-clause-adopts g c =
 pub returns-in-Err-NoMemory-read_code-clause-adopts : goal.returns-in-Err-NoMemory-read_code-clause-adopts
 returns-in-Err-NoMemory-read_code-clause-adopts g c = NoRoomToRead refl
 
-pub returns-in-Err-Missing-read_code-clause-adopts : goal.returns-in-Err-Missing-read_code-clause-adopts
-returns-in-Err-Missing-read_code-clause-adopts g c =
-    CertificateNotRead read.Missing (λ e. cc)
-    (subst (λ (h : Held). IsFaultOf h c.args.certificate.now read.Missing) c.in-Ok.ensures.same
-    (rw c.in-Err-Missing-read_code.field-0-is at c.in-Err-Missing-read_code.ensures.fault)) refl
+pub returns-in-Err-Unreadable-read_code-clause-adopts : goal.returns-in-Err-Unreadable-read_code-clause-adopts
+returns-in-Err-Unreadable-read_code-clause-adopts g c =
+    CertificateNotRead read.Unreadable (λ e. cc)
+    (subst (λ (h : Held). IsFaultOf h c.args.certificate.now read.Unreadable) c.in-Ok.ensures.same
+    (rw c.in-Err-Unreadable-read_code.field-0-is at c.in-Err-Unreadable-read_code.ensures.fault)) refl
 
 pub returns-in-Err-Digits-read_code-clause-adopts : goal.returns-in-Err-Digits-read_code-clause-adopts
 returns-in-Err-Digits-read_code-clause-adopts g c =

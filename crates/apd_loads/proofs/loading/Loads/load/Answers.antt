@@ -10,9 +10,9 @@ returns-in-Ok-clause-loads g c =
 pub returns-in-Err-NoMemory-clause-loads : goal.returns-in-Err-NoMemory-clause-loads
 returns-in-Err-NoMemory-clause-loads g c = NoRoomToRead refl
 
-pub returns-in-Err-Missing-clause-loads : goal.returns-in-Err-Missing-clause-loads
-returns-in-Err-Missing-clause-loads g c =
-    NotRead read.Missing (λ e. cc) (rw c.in-Err-Missing.field-0-is at c.in-Err-Missing.ensures.fault) refl
+pub returns-in-Err-Unreadable-clause-loads : goal.returns-in-Err-Unreadable-clause-loads
+returns-in-Err-Unreadable-clause-loads g c =
+    NotRead read.Unreadable (λ e. cc) (rw c.in-Err-Unreadable.field-0-is at c.in-Err-Unreadable.ensures.fault) refl
 
 pub returns-in-Err-Digits-clause-loads : goal.returns-in-Err-Digits-clause-loads
 returns-in-Err-Digits-clause-loads g c =

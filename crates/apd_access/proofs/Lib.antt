@@ -1,0 +1,5 @@
+pub mod Sums
+pub mod Serving
+pub mod Keeping
+pub mod Loading
+pub mod OneByOne

@@ -1,0 +1,51 @@
+//! What words ask for, as far as it decides who does it.
+
+ghost use Rattle.std.specs.Prelude.{map};
+ghost use Rattle.apd_words.specs.Asked.{Asked, asked_of};
+ghost use Rattle.apd_words.specs.Spells.{Spells};
+ghost use Rattle.apd_entry.specs.Asking.{Fits};
+
+use apd_runner::RunWords;
+use apd_words::{Request, Told, read_words};
+use std::alloc::Global;
+
+/// What words ask for: the run of a script, or something else, which may be nothing. Or memory ran out.
+#[derive(Clone, Copy, Debug)]
+pub(crate) enum Asking<'a> {
+    Run { words: RunWords<'a>, quiet: bool },
+    Other,
+    NoMemory,
+}
+
+/// Whether a request is the run of a script.
+fn of_request<'a>(request: Request<'a>) -> Asking<'a>
+    ensures { Fits (asked_of request.entry) result }
+{
+    match request {
+        Request::Run {
+            config,
+            script,
+            workers,
+            quiet,
+        } => {
+            let words = RunWords {
+                config,
+                script,
+                workers,
+            };
+            return Asking::Run { words, quiet };
+        }
+        _ => return Asking::Other,
+    }
+}
+
+/// What the words ask for, the first being the program's own name.
+pub(crate) fn asked<'a>(alloc: Global, words: &'a [&'a str]) -> Asking<'a>
+    ensures { (a : Asked) → Spells (map (λ word. word.now) words.entry.now) a → Fits a result }
+{
+    match read_words(alloc, words) {
+        Ok(request) => return of_request(request),
+        Err(Told::NoMemory) => return Asking::NoMemory,
+        Err(_) => return Asking::Other,
+    }
+}

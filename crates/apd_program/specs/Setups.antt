@@ -1,0 +1,26 @@
+-- The maps and the frames that files and words spell.
+use Rattle.std.specs.Prelude.{◌≡◌, ◌≤◌, ℕ, List, [], length, Option, Some, None, Ok}
+use Rattle.hex.specs.Hex.{decode_of}
+use Rattle.apd_inputs.specs.Held.{Held, Holds}
+use Rattle.apd_config.specs.Text.{IsTextOf}
+use Rattle.apd_config.specs.declared.configuration.Configuration.{Configuration}
+use Rattle.apd_program.specs.declared.reading.Setup.{Setup}
+
+-- the word's hex digits of either case spell the frame
+pub record IsFrame (word frame : List ℕ) : Type 0 where
+  pub spelled : decode_of word ≡ Ok frame
+  pub short : length frame ≤ 2400
+
+-- the file is a configuration with this setup
+pub record HoldsSetup (files : Held) (path : List ℕ) (setup : Setup) : Type 0 where
+  pub text : List ℕ
+  pub there : Holds files path text
+  pub configuration : Configuration
+  pub is : IsTextOf text configuration
+  pub maps : setup.shapes ≡ configuration.maps
+  pub draw : setup.draw ≡ configuration.draw
+
+-- without a configuration no maps, and 0 to draw first
+abbrev pub Configures : Held → Option (List ℕ) → Setup → Type 0
+Configures files None setup = setup ≡ record { shapes = []; draw = 0 }
+Configures files (Some path) setup = HoldsSetup files path setup

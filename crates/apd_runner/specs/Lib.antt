@@ -1,0 +1,3 @@
+pub mod Statuses
+pub use Rattle.apd_access.specs.Shows
+pub use Rattle.apd_access.specs.Counts

@@ -1,0 +1,102 @@
+//! Certificates with a byte changed, or without their end: each is refused, or accepted with a budget within which the
+//! program's runs end on three frames.
+
+use crate::making::{program, verified};
+use bpf_cert::{certificate, check};
+use bpf_decode::Program;
+use bpf_machine::probing::probe;
+use bpf_machine::{ListPort, Probe};
+use bpf_regions::{Context, Frame, Hook};
+use std::alloc::Global;
+use std::process::Abort;
+use std::test::Fail;
+
+/// R0 is 2, and EXIT.
+const PLAIN: &str = "mov r0, 2\nexit";
+
+/// Three turns that add up what a byte of the frame allows.
+const LOOP: &str =
+    "mov r3, r1\nadd r3, 26\nmov r0, 0\njgt r3, r2, +5\nldxb r4, [r1+24]\nmov r5, 3\nadd r0, r4\nsub r5, 1\njne r5, 0, -3\nexit";
+
+/// A place in the frame behind a variable part, kept on the stack over a local call.
+const ROOMS: &str =
+    "mov r4, r1\nadd r4, 26\nmov r0, 0\njgt r4, r2, +11\nldxb r5, [r1+24]\nand r5, 7\nadd r4, r5\nstxdw [r10-8], r4\nmov r6, r4\nadd r6, 1\njgt r6, r2, +4\ncall local +4\nldxdw r4, [r10-8]\nldxb r1, [r4+0]\nadd r0, r1\nexit\nmov r0, 1\nexit";
+
+/// Whether a run on a frame of these bytes ends within so many steps.
+fn ends_within(program: &Program, bytes: &[u8], budget: u32) -> bool {
+    let Some(frame) = Frame::new(bytes) else {
+        return false;
+    };
+    let mut port = ListPort::new(program.shapes(), &[]);
+    let came_to = probe(program, &frame, &Context::new([0; 32]), &mut port, budget);
+    matches!(came_to, Probe::Ended(_))
+}
+
+/// Whether runs on three frames do: one without bytes, one of a header alone, and a longer one.
+fn all_end(program: &Program, budget: u32) -> bool {
+    ends_within(program, &[], budget)
+        && ends_within(program, &[0xff; 26], budget)
+        && ends_within(program, &[0x03; 64], budget)
+}
+
+/// Whether bytes are accepted as a certificate of a program, whose runs end then.
+fn is_accepted(rt: &impl Abort, alloc: Global, text: &str, bytes: &[u8]) -> Result<bool, Fail> {
+    match check(alloc, program(alloc, text, None)?, Hook::Data, bytes) {
+        Err(_) => Ok(false),
+        Ok(accepted) => {
+            assert!(rt; all_end(accepted.program(), accepted.budget()), "{text}");
+            Ok(true)
+        }
+    }
+}
+
+/// The certificate of a program.
+fn made(alloc: Global, text: &str) -> Result<Vec<u8>, Fail> {
+    let accepted = verified(alloc, text, None)?;
+    Ok(certificate(alloc, &accepted)?)
+}
+
+/// Sets each byte of a program's certificate to each value, or to four values alone, and answers how often it is
+/// accepted.
+fn count_accepted(rt: &impl Abort, alloc: Global, text: &str, all: bool) -> Result<u32, Fail> {
+    let mut bytes = made(alloc, text)?;
+    let mut accepted = 0u32;
+    for at in 0..bytes.len() {
+        let kept = bytes[at];
+        for value in 0..=255u8 {
+            if !all && value % 85 != 0 {
+                continue;
+            }
+            bytes[at] = value;
+            if is_accepted(rt, alloc, text, bytes.as_slice())? {
+                accepted = accepted.saturating_add(1);
+            }
+        }
+        bytes[at] = kept;
+    }
+    Ok(accepted)
+}
+
+#[test]
+fn no_beginning_is_accepted(rt: HostRuntime) -> Result<(), Fail> {
+    let alloc = rt.alloc();
+    for text in [PLAIN, LOOP, ROOMS] {
+        let bytes = made(alloc, text)?;
+        for end in 0..bytes.len() {
+            assert!(rt; !is_accepted(&rt, alloc, text, &bytes[..end])?);
+        }
+        assert!(rt; is_accepted(&rt, alloc, text, bytes.as_slice())?);
+    }
+    Ok(())
+}
+
+#[test]
+fn a_changed_byte_is_refused_or_safe(rt: HostRuntime) -> Result<(), Fail> {
+    let alloc = rt.alloc();
+    let accepted = count_accepted(&rt, alloc, PLAIN, true)?;
+    assert!(rt; accepted > 0, "greater budgets are accepted");
+    for text in [LOOP, ROOMS] {
+        let _accepted = count_accepted(&rt, alloc, text, false)?;
+    }
+    Ok(())
+}

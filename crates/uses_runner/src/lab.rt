@@ -1,0 +1,60 @@
+//! The configurations and lines of the tests' scripts.
+
+use crate::memory::{File, ran};
+use std::alloc::Global;
+use std::sync::Wait;
+use std::test::Fail;
+use std::thread::Threads;
+
+pub const LAB: &str = "bssid = \"020000000001\"\nssid = \"lab\"\nrates = \"82848b96\"\ndraw = 0\n";
+
+pub const COUNTING: &str =
+    "bssid = \"020000000001\"\nssid = \"lab\"\nrates = \"82848b96\"\ndraw = 0\n\
+    [[map]]\nentries = 1\nwords = 1\nwidth = 8\nscope = \"worker\"\n";
+
+pub const AUTHENTICATION: &str =
+    "frame b000000002000000000102000000000a0200000000011000000001000000\n";
+
+pub const OTHER_AUTHENTICATION: &str =
+    "frame b000000002000000000102000000000b0200000000011000000001000000\n";
+
+pub const ASSOCIATION: &str = "frame 0000000002000000000102000000000a0200000000012000\
+    01000a0000036c6162010482848b96\n";
+
+pub const ANSWERS: &str = "1 send b000000002000000000a0200000000010200000000010000000002000000\n\
+    2 send 1000000002000000000a020000000001020000000001000001000000\
+    02c0010482848b96\n";
+
+/// Whether a run of the files prints a text and ends with a status, by one, two and eight workers.
+pub fn prints<R: Threads + Wait + Sync>(
+    rt: &R,
+    alloc: Global,
+    files: &[File<'_>],
+    printed: &[&str],
+    status: u8,
+) -> Result<bool, Fail> {
+    let mut wanted = String::new(alloc);
+    for part in printed {
+        wanted.push_str(part)?;
+    }
+    let mut same = true;
+    for workers in [1u8, 2, 8] {
+        let ran = ran(rt, alloc, files, workers);
+        same = same && ran.out.as_slice() == wanted.as_bytes() && ran.status == status;
+    }
+    Ok(same)
+}
+
+/// A file.
+pub fn file<'a>(path: &'a str, text: &'a str) -> File<'a> {
+    File { path, text }
+}
+
+/// Parts of a text one after the other.
+pub fn joined(alloc: Global, parts: &[&str]) -> Result<String, Fail> {
+    let mut text = String::new(alloc);
+    for part in parts {
+        text.push_str(part)?;
+    }
+    Ok(text)
+}

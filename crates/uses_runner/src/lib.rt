@@ -1,0 +1,13 @@
+//! Whole runs of scripts, with files in memory, shown by tests.
+#![tactic(auto)]
+
+#[cfg(test)]
+mod faults;
+#[cfg(test)]
+mod gates;
+#[cfg(test)]
+mod lab;
+#[cfg(test)]
+mod memory;
+#[cfg(test)]
+mod scripts;
