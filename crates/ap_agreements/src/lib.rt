@@ -11,6 +11,3 @@ mod entry;
 
 pub use agreements::Agreements;
 pub use entry::{Entry, Released};
-
-#[cfg(test)]
-mod tests;

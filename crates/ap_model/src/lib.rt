@@ -19,6 +19,3 @@ pub use event::{Event, Out, Up};
 pub use held::Held;
 pub use judge::{Judge, ListJudge};
 pub use octets::Octets;
-
-#[cfg(test)]
-mod tests;

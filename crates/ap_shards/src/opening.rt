@@ -96,6 +96,50 @@ fn open_two<B: Ledgers + Journals, const FIRST: usize, const SECOND: usize>(
     Ok(OpenedTwo { first, second })
 }
 
+/// Four shards.
+#[derive(Drop)]
+struct OpenedFour<
+    B: Ledgers + Journals,
+    const FIRST: usize,
+    const SECOND: usize,
+    const THIRD: usize,
+    const FOURTH: usize,
+> {
+    low: OpenedTwo<B, FIRST, SECOND>,
+    high: OpenedTwo<B, THIRD, FOURTH>,
+}
+
+/// Four shards before any event.
+fn open_four<
+    B: Ledgers + Journals,
+    const FIRST: usize,
+    const SECOND: usize,
+    const THIRD: usize,
+    const FOURTH: usize,
+>(
+    alloc: Global,
+    config: &LinkConfig,
+    new: ((NewShard, NewShard), (NewShard, NewShard)),
+) -> Result<OpenedFour<B, FIRST, SECOND, THIRD, FOURTH>, AllocError>
+    requires first { FIRST < 8 }
+    requires second { SECOND < 8 }
+    requires third { THIRD < 8 }
+    requires fourth { FOURTH < 8 }
+    requires named_first { IsNamed (B.name_of FIRST) B.shares (B.journal_of FIRST) new.0.0 }
+    requires named_second { IsNamed (B.name_of SECOND) B.shares (B.journal_of SECOND) new.0.1 }
+    requires named_third { IsNamed (B.name_of THIRD) B.shares (B.journal_of THIRD) new.1.0 }
+    requires named_fourth { IsNamed (B.name_of FOURTH) B.shares (B.journal_of FOURTH) new.1.1 }
+    requires some { 0 < B.shares }
+    ensures first { IfOk result (λ r. r.low.first.mine ≡ newcomer B.shares []) }
+    ensures second { IfOk result (λ r. r.low.second.mine ≡ newcomer B.shares []) }
+    ensures third { IfOk result (λ r. r.high.first.mine ≡ newcomer B.shares []) }
+    ensures fourth { IfOk result (λ r. r.high.second.mine ≡ newcomer B.shares []) }
+{
+    let low = open_two(alloc, config, new.0)?;
+    let high = open_two(alloc, config, new.1)?;
+    Ok(OpenedFour { low, high })
+}
+
 impl<B: Ledgers + Journals> Shards<B> {
     ghost use Rattle.ap_shards.specs.Opening.{AreNamed, whole};
 
@@ -109,19 +153,25 @@ impl<B: Ledgers + Journals> Shards<B> {
         requires some { 0 < B.shares }
         ensures tokens { IfOk result (λ r. r.1 ≡ whole B.shares) }
     {
-        let OpenedTwo { first, second } = open_two(alloc, config, (new.of0, new.of1))?;
-        let OpenedTwo {
-            first: third,
-            second: fourth,
-        } = open_two(alloc, config, (new.of2, new.of3))?;
-        let OpenedTwo {
-            first: fifth,
-            second: sixth,
-        } = open_two(alloc, config, (new.of4, new.of5))?;
-        let OpenedTwo {
-            first: seventh,
-            second: eighth,
-        } = open_two(alloc, config, (new.of6, new.of7))?;
+        let low = open_four(alloc, config, ((new.of0, new.of1), (new.of2, new.of3)))?;
+        let high = open_four(alloc, config, ((new.of4, new.of5), (new.of6, new.of7)))?;
+        let OpenedFour {
+            low: OpenedTwo { first, second },
+            high: OpenedTwo {
+                first: third,
+                second: fourth,
+            },
+        } = low;
+        let OpenedFour {
+            low: OpenedTwo {
+                first: fifth,
+                second: sixth,
+            },
+            high: OpenedTwo {
+                first: seventh,
+                second: eighth,
+            },
+        } = high;
         Ok((
             Shards {
                 of0: first.lock,

@@ -9,6 +9,3 @@ mod watching;
 
 pub use progress::Progress;
 pub use watching::Watcher;
-
-#[cfg(test)]
-mod tests;

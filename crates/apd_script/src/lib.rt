@@ -17,6 +17,3 @@ pub use command::{Command, MapWord, Numbered};
 pub use fault::ScriptFault;
 pub use hex_text::HexText;
 pub use read::read_script;
-
-#[cfg(test)]
-mod tests;

@@ -10,8 +10,6 @@ mod agreement;
 mod laws;
 mod ring;
 mod scoreboard;
-#[cfg(test)]
-mod tests;
 
 pub use agreement::{Agreement, Placed};
 pub use laws::{order_law, reading_law, unwrap_law, window_law};

@@ -16,6 +16,3 @@ pub use admission::verify;
 pub use bpf_rules::Fault;
 pub use listing::{Explanation, explain, explore};
 pub use refusal::Refusal;
-
-#[cfg(test)]
-mod tests;

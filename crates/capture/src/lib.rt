@@ -19,6 +19,3 @@ mod section;
 pub use fault::{CaptureFault, LeftOut};
 pub use packet::Packet;
 pub use read::read_capture;
-
-#[cfg(test)]
-mod tests;

@@ -4,6 +4,8 @@
 #[cfg(test)]
 mod answers;
 #[cfg(test)]
+mod captures;
+#[cfg(test)]
 mod configuration;
 #[cfg(test)]
 mod words;

@@ -3,6 +3,10 @@
 #![tactic(auto)]
 
 #[cfg(test)]
+mod agreements;
+#[cfg(test)]
+mod configurations;
+#[cfg(test)]
 mod fields;
 #[cfg(test)]
 mod frames;
@@ -10,3 +14,5 @@ mod frames;
 mod stations;
 #[cfg(test)]
 mod verdicts;
+#[cfg(test)]
+mod windows;

@@ -4,6 +4,8 @@
 #[cfg(test)]
 mod echo;
 #[cfg(test)]
+mod grammar;
+#[cfg(test)]
 mod lines;
 #[cfg(test)]
 mod running;

@@ -11,3 +11,5 @@ mod lab;
 mod memory;
 #[cfg(test)]
 mod scripts;
+#[cfg(test)]
+mod watching;
