@@ -19,7 +19,7 @@ use Rattle.ap_core.specs.declared.shard.Shard.{Shard}
 use Rattle.ap_core.specs.Handles.{rules}
 use Rattle.ap_core.specs.Shards.{reads, ruled, Handles}
 use Rattle.ap_core.specs.Ticking.{TickStep}
-use Rattle.ap_core.specs.AccessPoints.{no_rules, rules_of, readings_of, AreFresh, RunsAll, RunsOne, joined, TickedBelow}
+use Rattle.ap_core.specs.AccessPoints.{no_rules, rules_of, readings_of, AreFresh, RunsAll, RunsOne, joined, TickedBelow, IsFresh}
 
 -- ---- runs one after another
 
@@ -247,24 +247,20 @@ have_histories shards eight s lt =
 -- ---- eight new shards
 
 module _ (config : Config) where
-  -- shard n has handled nothing
-  abbrev pub IsFresh : ℕ → Shard → Type 0
-  IsFresh n s = (ruled s ≡ rules n config) × (reads s ≡ opening)
-
-  pub eight_fresh : (a b c d e f g h : Shard) → IsFresh 0 a → IsFresh 1 b → IsFresh 2 c → IsFresh 3 d → IsFresh 4 e → IsFresh 5 f → IsFresh 6 g → IsFresh 7 h →
+  pub eight_fresh : (a b c d e f g h : Shard) → IsFresh config 0 a → IsFresh config 1 b → IsFresh config 2 c → IsFresh config 3 d → IsFresh config 4 e → IsFresh config 5 f → IsFresh config 6 g → IsFresh config 7 h →
       AreFresh config (a ∷ b ∷ c ∷ d ∷ e ∷ f ∷ g ∷ h ∷ [])
   eight_fresh a b c d e f g h p0 p1 p2 p3 p4 p5 p6 p7 =
       record { rules = λ s lt. (at s lt).0; readings = λ s lt. (at s lt).1 }
     where
       at : (s : ℕ) → s < 8 → (rules_of (a ∷ b ∷ c ∷ d ∷ e ∷ f ∷ g ∷ h ∷ []) s ≡ rules s config) × (readings_of (a ∷ b ∷ c ∷ d ∷ e ∷ f ∷ g ∷ h ∷ []) s ≡ opening)
-      at zero lt = p0
-      at (suc zero) lt = p1
-      at (suc (suc zero)) lt = p2
-      at (suc (suc (suc zero))) lt = p3
-      at (suc (suc (suc (suc zero)))) lt = p4
-      at (suc (suc (suc (suc (suc zero))))) lt = p5
-      at (suc (suc (suc (suc (suc (suc zero)))))) lt = p6
-      at (suc (suc (suc (suc (suc (suc (suc zero))))))) lt = p7
+      at zero lt = (p0.rules, p0.readings)
+      at (suc zero) lt = (p1.rules, p1.readings)
+      at (suc (suc zero)) lt = (p2.rules, p2.readings)
+      at (suc (suc (suc zero))) lt = (p3.rules, p3.readings)
+      at (suc (suc (suc (suc zero)))) lt = (p4.rules, p4.readings)
+      at (suc (suc (suc (suc (suc zero))))) lt = (p5.rules, p5.readings)
+      at (suc (suc (suc (suc (suc (suc zero)))))) lt = (p6.rules, p6.readings)
+      at (suc (suc (suc (suc (suc (suc (suc zero))))))) lt = (p7.rules, p7.readings)
       at (suc (suc (suc (suc (suc (suc (suc (suc n)))))))) lt = absurd (omega (arith, lt))
 
 pub fresh_in_place : (config : Config) (shards : List Shard) → AreFresh config shards → InPlace (rules_of shards)

@@ -33,6 +33,11 @@ pub record RunsAll {S : Type 0} (R : S → Ask → ℕ → S → Type 0) (old : 
   pub leads : EventsLead R (rules_of old) (readings_of old) events j results (readings_of new) j2
   pub rules : (s : ℕ) → rules_of new s ≡ rules_of old s
 
+-- a shard of this configuration and number that has handled nothing
+pub record IsFresh (config : Config) (number : ℕ) (s : Shard) : Type 0 where
+  pub rules : ruled s ≡ record { shard = number; config = config }
+  pub readings : reads s ≡ opening
+
 -- shards of a configuration that have handled nothing, each at the place of its number
 pub record AreFresh (config : Config) (shards : List Shard) : Type 0 where
   pub rules : (s : ℕ) → s < 8 → rules_of shards s ≡ record { shard = s; config = config }

@@ -6,6 +6,7 @@ ghost use Rattle.ap_model.specs.Runs.{History};
 ghost use Rattle.ap_model.specs.AccessPoint.{shard_of, shard_of_address, shard_of_bytes, InPlace};
 ghost use Rattle.ap_core.specs.AccessPoints.{rules_of, readings_of, outs_in, AreFresh, RunsAll, RunsOne, TickedBelow};
 
+use crate::fresh::new_four;
 use crate::shard::Shard;
 use ap_model::{Event, Judge, LinkConfig, Out};
 use mac_frame::Address;
@@ -50,15 +51,17 @@ pub fn new_shards(alloc: Global, config: &LinkConfig) -> Result<[Shard; 8], Allo
     ensures fresh { IfOk result (AreFresh config.now) }
     ensures place { IfOk result (λ shards. InPlace (rules_of shards)) }
 {
+    let low = new_four(alloc, 0, config)?;
+    let high = new_four(alloc, 4, config)?;
     Ok([
-        Shard::new(alloc, 0, config)?,
-        Shard::new(alloc, 1, config)?,
-        Shard::new(alloc, 2, config)?,
-        Shard::new(alloc, 3, config)?,
-        Shard::new(alloc, 4, config)?,
-        Shard::new(alloc, 5, config)?,
-        Shard::new(alloc, 6, config)?,
-        Shard::new(alloc, 7, config)?,
+        low.low.first,
+        low.low.second,
+        low.high.first,
+        low.high.second,
+        high.low.first,
+        high.low.second,
+        high.high.first,
+        high.high.second,
     ])
 }
 

@@ -8,6 +8,7 @@
 
 mod access_point;
 mod ends;
+mod fresh;
 mod management;
 mod moves;
 mod packets;

@@ -3,16 +3,13 @@ use Rattle.ap_core.proofs.access_point.new_shards.Goals as goal
 
 pub returns-clause-fresh : goal.returns-clause-fresh
 returns-clause-fresh c =
+    let low = c.in_ok-low.low in
+    let high = c.in_ok-high.high in
     eight_fresh c.args.config.now
-    c.in_ok-new.field-0 c.in_ok-new-2.field-0 c.in_ok-new-3.field-0 c.in_ok-new-4.field-0 c.in_ok-new-5.field-0 c.in_ok-new-6.field-0 c.in_ok-new-7.field-0 c.in_ok-new-8.field-0
-    (c.in_ok-new.ensures.rules, c.in_ok-new.ensures.opening)
-    (c.in_ok-new-2.ensures.rules, c.in_ok-new-2.ensures.opening)
-    (c.in_ok-new-3.ensures.rules, c.in_ok-new-3.ensures.opening)
-    (c.in_ok-new-4.ensures.rules, c.in_ok-new-4.ensures.opening)
-    (c.in_ok-new-5.ensures.rules, c.in_ok-new-5.ensures.opening)
-    (c.in_ok-new-6.ensures.rules, c.in_ok-new-6.ensures.opening)
-    (c.in_ok-new-7.ensures.rules, c.in_ok-new-7.ensures.opening)
-    (c.in_ok-new-8.ensures.rules, c.in_ok-new-8.ensures.opening)
+    low.low.first low.low.second low.high.first low.high.second
+    high.low.first high.low.second high.high.first high.high.second
+    c.in_ok-low.ensures.first c.in_ok-low.ensures.second c.in_ok-low.ensures.third c.in_ok-low.ensures.fourth
+    c.in_ok-high.ensures.first c.in_ok-high.ensures.second c.in_ok-high.ensures.third c.in_ok-high.ensures.fourth
 
 pub returns-clause-place : goal.returns-clause-place
 returns-clause-place c = fresh_in_place c.args.config.now _ (returns-clause-fresh c)
