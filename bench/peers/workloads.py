@@ -1,4 +1,4 @@
-"""Writes the workload programs, one a line: NAME HEX STEPS. `bench_machine` has the same programs.
+"""Writes the workload programs, one a line: NAME HEX STEPS.
 
 `filter` tests the end of its frame first, in three instructions. apd and the kernel's interpreter are given that end
 in R2; DPDK's programs have R1 alone, so there the test is of R1: as many instructions, and the same way taken.

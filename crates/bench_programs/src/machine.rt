@@ -1,7 +1,7 @@
-//! How long `run` and `probe` take for an instruction of a loop of arithmetic, and for a short program's whole run, on
-//! standard error.
-#![tactic(auto)]
+//! How long `run` and `probe` take for an instruction of a loop of arithmetic, and for a short program's whole run.
 
+use crate::asked::Size;
+use anyhow::Result;
 use bpf_decode::{Program, decode};
 use bpf_machine::probing::probe;
 use bpf_machine::{Accepted, ListPort, Probe, run};
@@ -9,18 +9,21 @@ use bpf_regions::{Context, Frame, Hook, Shapes};
 use bpf_verifier::verify;
 use std::alloc::Global;
 use std::io;
+use std::rt::Runtime;
 use std::time::Instant;
 
-/// `mov r0, 0; mov r1, 1000000;` then until R1 is 0 `add r0, 3; xor r0, r1; sub r1, 1; jne r1, 0, -4`, and `exit`.
-const LOOP: [u64; 7] = [
-    0xb700000000000000,
-    0xb701000040420f00,
-    0x0700000003000000,
-    0xaf10000000000000,
-    0x1701000001000000,
-    0x5501fcff00000000,
-    0x9500000000000000,
-];
+/// `mov r0, 0; mov r1, TURNS;` then until R1 is 0 `add r0, 3; xor r0, r1; sub r1, 1; jne r1, 0, -4`, and `exit`.
+fn loop_of(turns: u32) -> [u64; 7] {
+    [
+        0xb700000000000000,
+        0xb701000000000000 | u64::from(turns.swap_bytes()),
+        0x0700000003000000,
+        0xaf10000000000000,
+        0x1701000001000000,
+        0x5501fcff00000000,
+        0x9500000000000000,
+    ]
+}
 
 /// `mov r3, r1; add r3, 26; mov r0, 0; jgt r3, r2, +1; ldxb r0, [r1+24]; exit`.
 const SHORT: [u64; 6] = [
@@ -53,7 +56,7 @@ fn admitted(alloc: Global, slots: &[u64]) -> io::Result<Option<Accepted>> {
 }
 
 /// Runs the loop once by each machine.
-fn long_runs(rt: &HostRuntime, accepted: &Accepted, frame: &Frame<'_>) -> io::Result<()> {
+fn long_runs<R: Runtime>(rt: &R, accepted: &Accepted, frame: &Frame<'_>) -> io::Result<()> {
     let context = Context::new([0; 32]);
     let mut port = ListPort::new(accepted.program().shapes(), &[]);
     let before = Instant::now(rt)?;
@@ -76,32 +79,38 @@ fn long_runs(rt: &HostRuntime, accepted: &Accepted, frame: &Frame<'_>) -> io::Re
     Ok(())
 }
 
-/// Runs the short program a million times.
-fn short_runs(rt: &HostRuntime, accepted: &Accepted, frame: &Frame<'_>) -> io::Result<()> {
+/// Runs the short program so many times.
+fn short_runs<R: Runtime>(
+    rt: &R,
+    accepted: &Accepted,
+    frame: &Frame<'_>,
+    runs: u32,
+) -> io::Result<()> {
     let context = Context::new([0; 32]);
     let mut sum: u64 = 0;
     let before = Instant::now(rt)?;
-    for _turn in 0..1_000_000u32 {
+    for _turn in 0..runs {
         let mut port = ListPort::new(accepted.program().shapes(), &[]);
         let outcome = run(accepted, frame, &context, &mut port);
         sum = sum.wrapping_add(outcome.r0);
     }
     let spent = before.elapsed(rt)?.as_nanos();
-    eprintln!(rt; "run: 1000000 runs of 6 instructions in {spent} ns, sum {sum}")?;
+    eprintln!(rt; "run: {runs} runs of 6 instructions in {spent} ns, sum {sum}")?;
     Ok(())
 }
 
-fn main(rt: HostRuntime) -> io::Result<()> {
-    let alloc = rt.alloc();
+/// Prints how long the loop and the short runs take.
+pub fn print_times<R: Runtime>(rt: &R, alloc: Global, size: Size) -> Result<()> {
+    let count = size.choose(1_000_000, 10_000);
     let bytes = [7; 26];
     let Some(frame) = Frame::new(&bytes) else {
         return Ok(());
     };
-    if let Some(accepted) = admitted(alloc, &LOOP)? {
-        long_runs(&rt, &accepted, &frame)?;
+    if let Some(accepted) = admitted(alloc, &loop_of(count))? {
+        long_runs(rt, &accepted, &frame)?;
     }
     if let Some(accepted) = admitted(alloc, &SHORT)? {
-        short_runs(&rt, &accepted, &frame)?;
+        short_runs(rt, &accepted, &frame, count)?;
     }
     Ok(())
 }

@@ -1,14 +1,11 @@
-//! How long `parse` takes for a data frame of 1500 bytes and for an association request, on standard error.
-#![tactic(auto)]
+//! How long `parse` takes for a data frame of 1500 bytes and for an association request.
 
+use crate::asked::Size;
 use anyhow::Result;
 use mac_frame::parse;
 use std::alloc::{AllocError, Global};
 use std::rt::Runtime;
 use std::time::Instant;
-
-/// How often a frame is read.
-const TIMES: u64 = 1_000_000;
 
 /// An association request: SSID `lab` and four rates.
 const REQUEST: [u8; 39] = [
@@ -31,9 +28,9 @@ fn data_frame(alloc: Global) -> Result<Vec<u8>, AllocError> {
 }
 
 /// How many of so many readings found a frame.
-fn readings(alloc: Global, bytes: &[u8]) -> u64 {
+fn readings(alloc: Global, bytes: &[u8], times: u64) -> u64 {
     let mut found = 0u64;
-    for _ in 0..TIMES {
+    for _ in 0..times {
         if parse(alloc, bytes).is_ok() {
             found = found.wrapping_add(1);
         }
@@ -41,17 +38,19 @@ fn readings(alloc: Global, bytes: &[u8]) -> u64 {
     found
 }
 
-/// Reads a frame many times, and prints how long one reading took.
-fn report<R: Runtime>(rt: &R, alloc: Global, name: &str, bytes: &[u8]) -> Result<()> {
+/// Reads a frame so many times, and prints how long one reading took.
+fn report<R: Runtime>(rt: &R, alloc: Global, name: &str, bytes: &[u8], times: u64) -> Result<()> {
     let start = Instant::now(rt)?;
-    let found = readings(alloc, bytes);
-    let spent = start.elapsed(rt)?.as_nanos() / u128::from(TIMES);
+    let found = readings(alloc, bytes, times);
+    let spent = start.elapsed(rt)?.as_nanos() / u128::from(times.max(1));
     eprintln!(rt; "{name}: {found} read, {spent} ns each")?;
     Ok(())
 }
 
-fn main(rt: HostRuntime) -> Result<()> {
-    let alloc = rt.alloc();
-    report(&rt, alloc, "data of 1500 bytes", &data_frame(alloc)?)?;
-    report(&rt, alloc, "association request", &REQUEST)
+/// Reads a frame of each kind, a million times or 10000.
+pub fn print_times<R: Runtime>(rt: &R, alloc: Global, size: Size) -> Result<()> {
+    let times = size.choose(1_000_000, 10_000);
+    let data = data_frame(alloc)?;
+    report(rt, alloc, "data of 1500 bytes", &data, times)?;
+    report(rt, alloc, "association request", &REQUEST, times)
 }

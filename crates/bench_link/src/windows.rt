@@ -1,13 +1,11 @@
-//! How long a reorder buffer takes for a number: data in order, and data with every second pair
-//! swapped. The argument is how many pairs come; without one nothing is measured, nor printed.
-#![tactic(auto)]
+//! How long a reorder buffer takes for a number: data in order, and data with every second pair swapped.
 
 ghost use Rattle.std.specs.Prelude.{◌<◌};
 
+use crate::asked::{Size, Task};
 use anyhow::Result;
 use arrayvec::ArrayVec;
 use blockack::Agreement;
-use std::env;
 use std::rt::Runtime;
 use std::time::Instant;
 
@@ -52,7 +50,7 @@ fn report<R: Runtime>(
     handed_up: u64,
 ) -> Result<()> {
     let tenths = start.elapsed(rt)?.as_nanos() * 5 / (count as u128 + 1);
-    println!(rt;
+    eprintln!(rt;
         "{name}: {handed_up} handed up, {}.{} ns a number",
         tenths / 10,
         tenths % 10
@@ -60,18 +58,13 @@ fn report<R: Runtime>(
     Ok(())
 }
 
-fn main(rt: HostRuntime) -> Result<()> {
-    let mut count = 0u64;
-    for word in env::args(&rt)? {
-        count = word.as_str().parse::<u64>().unwrap_or(0);
-    }
-    if count == 0 {
-        return Ok(());
-    }
-    let start = Instant::now(&rt)?;
+/// Prints how long a number takes, of as many pairs as the task says.
+pub fn print_times<R: Runtime>(rt: &R, task: &Task, size: Size) -> Result<()> {
+    let count = task.number.unwrap_or(size.choose(1_000_000, 10_000));
+    let start = Instant::now(rt)?;
     let handed_up = pairs(count, false);
-    report(&rt, "in order", start, count, handed_up)?;
-    let start = Instant::now(&rt)?;
+    report(rt, "in order", start, count, handed_up)?;
+    let start = Instant::now(rt)?;
     let handed_up = pairs(count, true);
-    report(&rt, "every second pair swapped", start, count, handed_up)
+    report(rt, "every second pair swapped", start, count, handed_up)
 }

@@ -1,12 +1,12 @@
-//! How long a reader takes to enter a published set and to leave it, on standard error: by 1, 2 and 4 threads, alone
-//! and while a publisher publishes about 1000 times a second. The argument is how often each thread enters.
-#![tactic(auto)]
+//! How long a reader takes to enter a published set and to leave it: by 1, 2 and 4 threads, alone and while a publisher
+//! publishes about 1000 times a second.
 
 ghost use Rattle.std.specs.Prelude.{◌≡◌, IfOk, IfSome};
 ghost use Rattle.std.specs.Arc.{arc_value};
 ghost use Rattle.std.specs.Thread.{IsSync};
 ghost use Rattle.bpf_regions.specs.declared.hooks.Hook.TheVariants.{Data};
 
+use crate::asked::{Size, Task};
 use anyhow::{Result, bail};
 use bpf_decode::decode;
 use bpf_machine::Accepted;
@@ -14,7 +14,6 @@ use bpf_regions::{Hook, Shapes};
 use bpf_text::assemble;
 use bpf_verifier::verify;
 use std::alloc::Global;
-use std::env;
 use std::rt::{Clock, Runtime};
 use std::sync::atomic::AtomicU32;
 use std::sync::atomic::Ordering::SeqCst;
@@ -220,20 +219,17 @@ fn report<R: Threads + Wait + Clock + Runtime + Sync>(
     Ok(())
 }
 
-/// How many entries the arguments ask for, and 1000 where they don't say.
-fn entries_asked(rt: &HostRuntime) -> Result<u64> {
-    let mut entries = 1000u64;
-    for word in env::args(rt)? {
-        entries = word.as_str().parse::<u64>().unwrap_or(entries);
-    }
-    Ok(entries)
-}
-
-fn main(rt: HostRuntime) -> Result<()> {
-    let each = entries_asked(&rt)?;
+/// Prints what each measurement came to: as many entries of each thread as the task says.
+pub fn print_times<R: Threads + Wait + Clock + Runtime + Sync>(
+    rt: &R,
+    alloc: Global,
+    task: &Task,
+    size: Size,
+) -> Result<()> {
+    let each = task.number_or(0, u64::from(size.choose(100_000, 1000)));
     for publishes in [false, true] {
         for threads in [1, 2, 4] {
-            report(&rt, rt.alloc(), threads, each, publishes)?;
+            report(rt, alloc, threads, each, publishes)?;
         }
     }
     Ok(())

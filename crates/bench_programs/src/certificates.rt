@@ -1,21 +1,12 @@
-//! How long `verify`, `certificate` and `check` take for a program, and how long its certificate is, on standard error.
-//! The arguments are programs, and how many times each is measured in turn (once, if left out); of the times the least
-//! is printed. A program is one of
-//!
-//! - `loop`: a loop of three instructions with 1000 turns;
-//! - `joins`: two ways that join again, 1000 times one after another;
-//! - `FILE`, `FILE+CONFIG`: the program that a file's hex digits spell, for no maps or those of a configuration.
-#![tactic(auto)]
+//! How long `verify`, `certificate` and `check` take for a program, and how long its certificate is.
 
-mod programs;
-
+use crate::asked::{Size, Task};
+use crate::certified::{Code, code_of, program_of};
 use anyhow::Result;
 use bpf_cert::{certificate, check};
 use bpf_regions::Hook;
 use bpf_verifier::verify;
-use programs::{Code, code_of, program_of};
 use std::alloc::Global;
-use std::env;
 use std::rt::Runtime;
 use std::time::Instant;
 
@@ -103,21 +94,36 @@ fn report<R: Runtime>(rt: &R, alloc: Global, name: &str, code: &Code, times: u64
     Ok(())
 }
 
-fn main(rt: HostRuntime) -> Result<()> {
-    let alloc = rt.alloc();
-    let mut times = 1;
-    let mut names = Vec::new(alloc);
-    for word in env::args(&rt)? {
-        match word.as_str().parse::<u64>() {
-            Ok(number) => times = number,
-            Err(_) => names.push(word)?,
-        }
+/// Measures the program with a name so many times: a loop and joins have so many turns.
+fn report_named<R: Runtime + AllocGlobal>(
+    rt: &R,
+    alloc: Global,
+    name: &str,
+    turns: u32,
+    times: u64,
+) -> Result<()> {
+    match code_of(rt, alloc, name, turns)? {
+        Some(code) => report(rt, alloc, name, &code, times)?,
+        None => eprintln!(rt; "{name}: no program")?,
     }
-    for name in names.iter().skip(1) {
-        match code_of(&rt, alloc, name.as_str())? {
-            Some(code) => report(&rt, alloc, name.as_str(), &code, times)?,
-            None => eprintln!(&rt; "{name}: no program")?,
-        }
+    Ok(())
+}
+
+/// Measures the programs of a task so many times: a loop and joins, and once, where it doesn't say.
+pub fn print_times<R: Runtime + AllocGlobal>(
+    rt: &R,
+    alloc: Global,
+    task: &Task,
+    size: Size,
+) -> Result<()> {
+    let turns = size.choose(1000, 100);
+    let times = task.number_or(0, 1);
+    if task.programs.is_empty() {
+        report_named(rt, alloc, "loop", turns, times)?;
+        report_named(rt, alloc, "joins", turns, times)?;
+    }
+    for name in &task.programs {
+        report_named(rt, alloc, name.as_str(), turns, times)?;
     }
     Ok(())
 }

@@ -1,18 +1,12 @@
-//! How long programs take to be verified, on standard error. The arguments are the name of a shape of program, a
-//! number of turns, and how many times it is verified in turn (once, if left out):
-//!
-//! - `loop`: a loop of three instructions, so many turns;
-//! - `joins`: two ways that join again, so many times one after another;
-//! - `spin`: a jump to itself, which is given up after 2^22 states.
-#![tactic(auto)]
+//! How long programs take to be verified.
 
+use crate::asked::{Size, Task};
 use anyhow::Result;
 use bpf_decode::{Program, decode};
 use bpf_regions::{Hook, Shapes};
 use bpf_text::assemble;
 use bpf_verifier::verify;
 use std::alloc::{AllocError, Global};
-use std::env;
 use std::fmt::Write;
 use std::rt::Runtime;
 use std::time::Instant;
@@ -70,49 +64,26 @@ fn report<R: Runtime>(rt: &R, alloc: Global, name: &str, case: (String, u64)) ->
     Ok(())
 }
 
-/// Verifies a program of each shape that the name takes in.
+/// Verifies a program of a shape with so many turns.
 fn measure<R: Runtime>(rt: &R, alloc: Global, name: &str, turns: u64) -> Result<()> {
-    if name == "spin" {
-        return report(rt, alloc, "spin", spin(alloc)?);
+    match name {
+        "spin" => report(rt, alloc, "spin", spin(alloc)?),
+        "joins" => report(rt, alloc, "joins", joins(alloc, turns)?),
+        _ => report(rt, alloc, "loop", turns_of_a_loop(alloc, turns)?),
     }
-    if name != "joins" {
-        report(rt, alloc, "loop", turns_of_a_loop(alloc, turns)?)?;
-    }
-    if name != "loop" {
-        report(rt, alloc, "joins", joins(alloc, turns)?)?;
-    }
-    Ok(())
 }
 
-/// What the arguments ask for.
-#[derive(Drop)]
-struct Asked {
-    name: String,
-    turns: u64,
-    times: u64,
-}
-
-/// Reads the arguments: 1000 turns and once, where they don't say.
-fn read_arguments(rt: &HostRuntime) -> Result<Asked> {
-    let alloc = rt.alloc();
-    let mut name = String::new(alloc);
-    let mut numbers = Vec::new(alloc);
-    for word in env::args(rt)? {
-        match word.as_str().parse::<u64>() {
-            Ok(number) => numbers.push(number)?,
-            Err(_) => name = word,
+/// Verifies the programs of a task so many times: a loop and joins, and once, where it doesn't say.
+pub fn print_times<R: Runtime>(rt: &R, alloc: Global, task: &Task, size: Size) -> Result<()> {
+    let turns = task.number_or(0, u64::from(size.choose(5000, 1000)));
+    for _time in 0..task.number_or(1, 1) {
+        if task.programs.is_empty() {
+            measure(rt, alloc, "loop", turns)?;
+            measure(rt, alloc, "joins", turns)?;
         }
-    }
-    let turns = numbers.first().copied().unwrap_or(1000);
-    let times = numbers.get(1).copied().unwrap_or(1);
-    Ok(Asked { name, turns, times })
-}
-
-fn main(rt: HostRuntime) -> Result<()> {
-    let alloc = rt.alloc();
-    let asked = read_arguments(&rt)?;
-    for _time in 0..asked.times {
-        measure(&rt, alloc, asked.name.as_str(), asked.turns)?;
+        for name in &task.programs {
+            measure(rt, alloc, name.as_str(), turns)?;
+        }
     }
     Ok(())
 }

@@ -1,5 +1,4 @@
-//! How long 16384 lines take to be assembled, decoded and written as text again, on standard error.
-#![tactic(auto)]
+//! How long 16384 lines take to be assembled, decoded and written as text again.
 
 use anyhow::Result;
 use bpf_decode::{Program, decode};
@@ -42,22 +41,22 @@ fn report<R: Runtime>(rt: &R, name: &str, start: Instant) -> Result<()> {
     Ok(())
 }
 
-fn main(rt: HostRuntime) -> Result<()> {
-    let alloc = rt.alloc();
+/// Prints how long each step takes.
+pub fn print_times<R: Runtime>(rt: &R, alloc: Global) -> Result<()> {
     let text = text(alloc)?;
-    let start = Instant::now(&rt)?;
+    let start = Instant::now(rt)?;
     let Ok(code) = assemble(alloc, text.as_str()) else {
         return Ok(());
     };
-    report(&rt, "assemble", start)?;
-    let start = Instant::now(&rt)?;
+    report(rt, "assemble", start)?;
+    let start = Instant::now(rt)?;
     let Some(program) = program(alloc, &code) else {
         return Ok(());
     };
-    report(&rt, "decode", start)?;
-    let start = Instant::now(&rt)?;
+    report(rt, "decode", start)?;
+    let start = Instant::now(rt)?;
     let again = disassemble(alloc, &program)?;
-    report(&rt, "disassemble", start)?;
+    report(rt, "disassemble", start)?;
     let alike = again.as_str() == text.as_str();
     eprintln!(rt;
         "{} slots, the text {}",

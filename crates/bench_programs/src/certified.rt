@@ -1,4 +1,4 @@
-//! The programs that are measured.
+//! The programs whose certificates are measured.
 
 use anyhow::Result;
 use apd_config::read_configuration;
@@ -16,21 +16,18 @@ pub struct Code {
     shapes: Vec<Shape>,
 }
 
-/// How many turns a loop has, and how many ways join again.
-const TURNS: u32 = 1000;
-
-/// A loop.
-fn turns_of_a_loop(alloc: Global) -> Result<String, AllocError> {
+/// A loop of so many turns.
+fn turns_of_a_loop(alloc: Global, turns: u32) -> Result<String, AllocError> {
     let mut text = String::new(alloc);
-    writeln!(&mut text, "mov r0, 0\nmov r1, {TURNS}")?;
+    writeln!(&mut text, "mov r0, 0\nmov r1, {turns}")?;
     text.push_str("add r0, 1\nsub r1, 1\njne r1, 0, -3\nexit\n")?;
     Ok(text)
 }
 
-/// Two ways that join again, one after another.
-fn joins(alloc: Global) -> Result<String, AllocError> {
+/// Two ways that join again, so many times one after another.
+fn joins(alloc: Global, turns: u32) -> Result<String, AllocError> {
     let mut text = String::new(alloc);
-    for _turn in 0..TURNS {
+    for _turn in 0..turns {
         text.push_str("call 4\njgt r0, 7, +1\nmov r0, 0\n")?;
     }
     text.push_str("mov r0, 0\nexit\n")?;
@@ -66,17 +63,18 @@ fn shapes_of<R: rt::Files + AllocGlobal>(rt: &R, alloc: Global, path: &str) -> R
     Ok(shapes)
 }
 
-/// The code with a name, as `main` has it.
+/// The code with a name, as `main` has it. A loop and joins have so many turns.
 pub fn code_of<R: rt::Files + AllocGlobal>(
     rt: &R,
     alloc: Global,
     name: &str,
+    turns: u32,
 ) -> Result<Option<Code>> {
     if name == "loop" {
-        return Ok(assembled(alloc, turns_of_a_loop(alloc)?.as_str()));
+        return Ok(assembled(alloc, turns_of_a_loop(alloc, turns)?.as_str()));
     }
     if name == "joins" {
-        return Ok(assembled(alloc, joins(alloc)?.as_str()));
+        return Ok(assembled(alloc, joins(alloc, turns)?.as_str()));
     }
     match name.split_once('+') {
         None => Ok(Some(Code {

@@ -1,0 +1,123 @@
+//! What the words of the command line ask for.
+
+use std::alloc::{AllocError, Global};
+
+/// A benchmark.
+#[derive(Clone, Copy)]
+pub enum Benchmark {
+    Frames,
+    Windows,
+    Link,
+}
+
+/// All of them, in the order in which they are measured where no word chooses.
+const ALL: [Benchmark; 3] = [Benchmark::Frames, Benchmark::Windows, Benchmark::Link];
+
+impl Benchmark {
+    /// The benchmark that a word chooses.
+    fn named(word: &str) -> Option<Benchmark> {
+        match word {
+            "frames" => Some(Benchmark::Frames),
+            "windows" => Some(Benchmark::Windows),
+            "link" => Some(Benchmark::Link),
+            _ => None,
+        }
+    }
+
+    /// Whether a number behind the benchmark's name says how much it measures.
+    fn has_number(self) -> bool {
+        match self {
+            Benchmark::Windows | Benchmark::Link => true,
+            Benchmark::Frames => false,
+        }
+    }
+}
+
+/// How much is measured of what has no number of its own.
+#[derive(Clone, Copy)]
+pub enum Size {
+    Full,
+    Quick,
+}
+
+impl Size {
+    /// The number for this size.
+    pub fn choose(self, full: u64, quick: u64) -> u64 {
+        match self {
+            Size::Full => full,
+            Size::Quick => quick,
+        }
+    }
+}
+
+/// A benchmark that is asked for, and the number behind its name.
+#[derive(Drop)]
+pub struct Task {
+    pub benchmark: Benchmark,
+    pub number: Option<u64>,
+}
+
+impl Task {
+    /// A benchmark with no number behind its name yet.
+    fn new(benchmark: Benchmark) -> Task {
+        Task {
+            benchmark,
+            number: None,
+        }
+    }
+
+    /// Takes the word behind the benchmark's name, or gives it back where it means nothing there.
+    fn take(&mut self, word: String) -> Option<String> {
+        match word.as_str().parse::<u64>() {
+            Ok(number) if self.benchmark.has_number() && self.number.is_none() => {
+                self.number = Some(number);
+                None
+            }
+            _ => Some(word),
+        }
+    }
+}
+
+/// What the words ask for.
+#[derive(Drop)]
+pub struct Asked {
+    pub size: Size,
+    chosen: Vec<Task>,
+}
+
+impl Asked {
+    /// What no word asks for: all, in full.
+    pub fn new(alloc: Global) -> Asked {
+        Asked {
+            size: Size::Full,
+            chosen: Vec::new(alloc),
+        }
+    }
+
+    /// Takes another word, or gives it back where it means nothing there.
+    pub fn take(&mut self, word: String) -> Result<Option<String>, AllocError> {
+        if word.as_str() == "quick" {
+            self.size = Size::Quick;
+            return Ok(None);
+        }
+        if let Some(benchmark) = Benchmark::named(word.as_str()) {
+            self.chosen.push(Task::new(benchmark))?;
+            return Ok(None);
+        }
+        match self.chosen.last_mut() {
+            Some(task) => Ok(task.take(word)),
+            None => Ok(Some(word)),
+        }
+    }
+
+    /// The tasks that were chosen, or each benchmark where none was.
+    pub fn finish(self) -> Result<Vec<Task>, AllocError> {
+        let mut tasks = self.chosen;
+        if tasks.is_empty() {
+            for benchmark in ALL {
+                tasks.push(Task::new(benchmark))?;
+            }
+        }
+        Ok(tasks)
+    }
+}

@@ -1,0 +1,205 @@
+//! How long a shard takes for a data frame of 100 bytes and of 1500: of one associated station in an agreement, and of
+//! 500 stations in agreements in turn, 250 in each of two shards; and how long a copy of the frame takes.
+
+use crate::asked::{Size, Task};
+use anyhow::Result;
+use ap_core::{Event, LinkConfig, ListJudge, Octets, Out, Shard};
+use mac_frame::Address;
+use std::alloc::{AllocError, Global};
+use std::rt::Runtime;
+use std::time::Instant;
+
+/// The access point.
+const BSSID: [u8; 6] = [2, 0, 0, 0, 0, 1];
+
+/// How many stations are associated: each of two shards has identifiers for 250.
+const STATIONS: u16 = 500;
+
+/// The address of a station: even ones belong to shard 0, odd ones to shard 1.
+fn address(station: u16) -> [u8; 6] {
+    let [high, low] = (((station >> 1) << 3) | (station & 1)).to_be_bytes();
+    [2, 0, 0, 1, high, low]
+}
+
+/// An event of a station.
+#[derive(Drop)]
+struct Sent {
+    station: u16,
+    event: Event,
+}
+
+/// A frame to the access point: its first four bytes, three addresses, and what comes behind them.
+fn frame(alloc: Global, first: [u8; 4], station: u16, rest: &[u8]) -> Result<Sent, AllocError> {
+    let mut bytes = Vec::from_slice(alloc, &first)?;
+    bytes.extend_from_slice(&BSSID)?;
+    bytes.extend_from_slice(&address(station))?;
+    bytes.extend_from_slice(&BSSID)?;
+    bytes.extend_from_slice(rest)?;
+    Ok(Sent {
+        station,
+        event: Event::Frame(Octets::new(bytes)),
+    })
+}
+
+/// What an access point of network `lab` is made with.
+fn config(alloc: Global) -> Result<Option<LinkConfig>, AllocError> {
+    let ssid = Octets::copy(alloc, b"lab")?;
+    let rates = Octets::copy(alloc, &[0x82, 0x84, 0x8b, 0x96])?;
+    Ok(LinkConfig::new(Address::new(BSSID), ssid, rates))
+}
+
+/// Authentication of a station.
+fn authentication(alloc: Global, station: u16) -> Result<Sent, AllocError> {
+    let request = [0x10, 0, 0, 0, 1, 0, 0, 0];
+    frame(alloc, [0xb0, 0, 0, 0], station, &request)
+}
+
+/// Association of a station.
+fn association(alloc: Global, station: u16) -> Result<Sent, AllocError> {
+    let request = [0x10, 0, 1, 0, 10, 0, 0, 3, b'l', b'a', b'b', 1, 1, 0x82];
+    frame(alloc, [0, 0, 0, 0], station, &request)
+}
+
+/// A request for an agreement of size 64 for TID 0, from number 0 on, with no timeout.
+fn setup(alloc: Global, station: u16) -> Result<Sent, AllocError> {
+    let request = [0x10, 0, 3, 0, 7, 0x02, 0x10, 0, 0, 0, 0];
+    frame(alloc, [0xd0, 0, 0, 0], station, &request)
+}
+
+/// QoS data for TID 0 with a number and this many bytes.
+fn data(alloc: Global, station: u16, number: u16, size: u16) -> Result<Sent, AllocError> {
+    let mut rest = Vec::from_slice(alloc, &(number << 4).to_le_bytes())?;
+    rest.resize(usize::from(size) + 4, 0)?;
+    frame(alloc, [0x88, 0x01, 0, 0], station, &rest)
+}
+
+/// How many frames are passed up.
+fn ups(outs: &[Out]) -> u64 {
+    let mut passed = 0u64;
+    for out in outs {
+        if let Out::Up(_) = out {
+            passed = passed.wrapping_add(1);
+        }
+    }
+    passed
+}
+
+/// Two shards of one access point: that of the stations with even numbers, and that of the others.
+#[derive(Drop)]
+struct Halves {
+    even: Shard,
+    odd: Shard,
+}
+
+impl Halves {
+    /// Handles events, each in the shard of its station, and counts the frames that are passed up.
+    fn handle(&mut self, alloc: Global, events: &[Sent], answers: &[u64]) -> Result<u64> {
+        let mut judge = ListJudge::new(answers);
+        let mut passed = 0u64;
+        for sent in events {
+            let came = if sent.station & 1 == 0 {
+                self.even.handle(alloc, &sent.event, &mut judge)?
+            } else {
+                self.odd.handle(alloc, &sent.event, &mut judge)?
+            };
+            passed = passed.wrapping_add(ups(&came));
+        }
+        Ok(passed)
+    }
+}
+
+/// What is measured: data of how many stations in turn, each with numbers of its own, how many frames, and of how many
+/// bytes.
+#[derive(Clone, Copy)]
+struct Load {
+    stations: u16,
+    frames: u64,
+    size: u16,
+}
+
+/// The frames of a load.
+fn data_in_turn(alloc: Global, load: Load) -> Result<Vec<Sent>, AllocError> {
+    let mut events = Vec::new(alloc);
+    let mut station = 0u16;
+    let mut number = 0u16;
+    for _frame in 0..load.frames {
+        events.push(data(alloc, station, number, load.size)?)?;
+        station = station.wrapping_add(1);
+        if station >= load.stations {
+            station = 0;
+            number = number.wrapping_add(1) % 4096;
+        }
+    }
+    Ok(events)
+}
+
+/// Copies the bytes of each frame, and counts them.
+fn copied(alloc: Global, events: &[Sent]) -> Result<u64, AllocError> {
+    let mut bytes = 0u64;
+    for sent in events {
+        if let Event::Frame(frame) = &sent.event {
+            let copy = Octets::copy(alloc, frame.bytes())?;
+            bytes = bytes.wrapping_add(copy.bytes().len() as u64);
+        }
+    }
+    Ok(bytes)
+}
+
+/// Prints how long a load takes, whose agreements are new, and how long copies of its frames.
+fn report<R: Runtime>(rt: &R, alloc: Global, halves: &mut Halves, load: Load) -> Result<()> {
+    for station in 0..load.stations {
+        halves.handle(alloc, &[setup(alloc, station)?], &[64])?;
+    }
+    let events = data_in_turn(alloc, load)?;
+    let start = Instant::now(rt)?;
+    let passed = halves.handle(alloc, &events, &[])?;
+    let nanos = start.elapsed(rt)?.as_nanos();
+    let start = Instant::now(rt)?;
+    let bytes = copied(alloc, &events)?;
+    let copying = start.elapsed(rt)?.as_nanos();
+    let frames = u128::from(load.frames.max(1));
+    eprintln!(rt;
+        "stations {}, {} bytes: {} ns a frame, {passed} passed up; {} ns a copy, {bytes} bytes copied",
+        load.stations,
+        load.size,
+        nanos / frames,
+        copying / frames
+    )?;
+    Ok(())
+}
+
+/// Associates all stations.
+fn associate(alloc: Global, halves: &mut Halves) -> Result<()> {
+    for station in 0..STATIONS {
+        let joining = [
+            authentication(alloc, station)?,
+            association(alloc, station)?,
+        ];
+        halves.handle(alloc, &joining, &[])?;
+    }
+    Ok(())
+}
+
+/// Prints how long each load takes, of as many frames as the task says.
+pub fn print_times<R: Runtime>(rt: &R, alloc: Global, task: &Task, size: Size) -> Result<()> {
+    let frames = task.number.unwrap_or(size.choose(20_000, 1000));
+    let Some(config) = config(alloc)? else {
+        return Ok(());
+    };
+    let mut halves = Halves {
+        even: Shard::new(alloc, 0, &config)?,
+        odd: Shard::new(alloc, 1, &config)?,
+    };
+    associate(alloc, &mut halves)?;
+    for size in [100, 1500] {
+        for stations in [1, STATIONS] {
+            let load = Load {
+                stations,
+                frames,
+                size,
+            };
+            report(rt, alloc, &mut halves, load)?;
+        }
+    }
+    Ok(())
+}
