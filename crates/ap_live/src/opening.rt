@@ -118,9 +118,16 @@ impl<B: Ledgers + Journals> LiveAp<B> {
             draw,
             workers,
         } = settings;
-        let shards = Shards::open(alloc, &link, new)?;
         let places = open_places(alloc, &shapes, workers)?;
-        let list = published(rt, alloc, shapes, workers)?;
+        let shards = Shards::open(alloc, &link, new)?;
+        let list = match published(rt, alloc, shapes, workers) {
+            Ok(list) => list,
+            Err(error) => {
+                // Given up by a call, since eight shards have many parts.
+                drop(shards);
+                return Err(error);
+            }
+        };
         Ok(assembled(shards, places, list, draw, workers))
     }
 
