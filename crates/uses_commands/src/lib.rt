@@ -1,4 +1,5 @@
-//! The program `apd` by rows: its words, its configuration, what is written of a text, and what each command answers.
+//! The program `apd` by rows: its words, its configuration, captures, what is written of a text, and what each command
+//! answers.
 #![tactic(auto)]
 
 #[cfg(test)]

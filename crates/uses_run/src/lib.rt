@@ -1,4 +1,5 @@
-//! The lines of a run and their order, and scripts that are run by several workers, shown by tests.
+//! Scripts, well formed and at fault, the lines of a run and their order, and scripts that are run by several workers,
+//! shown by tests.
 #![tactic(auto)]
 
 #[cfg(test)]

@@ -1,4 +1,4 @@
-//! Whole runs of scripts, with files in memory, shown by tests.
+//! Whole runs of scripts, with files in memory, and what is told of a run, shown by tests.
 #![tactic(auto)]
 
 #[cfg(test)]
