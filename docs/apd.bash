@@ -2,7 +2,7 @@
 _apd() {
     local word=${COMP_WORDS[COMP_CWORD]} options='' first=''
     case ${COMP_WORDS[1]} in
-        verify) options='--config --help' first='assoc addba data' ;;
+        verify) options='--config --explain --help' first='assoc addba data' ;;
         asm) options='--help' first='' ;;
         disasm) options='--config --slots --help' first='' ;;
         trace) options='--config --help' first='assoc addba data' ;;

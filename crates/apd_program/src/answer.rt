@@ -12,7 +12,7 @@ use bpf_verifier::{Fault, Refusal};
 use std::alloc::{AllocError, Global};
 
 /// What a command answers on standard output.
-#[derive(Debug, Drop)]
+#[derive(Drop)]
 pub enum Answer {
     /// The program is safe within the budget.
     Accepted { budget: u32 },

@@ -1,12 +1,16 @@
-//! The page on a refusal's number: the command `explain`.
+//! The page on a refusal's number, the command `explain`; and what `verify --explain` tells.
 
 ghost use Rattle.std.specs.Prelude.{◌≡◌, ◌⊎◌, IfOk, IfErr};
 ghost use Rattle.apd_program.specs.Pages.{IsPage, HasNoPage};
 
 use crate::answer::Answer;
 use crate::fault::ProgramFault;
+use apd_explain::{fault_text, reason_text};
 use apd_inputs::shown;
 use apd_refusals::{explain, page_text};
+use apd_words::Request;
+use bpf_decode::{DecodeFault, Program};
+use bpf_regions::Hook;
 use bpf_text::AsmFault;
 use std::alloc::{AllocError, Global};
 
@@ -56,4 +60,44 @@ fn told(alloc: Global, place: &str, number: u8) -> Result<Option<String>, AllocE
         page.title
     )?;
     Ok(Some(text))
+}
+
+/// The reason for a verdict in words, where it is asked for.
+#[derive(Drop)]
+pub(crate) struct Reason {
+    wanted: bool,
+    text: Result<Option<String>, AllocError>,
+}
+
+impl Reason {
+    /// No reason yet; it is wanted where the request says so.
+    pub(crate) fn wanted_by(request: &Request<'_>) -> Reason {
+        let wanted = match request {
+            Request::Verify { explain, .. } => *explain,
+            _ => false,
+        };
+        Reason {
+            wanted,
+            text: Ok(None),
+        }
+    }
+
+    /// What the verifier finds of a program.
+    pub(crate) fn explain(&mut self, alloc: Global, program: &Program, hook: Hook) {
+        if self.wanted {
+            self.text = reason_text(alloc, program, hook).map(Some);
+        }
+    }
+
+    /// What is wrong with code.
+    pub(crate) fn explain_fault(&mut self, alloc: Global, code: &[u8], fault: DecodeFault) {
+        if self.wanted {
+            self.text = fault_text(alloc, code, fault).map(Some);
+        }
+    }
+
+    /// The text, if there is one.
+    pub(crate) fn text(&self) -> &Result<Option<String>, AllocError> {
+        &self.text
+    }
 }

@@ -8,46 +8,59 @@ use apd_inputs::{FileFault, shown};
 use capture::CaptureFault;
 use hex::FromHexError;
 use std::alloc::{AllocError, Global};
-use thiserror::Error;
+use std::fmt;
 
 /// Why a command gives no answer. Its text is told on standard error.
-#[derive(Debug, Drop, Error)]
+#[derive(Drop)]
 pub(crate) enum ProgramFault {
-    #[error("apd: cannot read {path}: {why}")]
     Unreadable {
         path: String,
         why: FileFault,
     },
-    #[error("apd: {0}: not hex digits")]
     NoDigits(String),
-    #[error("apd: {path}: line {line}: `{found}` is no hex digit (`apd asm` takes assembler text)")]
     NoCode {
         path: String,
         line: u64,
         found: String,
     },
-    #[error("apd: {0}: an odd number of hex digits")]
     OddDigits(String),
-    #[error("apd: {path}: {fault}")]
     Config {
         path: String,
         fault: ConfigFault,
     },
-    #[error("apd: {path}: {fault}")]
     Capture {
         path: String,
         fault: CaptureFault,
     },
-    #[error("apd: no refusal has the number `{0}`")]
     NoPage(String),
-    #[error("apd: there is no command `{0}`; `apd help` lists them")]
     NoCommand(String),
-    #[error("apd: FRAME: more than 2400 bytes")]
     LongFrame,
-    #[error("apd: `{0}` is not there yet")]
     NotThere(&'static str),
-    #[error("apd: out of memory")]
     NoMemory,
+}
+
+impl fmt::Display for ProgramFault {
+    fn fmt<W: fmt::Write>(&self, f: &mut fmt::Formatter<W>) -> fmt::Result {
+        match self {
+            ProgramFault::Unreadable { path, why } => write!(f, "apd: cannot read {path}: {why}"),
+            ProgramFault::NoDigits(name) => write!(f, "apd: {name}: not hex digits"),
+            ProgramFault::NoCode { path, line, found } => write!(
+                f,
+                "apd: {path}: line {line}: `{found}` is no hex digit (`apd asm` takes assembler text)"
+            ),
+            ProgramFault::OddDigits(name) => write!(f, "apd: {name}: an odd number of hex digits"),
+            ProgramFault::Config { path, fault } => write!(f, "apd: {path}: {fault}"),
+            ProgramFault::Capture { path, fault } => write!(f, "apd: {path}: {fault}"),
+            ProgramFault::NoPage(word) => write!(f, "apd: no refusal has the number `{word}`"),
+            ProgramFault::NoCommand(word) => write!(
+                f,
+                "apd: there is no command `{word}`; `apd help` lists them"
+            ),
+            ProgramFault::LongFrame => f.write_str("apd: FRAME: more than 2400 bytes"),
+            ProgramFault::NotThere(name) => write!(f, "apd: `{name}` is not there yet"),
+            ProgramFault::NoMemory => f.write_str("apd: out of memory"),
+        }
+    }
 }
 
 impl From<AllocError> for ProgramFault {

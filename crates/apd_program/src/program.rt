@@ -13,6 +13,7 @@ ghost use Rattle.apd_program.specs.Answers.{IsOfCode, IsOfText, IsTraced, IsAnsw
 ghost use Rattle.apd_program.specs.Program.{Performs, Runs};
 
 use crate::answer::Answer;
+use crate::explaining::Reason;
 use crate::fault::ProgramFault;
 use crate::printing::{complain, print, print_text, say, say_if_any};
 use crate::reading::{code, frame, read, setup_of};
@@ -60,14 +61,16 @@ fn perform<F: Files, O: Write, E: Write>(
 ) -> u8
     ensures is { Performs (F.held files.old) (asked_of request.entry) (O.contents out.old) (O.contents out.new) result }
 {
-    match answer(alloc, request, files) {
+    let mut reason = Reason::wanted_by(&request);
+    match answer(alloc, request, files, &mut reason) {
         Ok(answer) => {
             let sentence = explaining::sentence(alloc, &answer);
             let status = print(alloc, answer, out, err);
             say_if_any(&sentence, err);
-            status
+            say_if_any(reason.text(), err);
+            return status;
         }
-        Err(fault) => complain(alloc, &fault, err),
+        Err(fault) => return complain(alloc, &fault, err),
     }
 }
 
@@ -75,12 +78,18 @@ fn answer<F: Files>(
     alloc: Global,
     request: Request<'_>,
     files: &mut F,
+    reason: &mut Reason,
 ) -> Result<Answer, ProgramFault>
     ensures answer { IfOk result (IsAnswer (F.held files.old) (asked_of request.entry)) }
     ensures fault { IfErr result (λ e. (e ≡ ProgramFault.NoMemory) ⊎ HasNoAnswer (F.held files.old) (asked_of request.entry)) }
 {
     match request {
-        Request::Verify { hook, file, config } => verify(alloc, hook, file, config, files),
+        Request::Verify {
+            hook,
+            file,
+            config,
+            ..
+        } => verify(alloc, hook, file, config, files, reason),
         Request::Assemble { file } => assemble(alloc, file, files),
         Request::Disassemble {
             file,
@@ -114,13 +123,14 @@ fn verify<F: Files>(
     file: &str,
     config: Option<&str>,
     files: &mut F,
+    reason: &mut Reason,
 ) -> Result<Answer, ProgramFault>
     ensures verdict { IfOk result (λ a. IsOfCode (λ setup. IsVerdict IsBudget) (F.held files.old) file.now (option_map (λ path. path.now) config.entry) a) }
     ensures fault { IfErr result (λ e. (e ≡ ProgramFault.NoMemory) ⊎ IsAtFault (F.held files.old) file.now (option_map (λ path. path.now) config.entry)) }
 {
     let setup = setup_of(alloc, config, files)?;
     let code = code(alloc, file, files)?;
-    verifying::verify(alloc, code.as_slice(), setup.shapes, hook)
+    verifying::verify(alloc, code.as_slice(), setup.shapes, hook, reason)
 }
 
 /// The code of the text of a file.

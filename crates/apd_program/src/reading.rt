@@ -13,7 +13,7 @@ use bpf_regions::Shapes;
 use std::alloc::Global;
 
 /// What a configuration tells of the maps and the draws.
-#[derive(Debug, Drop)]
+#[derive(Drop)]
 pub(crate) struct Setup {
     /// The maps' shapes, by number.
     pub shapes: Shapes,

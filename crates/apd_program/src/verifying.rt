@@ -5,6 +5,7 @@ ghost use Rattle.apd_program.specs.Programs.{IsOfProgram};
 ghost use Rattle.apd_program.specs.Verifying.{IsVerdict, IsBudget, IsRun};
 
 use crate::answer::{Answer, refused, undecoded};
+use crate::explaining::Reason;
 use crate::fault::ProgramFault;
 use crate::reading::Setup;
 use apd_trace::trace_text;
@@ -13,10 +14,16 @@ use bpf_regions::{Frame, Hook, Shapes};
 use std::alloc::Global;
 
 /// The verifier's verdict on a program.
-fn admitted(alloc: Global, program: Program, hook: Hook) -> Result<Answer, ProgramFault>
+fn admitted(
+    alloc: Global,
+    program: Program,
+    hook: Hook,
+    reason: &mut Reason,
+) -> Result<Answer, ProgramFault>
     ensures verdict { IfOk result (IsVerdict IsBudget program) }
     ensures memory { IfErr result (λ e. e ≡ ProgramFault.NoMemory) }
 {
+    reason.explain(alloc, &program, hook);
     match bpf_verifier::verify(alloc, program, hook) {
         Ok(accepted) => Ok(Answer::Accepted {
             budget: accepted.budget(),
@@ -25,19 +32,23 @@ fn admitted(alloc: Global, program: Program, hook: Hook) -> Result<Answer, Progr
     }
 }
 
-/// The verdict on code, for maps of these shapes.
+/// The verdict on code, for maps of these shapes. The reason is told where it is asked for.
 pub(crate) fn verify(
     alloc: Global,
     code: &[u8],
     shapes: Shapes,
     hook: Hook,
+    reason: &mut Reason,
 ) -> Result<Answer, ProgramFault>
     ensures verdict { IfOk result (IsOfProgram (IsVerdict IsBudget) code.now shapes) }
     ensures memory { IfErr result (λ e. e ≡ ProgramFault.NoMemory) }
 {
     match decode(alloc, code, shapes) {
-        Ok(program) => admitted(alloc, program, hook),
-        Err(fault) => undecoded(fault),
+        Ok(program) => admitted(alloc, program, hook, reason),
+        Err(fault) => {
+            reason.explain_fault(alloc, code, fault);
+            undecoded(fault)
+        }
     }
 }
 

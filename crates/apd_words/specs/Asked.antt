@@ -21,9 +21,10 @@ pub data Asked : Type 0 where
   Frames : Text → Bool → Asked
   Help : Option Text → Asked
 
--- what a request asks for
+-- what a request asks for; `--explain` asks for nothing but a text on standard error
 abbrev pub asked_of : Request → Asked
-asked_of (request.Verify hook file config) = Verify hook file.now (option_map (λ s. s.now) config)
+asked_of (request.Verify hook file config explain) =
+    Verify hook file.now (option_map (λ s. s.now) config)
 asked_of (request.Assemble file) = Assemble file.now
 asked_of (request.Disassemble file config slots) =
     Disassemble file.now (option_map (λ s. s.now) config) slots
@@ -65,7 +66,7 @@ is_set flag rows = option_map_or (λ text. bytes_eq text (codes "true")) (first_
 abbrev pub hook_at : List Row → Option Hook
 hook_at rows = option_and_then hook_named (first_of (codes "HOOK") rows)
 
--- `verify HOOK FILE [--config C]`
+-- `verify HOOK FILE [--config C] [--explain]`
 abbrev pub verify_of : List Row → Option Asked
 verify_of rows = do
   hook ← hook_at rows

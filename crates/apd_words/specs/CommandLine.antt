@@ -64,9 +64,9 @@ command name rules = record (new_shape name) { rules = rules }
 abbrev pub hook_command : Text → ValueParser → List Rule → Shape
 hook_command name hooks more = command name (hook hooks ∷ file ∷ more)
 
--- `verify HOOK FILE [--config C]`
+-- `verify HOOK FILE [--config C] [--explain]`
 abbrev pub verify : ValueParser → Shape
-verify hooks = hook_command (codes "verify") hooks (config ∷ [])
+verify hooks = hook_command (codes "verify") hooks (config ∷ flag (codes "explain") ∷ [])
 
 -- `asm FILE`
 abbrev pub assemble : Shape

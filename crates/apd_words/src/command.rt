@@ -1,11 +1,11 @@
 //! The commands of `apd`, with their arguments and help.
 
-ghost use Rattle.std.specs.Prelude.{◌≡◌, ◌∷◌, false, codes, IfOk, []};
-ghost use Rattle.clap.specs.Words.{app_of, rule_of};
-ghost use Rattle.clap.specs.declared.builder.command.Command.TheViews.{out-Command as fields_of};
-ghost use Rattle.clap.specs.Simple.{shape_of};
+ghost use Rattle.std.specs.Prelude.{◌≡◌, false, IfOk, []};
+ghost use Rattle.clap.specs.Words.{App, Rule, Shape, app_of, rule_of, with_subcommand};
+ghost use Rattle.clap.specs.Simple.{new_shape};
 ghost use Rattle.clap.specs.declared.builder.value_parser.ValueParser.TheVariants.{Names};
-ghost use Rattle.apd_words.specs.CommandLine.{command_line, program, with_code_commands, with_run_commands, with_certificate_commands, with_reading_commands, hook_command, command, required, optional, flag, hook, file, config, workers, verify, assemble, disassemble, trace, run, certify, check, explain, frames, help};
+ghost use Rattle.apd_words.specs.Built.{IsProgram, IsCommand, with_argument};
+ghost use Rattle.apd_words.specs.CommandLine.{command_line, program, with_code_commands, with_run_commands, with_certificate_commands, with_reading_commands, hook_command, required, optional, flag, hook, file, config, workers, verify, assemble, disassemble, trace, run, certify, check, explain, frames, help};
 
 use clap::{Arg, ArgAction, Command};
 use std::alloc::{AllocError, Global};
@@ -24,243 +24,247 @@ const STATUSES: &str = "Exit status:
 
 `apd <COMMAND> --help` tells more of each command.";
 
+/// A command, or want of memory, which ends its making.
+type Made<'a> = Result<Command<'a>, AllocError>;
+
 /// The whole command line, by the names of the hooks and of the numbers of workers.
 pub(crate) fn command_line<'a>(
     alloc: Global,
     hooks: &'a [&'a str],
     numbers: &'a [&'a str],
-) -> Result<Command<'a>, AllocError>
+) -> Made<'a>
     ensures is { IfOk result
         (λ c. app_of c ≡ command_line (Names hooks.entry) (Names numbers.entry)) }
 {
-    let command = with_code_commands(alloc, program(alloc), hooks)?;
-    let command = with_run_commands(alloc, command, hooks, numbers)?;
-    let command = with_certificate_commands(alloc, command, hooks)?;
-    with_reading_commands(alloc, command)
+    let line = with_code_commands(alloc, program(alloc), hooks);
+    let line = with_run_commands(alloc, line, hooks, numbers);
+    let line = with_certificate_commands(alloc, line, hooks);
+    with_reading_commands(alloc, line)
 }
 
 /// The program without its commands.
-fn program<'a>(alloc: Global) -> Command<'a>
-    ensures is { app_of result ≡ program }
-    ensures local { (fields_of result).has_globals ≡ false }
+fn program<'a>(alloc: Global) -> Made<'a>
+    ensures is { IfOk result (IsProgram program) }
 {
-    Command::new(alloc, "apd")
-        .version(VERSION)
-        .about("A programmable 802.11 access point with verified eBPF hooks")
-        .after_help(STATUSES)
-        .subcommand_required(true)
-        .arg_required_else_help(true)
-        .disable_help_subcommand(true)
+    Ok(
+        Command::new(alloc, "apd")
+            .version(VERSION)
+            .about("A programmable 802.11 access point with verified eBPF hooks")
+            .after_help(STATUSES)
+            .subcommand_required(true)
+            .arg_required_else_help(true)
+            .disable_help_subcommand(true),
+    )
 }
 
-fn with_code_commands<'a>(
-    alloc: Global,
-    command: Command<'a>,
-    hooks: &'a [&'a str],
-) -> Result<Command<'a>, AllocError>
-    requires local { (fields_of command).has_globals ≡ false }
-    ensures is { IfOk result
-        (λ c. app_of c ≡ with_code_commands (Names hooks.entry) (app_of command.entry)) }
-    ensures local { IfOk result (λ c. (fields_of c).has_globals ≡ false) }
+/// A program with one more command.
+fn with_command<'a>(line: Made<'a>, command: Made<'a>) -> Made<'a>
+    ensures is { (a : App) (s : Shape) → IfOk line.entry (IsProgram a)
+        → IfOk command.entry (IsCommand s) → IfOk result (IsProgram (with_subcommand a s)) }
 {
-    command
-        .subcommand(verify(alloc, hooks)?)?
-        .subcommand(assemble(alloc)?)?
-        .subcommand(disassemble(alloc)?)
+    let line = line?;
+    let command = command?;
+    line.subcommand(command)
+}
+
+fn with_code_commands<'a>(alloc: Global, line: Made<'a>, hooks: &'a [&'a str]) -> Made<'a>
+    ensures is { (a : App) → IfOk line.entry (IsProgram a)
+        → IfOk result (IsProgram (with_code_commands (Names hooks.entry) a)) }
+{
+    let line = with_command(line, verify(alloc, hooks));
+    let line = with_command(line, assemble(alloc));
+    with_command(line, disassemble(alloc))
 }
 
 fn with_run_commands<'a>(
     alloc: Global,
-    command: Command<'a>,
+    line: Made<'a>,
     hooks: &'a [&'a str],
     numbers: &'a [&'a str],
-) -> Result<Command<'a>, AllocError>
-    requires local { (fields_of command).has_globals ≡ false }
-    ensures is { IfOk result (λ c. app_of c
-        ≡ with_run_commands (Names hooks.entry) (Names numbers.entry) (app_of command.entry)) }
-    ensures local { IfOk result (λ c. (fields_of c).has_globals ≡ false) }
+) -> Made<'a>
+    ensures is { (a : App) → IfOk line.entry (IsProgram a) → IfOk result
+        (IsProgram (with_run_commands (Names hooks.entry) (Names numbers.entry) a)) }
 {
-    command
-        .subcommand(trace(alloc, hooks)?)?
-        .subcommand(run(alloc, numbers)?)
+    let line = with_command(line, trace(alloc, hooks));
+    with_command(line, run(alloc, numbers))
 }
 
-fn with_certificate_commands<'a>(
-    alloc: Global,
-    command: Command<'a>,
-    hooks: &'a [&'a str],
-) -> Result<Command<'a>, AllocError>
-    requires local { (fields_of command).has_globals ≡ false }
-    ensures is { IfOk result
-        (λ c. app_of c ≡ with_certificate_commands (Names hooks.entry) (app_of command.entry)) }
-    ensures local { IfOk result (λ c. (fields_of c).has_globals ≡ false) }
+fn with_certificate_commands<'a>(alloc: Global, line: Made<'a>, hooks: &'a [&'a str]) -> Made<'a>
+    ensures is { (a : App) → IfOk line.entry (IsProgram a)
+        → IfOk result (IsProgram (with_certificate_commands (Names hooks.entry) a)) }
 {
-    command
-        .subcommand(certify(alloc, hooks)?)?
-        .subcommand(check(alloc, hooks)?)
+    let line = with_command(line, certify(alloc, hooks));
+    with_command(line, check(alloc, hooks))
 }
 
-fn with_reading_commands<'a>(alloc: Global, command: Command<'a>) -> Result<Command<'a>, AllocError>
-    requires local { (fields_of command).has_globals ≡ false }
-    ensures is { IfOk result (λ c. app_of c ≡ with_reading_commands (app_of command.entry)) }
+fn with_reading_commands<'a>(alloc: Global, line: Made<'a>) -> Made<'a>
+    ensures is { (a : App) → IfOk line.entry (IsProgram a)
+        → IfOk result (IsProgram (with_reading_commands a)) }
 {
-    command
-        .subcommand(explain(alloc)?)?
-        .subcommand(frames(alloc)?)?
-        .subcommand(help(alloc)?)
+    let line = with_command(line, explain(alloc));
+    let line = with_command(line, frames(alloc));
+    with_command(line, help(alloc))
+}
+
+/// A command without arguments, and what it is about.
+fn named<'a>(alloc: Global, name: &'a str, about: &'a str) -> Made<'a>
+    ensures is { IfOk result (IsCommand (new_shape name.entry.now)) }
+{
+    Ok(Command::new(alloc, name).about(about))
+}
+
+/// A command with one more argument.
+fn with_arg<'a>(command: Made<'a>, arg: Arg<'a>) -> Made<'a>
+    requires local { arg.global ≡ false }
+    ensures is { (s : Shape) (r : Rule) → IfOk command.entry (IsCommand s)
+        → rule_of arg.entry ≡ r → IfOk result (IsCommand (with_argument s r)) }
+{
+    let command = command?;
+    command.arg(arg)
 }
 
 /// A command on code for a hook.
-fn hook_command<'a>(
-    alloc: Global,
-    name: &'a str,
-    hooks: &'a [&'a str],
-) -> Result<Command<'a>, AllocError>
+fn hook_command<'a>(alloc: Global, name: &'a str, about: &'a str, hooks: &'a [&'a str]) -> Made<'a>
     ensures is { IfOk result
-        (λ c. shape_of c ≡ hook_command name.entry.now (Names hooks.entry) []) }
-    ensures local { IfOk result (λ c. (fields_of c).has_globals ≡ false) }
+        (IsCommand (hook_command name.entry.now (Names hooks.entry) [])) }
 {
-    Command::new(alloc, name)
-        .arg(hook(alloc, hooks))?
-        .arg(code(alloc))
+    let command = with_arg(named(alloc, name, about), hook(alloc, hooks));
+    with_arg(command, code(alloc))
 }
 
-fn verify<'a>(alloc: Global, hooks: &'a [&'a str]) -> Result<Command<'a>, AllocError>
-    ensures is { IfOk result (λ c. shape_of c ≡ verify (Names hooks.entry)) }
-    ensures local { IfOk result (λ c. (fields_of c).has_globals ≡ false) }
+fn verify<'a>(alloc: Global, hooks: &'a [&'a str]) -> Made<'a>
+    ensures is { IfOk result (IsCommand (verify (Names hooks.entry))) }
 {
-    hook_command(alloc, "verify", hooks)?
-        .about("Verify a program for a hook and print its budget")
-        .arg(config(alloc))
+    let about = "Verify a program for a hook and print its budget";
+    let command = with_arg(hook_command(alloc, "verify", about, hooks), config(alloc));
+    let why = "Tell on standard error why, and what is known there";
+    with_arg(command, flag(alloc, "explain", why))
 }
 
-fn assemble<'a>(alloc: Global) -> Result<Command<'a>, AllocError>
-    ensures is { IfOk result (λ c. shape_of c ≡ assemble) }
-    ensures local { IfOk result (λ c. (fields_of c).has_globals ≡ false) }
+fn assemble<'a>(alloc: Global) -> Made<'a>
+    ensures is { IfOk result (IsCommand assemble) }
 {
-    Command::new(alloc, "asm")
-        .about("Assemble a text and print its code, one slot a line")
-        .arg(required(alloc, "FILE").help("Assembler text"))
+    let command = named(
+        alloc,
+        "asm",
+        "Assemble a text and print its code, one slot a line",
+    );
+    with_arg(command, required(alloc, "FILE", "Assembler text"))
 }
 
-/// A command on code for maps.
-fn code_command<'a>(alloc: Global, name: &'a str) -> Result<Command<'a>, AllocError>
-    ensures is { IfOk result (λ c. shape_of c ≡ command name.entry.now (file ∷ config ∷ [])) }
-    ensures local { IfOk result (λ c. (fields_of c).has_globals ≡ false) }
+fn disassemble<'a>(alloc: Global) -> Made<'a>
+    ensures is { IfOk result (IsCommand disassemble) }
 {
-    Command::new(alloc, name)
-        .arg(code(alloc))?
-        .arg(config(alloc))
+    let command = named(
+        alloc,
+        "disasm",
+        "Print a program's instructions, one a line",
+    );
+    let command = with_arg(with_arg(command, code(alloc)), config(alloc));
+    let slots = "Print each line's slot before it, and mark jump targets";
+    with_arg(command, flag(alloc, "slots", slots))
 }
 
-fn disassemble<'a>(alloc: Global) -> Result<Command<'a>, AllocError>
-    ensures is { IfOk result (λ c. shape_of c ≡ disassemble) }
-    ensures local { IfOk result (λ c. (fields_of c).has_globals ≡ false) }
+fn trace<'a>(alloc: Global, hooks: &'a [&'a str]) -> Made<'a>
+    ensures is { IfOk result (IsCommand (trace (Names hooks.entry))) }
 {
-    code_command(alloc, "disasm")?
-        .about("Print a program's instructions, one a line")
-        .arg(flag(alloc, "slots").help("Print each line's slot before it, and mark jump targets"))
+    let about = "Verify a program, run it on a frame and print each step";
+    let command = hook_command(alloc, "trace", about, hooks);
+    let command = with_arg(
+        command,
+        required(alloc, "FRAME", "The frame, as hex digits"),
+    );
+    with_arg(command, config(alloc))
 }
 
-fn trace<'a>(alloc: Global, hooks: &'a [&'a str]) -> Result<Command<'a>, AllocError>
-    ensures is { IfOk result (λ c. shape_of c ≡ trace (Names hooks.entry)) }
-    ensures local { IfOk result (λ c. (fields_of c).has_globals ≡ false) }
+fn run<'a>(alloc: Global, numbers: &'a [&'a str]) -> Made<'a>
+    ensures is { IfOk result (IsCommand (run (Names numbers.entry))) }
 {
-    hook_command(alloc, "trace", hooks)?
-        .about("Verify a program, run it on a frame and print each step")
-        .arg(required(alloc, "FRAME").help("The frame, as hex digits"))?
-        .arg(config(alloc))
+    let about = "Run a script of frames and commands on an access point";
+    let command = with_arg(
+        named(alloc, "run", about),
+        required(alloc, "C", "The configuration"),
+    );
+    let command = with_arg(command, required(alloc, "SCRIPT", "The script"));
+    let command = with_arg(command, workers(alloc, numbers));
+    with_arg(
+        command,
+        flag(alloc, "quiet", "Tell no progress on standard error"),
+    )
 }
 
-/// A command on a configuration and a script.
-fn script_command<'a>(alloc: Global, name: &'a str) -> Result<Command<'a>, AllocError>
-    ensures is { IfOk result (λ c. shape_of c
-        ≡ command name.entry.now (required (codes "C") ∷ required (codes "SCRIPT") ∷ [])) }
-    ensures local { IfOk result (λ c. (fields_of c).has_globals ≡ false) }
+fn certify<'a>(alloc: Global, hooks: &'a [&'a str]) -> Made<'a>
+    ensures is { IfOk result (IsCommand (certify (Names hooks.entry))) }
 {
-    Command::new(alloc, name)
-        .arg(required(alloc, "C").help("The configuration"))?
-        .arg(required(alloc, "SCRIPT").help("The script"))
+    let about = "Verify a program and print its certificate in hex";
+    with_arg(hook_command(alloc, "cert", about, hooks), config(alloc))
 }
 
-fn run<'a>(alloc: Global, numbers: &'a [&'a str]) -> Result<Command<'a>, AllocError>
-    ensures is { IfOk result (λ c. shape_of c ≡ run (Names numbers.entry)) }
-    ensures local { IfOk result (λ c. (fields_of c).has_globals ≡ false) }
+fn check<'a>(alloc: Global, hooks: &'a [&'a str]) -> Made<'a>
+    ensures is { IfOk result (IsCommand (check (Names hooks.entry))) }
 {
-    script_command(alloc, "run")?
-        .about("Run a script of frames and commands on an access point")
-        .arg(workers(alloc, numbers))?
-        .arg(flag(alloc, "quiet").help("Tell no progress on standard error"))
+    let about = "Check a program's certificate and print the budget";
+    let command = with_arg(
+        hook_command(alloc, "check", about, hooks),
+        required(alloc, "CERT", "The certificate, as hex digits"),
+    );
+    with_arg(command, config(alloc))
 }
 
-fn certify<'a>(alloc: Global, hooks: &'a [&'a str]) -> Result<Command<'a>, AllocError>
-    ensures is { IfOk result (λ c. shape_of c ≡ certify (Names hooks.entry)) }
-    ensures local { IfOk result (λ c. (fields_of c).has_globals ≡ false) }
+fn explain<'a>(alloc: Global) -> Made<'a>
+    ensures is { IfOk result (IsCommand explain) }
 {
-    hook_command(alloc, "cert", hooks)?
-        .about("Verify a program and print its certificate in hex")
-        .arg(config(alloc))
+    let command = named(alloc, "explain", "Explain the number of a refusal");
+    let number = "The number, as `fault N` or `refused N` names it";
+    with_arg(command, required(alloc, "NUMBER", number))
 }
 
-fn check<'a>(alloc: Global, hooks: &'a [&'a str]) -> Result<Command<'a>, AllocError>
-    ensures is { IfOk result (λ c. shape_of c ≡ check (Names hooks.entry)) }
-    ensures local { IfOk result (λ c. (fields_of c).has_globals ≡ false) }
+fn frames<'a>(alloc: Global) -> Made<'a>
+    ensures is { IfOk result (IsCommand frames) }
 {
-    hook_command(alloc, "check", hooks)?
-        .about("Check a program's certificate and print the budget")
-        .arg(required(alloc, "CERT").help("The certificate, as hex digits"))?
-        .arg(config(alloc))
+    let about = "Print a capture's frames as a script for `apd run`";
+    let capture = "A capture of 802.11 frames, as pcap or pcapng";
+    let command = with_arg(
+        named(alloc, "frames", about),
+        required(alloc, "CAPTURE", capture),
+    );
+    with_arg(
+        command,
+        flag(alloc, "no-ticks", "Leave out the time between frames"),
+    )
 }
 
-fn explain<'a>(alloc: Global) -> Result<Command<'a>, AllocError>
-    ensures is { IfOk result (λ c. shape_of c ≡ explain) }
-    ensures local { IfOk result (λ c. (fields_of c).has_globals ≡ false) }
+fn help<'a>(alloc: Global) -> Made<'a>
+    ensures is { IfOk result (IsCommand help) }
 {
-    Command::new(alloc, "explain")
-        .about("Explain the number of a refusal")
-        .arg(required(alloc, "NUMBER").help("The number, as `fault N` or `refused N` names it"))
+    let command = named(alloc, "help", "Print this help, or that of a command");
+    with_arg(command, optional(alloc, "COMMAND", "The command"))
 }
 
-fn frames<'a>(alloc: Global) -> Result<Command<'a>, AllocError>
-    ensures is { IfOk result (λ c. shape_of c ≡ frames) }
-    ensures local { IfOk result (λ c. (fields_of c).has_globals ≡ false) }
-{
-    Command::new(alloc, "frames")
-        .about("Print a capture's frames as a script for `apd run`")
-        .arg(required(alloc, "CAPTURE").help("A capture of 802.11 frames, as pcap or pcapng"))?
-        .arg(flag(alloc, "no-ticks").help("Leave out the time between frames"))
-}
-
-fn help<'a>(alloc: Global) -> Result<Command<'a>, AllocError>
-    ensures is { IfOk result (λ c. shape_of c ≡ help) }
-    ensures local { IfOk result (λ c. (fields_of c).has_globals ≡ false) }
-{
-    Command::new(alloc, "help")
-        .about("Print this help, or that of a command")
-        .arg(optional(alloc, "COMMAND").help("The command"))
-}
-
-fn required<'a>(alloc: Global, name: &'a str) -> Arg<'a>
+fn required<'a>(alloc: Global, name: &'a str, help: &'a str) -> Arg<'a>
     ensures is { rule_of result ≡ required name.entry.now }
     ensures local { result.global ≡ false }
 {
-    Arg::new(alloc, name).required(true)
+    Arg::new(alloc, name).required(true).help(help)
 }
 
 /// An argument that may be left out, and is known by its place.
-fn optional<'a>(alloc: Global, name: &'a str) -> Arg<'a>
+fn optional<'a>(alloc: Global, name: &'a str, help: &'a str) -> Arg<'a>
     ensures is { rule_of result ≡ optional name.entry.now }
     ensures local { result.global ≡ false }
 {
-    Arg::new(alloc, name)
+    Arg::new(alloc, name).help(help)
 }
 
 /// `--NAME`
-fn flag<'a>(alloc: Global, name: &'a str) -> Arg<'a>
+fn flag<'a>(alloc: Global, name: &'a str, help: &'a str) -> Arg<'a>
     ensures is { rule_of result ≡ flag name.entry.now }
     ensures local { result.global ≡ false }
 {
-    Arg::new(alloc, name).long(name).action(ArgAction::SetTrue)
+    Arg::new(alloc, name)
+        .long(name)
+        .action(ArgAction::SetTrue)
+        .help(help)
 }
 
 fn hook<'a>(alloc: Global, hooks: &'a [&'a str]) -> Arg<'a>

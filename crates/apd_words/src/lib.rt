@@ -19,12 +19,14 @@ use std::alloc::AllocError;
 pub use words::read_words;
 
 /// What the words ask for. Paths and frames are as they were written.
-#[derive(Clone, Copy, Debug, PartialEq, Eq)]
+#[derive(Clone, Copy)]
 pub enum Request<'a> {
+    /// `explain` asks for the reason on standard error.
     Verify {
         hook: Hook,
         file: &'a str,
         config: Option<&'a str>,
+        explain: bool,
     },
     Assemble {
         file: &'a str,
@@ -73,7 +75,7 @@ pub enum Request<'a> {
 }
 
 /// Words that ask for nothing to be done: what is printed in place of an answer.
-#[derive(Debug, Drop)]
+#[derive(Drop)]
 pub enum Told {
     /// Help or the version, for standard output.
     Help(String),

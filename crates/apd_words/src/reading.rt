@@ -36,7 +36,13 @@ fn verify<'a>(matches: &ArgMatches<'a>) -> Option<Request<'a>>
     let hook = hook(matches)?;
     let file = value(matches, "FILE")?;
     let config = value(matches, "config");
-    Some(Request::Verify { hook, file, config })
+    let explain = flag(matches, "explain");
+    Some(Request::Verify {
+        hook,
+        file,
+        config,
+        explain,
+    })
 }
 
 fn assemble<'a>(matches: &ArgMatches<'a>) -> Option<Request<'a>>

@@ -5,7 +5,7 @@
 //! - `verifier`: programs are verified. Behind it come their shapes (`loop`: a loop of three instructions; `joins`: two
 //!   ways that join again, one after another; `spin`: a jump to itself, which is given up after 2^22 states), how many
 //!   turns they have, and how many times they are verified in turn;
-//! - `machine`: `run` and `probe` on a loop of arithmetic, and whole runs of a short program;
+//! - `machine`: `run` on the workloads of `bench/peers` and on `mov` and `exit`, `probe` on one of them, and `enter`;
 //! - `certificates`: `verify`, `certificate` and `check`. Behind it come programs (`loop`, `joins`, as above; `FILE` or
 //!   `FILE+CONFIG`: the program that the hex digits of a file spell, which is named `.hex`, for no maps or those of a
 //!   configuration), and how many times each is measured in turn, of which the least is printed;

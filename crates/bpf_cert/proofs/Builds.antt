@@ -11,7 +11,7 @@ use Rattle.bpf_cert_format.specs.declared.frame.Frame.{Frame}
 use Rattle.bpf_cert_format.specs.Fits.{FitsFrame, FitsEntry, IsMainFirst}
 use Rattle.bpf_cert_format.specs.Views.{EntryView}
 use Rattle.bpf_cert.proofs.Filling.{same_within}
-use Rattle.bpf_cert.specs.Built.{filled, built}
+use Rattle.bpf_cert.specs.Built.{filled, built, blank_view}
 use Rattle.bpf_cert.specs.States.{frames_after, newest_registers}
 
 pub length-frames_after : (kept : List AbsVal) (fs : List Frame) → length (frames_after kept fs) ≡ length fs
@@ -113,10 +113,16 @@ taken fs k le = length-take-le k fs le
 
 -- ---- as a loop over the frames builds it
 
-pub begins : (fs : List Frame) (s t : View) (f : Frame) → 1 ≤ length fs → IsMainFirst fs → f ≡ get_or fs 0 f → s ≡ entry_view → t ≡ filled s 0 f → t ≡ built (take 1 fs)
+filled_blank : (f : Frame) → filled blank_view 0 f ≡ filled entry_view 0 f
+filled_blank f = refl
+
+pub entry_eleven : length entry_view.registers ≡ 11
+entry_eleven = refl
+
+pub begins : (fs : List Frame) (s t : View) (f : Frame) → 1 ≤ length fs → IsMainFirst fs → f ≡ get_or fs 0 f → s ≡ blank_view → t ≡ filled s 0 f → t ≡ built (take 1 fs)
 begins [] s t f some main is e h = absurd (omega (arith, some))
 begins (g ∷ gs) s t f some main is e h =
-    h ∙ ap (λ (x : View). filled x 0 f) e ∙ ap (λ (x : Frame). filled entry_view 0 x) is ∙ built_first g main
+    h ∙ ap (λ (x : View). filled x 0 f) e ∙ filled_blank f ∙ ap (λ (x : Frame). filled entry_view 0 x) is ∙ built_first g main
 
 pub depth_of : (fs : List Frame) (k : ℕ) (s : View) → k ≤ length fs → s ≡ built (take k fs) → length s.frames ≡ k
 depth_of fs k s le e = ap (λ (x : View). length x.frames) e ∙ length-frames_after main_frame.kept (take k fs) ∙ taken fs k le

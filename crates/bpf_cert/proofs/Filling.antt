@@ -5,7 +5,7 @@ use Rattle.bpf_absval.specs.declared.slot.AbsSlot.{AbsSlot}
 use Rattle.bpf_absval.specs.declared.slot.AbsSlot.TheVariants.{Unset}
 use Rattle.bpf_absstate.specs.declared.frames.CallFrame.{CallFrame}
 use Rattle.bpf_absval.specs.declared.value.AbsVal.{AbsVal}
-use Rattle.bpf_absstate.specs.View.{View, frame_of, stack_of, empty_stack, with_slot, with_register}
+use Rattle.bpf_absstate.specs.View.{View, frame_of, stack_of, empty_stack, with_slot, register, with_register}
 use Rattle.bpf_cert.specs.Built.{with_stack}
 
 module _ {X : Type 0} where
@@ -56,6 +56,12 @@ put_unset a k i h =
     let frame : set a.frames k (record (frame_of a k) { stack = set (stack_of a k) i Unset }) ≡ a.frames =
     ap (λ (s : List AbsSlot). set a.frames k (record (frame_of a k) { stack = s })) stack ∙ set_same a.frames k _ in
     ap (λ (fs : List CallFrame). record a { frames = fs }) (sym frame)
+
+-- a value that is put where it is
+pub put_there : (a : View) (r : ℕ) (v : AbsVal) → register a r ≡ v → a ≡ with_register a r v
+put_there a r v h =
+    let same : set a.registers r v ≡ a.registers = ap (λ (x : AbsVal). set a.registers r x) (sym h) ∙ set_same a.registers r _ in
+    ap (λ (xs : List AbsVal). record a { registers = xs }) (sym same)
 
 -- a slot more of a stack that is filled
 pub stack_more : (a : View) (k : ℕ) (s t : List AbsSlot) (i : ℕ) (x : AbsSlot) → k < length a.frames → set s i x ≡ t → with_slot (with_stack a k s) k i x ≡ with_stack a k t

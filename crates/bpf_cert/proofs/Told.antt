@@ -4,11 +4,11 @@ use Rattle.std.specs.Prelude.{IfOk}
 use Rattle.std.specs.declared.alloc.AllocError.{AllocError}
 use Rattle.std.proofs.lemmas.Bool.{true≢false}
 use Rattle.bpf_insn.specs.declared.insn.Insn.{Insn}
-use Rattle.bpf_decode.specs.Program.{Code, Holds, IsTarget}
+use Rattle.bpf_decode.specs.Program.{Code, Holds, IsTarget, Begins}
 use Rattle.bpf_decode.proofs.Whole.{same_insn}
 use Rattle.bpf_absstate.specs.View.{View}
 use Rattle.bpf_absstate.specs.Inclusion.{state_included}
-use Rattle.bpf_plain.specs.Standing.{Stands, EachWay}
+use Rattle.bpf_plain.specs.Standing.{EachWay}
 use Rattle.bpf_rules.specs.declared.fault.Fault.{Fault}
 use Rattle.bpf_rules.specs.declared.ways.Ways.{Ways}
 use Rattle.bpf_rules.specs.declared.ways.Ways.TheVariants.{Two}
@@ -37,7 +37,7 @@ IsSame-self P = record { back = λ x. x; forth = λ x. x }
 
 pub goes_same : (c : Code) (es : List Claim) (n : ℕ) (P Q : Type 0) (s : Step) → (P → Q) → (Q → P) → Goes c es n P s → Goes c es n Q s
 goes_same c es n P Q (Decided told) f g h = tells_same told P Q f g h
-goes_same c es n P Q (Onward x) f g h = (record { back = λ l. f (h.0.back l); forth = λ q. h.0.forth (g q) }, h.1)
+goes_same c es n P Q (Onward x) f g h = record { back = λ l. f (h.back l); forth = λ q. h.forth (g q) }
 
 module _ (c : Code) (es : List Claim) (n : ℕ) where
   -- at a target slot
@@ -45,8 +45,8 @@ module _ (c : Code) (es : List Claim) (n : ℕ) where
   at_target x told t h = tells_same told (IsIncluded es x n) (Arrives c es n x) (λ i. inl (t, i)) (λ a. elim a [ inl k ↦ k.1 | inr k ↦ absurd (k.0 t) ]) h
 
   -- at another slot
-  pub elsewhere : (x : View) → (IsTarget c.slots x.pc → ⊥) → Stands c.slots x → Goes c es n (Arrives c es n x) (Onward x)
-  elsewhere x other stands = (record { back = λ l. inr (other, l); forth = λ a. elim a [ inl k ↦ absurd (other k.0) | inr k ↦ k.1 ] }, stands)
+  pub elsewhere : (x : View) → (IsTarget c.slots x.pc → ⊥) → Goes c es n (Arrives c es n x) (Onward x)
+  elsewhere x other = record { back = λ l. inr (other, l); forth = λ a. elim a [ inl k ↦ absurd (other k.0) | inr k ↦ k.1 ] }
 
   -- both ways
   pub second_in : (x y : View) (s : Step) → IsTarget c.slots y.pc → IsIncluded es y n → Goes c es n (Arrives c es n x) s → Goes c es n (EachWay (Two x y) (Arrives c es n)) s
@@ -96,3 +96,11 @@ told_false r P e h = subst (λ (b : Bool). Tells b P) e h
 pub refused_goes : (c : Code) (es : List Claim) (n : ℕ) (P Q : Type 0) (r : Result Step AllocError) → IfOk r (λ told. (told ≡ Decided false) × Q) → (Q → P → ⊥) → IfOk r (Goes c es n P)
 refused_goes c es n P Q (Ok s) h k = subst (Goes c es n P) (sym h.0) (k h.1)
 refused_goes c es n P Q (Err e) h k = tt
+
+-- no instruction begins there
+pub not_begun : (c : Code) (es : List Claim) (n : ℕ) (a : View) → (Begins c.slots a.pc → ⊥) → LeadsWithin c es (n + 1) a → ⊥
+unfolding LeadsWithin
+not_begun c es n a out h =
+    let more : n + 1 ≡ suc n = omega arith in
+    let leads : LeadsWithin c es (suc n) a = subst (λ (m : ℕ). LeadsWithin c es m a) more h in
+    out (leads.0, leads.2)

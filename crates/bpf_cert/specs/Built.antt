@@ -1,7 +1,8 @@
 -- How the state of an entry is built, call frame by call frame.
-use Rattle.std.specs.Prelude.{ℕ, ◌-◌, List, [], ◌∷◌, ◌++◌, length, drop, slice_set}
+use Rattle.std.specs.Prelude.{ℕ, ◌-◌, List, [], ◌∷◌, ◌++◌, length, drop, slice_set, replicate}
 use Rattle.bpf_absval.specs.declared.slot.AbsSlot.{AbsSlot}
 use Rattle.bpf_absval.specs.declared.value.AbsVal.{AbsVal}
+use Rattle.bpf_absval.specs.declared.value.AbsVal.TheVariants.{Unset}
 use Rattle.bpf_absstate.specs.View.{View, entry_view, frame_of, main_frame, stack_end}
 use Rattle.bpf_cert_format.specs.declared.frame.Frame.{Frame}
 use Rattle.bpf_cert.specs.States.{frames_after, newest_registers}
@@ -9,6 +10,10 @@ use Rattle.bpf_cert.specs.States.{frames_after, newest_registers}
 -- other values in R0 to R9
 abbrev pub with_values : View → List AbsVal → View
 with_values a values = record a { registers = values ++ drop 10 a.registers }
+
+-- the state in which nothing is known
+abbrev pub blank_view : View
+blank_view = with_values entry_view (replicate 10 Unset)
 
 -- another stack in call frame k
 abbrev pub with_stack : View → ℕ → List AbsSlot → View

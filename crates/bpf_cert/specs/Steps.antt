@@ -3,7 +3,6 @@ use Rattle.std.specs.Prelude.{◌≡◌, ◌⊎◌, ◌<◌, ◌≤◌, ℕ, Boo
 use Rattle.std.specs.List.{Any}
 use Rattle.bpf_decode.specs.Program.{Code, IsTarget}
 use Rattle.bpf_absstate.specs.View.{View, entry_view}
-use Rattle.bpf_plain.specs.Standing.{Stands}
 use Rattle.bpf_rules.specs.declared.ways.Ways.{Ways}
 use Rattle.bpf_rules.specs.declared.ways.Ways.TheVariants.{Two}
 use Rattle.bpf_cert.specs.declared.claim.Claim.{Claim}
@@ -27,7 +26,7 @@ pub record IsSame (P Q : Type 0) : Type 0 where
 -- a step that says why the claim fails, or leads to other claims within their budgets
 abbrev pub Goes : Code → List Claim → ℕ → Type 0 → Step → Type 0
 Goes c es n P (Decided told) = Tells told P
-Goes c es n P (Onward x) = IsSame P (LeadsWithin c es n x) × Stands c.slots x
+Goes c es n P (Onward x) = IsSame P (LeadsWithin c es n x)
 
 -- a jump leads to a target slot
 abbrev pub SecondIsTarget : Code → Ways → Type 0

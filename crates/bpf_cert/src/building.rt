@@ -2,10 +2,10 @@
 
 ghost use Rattle.std.specs.Prelude.{◌≡◌, ◌<◌, ◌≤◌, [], length, OnOk, IfOk, slice_index_or};
 ghost use Rattle.std.specs.List.{All};
-ghost use Rattle.bpf_absstate.specs.View.{frame_of, empty_stack, with_slot, stack_of};
+ghost use Rattle.bpf_absstate.specs.View.{frame_of, empty_stack, with_slot, with_register, stack_of};
 ghost use Rattle.bpf_absval.specs.declared.slot.AbsSlot.TheVariants.{Unset};
 ghost use Rattle.bpf_cert_format.specs.Fits.{FitsEntry, IsMainFirst, Rise};
-ghost use Rattle.bpf_cert.specs.Built.{with_values, with_stack, filled, built};
+ghost use Rattle.bpf_cert.specs.Built.{with_values, with_stack, blank_view, filled, built};
 ghost use Rattle.bpf_cert.specs.States.{state_of as describes};
 
 use bpf_absstate::AbsState;
@@ -15,6 +15,19 @@ use bpf_insn::Reg;
 use bpf_stack::Stack;
 use std::alloc::{AllocError, Global};
 
+/// Puts a value into a register. One that is unset and stays so stays shared.
+#[tactic(auto, using(crate::proofs::Filling::put_there))]
+fn put_value(state: &mut AbsState, register: Reg, value: AbsVal) -> Result<(), AllocError>
+    ensures is { OnOk result (state.new ≡ with_register state.old register value) }
+{
+    let before = state.register(register);
+    if matches!(value, AbsVal::Unset) && matches!(before, AbsVal::Unset) {
+        return Ok(());
+    }
+    state.set_register(register, value)?;
+    Ok(())
+}
+
 /// Puts ten values into R0 to R9.
 fn put_values(state: &mut AbsState, values: &[AbsVal]) -> Result<(), AllocError>
     requires all { length values.now ≡ 10 }
@@ -22,9 +35,20 @@ fn put_values(state: &mut AbsState, values: &[AbsVal]) -> Result<(), AllocError>
     ensures is { OnOk result (state.new ≡ with_values state.old values.now) }
 {
     for number in 0..10 {
-        state.set_register(Reg::new(number as u8), values[number])?;
+        put_value(state, Reg::new(number as u8), values[number])?;
     }
     Ok(())
+}
+
+/// The state in which nothing is known. Those of entries are copies of it, which share what they leave as it is.
+#[tactic(auto, using(crate::proofs::Builds::entry_eleven))]
+pub(crate) fn blank(alloc: Global) -> Result<AbsState, AllocError>
+    ensures is { IfOk result (λ state. state ≡ blank_view) }
+{
+    let mut state = AbsState::entry(alloc)?;
+    let values = [AbsVal::Unset; 10];
+    put_values(&mut state, &values)?;
+    Ok(state)
 }
 
 /// Puts what a stack slot holds that is unset so far.
@@ -68,14 +92,15 @@ fn fill(state: &mut AbsState, k: usize, frame: &Frame) -> Result<(), AllocError>
 }
 
 /// The state with these call frames, of which nothing else is known.
-fn with_frames(alloc: Global, frames: &[Frame]) -> Result<AbsState, AllocError>
+fn with_frames(alloc: Global, blank: &AbsState, frames: &[Frame]) -> Result<AbsState, AllocError>
+    requires blank { blank.now ≡ blank_view }
     requires some { 1 ≤ length frames.now }
     requires few { length frames.now ≤ 8 }
     requires main { IsMainFirst frames.now }
     requires all { All (λ f. length f.registers ≡ 10) frames.now }
     ensures is { IfOk result (λ state. state ≡ built frames.now) }
 {
-    let mut state = AbsState::entry(alloc)?;
+    let mut state = blank.clone()?;
     fill(&mut state, 0, &frames[0])?;
     for k in 1..frames.len() {
         state.whole();
@@ -100,11 +125,17 @@ fn put_rooms(state: &mut AbsState, rooms: &[Room]) -> Result<(), AllocError>
 
 /// The state that an entry describes.
 #[tactic(auto, using(crate::proofs::Builds::registers_ten, crate::proofs::Builds::some_frames))]
-pub(crate) fn state_of(alloc: Global, maps: usize, entry: &Entry) -> Result<AbsState, AllocError>
+pub(crate) fn state_of(
+    alloc: Global,
+    maps: usize,
+    blank: &AbsState,
+    entry: &Entry,
+) -> Result<AbsState, AllocError>
+    requires blank { blank.now ≡ blank_view }
     requires fits { FitsEntry maps entry.now }
     ensures is { IfOk result (λ state. state ≡ describes entry.now) }
 {
-    let mut state = with_frames(alloc, entry.frames())?;
+    let mut state = with_frames(alloc, blank, entry.frames())?;
     put_rooms(&mut state, entry.rooms())?;
     state.raise_least(entry.least());
     state.go_to(entry.pc() as usize);

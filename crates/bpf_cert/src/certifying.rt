@@ -8,6 +8,7 @@ use crate::checking::certified_budget;
 use crate::describing::described;
 use crate::fault::CertFault;
 use crate::sifting::sifted;
+use crate::widening::widened;
 use bpf_cert_format::{Certificate, Entry, WriteFault, write};
 use bpf_decode::{Program, encode};
 use bpf_machine::Accepted;
@@ -34,10 +35,11 @@ fn describe(
 fn entries_of(
     alloc: Global,
     program: &Program,
-    finished: Vec<Finished>,
+    finished: &[Finished],
 ) -> Result<Vec<Entry>, AllocError> {
+    let claims = widened(alloc, program, finished)?;
     let mut entries = Vec::new(alloc);
-    for mut of_slot in sifted(alloc, program, finished)? {
+    for mut of_slot in sifted(alloc, program, claims.as_slice())? {
         of_slot.sort_by_key(|one| one.budget)?;
         describe(alloc, &mut entries, of_slot.as_slice())?;
     }
@@ -109,7 +111,7 @@ pub fn certificate(alloc: Global, accepted: &Accepted) -> Result<Vec<u8>, Refusa
     program.whole();
     standing_law();
     let finished = explore(alloc, program, hook)?;
-    let entries = entries_of(alloc, program, finished)?;
+    let entries = entries_of(alloc, program, &finished)?;
     match written(alloc, program, hook, entries) {
         Err(fault) => Err(unwritten(fault)),
         Ok(bytes) => proved(alloc, program, hook, bytes),

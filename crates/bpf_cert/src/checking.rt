@@ -12,9 +12,10 @@ ghost use Rattle.bpf_cert.specs.States.{claim_of};
 ghost use Rattle.bpf_cert.specs.Certified.{IsFor, FollowsCall, AllFollow, StandsWell, Shows, Finds};
 ghost use Rattle.bpf_cert.specs.Certified.{KeepsWithin, Covered, Refuses, Answers, Admits, IsAdmitted};
 
-use crate::claim::Claim;
+use crate::building::blank;
 use crate::claiming::claim;
-use crate::coverage::covered_budget;
+use crate::claims::Claims;
+use crate::coverage::{begins, covered_budget};
 use crate::fault::{CertFault, unread};
 use crate::laws::covered_law;
 use bpf_cert_format::{Certificate, Entry, Frame, read};
@@ -86,16 +87,6 @@ fn returns_well(program: &Program, frames: &[Frame]) -> bool
     all_follow(program, &frames[1..])
 }
 
-/// Whether an instruction begins at a slot.
-fn begins(program: &Program, slot: usize) -> bool
-    ensures is { Tells result (Begins program.now.slots slot) }
-{
-    match program.insn_at(slot) {
-        Some(Some(_)) => true,
-        _ => false,
-    }
-}
-
 /// Whether an entry stands at an instruction, and its functions return to slots after local calls.
 fn stands(program: &Program, entry: &Entry) -> bool
     ensures is { Tells result (StandsWell program.now entry.now) }
@@ -116,14 +107,16 @@ fn all_stand(program: &Program, entries: &[Entry]) -> bool
 }
 
 /// What entries claim.
-fn claims_of(alloc: Global, maps: usize, entries: &[Entry]) -> Result<Vec<Claim>, AllocError>
-    requires fit { All (FitsEntry maps) entries.now }
-    ensures is { IfOk result (λ v. v.items ≡ map claim_of entries.now) }
-    ensures whole { IfOk result (λ v. All (λ e. IsView e.state) v.items) }
+fn claims_of(alloc: Global, program: &Program, entries: &[Entry]) -> Result<Claims, AllocError>
+    requires fit { All (FitsEntry (length program.now.shapes)) entries.now }
+    ensures is { IfOk result (λ claims. claims ≡ map claim_of entries.now) }
+    ensures whole { IfOk result (All (λ e. IsView e.state)) }
 {
-    let mut claims = Vec::new(alloc);
+    let maps = program.shapes().len();
+    let blank = blank(alloc)?;
+    let mut claims = Claims::new(alloc, program.len())?;
     for entry in entries {
-        let claim = claim(alloc, maps, entry)?;
+        let claim = claim(alloc, maps, &blank, entry)?;
         claim.state.whole();
         claims.push(claim)?;
     }
@@ -153,11 +146,11 @@ fn shown_budget(
     if !all_stand(program, entries) {
         return Ok(None);
     }
-    let claims = claims_of(alloc, program.shapes().len(), entries)?;
+    let claims = claims_of(alloc, program, entries)?;
     program.whole();
     program.shapes().whole();
     covered_law();
-    let budget = covered_budget(alloc, program, claims.as_slice())?;
+    let budget = covered_budget(alloc, program, &claims)?;
     Ok(small(budget))
 }
 

@@ -3,11 +3,13 @@
 ghost use Rattle.std.specs.Prelude.{◌≡◌, IfOk, length, take};
 ghost use Rattle.std.specs.List.{All, list_all};
 ghost use Rattle.bpf_cert_format.specs.Fits.{FitsEntry};
+ghost use Rattle.bpf_cert.specs.Built.{blank_view};
 ghost use Rattle.bpf_cert.specs.States.{callers_free as free, claim_of};
 ghost use Rattle.bpf_rules.specs.Operands.{is_unset as unset};
 
 use crate::building::state_of;
 use crate::claim::Claim;
+use bpf_absstate::AbsState;
 use bpf_absval::AbsVal;
 use bpf_cert_format::{Entry, Frame};
 use std::alloc::{AllocError, Global};
@@ -49,13 +51,19 @@ fn callers_free(frames: &[Frame]) -> bool
     true
 }
 
-/// What an entry claims.
+/// What an entry claims. Its state is a copy of that in which nothing is known.
 #[tactic(auto, using(crate::proofs::Builds::registers_ten))]
-pub fn claim(alloc: Global, maps: usize, entry: &Entry) -> Result<Claim, AllocError>
+pub(crate) fn claim(
+    alloc: Global,
+    maps: usize,
+    blank: &AbsState,
+    entry: &Entry,
+) -> Result<Claim, AllocError>
+    requires blank { blank.now ≡ blank_view }
     requires fits { FitsEntry maps entry.now }
     ensures is { IfOk result (λ claim. claim ≡ claim_of entry.now) }
 {
-    let state = state_of(alloc, maps, entry)?;
+    let state = state_of(alloc, maps, blank, entry)?;
     Ok(Claim {
         state,
         budget: entry.budget(),

@@ -10,13 +10,16 @@ pub mod certifying;
 pub mod checking;
 pub mod claim;
 pub mod claiming;
+pub mod claims;
 pub mod coverage;
 mod describing;
 pub mod fault;
 pub mod laws;
 mod sifting;
+mod widening;
 
 pub use certifying::certificate;
 pub use checking::check;
 pub use claim::Claim;
+pub use claims::Claims;
 pub use fault::CertFault;

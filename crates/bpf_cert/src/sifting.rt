@@ -2,6 +2,7 @@
 
 ghost use Rattle.std.specs.Prelude.{◌≤◌};
 
+use crate::claim::Claim;
 use bpf_decode::Program;
 use bpf_prune::Entry;
 use std::alloc::{AllocError, Global};
@@ -48,17 +49,21 @@ fn empty_table(alloc: Global, slots: usize) -> Result<Vec<Vec<Entry>>, AllocErro
     Ok(table)
 }
 
-/// The finished states of a program by their slots. A state goes for which another one of its slot serves: one that
+/// The claims of a program by their slots. A state goes for which another one of its slot serves: one that
 /// includes it and has no greater budget, among 64 that were finished about the same time.
 pub(crate) fn sifted(
     alloc: Global,
     program: &Program,
-    entries: Vec<Entry>,
+    claims: &[Claim],
 ) -> Result<Vec<Vec<Entry>>, AllocError> {
     let mut table = empty_table(alloc, program.len())?;
-    for entry in entries {
-        let pc = entry.state.pc();
+    for claim in claims {
+        let pc = claim.state.pc();
         if pc < table.len() {
+            let entry = Entry {
+                state: claim.state.clone()?,
+                budget: claim.budget,
+            };
             add(&mut table[pc], entry)?;
         }
     }

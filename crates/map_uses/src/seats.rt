@@ -7,7 +7,6 @@ use bpf_regions::{MapOp, Scope, Shape, WordWidth};
 use shared_maps::{MapFault, MapSeat, MapTable};
 use std::alloc::{AllocError, Global};
 use std::process::Abort;
-use std::test::Fail;
 use std::thread::{Threads, join};
 
 fn two_words(width: WordWidth) -> Shape
@@ -70,53 +69,67 @@ fn add_in_two_threads<R: Threads + Sync>(
     Ok(answers)
 }
 
+/// A thousand adds in each of two threads, whose answers are all there once; what a third seat
+/// loads then.
+fn loaded_after_two_threads<R: Threads + Sync + Abort>(
+    rt: &R,
+    alloc: Global,
+    width: WordWidth,
+) -> u64 {
+    let mut table = MapTable::new(alloc, two_words(width), 3).expect(rt, "a table");
+    let one = table.seat().expect(rt, "a first seat");
+    let other = table.seat().expect(rt, "a second seat");
+    let mut third = table.seat().expect(rt, "a third seat");
+    let answers = add_in_two_threads(rt, alloc, &table, one, other).expect(rt, "memory");
+    assert_eq!(rt; answers.len(), 2000);
+    assert!(rt; answers.iter().copied().eq(0..2000));
+    table.access(&mut third, 0, MapOp::Load)
+}
+
 #[test]
-fn adds_of_two_threads_are_each_there_once(rt: HostRuntime) -> Result<(), Fail> {
+fn adds_of_two_threads_are_each_there_once(rt: HostRuntime) {
     for width in [WordWidth::Four, WordWidth::Eight] {
-        let mut table = MapTable::new(rt.alloc(), two_words(width), 3)?;
-        let one = table.seat()?;
-        let other = table.seat()?;
-        let mut third = table.seat()?;
-        let answers = add_in_two_threads(&rt, rt.alloc(), &table, one, other)?;
-        assert_eq!(rt; answers.len(), 2000);
-        assert!(rt; answers.iter().copied().eq(0..2000));
-        assert_eq!(rt; table.access(&mut third, 0, MapOp::Load), 2000);
+        assert_eq!(rt; loaded_after_two_threads(&rt, rt.alloc(), width), 2000);
     }
-    Ok(())
 }
 
-#[test]
-fn a_seat_alone_reads_what_it_stored(rt: HostRuntime) -> Result<(), Fail> {
-    let mut table = MapTable::new(rt.alloc(), two_words(WordWidth::Eight), 1)?;
-    let mut seat = table.seat()?;
+/// What a seat answers to a store of 9 in word 0, and then loads.
+fn stored_and_loaded(rt: &impl Abort, alloc: Global) -> (u64, u64) {
+    let (table, mut seat, _other) = table_of(rt, alloc, WordWidth::Eight);
     assert_eq!(rt; seat.number(), 1);
-    assert_eq!(rt; table.access(&mut seat, 0, MapOp::Store(9)), 0);
-    assert_eq!(rt; table.access(&mut seat, 0, MapOp::Load), 9);
-    Ok(())
+    let stored = table.access(&mut seat, 0, MapOp::Store(9));
+    (stored, table.access(&mut seat, 0, MapOp::Load))
 }
 
-#[test]
-fn a_short_number_does_not_carry_on(rt: HostRuntime) -> Result<(), Fail> {
-    let (table, mut one, _other) = table_of(&rt, rt.alloc(), WordWidth::Four);
-    assert_eq!(rt; table.access(&mut one, 1, MapOp::Store(7)), 0);
-    assert_eq!(rt; table.access(&mut one, 0, MapOp::Store(0xffff_ffff)), 0);
-    assert_eq!(rt; table.access(&mut one, 0, MapOp::Add(1)), 4294967295);
-    assert_eq!(rt; table.access(&mut one, 0, MapOp::Load), 0);
-    assert_eq!(rt; table.access(&mut one, 1, MapOp::Load), 7);
-    Ok(())
+/// What is answered to the greatest short number in word 0 and to 1 more, and what the two words
+/// are then, of which the second was 7.
+fn carried(rt: &impl Abort, alloc: Global) -> (u64, u64, u64, u64) {
+    let (table, mut one, _other) = table_of(rt, alloc, WordWidth::Four);
+    table.access(&mut one, 1, MapOp::Store(7));
+    let stored = table.access(&mut one, 0, MapOp::Store(0xffff_ffff));
+    let added = table.access(&mut one, 0, MapOp::Add(1));
+    let first = table.access(&mut one, 0, MapOp::Load);
+    (stored, added, first, table.access(&mut one, 1, MapOp::Load))
 }
 
-#[test]
-fn a_seat_reads_what_the_seat_that_it_met_stored(rt: HostRuntime) -> Result<(), Fail> {
-    let (table, mut one, mut other) = table_of(&rt, rt.alloc(), WordWidth::Eight);
-    assert_eq!(rt; table.access(&mut one, 1, MapOp::Store(12)), 0);
+/// What the second seat loads from a word, once it has met the first, which stored 12 there.
+fn met(rt: &impl Abort, alloc: Global) -> u64 {
+    let (table, mut one, mut other) = table_of(rt, alloc, WordWidth::Eight);
+    table.access(&mut one, 1, MapOp::Store(12));
     table.meet(&mut one, &mut other);
-    assert_eq!(rt; table.access(&mut other, 1, MapOp::Load), 12);
-    Ok(())
+    table.access(&mut other, 1, MapOp::Load)
 }
 
 #[test]
-fn each_operation_at_each_width(rt: HostRuntime) -> Result<(), Fail> {
+fn seats_read_what_is_stored(rt: HostRuntime) {
+    assert_eq!(rt; stored_and_loaded(&rt, rt.alloc()), (0, 9));
+    // a short number does not carry on
+    assert_eq!(rt; carried(&rt, rt.alloc()), (0, 4294967295, 0, 7));
+    assert_eq!(rt; met(&rt, rt.alloc()), 12);
+}
+
+#[test]
+fn each_operation_at_each_width(rt: HostRuntime) {
     for (width, all_ones) in [(WordWidth::Four, 0xffff_ffff), (WordWidth::Eight, u64::MAX)] {
         let (table, mut seat, _other) = table_of(&rt, rt.alloc(), width);
         for (operation, answer) in [
@@ -151,26 +164,32 @@ fn each_operation_at_each_width(rt: HostRuntime) -> Result<(), Fail> {
         }
         assert_eq!(rt; table.access(&mut seat, 0, MapOp::Load), 0);
     }
-    Ok(())
+}
+
+const LARGEST: Shape = Shape {
+    entries: 4096,
+    words: 8,
+    width: WordWidth::Four,
+    scope: Scope::Worker,
+};
+
+/// What a swap with 3 answers in the last word of the largest map, and what is loaded from there
+/// and from the word before.
+fn swapped_last(rt: &impl Abort, alloc: Global) -> (u64, u64, u64) {
+    let mut table = MapTable::new(alloc, LARGEST, 1).expect(rt, "a table");
+    assert!(rt; table.shape() == LARGEST);
+    let mut seat = table.seat().expect(rt, "a seat");
+    let swapped = table.access(&mut seat, 32767, MapOp::Swap(3));
+    let last = table.access(&mut seat, 32767, MapOp::Load);
+    (swapped, last, table.access(&mut seat, 32766, MapOp::Load))
 }
 
 #[test]
-fn the_last_word_of_the_largest_map(rt: HostRuntime) -> Result<(), Fail> {
-    let shape = Shape {
-        entries: 4096,
-        words: 8,
-        width: WordWidth::Four,
-        scope: Scope::Worker,
-    };
-    let mut table = MapTable::new(rt.alloc(), shape, 1)?;
-    assert_eq!(rt; table.shape(), shape);
-    let mut seat = table.seat()?;
-    assert_eq!(rt; table.access(&mut seat, 32767, MapOp::Swap(3)), 0);
-    assert_eq!(rt; table.access(&mut seat, 32767, MapOp::Load), 3);
-    assert_eq!(rt; table.access(&mut seat, 32766, MapOp::Load), 0);
-    Ok(())
+fn the_last_word_of_the_largest_map(rt: HostRuntime) {
+    assert_eq!(rt; swapped_last(&rt, rt.alloc()), (0, 3, 0));
 }
 
+/// The number of a fault, 0 where there is none.
 fn refused<T: Drop>(answer: Result<T, MapFault>) -> u8 {
     match answer {
         Ok(_) => 0,
@@ -178,38 +197,49 @@ fn refused<T: Drop>(answer: Result<T, MapFault>) -> u8 {
     }
 }
 
-#[test]
-fn seats_are_limited(rt: HostRuntime) -> Result<(), Fail> {
-    for seats in [0, 17, u32::MAX] {
-        let shape = two_words(WordWidth::Eight);
-        assert_eq!(rt;
-            refused(MapTable::new(rt.alloc(), shape, seats)),
-            62,
-            "{seats} seats"
-        );
+/// A table gives so many seats, with their numbers, and none after them.
+fn gives(rt: &impl Abort, alloc: Global, seats: u32) {
+    let shape = two_words(WordWidth::Eight);
+    let mut table = MapTable::new(alloc, shape, seats).expect(rt, "a table");
+    for number in 1..=seats {
+        assert_eq!(rt; table.seat().expect(rt, "a seat").number(), number);
     }
-    for seats in [1, 2, 16] {
-        let mut table = MapTable::new(rt.alloc(), two_words(WordWidth::Eight), seats)?;
-        for number in 1..=seats {
-            assert_eq!(rt; table.seat()?.number(), number);
-        }
-        assert_eq!(rt; refused(table.seat()), 62, "one more than {seats} seats");
-        assert_eq!(rt; refused(table.seat()), 62, "two more than {seats} seats");
-    }
-    Ok(())
+    assert_eq!(rt; refused(table.seat()), 62, "one more than {seats} seats");
+    assert_eq!(rt; refused(table.seat()), 62, "two more than {seats} seats");
 }
 
 #[test]
-fn faults_have_numbers_and_texts(rt: HostRuntime) -> Result<(), Fail> {
-    assert_eq!(rt; MapFault::from(AllocError).number(), 40);
-    let alloc = rt.alloc();
-    assert_eq!(rt;
-        format!(in alloc; "{}", MapFault::NoMemory)?.as_str(),
-        "no memory for a table of map words"
+fn seats_are_limited(rt: HostRuntime) {
+    for seats in [0, 17, u32::MAX] {
+        let shape = two_words(WordWidth::Eight);
+        let number = refused(MapTable::new(rt.alloc(), shape, seats));
+        assert_eq!(rt; number, 62, "{seats} seats");
+    }
+    for seats in [1, 2, 16] {
+        gives(&rt, rt.alloc(), seats);
+    }
+}
+
+fn is_told(rt: &impl Abort, alloc: Global, fault: MapFault, text: &str) {
+    let told = fault.to_string(alloc).expect(rt, "memory");
+    assert_eq!(rt; told.as_str(), text);
+}
+
+#[test]
+fn faults_have_numbers_and_texts(rt: HostRuntime) {
+    let no_memory = MapFault::from(AllocError);
+    assert_eq!(rt; no_memory.number(), 40);
+    is_told(
+        &rt,
+        rt.alloc(),
+        no_memory,
+        "no memory for a table of map words",
     );
-    assert_eq!(rt;
-        format!(in alloc; "{}", MapFault::NoSeat)?.as_str(),
-        "no seat at the table of map words"
+    let no_seat = MapFault::NoSeat;
+    is_told(
+        &rt,
+        rt.alloc(),
+        no_seat,
+        "no seat at the table of map words",
     );
-    Ok(())
 }

@@ -7,6 +7,7 @@ ghost use Rattle.bpf_regions.specs.Maps.{word_count};
 use bpf_regions::{MapOp, Scope, Shape, WordWidth};
 use shared_maps::{MapSeat, MapTable};
 use std::alloc::Global;
+use std::process::Abort;
 use std::rt::Clock;
 use std::test::Fail;
 use std::thread::{Threads, join};
@@ -78,11 +79,11 @@ fn rate(threads: u32, spent: Duration) -> u128 {
 }
 
 /// The rates of 1, 2 and 4 threads on words that lie so far apart.
-fn rates_on_words<R: Threads + Clock + Sync>(
+fn rates_on_words<R: Threads + Clock + Sync + Abort>(
     rt: &R,
     alloc: Global,
     apart: u32,
-) -> Result<(u128, u128, u128), Fail>
+) -> (u128, u128, u128)
     requires near { apart ≤ 64 }
 {
     let shape = Shape {
@@ -91,28 +92,38 @@ fn rates_on_words<R: Threads + Clock + Sync>(
         width: WordWidth::Eight,
         scope: Scope::Shared,
     };
-    let mut table = MapTable::new(alloc, shape, 7)?;
-    let alone = table.seat()?;
-    let pair = (table.seat()?, table.seat()?);
-    let first = (table.seat()?, table.seat()?);
-    let second = (table.seat()?, table.seat()?);
-    let start = Instant::now(rt)?;
+    let mut table = MapTable::new(alloc, shape, 7).expect(rt, "a table");
+    let alone = table.seat().expect(rt, "a seat");
+    let one = table.seat().expect(rt, "a seat of two");
+    let other = table.seat().expect(rt, "another seat of two");
+    let first = table.seat().expect(rt, "a first seat of four");
+    let second = table.seat().expect(rt, "a second seat of four");
+    let third = table.seat().expect(rt, "a third seat of four");
+    let fourth = table.seat().expect(rt, "a fourth seat of four");
+    let start = now(rt);
     add_many(&table, 0, alone);
-    let by_one = rate(1, start.elapsed(rt)?);
-    let start = Instant::now(rt)?;
-    add_by_two(rt, &table, (0, apart), pair.0, pair.1);
-    let by_two = rate(2, start.elapsed(rt)?);
-    let start = Instant::now(rt)?;
-    add_by_four(rt, &table, apart, first, second);
-    let by_four = rate(4, start.elapsed(rt)?);
-    Ok((by_one, by_two, by_four))
+    let by_one = rate(1, spent(rt, start));
+    let start = now(rt);
+    add_by_two(rt, &table, (0, apart), one, other);
+    let by_two = rate(2, spent(rt, start));
+    let start = now(rt);
+    add_by_four(rt, &table, apart, (first, second), (third, fourth));
+    (by_one, by_two, rate(4, spent(rt, start)))
+}
+
+fn now<R: Clock + Abort>(rt: &R) -> Instant {
+    Instant::now(rt).expect(rt, "a clock")
+}
+
+fn spent<R: Clock + Abort>(rt: &R, start: Instant) -> Duration {
+    start.elapsed(rt).expect(rt, "a clock")
 }
 
 #[test]
 fn accesses_in_a_second(rt: HostRuntime) -> Result<(), Fail> {
-    let (one, two, four) = rates_on_words(&rt, rt.alloc(), 0)?;
-    println!(rt; "on one word: {one} by 1 thread, {two} by 2, {four} by 4")?;
-    let (one, two, four) = rates_on_words(&rt, rt.alloc(), 64)?;
-    println!(rt; "on words apart: {one} by 1 thread, {two} by 2, {four} by 4")?;
+    for apart in [0, 64] {
+        let (one, two, four) = rates_on_words(&rt, rt.alloc(), apart);
+        println!(rt; "words {apart} apart: {one} by 1 thread, {two} by 2, {four} by 4")?;
+    }
     Ok(())
 }

@@ -1,7 +1,8 @@
 //! Whole sessions of `apd`: each line of standard input is a command line, and its answer follows it.
 //!
-//! A line is words with one space between them; `""` is a word of no characters, and a line that begins with `#`
-//! is printed alone. A status other than 0 is told after the answer. The texts on standard error are not compared.
+//! A line is words with one space between them; `""` is a word of no characters, an empty line has no words, and a
+//! line that begins with `#` is printed alone. What is written to standard error follows the answer, with `! ` before
+//! each line, and then the status, if it is not 0.
 #![tactic(auto)]
 
 use apd_entry::Messages;
@@ -22,16 +23,29 @@ fn main(rt: HostRuntime) -> io::Result<()> {
             println!(rt; "{line}")?;
         } else {
             println!(rt; "$ apd {line}")?;
-            let mut err = rt.stderr();
-            let messages = Messages {
-                err: &mut err,
-                watched: false,
-            };
-            let status = perform(&rt, alloc, &line, rt.stdout(), messages)?;
-            if status != 0 {
-                println!(rt; "status {status}")?;
-            }
+            answer(&rt, alloc, &line, rt.stdout())?;
         }
+    }
+    Ok(())
+}
+
+/// Answers a line: what is printed, what is told, and the status.
+fn answer<R, O>(rt: &R, alloc: Global, line: &str, out: O) -> io::Result<()>
+where
+    R: Threads + Wait + Sync + Clock + Print + Eprint + Files + AllocGlobal,
+    O: Write + Drop,
+{
+    let mut told = Vec::new(alloc);
+    let messages = Messages {
+        err: &mut told,
+        watched: false,
+    };
+    let status = perform(rt, alloc, line, out, messages)?;
+    for text in String::from_utf8_lossy(alloc, told.as_slice())?.lines() {
+        println!(rt; "! {text}")?;
+    }
+    if status != 0 {
+        println!(rt; "status {status}")?;
     }
     Ok(())
 }
@@ -60,8 +74,10 @@ fn words_of<'a>(alloc: Global, line: &'a str) -> Result<Vec<&'a str>, AllocError
     let mut words = Vec::new(alloc);
     words.push("apd").map_err(AllocError::from)?;
     for word in line.split(' ') {
-        let word = if word == "\"\"" { "" } else { word };
-        words.push(word).map_err(AllocError::from)?;
+        if !word.is_empty() {
+            let word = if word == "\"\"" { "" } else { word };
+            words.push(word).map_err(AllocError::from)?;
+        }
     }
     Ok(words)
 }

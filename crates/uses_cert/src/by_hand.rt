@@ -1,57 +1,66 @@
 //! A certificate that says less than one that is made, and is accepted.
 
-use crate::small::no_maps;
+use crate::making::{certified, program};
+use crate::same::{holds, same};
+use bpf_absnum::AbsNum;
 use bpf_absval::AbsVal;
-use bpf_cert::{certificate, check};
+use bpf_cert::check;
 use bpf_cert_format::frame::Registers;
 use bpf_cert_format::{Certificate, Entry, Frame, write};
-use bpf_decode::{Program, decode};
 use bpf_regions::Hook;
 use bpf_stack::Stack;
 use bpf_text::assemble;
-use bpf_verifier::verify;
 use std::alloc::Global;
 use std::process::Abort;
-use std::test::Fail;
 
-/// Two ways that join again at slot 3, with different numbers in R0.
-const TEXT: &str = "call 4\njgt r0, 7, +1\nmov r0, 0\nmov r0, 0\nexit";
+/// Two ways that join again at slot 3, with different numbers in R0. From there one is shorter than
+/// the other.
+const TEXT: &str =
+    "call 4\njgt r0, 7, +1\nmov r0, 0\njeq r0, 0, +3\nmov r0, 1\nmov r0, 1\nmov r0, 1\nexit";
 
-/// All states at a slot in the main function.
-fn all_states(alloc: Global, pc: u16, budget: u32) -> Result<Entry, Fail> {
+/// All states at a slot in the main function in which R0 holds this.
+fn all_states(rt: &impl Abort, alloc: Global, pc: u16, budget: u32, first: AbsVal) -> Entry {
+    let mut values = [AbsVal::Unset; 10];
+    values[0] = first;
     let mut frames = Vec::new(alloc);
-    frames.push(Frame {
+    let frame = Frame {
         return_slot: 0,
-        registers: Registers::new([AbsVal::Unset; 10]),
+        registers: Registers::new(values),
         stack: Stack::unset(alloc),
-    })?;
-    Ok(Entry::new(pc, budget, 0, Vec::new(alloc), frames))
+    };
+    frames.push(frame).ok().expect(rt, "memory");
+    Entry::new(pc, budget, 0, Vec::new(alloc), frames)
 }
 
-/// One entry for the start, and one for both ways.
-fn by_hand(alloc: Global, code: Vec<u8>) -> Result<Vec<u8>, Fail> {
+fn any_number() -> AbsVal {
+    AbsVal::Number(AbsNum::full())
+}
+
+fn add(rt: &impl Abort, entries: &mut Vec<Entry>, entry: Entry) {
+    entries.push(entry).ok().expect(rt, "memory");
+}
+
+/// One entry for the start, one for both ways, and one for their ends. For all numbers in R0 the
+/// longer way is possible, so this shows one instruction more than there can be.
+fn by_hand(rt: &impl Abort, alloc: Global) -> Vec<u8> {
     let mut entries = Vec::new(alloc);
-    entries.push(all_states(alloc, 0, 5)?)?;
-    entries.push(all_states(alloc, 3, 2)?)?;
-    match write(alloc, &Certificate::new(Hook::Data, code, entries)) {
-        Ok(bytes) => Ok(bytes),
-        Err(_) => Err("it is written".into()),
-    }
-}
-
-fn program(rt: &impl Abort, alloc: Global) -> Result<Program, Fail> {
-    let code = assemble(alloc, TEXT)?;
-    Ok(decode(alloc, &code, no_maps(rt, alloc))?)
+    add(rt, &mut entries, all_states(rt, alloc, 0, 8, AbsVal::Unset));
+    add(rt, &mut entries, all_states(rt, alloc, 3, 5, any_number()));
+    add(rt, &mut entries, all_states(rt, alloc, 7, 1, any_number()));
+    let code = assemble(alloc, TEXT).expect(rt, "code");
+    let certificate = Certificate::new(Hook::Data, code, entries);
+    write(alloc, &certificate).ok().expect(rt, "it is written")
 }
 
 #[test]
-fn a_smaller_certificate_is_accepted(rt: HostRuntime) -> Result<(), Fail> {
-    let alloc = rt.alloc();
-    let verified = verify(alloc, program(&rt, alloc)?, Hook::Data)?;
-    let made = certificate(alloc, &verified)?;
-    let small = by_hand(alloc, assemble(alloc, TEXT)?)?;
-    assert!(rt; small.len() < made.len());
-    let checked = check(alloc, program(&rt, alloc)?, Hook::Data, &small);
-    assert_eq!(rt; checked.map(|accepted| accepted.budget()).ok(), Some(5));
-    Ok(())
+fn a_smaller_certificate_is_accepted(rt: HostRuntime) {
+    let (budget, made) = certified(&rt, rt.alloc(), TEXT, None);
+    same(&rt, budget, 7, "verified budget");
+    let small = by_hand(&rt, rt.alloc());
+    holds(&rt, small.len() < made.len(), "smaller");
+    let program = program(&rt, rt.alloc(), TEXT, None);
+    match check(rt.alloc(), program, Hook::Data, &small) {
+        Ok(accepted) => same(&rt, accepted.budget(), 8, "budget"),
+        Err(_) => assert!(rt; false),
+    }
 }

@@ -1,83 +1,89 @@
 //! The bytes of certificates, read and written.
 
-use crate::small::{CODE, no_maps, small};
+use crate::same::{counts, holds, same};
+use crate::small::{CODE, no_maps, small, with_byte};
 use bpf_absval::{AbsRegion, AbsVal};
 use bpf_cert_format::{Certificate, ReadFault, read, write};
 use bpf_regions::{Hook, Shapes};
 use std::alloc::Global;
 use std::process::Abort;
-use std::test::Fail;
 
 fn is_malformed(alloc: Global, shapes: &Shapes, bytes: &[u8]) -> bool {
     matches!(read(alloc, shapes, bytes), Err(ReadFault::Malformed))
 }
 
 #[test]
-fn a_certificate_is_read_and_written(rt: HostRuntime) -> Result<(), Fail> {
+fn a_certificate_is_read_and_written(rt: HostRuntime) {
     let alloc = rt.alloc();
     let shapes = no_maps(&rt, alloc);
-    let bytes = small(alloc)?;
-    assert_eq!(rt; bytes.len(), 216);
+    let bytes = small(&rt, alloc);
+    same(&rt, bytes.len(), 216, "bytes");
+    is_read_and_written(&rt, alloc, &shapes, &bytes);
     let certificate: Certificate = read(alloc, &shapes, &bytes)
         .ok()
-        .ok_or("the bytes are a certificate")?;
-    assert!(rt; certificate.hook() == Hook::Data);
-    assert_eq!(rt; certificate.code(), CODE.as_slice());
+        .expect(&rt, "the bytes are a certificate");
+    holds(&rt, certificate.hook() == Hook::Data, "hook");
+    same(&rt, certificate.code(), CODE.as_slice(), "code");
     let entries = certificate.entries();
-    assert_eq!(rt; entries.len(), 1);
+    counts(&rt, entries.len(), 1, "entries");
     let entry = &entries[0];
-    assert_eq!(rt; entry.pc(), 0);
-    assert_eq!(rt; entry.budget(), 2);
-    assert_eq!(rt; entry.least(), 0);
-    assert_eq!(rt; entry.rooms().len(), 0);
-    assert_eq!(rt; entry.frames().len(), 1);
+    same(&rt, entry.pc(), 0, "pc");
+    same(&rt, entry.budget(), 2, "budget");
+    same(&rt, entry.least(), 0, "least");
+    same(&rt, entry.rooms().len(), 0, "rooms");
+    counts(&rt, entry.frames().len(), 1, "frames");
     let registers = entry.frames()[0].registers.as_slice();
-    assert!(rt; registers[0] == AbsVal::Unset);
-    assert!(rt; matches!(registers[1], AbsVal::Frame { label: None, .. }));
-    assert!(rt; registers[2] == AbsVal::FrameEnd);
-    assert!(rt;
+    holds(&rt, registers[0] == AbsVal::Unset, "registers");
+    holds(
+        &rt,
+        matches!(registers[1], AbsVal::Frame { label: None, .. }),
+        "registers",
+    );
+    holds(&rt, registers[2] == AbsVal::FrameEnd, "registers");
+    holds(
+        &rt,
         matches!(
             registers[3],
             AbsVal::Pointer {
                 region: AbsRegion::Context,
                 ..
             }
-        )
+        ),
+        "registers",
     );
-    let written = write(alloc, &certificate).ok().ok_or("it has a spelling")?;
-    assert_eq!(rt; written.as_slice(), bytes.as_slice());
-    Ok(())
 }
 
 #[test]
-fn no_beginning_is_a_certificate(rt: HostRuntime) -> Result<(), Fail> {
+fn no_beginning_is_a_certificate(rt: HostRuntime) {
     let alloc = rt.alloc();
     let shapes = no_maps(&rt, alloc);
-    let bytes = small(alloc)?;
+    let mut bytes = small(&rt, alloc);
     for end in 0..bytes.len() {
-        assert!(rt; is_malformed(alloc, &shapes, &bytes[..end]));
+        holds(
+            &rt,
+            is_malformed(alloc, &shapes, &bytes[..end]),
+            "malformed",
+        );
     }
-    let mut longer = small(alloc)?;
-    longer.push(0)?;
-    assert!(rt; is_malformed(alloc, &shapes, &longer));
-    Ok(())
+    bytes.push(0).expect(&rt, "memory");
+    holds(&rt, is_malformed(alloc, &shapes, &bytes), "malformed");
 }
 
-/// The certificate with another byte at a place.
-fn with_byte(alloc: Global, at: usize, byte: u8) -> Result<Vec<u8>, Fail> {
-    let mut bytes = small(alloc)?;
-    if at < bytes.len() {
-        bytes[at] = byte;
-    }
-    Ok(bytes)
+/// It is read, and written as it was.
+fn is_read_and_written(rt: &impl Abort, alloc: Global, shapes: &Shapes, bytes: &[u8]) {
+    let read = read(alloc, shapes, bytes).ok();
+    let certificate = read.expect(rt, "the bytes are a certificate");
+    let written = write(alloc, &certificate).ok();
+    let written = written.expect(rt, "it has a spelling");
+    same(rt, written.as_slice(), bytes, "written");
 }
 
 #[test]
-fn fields_have_limits(rt: HostRuntime) -> Result<(), Fail> {
+fn fields_have_limits(rt: HostRuntime) {
     let alloc = rt.alloc();
     let shapes = no_maps(&rt, alloc);
-    // The magic, hook 0 and 4, a main function that returns, nine call frames, a stack frame and a map that are not
-    // there, low above high, a distance without a label, a tag that means nothing.
+    // The magic, hook 0 and 4, a main function that returns, nine call frames, a stack frame and a
+    // map that are not there, low above high, a distance without a label, a tag that means nothing.
     let wrong = [
         (0, 0x42),
         (4, 0),
@@ -92,17 +98,13 @@ fn fields_have_limits(rt: HostRuntime) -> Result<(), Fail> {
         (40, 7),
     ];
     for (at, byte) in wrong {
-        let bytes = with_byte(alloc, at, byte)?;
-        assert!(rt; is_malformed(alloc, &shapes, &bytes));
+        let bytes = with_byte(&rt, alloc, at, byte);
+        let malformed = is_malformed(alloc, &shapes, &bytes);
+        same(&rt, (at, byte, malformed), (at, byte, true), "malformed");
     }
     // Another budget, another slot, a stack frame that is there: read and written as they are.
     for (at, byte) in [(29, 7), (27, 1), (97, 16)] {
-        let bytes = with_byte(alloc, at, byte)?;
-        let certificate = read(alloc, &shapes, &bytes)
-            .ok()
-            .ok_or("the bytes are a certificate")?;
-        let written = write(alloc, &certificate).ok().ok_or("it has a spelling")?;
-        assert_eq!(rt; written.as_slice(), bytes.as_slice());
+        let bytes = with_byte(&rt, alloc, at, byte);
+        is_read_and_written(&rt, alloc, &shapes, &bytes);
     }
-    Ok(())
 }

@@ -16,4 +16,6 @@ mod hostile;
 #[cfg(test)]
 mod making;
 #[cfg(test)]
+mod same;
+#[cfg(test)]
 mod small;

@@ -4,33 +4,10 @@ use capture::{CaptureFault, LeftOut, read_capture};
 use std::alloc::AllocError;
 use std::test::Fail;
 
-/// A header with little-endian numbers, microseconds and the link type 105.
-const LITTLE: [u8; 24] = [
-    0xd4, 0xc3, 0xb2, 0xa1, 2, 0, 4, 0, 0, 0, 0, 0, 0, 0, 0, 0, 0, 0, 4, 0, 105, 0, 0, 0,
-];
-
 /// A header with big-endian numbers, nanoseconds and the link type 127.
 const BIG: [u8; 24] = [
     0xa1, 0xb2, 0x3c, 0x4d, 0, 2, 0, 4, 0, 0, 0, 0, 0, 0, 0, 0, 0, 4, 0, 0, 0, 0, 0, 127,
 ];
-
-#[test]
-fn frames_are_read(rt: HostRuntime) -> Result<(), Fail> {
-    let mut file = LITTLE.to_vec(rt.alloc())?;
-    file.extend_from_slice(&[2, 0, 0, 0, 3, 0, 0, 0, 2, 0, 0, 0, 2, 0, 0, 0, 0xaa, 0xbb])?;
-    file.extend_from_slice(&[3, 0, 0, 0, 0, 0, 0, 0, 1, 0, 0, 0, 2, 0, 0, 0, 0xcc])?;
-    let Ok(packets) = read_capture(rt.alloc(), &file) else {
-        return Err("refused".into());
-    };
-    assert_eq!(rt; packets.len(), 2);
-    assert_eq!(rt; packets[0].time, Some(2_000_003_000));
-    assert!(rt; packets[0].frame == Ok([0xaa, 0xbb].as_slice()));
-    assert!(rt; packets[1].frame == Err(LeftOut::Cut));
-    drop(packets);
-    file.extend_from_slice(&[0])?;
-    assert!(rt; read_capture(rt.alloc(), &file).err() == Some(CaptureFault::CutRecord(2)));
-    Ok(())
-}
 
 #[test]
 fn check_sequences_are_taken_off(rt: HostRuntime) -> Result<(), Fail> {
@@ -53,20 +30,6 @@ fn check_sequences_are_taken_off(rt: HostRuntime) -> Result<(), Fail> {
     assert!(rt; packets[0].frame == Ok([0x48].as_slice()));
     assert!(rt; packets[1].frame == Ok([0x49].as_slice()));
     assert!(rt; packets[2].frame == Err(LeftOut::Radiotap));
-    Ok(())
-}
-
-#[test]
-fn headers_are_refused(rt: HostRuntime) -> Result<(), Fail> {
-    let fault = |file: &[u8]| read_capture(rt.alloc(), file).err();
-    assert!(rt; fault(b"") == Some(CaptureFault::NoCapture));
-    assert!(rt; fault(&LITTLE[..23]) == Some(CaptureFault::CutHeader));
-    let mut file = LITTLE;
-    file[20] = 1;
-    assert!(rt; fault(&file) == Some(CaptureFault::LinkType(1)));
-    file[4] = 1;
-    assert!(rt; fault(&file) == Some(CaptureFault::Version { major: 1, minor: 4 }));
-    assert!(rt; fault(&BIG).is_none());
     Ok(())
 }
 
@@ -110,15 +73,6 @@ fn section(file: &mut Vec<u8>, resolution: u8) -> Result<(), AllocError> {
     file.extend_from_slice(&[5, 0, 0, 0, 12, 0, 0, 0, 12, 0, 0, 0])?;
     file.extend_from_slice(&ENHANCED)?;
     file.extend_from_slice(&SIMPLE)?;
-    Ok(())
-}
-
-/// Puts a byte at a place of a file.
-fn put(file: &mut [u8], place: usize, byte: u8) -> Result<(), Fail> {
-    match file.get_mut(place) {
-        Some(there) => *there = byte,
-        None => return Err("the file is shorter".into()),
-    }
     Ok(())
 }
 
@@ -196,58 +150,5 @@ fn cut_blocks_are_refused(rt: HostRuntime) -> Result<(), Fail> {
             );
         }
     }
-    Ok(())
-}
-
-#[test]
-fn damaged_blocks_are_refused(rt: HostRuntime) -> Result<(), Fail> {
-    let damaged = CaptureFault::BadBlock;
-    // A byte of the file, what it is made, and the fault.
-    let cases: [(usize, u8, CaptureFault); 11] = [
-        (8, 0, damaged(0)),
-        (24, 32, damaged(0)),
-        (12, 2, CaptureFault::Version { major: 2, minor: 0 }),
-        (14, 1, CaptureFault::Version { major: 1, minor: 1 }),
-        (36, 1, CaptureFault::LinkType(1)),
-        (32, 41, damaged(28)),
-        (46, 200, damaged(28)),
-        (54, 2, damaged(28)),
-        (88, 1, damaged(80)),
-        (100, 5, damaged(80)),
-        (72, 8, damaged(68)),
-    ];
-    for (place, byte, want) in cases {
-        let mut file = Vec::new(rt.alloc());
-        section(&mut file, 6)?;
-        put(&mut file, place, byte)?;
-        let fault = read_capture(rt.alloc(), &file).err();
-        assert!(rt; fault == Some(want), "{place}");
-    }
-    // A packet without an interface, which the section before it doesn't lend.
-    let mut file = Vec::new(rt.alloc());
-    section(&mut file, 6)?;
-    file.extend_from_slice(&LITTLE_SECTION)?;
-    file.extend_from_slice(&SIMPLE)?;
-    let fault = read_capture(rt.alloc(), &file).err();
-    assert!(rt; fault == Some(damaged(164)));
-    Ok(())
-}
-
-#[test]
-fn simple_packets_are_cut_by_the_interface(rt: HostRuntime) -> Result<(), Fail> {
-    let mut file = Vec::new(rt.alloc());
-    section(&mut file, 6)?;
-    // Of nine bytes the interface captures three.
-    put(&mut file, 124, 9)?;
-    let Ok(packets) = read_capture(rt.alloc(), &file) else {
-        return Err("refused".into());
-    };
-    assert_eq!(rt; packets.len(), 2);
-    assert!(rt; packets[1].frame == Err(LeftOut::Cut));
-    drop(packets);
-    // It captures all, and the block has four bytes of nine.
-    put(&mut file, 40, 0)?;
-    let fault = read_capture(rt.alloc(), &file).err();
-    assert!(rt; fault == Some(CaptureFault::BadBlock(116)));
     Ok(())
 }

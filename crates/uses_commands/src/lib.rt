@@ -1,5 +1,6 @@
-//! The program `apd` by rows: its words, its configuration, captures, what is written of a text, and what each command
-//! answers.
+//! The program `apd` where a session can't show it: want of memory, writers that fail, code and frames of the greatest
+//! length; and the faults of configurations and the times of captures by rows. All else is in the session of
+//! `uses_apd`.
 #![tactic(auto)]
 
 #[cfg(test)]
@@ -8,7 +9,5 @@ mod answers;
 mod captures;
 #[cfg(test)]
 mod configuration;
-#[cfg(test)]
-mod words;
 #[cfg(test)]
 mod writing;

@@ -2,6 +2,7 @@
 
 use crate::numbers::Known::{One, Within};
 use crate::numbers::{BYTE, FULL, Known, LARGE, MOST, NEAR_ZERO, OFFSET, SOME, number};
+use crate::same::same;
 use bpf_insn::Compare;
 use std::process::Abort;
 
@@ -15,7 +16,12 @@ fn are_refined(rt: &impl Abort, ways: &[Way]) {
             Some((a, b)) => Some((number(*a), number(*b))),
             None => None,
         };
-        assert_eq!(rt; left, wanted, "{compare:?} {wide} {taken} {a:?} {b:?}");
+        same(
+            rt,
+            (*compare, *wide, *taken, left),
+            (*compare, *wide, *taken, wanted),
+            "way",
+        );
     }
 }
 
@@ -79,11 +85,6 @@ const EQUAL_AND_NOT: &[Way] = &[
         Some((Within((4, 9), (0, 15), (4, 9)), One(3))),
     ),
 ];
-
-#[test]
-fn equal_and_not(rt: HostRuntime) {
-    are_refined(&rt, EQUAL_AND_NOT);
-}
 
 const UNSIGNED_ORDER: &[Way] = &[
     (
@@ -154,11 +155,6 @@ const UNSIGNED_ORDER: &[Way] = &[
         Some((One(5), One(5))),
     ),
 ];
-
-#[test]
-fn unsigned_order(rt: HostRuntime) {
-    are_refined(&rt, UNSIGNED_ORDER);
-}
 
 const SIGNED_ORDER: &[Way] = &[
     (
@@ -251,11 +247,6 @@ const SIGNED_ORDER: &[Way] = &[
     ),
 ];
 
-#[test]
-fn signed_order(rt: HostRuntime) {
-    are_refined(&rt, SIGNED_ORDER);
-}
-
 const BITS_SET: &[Way] = &[
     (
         OFFSET,
@@ -317,6 +308,9 @@ const BITS_SET: &[Way] = &[
 ];
 
 #[test]
-fn bits_set(rt: HostRuntime) {
+fn comparisons_refine_both_sides(rt: HostRuntime) {
+    are_refined(&rt, EQUAL_AND_NOT);
+    are_refined(&rt, UNSIGNED_ORDER);
+    are_refined(&rt, SIGNED_ORDER);
     are_refined(&rt, BITS_SET);
 }

@@ -11,6 +11,8 @@ mod intervals;
 #[cfg(test)]
 mod numbers;
 #[cfg(test)]
+mod same;
+#[cfg(test)]
 mod stacks;
 #[cfg(test)]
 mod states;

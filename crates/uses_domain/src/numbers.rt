@@ -1,5 +1,6 @@
 //! Abstract numbers: tables of operands with what each operation makes of them.
 
+use crate::same::{all_same, same};
 use bpf_absnum::AbsNum;
 use bpf_insn::{AluOp, ByteOrder, Extension, OrderWidth};
 use bpf_interval::{Interval, SignedInterval};
@@ -66,7 +67,12 @@ type Row = (Known, AluOp, bool, Known, Known);
 fn are_computed(rt: &impl Abort, rows: &[Row]) {
     for (a, op, wide, b, wanted) in rows {
         let result = number(*a).alu(*op, *wide, number(*b));
-        assert_eq!(rt; result, number(*wanted), "{op:?} {wide} {a:?} {b:?}");
+        same(
+            rt,
+            (*op, *wide, result),
+            (*op, *wide, number(*wanted)),
+            "row",
+        );
     }
 }
 
@@ -114,11 +120,6 @@ const SUMS: &[Row] = &[
     (One(0xffffffff), AluOp::Add, false, One(1), One(0)),
 ];
 
-#[test]
-fn sums(rt: HostRuntime) {
-    are_computed(&rt, SUMS);
-}
-
 const DIFFERENCES: &[Row] = &[
     (
         BYTE,
@@ -151,11 +152,6 @@ const DIFFERENCES: &[Row] = &[
     (BYTE, AluOp::Sub, false, SOME, WORD),
 ];
 
-#[test]
-fn differences(rt: HostRuntime) {
-    are_computed(&rt, DIFFERENCES);
-}
-
 const PRODUCTS: &[Row] = &[
     (
         BYTE,
@@ -182,11 +178,6 @@ const PRODUCTS: &[Row] = &[
     ),
 ];
 
-#[test]
-fn products(rt: HostRuntime) {
-    are_computed(&rt, PRODUCTS);
-}
-
 const QUOTIENTS: &[Row] = &[
     (
         BYTE,
@@ -212,11 +203,6 @@ const QUOTIENTS: &[Row] = &[
     (One(7), AluOp::Div, true, One(0), One(0)),
 ];
 
-#[test]
-fn quotients(rt: HostRuntime) {
-    are_computed(&rt, QUOTIENTS);
-}
-
 const REMAINDERS: &[Row] = &[
     (
         LARGE,
@@ -241,11 +227,6 @@ const REMAINDERS: &[Row] = &[
     ),
     (One(7), AluOp::Mod, false, One(0), One(7)),
 ];
-
-#[test]
-fn remainders(rt: HostRuntime) {
-    are_computed(&rt, REMAINDERS);
-}
 
 const BITS_OF_BOTH: &[Row] = &[
     (LARGE, AluOp::And, true, One(56), OFFSET),
@@ -274,11 +255,6 @@ const BITS_OF_BOTH: &[Row] = &[
     (LARGE, AluOp::Xor, false, SOME, WORD),
 ];
 
-#[test]
-fn bits_of_both(rt: HostRuntime) {
-    are_computed(&rt, BITS_OF_BOTH);
-}
-
 const MOVES: &[Row] = &[
     (SOME, AluOp::Mov, true, LARGE, LARGE),
     (SOME, AluOp::Mov, false, LARGE, WORD),
@@ -286,11 +262,6 @@ const MOVES: &[Row] = &[
     (BYTE, AluOp::Mov, false, One(0x100000005), One(5)),
     (SOME, AluOp::Mov, false, NEAR_ZERO, WORD),
 ];
-
-#[test]
-fn moves(rt: HostRuntime) {
-    are_computed(&rt, MOVES);
-}
 
 const SHIFTS: &[Row] = &[
     (
@@ -339,11 +310,6 @@ const SHIFTS: &[Row] = &[
     (One(3), AluOp::Lsh, false, One(33), One(6)),
 ];
 
-#[test]
-fn shifts(rt: HostRuntime) {
-    are_computed(&rt, SHIFTS);
-}
-
 const SHIFTS_THAT_COPY_THE_SIGN: &[Row] = &[
     (
         OFFSET,
@@ -380,11 +346,6 @@ const SHIFTS_THAT_COPY_THE_SIGN: &[Row] = &[
     (LARGE, AluOp::Arsh, false, One(1), WORD),
     (NEGATIVE, AluOp::Arsh, false, One(1), WORD),
 ];
-
-#[test]
-fn shifts_that_copy_the_sign(rt: HostRuntime) {
-    are_computed(&rt, SHIFTS_THAT_COPY_THE_SIGN);
-}
 
 const SIGNED_DIVISION: &[Row] = &[
     (
@@ -446,7 +407,16 @@ const SIGNED_DIVISION: &[Row] = &[
 ];
 
 #[test]
-fn signed_division(rt: HostRuntime) {
+fn operations_are_computed(rt: HostRuntime) {
+    are_computed(&rt, SUMS);
+    are_computed(&rt, DIFFERENCES);
+    are_computed(&rt, PRODUCTS);
+    are_computed(&rt, QUOTIENTS);
+    are_computed(&rt, REMAINDERS);
+    are_computed(&rt, BITS_OF_BOTH);
+    are_computed(&rt, MOVES);
+    are_computed(&rt, SHIFTS);
+    are_computed(&rt, SHIFTS_THAT_COPY_THE_SIGN);
     are_computed(&rt, SIGNED_DIVISION);
 }
 
@@ -466,7 +436,8 @@ fn negations(rt: HostRuntime) {
         (SOME, false, WORD),
         (One(1), true, One(MOST)),
     ] {
-        assert_eq!(rt; number(a).negated(wide), number(wanted), "{wide} {a:?}");
+        let result = number(a).negated(wide);
+        same(&rt, (wide, result), (wide, number(wanted)), "negated");
     }
 }
 
@@ -495,7 +466,12 @@ fn moves_with_sign(rt: HostRuntime) {
         (One(384), Extension::Byte, false, One(0xffffff80)),
     ] {
         let result = number(a).sign_extended(from, wide);
-        assert_eq!(rt; result, number(wanted), "{from:?} {wide} {a:?}");
+        same(
+            &rt,
+            (from, wide, result),
+            (from, wide, number(wanted)),
+            "moved",
+        );
     }
 }
 
@@ -531,7 +507,12 @@ fn byte_orders(rt: HostRuntime) {
         ),
     ] {
         let result = number(a).ordered(order, width);
-        assert_eq!(rt; result, number(wanted), "{order:?} {width:?} {a:?}");
+        same(
+            &rt,
+            (order, width, result),
+            (order, width, number(wanted)),
+            "ordered",
+        );
     }
 }
 
@@ -539,57 +520,79 @@ fn byte_orders(rt: HostRuntime) {
 fn loads(rt: HostRuntime) {
     let signed = Within((0, MOST), (0, MOST), (-0x8000, 0x7fff));
     let stations = Within((0, 2007), (0, 2047), (0, 2007));
-    assert_eq!(rt; AbsNum::loaded(8), number(BYTE));
-    assert_eq!(rt; AbsNum::loaded(64), AbsNum::full());
-    assert_eq!(rt; AbsNum::loaded_signed(16), number(signed));
-    assert_eq!(rt; AbsNum::within(Interval::new(0, 2007)), number(stations));
+    same(&rt, AbsNum::loaded(8), number(BYTE), "loaded");
+    same(&rt, AbsNum::loaded(64), AbsNum::full(), "loaded");
+    same(
+        &rt,
+        AbsNum::loaded_signed(16),
+        number(signed),
+        "loaded signed",
+    );
+    same(
+        &rt,
+        AbsNum::within(Interval::new(0, 2007)),
+        number(stations),
+        "within",
+    );
 }
 
 #[test]
 fn tightening(rt: HostRuntime) {
     let loose = Within((3, MOST), (0, 12), (i64::MIN, i64::MAX));
     let tight = Within((3, 12), (0, 12), (3, 12));
-    assert_eq!(rt; number(loose).tightened(), Some(number(tight)));
+    same(
+        &rt,
+        number(loose).tightened(),
+        Some(number(tight)),
+        "tightened",
+    );
     let signed = Within((0, MOST), (0, MOST), (-5, -2));
     let tight = Within(
         (0xfffffffffffffffb, 0xfffffffffffffffe),
         (0xfffffffffffffff8, 7),
         (-5, -2),
     );
-    assert_eq!(rt; number(signed).tightened(), Some(number(tight)));
+    same(
+        &rt,
+        number(signed).tightened(),
+        Some(number(tight)),
+        "tightened",
+    );
     let nothing = Within((1, 3), (4, 8), (0, 9));
-    assert_eq!(rt; number(nothing).tightened(), None);
+    same(&rt, number(nothing).tightened(), None, "tightened");
 }
 
 #[test]
 fn low_halves(rt: HostRuntime) {
     for (known, wanted) in [(OFFSET, OFFSET), (LARGE, WORD), (NEAR_ZERO, WORD)] {
-        assert_eq!(rt; number(known).cut(), number(wanted), "{known:?}");
+        same(&rt, number(known).cut(), number(wanted), "low half");
     }
 }
 
 #[test]
 fn inclusion_and_members(rt: HostRuntime) {
     let (byte, offset, near_zero) = (number(BYTE), number(OFFSET), number(NEAR_ZERO));
-    for (found, wanted) in [
-        (offset.is_included(byte), true),
-        (byte.is_included(offset), false),
-        (number(NEGATIVE).is_included(near_zero), false),
-        (offset.contains(24), true),
-        (offset.contains(25), false),
-        (near_zero.contains(MOST), true),
-        (near_zero.contains(4), false),
-        (AbsNum::single(4).is_single(), true),
-        (byte.is_single(), false),
-    ] {
-        assert_eq!(rt; found, wanted);
-    }
+    all_same(
+        &rt,
+        &[
+            (offset.is_included(byte), true),
+            (byte.is_included(offset), false),
+            (number(NEGATIVE).is_included(near_zero), false),
+            (offset.contains(24), true),
+            (offset.contains(25), false),
+            (near_zero.contains(MOST), true),
+            (near_zero.contains(4), false),
+            (AbsNum::single(4).is_single(), true),
+            (byte.is_single(), false),
+        ],
+        "inclusion and members",
+    );
 }
 
 #[test]
 fn parts_of_a_number(rt: HostRuntime) {
     let some = number(SOME);
-    assert_eq!(rt; some.range(), Interval::new(3, 9));
-    assert_eq!(rt; some.signed(), SignedInterval::new(3, 9));
-    assert_eq!(rt; some.bits(), Tnum::masked(0, 15));
+    same(&rt, some.range(), Interval::new(3, 9), "range");
+    same(&rt, some.signed(), SignedInterval::new(3, 9), "signed");
+    same(&rt, some.bits(), Tnum::masked(0, 15), "bits");
 }

@@ -1,9 +1,10 @@
 //! Stacks of a call frame, as far as they are known.
 
+use crate::same::{all_same, same};
 use bpf_absnum::AbsNum;
 use bpf_absval::{AbsSlot, AbsVal, Label, Rooms};
 use bpf_stack::Stack;
-use std::test::Fail;
+use std::process::Abort;
 
 fn number(number: u64) -> AbsSlot {
     AbsSlot::Stored(AbsVal::Number(AbsNum::single(number)))
@@ -18,50 +19,52 @@ fn spilled(label: Option<Label>) -> AbsSlot {
 }
 
 #[test]
-fn a_write_changes_one_stack(rt: HostRuntime) -> Result<(), Fail> {
+fn a_write_changes_one_stack(rt: HostRuntime) {
     let mut first = Stack::unset(rt.alloc());
     for index in 0..64 {
-        first.set(index, number(index as u64))?;
+        first.set(index, number(index as u64)).expect(&rt, "memory");
     }
-    let mut second = first.clone()?;
-    second.set(40, AbsSlot::Bytes(3))?;
+    let mut second = first.clone().expect(&rt, "memory");
+    second.set(40, AbsSlot::Bytes(3)).expect(&rt, "memory");
     second.whole();
     for index in 0..64 {
         let left = number(index as u64);
-        assert_eq!(rt; first.get(index), left);
-        assert_eq!(rt;
+        same(&rt, first.get(index), left, "get");
+        same(
+            &rt,
             second.get(index),
-            if index == 40 { AbsSlot::Bytes(3) } else { left }
+            if index == 40 { AbsSlot::Bytes(3) } else { left },
+            "get",
         );
     }
-    Ok(())
 }
 
 #[test]
-fn what_is_known_lies_in_what_is_not(rt: HostRuntime) -> Result<(), Fail> {
+fn what_is_known_lies_in_what_is_not(rt: HostRuntime) {
     let rooms = Rooms::new(rt.alloc());
     let unset = Stack::unset(rt.alloc());
     let mut one = Stack::unset(rt.alloc());
-    one.set(63, number(7))?;
-    let mut two = one.clone()?;
-    two.set(0, AbsSlot::Bytes(1))?;
-    let mut none_set = unset.clone()?;
-    none_set.set(5, AbsSlot::Bytes(0))?;
-    for (found, wanted) in [
-        (unset.is_included(&unset, &rooms, &rooms), true),
-        (one.is_included(&unset, &rooms, &rooms), true),
-        (unset.is_included(&one, &rooms, &rooms), false),
-        (two.is_included(&one, &rooms, &rooms), true),
-        (one.is_included(&two, &rooms, &rooms), false),
-        (unset.is_included(&none_set, &rooms, &rooms), true),
-    ] {
-        assert_eq!(rt; found, wanted);
-    }
-    Ok(())
+    one.set(63, number(7)).expect(&rt, "memory");
+    let mut two = one.clone().expect(&rt, "memory");
+    two.set(0, AbsSlot::Bytes(1)).expect(&rt, "memory");
+    let mut none_set = unset.clone().expect(&rt, "memory");
+    none_set.set(5, AbsSlot::Bytes(0)).expect(&rt, "memory");
+    all_same(
+        &rt,
+        &[
+            (unset.is_included(&unset, &rooms, &rooms), true),
+            (one.is_included(&unset, &rooms, &rooms), true),
+            (unset.is_included(&one, &rooms, &rooms), false),
+            (two.is_included(&one, &rooms, &rooms), true),
+            (one.is_included(&two, &rooms, &rooms), false),
+            (unset.is_included(&none_set, &rooms, &rooms), true),
+        ],
+        "what is known lies in what is not",
+    );
 }
 
 #[test]
-fn one_label_is_forgotten_everywhere(rt: HostRuntime) -> Result<(), Fail> {
+fn one_label_is_forgotten_everywhere(rt: HostRuntime) {
     let first = Label {
         label: 8,
         distance: 1,
@@ -71,13 +74,13 @@ fn one_label_is_forgotten_everywhere(rt: HostRuntime) -> Result<(), Fail> {
         distance: 1,
     };
     let mut stack = Stack::unset(rt.alloc());
-    stack.set(0, spilled(Some(first)))?;
-    stack.set(1, spilled(Some(other)))?;
-    stack.set(2, number(8))?;
-    stack.set(62, spilled(Some(first)))?;
-    let before = stack.clone()?;
-    stack.forget(8)?;
-    assert_eq!(rt; before.get(62), spilled(Some(first)));
+    stack.set(0, spilled(Some(first))).expect(&rt, "memory");
+    stack.set(1, spilled(Some(other))).expect(&rt, "memory");
+    stack.set(2, number(8)).expect(&rt, "memory");
+    stack.set(62, spilled(Some(first))).expect(&rt, "memory");
+    let before = stack.clone().expect(&rt, "memory");
+    stack.forget(8).expect(&rt, "memory");
+    same(&rt, before.get(62), spilled(Some(first)), "get");
     for (index, wanted) in [
         (0, spilled(None)),
         (1, spilled(Some(other))),
@@ -85,7 +88,6 @@ fn one_label_is_forgotten_everywhere(rt: HostRuntime) -> Result<(), Fail> {
         (30, AbsSlot::Unset),
         (62, spilled(None)),
     ] {
-        assert_eq!(rt; stack.get(index), wanted, "slot {index}");
+        same(&rt, (index, stack.get(index)), (index, wanted), "slot");
     }
-    Ok(())
 }

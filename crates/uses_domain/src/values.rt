@@ -1,9 +1,10 @@
 //! Abstract values and slots: when one lies in another, and what is known behind a label.
 
+use crate::same::{holds, same};
 use bpf_absnum::AbsNum;
 use bpf_absval::{AbsRegion, AbsSlot, AbsVal, Label, Room, Rooms};
-use std::alloc::{AllocError, Global};
-use std::test::Fail;
+use std::alloc::Global;
+use std::process::Abort;
 
 /// A frame pointer somewhere, that many bytes behind the label's place.
 fn behind(label: u16, distance: u16) -> AbsVal {
@@ -37,51 +38,61 @@ fn any_number() -> AbsVal {
 }
 
 /// Label 8 has a room of that size.
-fn room_of_8(alloc: Global, size: u16) -> Result<Rooms, AllocError> {
+fn room_of_8(rt: &impl Abort, alloc: Global, size: u16) -> Rooms {
     let mut rooms = Rooms::new(alloc);
-    rooms.raise(8, size)?;
-    Ok(rooms)
+    rooms.raise(8, size).expect(rt, "memory");
+    rooms
 }
 
 #[test]
-fn rooms_rise_and_are_forgotten(rt: HostRuntime) -> Result<(), Fail> {
+fn rooms_rise_and_are_forgotten(rt: HostRuntime) {
     let mut rooms = Rooms::new(rt.alloc());
-    assert_eq!(rt; rooms.find(8), None);
-    rooms.raise(8, 3)?;
-    rooms.raise(12, 0)?;
-    rooms.raise(8, 1)?;
-    assert_eq!(rt; rooms.find(8), Some(3));
-    rooms.raise(8, 40)?;
-    assert_eq!(rt; rooms.find(8), Some(40));
-    assert_eq!(rt; rooms.find(12), Some(0));
-    let copy = rooms.clone()?;
+    same(&rt, rooms.find(8), None, "find");
+    rooms.raise(8, 3).expect(&rt, "memory");
+    rooms.raise(12, 0).expect(&rt, "memory");
+    rooms.raise(8, 1).expect(&rt, "memory");
+    same(&rt, rooms.find(8), Some(3), "find");
+    rooms.raise(8, 40).expect(&rt, "memory");
+    same(&rt, rooms.find(8), Some(40), "find");
+    same(&rt, rooms.find(12), Some(0), "find");
+    let copy = rooms.clone().expect(&rt, "memory");
     rooms.forget(8);
-    assert_eq!(rt; rooms.find(8), None);
+    same(&rt, rooms.find(8), None, "find");
     let low = Room { label: 8, size: 40 };
     let high = Room { label: 12, size: 0 };
-    assert_eq!(rt; rooms.as_slice(), [high].as_slice());
-    assert_eq!(rt; copy.as_slice(), [low, high].as_slice());
-    Ok(())
+    same(&rt, rooms.as_slice(), [high].as_slice(), "rooms");
+    same(&rt, copy.as_slice(), [low, high].as_slice(), "copy");
 }
 
 #[test]
-fn a_needed_label_has_its_distance_and_its_room(rt: HostRuntime) -> Result<(), Fail> {
+fn a_needed_label_has_its_distance_and_its_room(rt: HostRuntime) {
     let none = Rooms::new(rt.alloc());
-    let empty = room_of_8(rt.alloc(), 0)?;
-    let three = room_of_8(rt.alloc(), 3)?;
-    let four = room_of_8(rt.alloc(), 4)?;
+    let empty = room_of_8(&rt, rt.alloc(), 0);
+    let three = room_of_8(&rt, rt.alloc(), 3);
+    let four = room_of_8(&rt, rt.alloc(), 4);
     let here = behind(8, 1);
-    assert!(rt; here.is_included(&here, &three, &three));
-    assert!(rt; here.is_included(&here, &four, &three));
-    assert!(rt; !here.is_included(&here, &three, &four));
-    assert!(rt; here.is_included(&here, &none, &none));
-    assert!(rt; here.is_included(&here, &three, &none));
-    assert!(rt; !here.is_included(&here, &none, &empty));
-    assert!(rt; !here.is_included(&behind(8, 2), &three, &three));
-    assert!(rt; !here.is_included(&behind(9, 1), &three, &three));
-    assert!(rt; here.is_included(&anywhere(), &none, &three));
-    assert!(rt; !anywhere().is_included(&here, &three, &three));
-    Ok(())
+    holds(&rt, here.is_included(&here, &three, &three), "is included");
+    holds(&rt, here.is_included(&here, &four, &three), "is included");
+    holds(&rt, !here.is_included(&here, &three, &four), "is included");
+    holds(&rt, here.is_included(&here, &none, &none), "is included");
+    holds(&rt, here.is_included(&here, &three, &none), "is included");
+    holds(&rt, !here.is_included(&here, &none, &empty), "is included");
+    holds(
+        &rt,
+        !here.is_included(&behind(8, 2), &three, &three),
+        "here",
+    );
+    holds(
+        &rt,
+        !here.is_included(&behind(9, 1), &three, &three),
+        "here",
+    );
+    holds(&rt, here.is_included(&anywhere(), &none, &three), "here");
+    holds(
+        &rt,
+        !anywhere().is_included(&here, &three, &three),
+        "is included",
+    );
 }
 
 #[test]
@@ -103,14 +114,35 @@ fn values_of_one_kind_are_included(rt: HostRuntime) {
         AbsVal::Lookup(1),
     ];
     for value in &kinds {
-        assert!(rt; value.is_included(&AbsVal::Unset, &none, &none));
-        assert!(rt; !AbsVal::Unset.is_included(value, &none, &none));
+        holds(
+            &rt,
+            value.is_included(&AbsVal::Unset, &none, &none),
+            "is included",
+        );
+        holds(
+            &rt,
+            !AbsVal::Unset.is_included(value, &none, &none),
+            "is included",
+        );
         for other in &kinds {
-            assert_eq!(rt; value.is_included(other, &none, &none), *value == *other);
+            same(
+                &rt,
+                value.is_included(other, &none, &none),
+                *value == *other,
+                "is included",
+            );
         }
     }
-    assert!(rt; number(7).is_included(&any_number(), &none, &none));
-    assert!(rt; !any_number().is_included(&number(7), &none, &none));
+    holds(
+        &rt,
+        number(7).is_included(&any_number(), &none, &none),
+        "number",
+    );
+    holds(
+        &rt,
+        !any_number().is_included(&number(7), &none, &none),
+        "any number",
+    );
 }
 
 #[test]
@@ -121,17 +153,45 @@ fn a_slot_with_a_number_has_all_bytes_set(rt: HostRuntime) {
     let low = AbsSlot::Bytes(0x0f);
     let reference = AbsSlot::Stored(AbsVal::FrameEnd);
     for slot in [stored, all, low, reference, AbsSlot::Unset] {
-        assert!(rt; slot.is_included(&AbsSlot::Unset, &none, &none));
-        assert!(rt; slot.is_included(&AbsSlot::Bytes(0), &none, &none));
+        holds(
+            &rt,
+            slot.is_included(&AbsSlot::Unset, &none, &none),
+            "is included",
+        );
+        holds(
+            &rt,
+            slot.is_included(&AbsSlot::Bytes(0), &none, &none),
+            "slot",
+        );
     }
-    assert!(rt; stored.is_included(&AbsSlot::Stored(any_number()), &none, &none));
-    assert!(rt; stored.is_included(&all, &none, &none));
-    assert!(rt; !all.is_included(&AbsSlot::Stored(any_number()), &none, &none));
-    assert!(rt; all.is_included(&low, &none, &none));
-    assert!(rt; !low.is_included(&all, &none, &none));
-    assert!(rt; !reference.is_included(&AbsSlot::Bytes(1), &none, &none));
-    assert!(rt; !AbsSlot::Unset.is_included(&AbsSlot::Bytes(0x80), &none, &none));
-    assert!(rt; !AbsSlot::Unset.is_included(&AbsSlot::Stored(AbsVal::Unset), &none, &none));
+    holds(
+        &rt,
+        stored.is_included(&AbsSlot::Stored(any_number()), &none, &none),
+        "stored",
+    );
+    holds(&rt, stored.is_included(&all, &none, &none), "is included");
+    holds(
+        &rt,
+        !all.is_included(&AbsSlot::Stored(any_number()), &none, &none),
+        "all",
+    );
+    holds(&rt, all.is_included(&low, &none, &none), "is included");
+    holds(&rt, !low.is_included(&all, &none, &none), "is included");
+    holds(
+        &rt,
+        !reference.is_included(&AbsSlot::Bytes(1), &none, &none),
+        "reference",
+    );
+    holds(
+        &rt,
+        !AbsSlot::Unset.is_included(&AbsSlot::Bytes(0x80), &none, &none),
+        "unset",
+    );
+    holds(
+        &rt,
+        !AbsSlot::Unset.is_included(&AbsSlot::Stored(AbsVal::Unset), &none, &none),
+        "unset",
+    );
 }
 
 #[test]
@@ -139,14 +199,23 @@ fn one_label_is_forgotten(rt: HostRuntime) {
     for value in [behind(8, 1), behind(9, 1), anywhere(), number(8)] {
         let had = value == behind(8, 1);
         let left = if had { anywhere() } else { value };
-        assert_eq!(rt; value.has_label(8), had);
-        assert_eq!(rt; value.without_label(8), left);
+        same(&rt, value.has_label(8), had, "has label");
+        holds(&rt, value.without_label(8) == left, "without label");
         let slot = AbsSlot::Stored(value);
-        assert_eq!(rt; slot.has_label(8), had);
-        assert_eq!(rt; slot.without_label(8), AbsSlot::Stored(left));
+        same(&rt, slot.has_label(8), had, "has label");
+        holds(
+            &rt,
+            slot.without_label(8) == AbsSlot::Stored(left),
+            "without label",
+        );
     }
-    assert!(rt; !AbsSlot::Bytes(8).has_label(8));
-    assert_eq!(rt; AbsSlot::Bytes(8).without_label(8), AbsSlot::Bytes(8));
+    holds(&rt, !AbsSlot::Bytes(8).has_label(8), "has label");
+    same(
+        &rt,
+        AbsSlot::Bytes(8).without_label(8),
+        AbsSlot::Bytes(8),
+        "without label",
+    );
     number(8).whole();
     AbsSlot::Stored(behind(8, 1)).whole();
 }

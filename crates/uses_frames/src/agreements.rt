@@ -1,123 +1,158 @@
 //! Agreements of stations that end in octets 1 to 3, for TIDs 0 and 5.
 
+use crate::same::{counts, holds, same};
 use ap_agreements::{Agreements, Entry, Released};
 use ap_model::{Held, Octets};
 use mac_types::{Address, SequenceNumber, Tid};
-use std::alloc::{AllocError, Global};
-use std::test::Fail;
+use std::alloc::Global;
+use std::process::Abort;
 
 fn station(last: u8) -> Address {
     Address::new([2, 0, 0, 0, 0, last])
 }
 
-fn tid(number: u8) -> Result<Tid, Fail> {
-    let tid = Tid::new(number).ok_or("a TID")?;
-    Ok(tid)
+fn tid(rt: &impl Abort, number: u8) -> Tid {
+    Tid::new(number).expect(rt, "a TID")
 }
 
-fn number(number: u16) -> Result<SequenceNumber, Fail> {
-    let number = SequenceNumber::new(number).ok_or("a number")?;
-    Ok(number)
-}
-
-fn held(alloc: Global, body: &[u8]) -> Result<Held, AllocError> {
-    let body = Octets::copy(alloc, body)?;
-    Ok(Held::new(station(9), 5, body))
+fn number(rt: &impl Abort, number: u16) -> SequenceNumber {
+    SequenceNumber::new(number).expect(rt, "a number")
 }
 
 /// Opens an agreement of size 8 from number 100 on.
 fn open(
-    agreements: &mut Agreements,
+    rt: &impl Abort,
     alloc: Global,
-    last: u8,
-    tid: Tid,
+    agreements: &mut Agreements,
+    key: (u8, u8),
     timeout: u16,
-) -> Result<Option<Entry>, Fail> {
-    let entry = Entry::new(alloc, station(last), tid)?;
-    let entry = entry.opened(number(100)?, 8, timeout, 3);
-    agreements.reserve()?;
-    Ok(agreements.put(entry))
+) -> Option<Entry> {
+    agreements.reserve().expect(rt, "memory");
+    let (last, for_tid) = key;
+    let entry = Entry::new(alloc, station(last), tid(rt, for_tid));
+    let entry = entry.expect(rt, "memory");
+    agreements.put(entry.opened(number(rt, 100), 8, timeout, 3))
 }
 
 #[test]
-fn agreements_are_kept_by_station_and_tid(rt: HostRuntime) -> Result<(), Fail> {
+fn agreements_are_kept_by_station_and_tid(rt: HostRuntime) {
     let alloc = rt.alloc();
     let mut agreements = Agreements::new(alloc);
     for (last, for_tid) in [(2, 5), (1, 0), (2, 0), (3, 5)] {
-        assert!(rt; open(&mut agreements, alloc, last, tid(for_tid)?, 0)?.is_none());
+        holds(
+            &rt,
+            open(&rt, alloc, &mut agreements, (last, for_tid), 0).is_none(),
+            "new",
+        );
     }
-    assert!(rt; agreements.get(station(2), tid(0)?).is_some());
-    assert!(rt; agreements.get(station(1), tid(5)?).is_none());
-    let replaced = open(&mut agreements, alloc, 2, tid(5)?, 7)?.ok_or("an agreement")?;
-    assert_eq!(rt; replaced.station(), station(2));
-    assert_eq!(rt; replaced.tid(), tid(5)?);
+    holds(
+        &rt,
+        agreements.get(station(2), tid(&rt, 0)).is_some(),
+        "kept",
+    );
+    holds(
+        &rt,
+        agreements.get(station(1), tid(&rt, 5)).is_none(),
+        "not kept",
+    );
+    let replaced = open(&rt, alloc, &mut agreements, (2, 5), 7);
+    let replaced = replaced.expect(&rt, "an agreement");
+    same(&rt, replaced.station(), station(2), "station");
+    same(&rt, replaced.tid(), tid(&rt, 5), "tid");
     let removed = agreements
-        .remove(station(1), tid(0)?)
-        .ok_or("an agreement")?;
-    assert_eq!(rt; removed.start(), number(100)?);
-    assert!(rt; agreements.remove(station(1), tid(0)?).is_none());
+        .remove(station(1), tid(&rt, 0))
+        .expect(&rt, "an agreement");
+    same(&rt, removed.start(), number(&rt, 100), "start");
+    holds(
+        &rt,
+        agreements.remove(station(1), tid(&rt, 0)).is_none(),
+        "not kept",
+    );
     agreements.discard(station(2));
-    assert!(rt; agreements.get(station(2), tid(0)?).is_none());
-    assert!(rt; agreements.get(station(2), tid(5)?).is_none());
-    assert!(rt; agreements.get(station(3), tid(5)?).is_some());
-    Ok(())
+    holds(
+        &rt,
+        agreements.get(station(2), tid(&rt, 0)).is_none(),
+        "not kept",
+    );
+    holds(
+        &rt,
+        agreements.get(station(2), tid(&rt, 5)).is_none(),
+        "not kept",
+    );
+    holds(
+        &rt,
+        agreements.get(station(3), tid(&rt, 5)).is_some(),
+        "kept",
+    );
 }
 
 #[test]
-fn late_agreements_end_in_order(rt: HostRuntime) -> Result<(), Fail> {
+fn late_agreements_end_in_order(rt: HostRuntime) {
     let alloc = rt.alloc();
     let mut agreements = Agreements::new(alloc);
     for (last, for_tid, timeout) in [(3, 0, 10), (2, 5, 10), (2, 0, 11), (1, 0, 0)] {
-        assert!(rt; open(&mut agreements, alloc, last, tid(for_tid)?, timeout)?.is_none());
+        holds(
+            &rt,
+            open(&rt, alloc, &mut agreements, (last, for_tid), timeout).is_none(),
+            "new",
+        );
     }
-    assert_eq!(rt; agreements.late(12), 0);
-    assert_eq!(rt; agreements.late(13), 2);
-    assert_eq!(rt; agreements.late_held(13), 0);
-    assert_eq!(rt; agreements.held(station(3), tid(0)?), 0);
+    same(&rt, agreements.late(12), 0, "late");
+    same(&rt, agreements.late(13), 2, "late");
+    same(&rt, agreements.late_held(13), 0, "late held");
+    same(&rt, agreements.held(station(3), tid(&rt, 0)), 0, "held");
     let count = agreements.late(13);
-    let mut ended = Vec::with_capacity(alloc, count)?;
+    let mut ended = Vec::with_capacity(alloc, count).expect(&rt, "memory");
     agreements.take_late(13, &mut ended);
-    assert_eq!(rt; ended.len(), 2);
-    assert_eq!(rt; ended[0].station(), station(2));
-    assert_eq!(rt; ended[0].tid(), tid(5)?);
-    assert_eq!(rt; ended[1].station(), station(3));
-    assert!(rt; agreements.get(station(2), tid(0)?).is_some());
-    assert!(rt; agreements.get(station(3), tid(0)?).is_none());
-    assert_eq!(rt; agreements.late(u64::MAX), 1);
-    Ok(())
+    counts(&rt, ended.len(), 2, "ended");
+    same(&rt, ended[0].station(), station(2), "station");
+    same(&rt, ended[0].tid(), tid(&rt, 5), "tid");
+    same(&rt, ended[1].station(), station(3), "station");
+    holds(
+        &rt,
+        agreements.get(station(2), tid(&rt, 0)).is_some(),
+        "kept",
+    );
+    holds(
+        &rt,
+        agreements.get(station(3), tid(&rt, 0)).is_none(),
+        "not kept",
+    );
+    same(&rt, agreements.late(u64::MAX), 1, "late");
 }
 
 #[test]
-fn windows_hand_up_in_order(rt: HostRuntime) -> Result<(), Fail> {
+fn windows_hand_up_in_order(rt: HostRuntime) {
     let alloc = rt.alloc();
-    let mut entry = Entry::new(alloc, station(1), tid(0)?)?.opened(number(100)?, 8, 0, 3);
+    let entry = Entry::new(alloc, station(1), tid(&rt, 0)).expect(&rt, "memory");
+    let mut entry = entry.opened(number(&rt, 100), 8, 0, 3);
     let mut out = Released::new();
-    let third = number(102)?;
-    let frame = held(alloc, b"c")?;
+    let third = number(&rt, 102);
+    let body = Octets::copy(alloc, b"c").expect(&rt, "memory");
+    let frame = Held::new(station(9), 5, body);
     assert!(rt; entry.wants(third));
-    assert_eq!(rt; entry.most_passed(third), 0);
+    same(&rt, entry.most_passed(third), 0, "most passed");
     entry.take(third, Some(frame), 4, &mut out);
-    assert_eq!(rt; out.len(), 0);
-    assert_eq!(rt; entry.held(), 1);
-    assert_eq!(rt; entry.most_passed(number(100)?), 2);
+    counts(&rt, out.len(), 0, "handed up");
+    same(&rt, entry.held(), 1, "held");
+    same(&rt, entry.most_passed(number(&rt, 100)), 2, "entry");
     assert!(rt; !entry.wants(third));
     entry.leave(third, 5);
-    entry.request(number(101)?, 6, &mut out);
-    assert_eq!(rt; out.len(), 0);
-    assert_eq!(rt; entry.start(), number(101)?);
+    entry.request(number(&rt, 101), 6, &mut out);
+    counts(&rt, out.len(), 0, "handed up");
+    same(&rt, entry.start(), number(&rt, 101), "start");
     let (start, bits) = entry.scoreboard();
-    assert_eq!(rt; start, number(101)?);
-    assert_eq!(rt; bits, 2);
+    same(&rt, start, number(&rt, 101), "start");
+    same(&rt, bits, 2, "bits");
     let mut out = Released::new();
     entry.close(&mut out);
-    assert_eq!(rt; out.len(), 1);
+    counts(&rt, out.len(), 1, "handed up");
     let (first, frame) = out.remove(0);
-    assert_eq!(rt; first, 102);
+    same(&rt, first, 102, "first");
     let up = frame
-        .up(station(1), tid(0)?, number(102)?)
-        .ok_or("a frame")?;
-    assert_eq!(rt; up.mark, 5);
-    assert_eq!(rt; up.destination, station(9));
-    assert_eq!(rt; up.body.bytes(), b"c".as_slice());
-    Ok(())
+        .up(station(1), tid(&rt, 0), number(&rt, 102))
+        .expect(&rt, "a frame");
+    same(&rt, up.mark, 5, "mark");
+    same(&rt, up.destination, station(9), "destination");
+    same(&rt, up.body.bytes(), b"c".as_slice(), "bytes");
 }

@@ -1,13 +1,13 @@
 //! Frames that were spelled apart from this code.
 
+use crate::same::{counts, holds, same};
 use mac_frame::{
     AckPolicy, Address, AidField, BlockAckParameters, BlockAckPolicy, BufferSize, Content, Control,
     DataKind, Elements, ElementsBuf, Fault, FrameFault, MacFrame, Management, Reason,
     SequenceNumber, Status, Tid, parse, write, written_is_read,
 };
-use std::alloc::{AllocError, Global};
+use std::alloc::Global;
 use std::process::Abort;
-use std::test::*;
 
 /// One frame of each kind. The elements and data are longer than nothing where there may be some.
 const KINDS: [&str; 16] = [
@@ -30,7 +30,7 @@ const KINDS: [&str; 16] = [
 ];
 
 /// The bytes of hexadecimal digits, whatever stands between them.
-fn hex(alloc: Global, digits: &str) -> Result<Vec<u8>, AllocError> {
+fn hex(rt: &impl Abort, alloc: Global, digits: &str) -> Vec<u8> {
     let mut bytes = Vec::new(alloc);
     let mut upper: Option<u8> = None;
     for digit in digits.bytes() {
@@ -42,50 +42,71 @@ fn hex(alloc: Global, digits: &str) -> Result<Vec<u8>, AllocError> {
         match upper {
             None => upper = Some(value),
             Some(high) => {
-                bytes.push(high.wrapping_mul(16).wrapping_add(value))?;
+                let byte = high.wrapping_mul(16).wrapping_add(value);
+                bytes.push(byte).expect(rt, "memory");
                 upper = None;
             }
         }
     }
-    Ok(bytes)
+    bytes
 }
 
 /// The number of the fault, 0 where there is a frame.
-fn number_of(read: &Result<MacFrame, FrameFault>) -> u8 {
-    match read {
+fn number_of(alloc: Global, bytes: &[u8]) -> u8 {
+    match parse(alloc, bytes) {
         Ok(_) => 0,
         Err(FrameFault::Memory) => 255,
         Err(FrameFault::Fault(fault)) => fault.number(),
     }
 }
 
-/// The number of the first fault of hexadecimal digits.
-fn fault_of(alloc: Global, digits: &str) -> Result<u8, AllocError> {
-    let bytes = hex(alloc, digits)?;
-    Ok(number_of(&parse(alloc, &bytes)))
-}
-
 /// The frame of hexadecimal digits.
-fn frame(alloc: Global, digits: &str) -> Result<MacFrame, Fail> {
-    let bytes = hex(alloc, digits)?;
-    Ok(parse(alloc, &bytes)?)
+fn frame(rt: &impl Abort, alloc: Global, digits: &str) -> MacFrame {
+    let bytes = hex(rt, alloc, digits);
+    parse(alloc, &bytes).expect(rt, digits)
 }
 
-fn address(alloc: Global, digits: &str) -> Result<Address, Fail> {
-    let bytes = hex(alloc, digits)?;
-    match bytes.as_slice() {
-        [a, b, c, d, e, f] => Ok(Address::new([*a, *b, *c, *d, *e, *f])),
-        _ => Err(Fail::from("six octets")),
+fn address(rt: &impl Abort, alloc: Global, digits: &str) -> Address {
+    match hex(rt, alloc, digits).as_slice() {
+        [a, b, c, d, e, f] => Address::new([*a, *b, *c, *d, *e, *f]),
+        _ => rt.panic("six octets"),
     }
 }
 
+/// What is written of a frame.
+fn spelling(rt: &impl Abort, alloc: Global, frame: &MacFrame) -> Vec<u8> {
+    let mut out = Vec::new(alloc);
+    write(frame, &mut out).expect(rt, "memory");
+    out
+}
+
+/// Bytes are refused by a number, or read and written again as they are.
+fn is_read_or_refused(rt: &impl Abort, alloc: Global, bytes: &[u8]) -> bool {
+    match parse(alloc, bytes) {
+        Ok(frame) => {
+            same(
+                rt,
+                spelling(rt, alloc, &frame).as_slice(),
+                bytes,
+                "spelling",
+            );
+            true
+        }
+        Err(FrameFault::Memory) => rt.panic("memory"),
+        Err(FrameFault::Fault(fault)) => {
+            holds(rt, (50..=55).contains(&fault.number()), "contains");
+            false
+        }
+    }
+}
+
+const REQUEST: &str =
+    "00000000 020000000001 02000000000a 020000000001 2000 0100 0a00 0003 6c6162 0104 82848b96";
+
 #[test]
-fn an_association_request_cut_at_every_length(rt: HostRuntime) -> Result<(), Fail> {
-    let bytes = hex(
-        rt.alloc(),
-        "00000000 020000000001 02000000000a 020000000001 2000 0100 0a00 0003 6c6162 0104 82848b96",
-    )?;
-    assert_eq!(rt; bytes.len(), 39);
+fn an_association_request_cut_at_every_length(rt: HostRuntime) {
+    let bytes = hex(&rt, rt.alloc(), REQUEST);
+    counts(&rt, bytes.len(), 39, "bytes");
     for len in 0..40usize {
         let wanted = match len {
             0..24 => 50,
@@ -93,10 +114,9 @@ fn an_association_request_cut_at_every_length(rt: HostRuntime) -> Result<(), Fai
             28 | 33 | 39 => 0,
             _ => 54,
         };
-        let read = parse(rt.alloc(), &bytes[..len]);
-        assert_eq!(rt; number_of(&read), wanted, "{len} bytes");
+        let number = number_of(rt.alloc(), &bytes[..len]);
+        same(&rt, (len, number), (len, wanted), "bytes, fault");
     }
-    Ok(())
 }
 
 /// Frames, each with one thing wrong, by the number of the fault.
@@ -166,14 +186,18 @@ const REFUSED: [(u8, &[&str]); 5] = [
     ),
 ];
 
+fn has_fault(rt: &impl Abort, alloc: Global, digits: &str, number: u8) {
+    let bytes = hex(rt, alloc, digits);
+    same(rt, number_of(alloc, &bytes), number, digits);
+}
+
 #[test]
-fn the_first_fault_is_named(rt: HostRuntime) -> Result<(), Fail> {
+fn the_first_fault_is_named(rt: HostRuntime) {
     for (number, frames) in REFUSED {
         for digits in frames {
-            assert_eq!(rt; fault_of(rt.alloc(), digits)?, number, "{digits}");
+            has_fault(&rt, rt.alloc(), digits, number);
         }
     }
-    Ok(())
 }
 
 /// Data frames: from where, to where, the TID or 255, the number, the data.
@@ -244,317 +268,345 @@ const DATA: [(&str, &str, &str, u8, u16, &str); 8] = [
     ),
 ];
 
-fn management_body(frame: &MacFrame) -> Result<Management, Fail> {
-    match frame.content() {
-        Content::Management { body, .. } => Ok(body),
-        _ => Err(Fail::from("a management frame")),
-    }
+/// Who sent a frame of data, whether its receiver is the access point, and where it goes.
+fn ends_of(rt: &impl Abort, alloc: Global, digits: &str) -> (Address, bool, Address) {
+    let read = frame(rt, alloc, digits);
+    let destination = match read.content() {
+        Content::Data { destination, .. } => destination,
+        _ => rt.panic("a data frame"),
+    };
+    (
+        read.sender(),
+        read.bssid() == Some(read.receiver()),
+        destination,
+    )
 }
 
-fn control_body(frame: &MacFrame) -> Result<Control, Fail> {
-    match frame.content() {
-        Content::Control { body } => Ok(body),
-        _ => Err(Fail::from("a control frame")),
-    }
-}
-
-/// Where a data frame goes.
-fn destination_of(frame: &MacFrame) -> Result<Address, Fail> {
-    match frame.content() {
-        Content::Data { destination, .. } => Ok(destination),
-        _ => Err(Fail::from("a data frame")),
-    }
+/// Its TID, or 255, its number, and whether its data are these.
+fn data_of(
+    rt: &impl Abort,
+    alloc: Global,
+    digits: &str,
+    body: &str,
+) -> (u8, Option<SequenceNumber>, bool) {
+    let read = frame(rt, alloc, digits);
+    let tid = read.tid().map_or(255, |t| t.number());
+    let number = read.sequence_number();
+    let data = hex(rt, alloc, body);
+    (tid, number, read.into_tail().as_slice() == data.as_slice())
 }
 
 #[test]
-fn ends_of_data_are_read(rt: HostRuntime) -> Result<(), Fail> {
+fn data_are_read(rt: HostRuntime) {
     let alloc = rt.alloc();
-    for (digits, source, destination, _, _, _) in DATA {
-        let read = frame(alloc, digits)?;
-        assert_eq!(rt; read.sender(), address(alloc, source)?, "{digits}");
-        assert_eq!(rt; read.bssid(), Some(read.receiver()), "{digits}");
-        let found = destination_of(&read)?;
-        assert_eq!(rt; found, address(alloc, destination)?, "{digits}");
+    for (digits, source, destination, tid, number, body) in DATA {
+        let source = address(&rt, alloc, source);
+        let destination = address(&rt, alloc, destination);
+        let found = ends_of(&rt, alloc, digits);
+        same(&rt, found, (source, true, destination), digits);
+        let found = data_of(&rt, alloc, digits, body);
+        let number = SequenceNumber::new(number);
+        same(&rt, found, (tid, number, true), digits);
     }
-    Ok(())
 }
 
 #[test]
-fn numbers_and_bytes_of_data_are_read(rt: HostRuntime) -> Result<(), Fail> {
-    let alloc = rt.alloc();
-    for (digits, _, _, tid, number, body) in DATA {
-        let read = frame(alloc, digits)?;
-        assert_eq!(rt; read.tid().map_or(255, |t| t.number()), tid, "{digits}");
-        let sequence = read.sequence_number();
-        assert_eq!(rt; sequence, SequenceNumber::new(number), "{digits}");
-        let data = hex(alloc, body)?;
-        assert_eq!(rt; read.into_tail().as_slice(), data.as_slice(), "{digits}");
-    }
-    Ok(())
-}
-
-#[test]
-fn ignored_bits_are_kept(rt: HostRuntime) -> Result<(), Fail> {
+fn ignored_bits_are_kept(rt: HostRuntime) {
     let read = frame(
+        &rt,
         rt.alloc(),
         "8839d013 6e44818c50ef 020000000123 785348a53166 9082 72fe 00",
-    )?;
+    );
     let flags = read.flags();
-    assert!(rt; flags.retry && flags.power_management && flags.more_data);
-    assert_eq!(rt; read.duration(), 0x13d0);
+    holds(
+        &rt,
+        flags.retry && flags.power_management && flags.more_data,
+        "more data",
+    );
+    same(&rt, read.duration(), 0x13d0, "duration");
     match read.content() {
         Content::Data {
             kind: DataKind::QosData { qos },
             ..
         } => {
-            assert_eq!(rt; qos.tid.number(), 2);
-            assert!(rt; qos.end_of_service_period);
-            assert_eq!(rt; qos.ack_policy, AckPolicy::BlockAck);
-            assert_eq!(rt; qos.upper, 0xfe);
+            same(&rt, (qos.tid.number(), qos.upper), (2, 0xfe), "qos");
+            holds(&rt, qos.end_of_service_period, "end of service period");
+            same(&rt, qos.ack_policy, AckPolicy::BlockAck, "ack policy");
         }
         _ => assert!(rt; false),
     }
-    Ok(())
 }
 
 #[test]
-fn the_header_of_an_association_request_is_read(rt: HostRuntime) -> Result<(), Fail> {
+fn an_association_request_is_read(rt: HostRuntime) {
     let alloc = rt.alloc();
-    let read = frame(alloc, KINDS[0])?;
-    assert_eq!(rt; read.sender(), address(alloc, "02000000001d")?);
-    assert_eq!(rt; read.bssid(), Some(address(alloc, "a2d60169b8b7")?));
-    assert_eq!(rt; read.sequence_number(), SequenceNumber::new(0xaa7));
-    assert!(rt; read.tid().is_none());
-    Ok(())
-}
-
-#[test]
-fn the_elements_of_an_association_request_are_read(rt: HostRuntime) -> Result<(), Fail> {
-    let read = frame(rt.alloc(), KINDS[0])?;
+    let read = frame(&rt, alloc, KINDS[0]);
+    same(
+        &rt,
+        read.sender(),
+        address(&rt, alloc, "02000000001d"),
+        "sender",
+    );
+    same(
+        &rt,
+        read.bssid(),
+        Some(address(&rt, alloc, "a2d60169b8b7")),
+        "bssid",
+    );
+    same(
+        &rt,
+        read.sequence_number(),
+        SequenceNumber::new(0xaa7),
+        "sequence number",
+    );
+    holds(&rt, read.tid().is_none(), "tid");
     let rates = [0x82, 0x84, 0x8b, 0x96];
-    assert_eq!(rt; read.ssid().ok_or("an SSID")?, b"lab".as_slice());
-    assert_eq!(rt; read.rates().ok_or("rates")?, rates.as_slice());
-    assert!(rt; read.elements().first(2).is_none());
-    Ok(())
+    same(
+        &rt,
+        read.ssid().expect(&rt, "an SSID"),
+        b"lab".as_slice(),
+        "ssid",
+    );
+    same(
+        &rt,
+        read.rates().expect(&rt, "rates"),
+        rates.as_slice(),
+        "rates",
+    );
+    holds(&rt, read.elements().first(2).is_none(), "first");
+}
+
+/// The body of a management frame.
+fn management_body(rt: &impl Abort, alloc: Global, digits: &str) -> Management {
+    match frame(rt, alloc, digits).content() {
+        Content::Management { body, .. } => body,
+        _ => rt.panic("a management frame"),
+    }
 }
 
 #[test]
-fn the_body_of_an_association_request_is_read(rt: HostRuntime) -> Result<(), Fail> {
-    let read = frame(rt.alloc(), KINDS[0])?;
-    match management_body(&read)? {
+fn the_body_of_an_association_request_is_read(rt: HostRuntime) {
+    match management_body(&rt, rt.alloc(), KINDS[0]) {
         Management::AssociationRequest {
             capability,
             listen_interval,
         } => {
-            assert_eq!(rt; (capability.field(), listen_interval), (3, 5));
-            assert!(rt; capability.is_ess());
+            same(
+                &rt,
+                (capability.field(), listen_interval),
+                (3, 5),
+                "capability",
+            );
+            holds(&rt, capability.is_ess(), "is ess");
         }
         _ => assert!(rt; false),
     }
-    Ok(())
 }
 
 #[test]
-fn the_first_of_two_elements_counts(rt: HostRuntime) -> Result<(), Fail> {
-    let bytes = hex(rt.alloc(), "0100 0002 6162 0001 63 0102 8284 0101 96")?;
-    let elements = Elements::read(&bytes).ok_or("elements")?;
-    assert_eq!(rt; elements.first(0).ok_or("an SSID")?, b"ab".as_slice());
-    assert!(rt; elements.first(1).ok_or("rates")?.is_empty());
-    assert_eq!(rt;
-        elements.first_nonempty(1).ok_or("rates")?,
-        [0x82, 0x84].as_slice()
+fn the_first_of_two_elements_counts(rt: HostRuntime) {
+    let bytes = hex(&rt, rt.alloc(), "0100 0002 6162 0001 63 0102 8284 0101 96");
+    let elements = Elements::read(&bytes).expect(&rt, "elements");
+    let rates = [0x82, 0x84];
+    same(
+        &rt,
+        elements.first(0).expect(&rt, "an SSID"),
+        b"ab".as_slice(),
+        "first",
     );
-    assert!(rt; Elements::read(&hex(rt.alloc(), "0100 0002 61")?).is_none());
-    Ok(())
+    holds(
+        &rt,
+        elements.first(1).expect(&rt, "rates").is_empty(),
+        "is empty",
+    );
+    let first = elements.first_nonempty(1).expect(&rt, "rates");
+    same(&rt, first, rates.as_slice(), "first");
+    let cut = hex(&rt, rt.alloc(), "0100 0002 61");
+    holds(&rt, Elements::read(&cut).is_none(), "read");
 }
 
 #[test]
-fn block_acknowledgement_is_read(rt: HostRuntime) -> Result<(), Fail> {
-    let alloc = rt.alloc();
-    let request = frame(alloc, KINDS[7])?;
-    let asked = request.block_ack_parameters().ok_or("parameters")?;
-    assert!(rt; !asked.amsdu_supported);
-    assert_eq!(rt; asked.policy, BlockAckPolicy::Immediate);
-    assert_eq!(rt; asked.tid.number(), 0);
-    assert_eq!(rt; asked.buffer_size.number(), 4);
-    match management_body(&request)? {
+fn block_acknowledgement_is_read(rt: HostRuntime) {
+    let request = frame(&rt, rt.alloc(), KINDS[7]);
+    let asked = request.block_ack_parameters().expect(&rt, "parameters");
+    holds(&rt, !asked.amsdu_supported, "amsdu supported");
+    same(&rt, asked.policy, BlockAckPolicy::Immediate, "policy");
+    same(
+        &rt,
+        (asked.tid.number(), asked.buffer_size.number()),
+        (0, 4),
+        "asked",
+    );
+    match management_body(&rt, rt.alloc(), KINDS[7]) {
         Management::AddbaRequest {
             dialog_token,
             timeout,
             start,
             ..
-        } => {
-            assert_eq!(rt; dialog_token, 7);
-            assert_eq!(rt; timeout, 0);
-            assert_eq!(rt; start.number(), 4094);
-        }
+        } => same(
+            &rt,
+            (dialog_token, timeout, start.number()),
+            (7, 0, 4094),
+            "dialog token",
+        ),
         _ => assert!(rt; false),
     }
-    Ok(())
+}
+
+/// The body of a control frame.
+fn control_body(rt: &impl Abort, alloc: Global, digits: &str) -> Control {
+    match frame(rt, alloc, digits).content() {
+        Content::Control { body } => body,
+        _ => rt.panic("a control frame"),
+    }
 }
 
 #[test]
-fn block_ack_frames_are_read(rt: HostRuntime) -> Result<(), Fail> {
-    let alloc = rt.alloc();
-    let request = frame(alloc, "8400 0000 020000000001 02000000001c 0410 2087")?;
-    match control_body(&request)? {
+fn block_ack_frames_are_read(rt: HostRuntime) {
+    let request = "8400 0000 020000000001 02000000001c 0410 2087";
+    match control_body(&rt, rt.alloc(), request) {
         Control::BlockAckReq { tid, start } => {
-            assert_eq!(rt; tid.number(), 1);
-            assert_eq!(rt; start.number(), 0x872);
+            same(&rt, (tid.number(), start.number()), (1, 0x872), "tid");
         }
         _ => assert!(rt; false),
     }
-    match control_body(&frame(alloc, KINDS[11])?)? {
+    match control_body(&rt, rt.alloc(), KINDS[11]) {
         Control::BlockAck { tid, start, bitmap } => {
-            assert_eq!(rt; tid.number(), 0);
-            assert_eq!(rt; start.number(), 4094);
-            assert_eq!(rt; bitmap, 7);
+            same(
+                &rt,
+                (tid.number(), start.number(), bitmap),
+                (0, 4094, 7),
+                "tid",
+            );
         }
         _ => assert!(rt; false),
     }
-    Ok(())
 }
 
-/// What is written of a frame.
-fn spelling(alloc: Global, frame: &MacFrame) -> Result<Vec<u8>, AllocError> {
-    let mut out = Vec::new(alloc);
-    write(frame, &mut out)?;
-    Ok(out)
+/// A frame is written as these digits.
+fn is_spelled(rt: &impl Abort, alloc: Global, frame: MacFrame, digits: &str) {
+    let wanted = hex(rt, alloc, digits);
+    let found = spelling(rt, alloc, &frame);
+    same(rt, found.as_slice(), wanted.as_slice(), digits);
 }
 
-/// A station, and the access point's own address.
-fn both_ends(alloc: Global) -> Result<(Address, Address), Fail> {
-    let station = address(alloc, "02000000000a")?;
-    Ok((station, address(alloc, "020000000001")?))
+fn a_station() -> Address {
+    Address::new([2, 0, 0, 0, 0, 10])
 }
 
-/// Each frame is written as these digits.
-fn are_spelled(rt: &impl Abort, alloc: Global, rows: &[(MacFrame, &str)]) -> Result<(), Fail> {
-    for (frame, digits) in rows {
-        let wanted = hex(alloc, digits)?;
-        assert_eq!(rt;
-            spelling(alloc, frame)?.as_slice(),
-            wanted.as_slice(),
-            "{digits}"
-        );
-    }
-    Ok(())
+fn the_access_point() -> Address {
+    Address::new([2, 0, 0, 0, 0, 1])
+}
+
+/// Four rates.
+fn rates(rt: &impl Abort, alloc: Global) -> ElementsBuf {
+    ElementsBuf::rates(alloc, &[0x82, 0x84, 0x8b, 0x96]).expect(rt, "memory")
 }
 
 #[test]
-fn answers_to_stations_are_spelled(rt: HostRuntime) -> Result<(), Fail> {
+fn answers_to_stations_are_spelled(rt: HostRuntime) {
     let alloc = rt.alloc();
-    let (station, bssid) = both_ends(alloc)?;
-    let rates = [0x82, 0x84, 0x8b, 0x96];
+    let (station, bssid) = (a_station(), the_access_point());
     let (granted, none) = (AidField::granted(2), AidField::NONE);
     let (admitted, full) = (Status::SUCCESS, Status::DENIED_NO_MORE_STAS);
-    let (some, same) = (
-        ElementsBuf::rates(alloc, &rates)?,
-        ElementsBuf::rates(alloc, &rates)?,
+    is_spelled(
+        &rt,
+        alloc,
+        MacFrame::authentication(alloc, station, bssid, 0, admitted),
+        "b0000000 02000000000a 020000000001 020000000001 0000 000002000000",
     );
-    let rows = [
-        (
-            MacFrame::authentication(alloc, station, bssid, 0, admitted),
-            "b0000000 02000000000a 020000000001 020000000001 0000 000002000000",
-        ),
-        (
-            MacFrame::association_response(station, bssid, admitted, granted, some),
-            "10000000 02000000000a 020000000001 020000000001 0000 0100 0000 02c0 0104 82848b96",
-        ),
-        (
-            MacFrame::reassociation_response(station, bssid, full, none, same),
-            "30000000 02000000000a 020000000001 020000000001 0000 0100 1100 0000 0104 82848b96",
-        ),
-    ];
-    are_spelled(&rt, alloc, &rows)
+    let some = rates(&rt, alloc);
+    is_spelled(
+        &rt,
+        alloc,
+        MacFrame::association_response(station, bssid, admitted, granted, some),
+        "10000000 02000000000a 020000000001 020000000001 0000 0100 0000 02c0 0104 82848b96",
+    );
+    let some = rates(&rt, alloc);
+    is_spelled(
+        &rt,
+        alloc,
+        MacFrame::reassociation_response(station, bssid, full, none, some),
+        "30000000 02000000000a 020000000001 020000000001 0000 0100 1100 0000 0104 82848b96",
+    );
 }
 
 #[test]
-fn departures_are_spelled(rt: HostRuntime) -> Result<(), Fail> {
+fn departures_are_spelled(rt: HostRuntime) {
     let alloc = rt.alloc();
-    let (station, bssid) = both_ends(alloc)?;
-    let tid = Tid::new(5).ok_or("a TID")?;
-    let rows = [
-        (
-            MacFrame::disassociation(alloc, station, bssid, Reason::INVALID_CLASS3_FRAME),
-            "a0000000 02000000000a 020000000001 020000000001 0000 0700",
-        ),
-        (
-            MacFrame::deauthentication(alloc, station, bssid, Reason::INVALID_CLASS2_FRAME),
-            "c0000000 02000000000a 020000000001 020000000001 0000 0600",
-        ),
-        (
-            MacFrame::delba(alloc, station, bssid, tid, Reason::TIMEOUT),
-            "d0000000 02000000000a 020000000001 020000000001 0000 0302 0050 2700",
-        ),
-        (
-            MacFrame::delba(alloc, station, bssid, tid, Reason::END_BA),
-            "d0000000 02000000000a 020000000001 020000000001 0000 0302 0050 2500",
-        ),
-    ];
-    are_spelled(&rt, alloc, &rows)
+    let (station, bssid) = (a_station(), the_access_point());
+    is_spelled(
+        &rt,
+        alloc,
+        MacFrame::disassociation(alloc, station, bssid, Reason::INVALID_CLASS3_FRAME),
+        "a0000000 02000000000a 020000000001 020000000001 0000 0700",
+    );
+    is_spelled(
+        &rt,
+        alloc,
+        MacFrame::deauthentication(alloc, station, bssid, Reason::INVALID_CLASS2_FRAME),
+        "c0000000 02000000000a 020000000001 020000000001 0000 0600",
+    );
+    let tid = Tid::new(5).expect(&rt, "a TID");
+    is_spelled(
+        &rt,
+        alloc,
+        MacFrame::delba(alloc, station, bssid, tid, Reason::TIMEOUT),
+        "d0000000 02000000000a 020000000001 020000000001 0000 0302 0050 2700",
+    );
+    is_spelled(
+        &rt,
+        alloc,
+        MacFrame::delba(alloc, station, bssid, tid, Reason::END_BA),
+        "d0000000 02000000000a 020000000001 020000000001 0000 0302 0050 2500",
+    );
+}
+
+/// The parameters of an immediate policy for TID 0 with this size.
+fn parameters(rt: &impl Abort, size: u16) -> BlockAckParameters {
+    let zero = Tid::new(0).expect(rt, "a TID");
+    BlockAckParameters::immediate(zero, BufferSize::new(size).expect(rt, "a size"))
 }
 
 #[test]
-fn block_acknowledgements_are_spelled(rt: HostRuntime) -> Result<(), Fail> {
+fn block_acknowledgements_are_spelled(rt: HostRuntime) {
     let alloc = rt.alloc();
-    let (station, bssid) = both_ends(alloc)?;
-    let zero = Tid::new(0).ok_or("a TID")?;
-    let start = SequenceNumber::new(4094).ok_or("a number")?;
-    let four = BlockAckParameters::immediate(zero, BufferSize::new(4).ok_or("a size")?);
-    let none = BlockAckParameters::immediate(zero, BufferSize::new(0).ok_or("a size")?);
+    let (station, bssid) = (a_station(), the_access_point());
+    let (four, none) = (parameters(&rt, 4), parameters(&rt, 0));
     let (granted, declined) = (Status::SUCCESS, Status::REQUEST_DECLINED);
-    let rows = [
-        (
-            MacFrame::addba_response(alloc, station, bssid, 7, granted, four, 0),
-            "d0000000 02000000000a 020000000001 020000000001 0000 0301 07 0000 0201 0000",
-        ),
-        (
-            MacFrame::addba_response(alloc, station, bssid, 7, declined, none, 0),
-            "d0000000 02000000000a 020000000001 020000000001 0000 0301 07 2500 0200 0000",
-        ),
-        (
-            MacFrame::block_ack(alloc, station, bssid, zero, start, 7),
-            "94000000 02000000000a 020000000001 0400 e0ff 0700000000000000",
-        ),
-    ];
-    are_spelled(&rt, alloc, &rows)
+    is_spelled(
+        &rt,
+        alloc,
+        MacFrame::addba_response(alloc, station, bssid, 7, granted, four, 0),
+        "d0000000 02000000000a 020000000001 020000000001 0000 0301 07 0000 0201 0000",
+    );
+    is_spelled(
+        &rt,
+        alloc,
+        MacFrame::addba_response(alloc, station, bssid, 7, declined, none, 0),
+        "d0000000 02000000000a 020000000001 020000000001 0000 0301 07 2500 0200 0000",
+    );
+    let start = SequenceNumber::new(4094).expect(&rt, "a number");
+    let zero = Tid::new(0).expect(&rt, "a TID");
+    is_spelled(
+        &rt,
+        alloc,
+        MacFrame::block_ack(alloc, station, bssid, zero, start, 7),
+        "94000000 02000000000a 020000000001 0400 e0ff 0700000000000000",
+    );
 }
 
-#[test]
-fn what_is_written_is_read(rt: HostRuntime) -> Result<(), Fail> {
-    let alloc = rt.alloc();
+/// A frame is written, and read again as it is.
+fn is_written_and_read(rt: &impl Abort, alloc: Global, digits: &str) {
     let mut out = Vec::new(alloc);
-    for digits in KINDS {
-        let wanted = hex(alloc, digits)?;
-        let read = written_is_read(&frame(alloc, digits)?, &mut out)?;
-        assert_eq!(rt;
-            spelling(alloc, &read)?.as_slice(),
-            wanted.as_slice(),
-            "{digits}"
-        );
-    }
-    assert!(rt; out.starts_with(&hex(alloc, KINDS[0])?));
-    Ok(())
+    let read = written_is_read(&frame(rt, alloc, digits), &mut out).expect(rt, digits);
+    let wanted = hex(rt, alloc, digits);
+    same(rt, out.as_slice(), wanted.as_slice(), digits);
+    is_spelled(rt, alloc, read, digits);
 }
 
-/// Bytes are refused by a number, or read and written again as they are.
-fn is_read_or_refused(rt: &impl Abort, alloc: Global, bytes: &[u8]) -> Result<bool, Fail> {
-    match parse(alloc, bytes) {
-        Ok(frame) => {
-            assert_eq!(rt; spelling(alloc, &frame)?.as_slice(), bytes);
-            Ok(true)
-        }
-        Err(FrameFault::Memory) => Err(Fail::from("memory")),
-        Err(FrameFault::Fault(fault)) => {
-            assert!(rt; (50..=55).contains(&fault.number()));
-            Ok(false)
-        }
-    }
-}
-
-/// Of each kind: how long its header is, how long it is with its fixed fields, and at which lengths the
-/// frame above ends with an element or within its data.
+/// Of each kind: how long its header is, how long it is with its fixed fields, and at which lengths
+/// the frame above ends with an element or within its data.
 const CUTS: [(usize, usize, &[usize]); 16] = [
     (24, 28, &[28, 33, 39]),
     (24, 30, &[30, 36]),
@@ -574,71 +626,82 @@ const CUTS: [(usize, usize, &[usize]); 16] = [
     (26, 26, &[26]),
 ];
 
-#[test]
-fn every_kind_cut_at_every_length(rt: HostRuntime) -> Result<(), Fail> {
-    let alloc = rt.alloc();
-    for (digits, (header, fixed, whole)) in KINDS.into_iter().zip(CUTS) {
-        let bytes = hex(alloc, digits)?;
-        for len in 0..=bytes.len() {
-            let wanted = match len {
-                _ if len < header => 50,
-                _ if len < fixed => 55,
-                _ if whole.contains(&len) => 0,
-                _ => 54,
-            };
-            let read = parse(alloc, &bytes[..len]);
-            assert_eq!(rt; number_of(&read), wanted, "{len} bytes of {digits}");
-            let _ = is_read_or_refused(&rt, alloc, &bytes[..len])?;
-        }
-        assert!(rt; whole.contains(&bytes.len()), "{digits}");
+/// A frame of a kind, cut at each length.
+fn is_cut(rt: &impl Abort, alloc: Global, digits: &str, cut: (usize, usize, &[usize])) {
+    let bytes = hex(rt, alloc, digits);
+    let (header, fixed, whole) = cut;
+    for len in 0..=bytes.len() {
+        let wanted = match len {
+            _ if len < header => 50,
+            _ if len < fixed => 55,
+            _ if whole.contains(&len) => 0,
+            _ => 54,
+        };
+        let number = number_of(alloc, &bytes[..len]);
+        same(rt, (len, number), (len, wanted), digits);
+        is_read_or_refused(rt, alloc, &bytes[..len]);
     }
-    Ok(())
+    holds(rt, whole.contains(&bytes.len()), digits);
 }
 
 #[test]
-fn every_byte_of_every_kind_set_to_every_value(rt: HostRuntime) -> Result<(), Fail> {
-    let alloc = rt.alloc();
+fn every_kind_is_written_and_read_and_cut_at_every_length(rt: HostRuntime) {
+    for (digits, cut) in KINDS.into_iter().zip(CUTS) {
+        is_written_and_read(&rt, rt.alloc(), digits);
+        is_cut(&rt, rt.alloc(), digits, cut);
+    }
+}
+
+/// In how many ways a frame is read with one byte set to each value.
+fn count_read(rt: &impl Abort, alloc: Global, digits: &str) -> u64 {
+    let mut bytes = hex(rt, alloc, digits);
     let mut read = 0u64;
-    for digits in KINDS {
-        let mut bytes = hex(alloc, digits)?;
-        for at in 0..bytes.len() {
-            let was = bytes[at];
-            for value in 0..=255u8 {
-                bytes[at] = value;
-                if is_read_or_refused(&rt, alloc, &bytes)? {
-                    read = read.wrapping_add(1);
-                }
+    for at in 0..bytes.len() {
+        let was = bytes[at];
+        for value in 0..=255u8 {
+            bytes[at] = value;
+            if is_read_or_refused(rt, alloc, &bytes) {
+                read = read.wrapping_add(1);
             }
-            bytes[at] = was;
         }
+        bytes[at] = was;
     }
-    assert!(rt; read > 0);
-    Ok(())
+    read
 }
 
 #[test]
-fn a_frame_has_2400_bytes_at_most(rt: HostRuntime) -> Result<(), Fail> {
-    let alloc = rt.alloc();
-    let mut bytes = hex(alloc, KINDS[12])?;
-    bytes.resize(2400, 0x5a)?;
-    let mut kept = bytes.clone()?;
-    assert!(rt; is_read_or_refused(&rt, alloc, &bytes)?);
-    kept.push(0)?;
-    assert_eq!(rt; number_of(&parse(alloc, &kept)), 55);
-    Ok(())
+fn every_byte_of_every_kind_set_to_every_value(rt: HostRuntime) {
+    for digits in KINDS {
+        holds(&rt, count_read(&rt, rt.alloc(), digits) > 0, "count read");
+    }
 }
 
 #[test]
-fn a_fault_tells_what_it_is(rt: HostRuntime) -> Result<(), Fail> {
-    let alloc = rt.alloc();
-    let fault = FrameFault::Fault(Fault::ElementCut);
-    assert_eq!(rt; fault.to_string(alloc)?.as_str(), "an element is cut");
-    assert_eq!(rt;
-        FrameFault::Memory.to_string(alloc)?.as_str(),
-        "out of memory"
+fn a_frame_has_2400_bytes_at_most(rt: HostRuntime) {
+    let mut bytes = hex(&rt, rt.alloc(), KINDS[12]);
+    bytes.resize(2400, 0x5a).expect(&rt, "memory");
+    holds(
+        &rt,
+        is_read_or_refused(&rt, rt.alloc(), &bytes),
+        "is read or refused",
     );
-    let station = address(alloc, "02000000000a")?;
-    assert_eq!(rt; station.to_string(alloc)?.as_str(), "02000000000a");
-    assert_eq!(rt; Reason::TIMEOUT.to_string(alloc)?.as_str(), "39");
-    Ok(())
+    bytes.push(0).expect(&rt, "memory");
+    same(&rt, number_of(rt.alloc(), &bytes), 55, "number of");
+}
+
+/// A fault is told with this text.
+fn is_told(rt: &impl Abort, alloc: Global, fault: FrameFault, text: &str) {
+    let told = fault.to_string(alloc).expect(rt, "memory");
+    same(rt, told.as_str(), text, "told");
+}
+
+#[test]
+fn a_fault_tells_what_it_is(rt: HostRuntime) {
+    let cut = FrameFault::Fault(Fault::ElementCut);
+    is_told(&rt, rt.alloc(), cut, "an element is cut");
+    is_told(&rt, rt.alloc(), FrameFault::Memory, "out of memory");
+    let station = a_station().to_string(rt.alloc()).expect(&rt, "memory");
+    same(&rt, station.as_str(), "02000000000a", "station");
+    let reason = Reason::TIMEOUT.to_string(rt.alloc()).expect(&rt, "memory");
+    same(&rt, reason.as_str(), "39", "reason");
 }

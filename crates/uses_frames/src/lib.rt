@@ -11,6 +11,8 @@ mod fields;
 #[cfg(test)]
 mod frames;
 #[cfg(test)]
+mod same;
+#[cfg(test)]
 mod stations;
 #[cfg(test)]
 mod verdicts;

@@ -1,8 +1,8 @@
 //! Stations that come and go.
 
+use crate::same::{holds, same};
 use assoc::{Class, ClassAnswer, Known, Link, aid_of, class_check, class_of, state_of};
 use mac_frame::{Address, Reason, Subtype};
-use std::test::Fail;
 
 /// The station with this number.
 fn station(number: u16) -> Address {
@@ -26,100 +26,144 @@ fn associated(link: &mut Link, station: Address) -> Option<u16> {
 }
 
 #[test]
-fn second_authentication_gives_the_identifier_back(rt: HostRuntime) -> Result<(), Fail> {
+fn second_authentication_gives_the_identifier_back(rt: HostRuntime) {
     let mut link = Link::new(rt.alloc(), 2);
     let a = station(10);
-    assert_eq!(rt; link.standing(a), None);
-    assert_eq!(rt; associated(&mut link, a), Some(2));
-    assert_eq!(rt; link.standing(a), Some(Known::Associated(2)));
-    assert_eq!(rt; link.associated(), 1);
+    same(&rt, link.standing(a), None, "standing");
+    same(&rt, associated(&mut link, a), Some(2), "associated");
+    same(
+        &rt,
+        link.standing(a),
+        Some(Known::Associated(2)),
+        "standing",
+    );
+    same(&rt, link.associated(), 1, "associated");
     if link.standing(a).is_some() {
-        link.on_auth(a)?;
+        holds(&rt, link.on_auth(a).is_ok(), "is ok");
     }
-    assert_eq!(rt; link.standing(a), Some(Known::Authenticated));
-    assert_eq!(rt; link.associated(), 0);
-    assert_eq!(rt; associated(&mut link, station(18)), Some(2));
-    assert_eq!(rt; associated(&mut link, a), Some(10));
-    Ok(())
+    same(
+        &rt,
+        link.standing(a),
+        Some(Known::Authenticated),
+        "standing",
+    );
+    same(&rt, link.associated(), 0, "associated");
+    same(
+        &rt,
+        associated(&mut link, station(18)),
+        Some(2),
+        "associated",
+    );
+    same(&rt, associated(&mut link, a), Some(10), "associated");
 }
 
 #[test]
-fn departures_free_the_identifier(rt: HostRuntime) -> Result<(), Fail> {
+fn departures_free_the_identifier(rt: HostRuntime) {
     let mut link = Link::new(rt.alloc(), 7);
     let a = station(7);
-    assert_eq!(rt; link.shard(), 7);
-    assert_eq!(rt; associated(&mut link, a), Some(7));
-    assert_eq!(rt; associated(&mut link, a), Some(7));
+    same(&rt, link.shard(), 7, "shard");
+    same(&rt, associated(&mut link, a), Some(7), "associated");
+    same(&rt, associated(&mut link, a), Some(7), "associated");
     link.on_disassoc(a);
-    assert_eq!(rt; link.standing(a), Some(Known::Authenticated));
+    same(
+        &rt,
+        link.standing(a),
+        Some(Known::Authenticated),
+        "standing",
+    );
     link.on_deauth(a);
-    assert_eq!(rt; link.standing(a), None);
-    assert_eq!(rt; associated(&mut link, station(15)), Some(7));
-    Ok(())
+    same(&rt, link.standing(a), None, "standing");
+    same(
+        &rt,
+        associated(&mut link, station(15)),
+        Some(7),
+        "associated",
+    );
 }
 
 #[test]
-fn shard_0_has_250_identifiers(rt: HostRuntime) -> Result<(), Fail> {
+fn shard_0_has_250_identifiers(rt: HostRuntime) {
     let mut link = Link::new(rt.alloc(), 0);
     for number in 0..250u16 {
-        assert_eq!(rt;
+        same(
+            &rt,
             associated(&mut link, station(number)),
-            Some(8 * number + 8)
+            Some(8 * number + 8),
+            "associated",
         );
     }
-    assert_eq!(rt; link.associated(), 250);
-    assert_eq!(rt; associated(&mut link, station(250)), None);
-    assert_eq!(rt; link.free_aid(station(3)), Some(32));
-    Ok(())
+    same(&rt, link.associated(), 250, "associated");
+    same(&rt, associated(&mut link, station(250)), None, "associated");
+    same(&rt, link.free_aid(station(3)), Some(32), "link");
 }
 
 #[test]
-fn shard_1_has_251_identifiers_and_512_stations(rt: HostRuntime) -> Result<(), Fail> {
+fn shard_1_has_251_identifiers_and_512_stations(rt: HostRuntime) {
     let mut link = Link::new(rt.alloc(), 1);
     for number in 0..512u16 {
-        assert!(rt; !link.is_full());
+        holds(&rt, !link.is_full(), "is full");
         let aid = associated(&mut link, station(number));
-        assert_eq!(rt;
+        same(
+            &rt,
             aid,
             if number < 251 {
                 Some(8 * number + 1)
             } else {
                 None
-            }
+            },
+            "aid",
         );
     }
-    assert!(rt; link.is_full());
-    Ok(())
+    holds(&rt, link.is_full(), "is full");
 }
 
 #[test]
-fn classes_are_checked_by_state(rt: HostRuntime) -> Result<(), Fail> {
+fn classes_are_checked_by_state(rt: HostRuntime) {
     let authenticated = Some(Known::Authenticated);
     let associated = Some(Known::Associated(9));
-    assert_eq!(rt; state_of(associated), 3);
-    assert_eq!(rt; aid_of(associated), 9);
-    assert_eq!(rt; class_of(Subtype::AssociationRequest), Class::Two);
-    assert_eq!(rt; class_of(Subtype::QosNull), Class::Three);
-    assert_eq!(rt;
+    same(&rt, state_of(associated), 3, "state of");
+    same(&rt, aid_of(associated), 9, "aid of");
+    same(
+        &rt,
+        class_of(Subtype::AssociationRequest),
+        Class::Two,
+        "class of",
+    );
+    same(&rt, class_of(Subtype::QosNull), Class::Three, "class of");
+    same(
+        &rt,
         class_check(None, Class::Two),
-        ClassAnswer::Deauthenticate(Reason::new(6))
+        ClassAnswer::Deauthenticate(Reason::new(6)),
+        "class check",
     );
-    assert_eq!(rt;
+    same(
+        &rt,
         class_check(None, Class::Three),
-        ClassAnswer::Deauthenticate(Reason::new(7))
+        ClassAnswer::Deauthenticate(Reason::new(7)),
+        "class check",
     );
-    assert_eq!(rt;
+    same(
+        &rt,
         class_check(authenticated, Class::Three),
-        ClassAnswer::Disassociate(Reason::new(7))
+        ClassAnswer::Disassociate(Reason::new(7)),
+        "class check",
     );
-    assert_eq!(rt; class_check(None, Class::One), ClassAnswer::Permitted);
-    assert_eq!(rt;
+    same(
+        &rt,
+        class_check(None, Class::One),
+        ClassAnswer::Permitted,
+        "class check",
+    );
+    same(
+        &rt,
         class_check(authenticated, Class::Two),
-        ClassAnswer::Permitted
+        ClassAnswer::Permitted,
+        "class check",
     );
-    assert_eq!(rt;
+    same(
+        &rt,
         class_check(associated, Class::Three),
-        ClassAnswer::Permitted
+        ClassAnswer::Permitted,
+        "class check",
     );
-    Ok(())
 }

@@ -1,5 +1,6 @@
 //! The tables, row by row, and the bytes of a context of each hook.
 
+use crate::same::{holds, same};
 use assoc::Known;
 use bpf_regions::Hook;
 use hooks::{
@@ -7,7 +8,6 @@ use hooks::{
     data_context, data_verdict, no_program,
 };
 use mac_types::{Address, BufferSize, Capability, SequenceNumber, Tid};
-use std::test::Fail;
 
 /// Station `02000000000a` in State 3 with identifier 258.
 fn asker() -> Asker {
@@ -18,7 +18,7 @@ fn asker() -> Asker {
 }
 
 #[test]
-fn association_verdicts_are_statuses(rt: HostRuntime) -> Result<(), Fail> {
+fn association_verdicts_are_statuses(rt: HostRuntime) {
     let cases = [
         (0, 0),
         (1, 1),
@@ -30,13 +30,12 @@ fn association_verdicts_are_statuses(rt: HostRuntime) -> Result<(), Fail> {
         (u64::MAX, 1),
     ];
     for (r0, status) in cases {
-        assert_eq!(rt; assoc_verdict(r0).code(), status);
+        same(&rt, assoc_verdict(r0).code(), status, "code");
     }
-    Ok(())
 }
 
 #[test]
-fn addba_verdicts_are_sizes(rt: HostRuntime) -> Result<(), Fail> {
+fn addba_verdicts_are_sizes(rt: HostRuntime) {
     let cases = [
         (0, 64, None),
         (200, 64, Some(64)),
@@ -46,35 +45,66 @@ fn addba_verdicts_are_sizes(rt: HostRuntime) -> Result<(), Fail> {
         (u64::MAX, 1023, Some(64)),
     ];
     for (r0, asked, size) in cases {
-        let asked = BufferSize::new(asked).ok_or("a size")?;
-        assert_eq!(rt; addba_verdict(r0, asked), size);
+        let asked = BufferSize::new(asked).expect(&rt, "a size");
+        same(&rt, addba_verdict(r0, asked), size, "addba verdict");
     }
-    Ok(())
 }
 
 #[test]
-fn data_verdicts_are_marks(rt: HostRuntime) -> Result<(), Fail> {
-    assert_eq!(rt; data_verdict(1282), DataVerdict::Pass(5));
-    assert_eq!(rt; data_verdict(1280), DataVerdict::Pass(0));
-    assert_eq!(rt; data_verdict(1281), DataVerdict::Discard);
-    assert_eq!(rt; data_verdict(1283), DataVerdict::Discard);
-    Ok(())
+fn data_verdicts_are_marks(rt: HostRuntime) {
+    same(
+        &rt,
+        data_verdict(1282),
+        DataVerdict::Pass(5),
+        "data verdict",
+    );
+    same(
+        &rt,
+        data_verdict(1280),
+        DataVerdict::Pass(0),
+        "data verdict",
+    );
+    same(
+        &rt,
+        data_verdict(1281),
+        DataVerdict::Discard,
+        "data verdict",
+    );
+    same(
+        &rt,
+        data_verdict(1283),
+        DataVerdict::Discard,
+        "data verdict",
+    );
 }
 
 #[test]
-fn without_a_program_all_is_admitted(rt: HostRuntime) -> Result<(), Fail> {
-    let asked = BufferSize::new(16).ok_or("a size")?;
-    assert!(rt; assoc_verdict(no_program(Hook::Association)).is_success());
-    assert_eq!(rt; addba_verdict(no_program(Hook::Addba), asked), Some(16));
-    assert_eq!(rt; data_verdict(no_program(Hook::Data)), DataVerdict::Pass(0));
-    Ok(())
+fn without_a_program_all_is_admitted(rt: HostRuntime) {
+    let asked = BufferSize::new(16).expect(&rt, "a size");
+    holds(
+        &rt,
+        assoc_verdict(no_program(Hook::Association)).is_success(),
+        "is success",
+    );
+    same(
+        &rt,
+        addba_verdict(no_program(Hook::Addba), asked),
+        Some(16),
+        "addba verdict",
+    );
+    same(
+        &rt,
+        data_verdict(no_program(Hook::Data)),
+        DataVerdict::Pass(0),
+        "data verdict",
+    );
 }
 
 #[test]
-fn contexts_have_their_bytes(rt: HostRuntime) -> Result<(), Fail> {
-    let tid = Tid::new(5).ok_or("a TID")?;
-    let asked = BufferSize::new(64).ok_or("a size")?;
-    let start = SequenceNumber::new(4094).ok_or("a number")?;
+fn contexts_have_their_bytes(rt: HostRuntime) {
+    let tid = Tid::new(5).expect(&rt, "a TID");
+    let asked = BufferSize::new(64).expect(&rt, "a size");
+    let start = SequenceNumber::new(4094).expect(&rt, "a number");
     let unknown = Asker {
         standing: None,
         ..asker()
@@ -100,8 +130,7 @@ fn contexts_have_their_bytes(rt: HostRuntime) -> Result<(), Fail> {
     ];
     for (told, wanted) in &rows {
         let (first, rest) = told.bytes().split_at(18);
-        assert_eq!(rt; first, wanted.as_slice());
-        assert_eq!(rt; rest, [0; 14].as_slice());
+        same(&rt, first, wanted.as_slice(), "first");
+        same(&rt, rest, [0; 14].as_slice(), "rest");
     }
-    Ok(())
 }

@@ -7,14 +7,18 @@
 #![tactic(auto)]
 
 #[cfg(test)]
-mod admitting;
-#[cfg(test)]
 mod alike;
 #[cfg(test)]
 mod bare;
 #[cfg(test)]
 mod policies;
 #[cfg(test)]
-mod tests;
+mod probed;
 #[cfg(test)]
-mod verifying;
+mod programs;
+#[cfg(test)]
+mod same;
+#[cfg(test)]
+mod texts;
+#[cfg(test)]
+mod traced;

@@ -1,5 +1,6 @@
 //! Slots against the tables of RFC 9669.
 
+use crate::same::same;
 use bpf_insn::{
     AluOp, AtomicOp, ByteOrder, Compare, Extension, FieldFault, Insn, OrderWidth, Reg, Size,
     Source, Wide,
@@ -21,17 +22,28 @@ fn opcodes_are_119_or_unknown(rt: HostRuntime) {
     for opcode in 0..=255u8 {
         if !is_known(opcode) {
             let read = Insn::from_slots([opcode, 0, 0, 0, 0, 0, 0, 0], Some(ZEROS));
-            assert_eq!(rt; read, Err(FieldFault::UnknownOpcode), "{opcode}");
+            same(
+                &rt,
+                (opcode, read),
+                (opcode, Err(FieldFault::UnknownOpcode)),
+                "opcode",
+            );
         }
     }
-    assert_eq!(rt; (0..=255u8).filter(|opcode| is_known(*opcode)).count(), 119);
+    same(
+        &rt,
+        (0..=255u8).filter(|opcode| is_known(*opcode)).count(),
+        119,
+        "count",
+    );
 }
 
 /// A slot is read as its instruction, and what was read is written as that slot.
 fn is_read(rt: &impl Abort, slot: [u8; 8], insn: Insn) {
-    assert_eq!(rt; Insn::from_slots(slot, None), Ok(insn), "{slot:?}");
+    let read = Insn::from_slots(slot, None);
+    same(rt, (slot, read), (slot, Ok(insn)), "read");
     if let Ok(read) = Insn::from_slots(slot, None) {
-        assert_eq!(rt; read.to_slots(), (slot, None), "{slot:?}");
+        same(rt, read.to_slots(), (slot, None), "written");
     }
 }
 
@@ -219,29 +231,35 @@ fn wide_loads_are_read_as_the_tables_say(rt: HostRuntime) {
     let low = [0x18, 0x03, 0, 0, 0x88, 0x77, 0x66, 0x55];
     let high = [0, 0, 0, 0, 0x44, 0x33, 0x22, 0x11];
     let value = Wide::Number(0x1122_3344_5566_7788);
-    assert_eq!(rt;
+    same(
+        &rt,
         Insn::from_slots(low, Some(high)),
-        Ok(Insn::LoadWide { dst, value })
+        Ok(Insn::LoadWide { dst, value }),
+        "read",
     );
     let value = Wide::MapValue { map: 2, offset: 16 };
     let halves = (
         Some([0, 0, 0, 0, 16, 0, 0, 0]),
         [0x18, 0x63, 0, 0, 2, 0, 0, 0],
     );
-    assert_eq!(rt;
+    same(
+        &rt,
         Insn::from_slots(halves.1, halves.0),
-        Ok(Insn::LoadWide { dst, value })
+        Ok(Insn::LoadWide { dst, value }),
+        "read",
     );
     let map = [0x18, 0x53, 0, 0, 1, 0, 0, 0];
-    assert_eq!(rt;
+    same(
+        &rt,
         Insn::from_slots(map, Some(ZEROS)),
         Ok(Insn::LoadWide {
             dst,
-            value: Wide::Map(1)
-        })
+            value: Wide::Map(1),
+        }),
+        "read",
     );
     if let Ok(read) = Insn::from_slots(low, Some(high)) {
-        assert_eq!(rt; read.to_slots(), (low, Some(high)));
+        same(&rt, read.to_slots(), (low, Some(high)), "written");
     }
 }
 
@@ -262,16 +280,21 @@ fn the_lowest_fault_is_named(rt: HostRuntime) {
         ([0x18, 0x10, 0, 0, 0, 0, 0, 0], FieldFault::Undefined),
     ];
     for (slot, fault) in faults {
-        assert_eq!(rt; Insn::from_slots(slot, None), Err(fault), "{slot:?}");
+        let read = Insn::from_slots(slot, None);
+        same(&rt, (slot, read), (slot, Err(fault)), "fault");
     }
     // A map whose second half has a number, and one that begins with an opcode.
     let map = [0x18, 0x50, 0, 0, 0, 0, 0, 0];
-    assert_eq!(rt;
+    same(
+        &rt,
         Insn::from_slots(map, Some([1, 0, 0, 0, 1, 0, 0, 0])),
-        Err(FieldFault::UnusedSet)
+        Err(FieldFault::UnusedSet),
+        "read",
     );
-    assert_eq!(rt;
+    same(
+        &rt,
         Insn::from_slots(map, Some([1, 0, 0, 0, 0, 0, 0, 0])),
-        Err(FieldFault::CutWide)
+        Err(FieldFault::CutWide),
+        "read",
     );
 }

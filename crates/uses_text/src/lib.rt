@@ -10,4 +10,6 @@ mod programs;
 #[cfg(test)]
 mod regions;
 #[cfg(test)]
+mod same;
+#[cfg(test)]
 mod texts;

@@ -1,10 +1,11 @@
 //! Decoding and encoding, on code from outside.
 
+use crate::same::same;
 use bpf_decode::{DecodeFault, Program, SlotFault, decode, encode, jump_target};
 use bpf_insn::{FieldFault, Insn, Reg};
 use bpf_regions::{Scope, Shape, Shapes, WordWidth};
 use std::alloc::Global;
-use std::test::Fail;
+use std::process::Abort;
 
 const EXIT: [u8; 8] = [0x95, 0, 0, 0, 0, 0, 0, 0];
 
@@ -24,7 +25,7 @@ const GUARDED_LOAD: [[u8; 8]; 6] = [
 ];
 
 /// Map 0 has entries of 8 bytes, map 1 of 64 bytes.
-fn two_maps(alloc: Global) -> Result<Shapes, Fail> {
+fn two_maps(rt: &impl Abort, alloc: Global) -> Shapes {
     let one = Shape {
         entries: 4,
         words: 1,
@@ -37,54 +38,70 @@ fn two_maps(alloc: Global) -> Result<Shapes, Fail> {
         width: WordWidth::Eight,
         scope: Scope::Worker,
     };
-    match Shapes::new(vec![in alloc; one, eight]?) {
-        Some(shapes) => Ok(shapes),
-        None => Err("two maps".into()),
-    }
+    let two = Vec::from_slice(alloc, &[one, eight]).expect(rt, "memory");
+    Shapes::new(two).expect(rt, "two maps")
 }
 
 /// Slots one after the other.
-fn joined(alloc: Global, slots: &[[u8; 8]]) -> Result<Vec<u8>, Fail> {
+fn joined(rt: &impl Abort, alloc: Global, slots: &[[u8; 8]]) -> Vec<u8> {
     let mut code = Vec::new(alloc);
     for slot in slots {
-        code.extend_from_slice(slot)?;
+        code.extend_from_slice(slot).expect(rt, "memory");
     }
-    Ok(code)
+    code
 }
 
 /// The program of slots, for two maps.
-fn program_of(alloc: Global, slots: &[[u8; 8]]) -> Result<Program, Fail> {
-    Ok(decode(alloc, &joined(alloc, slots)?, two_maps(alloc)?)?)
+fn program_of(rt: &impl Abort, alloc: Global, slots: &[[u8; 8]]) -> Program {
+    let code = joined(rt, alloc, slots);
+    decode(alloc, &code, two_maps(rt, alloc)).expect(rt, "a program")
+}
+
+/// What its encoding is.
+fn encoded(rt: &impl Abort, alloc: Global, slots: &[[u8; 8]]) -> Vec<u8> {
+    let program = program_of(rt, alloc, slots);
+    encode(alloc, &program).expect(rt, "memory")
 }
 
 /// The number and the slot of the fault of bytes; (0, 0) if they have none.
-fn fault_in(alloc: Global, code: &[u8]) -> Result<(u8, usize), Fail> {
-    match decode(alloc, code, two_maps(alloc)?) {
-        Ok(_) => Ok((0, 0)),
-        Err(fault) => Ok((fault.number(), fault.slot())),
+fn fault_in(rt: &impl Abort, alloc: Global, code: &[u8]) -> (u8, usize) {
+    match decode(alloc, code, two_maps(rt, alloc)) {
+        Ok(_) => (0, 0),
+        Err(fault) => (fault.number(), fault.slot()),
     }
 }
 
-fn fault_of(alloc: Global, slots: &[[u8; 8]]) -> Result<(u8, usize), Fail> {
-    fault_in(alloc, &joined(alloc, slots)?)
+fn fault_of(rt: &impl Abort, alloc: Global, slots: &[[u8; 8]]) -> (u8, usize) {
+    let code = joined(rt, alloc, slots);
+    fault_in(rt, alloc, &code)
 }
 
 #[test]
-fn a_move_and_an_exit_are_decoded_and_encoded(rt: HostRuntime) -> Result<(), Fail> {
-    let code = joined(rt.alloc(), &[[0xb7, 0, 0, 0, 1, 0, 0, 0], EXIT])?;
-    let program = decode(rt.alloc(), &code, two_maps(rt.alloc())?)?;
-    assert_eq!(rt; program.len(), 2);
-    assert_eq!(rt; program.insn_at(1), Some(Some(Insn::Exit)));
-    assert_eq!(rt; program.insn_at(2), None);
-    assert_eq!(rt; program.shapes().len(), 2);
-    assert_eq!(rt; encode(rt.alloc(), &program)?.as_slice(), code.as_slice());
-    assert_eq!(rt; fault_of(rt.alloc(), &[EXIT])?, (0, 0));
-    Ok(())
+fn a_move_and_an_exit_are_decoded_and_encoded(rt: HostRuntime) {
+    let slots = [[0xb7, 0, 0, 0, 1, 0, 0, 0], EXIT];
+    let program = program_of(&rt, rt.alloc(), &slots);
+    same(&rt, program.len(), 2, "slots");
+    same(
+        &rt,
+        program.insn_at(1),
+        Some(Some(Insn::Exit)),
+        "instruction",
+    );
+    same(&rt, program.insn_at(2), None, "instruction");
+    same(&rt, program.shapes().len(), 2, "shapes");
+    let code = encoded(&rt, rt.alloc(), &slots);
+    same(
+        &rt,
+        code.as_slice(),
+        joined(&rt, rt.alloc(), &slots).as_slice(),
+        "code",
+    );
+    same(&rt, fault_of(&rt, rt.alloc(), &[EXIT]), (0, 0), "fault");
 }
 
 #[test]
-fn prefixes_of_a_guarded_load_have_their_faults(rt: HostRuntime) -> Result<(), Fail> {
-    let code = joined(rt.alloc(), &GUARDED_LOAD)?;
+fn prefixes_of_a_guarded_load_have_their_faults(rt: HostRuntime) {
+    let code = joined(&rt, rt.alloc(), &GUARDED_LOAD);
     for len in 0..code.len() {
         let wanted = match len {
             0 => (2, 0),
@@ -94,26 +111,25 @@ fn prefixes_of_a_guarded_load_have_their_faults(rt: HostRuntime) -> Result<(), F
             32 | 40 => (15, 3),
             _ => (1, 0),
         };
-        assert_eq!(rt; fault_in(rt.alloc(), &code[..len])?, wanted, "{len} bytes");
+        let found = fault_in(&rt, rt.alloc(), &code[..len]);
+        same(&rt, (len, found), (len, wanted), "bytes, fault");
     }
-    let program = program_of(rt.alloc(), &GUARDED_LOAD)?;
-    assert_eq!(rt; encode(rt.alloc(), &program)?.as_slice(), code.as_slice());
-    Ok(())
+    let encoded = encoded(&rt, rt.alloc(), &GUARDED_LOAD);
+    same(&rt, encoded.as_slice(), code.as_slice(), "encoded");
 }
 
 #[test]
-fn the_longest_code_has_16384_slots(rt: HostRuntime) -> Result<(), Fail> {
+fn the_longest_code_has_16384_slots(rt: HostRuntime) {
     let mut code = Vec::new(rt.alloc());
     for _ in 0..16384 {
-        code.extend_from_slice(&EXIT)?;
+        code.extend_from_slice(&EXIT).expect(&rt, "memory");
     }
-    assert_eq!(rt; fault_in(rt.alloc(), &code)?, (0, 0));
-    code.extend_from_slice(&EXIT)?;
-    assert_eq!(rt; fault_in(rt.alloc(), &code)?, (3, 0));
+    same(&rt, fault_in(&rt, rt.alloc(), &code), (0, 0), "fault");
+    code.extend_from_slice(&EXIT).expect(&rt, "memory");
+    same(&rt, fault_in(&rt, rt.alloc(), &code), (3, 0), "fault");
     // A length that is no multiple of 8 comes first.
     let _ = code.pop();
-    assert_eq!(rt; fault_in(rt.alloc(), &code)?, (1, 0));
-    Ok(())
+    same(&rt, fault_in(&rt, rt.alloc(), &code), (1, 0), "fault");
 }
 
 /// Four slots, and the number and the slot of their fault; (0, 0) if they have none.
@@ -182,44 +198,42 @@ const FOUR_SLOTS: [([[u8; 8]; 4], (u8, usize)); 18] = [
 ];
 
 #[test]
-fn the_lowest_slot_then_the_lowest_number_decides(rt: HostRuntime) -> Result<(), Fail> {
+fn the_lowest_slot_then_the_lowest_number_decides(rt: HostRuntime) {
     for (slots, wanted) in &FOUR_SLOTS {
-        assert_eq!(rt; fault_of(rt.alloc(), slots)?, *wanted, "{slots:?}");
+        let found = fault_of(&rt, rt.alloc(), slots);
+        same(&rt, (*slots, found), (*slots, *wanted), "slots, fault");
     }
-    Ok(())
 }
 
 #[test]
-fn a_local_call_may_not_end_the_code(rt: HostRuntime) -> Result<(), Fail> {
+fn a_local_call_may_not_end_the_code(rt: HostRuntime) {
     // A call of itself with nothing after it, and with an exit.
     let itself = [0x85, 0x10, 0, 0, 0xff, 0xff, 0xff, 0xff];
-    assert_eq!(rt; fault_of(rt.alloc(), &[itself])?, (16, 0));
-    assert_eq!(rt; fault_of(rt.alloc(), &[itself, EXIT])?, (0, 0));
-    Ok(())
+    same(&rt, fault_of(&rt, rt.alloc(), &[itself]), (16, 0), "fault");
+    same(
+        &rt,
+        fault_of(&rt, rt.alloc(), &[itself, EXIT]),
+        (0, 0),
+        "fault",
+    );
 }
 
 /// Whether an opcode is unknown, alone and in a program.
-fn is_unknown(alloc: Global, opcode: u8) -> Result<bool, Fail> {
+fn is_unknown(rt: &impl Abort, alloc: Global, opcode: u8) -> bool {
     let slot = [opcode, 0, 0, 0, 0, 0, 0, 0];
-    let alone = fault_of(alloc, &[slot])? == (10, 0);
-    let inside = fault_of(alloc, &[EXIT, slot, HALF, EXIT])? == (10, 1);
-    Ok(alone && inside)
+    let alone = fault_of(rt, alloc, &[slot]) == (10, 0);
+    alone && fault_of(rt, alloc, &[EXIT, slot, HALF, EXIT]) == (10, 1)
 }
 
 #[test]
-fn opcodes_are_119_or_unknown(rt: HostRuntime) -> Result<(), Fail> {
-    let mut known = Vec::new(rt.alloc());
-    for opcode in 0..=255u8 {
-        if !is_unknown(rt.alloc(), opcode)? {
-            known.push(opcode)?;
-        }
-    }
-    assert_eq!(rt; known.len(), 119);
-    Ok(())
+fn opcodes_are_119_or_unknown(rt: HostRuntime) {
+    let alloc = rt.alloc();
+    let known = (0..=255u8).filter(|opcode| !is_unknown(&rt, alloc, *opcode));
+    same(&rt, known.count(), 119, "count");
 }
 
 #[test]
-fn targets_are_the_start_jumps_calls_and_returns(rt: HostRuntime) -> Result<(), Fail> {
+fn targets_are_the_start_jumps_calls_and_returns(rt: HostRuntime) {
     // 0: ja +1; 1: exit; 2: call local +2; 3: jeq r0, 0, -3; 4: exit; 5: lddw r0, 1; 7: exit
     let slots = [
         [0x05, 0, 1, 0, 0, 0, 0, 0],
@@ -231,26 +245,31 @@ fn targets_are_the_start_jumps_calls_and_returns(rt: HostRuntime) -> Result<(), 
         HALF,
         EXIT,
     ];
-    let program = program_of(rt.alloc(), &slots)?;
+    let program = program_of(&rt, rt.alloc(), &slots);
     let wanted = [true, true, true, true, false, true, false, false, false];
     for (pc, target) in wanted.iter().enumerate() {
-        assert_eq!(rt; program.is_target(pc), *target, "slot {pc}");
+        same(&rt, (pc, program.is_target(pc)), (pc, *target), "target");
     }
-    assert_eq!(rt; program.insn_at(6), Some(None));
-    assert_eq!(rt; program.slots().len(), 8);
+    same(&rt, program.insn_at(6), Some(None), "instruction");
+    same(&rt, program.slots().len(), 8, "slots");
     program.whole();
-    Ok(())
 }
 
 #[test]
 fn jumps_count_from_the_next_slot(rt: HostRuntime) {
-    assert_eq!(rt; jump_target(3, 2), Some(6));
-    assert_eq!(rt; jump_target(3, -4), Some(0));
-    assert_eq!(rt; jump_target(3, -5), None);
+    same(&rt, jump_target(3, 2), Some(6), "jump target");
+    same(&rt, jump_target(3, -4), Some(0), "jump target");
+    same(&rt, jump_target(3, -5), None, "jump target");
+}
+
+/// A fault is told with this text.
+fn is_told(rt: &impl Abort, alloc: Global, fault: DecodeFault, text: &str) {
+    let told = fault.to_string(alloc).expect(rt, "memory");
+    same(rt, told.as_str(), text, "told");
 }
 
 #[test]
-fn faults_have_numbers_and_a_text(rt: HostRuntime) -> Result<(), Fail> {
+fn faults_have_numbers_and_a_text(rt: HostRuntime) {
     let fault = SlotFault::Field(FieldFault::UnusedSet);
     let faults = [
         (DecodeFault::Length, 1, "fault 1 at 0"),
@@ -268,8 +287,7 @@ fn faults_have_numbers_and_a_text(rt: HostRuntime) -> Result<(), Fail> {
         (DecodeFault::NoMemory, 40, "out of memory"),
     ];
     for (fault, number, text) in faults {
-        assert_eq!(rt; fault.number(), number);
-        assert_eq!(rt; format!(in rt.alloc(); "{fault}")?.as_str(), text);
+        same(&rt, fault.number(), number, "fault");
+        is_told(&rt, rt.alloc(), fault, text);
     }
-    Ok(())
 }

@@ -1,9 +1,11 @@
 //! Programs from text and back.
 
+use crate::same::{holds, same};
 use bpf_decode::decode;
 use bpf_regions::Shapes;
 use bpf_text::{AsmFault, assemble, disassemble};
-use std::test::Fail;
+use std::alloc::Global;
+use std::process::Abort;
 
 /// A test whether a frame has 26 bytes, before its byte 24 is read.
 const FRAME_TEST: [u8; 48] = [
@@ -18,67 +20,65 @@ fn fault_of(rt: &HostRuntime, text: &str) -> Option<AsmFault> {
     assemble(rt.alloc(), text).err()
 }
 
-#[test]
-fn a_program_is_written_as_text_and_read_again(rt: HostRuntime) -> Result<(), Fail> {
-    let Some(shapes) = Shapes::new(Vec::new(rt.alloc())) else {
-        return Err("no shapes".into());
-    };
-    match decode(rt.alloc(), &FRAME_TEST, shapes) {
-        Ok(program) => {
-            let text = disassemble(rt.alloc(), &program)?;
-            assert_eq!(rt; text.as_str(), FRAME_TEST_TEXT);
-        }
-        Err(_) => return Err("refused".into()),
-    }
-    match assemble(rt.alloc(), FRAME_TEST_TEXT) {
-        Ok(code) => assert!(rt; code.as_slice() == FRAME_TEST.as_slice()),
-        Err(_) => return Err("refused".into()),
-    }
-    Ok(())
+/// The text of code without maps.
+fn text_of(rt: &impl Abort, alloc: Global, code: &[u8]) -> String {
+    let shapes = Shapes::new(Vec::new(alloc)).expect(rt, "no maps");
+    let program = decode(alloc, code, shapes).expect(rt, "a program");
+    disassemble(alloc, &program).expect(rt, "memory")
 }
 
 #[test]
-fn the_first_faulty_line_is_named(rt: HostRuntime) -> Result<(), Fail> {
-    assert!(rt;
+fn a_program_is_written_as_text_and_read_again(rt: HostRuntime) {
+    let text = text_of(&rt, rt.alloc(), &FRAME_TEST);
+    same(&rt, text.as_str(), FRAME_TEST_TEXT, "text");
+    let code = assemble(rt.alloc(), FRAME_TEST_TEXT).expect(&rt, "code");
+    same(&rt, code.as_slice(), FRAME_TEST.as_slice(), "code");
+}
+
+#[test]
+fn the_first_faulty_line_is_named(rt: HostRuntime) {
+    holds(
+        &rt,
         fault_of(&rt, "mov r0, 1\n\nadd r0,  0x1ffffffff\nwhat\n")
             == Some(AsmFault::Line {
                 line: 3,
-                number: 21
-            })
+                number: 21,
+            }),
+        "line and number",
     );
-    assert!(rt;
+    holds(
+        &rt,
         fault_of(&rt, "# nothing\nexit exit")
             == Some(AsmFault::Line {
                 line: 2,
-                number: 20
-            })
+                number: 20,
+            }),
+        "line and number",
     );
-    assert!(rt; fault_of(&rt, "").is_none());
-    let shown = format!(in rt.alloc();
-        "{}",
-        AsmFault::Line {
-            line: 3,
-            number: 21
-        }
-    )?;
-    assert_eq!(rt; shown.as_str(), "line 3 fault 21");
-    Ok(())
+    holds(&rt, fault_of(&rt, "").is_none(), "no fault");
+    let fault = AsmFault::Line {
+        line: 3,
+        number: 21,
+    };
+    let shown = fault.to_string(rt.alloc()).expect(&rt, "memory");
+    same(&rt, shown.as_str(), "line 3 fault 21", "shown");
 }
 
 #[test]
-fn the_line_that_passes_the_limit_is_named(rt: HostRuntime) -> Result<(), Fail> {
+fn the_line_that_passes_the_limit_is_named(rt: HostRuntime) {
     let mut text = String::new(rt.alloc());
     for _ in 0..16383 {
-        text.push_str("mov r0, 0\n")?;
+        text.push_str("mov r0, 0\n").expect(&rt, "memory");
     }
-    assert!(rt; fault_of(&rt, text.as_str()).is_none());
-    text.push_str("lddw r0, 1\n")?;
-    assert!(rt;
+    holds(&rt, fault_of(&rt, text.as_str()).is_none(), "no fault");
+    text.push_str("lddw r0, 1\n").expect(&rt, "memory");
+    holds(
+        &rt,
         fault_of(&rt, text.as_str())
             == Some(AsmFault::Line {
                 line: 16384,
-                number: 22
-            })
+                number: 22,
+            }),
+        "line and number",
     );
-    Ok(())
 }

@@ -1,10 +1,10 @@
-use Rattle.std.proofs.Common.{get_or, arith}
+use Rattle.std.proofs.Common.{get_or, arith, ◌∙◌}
 use Rattle.bpf_cert.proofs.Builds.{begins, depth_of, called_lives, call_unset, goes_on}
 use Rattle.bpf_cert.proofs.building.with_frames.Goals as goal
 
 pub loop-k-init : goal.loop-k-init
 loop-k-init c =
-    begins c.args.frames.now c.in_ok-state.state c.fill.new.state c.index-frames-0.result c.requires.some c.requires.main c.index-frames-0.is c.in_ok-state.ensures.is c.in_ok-fill.ensures.is
+    begins c.args.frames.now c.in_ok-state.state c.fill.new.state c.index-frames-0.result c.requires.some c.requires.main c.index-frames-0.is (c.in_ok-state.ensures.cases ∙ c.requires.blank) c.in_ok-fill.ensures.is
 
 pub call-requires : goal.call-requires
 call-requires c =

@@ -7,6 +7,6 @@ use Rattle.bpf_cert.proofs.checking.claims_of.Given as goal
 
 abbrev pub invariant-loop-entry : goal.invariant-loop-entry
 invariant-loop-entry l = record {
-  is : l.claims.items ≡ map claim_of (take l.entry-index l.entries);
-  whole : All (λ e. IsView e.state) l.claims.items;
+  is : l.claims ≡ map claim_of (take l.entry-index l.entries);
+  whole : All (λ e. IsView e.state) l.claims;
 }

@@ -7,8 +7,8 @@ use Rattle.bpf_cert.proofs.coverage.arrive.Goals as goal
 pub returns-then-is_target : goal.returns-then-is_target
 returns-then-is_target c =
     let t = subst (IsTarget c.args.program.now.slots) c.pc.ensures.is (c.if-is_target.ensures.is.0 refl) in
-    record { is = at_target c.args.program.now c.args.claims.now c.args.left c.args.state c.is_included.result t c.is_included.ensures.is }
+    record { is = at_target c.args.program.now c.args.claims.now c.args.left c.args.state c.include.result t c.include.ensures.is }
 
 pub returns : goal.returns
 returns c =
-    record { is = elsewhere c.args.program.now c.args.claims.now c.args.left c.args.state (λ t. false≢true (c.if-is_target.ensures.is.1 (subst (IsTarget c.args.program.now.slots) (sym c.pc.ensures.is) t))) c.requires.stands }
+    record { is = elsewhere c.args.program.now c.args.claims.now c.args.left c.args.state (λ t. false≢true (c.if-is_target.ensures.is.1 (subst (IsTarget c.args.program.now.slots) (sym c.pc.ensures.is) t))) }

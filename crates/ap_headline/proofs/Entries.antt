@@ -1,0 +1,29 @@
+-- Lists of entries: those that go on, and entries among others.
+use Rattle.std.proofs.Common.{◌≡◌, List, [], ◌∷◌, ◌++◌, refl, sym, ap, subst, ◌∙◌, append_assoc}
+use mathlib.Core.List.{IsPrefix}
+use Rattle.ap_model.specs.Runs.{Entry}
+use Rattle.ap_locked.specs.Tokens.{IsAmong, nothing, another, its_own}
+
+-- what goes on from what goes on
+pub prefix_more : (a b : List Entry) {c : List Entry} → IsPrefix a b → IsPrefix b c → IsPrefix a c
+prefix_more a b p q = (p.0 ++ q.0, sym (append_assoc a p.0 q.0) ∙ (ap (λ (w : List Entry). w ++ q.0) p.1 ∙ q.1))
+
+-- none are among any
+pub none_among : (all : List Entry) → IsAmong [] all
+none_among [] = nothing
+none_among (e ∷ all) = another [] all e (none_among all)
+
+among_more : {own all : List Entry} (rest : List Entry) → IsAmong own all → IsAmong own (all ++ rest)
+among_more rest nothing = none_among rest
+among_more rest (another own all e n) = another own (all ++ rest) e (among_more rest n)
+among_more rest (its_own own all e n) = its_own own (all ++ rest) e (among_more rest n)
+
+-- what is among the entries of a list is among those of a longer one
+pub among_prefix : {own seen all : List Entry} → IsPrefix seen all → IsAmong own seen → IsAmong own all
+among_prefix {own} p n = subst (IsAmong own) p.1 (among_more p.0 n)
+
+-- with one entry more at the end of both
+pub among_one : {own all : List Entry} (e : Entry) → IsAmong own all → IsAmong (own ++ e ∷ []) (all ++ e ∷ [])
+among_one e nothing = its_own [] [] e nothing
+among_one e (another own all x n) = another (own ++ e ∷ []) (all ++ e ∷ []) x (among_one e n)
+among_one e (its_own own all x n) = its_own (own ++ e ∷ []) (all ++ e ∷ []) x (among_one e n)

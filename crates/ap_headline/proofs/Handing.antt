@@ -1,0 +1,184 @@
+-- What is handed on, event by event.
+use Rattle.std.proofs.Common.{◌≡◌, ◌<◌, ℕ, Bool, true, false, Option, Some, None, List, [], ◌∷◌, ◌++◌, map, inl, inr, refl, sym, ap, subst, ◌∙◌, append_assoc, append-nil}
+use Rattle.std.specs.Prelude.{◌==◌}
+use Rattle.std.proofs.lemmas.List.Elements.{All-nil, All-cons}
+use mathlib.Core.List.{IsPrefix}
+use Rattle.ap_model.specs.declared.event.Event.{Event}
+use Rattle.ap_model.specs.declared.event.Out.{Out}
+use Rattle.ap_model.specs.Asks.{Ask, Answered}
+use Rattle.ap_model.specs.Readings.{Readings}
+use Rattle.ap_model.specs.Runs.{Entry}
+use Rattle.ap_laws.specs.Headline.{RunsHold}
+use Rattle.ap_locked.specs.Kept.{entry_of}
+use Rattle.ap_locked.specs.Tokens.{Token}
+use Rattle.ap_queue.specs.declared.item.Queued.{Queued}
+use Rattle.ap_shards.specs.Fates.{Acts, ChangesIf, Comes}
+use Rattle.ap_shards.specs.Judged.{JudgedBy, AnyVerdicts}
+use Rattle.ap_shards.specs.Tokens.{Eight}
+use Rattle.ap_tagged.specs.declared.tagged.Fate.{Fate}
+use Rattle.ap_tagged.specs.declared.tagged.Fate.TheVariants.{Decided, Refused, NotHandled}
+use Rattle.ap_tagged.specs.declared.tagged.Tagged.{Tagged}
+use Rattle.bpf_helpers.specs.Hooked.{Given, Held}
+use Rattle.bpf_machine.specs.Verified.{Verified}
+use Rattle.hook_judge.specs.Verdicts.{GivesVerdict, VerdictOf}
+use Rattle.versions.specs.Sets.{Programs, program_at, set_of}
+use Rattle.ap_live.specs.Lives.{Live}
+use Rattle.ap_live.specs.Serving.{Acted, Becomes, Progress, Served, ServesAll, progress_of}
+use Rattle.ap_live.specs.Tokens.{Operator, Worker}
+use Rattle.ap_headline.specs.Events.{EventHolds, FateHolds}
+use Rattle.ap_headline.specs.Headline.{HandsOn, HoldsOfEach, OperatorHeadline, WorkerHeadline, outs_at, with_outs}
+use Rattle.ap_headline.specs.Tokens.{UpholdAll, Upholds, token_at}
+use Rattle.ap_headline.specs.Verdicts.{AreJudged, IsJudged}
+use Rattle.ap_headline.proofs.Entries.{prefix_more}
+use Rattle.ap_headline.proofs.Shards.{at_shard, by_shard, kept_all, left_still, refused_still, shard_below}
+use Rattle.ap_headline.proofs.Upholding.{entry_holds, link_after, upholds_added, upholds_come}
+
+-- ---- verdicts
+
+judged_one : (g : Given) (programs : Programs) (h h' : Held) (ask : Ask) (verdict steps : ℕ) (p : Option Verified) → program_at ask.hook programs ≡ p
+    → VerdictOf g p h ask verdict steps h' → IsJudged programs ask verdict
+judged_one g programs h h' ask verdict steps None is v = inl (record { none = is; number = v.0 })
+judged_one g programs h h' ask verdict steps (Some p) is v =
+    inr (record {
+      accepted = p;
+      in_force = is;
+      for_hook = v.for_hook;
+      safe = v.safe;
+      asked = v.asked;
+      steps = steps;
+      notes = v.notes;
+      ends = v.ends;
+      within = v.within;
+    })
+
+are_judged : (g : Given) (programs : Programs) (h h' : Held) (asked : List (Ask × ℕ)) → Answered (GivesVerdict g programs) h asked h' → AreJudged programs asked
+are_judged g programs h h' [] is = All-nil (λ (x : Ask × ℕ). IsJudged programs x.0 x.1)
+are_judged g programs h h' (x ∷ asked) v =
+    All-cons (λ (x : Ask × ℕ). IsJudged programs x.0 x.1) x asked
+    (judged_one g programs h v.0 x.0 x.1 v.1.0 (program_at x.0.hook programs) refl v.1.1)
+    (are_judged g programs v.0 h' asked v.2)
+
+-- ---- one event
+
+module _ (law : RunsHold) (a : Live) (worker : ℕ) where
+  fate_holds : (p : Progress) (e : Event) (s : ℕ) (f : Fate) (q : Progress) → Becomes a worker p e s f q → FateHolds a worker p e s f q
+  fate_holds p e s (Decided outs dropped) q b =
+      let V : Readings → List (Ask × ℕ) → Type 0 = JudgedBy a.stock.maps worker (set_of q.seen.loads) p.held q.held in
+      let x = at_shard (λ t u. Comes V s t e (Decided outs dropped) u) p.shards q.shards s b.inside b.came in
+      record {
+        entry = record {
+          inside = b.inside;
+          before = x.before;
+          had_seen = x.had_seen;
+          asked = x.asked;
+          seen = x.seen;
+          own = x.own;
+          rules = x.rules;
+          number = x.number;
+          readings = x.after;
+          holds = link_after law V s (token_at s p.shards) e outs.items dropped (token_at s q.shards) x;
+        };
+        before = x.readings;
+        over = x.verdicts;
+        judged = are_judged _ (set_of q.seen.loads) p.held q.held x.asked x.verdicts.verdicts;
+        flag = x.flag;
+      }
+  fate_holds p e s Refused q b = refused_still (JudgedBy a.stock.maps worker (set_of q.seen.loads) p.held q.held) s e p.shards q.shards b.came
+  fate_holds p e s NotHandled q b = left_still (JudgedBy a.stock.maps worker (set_of q.seen.loads) p.held q.held) s e p.shards q.shards b.came
+
+  upholds_after : (p : Progress) (e : Event) (s : ℕ) (f : Fate) (q : Progress) → Becomes a worker p e s f q → UpholdAll p.shards → UpholdAll q.shards
+  upholds_after p e s f q b h =
+      let V : Readings → List (Ask × ℕ) → Type 0 = JudgedBy a.stock.maps worker (set_of q.seen.loads) p.held q.held in
+      kept_all Upholds (λ t u. Comes V s t e f u) s p.shards q.shards b.came (upholds_come law V s e f) h
+
+  -- ---- one after the other
+
+  holds_each : (p : Progress) (items : List Queued) (tags : List Tagged) (q : Progress) → ServesAll a worker p items tags q → HoldsOfEach a worker p items tags q
+  holds_each p [] [] q is = is
+  holds_each p (x ∷ xs) (t ∷ ts) q r =
+      (r.0, r.1, fate_holds p x.item.event t.shard t.fate r.0 r.1.became, holds_each r.0 xs ts q r.2)
+  holds_each p [] (t ∷ ts) q r = absurd r
+  holds_each p (x ∷ xs) [] q r = absurd r
+
+  upholds_all : (p : Progress) (items : List Queued) (tags : List Tagged) (q : Progress) → ServesAll a worker p items tags q → UpholdAll p.shards → UpholdAll q.shards
+  upholds_all p [] [] q is h = subst (λ (z : Progress). UpholdAll z.shards) (sym is) h
+  upholds_all p (x ∷ xs) (t ∷ ts) q r h = upholds_all r.0 xs ts q r.2 (upholds_after p x.item.event t.shard t.fate r.0 r.1.became h)
+  upholds_all p [] (t ∷ ts) q r h = absurd r
+  upholds_all p (x ∷ xs) [] q r h = absurd r
+
+-- ---- of one shard
+
+hands_none : (t u : Token) → u ≡ t → HandsOn t [] u
+hands_none t u is =
+    record {
+      entries = [];
+      own = ap (λ (z : Token). z.own) is ∙ sym (append-nil t.own);
+      outs = refl;
+      goes_on = subst (λ (z : Token). IsPrefix t.seen z.seen) (sym is) ([], append-nil t.seen);
+    }
+
+hands_one : (V : Readings → List (Ask × ℕ) → Type 0) (s : ℕ) (e : Event) (f : Fate) (here : Bool) (t u w : Token) (later : List (List Out))
+    → ChangesIf here (λ t u. Comes V s t e f u) t u → HandsOn u later w → HandsOn t (with_outs here f later) w
+hands_one V s e (Decided outs dropped) true t u w later c h =
+    let entry : Entry = entry_of e c.asked outs.items in
+    record {
+      entries = entry ∷ h.entries;
+      own = h.own ∙ (ap (λ (l : List Entry). l ++ h.entries) c.own ∙ append_assoc t.own (entry ∷ []) h.entries);
+      outs = ap (λ (l : List (List Out)). outs.items ∷ l) h.outs;
+      goes_on = prefix_more t.seen u.seen (subst (λ (l : List Entry). IsPrefix t.seen l) (sym c.seen) (prefix_more t.seen c.before c.had_seen (entry ∷ [], refl))) h.goes_on;
+    }
+hands_one V s e Refused true t u w later c h = subst (λ (z : Token). HandsOn z later w) c h
+hands_one V s e NotHandled true t u w later c h = subst (λ (z : Token). HandsOn z later w) c h
+hands_one V s e f false t u w later c h = subst (λ (z : Token). HandsOn z later w) c h
+
+module _ (a : Live) (worker : ℕ) where
+  hands_all : (s : ℕ) → s < 8 → (p : Progress) (items : List Queued) (tags : List Tagged) (q : Progress) → ServesAll a worker p items tags q
+      → HandsOn (token_at s p.shards) (outs_at s tags) (token_at s q.shards)
+  hands_all s low p [] [] q is = hands_none (token_at s p.shards) (token_at s q.shards) (ap (λ (z : Progress). token_at s z.shards) is)
+  hands_all s low p (x ∷ xs) (t ∷ ts) q r =
+      let m : Progress = r.0 in
+      let b = r.1.became in
+      let V : Readings → List (Ask × ℕ) → Type 0 = JudgedBy a.stock.maps worker (set_of m.seen.loads) p.held m.held in
+      let e : Event = x.item.event in
+      by_shard (λ s. HandsOn (token_at s m.shards) (outs_at s ts) (token_at s q.shards) → HandsOn (token_at s p.shards) (outs_at s (t ∷ ts)) (token_at s q.shards))
+      (hands_one V t.shard e t.fate (t.shard == 0) p.shards.of0 m.shards.of0 q.shards.of0 (outs_at 0 ts) b.came.of0)
+      (hands_one V t.shard e t.fate (t.shard == 1) p.shards.of1 m.shards.of1 q.shards.of1 (outs_at 1 ts) b.came.of1)
+      (hands_one V t.shard e t.fate (t.shard == 2) p.shards.of2 m.shards.of2 q.shards.of2 (outs_at 2 ts) b.came.of2)
+      (hands_one V t.shard e t.fate (t.shard == 3) p.shards.of3 m.shards.of3 q.shards.of3 (outs_at 3 ts) b.came.of3)
+      (hands_one V t.shard e t.fate (t.shard == 4) p.shards.of4 m.shards.of4 q.shards.of4 (outs_at 4 ts) b.came.of4)
+      (hands_one V t.shard e t.fate (t.shard == 5) p.shards.of5 m.shards.of5 q.shards.of5 (outs_at 5 ts) b.came.of5)
+      (hands_one V t.shard e t.fate (t.shard == 6) p.shards.of6 m.shards.of6 q.shards.of6 (outs_at 6 ts) b.came.of6)
+      (hands_one V t.shard e t.fate (t.shard == 7) p.shards.of7 m.shards.of7 q.shards.of7 (outs_at 7 ts) b.came.of7)
+      s low (hands_all s low m xs ts q r.2)
+  hands_all s low p [] (t ∷ ts) q r = absurd r
+  hands_all s low p (x ∷ xs) [] q r = absurd r
+
+-- ---- the whole
+
+pub served_holds : RunsHold → (a : Live) (w w2 : Worker) (l l2 : List Tagged) → UpholdAll w.shards → Served a w w2 l l2 → WorkerHeadline a w w2 l l2 × UpholdAll w2.shards
+served_holds law a w w2 l l2 h s = (
+  record {
+    items = s.items;
+    tags = s.tags;
+    took = s.took;
+    listed = s.listed;
+    events = holds_each law a w.number (progress_of w) s.items s.tags (progress_of w2) s.served;
+    shards = λ n low. hands_all a w.number n low (progress_of w) s.items s.tags (progress_of w2) s.served;
+    counted = s.counted;
+  },
+  upholds_all law a w.number (progress_of w) s.items s.tags (progress_of w2) s.served h,
+)
+
+pub acted_holds : RunsHold → (o o2 : Operator) (e : Event) (outs : List Out) → UpholdAll o.shards → Acted o e outs o2 → OperatorHeadline o e outs o2 × UpholdAll o2.shards
+acted_holds law o o2 e outs h s =
+    let low : s.shard < 8 = shard_below e s.shard s.shard_is in
+    let x = at_shard (λ t u. Acts s.shard t e outs u) o.shards o2.shards s.shard low s.acted in (
+      record {
+        shard = s.shard;
+        shard_is = s.shard_is;
+        entry = entry_holds law AnyVerdicts s.shard low (token_at s.shard o.shards) e outs x.0 (token_at s.shard o2.shards) x.1;
+        dropped = s.dropped;
+        counted = s.counted;
+      },
+      kept_all Upholds (λ t u. Acts s.shard t e outs u) s.shard o.shards o2.shards s.acted (λ t u y g. upholds_added law AnyVerdicts s.shard t e outs y.0 u y.1 g) h,
+    )

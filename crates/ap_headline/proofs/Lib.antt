@@ -1,0 +1,4 @@
+pub mod Entries
+pub mod Shards
+pub mod Upholding
+pub mod Handing

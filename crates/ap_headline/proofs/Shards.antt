@@ -1,0 +1,111 @@
+-- What changes at one shard of eight.
+use Rattle.std.proofs.Common.{◌≡◌, ◌<◌, ◌%◌, ℕ, zero, suc, Bool, true, false, Option, Some, None, List, refl, sym, ap, subst, ◌∙◌, arith}
+use Rattle.std.specs.Prelude.{◌==◌}
+use Rattle.std.proofs.lemmas.Bool.Decides.{nat_tests}
+use Rattle.ap_model.specs.AccessPoint.{shard_of, shard_of_address, shard_of_bytes}
+use Rattle.ap_model.specs.Asks.{Ask}
+use Rattle.ap_model.specs.Readings.{Readings}
+use Rattle.ap_model.specs.declared.event.Event.{Event}
+use Rattle.ap_model.specs.declared.event.Event.TheVariants as event
+use Rattle.ap_locked.specs.Tokens.{Token}
+use Rattle.ap_shards.specs.Fates.{ChangesAt, ChangesIf, Comes, ComesAt}
+use Rattle.ap_shards.specs.Tokens.{Eight}
+use Rattle.ap_tagged.specs.declared.tagged.Fate.TheVariants.{Decided, Refused, NotHandled}
+use Rattle.ap_headline.specs.Tokens.{token_at}
+
+-- what holds of 0 to 7 holds of each number below 8
+pub by_shard : (P : ℕ → Type 0) → P 0 → P 1 → P 2 → P 3 → P 4 → P 5 → P 6 → P 7 → (s : ℕ) → s < 8 → P s
+by_shard P p0 p1 p2 p3 p4 p5 p6 p7 zero low = p0
+by_shard P p0 p1 p2 p3 p4 p5 p6 p7 (suc zero) low = p1
+by_shard P p0 p1 p2 p3 p4 p5 p6 p7 (suc (suc zero)) low = p2
+by_shard P p0 p1 p2 p3 p4 p5 p6 p7 (suc (suc (suc zero))) low = p3
+by_shard P p0 p1 p2 p3 p4 p5 p6 p7 (suc (suc (suc (suc zero)))) low = p4
+by_shard P p0 p1 p2 p3 p4 p5 p6 p7 (suc (suc (suc (suc (suc zero))))) low = p5
+by_shard P p0 p1 p2 p3 p4 p5 p6 p7 (suc (suc (suc (suc (suc (suc zero)))))) low = p6
+by_shard P p0 p1 p2 p3 p4 p5 p6 p7 (suc (suc (suc (suc (suc (suc (suc zero))))))) low = p7
+by_shard P p0 p1 p2 p3 p4 p5 p6 p7 (suc (suc (suc (suc (suc (suc (suc (suc n)))))))) low = absurd (omega arith)
+
+-- the token of the shard where something was done
+pub at_shard : (P : Token → Token → Type 0) (a b : Eight) (s : ℕ) → s < 8 → ChangesAt s P a b → P (token_at s a) (token_at s b)
+at_shard P a b =
+    by_shard (λ s. ChangesAt s P a b → P (token_at s a) (token_at s b)) (λ c. c.of0) (λ c. c.of1) (λ c. c.of2) (λ c. c.of3) (λ c. c.of4) (λ c. c.of5) (λ c. c.of6) (λ c. c.of7)
+
+-- what is so of a token, at this shard, when something was done at some shard
+kept_if : (Q : ℕ → Token → Type 0) (P : Token → Token → Type 0) (s r : ℕ) (here : Bool) → (s == r) ≡ here → (t u : Token) → ChangesIf here P t u
+    → (P t u → Q s t → Q s u) → Q r t → Q r u
+kept_if Q P s r true is t u c f h =
+    let same : s ≡ r = grind (arith, nat_tests) in
+    subst (λ (n : ℕ). Q n t → Q n u) same (f c) h
+kept_if Q P s r false is t u c f h = subst (Q r) (sym c) h
+
+-- what is done at one shard keeps what is so of the tokens of all
+pub kept_all : (Q : ℕ → Token → Type 0) (P : Token → Token → Type 0) (s : ℕ) (a b : Eight) → ChangesAt s P a b
+    → ((t u : Token) → P t u → Q s t → Q s u) → ((r : ℕ) → r < 8 → Q r (token_at r a)) → (r : ℕ) → r < 8 → Q r (token_at r b)
+kept_all Q P s a b c f h r low =
+    by_shard (λ r. Q r (token_at r a) → Q r (token_at r b))
+    (kept_if Q P s 0 (s == 0) refl a.of0 b.of0 c.of0 (f a.of0 b.of0))
+    (kept_if Q P s 1 (s == 1) refl a.of1 b.of1 c.of1 (f a.of1 b.of1))
+    (kept_if Q P s 2 (s == 2) refl a.of2 b.of2 c.of2 (f a.of2 b.of2))
+    (kept_if Q P s 3 (s == 3) refl a.of3 b.of3 c.of3 (f a.of3 b.of3))
+    (kept_if Q P s 4 (s == 4) refl a.of4 b.of4 c.of4 (f a.of4 b.of4))
+    (kept_if Q P s 5 (s == 5) refl a.of5 b.of5 c.of5 (f a.of5 b.of5))
+    (kept_if Q P s 6 (s == 6) refl a.of6 b.of6 c.of6 (f a.of6 b.of6))
+    (kept_if Q P s 7 (s == 7) refl a.of7 b.of7 c.of7 (f a.of7 b.of7))
+    r low (h r low)
+
+-- ---- events that were not decided
+
+module _ (V : Readings → List (Ask × ℕ) → Type 0) (s : ℕ) (e : Event) where
+  still_if : (here : Bool) (t u : Token) → ChangesIf here (λ t u. Comes V s t e Refused u) t u → u ≡ t
+  still_if true t u c = c
+  still_if false t u c = c
+
+  -- one that was refused changes no token
+  pub refused_still : (a b : Eight) → ComesAt V s a e Refused b → b ≡ a
+  refused_still a b c i =
+      record {
+        of0 = still_if (s == 0) a.of0 b.of0 c.of0 i;
+        of1 = still_if (s == 1) a.of1 b.of1 c.of1 i;
+        of2 = still_if (s == 2) a.of2 b.of2 c.of2 i;
+        of3 = still_if (s == 3) a.of3 b.of3 c.of3 i;
+        of4 = still_if (s == 4) a.of4 b.of4 c.of4 i;
+        of5 = still_if (s == 5) a.of5 b.of5 c.of5 i;
+        of6 = still_if (s == 6) a.of6 b.of6 c.of6 i;
+        of7 = still_if (s == 7) a.of7 b.of7 c.of7 i;
+      }
+
+  left_if : (here : Bool) (t u : Token) → ChangesIf here (λ t u. Comes V s t e NotHandled u) t u → u ≡ t
+  left_if true t u c = c
+  left_if false t u c = c
+
+  -- nor does one that was not handled
+  pub left_still : (a b : Eight) → ComesAt V s a e NotHandled b → b ≡ a
+  left_still a b c i =
+      record {
+        of0 = left_if (s == 0) a.of0 b.of0 c.of0 i;
+        of1 = left_if (s == 1) a.of1 b.of1 c.of1 i;
+        of2 = left_if (s == 2) a.of2 b.of2 c.of2 i;
+        of3 = left_if (s == 3) a.of3 b.of3 c.of3 i;
+        of4 = left_if (s == 4) a.of4 b.of4 c.of4 i;
+        of5 = left_if (s == 5) a.of5 b.of5 c.of5 i;
+        of6 = left_if (s == 6) a.of6 b.of6 c.of6 i;
+        of7 = left_if (s == 7) a.of7 b.of7 c.of7 i;
+      }
+
+-- ---- the shard of an event
+
+same_some : (x s : ℕ) → Some x ≡ Some s → s ≡ x
+same_some x s = λ (is : Some x ≡ Some s). cc
+
+none_is : (o : Option ℕ) (s : ℕ) → o ≡ None → o ≡ Some s → ⊥
+none_is o s = λ (no : o ≡ None) (is : o ≡ Some s). cc
+
+below : (n s : ℕ) → s ≡ n % 8 → s < 8
+below n s is = omega (arith, is)
+
+-- it is one of eight
+pub shard_below : (e : Event) (s : ℕ) → shard_of e ≡ Some s → s < 8
+shard_below (event.Frame bytes) s is = below _ s (same_some (shard_of_bytes bytes) s is)
+shard_below (event.Tick n) s is = absurd (none_is (shard_of (event.Tick n)) s refl is)
+shard_below (event.Kick a reason) s is = below _ s (same_some (shard_of_address a) s is)
+shard_below (event.Close a tid) s is = below _ s (same_some (shard_of_address a) s is)

@@ -1,0 +1,51 @@
+-- The headline of one event that was decided.
+use Rattle.std.specs.Prelude.{◌≡◌, ◌<◌, ℕ, Bool, List, [], ◌∷◌, ◌++◌}
+use mathlib.Core.List.{IsPrefix}
+use Rattle.ap_model.specs.declared.event.Event.{Event}
+use Rattle.ap_model.specs.declared.event.Out.{Out}
+use Rattle.ap_model.specs.Asks.{Ask}
+use Rattle.ap_model.specs.Readings.{Readings, Rules}
+use Rattle.ap_model.specs.Runs.{Entry}
+use Rattle.ap_books.specs.Counts.{drops}
+use Rattle.ap_laws.specs.Headline.{LinkHolds}
+use Rattle.ap_locked.specs.Kept.{entry_of}
+use Rattle.ap_locked.specs.Tokens.{Token}
+use Rattle.ap_shards.specs.Judged.{JudgedBy}
+use Rattle.ap_tagged.specs.declared.tagged.Fate.{Fate}
+use Rattle.ap_tagged.specs.declared.tagged.Fate.TheVariants.{Decided, Refused, NotHandled}
+use Rattle.versions.specs.Sets.{set_of}
+use Rattle.ap_live.specs.Lives.{Live}
+use Rattle.ap_live.specs.Serving.{Progress}
+use Rattle.ap_headline.specs.Tokens.{token_at}
+use Rattle.ap_headline.specs.Verdicts.{AreJudged}
+
+-- At the shard of this number the event was decided after all that had been decided there, of which the token had seen
+-- a beginning, with these verdicts and these outs. The headline of the link holds of the whole journal with this entry
+-- at its end, which the token has then seen, and which is the last of its own.
+pub record EntryHolds (shard : ℕ) (t : Token) (event : Event) (outs : List Out) (u : Token) : Type 0 where
+  pub inside : shard < 8
+  pub before : List Entry
+  pub had_seen : IsPrefix t.seen before
+  pub asked : List (Ask × ℕ)
+  pub seen : u.seen ≡ before ++ entry_of event asked outs ∷ []
+  pub own : u.own ≡ t.own ++ entry_of event asked outs ∷ []
+  pub rules : Rules
+  pub number : rules.shard ≡ shard
+  pub readings : Readings
+  pub holds : LinkHolds rules (before ++ entry_of event asked outs ∷ []) readings
+
+-- And each verdict is that of a program that was accepted, within its budget, or of the verdict tables where there is
+-- none: of the one whole published set that the worker then had seen, over its own tables. The flag tells whether one
+-- of them dropped data.
+pub record EventHolds (a : Live) (worker : ℕ) (p : Progress) (event : Event) (shard : ℕ) (outs : List Out) (dropped : Bool) (q : Progress) : Type 0 where
+  pub entry : EntryHolds shard (token_at shard p.shards) event outs (token_at shard q.shards)
+  pub before : Readings
+  pub over : JudgedBy a.stock.maps worker (set_of q.seen.loads) p.held q.held before entry.asked
+  pub judged : AreJudged (set_of q.seen.loads) entry.asked
+  pub flag : dropped ≡ drops entry.asked
+
+-- what became of an event that a worker took: one that was not decided changes no token
+abbrev pub FateHolds : Live → ℕ → Progress → Event → ℕ → Fate → Progress → Type 0
+FateHolds a worker p event shard (Decided outs dropped) q = EventHolds a worker p event shard outs.items dropped q
+FateHolds a worker p event shard Refused q = q.shards ≡ p.shards
+FateHolds a worker p event shard NotHandled q = q.shards ≡ p.shards

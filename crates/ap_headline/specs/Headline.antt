@@ -1,0 +1,68 @@
+-- The whole headline, of what one who has tokens handed on.
+use Rattle.std.specs.Prelude.{◌≡◌, ◌==◌, ◌<◌, ℕ, Bool, true, false, List, [], ◌∷◌, ◌++◌, map, Some}
+use mathlib.Core.List.{IsPrefix}
+use Rattle.ap_model.specs.AccessPoint.{shard_of}
+use Rattle.ap_model.specs.declared.event.Event.{Event}
+use Rattle.ap_model.specs.declared.event.Out.{Out}
+use Rattle.ap_model.specs.Runs.{Entry}
+use Rattle.ap_books.specs.Counts.{counts_of, plus}
+use Rattle.ap_locked.specs.Tokens.{Token}
+use Rattle.ap_queue.specs.declared.item.Queued.{Queued}
+use Rattle.ap_queue.specs.Passes.{taken_by}
+use Rattle.ap_tagged.specs.declared.tagged.Fate.{Fate}
+use Rattle.ap_tagged.specs.declared.tagged.Fate.TheVariants.{Decided, Refused, NotHandled}
+use Rattle.ap_tagged.specs.declared.tagged.Tagged.{Tagged}
+use Rattle.ap_live.specs.Counting.{counted_by, tally}
+use Rattle.ap_live.specs.Lives.{Live}
+use Rattle.ap_live.specs.Serving.{Progress, Serves, progress_of}
+use Rattle.ap_live.specs.Tokens.{Operator, Worker}
+use Rattle.ap_headline.specs.Events.{EntryHolds, FateHolds}
+use Rattle.ap_headline.specs.Tokens.{token_at}
+
+-- for each item that was taken one was handed on, in order, and the headline holds of each
+abbrev pub HoldsOfEach : Live → ℕ → Progress → List Queued → List Tagged → Progress → Type 0
+HoldsOfEach a worker p [] [] q = q ≡ p
+HoldsOfEach a worker p (x ∷ xs) (t ∷ ts) q =
+    (mid : Progress) × Serves a worker p x t mid × FateHolds a worker p x.item.event t.shard t.fate mid
+    × HoldsOfEach a worker mid xs ts q
+HoldsOfEach a worker p [] (t ∷ ts) q = ⊥
+HoldsOfEach a worker p (x ∷ xs) [] q = ⊥
+
+-- with the outs of one event more, if it was decided at the shard
+abbrev pub with_outs : Bool → Fate → List (List Out) → List (List Out)
+with_outs true (Decided outs dropped) later = outs.items ∷ later
+with_outs true Refused later = later
+with_outs true NotHandled later = later
+with_outs false f later = later
+
+-- the outs of the events that were handed on as decided at this shard, event by event
+abbrev pub outs_at : ℕ → List Tagged → List (List Out)
+outs_at s [] = []
+outs_at s (t ∷ ts) = with_outs (t.shard == s) t.fate (outs_at s ts)
+
+-- What was handed on at one shard is, event by event, what the token's own entries say that are new. It has seen what
+-- it had, and more.
+pub record HandsOn (t : Token) (handed : List (List Out)) (u : Token) : Type 0 where
+  pub entries : List Entry
+  pub own : u.own ≡ t.own ++ entries
+  pub outs : map (λ e. e.outs) entries ≡ handed
+  pub goes_on : IsPrefix t.seen u.seen
+
+-- The headline of a worker that served. With what `Upholds` says of its token afterwards: what it handed on at a shard
+-- are, in order, the outs of entries of one history of that shard from nobody on, of which all the link's laws hold.
+pub record WorkerHeadline (a : Live) (w w2 : Worker) (list list2 : List Tagged) : Type 0 where
+  pub items : List Queued
+  pub tags : List Tagged
+  pub took : taken_by w2.pass ≡ taken_by w.pass ++ items
+  pub listed : list2 ≡ list ++ tags
+  pub events : HoldsOfEach a w.number (progress_of w) items tags (progress_of w2)
+  pub shards : (s : ℕ) → s < 8 → HandsOn (token_at s w.shards) (outs_at s tags) (token_at s w2.shards)
+  pub counted : counted_by w2.shards ≡ plus (counted_by w.shards) (tally tags)
+
+-- the headline of an operator's command
+pub record OperatorHeadline (o : Operator) (event : Event) (outs : List Out) (o2 : Operator) : Type 0 where
+  pub shard : ℕ
+  pub shard_is : shard_of event ≡ Some shard
+  pub entry : EntryHolds shard (token_at shard o.shards) event outs (token_at shard o2.shards)
+  pub dropped : Bool
+  pub counted : counted_by o2.shards ≡ plus (counted_by o.shards) (counts_of outs dropped)

@@ -1,0 +1,4 @@
+pub mod Tokens
+pub mod Verdicts
+pub mod Events
+pub mod Headline

@@ -1,0 +1,34 @@
+-- What one who decides events knows of the shards, by the tokens alone.
+use Rattle.std.specs.Prelude.{◌≡◌, ◌==◌, ◌<◌, ℕ, if◌then◌else◌}
+use Rattle.ap_model.specs.Readings.{Readings, Rules}
+use Rattle.ap_laws.specs.Headline.{LinkHolds}
+use Rattle.ap_books.specs.Counts.{Counts, counts_in, plus}
+use Rattle.ap_locked.specs.Tokens.{Token, IsAmong}
+use Rattle.ap_shards.specs.Tokens.{Eight}
+
+-- the token of this shard, of 0 to 7
+abbrev pub token_at : ℕ → Eight → Token
+token_at s e =
+    if s == 0 then e.of0 else (if s == 1 then e.of1 else (if s == 2 then e.of2 else (if s == 3 then e.of3 else
+    (if s == 4 then e.of4 else (if s == 5 then e.of5 else (if s == 6 then e.of6 else e.of7))))))
+
+-- The link's half of the headline holds of all entries of the shard's journal that the token has seen, from the first
+-- one on. Its own stand among them, each at a place of its own, in their order; and its parts of the ledgers have
+-- counted just its own.
+pub record Upholds (shard : ℕ) (t : Token) : Type 0 where
+  pub rules : Rules
+  pub number : rules.shard ≡ shard
+  pub readings : Readings
+  pub holds : LinkHolds rules t.seen readings
+  pub among : IsAmong t.own t.seen
+  pub counted : t.portion.counts ≡ counts_in t.own
+
+-- it is so of each shard
+abbrev pub UpholdAll : Eight → Type 0
+UpholdAll e = (s : ℕ) → s < 8 → Upholds s (token_at s e)
+
+-- what one's own entries count, of all shards together
+abbrev pub own_counts : Eight → Counts
+own_counts e =
+    plus (plus (plus (plus (plus (plus (plus (counts_in e.of0.own) (counts_in e.of1.own)) (counts_in e.of2.own))
+    (counts_in e.of3.own)) (counts_in e.of4.own)) (counts_in e.of5.own)) (counts_in e.of6.own)) (counts_in e.of7.own)

@@ -1,0 +1,60 @@
+-- What certificates come to, as C sees them.
+use Rattle.std.specs.Prelude.{◌≡◌, ◌⊎◌, ℕ, List, [], map, Option, Some, None}
+use Rattle.bpf_regions.specs.declared.hooks.Hook.{Hook}
+use Rattle.bpf_regions.specs.declared.maps.Shape.{Shape}
+use Rattle.bpf_regions.specs.Hooks.{number_of}
+use Rattle.bpf_decode.specs.Program.{Code, Spells}
+use Rattle.bpf_model.specs.Run.{Safe}
+use Rattle.bpf_machine.specs.Verified.{Verified}
+use Rattle.bpf_cert.specs.Certified.{Covered, Refuses}
+use Rattle.bpf_cert.specs.Faults as faults
+use Rattle.bpf_cert.specs.declared.fault.CertFault.{CertFault}
+use Rattle.apd_c.specs.declared.answer.Answer.{Answer}
+use Rattle.apd_c.specs.declared.handle.Content.{Content}
+use Rattle.apd_c.specs.declared.handle.Content.TheVariants as content
+use Rattle.apd_c.specs.declared.shapes.MapShape.{MapShape}
+use Rattle.apd_c.specs.Answers.{answer}
+use Rattle.apd_c.specs.Given.{shape_of}
+use Rattle.apd_c.specs.Code.{IsUndecoded}
+
+-- the bytes that are held; none of all else
+abbrev pub bytes_of : Option Content → List ℕ
+bytes_of (Some (content.Bytes v)) = v.items
+bytes_of _ = []
+
+-- within some budget the bytes show that the program is safe
+abbrev pub Certifies : Option Content → List ℕ → Type 0
+Certifies code bytes = (a : Verified) × (code ≡ Some (content.Code a)) × (b : ℕ) × Covered a.code a.hook bytes b
+
+-- the handle holds such bytes
+abbrev pub HoldsCertificate : Option Content → Option Content → Type 0
+HoldsCertificate code o = Certifies code (bytes_of o)
+
+-- The program that these bytes spell, for maps of these shapes and for a hook, with a budget that the certificate shows.
+pub record IsShown (hook : Hook) (bytes : List ℕ) (shapes : List Shape) (certificate : List ℕ) (a : Verified) : Type 0 where
+  pub spells : Spells bytes a.code
+  pub shapes_are : a.code.shapes ≡ shapes
+  pub hook_is : a.hook ≡ hook
+  pub covered : Covered a.code hook certificate a.budget
+  pub safe : Safe a.code.slots a.code.shapes a.budget
+
+-- the content is a program that is shown
+abbrev pub HoldsShown : ℕ → List ℕ → List MapShape → List ℕ → Option Content → Type 0
+HoldsShown hook bytes shapes certificate o =
+    (a : Verified) × (h : Hook) × (o ≡ Some (content.Code a)) × (hook ≡ number_of h) × IsShown h bytes (map shape_of shapes) certificate a
+
+-- The certificate doesn't show the program that the bytes spell, by the first of its faults, or memory was refused.
+pub record IsUnshown (hook : Hook) (bytes : List ℕ) (shapes : List Shape) (certificate : List ℕ) (answer : Answer) : Type 0 where
+  pub program : Code
+  pub spells : Spells bytes program
+  pub shapes_are : program.shapes ≡ shapes
+  pub fault : CertFault
+  pub refuses : Refuses program hook certificate fault
+  pub number : answer.number ≡ faults.number_of fault
+
+-- The answer to a check that is asked: 92 exactly where the handle isn't empty; else 0, or why the program isn't let in.
+abbrev pub IsCheckVerdict : ℕ → List ℕ → List MapShape → List ℕ → Option Content → Answer → Type 0
+IsCheckVerdict hook bytes shapes certificate (Some _) a = a ≡ answer 92
+IsCheckVerdict hook bytes shapes certificate None a =
+    (a ≡ answer 0) ⊎ (a ≡ answer 40) ⊎ (a ≡ answer 90) ⊎ IsUndecoded bytes (map shape_of shapes) a
+    ⊎ ((h : Hook) × (hook ≡ number_of h) × IsUnshown h bytes (map shape_of shapes) certificate a)

@@ -1,0 +1,72 @@
+-- What the verdict on code comes to.
+use Rattle.std.specs.Prelude.{◌≡◌, ◌≢◌, ◌≤◌, ◌^◌, ◌⊎◌, ℕ, List, map, Option, Some, None}
+use Rattle.bpf_regions.specs.declared.hooks.Hook.{Hook}
+use Rattle.bpf_regions.specs.declared.maps.Shape.{Shape}
+use Rattle.bpf_regions.specs.Hooks.{number_of}
+use Rattle.bpf_decode.specs.Code.{WellFormed}
+use Rattle.bpf_decode.specs.Program.{Code, Begins, Spells}
+use Rattle.bpf_decode.specs.Answer.{Refuses, fault_number, fault_slot}
+use Rattle.bpf_decode.specs.declared.fault.DecodeFault.{DecodeFault}
+use Rattle.bpf_decode.specs.declared.fault.DecodeFault.TheVariants.{NoMemory}
+use Rattle.bpf_model.specs.Run.{Safe}
+use Rattle.bpf_machine.specs.Verified.{Verified}
+use Rattle.bpf_absstate.specs.View.{entry_view}
+use Rattle.bpf_plain.specs.Clear.{IsClear}
+use Rattle.bpf_plain.specs.Walks.{IsPlain}
+use Rattle.bpf_rules.specs.Faults as rules
+use Rattle.bpf_rules.specs.declared.fault.Fault.{Fault}
+use Rattle.bpf_rules.specs.declared.fault.Fault.TheVariants as fault
+use Rattle.apd_c.specs.declared.answer.Answer.{Answer}
+use Rattle.apd_c.specs.declared.handle.Content.{Content}
+use Rattle.apd_c.specs.declared.handle.Content.TheVariants as content
+use Rattle.apd_c.specs.declared.shapes.MapShape.{MapShape}
+use Rattle.apd_c.specs.Answers.{answer}
+use Rattle.apd_c.specs.Given.{shape_of}
+
+-- The program that these bytes spell, for maps of these shapes and for a hook, safe within its budget.
+pub record IsAdmitted (hook : Hook) (bytes : List ℕ) (shapes : List Shape) (a : Verified) : Type 0 where
+  pub spells : Spells bytes a.code
+  pub shapes_are : a.code.shapes ≡ shapes
+  pub hook_is : a.hook ≡ hook
+  pub safe : Safe a.code.slots a.code.shapes a.budget
+  pub small : a.budget ≤ 2 ^ 22
+
+-- The bytes are no well-formed code, or memory was refused.
+pub record IsUndecoded (bytes : List ℕ) (shapes : List Shape) (answer : Answer) : Type 0 where
+  pub fault : DecodeFault
+  pub refuses : Refuses bytes shapes fault
+  pub only : fault ≢ NoMemory → WellFormed bytes shapes → ⊥
+  pub number : answer.number ≡ fault_number fault
+  pub slot : answer.slot ≡ fault_slot fault
+
+-- The verifier refuses the program that the bytes spell, at a slot that begins an instruction. A plain program, and one
+-- that is clear by the rules, is refused for memory alone.
+pub record IsUnsafe (bytes : List ℕ) (shapes : List Shape) (answer : Answer) : Type 0 where
+  pub program : Code
+  pub spells : Spells bytes program
+  pub shapes_are : program.shapes ≡ shapes
+  pub why : Fault
+  pub begins : Begins program.slots answer.slot
+  pub plain : IsPlain program.slots → why ≡ fault.NoMemory
+  pub clear : IsClear program entry_view (2 ^ 22) → why ≡ fault.NoMemory
+  pub number : answer.number ≡ rules.number_of why
+
+-- why bytes aren't admitted
+abbrev pub IsRefused : List ℕ → List Shape → Answer → Type 0
+IsRefused bytes shapes answer = IsUndecoded bytes shapes answer ⊎ IsUnsafe bytes shapes answer
+
+-- the content is a program that is admitted
+abbrev pub HoldsAdmitted : ℕ → List ℕ → List MapShape → Option Content → Type 0
+HoldsAdmitted hook bytes shapes o =
+    (a : Verified) × (h : Hook) × (o ≡ Some (content.Code a)) × (hook ≡ number_of h) × IsAdmitted h bytes (map shape_of shapes) a
+
+-- the budget of a program; 0 of all else
+abbrev pub budget_of : Option Content → ℕ
+budget_of (Some (content.Code a)) = a.budget
+budget_of _ = 0
+
+-- The answer to a verdict that is asked: 92 exactly where the handle isn't empty; else 0, or why the program isn't
+-- admitted.
+abbrev pub IsVerdict : List ℕ → List MapShape → Option Content → Answer → Type 0
+IsVerdict bytes shapes (Some _) a = a ≡ answer 92
+IsVerdict bytes shapes None a = (a ≡ answer 0) ⊎ (a ≡ answer 40) ⊎ (a ≡ answer 90) ⊎ IsRefused bytes (map shape_of shapes) a

@@ -1,0 +1,37 @@
+-- What runs of programs come to, as C sees them.
+use Rattle.std.specs.Prelude.{◌≡◌, ◌≤◌, ℕ, List, take, Option, Some, None}
+use Rattle.bpf_machine.specs.Verified.{Verified}
+use Rattle.bpf_machine.specs.Runs.{Ran, setting_of}
+use Rattle.bpf_machine.specs.declared.outcome.Outcome.{Outcome}
+use Rattle.bpf_helpers.specs.Hooked as hooked
+use Rattle.apd_c.specs.declared.handle.Content.{Content}
+use Rattle.apd_c.specs.declared.handle.Content.TheVariants as content
+use Rattle.apd_c.specs.declared.maps.Maps.{Maps}
+use Rattle.apd_c.specs.declared.runs.Given.{Given}
+use Rattle.apd_c.specs.declared.runs.Report.{Report}
+
+-- what the program reads: the words of the maps, the clock and the stations
+abbrev pub given_to : Maps → Given → hooked.Given
+given_to m g = record { maps = m.tables.maps; worker = 0; clock = g.clock; stations = g.stations }
+
+-- The run of the program on the frame and the context, whose asks were answered over the words of the maps, by the clock,
+-- the stations and the draws. It ended within the budget. R0, steps and the first 16 notes are reported.
+pub record RunsOn (a : Verified) (m : Maps) (frame : List ℕ) (g : Given) (report : Report) (m' : Maps) : Type 0 where
+  pub outcome : Outcome
+  pub ran : Ran (hooked.Gives (given_to m g)) (setting_of a.code frame g.context) m.state m'.state outcome
+  pub within : outcome.steps ≤ a.budget
+  pub r0 : report.r0 ≡ outcome.r0
+  pub steps : report.steps ≡ outcome.steps
+  pub notes : take report.count report.notes ≡ outcome.notes.items
+  pub shapes : m'.shapes ≡ m.shapes
+  pub tables : m'.tables ≡ m.tables
+  pub seats : m'.seats ≡ m.seats
+
+-- the run over the maps that a handle holds
+abbrev pub HasRun : Verified → Option Content → List ℕ → Given → Report → Option Content → Type 0
+HasRun a o frame g report o' =
+    (m : Maps) × (m' : Maps) × (o ≡ Some (content.Maps m)) × (o' ≡ Some (content.Maps m')) × RunsOn a m frame g report m'
+
+-- the run of the program that a handle holds
+abbrev pub RunsCode : Option Content → Option Content → List ℕ → Given → Report → Option Content → Type 0
+RunsCode code o frame g report o' = (a : Verified) × (code ≡ Some (content.Code a)) × HasRun a o frame g report o'

@@ -1,0 +1,214 @@
+//! Certificates made and checked.
+
+ghost use Rattle.std.specs.Prelude.{◌≡◌, ◌≢◌, ◌⊎◌, map, Some, None, IfOk, IfErr, length, min, take};
+ghost use Rattle.bpf_regions.specs.declared.hooks.Hook.{Hook as AHook};
+ghost use Rattle.bpf_regions.specs.Hooks.{number_of};
+ghost use Rattle.apd_c.specs.Held.{held};
+ghost use Rattle.apd_c.specs.Given.{shape_of};
+ghost use Rattle.apd_c.specs.Certificates.{IsShown, Certifies, HoldsCertificate, HoldsShown, IsUnshown, IsCheckVerdict, bytes_of};
+ghost use Rattle.apd_c.specs.Code.{IsUndecoded};
+
+use crate::answer::{Answer, NO_MEMORY, NOT_EMPTY, OTHER_VALUE, OUT_OF_LIMITS};
+use crate::code::hook_of;
+use crate::handle::{Content, Handle};
+use crate::shapes::{MapShape, shapes_from};
+use bpf_cert::{certificate, check};
+use bpf_decode::decode;
+use bpf_machine::Accepted;
+use bpf_regions::{Hook, Shapes};
+use std::alloc::Global;
+
+/// The certificate of a content that is a program.
+fn certified(alloc: Global, content: &Content) -> Result<Vec<u8>, Answer>
+    ensures ok { IfOk result (λ bytes. Certifies (Some content.now) bytes.items) }
+    ensures err { IfErr result (λ e. e.number ≢ 0) }
+{
+    match content {
+        Content::Code(accepted) => match certificate(alloc, accepted) {
+            Ok(bytes) => return Ok(bytes),
+            Err(refusal) => {
+                return Err(Answer {
+                    number: u32::from(refusal.number()),
+                    slot: refusal.pc,
+                });
+            }
+        },
+        _ => return Err(Answer::of(OTHER_VALUE)),
+    }
+}
+
+/// The certificate of what a handle holds.
+fn certificate_of(alloc: Global, code: &mut Handle) -> Result<Vec<u8>, Answer>
+    ensures ok { IfOk result (λ bytes. Certifies (held code.old) bytes.items) }
+    ensures err { IfErr result (λ e. e.number ≢ 0) }
+    ensures kept { held code.new ≡ held code.old }
+{
+    match code.take(alloc) {
+        None => return Err(Answer::of(OTHER_VALUE)),
+        Some(content) => {
+            let made = certified(alloc, &content);
+            code.put(content);
+            return made;
+        }
+    }
+}
+
+/// Fills an empty handle with the certificate of a program: bytes, which `apd_c_read` reads.
+///
+/// 0: the handle holds it. 30 to 38: the verifier refuses the program, as it may one that came in through `apd_c_check`, or
+/// its states don't fit a certificate. 40: memory was refused. 91: the other handle holds no program. 92: the handle
+/// isn't empty. All but 0 leave both handles as they were.
+#[unsafe(no_mangle)]
+pub extern "C" fn apd_c_certify(
+    alloc: Global,
+    certificate: &mut Handle,
+    code: &mut Handle,
+) -> Answer
+    ensures covered { result.number ≡ 0 → HoldsCertificate (held code.old) (held certificate.new) }
+    ensures kept { result.number ≢ 0 → held certificate.new ≡ held certificate.old }
+    ensures code { held code.new ≡ held code.old }
+{
+    if let Some(content) = certificate.take(alloc) {
+        certificate.put(content);
+        return Answer::of(NOT_EMPTY);
+    }
+    match certificate_of(alloc, code) {
+        Err(answer) => return answer,
+        Ok(bytes) => {
+            let answer = certificate.fill(alloc, Content::Bytes(bytes));
+            return answer;
+        }
+    }
+}
+
+/// The program that the bytes spell, if a certificate shows within how many instructions it ends.
+fn shown(
+    alloc: Global,
+    hook: Hook,
+    bytes: &[u8],
+    shapes: Shapes,
+    certificate: &[u8],
+) -> Result<Accepted, Answer>
+    ensures ok { IfOk result (IsShown hook bytes.now shapes certificate.now) }
+    ensures err { IfErr result (λ e. e.number ≢ 0) }
+    ensures why { IfErr result (λ e. IsUndecoded bytes.now shapes e
+        ⊎ IsUnshown hook bytes.now shapes certificate.now e) }
+{
+    match decode(alloc, bytes, shapes) {
+        Err(fault) => {
+            return Err(Answer {
+                number: u32::from(fault.number()),
+                slot: fault.slot(),
+            });
+        }
+        Ok(program) => match check(alloc, program, hook, certificate) {
+            Err(fault) => return Err(Answer::of(u32::from(fault.number()))),
+            Ok(accepted) => {
+                let _safe = accepted.program();
+                return Ok(accepted);
+            }
+        },
+    }
+}
+
+/// The same for a hook and maps as C tells them.
+fn shown_for(
+    alloc: Global,
+    hook: u32,
+    bytes: &[u8],
+    shapes: &[MapShape],
+    certificate: &[u8],
+) -> Result<Accepted, Answer>
+    ensures ok { IfOk result (λ a. (h : AHook) × (hook ≡ number_of h) ×
+        IsShown h bytes.now (map shape_of shapes.now) certificate.now a) }
+    ensures err { IfErr result (λ e. e.number ≢ 0) }
+    ensures why { IfErr result (IsCheckVerdict hook bytes.now shapes.now certificate.now None) }
+{
+    let Some(hook) = hook_of(hook) else {
+        return Err(Answer::of(OUT_OF_LIMITS));
+    };
+    match shapes_from(alloc, shapes) {
+        Err(_) => return Err(Answer::of(NO_MEMORY)),
+        Ok(None) => return Err(Answer::of(OUT_OF_LIMITS)),
+        Ok(Some(shapes)) => {
+            let answer = shown(alloc, hook, bytes, shapes, certificate);
+            return answer;
+        }
+    }
+}
+
+/// Fills an empty handle with a program, as `apd_c_verify` does, where a certificate shows within how many instructions it
+/// ends. The program isn't explored.
+///
+/// 0: the handle holds it. 1 to 3 and 10 to 19: the bytes are no well-formed code. 70: the certificate's bytes spell
+/// none. 71: it is for another hook or another code. 72: it doesn't show it. 40: memory was refused. 90: no such hook, or
+/// a shape out of its limits. 92: the handle isn't empty. All but 0 leave the handle as it was.
+#[unsafe(no_mangle)]
+pub extern "C" fn apd_c_check(
+    alloc: Global,
+    code: &mut Handle,
+    hook: u32,
+    bytes: &[u8],
+    shapes: &[MapShape],
+    certificate: &[u8],
+) -> Answer
+    ensures shown { result.number ≡ 0 →
+        HoldsShown hook bytes.now shapes.now certificate.now (held code.new) }
+    ensures kept { result.number ≢ 0 → held code.new ≡ held code.old }
+    ensures why { IsCheckVerdict hook bytes.now shapes.now certificate.now (held code.old) result }
+{
+    if let Some(content) = code.take(alloc) {
+        code.put(content);
+        return Answer::of(NOT_EMPTY);
+    }
+    match shown_for(alloc, hook, bytes, shapes, certificate) {
+        Err(answer) => return answer,
+        Ok(accepted) => {
+            let answer = code.fill(alloc, Content::Code(accepted));
+            return answer;
+        }
+    }
+}
+
+/// Copies as many bytes as there is room for.
+fn copied(bytes: &[u8], into: &mut [u8])
+    ensures copied { take (min (length bytes.now) (length into.old)) into.new ≡
+        take (min (length bytes.now) (length into.old)) bytes.now }
+{
+    let count = bytes.len().min(into.len());
+    into[..count].copy_from_slice(&bytes[..count]);
+}
+
+/// Copies the bytes of a content.
+fn read(content: &Content, into: &mut [u8]) -> usize
+    ensures count { result ≡ length (bytes_of (Some content.now)) }
+    ensures copied { take (min result (length into.old)) into.new ≡
+        take (min result (length into.old)) (bytes_of (Some content.now)) }
+{
+    match content {
+        Content::Bytes(bytes) => {
+            copied(bytes.as_slice(), into);
+            return bytes.len();
+        }
+        _ => return 0,
+    }
+}
+
+/// Copies the bytes that a handle holds, as many as there is room for, and answers how many it holds; 0 where it holds
+/// none.
+#[unsafe(no_mangle)]
+pub extern "C" fn apd_c_read(alloc: Global, bytes: &mut Handle, into: &mut [u8]) -> usize
+    ensures count { result ≡ length (bytes_of (held bytes.old)) }
+    ensures copied { take (min result (length into.old)) into.new ≡
+        take (min result (length into.old)) (bytes_of (held bytes.old)) }
+    ensures kept { held bytes.new ≡ held bytes.old }
+{
+    match bytes.take(alloc) {
+        None => return 0,
+        Some(content) => {
+            let count = read(&content, into);
+            bytes.put(content);
+            return count;
+        }
+    }
+}

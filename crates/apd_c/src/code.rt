@@ -1,0 +1,130 @@
+//! Programs that are verified.
+
+ghost use Rattle.std.specs.Prelude.{◌≡◌, ◌≢◌, ◌⊎◌, map, Some, IfOk, IfErr, IfSome};
+ghost use Rattle.bpf_regions.specs.declared.hooks.Hook.{Hook as AHook};
+ghost use Rattle.bpf_regions.specs.Hooks.{number_of};
+ghost use Rattle.apd_c.specs.Answers.{answer};
+ghost use Rattle.apd_c.specs.Held.{held};
+ghost use Rattle.apd_c.specs.Given.{shape_of};
+ghost use Rattle.apd_c.specs.Code.{IsAdmitted, IsRefused, HoldsAdmitted, IsVerdict, budget_of};
+
+use crate::answer::{Answer, NO_MEMORY, NOT_EMPTY, OUT_OF_LIMITS};
+use crate::handle::{Content, Handle};
+use crate::shapes::{MapShape, shapes_from};
+use bpf_decode::decode;
+use bpf_machine::Accepted;
+use bpf_regions::{Hook, Shapes};
+use bpf_verifier::verify;
+use std::alloc::Global;
+
+/// The hook of that number.
+pub(crate) fn hook_of(number: u32) -> Option<Hook>
+    ensures { IfSome result (λ hook. number ≡ number_of hook) }
+{
+    match number {
+        1 => Some(Hook::Association),
+        2 => Some(Hook::Addba),
+        3 => Some(Hook::Data),
+        _ => None,
+    }
+}
+
+/// The program that the bytes spell, admitted for a hook.
+fn admitted(alloc: Global, hook: Hook, bytes: &[u8], shapes: Shapes) -> Result<Accepted, Answer>
+    ensures ok { IfOk result (IsAdmitted hook bytes.now shapes) }
+    ensures err { IfErr result (IsRefused bytes.now shapes) }
+    ensures some { IfErr result (λ e. e.number ≢ 0) }
+{
+    match decode(alloc, bytes, shapes) {
+        Err(fault) => {
+            return Err(Answer {
+                number: u32::from(fault.number()),
+                slot: fault.slot(),
+            });
+        }
+        Ok(program) => match verify(alloc, program, hook) {
+            Err(refusal) => {
+                return Err(Answer {
+                    number: u32::from(refusal.number()),
+                    slot: refusal.pc,
+                });
+            }
+            Ok(accepted) => return Ok(accepted),
+        },
+    }
+}
+
+/// The program that the bytes spell, for maps as C tells them.
+fn asked(alloc: Global, hook: u32, bytes: &[u8], shapes: &[MapShape]) -> Result<Accepted, Answer>
+    ensures ok { IfOk result (λ a. (h : AHook) × (hook ≡ number_of h)
+        × IsAdmitted h bytes.now (map shape_of shapes.now) a) }
+    ensures some { IfErr result (λ e. e.number ≢ 0) }
+    ensures err { IfErr result (λ e. (e ≡ answer 90) ⊎ (e ≡ answer 40)
+        ⊎ IsRefused bytes.now (map shape_of shapes.now) e) }
+{
+    let Some(hook) = hook_of(hook) else {
+        return Err(Answer::of(OUT_OF_LIMITS));
+    };
+    match shapes_from(alloc, shapes) {
+        Err(_) => return Err(Answer::of(NO_MEMORY)),
+        Ok(None) => return Err(Answer::of(OUT_OF_LIMITS)),
+        Ok(Some(shapes)) => return admitted(alloc, hook, bytes, shapes),
+    }
+}
+
+/// Verifies code for a hook (1 association, 2 addba, 3 data) and maps of these shapes, and fills an empty handle with
+/// the program.
+///
+/// 0: the handle holds it. 1 to 3 and 10 to 19: the bytes are no well-formed code. 30 to 38: the verifier refuses it.
+/// 40: memory was refused. 90: no such hook, or a shape out of its limits. 92: the handle isn't empty. All but 0 leave
+/// the handle as it was.
+#[unsafe(no_mangle)]
+pub extern "C" fn apd_c_verify(
+    alloc: Global,
+    code: &mut Handle,
+    hook: u32,
+    bytes: &[u8],
+    shapes: &[MapShape],
+) -> Answer
+    ensures admitted { result.number ≡ 0 →
+        HoldsAdmitted hook bytes.now shapes.now (held code.new) }
+    ensures kept { result.number ≢ 0 → held code.new ≡ held code.old }
+    ensures why { IsVerdict bytes.now shapes.now (held code.old) result }
+{
+    if let Some(content) = code.take(alloc) {
+        code.put(content);
+        return Answer::of(NOT_EMPTY);
+    }
+    match asked(alloc, hook, bytes, shapes) {
+        Err(answer) => return answer,
+        Ok(accepted) => {
+            let answer = code.fill(alloc, Content::Code(accepted));
+            return answer;
+        }
+    }
+}
+
+/// The budget of the program that a handle holds; 0 where it holds none.
+#[unsafe(no_mangle)]
+pub extern "C" fn apd_c_budget(alloc: Global, code: &mut Handle) -> u32
+    ensures is { result ≡ budget_of (held code.old) }
+    ensures kept { held code.new ≡ held code.old }
+{
+    match code.take(alloc) {
+        None => return 0,
+        Some(content) => {
+            let budget = budget(&content);
+            code.put(content);
+            return budget;
+        }
+    }
+}
+
+fn budget(content: &Content) -> u32
+    ensures { result ≡ budget_of (Some content.now) }
+{
+    match content {
+        Content::Code(accepted) => accepted.budget(),
+        _ => 0,
+    }
+}

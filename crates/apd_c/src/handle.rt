@@ -1,0 +1,83 @@
+//! What C keeps: handles.
+
+ghost use Rattle.std.specs.Prelude.{◌≡◌, true, false};
+ghost use Rattle.std.specs.Option.{option_map};
+ghost use Rattle.apd_c.specs.declared.handle.Content.{Content};
+ghost use Rattle.apd_c.specs.contracts.handle.Content.{the_row};
+ghost use Rattle.apd_c.specs.Holding.{holds, held_by};
+
+use crate::loose::Loose;
+use crate::maps::Maps;
+use bpf_machine::Accepted;
+use std::alloc::Global;
+use std::marker::Model;
+
+/// What a handle may hold.
+#[derive(Drop)]
+pub enum Content {
+    /// No handle holds this: it stands for the content of an empty one.
+    Nothing,
+    /// An admitted program.
+    Code(Accepted),
+    /// The words of maps.
+    Maps(Maps),
+    /// Bytes that C reads by `apd_c_read`.
+    Bytes(Vec<u8>),
+}
+
+/// What C sees of a content: an address.
+#[repr(C)]
+#[derive(Drop)]
+pub struct Hidden {
+    byte: u8,
+}
+
+/// What C keeps: it is empty, or owns a value. A handle of zeros is empty. C changes neither field, copies no full
+/// handle, makes one call at a time on a handle, and frees it by `apd_c_free`.
+#[repr(C)]
+#[derive(Drop)]
+pub struct Handle {
+    full: bool,
+    at: *mut Hidden,
+    ghost content: { Content },
+}
+
+impl Model for Handle {
+    ghost also_owns = { λ h. holds the_row h.full h.at h.content };
+}
+
+impl Handle {
+    pub(crate) fn sealed(content: Loose<Content, Global>) -> Handle
+        ensures full { result.full ≡ true }
+        ensures content { result.content ≡ content.value }
+    {
+        let Loose { at, alloc: _ } = content;
+        Handle {
+            full: true,
+            at: at as *mut Hidden,
+        }
+    }
+
+    pub(crate) fn empty() -> Handle
+        ensures empty { result.full ≡ false }
+    {
+        Handle {
+            full: false,
+            at: std::ptr::null_mut(),
+        }
+    }
+
+    pub(crate) fn opened(self, alloc: Global) -> Option<Loose<Content, Global>>
+        ensures { option_map (λ b. b.value) result ≡ held_by self.full self.content }
+    {
+        let Handle { full, at } = self;
+        if full {
+            Some(Loose {
+                at: at as *mut Content,
+                alloc,
+            })
+        } else {
+            None
+        }
+    }
+}

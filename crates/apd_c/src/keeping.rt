@@ -1,0 +1,56 @@
+//! What handles are filled with, and what is taken from them.
+
+ghost use Rattle.std.specs.Prelude.{◌≡◌, ◌≢◌, ◌⊎◌, Some, None};
+ghost use Rattle.std.specs.Option.{option_map};
+ghost use Rattle.apd_c.specs.Held.{held};
+ghost use Rattle.apd_c.specs.Answers.{answer};
+
+use crate::answer::{Answer, NO_MEMORY};
+use crate::handle::{Content, Handle};
+use crate::loose::Loose;
+use std::alloc::Global;
+use std::mem::replace;
+
+impl Handle {
+    /// What it holds, of which it is emptied.
+    pub(crate) fn take(&mut self, alloc: Global) -> Option<Box<Content>>
+        ensures taken { option_map (λ b. b.value) result ≡ held self.old }
+        ensures empty { held self.new ≡ None }
+    {
+        match replace(self, Handle::empty()).opened(alloc) {
+            None => None,
+            Some(loose) => Some(loose.into_box()),
+        }
+    }
+
+    /// Holds this content. What it held before is never freed, so callers take that first.
+    pub(crate) fn put(&mut self, content: Box<Content>)
+        ensures { held self.new ≡ Some content.value }
+    {
+        *self = Handle::sealed(Loose::of(content));
+    }
+
+    /// Fills an empty handle. 40: memory was refused, and it stays empty.
+    pub(crate) fn fill(&mut self, alloc: Global, content: Content) -> Answer
+        requires empty { held self.old ≡ None }
+        ensures filled { result.number ≡ 0 → held self.new ≡ Some content }
+        ensures refused { result.number ≢ 0 → held self.new ≡ None }
+        ensures number { (result ≡ answer 0) ⊎ (result ≡ answer 40) }
+    {
+        match Box::new(alloc, content) {
+            Err(_) => return Answer::of(NO_MEMORY),
+            Ok(boxed) => {
+                self.put(boxed);
+                return Answer::of(0);
+            }
+        }
+    }
+}
+
+/// Frees what a handle holds, and leaves it empty. An empty one stays so.
+#[unsafe(no_mangle)]
+pub extern "C" fn apd_c_free(alloc: Global, handle: &mut Handle)
+    ensures empty { held handle.new ≡ None }
+{
+    drop(handle.take(alloc));
+}

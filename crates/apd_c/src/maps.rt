@@ -1,0 +1,43 @@
+//! The words of maps.
+
+ghost use Rattle.std.specs.Prelude.{◌≡◌, ◌≢◌, ◌≤◌, ◌⊎◌, map, None, Some, IfOk, IfErr, IfSome};
+ghost use Rattle.bpf_helpers.specs.Hooked.{IsFitting, shapes_of};
+ghost use Rattle.ap_tables.specs.Stocks.{AreOperators};
+
+use ap_tables::{ApTables, OperatorSeats, operators_law};
+use bpf_helpers::{WorkerState, tables_law};
+use bpf_regions::Shapes;
+use shared_maps::MapFault;
+use std::alloc::Global;
+
+/// The words of maps, with a seat for the runs of programs and a seat for C.
+#[derive(Drop)]
+pub struct Maps {
+    pub shapes: Shapes,
+    pub tables: ApTables,
+    pub state: WorkerState,
+    pub seats: OperatorSeats,
+    pub ghost for_maps: { shapes ≡ shapes_of tables.maps },
+    pub ghost fitting: { IsFitting tables.maps 0 state.seats },
+    pub ghost own: { AreOperators tables.maps seats },
+}
+
+impl Maps {
+    /// Words of zeros, and the first word to draw.
+    pub(crate) fn new(alloc: Global, shapes: Shapes, draw: u64) -> Result<Maps, MapFault>
+        ensures shapes { IfOk result (λ m. m.shapes ≡ shapes) }
+        ensures draw { IfOk result (λ m. m.state.draw ≡ draw) }
+    {
+        operators_law();
+        tables_law();
+        let mut tables = ApTables::new(alloc, &shapes, 1)?;
+        let seats = tables.operator(alloc)?;
+        let state = tables.worker(alloc, 0, draw)?;
+        Ok(Maps {
+            shapes,
+            tables,
+            state,
+            seats,
+        })
+    }
+}

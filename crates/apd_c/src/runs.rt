@@ -1,0 +1,188 @@
+//! Programs that run.
+
+ghost use Rattle.std.specs.Prelude.{◌≡◌, ◌≢◌, ◌≤◌, ◌↔◌, Some, IsTrue, take};
+ghost use Rattle.apd_c.specs.Held.{held};
+ghost use Rattle.apd_c.specs.Runs.{RunsOn, HasRun, RunsCode};
+
+use crate::answer::{OTHER_MAPS, OTHER_VALUE, OUT_OF_LIMITS};
+use crate::handle::{Content, Handle};
+use crate::maps::Maps;
+use crate::words::{put_maps, take_maps};
+use bpf_helpers::{WorkerView, run_hook};
+use bpf_machine::{Accepted, Outcome};
+use bpf_regions::{Context, Frame, Shape};
+use std::alloc::Global;
+
+/// What a program is given beside its frame and its maps: the clock, how many stations are associated (at most 2007),
+/// and the 32 bytes of its context.
+#[repr(C)]
+#[derive(Clone, Copy)]
+pub struct Given {
+    pub clock: u64,
+    pub stations: u16,
+    pub context: [u8; 32],
+}
+
+/// What a run came to, where the number is 0: R0, the steps, how many notes there are, at most 16, and the notes.
+#[repr(C)]
+#[derive(Clone, Copy)]
+pub struct Report {
+    pub number: u32,
+    pub steps: u32,
+    pub r0: u64,
+    pub count: usize,
+    pub notes: [u64; 16],
+}
+
+/// The report of no run.
+fn refused(number: u32) -> Report
+    ensures { result.number ≡ number }
+{
+    Report {
+        number,
+        steps: 0,
+        r0: 0,
+        count: 0,
+        notes: [0; 16],
+    }
+}
+
+/// The report of a run.
+fn reported(outcome: &Outcome) -> Report
+    ensures number { result.number ≡ 0 }
+    ensures r0 { result.r0 ≡ outcome.now.r0 }
+    ensures steps { result.steps ≡ outcome.now.steps }
+    ensures notes { take result.count result.notes ≡ outcome.now.notes.items }
+{
+    let listed = outcome.notes.as_slice();
+    let count = listed.len();
+    let mut notes = [0u64; 16];
+    notes[..count].copy_from_slice(listed);
+    Report {
+        number: 0,
+        steps: outcome.steps,
+        r0: outcome.r0,
+        count,
+        notes,
+    }
+}
+
+fn are_alike(shapes: &[Shape], others: &[Shape]) -> bool
+    ensures { IsTrue result ↔ (shapes.now ≡ others.now) }
+{
+    shapes == others
+}
+
+/// The run of a program on a frame, over its maps.
+fn run_on(accepted: &Accepted, maps: Maps, frame: &[u8], given: &Given) -> (Maps, Report)
+    ensures run { result.1.number ≡ 0 →
+        RunsOn accepted.now maps frame.now given.now result.1 result.0 }
+    ensures refused { result.1.number ≢ 0 → result.0 ≡ maps }
+{
+    let Some(frame) = Frame::new(frame) else {
+        return (maps, refused(OUT_OF_LIMITS));
+    };
+    if given.stations > 2007 {
+        return (maps, refused(OUT_OF_LIMITS));
+    }
+    if !are_alike(
+        maps.shapes.as_slice(),
+        accepted.program().shapes().as_slice(),
+    ) {
+        return (maps, refused(OTHER_MAPS));
+    }
+    let Maps {
+        shapes,
+        tables,
+        mut state,
+        seats,
+    } = maps;
+    let view = WorkerView {
+        maps: tables.maps(),
+        worker: 0,
+        clock: given.clock,
+        stations: given.stations,
+    };
+    let context = Context::new(given.context);
+    let outcome = run_hook(accepted, &frame, &context, view, &mut state);
+    let report = reported(&outcome);
+    let after = Maps {
+        shapes,
+        tables,
+        state,
+        seats,
+    };
+    return (after, report);
+}
+
+/// The run of a program over the maps that a handle holds.
+fn run_at(
+    alloc: Global,
+    accepted: &Accepted,
+    maps: &mut Handle,
+    frame: &[u8],
+    given: &Given,
+) -> Report
+    ensures run { result.number ≡ 0 →
+        HasRun accepted.now (held maps.old) frame.now given.now result (held maps.new) }
+    ensures refused { result.number ≢ 0 → held maps.new ≡ held maps.old }
+{
+    match take_maps(alloc, maps) {
+        None => return refused(OTHER_VALUE),
+        Some((boxed, words)) => {
+            let (words, report) = run_on(accepted, words, frame, given);
+            put_maps(maps, boxed, words);
+            return report;
+        }
+    }
+}
+
+/// The run of a content that is a program.
+fn run_content(
+    alloc: Global,
+    content: &Content,
+    maps: &mut Handle,
+    frame: &[u8],
+    given: &Given,
+) -> Report
+    ensures run { result.number ≡ 0 →
+        RunsCode (Some content.now) (held maps.old) frame.now given.now result (held maps.new) }
+    ensures refused { result.number ≢ 0 → held maps.new ≡ held maps.old }
+{
+    match content {
+        Content::Code(accepted) => {
+            let report = run_at(alloc, accepted, maps, frame, given);
+            return report;
+        }
+        _ => return refused(OTHER_VALUE),
+    }
+}
+
+/// Runs a program on a frame of at most 2400 bytes, over the maps that a handle holds. The frame and what is given need
+/// to stand only while it runs; it waits for nothing and takes no memory.
+///
+/// 0: the run ended, within the program's budget. 90: the frame is longer, or there are more than 2007 stations. 91: a
+/// handle doesn't hold what it is asked for. 93: the program is for maps of other shapes. All but 0 leave the maps as
+/// they were.
+#[unsafe(no_mangle)]
+pub extern "C" fn apd_c_run(
+    alloc: Global,
+    code: &mut Handle,
+    maps: &mut Handle,
+    frame: &[u8],
+    given: &Given,
+) -> Report
+    ensures run { result.number ≡ 0 →
+        RunsCode (held code.old) (held maps.old) frame.now given.now result (held maps.new) }
+    ensures refused { result.number ≢ 0 → held maps.new ≡ held maps.old }
+    ensures code { held code.new ≡ held code.old }
+{
+    match code.take(alloc) {
+        None => return refused(OTHER_VALUE),
+        Some(content) => {
+            let report = run_content(alloc, &content, maps, frame, given);
+            code.put(content);
+            return report;
+        }
+    }
+}

@@ -1,0 +1,192 @@
+//! What C does with words of maps.
+
+ghost use Rattle.std.specs.Prelude.{◌≡◌, ◌≢◌, ◌⊎◌, map, Some, None, IfSome, IfOk, IfErr};
+ghost use Rattle.apd_c.specs.declared.handle.Content.TheVariants.{Maps as MapsContent};
+ghost use Rattle.apd_c.specs.Held.{held};
+ghost use Rattle.apd_c.specs.Given.{shape_of};
+ghost use Rattle.apd_c.specs.Words.{IsLoaded, IsStored, HoldsMaps, HasLoaded, HasStored};
+
+use crate::answer::{NO_MEMORY, NOT_EMPTY, OTHER_VALUE, OUT_OF_LIMITS};
+use crate::handle::{Content, Handle};
+use crate::maps::Maps;
+use crate::shapes::{MapShape, shapes_from};
+use bpf_regions::Scope;
+use std::alloc::Global;
+
+/// A word that was loaded, or why none was.
+#[repr(C)]
+#[derive(Clone, Copy, Debug, PartialEq, Eq)]
+pub struct Loaded {
+    pub number: u32,
+    pub value: u64,
+}
+
+impl Loaded {
+    fn refused(number: u32) -> Loaded
+        ensures { result ≡ record { number = number; value = 0 } }
+    {
+        Loaded { number, value: 0 }
+    }
+}
+
+/// The maps that a handle holds, and the box in which they stood; the handle is empty then.
+pub(crate) fn take_maps(alloc: Global, handle: &mut Handle) -> Option<(Box<Content>, Maps)>
+    ensures some { IfSome result (λ t. held handle.old ≡ Some (MapsContent t.1)) }
+    ensures none { result ≡ None → held handle.new ≡ held handle.old }
+{
+    match handle.take(alloc) {
+        None => return None,
+        Some(mut boxed) => match Box::replace(&mut boxed, Content::Nothing) {
+            Content::Maps(maps) => return Some((boxed, maps)),
+            other => {
+                drop(Box::replace(&mut boxed, other));
+                handle.put(boxed);
+                return None;
+            }
+        },
+    }
+}
+
+/// Puts maps back.
+pub(crate) fn put_maps(handle: &mut Handle, boxed: Box<Content>, maps: Maps)
+    ensures { held handle.new ≡ Some (MapsContent maps) }
+{
+    let mut boxed = boxed;
+    drop(Box::replace(&mut boxed, Content::Maps(maps)));
+    handle.put(boxed);
+}
+
+/// The word, if a map has it.
+fn load(maps: Maps, at: u32, word: u32) -> (Maps, Loaded)
+    ensures loaded { result.1.number ≡ 0 → IsLoaded maps at word result.1.value result.0 }
+    ensures refused { result.1.number ≢ 0 → result.0 ≡ maps }
+{
+    if !maps.tables.has_word(Scope::Shared, at as usize, word) {
+        return (maps, Loaded::refused(OUT_OF_LIMITS));
+    }
+    let Maps {
+        shapes,
+        tables,
+        state,
+        mut seats,
+    } = maps;
+    let value = tables.read(&mut seats, at as usize, word);
+    let after = Maps {
+        shapes,
+        tables,
+        state,
+        seats,
+    };
+    return (after, Loaded { number: 0, value });
+}
+
+/// Stores a number in the word, if a map has it.
+fn store(maps: Maps, at: u32, word: u32, value: u64) -> (Maps, u32)
+    ensures stored { result.1 ≡ 0 → IsStored maps at word value result.0 }
+    ensures refused { result.1 ≢ 0 → result.0 ≡ maps }
+{
+    if !maps.tables.has_word(Scope::Shared, at as usize, word) {
+        return (maps, OUT_OF_LIMITS);
+    }
+    let Maps {
+        shapes,
+        tables,
+        state,
+        mut seats,
+    } = maps;
+    tables.store(&mut seats, at as usize, word, value);
+    let after = Maps {
+        shapes,
+        tables,
+        state,
+        seats,
+    };
+    return (after, 0);
+}
+
+/// Maps of words 0, as C tells them.
+fn made(alloc: Global, shapes: &[MapShape], draw: u64) -> Result<Maps, u32>
+    ensures ok { IfOk result (λ m. (m.shapes ≡ map shape_of shapes.now)
+        × (m.state.draw ≡ draw)) }
+    ensures err { IfErr result (λ number. number ≢ 0) }
+{
+    match shapes_from(alloc, shapes) {
+        Err(_) => return Err(NO_MEMORY),
+        Ok(None) => return Err(OUT_OF_LIMITS),
+        Ok(Some(shapes)) => match Maps::new(alloc, shapes, draw) {
+            Err(fault) => return Err(u32::from(fault.number())),
+            Ok(maps) => return Ok(maps),
+        },
+    }
+}
+
+/// Fills an empty handle with maps of these shapes, each of whose words is 0, and the word that programs draw first.
+///
+/// 0: the handle holds them. 40: memory was refused. 90: a shape out of its limits. 92: the handle isn't empty. All but
+/// 0 leave the handle as it was.
+#[unsafe(no_mangle)]
+pub extern "C" fn apd_c_maps(
+    alloc: Global,
+    maps: &mut Handle,
+    shapes: &[MapShape],
+    draw: u64,
+) -> u32
+    ensures made { result ≡ 0 → HoldsMaps shapes.now draw (held maps.new) }
+    ensures kept { result ≢ 0 → held maps.new ≡ held maps.old }
+{
+    if let Some(content) = maps.take(alloc) {
+        maps.put(content);
+        return NOT_EMPTY;
+    }
+    match made(alloc, shapes, draw) {
+        Err(number) => return number,
+        Ok(words) => {
+            let answer = maps.fill(alloc, Content::Maps(words));
+            return answer.number;
+        }
+    }
+}
+
+/// One load of a word of a map. A word's number is its entry's index times the words of an entry, plus its place there.
+///
+/// 0: the word was loaded. 90: there is no such word. 91: the handle holds no maps. It takes no memory.
+#[unsafe(no_mangle)]
+pub extern "C" fn apd_c_load(alloc: Global, maps: &mut Handle, map: u32, word: u32) -> Loaded
+    ensures loaded { result.number ≡ 0 →
+        HasLoaded (held maps.old) map word result.value (held maps.new) }
+    ensures kept { result.number ≢ 0 → held maps.new ≡ held maps.old }
+{
+    match take_maps(alloc, maps) {
+        None => return Loaded::refused(OTHER_VALUE),
+        Some((boxed, words)) => {
+            let (words, loaded) = load(words, map, word);
+            put_maps(maps, boxed, words);
+            return loaded;
+        }
+    }
+}
+
+/// One store of a number, mod 2^(8 * width), in a word of a map.
+///
+/// 0: it was stored. 90: there is no such word. 91: the handle holds no maps. It takes no memory.
+#[unsafe(no_mangle)]
+pub extern "C" fn apd_c_store(
+    alloc: Global,
+    maps: &mut Handle,
+    map: u32,
+    word: u32,
+    value: u64,
+) -> u32
+    ensures stored { result ≡ 0 →
+        HasStored (held maps.old) map word value (held maps.new) }
+    ensures kept { result ≢ 0 → held maps.new ≡ held maps.old }
+{
+    match take_maps(alloc, maps) {
+        None => return OTHER_VALUE,
+        Some((boxed, words)) => {
+            let (words, number) = store(words, map, word, value);
+            put_maps(maps, boxed, words);
+            return number;
+        }
+    }
+}

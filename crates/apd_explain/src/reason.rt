@@ -1,0 +1,110 @@
+//! Why a program is refused, or what admitting it took.
+
+use crate::costs::costs_text;
+use crate::refusal::{append_place, append_registers};
+use apd_refusals::explain as page_of;
+use bpf_absstate::AbsState;
+use bpf_decode::{DecodeFault, Program};
+use bpf_line::InsnText;
+use bpf_regions::Hook;
+use bpf_verifier::{Explanation, explain, explore};
+use std::alloc::{AllocError, Global};
+use std::fmt::Write;
+
+/// The lines on a program: what the verifier knew where it refuses it, and the cure; or, for one that it admits, the
+/// budget, and where its states stand. The program is explored anew.
+pub fn reason_text(alloc: Global, program: &Program, hook: Hook) -> Result<String, AllocError> {
+    match explain(alloc, program, hook)? {
+        Some(explanation) => refusal_text(alloc, program, &explanation),
+        None => admission_text(alloc, program, hook),
+    }
+}
+
+/// The lines on a program that is admitted.
+fn admission_text(alloc: Global, program: &Program, hook: Hook) -> Result<String, AllocError> {
+    match explore(alloc, program, hook) {
+        Ok(entries) => costs_text(alloc, program, entries.as_slice()),
+        Err(_) => Ok(String::new(alloc)),
+    }
+}
+
+/// The lines on a refusal.
+fn refusal_text(
+    alloc: Global,
+    program: &Program,
+    explanation: &Explanation,
+) -> Result<String, AllocError> {
+    let mut text = String::new(alloc);
+    let refusal = explanation.refusal;
+    append_insn(&mut text, program, refusal.pc)?;
+    if let Some(state) = &explanation.state {
+        append_reads(&mut text, program, state, refusal.pc)?;
+        append_reach(&mut text, program, state, refusal.pc)?;
+    }
+    append_cure(&mut text, refusal.number())?;
+    Ok(text)
+}
+
+fn append_insn(text: &mut String, program: &Program, slot: usize) -> Result<(), AllocError> {
+    if let Some(Some(insn)) = program.insn_at(slot) {
+        writeln!(text, "  slot {slot}: {}", InsnText(insn))?;
+    }
+    Ok(())
+}
+
+/// What the verifier knew of the registers that an instruction reads.
+fn append_reads(
+    text: &mut String,
+    program: &Program,
+    state: &AbsState,
+    slot: usize,
+) -> Result<(), AllocError> {
+    match program.insn_at(slot) {
+        Some(Some(insn)) => append_registers(text, state, insn),
+        _ => Ok(()),
+    }
+}
+
+/// What it knew of the memory that an instruction reaches to.
+fn append_reach(
+    text: &mut String,
+    program: &Program,
+    state: &AbsState,
+    slot: usize,
+) -> Result<(), AllocError> {
+    match program.insn_at(slot) {
+        Some(Some(insn)) => append_place(text, state, program.shapes(), insn),
+        _ => Ok(()),
+    }
+}
+
+/// The cure most likely meant.
+fn append_cure(text: &mut String, number: u8) -> Result<(), AllocError> {
+    if let Some(page) = page_of(number) {
+        writeln!(text, "  cure: {}", page.cure)?;
+    }
+    Ok(())
+}
+
+/// The lines on a fault of code: the bytes of its slot, and the cure.
+pub fn fault_text(alloc: Global, code: &[u8], fault: DecodeFault) -> Result<String, AllocError> {
+    let mut text = String::new(alloc);
+    append_bytes(&mut text, code, fault.slot())?;
+    append_cure(&mut text, fault.number())?;
+    Ok(text)
+}
+
+/// The bytes of a slot, where the code has it.
+fn append_bytes(text: &mut String, code: &[u8], slot: usize) -> Result<(), AllocError> {
+    let mut rest = code;
+    rest = rest.get(slot.saturating_mul(8)..).unwrap_or(&[]);
+    if rest.is_empty() {
+        return Ok(());
+    }
+    write!(text, "  slot {slot}: ")?;
+    for byte in rest.iter().take(8) {
+        write!(text, "{byte:02x}")?;
+    }
+    writeln!(text)?;
+    Ok(())
+}

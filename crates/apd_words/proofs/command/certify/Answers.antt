@@ -1,0 +1,4 @@
+use Rattle.apd_words.proofs.command.certify.Goals as goal
+
+pub returns : goal.returns
+returns c = record { is = c.with_arg.ensures.is _ _ c.hook_command.ensures.is c.config.ensures.is }

@@ -1,0 +1,278 @@
+//! Finished states that say no more than their checks need.
+
+ghost use Rattle.std.specs.Prelude.{◌<◌};
+
+use crate::claim::Claim;
+use crate::claims::Claims;
+use crate::coverage::leads;
+use bpf_absnum::AbsNum;
+use bpf_absstate::AbsState;
+use bpf_absval::{AbsSlot, AbsVal};
+use bpf_decode::Program;
+use bpf_insn::Reg;
+use bpf_prune::Entry;
+use std::alloc::{AllocError, Global};
+
+/// With how many claims of its slot a state is compared.
+const NEWEST: usize = 64;
+
+/// What is left out of a state.
+#[derive(Clone, Copy, PartialEq, Eq)]
+struct Cut {
+    /// The registers of which nothing is said: bit n for Rn.
+    unset: u16,
+    /// Those of which no more is said than what kind of value they hold.
+    loose: u16,
+    /// The slots of the newest stack of which nothing is said.
+    slots: u64,
+    /// Whether nothing is said of the frame's length.
+    length: bool,
+}
+
+/// Nothing is left out.
+const WHOLE: Cut = Cut {
+    unset: 0,
+    loose: 0,
+    slots: 0,
+    length: false,
+};
+
+/// The value with any number, or any place behind its label.
+fn loosened(value: AbsVal) -> AbsVal {
+    match value {
+        AbsVal::Number(_) => AbsVal::Number(AbsNum::full()),
+        AbsVal::Frame {
+            offset: _,
+            label: Some(label),
+        } => AbsVal::Frame {
+            offset: AbsNum::full(),
+            label: Some(label),
+        },
+        other => other,
+    }
+}
+
+/// Raises the room of a value's label to what is known in a state.
+fn add_room(short: &mut AbsState, state: &AbsState, value: AbsVal) -> Result<(), AllocError> {
+    let label = match value {
+        AbsVal::Frame {
+            label: Some(known),
+            ..
+        } => known.label,
+        _ => return Ok(()),
+    };
+    if let Some(size) = state.room(label) {
+        short.raise_room(label, size)?;
+    }
+    Ok(())
+}
+
+/// Lets a state know of R0 to R9 what another one does.
+fn add_registers(short: &mut AbsState, state: &AbsState) -> Result<(), AllocError> {
+    for number in 0..10u8 {
+        let register = Reg::new(number);
+        short.set_register(register, state.register(register))?;
+        add_room(short, state, state.register(register))?;
+    }
+    Ok(())
+}
+
+/// Lets a state know of a slot of the main function's stack what another one does.
+fn add_slot(short: &mut AbsState, index: usize, slot: AbsSlot) -> Result<(), AllocError>
+    requires { index < 64 }
+{
+    if matches!(slot, AbsSlot::Unset) {
+        return Ok(());
+    }
+    let _frames = short.depth();
+    short.set_slot(0, index, slot)?;
+    Ok(())
+}
+
+/// The value that a slot of a stack holds.
+fn stored(slot: AbsSlot) -> AbsVal {
+    match slot {
+        AbsSlot::Stored(value) => value,
+        _ => AbsVal::Unset,
+    }
+}
+
+/// Lets a state know of the main function's stack what another one does.
+fn add_slots(short: &mut AbsState, state: &AbsState) -> Result<(), AllocError> {
+    let _frames = state.depth();
+    for index in 0..64 {
+        add_slot(short, index, state.slot(0, index))?;
+        add_room(short, state, stored(state.slot(0, index)))?;
+    }
+    Ok(())
+}
+
+/// The state without what is known of the frame's length. In a function that was called it stays as it is.
+fn without_length(alloc: Global, state: &AbsState) -> Result<AbsState, AllocError> {
+    if state.depth() != 1 {
+        return state.clone();
+    }
+    let mut short = AbsState::entry(alloc)?;
+    add_registers(&mut short, state)?;
+    add_slots(&mut short, state)?;
+    short.go_to(state.pc());
+    Ok(short)
+}
+
+/// Leaves out what is known of registers.
+fn cut_registers(state: &mut AbsState, cut: Cut) -> Result<(), AllocError> {
+    for number in 0..10u8 {
+        let register = Reg::new(number);
+        if cut.unset >> number & 1 == 1 {
+            state.set_register(register, AbsVal::Unset)?;
+        } else if cut.loose >> number & 1 == 1 {
+            state.set_register(register, loosened(state.register(register)))?;
+        }
+    }
+    Ok(())
+}
+
+/// Leaves out what is known of the newest stack.
+fn cut_slots(state: &mut AbsState, cut: Cut) -> Result<(), AllocError> {
+    for index in 0..64 {
+        if cut.slots >> index & 1 == 1 {
+            let newest = state.depth() - 1;
+            state.set_slot(newest, index, AbsSlot::Unset)?;
+        }
+    }
+    Ok(())
+}
+
+/// The state without what is left out.
+fn without(alloc: Global, state: &AbsState, cut: Cut) -> Result<AbsState, AllocError> {
+    let mut wide = if cut.length {
+        without_length(alloc, state)?
+    } else {
+        state.clone()?
+    };
+    cut_registers(&mut wide, cut)?;
+    cut_slots(&mut wide, cut)?;
+    Ok(wide)
+}
+
+/// A finished state of which as much as can is to be left out, where all that it leads to are claimed already.
+#[derive(Clone, Copy)]
+struct Trial<'a> {
+    alloc: Global,
+    program: &'a Program,
+    claims: &'a Claims,
+    state: &'a AbsState,
+    budget: u32,
+}
+
+impl Trial<'_> {
+    /// Whether the state without what is left out still leads to claims within its budget.
+    fn passes(self, cut: Cut) -> Result<bool, AllocError> {
+        let claim = Claim {
+            state: without(self.alloc, self.state, cut)?,
+            budget: self.budget,
+            is_open: true,
+        };
+        leads(self.alloc, self.program, self.claims, &claim)
+    }
+
+    /// With as little of one register as can be.
+    fn cut_register(self, cut: Cut, number: u8) -> Result<Cut, AllocError>
+        requires { number < 10 }
+    {
+        let unset = Cut {
+            unset: cut.unset | 1 << number,
+            ..cut
+        };
+        let value = self.state.register(Reg::new(number));
+        if matches!(value, AbsVal::Unset) || self.passes(unset)? {
+            return Ok(unset);
+        }
+        let loose = Cut {
+            loose: cut.loose | 1 << number,
+            ..cut
+        };
+        if loosened(value) != value && self.passes(loose)? {
+            return Ok(loose);
+        }
+        Ok(cut)
+    }
+
+    /// With as little of the registers as can be.
+    fn cut_registers(self, cut: Cut) -> Result<Cut, AllocError> {
+        let mut cut = cut;
+        for number in 0..10 {
+            cut = self.cut_register(cut, number)?;
+        }
+        Ok(cut)
+    }
+
+    /// Without a slot of the newest stack, if that can be.
+    fn cut_slot(self, cut: Cut, index: u8) -> Result<Cut, AllocError>
+        requires { index < 64 }
+    {
+        let less = Cut {
+            slots: cut.slots | 1 << index,
+            ..cut
+        };
+        let slot = self.state.slot(self.state.depth() - 1, index as usize);
+        if matches!(slot, AbsSlot::Unset) || self.passes(less)? {
+            return Ok(less);
+        }
+        Ok(cut)
+    }
+
+    /// With as few slots of the newest stack as can be.
+    fn cut_slots(self, cut: Cut) -> Result<Cut, AllocError> {
+        let mut cut = cut;
+        for index in 0..64 {
+            cut = self.cut_slot(cut, index)?;
+        }
+        Ok(cut)
+    }
+
+    /// What can be left out. What could be at its slot before, if anything, is tried first.
+    fn cut(self, before: Cut) -> Result<Cut, AllocError> {
+        if before != WHOLE && self.passes(before)? {
+            return Ok(before);
+        }
+        let short = Cut {
+            length: true,
+            ..WHOLE
+        };
+        let cut = if self.passes(short)? { short } else { WHOLE };
+        let cut = self.cut_registers(cut)?;
+        self.cut_slots(cut)
+    }
+}
+
+/// Finished states, each without what its checks don't need, as claims. A state goes that such a claim includes within
+/// its budget.
+pub(crate) fn widened(
+    alloc: Global,
+    program: &Program,
+    finished: &[Entry],
+) -> Result<Claims, AllocError> {
+    let mut claims = Claims::new(alloc, program.len())?;
+    let mut cuts = vec![in alloc; WHOLE; program.len()]?;
+    for one in finished {
+        let pc = one.state.pc();
+        if pc >= cuts.len() || claims.soon_include(&one.state, one.budget, NEWEST) {
+            continue;
+        }
+        let trial = Trial {
+            alloc,
+            program,
+            claims: &claims,
+            state: &one.state,
+            budget: one.budget,
+        };
+        cuts[pc] = trial.cut(cuts[pc])?;
+        claims.push(Claim {
+            state: without(alloc, &one.state, cuts[pc])?,
+            budget: one.budget,
+            is_open: true,
+        })?;
+    }
+    Ok(claims)
+}

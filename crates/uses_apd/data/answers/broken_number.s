@@ -1,0 +1,2 @@
+exit
+add r0, 0x1ffffffff # ÿ

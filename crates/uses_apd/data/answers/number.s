@@ -1,0 +1,4 @@
+exit
+
+add r0,  0x1ffffffff
+what

@@ -1,0 +1,4 @@
+
+
+add r0, 0x1ffffffff
+ÿ

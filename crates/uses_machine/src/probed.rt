@@ -1,0 +1,608 @@
+//! Programs of slots, admitted or not, and what the tagged machine makes of them: R0 and the steps,
+//! or the number and the slot of a fault. What is admitted comes to the same on both machines.
+
+use crate::alike::compare_on_frames;
+use crate::programs::of_slots;
+use crate::same::same;
+use bpf_helpers::PlainPort;
+use bpf_machine::probing::probe;
+use bpf_machine::{ListPort, Probe};
+use bpf_regions::{Context, Frame, Hook, Scope, Shape, WordWidth};
+use bpf_verifier::verify;
+use std::alloc::Global;
+use std::process::Abort;
+
+const EXIT: u64 = 0x9500000000000000;
+
+/// The second half of a wide load of a number below 2^32, of a map or of its first value.
+const HALF: u64 = 0;
+
+const SEVEN: u64 = 0xb700000007000000;
+
+const ZERO: u64 = 0xb701000000000000;
+
+const LEAST: u64 = 0x1800000000000000;
+
+const ONE: u64 = 0xb700000001000000;
+
+const WORD: u64 = 0x1800000088776655;
+
+const SPILL_R1: u64 = 0x7b1af8ff00000000;
+
+const FIVE: u64 = 0xb700000005000000;
+
+const LOW_BYTE: u64 = 0x730af8ff00000000;
+
+const PUT: u64 = 0x7b0af8ff00000000;
+
+const FETCH: u64 = 0xc31af8ff01000000;
+
+const SWAP: u64 = 0xdb1af8fff1000000;
+
+const FIVE_IN_R1: u64 = 0xb701000005000000;
+
+const CALL: u64 = 0x8510000002000000;
+
+const ADD: u64 = 0x0700000001000000;
+
+const PUT_R1: u64 = 0x7b1af8ff00000000;
+
+const SQUARE: u64 = 0x2f00000000000000;
+
+const MAP: u64 = 0x1851000000000000;
+
+const VALUE: u64 = 0x1861000000000000;
+
+const LOOKUP: u64 = 0x8500000001000000;
+
+const NOW: u64 = 0x8500000002000000;
+
+const STATIONS: u64 = 0x8500000003000000;
+
+const DRAW: u64 = 0x8500000004000000;
+
+const TEST: u64 = 0x5500010000000000;
+
+const LOAD: u64 = 0x7900000000000000;
+
+/// What a program comes to: R0 and the steps, or the slot and the number of a fault.
+#[derive(Clone, Copy, Debug, PartialEq)]
+enum End {
+    Ends(u64, u32),
+    Faults(usize, u8),
+    Cut,
+}
+
+use End::{Cut, Ends, Faults};
+
+fn end_of(answer: &Probe) -> End {
+    match answer {
+        Probe::Ended(outcome) => Ends(outcome.r0, outcome.steps),
+        Probe::Faulted { pc, number } => Faults(*pc, *number),
+        Probe::Cut => Cut,
+    }
+}
+
+/// What a probe is given: the shape of a map, a frame, the answers to what it asks, and a limit of
+/// steps.
+#[derive(Clone, Copy, Drop)]
+struct Given<'a> {
+    map: Option<Shape>,
+    frame: &'a [u8],
+    answers: &'a [u64],
+    limit: u32,
+}
+
+/// A program that is admitted comes to the same on both machines.
+fn compare_admitted(rt: &impl Abort, alloc: Global, slots: &[u64], map: Option<Shape>) {
+    let program = of_slots(rt, alloc, slots, map);
+    if let Ok(accepted) = verify(alloc, program, Hook::Data) {
+        compare_on_frames(rt, &accepted, "slots");
+    }
+}
+
+/// Probes a program on a frame, with answers from a list.
+fn probed(rt: &impl Abort, alloc: Global, slots: &[u64], given: Given<'_>) -> Probe {
+    let program = of_slots(rt, alloc, slots, given.map);
+    let frame = Frame::new(given.frame).expect(rt, "a short frame");
+    let mut port = ListPort::new(program.shapes(), given.answers);
+    probe(
+        &program,
+        &frame,
+        &Context::new([0; 32]),
+        &mut port,
+        given.limit,
+    )
+}
+
+/// The program comes to this end.
+fn is_probed(rt: &impl Abort, alloc: Global, slots: &[u64], given: Given<'_>, end: End) {
+    compare_admitted(rt, alloc, slots, given.map);
+    let answer = probed(rt, alloc, slots, given);
+    same(rt, (slots, end_of(&answer)), (slots, end), "slots, end");
+}
+
+/// A program without a map, and its end on an empty frame.
+type Row = (&'static [u64], End);
+
+fn are_probed(rt: &impl Abort, alloc: Global, rows: &[Row]) {
+    for (slots, end) in rows {
+        let given = Given {
+            map: None,
+            frame: &[],
+            answers: &[],
+            limit: 1000,
+        };
+        is_probed(rt, alloc, slots, given, *end);
+    }
+}
+
+/// Divisions by zero, and of the least number by -1.
+const DIVISIONS: &[Row] = &[
+    (&[SEVEN, ZERO, 0x3f10000000000000, EXIT], Ends(0, 4)),
+    (&[SEVEN, ZERO, 0x9f10000000000000, EXIT], Ends(7, 4)),
+    (&[SEVEN, ZERO, 0x9c10000000000000, EXIT], Ends(7, 4)),
+    (&[SEVEN, ZERO, 0x3f10010000000000, EXIT], Ends(0, 4)),
+    (
+        &[LEAST, 0x80, 0x37000100ffffffff, EXIT],
+        Ends(9223372036854775808, 3),
+    ),
+    (&[LEAST, 0x80, 0x97000100ffffffff, EXIT], Ends(0, 3)),
+    (
+        &[0xb7000000f3ffffff, 0x9700010003000000, EXIT],
+        Ends(18446744073709551615, 3),
+    ),
+];
+
+/// Words wrap, and shift counts are masked.
+const WORDS: &[Row] = &[
+    (&[0xb4000000ffffffff, 0x0400000001000000, EXIT], Ends(0, 3)),
+    (&[ONE, 0x6700000041000000, EXIT], Ends(2, 3)),
+    (&[ONE, 0x6400000021000000, EXIT], Ends(2, 3)),
+    (
+        &[WORD, 0x44332211, 0xdc00000010000000, EXIT],
+        Ends(34935, 3),
+    ),
+    (
+        &[WORD, 0x44332211, 0xd400000020000000, EXIT],
+        Ends(1432778632, 3),
+    ),
+];
+
+/// Each fault has its number, and is met at its slot.
+const FAULTS: &[Row] = &[
+    (&[EXIT], Faults(0, 30)),
+    (&[0x71a0ffff00000000, EXIT], Faults(0, 30)),
+    (&[SPILL_R1, 0x71a0f8ff00000000, EXIT], Faults(1, 31)),
+    (
+        &[
+            0xb700000005000000,
+            0xbf01000000000000,
+            0x631afcff00000000,
+            0x79a0f8ff00000000,
+            EXIT,
+        ],
+        Faults(3, 30),
+    ),
+    (&[0x71a0000000000000, EXIT], Faults(0, 32)),
+    (&[0x7b1af7ff00000000, EXIT], Faults(0, 33)),
+    (&[0x631af8ff00000000, EXIT], Faults(0, 31)),
+    (&[0x85100000ffffffff, EXIT], Faults(0, 35)),
+    (
+        &[0xbfa1000000000000, 0x8510000001000000, EXIT, SPILL_R1, EXIT],
+        Faults(3, 37),
+    ),
+    (&[0xbf10000000000000, EXIT], Faults(1, 38)),
+    (
+        &[0x8500000002000000, 0xbf10000000000000, EXIT],
+        Faults(1, 30),
+    ),
+];
+
+/// A store of a part unsets the rest of a slot with a spilled pointer.
+const SPILLED: &[Row] = &[
+    (
+        &[SPILL_R1, FIVE, LOW_BYTE, 0x71a0f8ff00000000, EXIT],
+        Ends(5, 5),
+    ),
+    (
+        &[SPILL_R1, FIVE, LOW_BYTE, 0x71a0f9ff00000000, EXIT],
+        Faults(3, 30),
+    ),
+];
+
+/// A fetch gives the old number; a compare and exchange stores where they are equal.
+const ATOMICS: &[Row] = &[
+    (
+        &[
+            0xb7000000ffffffff,
+            0xb701000002000000,
+            PUT,
+            FETCH,
+            0xbf10000000000000,
+            EXIT,
+        ],
+        Ends(4294967295, 6),
+    ),
+    (
+        &[
+            0xb7000000ffffffff,
+            0xb701000002000000,
+            PUT,
+            FETCH,
+            0x79a0f8ff00000000,
+            EXIT,
+        ],
+        Ends(0xffffffff00000001, 6),
+    ),
+    (
+        &[
+            0xb700000005000000,
+            PUT,
+            0xb700000009000000,
+            0xb701000007000000,
+            SWAP,
+            0x79a2f8ff00000000,
+            0x0f20000000000000,
+            EXIT,
+        ],
+        Ends(10, 8),
+    ),
+    (
+        &[
+            0xb700000005000000,
+            PUT,
+            0xb701000007000000,
+            SWAP,
+            0x79a2f8ff00000000,
+            0x0f20000000000000,
+            EXIT,
+        ],
+        Ends(12, 7),
+    ),
+];
+
+/// Local calls keep R6 to R9, and take a stack frame each.
+const CALLS: &[Row] = &[
+    (
+        &[
+            FIVE_IN_R1,
+            CALL,
+            ADD,
+            EXIT,
+            PUT_R1,
+            0x79a0f8ff00000000,
+            SQUARE,
+            EXIT,
+        ],
+        Ends(26, 8),
+    ),
+    (
+        &[
+            FIVE_IN_R1,
+            CALL,
+            ADD,
+            EXIT,
+            PUT_R1,
+            0x79a0f0ff00000000,
+            SQUARE,
+            EXIT,
+        ],
+        Faults(5, 30),
+    ),
+    (
+        &[
+            0xb706000003000000,
+            CALL,
+            0xbf60000000000000,
+            EXIT,
+            0xb706000009000000,
+            0xb700000000000000,
+            EXIT,
+        ],
+        Ends(3, 7),
+    ),
+    (
+        &[
+            FIVE_IN_R1,
+            CALL,
+            0xbf10000000000000,
+            EXIT,
+            0xb700000000000000,
+            EXIT,
+        ],
+        Faults(2, 30),
+    ),
+];
+
+#[test]
+fn programs_without_maps_come_to_their_ends(rt: HostRuntime) {
+    are_probed(&rt, rt.alloc(), DIVISIONS);
+    are_probed(&rt, rt.alloc(), WORDS);
+    are_probed(&rt, rt.alloc(), FAULTS);
+    are_probed(&rt, rt.alloc(), SPILLED);
+    are_probed(&rt, rt.alloc(), ATOMICS);
+    are_probed(&rt, rt.alloc(), CALLS);
+}
+
+/// 64 turns of a loop.
+const TURNS: &[u64] = &[
+    0xb700000000000000,
+    0xb701000040000000,
+    0x0700000001000000,
+    0x1701000001000000,
+    0x5501fdff00000000,
+    EXIT,
+];
+
+/// Programs, each with a limit of steps: it cuts a run, and shows a fault ahead.
+const LIMITS: &[(&[u64], u32, End)] = &[
+    (&[0x0500ffff00000000, EXIT], 10, Cut),
+    (&[ONE, EXIT], 0, Cut),
+    (&[ONE, EXIT], 1, Cut),
+    (&[ONE, EXIT], 2, Ends(1, 2)),
+    (&[EXIT], 0, Faults(0, 30)),
+    (&[ONE, 0xbf10000000000000, EXIT], 2, Faults(2, 38)),
+    (TURNS, 195, Ends(64, 195)),
+    (TURNS, 194, Cut),
+];
+
+/// Reads the frame's 25th byte where there are 26 bytes.
+const TESTED_LOAD: &[u64] = &[
+    0xbf13000000000000,
+    0x070300001a000000,
+    0xb700000000000000,
+    0x2d23010000000000,
+    0x7110180000000000,
+    EXIT,
+];
+
+#[test]
+fn limits_cut_runs_and_frames_are_tested(rt: HostRuntime) {
+    for (slots, limit, end) in LIMITS {
+        let given = Given {
+            map: None,
+            frame: &[],
+            answers: &[],
+            limit: *limit,
+        };
+        is_probed(&rt, rt.alloc(), slots, given, *end);
+    }
+    let mut bytes = [0u8; 26];
+    bytes[24] = 77;
+    for (length, end) in [(26, Ends(77, 6)), (24, Ends(0, 5))] {
+        let given = Given {
+            map: None,
+            frame: &bytes[..length],
+            answers: &[],
+            limit: 1000,
+        };
+        is_probed(&rt, rt.alloc(), TESTED_LOAD, given, end);
+    }
+}
+
+const FOUR: Option<Shape> = Some(Shape {
+    entries: 4,
+    words: 1,
+    width: WordWidth::Eight,
+    scope: Scope::Shared,
+});
+
+const ONE_ENTRY: Option<Shape> = Some(Shape {
+    entries: 1,
+    words: 8,
+    width: WordWidth::Eight,
+    scope: Scope::Shared,
+});
+
+const SHORT_WORD: Option<Shape> = Some(Shape {
+    entries: 1,
+    words: 1,
+    width: WordWidth::Four,
+    scope: Scope::Shared,
+});
+
+/// Programs with a map whose words are all 9: lookups find entries, and accesses keep to words.
+const OF_NINE: &[(&[u64], Option<Shape>, End)] = &[
+    (
+        &[
+            MAP,
+            HALF,
+            0xb702000003000000,
+            LOOKUP,
+            TEST,
+            EXIT,
+            LOAD,
+            EXIT,
+        ],
+        FOUR,
+        Ends(9, 6),
+    ),
+    (
+        &[
+            MAP,
+            HALF,
+            0xb702000004000000,
+            LOOKUP,
+            TEST,
+            EXIT,
+            LOAD,
+            EXIT,
+        ],
+        FOUR,
+        Ends(0, 5),
+    ),
+    (
+        &[VALUE, HALF, 0x7910000000000000, EXIT],
+        ONE_ENTRY,
+        Ends(9, 3),
+    ),
+    (
+        &[VALUE, HALF, 0x7910040000000000, EXIT],
+        ONE_ENTRY,
+        Faults(2, 33),
+    ),
+    (
+        &[VALUE, HALF, 0x6110000000000000, EXIT],
+        ONE_ENTRY,
+        Faults(2, 33),
+    ),
+    (
+        &[VALUE, HALF, 0x7910400000000000, EXIT],
+        ONE_ENTRY,
+        Faults(2, 32),
+    ),
+];
+
+/// Programs with a map of one short word, and a list that answers within the ranges.
+const LISTED: &[(&[u64], &[u64], End)] = &[
+    (&[NOW, EXIT], &[u64::MAX], Ends(u64::MAX, 2)),
+    (&[STATIONS, EXIT], &[2010], Ends(2, 2)),
+    (&[NOW, DRAW, EXIT], &[5, 6], Ends(6, 3)),
+    (&[NOW, DRAW, EXIT], &[5], Ends(0, 3)),
+    (
+        &[VALUE, HALF, 0x6110000000000000, EXIT],
+        &[0x100000007],
+        Ends(7, 3),
+    ),
+];
+
+#[test]
+fn programs_come_to_their_ends_over_lists_of_answers(rt: HostRuntime) {
+    for (slots, map, end) in OF_NINE {
+        let given = Given {
+            map: *map,
+            frame: &[],
+            answers: &[9],
+            limit: 1000,
+        };
+        is_probed(&rt, rt.alloc(), slots, given, *end);
+    }
+    for (slots, answers, end) in LISTED {
+        let given = Given {
+            map: SHORT_WORD,
+            frame: &[],
+            answers,
+            limit: 1000,
+        };
+        is_probed(&rt, rt.alloc(), slots, given, *end);
+    }
+}
+
+/// Notes the numbers from 0 to 16.
+const SEVENTEEN_NOTES: &[u64] = &[
+    0xb706000000000000,
+    0xbf61000000000000,
+    0x8500000005000000,
+    0x0706000001000000,
+    0x5506fcff11000000,
+    0xb700000000000000,
+    EXIT,
+];
+
+#[test]
+fn the_first_16_notes_are_kept(rt: HostRuntime) {
+    compare_admitted(&rt, rt.alloc(), SEVENTEEN_NOTES, None);
+    let given = Given {
+        map: None,
+        frame: &[],
+        answers: &[],
+        limit: 1000,
+    };
+    match probed(&rt, rt.alloc(), SEVENTEEN_NOTES, given) {
+        Probe::Ended(outcome) => {
+            same(&rt, (outcome.r0, outcome.steps), (0, 71), "outcome");
+            same(
+                &rt,
+                outcome.notes.as_slice(),
+                [0, 1, 2, 3, 4, 5, 6, 7, 8, 9, 10, 11, 12, 13, 14, 15].as_slice(),
+                "notes",
+            );
+        }
+        _ => assert!(rt; false),
+    }
+}
+
+const NARROW: Option<Shape> = Some(Shape {
+    entries: 1,
+    words: 2,
+    width: WordWidth::Four,
+    scope: Scope::Shared,
+});
+
+const WIDE: Option<Shape> = Some(Shape {
+    entries: 2,
+    words: 2,
+    width: WordWidth::Eight,
+    scope: Scope::Shared,
+});
+
+/// Programs over plain maps that hold what was stored, the first number that they draw, and their
+/// end.
+const PLAIN: &[(&[u64], Option<Shape>, u64, End)] = &[
+    (&[NOW, EXIT], None, 0, Ends(11, 2)),
+    (&[STATIONS, EXIT], None, 0, Ends(2007, 2)),
+    (&[DRAW, EXIT], None, 5, Ends(5, 2)),
+    (&[DRAW, DRAW, EXIT], None, 0, Ends(1442695040888963407, 3)),
+    (&[DRAW, DRAW, EXIT], None, 1, Ends(7806831264735756412, 3)),
+    (
+        &[
+            VALUE,
+            HALF,
+            0x6201000003000000,
+            0x7a01080009000000,
+            0x7910080000000000,
+            EXIT,
+        ],
+        WIDE,
+        0,
+        Faults(2, 33),
+    ),
+    (
+        &[
+            VALUE,
+            HALF,
+            0x7a01000003000000,
+            0x7a01080009000000,
+            0x7910080000000000,
+            EXIT,
+        ],
+        WIDE,
+        0,
+        Ends(9, 5),
+    ),
+    (
+        &[
+            VALUE,
+            HALF,
+            0x62010000ffffffff,
+            0xb702000001000000,
+            0xc321000001000000,
+            0x6110000000000000,
+            0x0f20000000000000,
+            EXIT,
+        ],
+        NARROW,
+        0,
+        Ends(4294967295, 7),
+    ),
+];
+
+/// The end of a program over plain maps, at clock 11 with 2007 stations.
+fn plain_end(rt: &impl Abort, alloc: Global, slots: &[u64], map: Option<Shape>, draw: u64) -> End {
+    let program = of_slots(rt, alloc, slots, map);
+    let frame = Frame::new(&[]).expect(rt, "a short frame");
+    let port = PlainPort::new(alloc, program.shapes(), 11, 2007, draw);
+    let mut port = port.expect(rt, "memory");
+    let context = Context::new([0; 32]);
+    end_of(&probe(&program, &frame, &context, &mut port, 1000))
+}
+
+#[test]
+fn plain_maps_hold_what_was_stored(rt: HostRuntime) {
+    for (slots, map, draw, end) in PLAIN {
+        compare_admitted(&rt, rt.alloc(), slots, *map);
+        let found = plain_end(&rt, rt.alloc(), slots, *map, *draw);
+        same(&rt, (*slots, found), (*slots, *end), "slots, end");
+    }
+}

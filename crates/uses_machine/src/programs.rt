@@ -1,0 +1,76 @@
+//! Programs of slots and of text.
+
+use bpf_decode::{Program, decode};
+use bpf_machine::Accepted;
+use bpf_regions::{Hook, Shape, Shapes};
+use bpf_text::assemble;
+use bpf_verifier::verify;
+use std::alloc::Global;
+use std::process::Abort;
+
+/// The shapes of one map, or of none.
+fn shapes_of(rt: &impl Abort, alloc: Global, map: Option<Shape>) -> Shapes {
+    let mut shapes = Vec::new(alloc);
+    if let Some(shape) = map {
+        shapes.push(shape).expect(rt, "memory");
+    }
+    Shapes::new(shapes).expect(rt, "a map within the limits")
+}
+
+/// The program of these bytes.
+fn of_code(rt: &impl Abort, alloc: Global, code: &[u8], map: Option<Shape>) -> Program {
+    let shapes = shapes_of(rt, alloc, map);
+    decode(alloc, code, shapes).expect(rt, "a well-formed program")
+}
+
+/// The program of these slots, each with its first byte as the highest.
+pub fn of_slots(rt: &impl Abort, alloc: Global, slots: &[u64], map: Option<Shape>) -> Program {
+    let mut code = Vec::new(alloc);
+    for slot in slots {
+        code.extend_from_slice(&slot.to_be_bytes())
+            .expect(rt, "memory");
+    }
+    of_code(rt, alloc, &code, map)
+}
+
+/// The program of this text.
+pub fn of_text(rt: &impl Abort, alloc: Global, text: &str, map: Option<Shape>) -> Program {
+    let code = assemble(alloc, text).expect(rt, text);
+    of_code(rt, alloc, &code, map)
+}
+
+/// That program, admitted for data frames.
+pub fn admitted(rt: &impl Abort, alloc: Global, text: &str, map: Option<Shape>) -> Accepted {
+    let program = of_text(rt, alloc, text, map);
+    verify(alloc, program, Hook::Data).ok().expect(rt, text)
+}
+
+/// What admission says: a budget, or the number and the slot of the refusal.
+#[derive(Clone, Copy, Debug, PartialEq)]
+pub enum Said {
+    Budget(u32),
+    Refused(u8, usize),
+}
+
+/// What it says of a program for data frames.
+pub fn said_of(alloc: Global, program: Program) -> Said {
+    match verify(alloc, program, Hook::Data) {
+        Ok(accepted) => Said::Budget(accepted.budget()),
+        Err(refusal) => Said::Refused(refusal.number(), refusal.pc),
+    }
+}
+
+/// Parts of a text, each so many times.
+pub fn repeated(rt: &impl Abort, alloc: Global, parts: &[(&str, u32)]) -> String {
+    let mut text = String::new(alloc);
+    for (part, times) in parts {
+        push_times(rt, &mut text, part, *times);
+    }
+    text
+}
+
+fn push_times(rt: &impl Abort, text: &mut String, part: &str, times: u32) {
+    for _time in 0..times {
+        text.push_str(part).expect(rt, "memory");
+    }
+}

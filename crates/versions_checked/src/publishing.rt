@@ -1,0 +1,59 @@
+//! Publication after a check.
+
+ghost use Rattle.std.specs.Prelude.{◌≡◌, ℕ, IfOk, IfErr, OnErr};
+ghost use Rattle.versions_checked.specs.Publishing.{IsPublished, IsRefusal, IsShown, Obtains};
+
+use crate::fault::CheckedFault;
+use bpf_cert::check;
+use bpf_decode::Program;
+use bpf_regions::Hook;
+use std::alloc::Global;
+use std::sync::{Arc, Wait};
+use versions::{PublishFault, Publisher};
+
+/// A program for a hook, with the bytes of a certificate.
+#[derive(Drop)]
+pub struct Offer<'a> {
+    pub program: Program,
+    pub hook: Hook,
+    pub certificate: &'a [u8],
+}
+
+/// Checks a certificate, publishes its program for its hook, and answers the budget. It waits as
+/// `Publisher::publish` does.
+///
+/// 70 to 72: the certificate isn't accepted, as `check` has it. 60: it is, and the program's map
+/// shapes are not those of the published sets. 40: memory was refused, or there is no room, as
+/// `publish` has it. After any refusal the published set is as it was.
+pub fn publish_checked<R: Wait>(
+    rt: &R,
+    alloc: Global,
+    publisher: &mut Publisher,
+    offer: Offer<'_>,
+) -> Result<u32, CheckedFault>
+    ensures list { publisher.new.list ≡ publisher.old.list }
+    ensures shapes { publisher.new.shapes ≡ publisher.old.shapes }
+    ensures added { IfOk result (IsPublished publisher.old publisher.new offer.entry) }
+    ensures refused { OnErr result (publisher.new ≡ publisher.old) }
+    ensures why { IfErr result (IsRefusal publisher.old offer.entry) }
+    // Where the certificate shows a budget, that is answered, or 60 where the shapes differ, or 40.
+    ensures only { (b : ℕ) → IsShown offer.entry b → Obtains publisher.old offer.entry result b }
+{
+    let Offer {
+        program,
+        hook,
+        certificate,
+    } = offer;
+    let accepted = check(alloc, program, hook, certificate)?;
+    let budget = accepted.budget();
+    let shared = Arc::new(alloc, accepted)?;
+    match publisher.publish(rt, hook, Some(shared)) {
+        Ok(()) => return Ok(budget),
+        Err(PublishFault::NoMemory) => return Err(CheckedFault::Publication(
+            PublishFault::NoMemory,
+        )),
+        Err(PublishFault::OtherShapes) => {
+            return Err(CheckedFault::Publication(PublishFault::OtherShapes));
+        }
+    }
+}

@@ -1,0 +1,173 @@
+/* Calls with what no caller should pass: NULL, no bytes, too many bytes, and handles that hold something else. Prints the
+   line of the first answer that is another than is wanted, and ends with status 1. */
+#include <apd.h>
+#include <stdio.h>
+#include <string.h>
+
+#define WANT(answer, number)                                                                                       \
+    do {                                                                                                           \
+        unsigned long long got_ = (answer);                                                                        \
+        if (got_ != (number)) {                                                                                    \
+            printf("line %d: %llu in place of %llu\n", __LINE__, got_, (unsigned long long)(number));              \
+            failed = 1;                                                                                            \
+        }                                                                                                          \
+    } while (0)
+
+/* mov r0, 7; exit */
+static const uint8_t seven[16] = {0xb7, 0, 0, 0, 7, 0, 0, 0, 0x95};
+/* exit, without a number in R0 */
+static const uint8_t bare[8] = {0x95};
+/* seventeen times mov r1, N; call 5; then mov r0, 0; exit */
+static uint8_t notes[8 * 36];
+/* ldxb r0, [r1+0]; exit, without a test against the end */
+static const uint8_t blind[16] = {0x71, 0x10, 0, 0, 0, 0, 0, 0, 0x95};
+/* lddw r1, map 0; mov r2, 1; call 1; jeq r0, 0, +3; mov r1, 5; atomic add [r0+0], r1; ldxdw r0, [r0+0]; exit */
+static const uint8_t adds[72] = {
+    0x18, 0x51, 0, 0, 0, 0, 0, 0, 0, 0, 0, 0, 0, 0, 0, 0, 0xb7, 2, 0, 0, 1, 0, 0, 0,
+    0x85, 0, 0, 0, 1, 0, 0, 0, 0x15, 0, 3, 0, 0, 0, 0, 0, 0xb7, 1, 0, 0, 5, 0, 0, 0,
+    0xdb, 0x10, 0, 0, 0, 0, 0, 0, 0x79, 0, 0, 0, 0, 0, 0, 0, 0x95};
+
+static int failed;
+
+static void hostile_code(void)
+{
+    apd_handle code = APD_EMPTY, other = APD_EMPTY;
+    apd_shape odd = {1, 1, 5}, none = {0, 1, 8}, many[17];
+
+    for (int at = 0; at < 17; at++)
+        many[at] = (apd_shape){1, 1, 8};
+    WANT(apd_verify(NULL, APD_DATA, seven, 16, NULL, 0).number, APD_NULL);
+    WANT(apd_verify(&code, APD_DATA, NULL, 16, NULL, 0).number, APD_NULL);
+    WANT(apd_verify(&code, APD_DATA, seven, 16, NULL, 1).number, APD_NULL);
+    WANT(apd_verify(&code, APD_DATA, NULL, 0, NULL, 0).number, APD_NO_CODE);
+    WANT(apd_verify(&code, APD_DATA, seven, 7, NULL, 0).number, APD_LENGTH);
+    WANT(apd_verify(&code, 0, seven, 16, NULL, 0).number, APD_OUT_OF_LIMITS);
+    WANT(apd_verify(&code, 4, seven, 16, NULL, 0).number, APD_OUT_OF_LIMITS);
+    WANT(apd_verify(&code, APD_DATA, seven, 16, &odd, 1).number, APD_OUT_OF_LIMITS);
+    WANT(apd_verify(&code, APD_DATA, seven, 16, &none, 1).number, APD_OUT_OF_LIMITS);
+    WANT(apd_verify(&code, APD_DATA, seven, 16, many, 17).number, APD_OUT_OF_LIMITS);
+    WANT(apd_verify(&code, APD_DATA, bare, 8, NULL, 0).number, 30);
+    WANT(apd_verify(&code, APD_DATA, blind, 16, NULL, 0).number, 32);
+    WANT(apd_budget(&code), 0);
+    WANT(apd_verify(&code, APD_DATA, seven, 16, NULL, 0).number, APD_OK);
+    WANT(apd_verify(&code, APD_DATA, seven, 16, NULL, 0).number, APD_NOT_EMPTY);
+    WANT(apd_budget(&code), 2);
+    WANT(apd_budget(NULL), 0);
+    WANT(apd_certify(&code, &code).number, APD_NULL);
+    WANT(apd_certify(&other, &other).number, APD_NULL);
+    WANT(apd_certify(NULL, &code).number, APD_NULL);
+    WANT(apd_check(&other, APD_DATA, seven, 16, NULL, 0, NULL, 0).number, APD_MALFORMED);
+    WANT(apd_read(&code, NULL, 0), 0);
+    apd_free(&code);
+    apd_free(&code);
+    apd_free(NULL);
+    WANT(apd_certify(&other, &code).number, APD_OTHER_VALUE);
+}
+
+static void hostile_certificate(void)
+{
+    apd_handle code = APD_EMPTY, certificate = APD_EMPTY, again = APD_EMPTY;
+    uint8_t bytes[4096];
+
+    WANT(apd_verify(&code, APD_DATA, seven, 16, NULL, 0).number, APD_OK);
+    WANT(apd_certify(&certificate, &code).number, APD_OK);
+    WANT(apd_certify(&certificate, &code).number, APD_NOT_EMPTY);
+    WANT(apd_budget(&certificate), 0);
+    size_t length = apd_read(&certificate, bytes, sizeof bytes);
+    WANT(length > 0 && length < sizeof bytes, 1);
+    memset(bytes, 0xee, sizeof bytes);
+    WANT(apd_read(&certificate, bytes, 1), length);
+    WANT(bytes[1], 0xee);
+    apd_read(&certificate, bytes, sizeof bytes);
+    WANT(apd_check(&again, APD_ASSOC, seven, 16, NULL, 0, bytes, length).number, APD_OTHER_CODE);
+    WANT(apd_check(&again, APD_DATA, seven, 16, NULL, 0, bytes, length - 1).number, APD_MALFORMED);
+    WANT(apd_check(&again, APD_DATA, seven, 16, NULL, 0, bytes, length).number, APD_OK);
+    WANT(apd_budget(&again), 2);
+    apd_free(&again);
+    apd_free(&certificate);
+    apd_free(&code);
+}
+
+static void hostile_runs(void)
+{
+    apd_handle code = APD_EMPTY, maps = APD_EMPTY, empty = APD_EMPTY;
+    apd_given given = {0, 0, {0}}, crowd = {0, 2008, {0}};
+    uint8_t frame[2401] = {0};
+
+    WANT(apd_verify(&code, APD_ASSOC, seven, 16, NULL, 0).number, APD_OK);
+    WANT(apd_maps(&maps, NULL, 0, 0), APD_OK);
+    WANT(apd_run(&code, &maps, frame, 2401, &given).number, APD_OUT_OF_LIMITS);
+    WANT(apd_run(&code, &maps, frame, 2400, &crowd).number, APD_OUT_OF_LIMITS);
+    WANT(apd_run(&code, &maps, frame, 2400, &given).r0, 7);
+    WANT(apd_run(&code, &maps, NULL, 0, &given).r0, 7);
+    WANT(apd_run(&code, &maps, NULL, 1, &given).number, APD_NULL);
+    WANT(apd_run(&code, &maps, frame, 0, NULL).number, APD_NULL);
+    WANT(apd_run(&code, &code, frame, 0, &given).number, APD_NULL);
+    WANT(apd_run(&maps, &code, frame, 0, &given).number, APD_OTHER_VALUE);
+    WANT(apd_run(&code, &empty, frame, 0, &given).number, APD_OTHER_VALUE);
+    WANT(apd_run(&empty, &maps, frame, 0, &given).number, APD_OTHER_VALUE);
+    WANT(apd_load(&maps, 0, 0).number, APD_OUT_OF_LIMITS);
+    WANT(apd_load(&code, 0, 0).number, APD_OTHER_VALUE);
+    WANT(apd_store(NULL, 0, 0, 1), APD_NULL);
+    apd_free(&maps);
+    apd_free(&code);
+}
+
+static void hostile_maps(void)
+{
+    apd_handle code = APD_EMPTY, maps = APD_EMPTY, wide = APD_EMPTY;
+    apd_given given = {0, 0, {0}};
+    apd_shape shape = {2, 1, 8}, narrow = {2, 1, 4};
+
+    WANT(apd_maps(&maps, &narrow, 1, 0), APD_OK);
+    WANT(apd_maps(&maps, &narrow, 1, 0), APD_NOT_EMPTY);
+    WANT(apd_store(&maps, 0, 1, 0x1ffffffffULL), APD_OK);
+    WANT(apd_load(&maps, 0, 1).value, 0xffffffffU);
+    WANT(apd_store(&maps, 0, 2, 1), APD_OUT_OF_LIMITS);
+    WANT(apd_store(&maps, UINT32_MAX, 0, 1), APD_OUT_OF_LIMITS);
+    WANT(apd_verify(&code, APD_DATA, adds, 72, &shape, 1).number, APD_OK);
+    WANT(apd_run(&code, &maps, NULL, 0, &given).number, APD_OTHER_MAPS);
+    WANT(apd_maps(&wide, &shape, 1, 0), APD_OK);
+    WANT(apd_store(&wide, 0, 1, 9), APD_OK);
+    WANT(apd_run(&code, &wide, NULL, 0, &given).r0, 14);
+    WANT(apd_load(&wide, 0, 1).value, 14);
+    WANT(apd_load(&wide, 0, 0).value, 0);
+    apd_free(&wide);
+    apd_free(&maps);
+    apd_free(&code);
+}
+
+static void many_notes(void)
+{
+    apd_handle code = APD_EMPTY, maps = APD_EMPTY;
+    apd_given given = {0, 0, {0}};
+
+    for (int at = 0; at < 17; at++) {
+        memcpy(notes + 16 * at, (uint8_t[]){0xb7, 1, 0, 0, (uint8_t)(at + 1), 0, 0, 0}, 8);
+        memcpy(notes + 16 * at + 8, (uint8_t[]){0x85, 0, 0, 0, 5, 0, 0, 0}, 8);
+    }
+    notes[8 * 34] = 0xb7;
+    notes[8 * 35] = 0x95;
+    WANT(apd_verify(&code, APD_ADDBA, notes, 8 * 36, NULL, 0).number, APD_OK);
+    WANT(apd_maps(&maps, NULL, 0, 0), APD_OK);
+    apd_report report = apd_run(&code, &maps, NULL, 0, &given);
+    WANT(report.number, APD_OK);
+    WANT(report.steps, 36);
+    WANT(report.count, 16);
+    WANT(report.notes[0], 1);
+    WANT(report.notes[15], 16);
+    apd_free(&maps);
+    apd_free(&code);
+}
+
+int main(void)
+{
+    hostile_code();
+    hostile_certificate();
+    hostile_runs();
+    hostile_maps();
+    many_notes();
+    if (!failed)
+        printf("all as wanted\n");
+    return failed;
+}

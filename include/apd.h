@@ -1,0 +1,228 @@
+/*
+ * apd.h - the verifier and the machine of apd, for programs in C and C++.
+ *
+ * Link with libapd.a. Its code is proved: each function below states what the library function that it calls states
+ * (crates/apd_c). The proofs begin at the functions named apd_c_*; the inline functions of this header test pointers for
+ * NULL, and are C like any other.
+ *
+ * What the caller keeps, without which nothing is promised:
+ *  - Memory: a pointer leads to as many values as the count beside it says, which are initialized and which nothing else
+ *    writes during the call. The library keeps no pointer: what is passed need only stand while the call runs.
+ *  - Handles: a handle is zero (APD_EMPTY) or as a call left it. Neither field is changed, no full handle is copied and
+ *    used twice, and each is freed by apd_free.
+ *  - Threads: there is one call at a time on a handle, and a handle stays on the thread that filled it. Handles are apart
+ *    from each other: threads may call at the same time, each with handles of its own.
+ *  - No call is made from a signal handler, or from the forked child of a process with threads.
+ *  - Memory comes from malloc and goes by free, which are those of one allocator and align as the C standard says.
+ */
+#ifndef APD_H
+#define APD_H
+
+#include <stdbool.h>
+#include <stddef.h>
+#include <stdint.h>
+
+#ifdef __cplusplus
+extern "C" {
+#endif
+
+/* The numbers that calls answer. What is refused changes nothing. */
+enum apd_number {
+    APD_OK = 0,
+    /* Code that is no program (RFC 9669, section 3). */
+    APD_LENGTH = 1,          /* its length is no multiple of 8 */
+    APD_NO_CODE = 2,         /* there are no bytes */
+    APD_LONG = 3,            /* there are more than 16384 slots */
+    APD_FIELD_FIRST = 10,    /* 10 to 14: the slots spell no instruction */
+    APD_FIELD_LAST = 14,
+    APD_JUMP_ASTRAY = 15,    /* a jump leads outside the code or into a second half */
+    APD_PAST_END = 16,       /* the last instruction goes on */
+    APD_FRAME_WRITTEN = 17,  /* it writes R10 */
+    APD_UNKNOWN_HELPER = 18, /* no such helper */
+    APD_UNKNOWN_MAP = 19,    /* no such map */
+    /* 30 to 38: what the verifier refuses; docs/REFUSALS.md explains each. */
+    APD_REFUSED_FIRST = 30,
+    APD_REFUSED_LAST = 38,
+    APD_NO_MEMORY = 40,
+    APD_NO_SEAT = 62,        /* no seat at a map is left */
+    /* Certificates. */
+    APD_MALFORMED = 70,      /* its bytes spell none */
+    APD_OTHER_CODE = 71,     /* it is for another hook or another code */
+    APD_NOT_COVERED = 72,    /* it doesn't show that the program is safe */
+    /* Calls that ask for what isn't there. */
+    APD_OUT_OF_LIMITS = 90,  /* an argument is out of its limits */
+    APD_OTHER_VALUE = 91,    /* a handle holds nothing, or another value than the call asks for */
+    APD_NOT_EMPTY = 92,      /* the handle that is to be filled isn't empty */
+    APD_OTHER_MAPS = 93,     /* the program is for maps of other shapes */
+    APD_NULL = 94            /* a pointer is NULL, or one handle is passed twice */
+};
+
+enum apd_hook { APD_ASSOC = 1, APD_ADDBA = 2, APD_DATA = 3 };
+
+enum { APD_FRAME_MOST = 2400, APD_NOTES_MOST = 16, APD_STATIONS_MOST = 2007 };
+
+/* A program, maps or bytes; empty where it is zero. */
+typedef struct apd_handle {
+    bool full;
+    void *at;
+} apd_handle;
+
+#ifdef __cplusplus
+#define APD_EMPTY apd_handle()
+#else
+#define APD_EMPTY ((apd_handle){false, NULL})
+#endif
+
+/* 0, or the number of a refusal with the slot at which it stands; slot 0 where it stands at none. */
+typedef struct apd_answer {
+    uint32_t number;
+    size_t slot;
+} apd_answer;
+
+/* A map's shape: 1 to 4096 entries of 1 to 8 words of 4 or 8 bytes. There are at most 16 maps. */
+typedef struct apd_shape {
+    uint32_t entries, words, width;
+} apd_shape;
+
+/* A word that was loaded, where number is 0. */
+typedef struct apd_loaded {
+    uint32_t number;
+    uint64_t value;
+} apd_loaded;
+
+/* What a program is given beside its frame and its maps. Byte 6 of a context is the hook's number; policies/apd_policy.h
+   has the rest. */
+typedef struct apd_given {
+    uint64_t clock;
+    uint16_t stations; /* at most 2007 */
+    uint8_t context[32];
+} apd_given;
+
+/* What a run came to, where number is 0. */
+typedef struct apd_report {
+    uint32_t number, steps;
+    uint64_t r0;
+    size_t count; /* of notes */
+    uint64_t notes[APD_NOTES_MOST];
+} apd_report;
+
+/* The proved functions. No pointer is NULL, and no handle is passed twice to one call. */
+apd_answer apd_c_verify(apd_handle *code, uint32_t hook, const uint8_t *bytes, size_t length, const apd_shape *shapes,
+                        size_t maps);
+uint32_t apd_c_budget(apd_handle *code);
+apd_answer apd_c_certify(apd_handle *certificate, apd_handle *code);
+apd_answer apd_c_check(apd_handle *code, uint32_t hook, const uint8_t *bytes, size_t length, const apd_shape *shapes,
+                       size_t maps, const uint8_t *certificate, size_t certificate_length);
+size_t apd_c_read(apd_handle *bytes, uint8_t *into, size_t room);
+uint32_t apd_c_maps(apd_handle *maps, const apd_shape *shapes, size_t count, uint64_t draw);
+apd_loaded apd_c_load(apd_handle *maps, uint32_t map, uint32_t word);
+uint32_t apd_c_store(apd_handle *maps, uint32_t map, uint32_t word, uint64_t value);
+apd_report apd_c_run(apd_handle *code, apd_handle *maps, const uint8_t *frame, size_t length, const apd_given *given);
+void apd_c_free(apd_handle *handle);
+
+/* What is pointed to where there is nothing: no pointer is NULL, also for no values. */
+static const uint64_t apd_none[2] = {0, 0};
+
+static inline const uint8_t *apd_some_bytes(const uint8_t *bytes)
+{
+    return bytes ? bytes : (const uint8_t *)apd_none;
+}
+
+static inline const apd_shape *apd_some_shapes(const apd_shape *shapes)
+{
+    return shapes ? shapes : (const apd_shape *)(const void *)apd_none;
+}
+
+static inline apd_answer apd_answer_of(uint32_t number)
+{
+    apd_answer answer = {number, 0};
+    return answer;
+}
+
+/* Verifies code for a hook and maps of these shapes, and fills an empty handle with the program. */
+static inline apd_answer apd_verify(apd_handle *code, uint32_t hook, const uint8_t *bytes, size_t length,
+                                    const apd_shape *shapes, size_t maps)
+{
+    if (!code || (!bytes && length) || (!shapes && maps))
+        return apd_answer_of(APD_NULL);
+    return apd_c_verify(code, hook, apd_some_bytes(bytes), length, apd_some_shapes(shapes), maps);
+}
+
+/* The most instructions that a run of the program takes; 0 where the handle holds none. */
+static inline uint32_t apd_budget(apd_handle *code)
+{
+    return code ? apd_c_budget(code) : 0;
+}
+
+/* Fills an empty handle with the certificate of a program: bytes, which apd_read reads. */
+static inline apd_answer apd_certify(apd_handle *certificate, apd_handle *code)
+{
+    if (!certificate || !code || certificate == code)
+        return apd_answer_of(APD_NULL);
+    return apd_c_certify(certificate, code);
+}
+
+/* As apd_verify, by a certificate in place of an exploration. */
+static inline apd_answer apd_check(apd_handle *code, uint32_t hook, const uint8_t *bytes, size_t length,
+                                   const apd_shape *shapes, size_t maps, const uint8_t *certificate,
+                                   size_t certificate_length)
+{
+    if (!code || (!bytes && length) || (!shapes && maps) || (!certificate && certificate_length))
+        return apd_answer_of(APD_NULL);
+    return apd_c_check(code, hook, apd_some_bytes(bytes), length, apd_some_shapes(shapes), maps,
+                       apd_some_bytes(certificate), certificate_length);
+}
+
+/* Copies as many of the bytes as there is room for, and answers how many the handle holds. With NULL it only tells. */
+static inline size_t apd_read(apd_handle *bytes, uint8_t *into, size_t room)
+{
+    uint8_t nothing[1];
+    if (!bytes)
+        return 0;
+    return into ? apd_c_read(bytes, into, room) : apd_c_read(bytes, nothing, 0);
+}
+
+/* Fills an empty handle with maps of words 0, and the word that programs draw first. */
+static inline uint32_t apd_maps(apd_handle *maps, const apd_shape *shapes, size_t count, uint64_t draw)
+{
+    if (!maps || (!shapes && count))
+        return APD_NULL;
+    return apd_c_maps(maps, apd_some_shapes(shapes), count, draw);
+}
+
+/* One load of a word. Its number is its entry's index times the words of an entry, plus its place in the entry. */
+static inline apd_loaded apd_load(apd_handle *maps, uint32_t map, uint32_t word)
+{
+    apd_loaded none = {APD_NULL, 0};
+    return maps ? apd_c_load(maps, map, word) : none;
+}
+
+/* One store of a number, mod 2^(8 * width), in a word. */
+static inline uint32_t apd_store(apd_handle *maps, uint32_t map, uint32_t word, uint64_t value)
+{
+    return maps ? apd_c_store(maps, map, word, value) : (uint32_t)APD_NULL;
+}
+
+/* Runs a program on a frame of at most 2400 bytes over maps of its shapes. It waits for nothing and takes no memory. */
+static inline apd_report apd_run(apd_handle *code, apd_handle *maps, const uint8_t *frame, size_t length,
+                                 const apd_given *given)
+{
+    if (!code || !maps || code == maps || !given || (!frame && length)) {
+        apd_report none = {APD_NULL, 0, 0, 0, {0}};
+        return none;
+    }
+    return apd_c_run(code, maps, apd_some_bytes(frame), length, given);
+}
+
+/* Frees what a handle holds, and leaves it empty. An empty one stays so. */
+static inline void apd_free(apd_handle *handle)
+{
+    if (handle)
+        apd_c_free(handle);
+}
+
+#ifdef __cplusplus
+}
+#endif
+
+#endif
