@@ -6,6 +6,7 @@ use apd_files::RealFiles;
 use std::alloc::{AllocError, Global};
 use std::io::{ErrorKind, IsTerminal, Write};
 use std::process::ExitCode;
+use std::env::FillError;
 use std::rt::Env;
 use std::sync::Wait;
 use std::thread::Threads;
@@ -21,7 +22,7 @@ fn main(rt: HostRuntime) -> ExitCode {
     };
     match run(&rt, rt.alloc(), rt.stdout(), messages) {
         Ok(status) => ExitCode::from(status),
-        Err(error) => ExitCode::from(failed(&rt, &error)),
+        Err(error) => ExitCode::from(failed(&rt, &mut err, &error)),
     }
 }
 
@@ -49,15 +50,40 @@ fn given_words(rt: &(impl Env + AllocGlobal)) -> io::Result<Vec<String>> {
 }
 
 /// Tells why the words weren't gathered, and answers the status: 3 for want of memory, else 2.
-fn failed(rt: &impl Eprint, error: &io::Error) -> u8 {
+fn failed<E: Write>(rt: &impl Env, err: &mut E, error: &io::Error) -> u8 {
     match error.kind() {
         ErrorKind::OutOfMemory => {
-            let _ = rt.eprintln("apd: out of memory");
+            let _ = writeln!(err, "apd: out of memory");
             3
         }
         _ => {
-            let _ = rt.eprintln("apd: the command line cannot be read");
+            let _ = match no_text(rt) {
+                Some(place) => writeln!(err, "apd: word {place} of the command line is not UTF-8"),
+                None => writeln!(err, "apd: the command line cannot be read"),
+            };
             2
         }
     }
+}
+
+/// The place of the first word that isn't UTF-8, among those that are no longer than a path; the program's own name is
+/// word 0.
+fn no_text(rt: &impl Env) -> Option<usize> {
+    let mut word = [0; 4096];
+    for place in 0..4096 {
+        match rt.arg(place, &mut word) {
+            Ok(length) => {
+                if !is_text(word.get(..length).unwrap_or(&[])) {
+                    return Some(place);
+                }
+            }
+            Err(FillError::TooLong) => {}
+            Err(FillError::NotPresent) => return None,
+        }
+    }
+    None
+}
+
+fn is_text(bytes: &[u8]) -> bool {
+    str::from_utf8(bytes).is_ok()
 }

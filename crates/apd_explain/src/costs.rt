@@ -2,89 +2,74 @@
 
 use bpf_decode::Program;
 use bpf_line::InsnText;
-use bpf_prune::Entry;
 use std::alloc::{AllocError, Global};
 use std::fmt::Write;
 
-/// How many of the states stand at each slot.
-fn counts_of(alloc: Global, entries: &[Entry], slots: usize) -> Result<Vec<u32>, AllocError> {
-    let mut counts = Vec::new(alloc);
-    counts.resize(slots, 0u32)?;
-    for entry in entries {
-        if let Some(count) = counts.get_mut(entry.state.pc()) {
-            *count = count.saturating_add(1);
-        }
-    }
-    Ok(counts)
-}
-
-/// The first slot with the most states, and how many slots have any.
+/// How many states were examined, at how many slots, and the first slot with the most of them.
 #[derive(Clone, Copy)]
-struct Most {
-    slot: usize,
-    count: u32,
+struct Examined {
+    states: u32,
     slots: usize,
+    slot: usize,
+    most: u32,
 }
 
-fn most_of(counts: &[u32]) -> Most {
-    let mut most = Most {
-        slot: 0,
-        count: 0,
+/// The sums of the states by slot.
+fn examined_of(visits: &[u32]) -> Examined {
+    let mut examined = Examined {
+        states: 0,
         slots: 0,
+        slot: 0,
+        most: 0,
     };
-    for (slot, count) in counts.iter().enumerate() {
-        if *count > most.count {
-            most.slot = slot;
-            most.count = *count;
+    for (slot, count) in visits.iter().enumerate() {
+        if *count > examined.most {
+            examined.slot = slot;
+            examined.most = *count;
         }
         if *count > 0 {
-            most.slots = most.slots.saturating_add(1);
+            examined.slots = examined.slots.saturating_add(1);
         }
+        examined.states = examined.states.saturating_add(*count);
     }
-    most
+    examined
 }
 
-/// The budget of the start, which is finished last.
-fn budget_of(entries: &[Entry]) -> u32 {
-    entries.last().map_or(0, |entry| entry.budget)
-}
-
-/// The budget, how many states were finished, and where most of them stand.
+/// The budget, how many states were examined, and where most of them stand.
 pub(crate) fn costs_text(
     alloc: Global,
     program: &Program,
-    entries: &[Entry],
+    budget: u32,
+    visits: &[u32],
 ) -> Result<String, AllocError> {
-    let counts = counts_of(alloc, entries, program.len())?;
-    let most = most_of(counts.as_slice());
+    let examined = examined_of(visits);
     let mut text = String::new(alloc);
-    append_costs(&mut text, entries, most)?;
-    append_slot(&mut text, program, most)?;
+    append_costs(&mut text, budget, examined)?;
+    append_slot(&mut text, program, examined)?;
     Ok(text)
 }
 
-fn append_costs(text: &mut String, entries: &[Entry], most: Most) -> Result<(), AllocError> {
-    let budget = budget_of(entries);
-    let kept = entries.len();
-    let slots = most.slots;
+fn append_costs(text: &mut String, budget: u32, examined: Examined) -> Result<(), AllocError> {
+    let Examined { states, slots, .. } = examined;
     writeln!(
         text,
         "apd: each run ends within {budget} steps of 4194304 at most"
     )?;
-    writeln!(
-        text,
-        "  {kept} states were finished at {slots} jump targets"
-    )?;
+    writeln!(text, "  {states} states were examined at {slots} slots")?;
     Ok(())
 }
 
 /// The slot with the most states.
-fn append_slot(text: &mut String, program: &Program, most: Most) -> Result<(), AllocError> {
-    if let Some(Some(insn)) = program.insn_at(most.slot) {
-        let Most { slot, count, .. } = most;
+fn append_slot(
+    text: &mut String,
+    program: &Program,
+    examined: Examined,
+) -> Result<(), AllocError> {
+    if let Some(Some(insn)) = program.insn_at(examined.slot) {
+        let Examined { slot, most, .. } = examined;
         writeln!(
             text,
-            "  most of them ({count}) at slot {slot}: {}",
+            "  most of them ({most}) at slot {slot}: {}",
             InsnText(insn)
         )?;
     }

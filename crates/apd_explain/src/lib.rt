@@ -10,6 +10,7 @@ mod costs;
 mod reason;
 mod refusal;
 mod values;
+mod way;
 
 pub use reason::{fault_text, reason_text};
 pub use values::{NumberText, SlotText, ValueText};

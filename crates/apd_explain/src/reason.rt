@@ -2,29 +2,22 @@
 
 use crate::costs::costs_text;
 use crate::refusal::{append_place, append_registers};
+use crate::way::append_way;
 use apd_refusals::explain as page_of;
 use bpf_absstate::AbsState;
 use bpf_decode::{DecodeFault, Program};
-use bpf_line::InsnText;
 use bpf_regions::Hook;
-use bpf_verifier::{Explanation, explain, explore};
+use bpf_verifier::{Explanation, Refusal, explain};
 use std::alloc::{AllocError, Global};
 use std::fmt::Write;
 
-/// The lines on a program: what the verifier knew where it refuses it, and the cure; or, for one that it admits, the
-/// budget, and where its states stand. The program is explored anew.
+/// The lines on a program: what the verifier knew where it refuses it, the way there, and the cure; or, for one
+/// that it admits, the budget, and where its states stand. The program is explored anew.
 pub fn reason_text(alloc: Global, program: &Program, hook: Hook) -> Result<String, AllocError> {
-    match explain(alloc, program, hook)? {
-        Some(explanation) => refusal_text(alloc, program, &explanation),
-        None => admission_text(alloc, program, hook),
-    }
-}
-
-/// The lines on a program that is admitted.
-fn admission_text(alloc: Global, program: &Program, hook: Hook) -> Result<String, AllocError> {
-    match explore(alloc, program, hook) {
-        Ok(entries) => costs_text(alloc, program, entries.as_slice()),
-        Err(_) => Ok(String::new(alloc)),
+    let explanation = explain(alloc, program, hook)?;
+    match explanation.verdict {
+        Ok(budget) => costs_text(alloc, program, budget, explanation.visits.as_slice()),
+        Err(refusal) => refusal_text(alloc, program, refusal, &explanation),
     }
 }
 
@@ -32,24 +25,17 @@ fn admission_text(alloc: Global, program: &Program, hook: Hook) -> Result<String
 fn refusal_text(
     alloc: Global,
     program: &Program,
+    refusal: Refusal,
     explanation: &Explanation,
 ) -> Result<String, AllocError> {
     let mut text = String::new(alloc);
-    let refusal = explanation.refusal;
-    append_insn(&mut text, program, refusal.pc)?;
     if let Some(state) = &explanation.state {
         append_reads(&mut text, program, state, refusal.pc)?;
         append_reach(&mut text, program, state, refusal.pc)?;
     }
+    append_way(&mut text, program, explanation.path.as_slice())?;
     append_cure(&mut text, refusal.number())?;
     Ok(text)
-}
-
-fn append_insn(text: &mut String, program: &Program, slot: usize) -> Result<(), AllocError> {
-    if let Some(Some(insn)) = program.insn_at(slot) {
-        writeln!(text, "  slot {slot}: {}", InsnText(insn))?;
-    }
-    Ok(())
 }
 
 /// What the verifier knew of the registers that an instruction reads.

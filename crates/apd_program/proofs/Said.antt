@@ -1,5 +1,5 @@
 -- From parts of an answer to the answer.
-use Rattle.std.proofs.Common.{◌≡◌, ◌≢◌, ℕ, List, Result, IfOk, IsUtf8, take, sym, subst}
+use Rattle.std.proofs.Common.{◌≡◌, ◌≢◌, ◌^◌, ℕ, List, Result, IfOk, IsUtf8, take, sym, subst}
 use Rattle.std.specs.Str.Lossy.{utf8_valid_len}
 use Rattle.std.proofs.lemmas.Result.{IfOk-weaker}
 use Rattle.bpf_regions.specs.declared.hooks.Hook.{Hook}
@@ -10,6 +10,8 @@ use Rattle.bpf_decode.specs.declared.fault.DecodeFault.{DecodeFault}
 use Rattle.bpf_decode.specs.declared.fault.DecodeFault.TheVariants as decode_fault
 use Rattle.bpf_machine.specs.Verified.{Verified}
 use Rattle.bpf_text.specs.declared.fault.AsmFault.TheVariants as asm_fault
+use Rattle.bpf_absstate.specs.View.{entry_view}
+use Rattle.bpf_plain.specs.Clear.{IsClear}
 use Rattle.bpf_plain.specs.Walks.{IsPlain}
 use Rattle.bpf_verifier.specs.declared.refusal.Refusal.{Refusal}
 use Rattle.bpf_cert.specs.Certified as shown
@@ -34,11 +36,12 @@ module _ (says : decoded.Code → Answer → Type 0) (code : List ℕ) (shapes :
       let P : Answer → Type 0 = IsOfProgram says code shapes in
       IfOk-weaker r (λ a. (a ≡ Fault e) × (e ≢ decode_fault.NoMemory)) P (λ a h. subst P (sym h.0) (Undecoded e h.1 refuses)) told
 
-pub IsVerdict-refused : (says : decoded.Code → ℕ → Answer → Type 0) (p : decoded.Code) (r : Result Answer ProgramFault) (e : Refusal) → (IsPlain p.slots → e.fault ≡ verify_fault.NoMemory) → decoded.Begins p.slots e.pc
+pub IsVerdict-refused : (says : decoded.Code → ℕ → Answer → Type 0) (p : decoded.Code) (r : Result Answer ProgramFault) (e : Refusal) → (IsPlain p.slots → e.fault ≡ verify_fault.NoMemory) →
+    (IsClear p entry_view (2 ^ 22) → e.fault ≡ verify_fault.NoMemory) → decoded.Begins p.slots e.pc
     → IfOk r (λ a. (a ≡ Refused e) × (e.fault ≢ verify_fault.NoMemory)) → IfOk r (IsVerdict says p)
-IsVerdict-refused says p r e plain begins told =
+IsVerdict-refused says p r e plain clear begins told =
     let P : Answer → Type 0 = IsVerdict says p in
-    IfOk-weaker r (λ a. (a ≡ Refused e) × (e.fault ≢ verify_fault.NoMemory)) P (λ a h. subst P (sym h.0) (NotAdmitted e h.1 begins (λ is_plain. h.1 (plain is_plain)))) told
+    IfOk-weaker r (λ a. (a ≡ Refused e) × (e.fault ≢ verify_fault.NoMemory)) P (λ a h. subst P (sym h.0) (NotAdmitted e h.1 begins (λ is_plain. h.1 (plain is_plain)) (λ is_clear. h.1 (clear is_clear)))) told
 
 pub IsCertificate-refused : (hook : Hook) (p : decoded.Code) (r : Result Answer ProgramFault) (e : Refusal) → decoded.Begins p.slots e.pc
     → IfOk r (λ a. (a ≡ Refused e) × (e.fault ≢ verify_fault.NoMemory)) → IfOk r (IsCertificate hook p)

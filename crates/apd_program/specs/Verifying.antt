@@ -3,6 +3,8 @@ use Rattle.std.specs.Prelude.{◌≡◌, ◌≢◌, ℕ, ◌≤◌, ◌^◌, Lis
 use Rattle.bpf_regions.specs.declared.hooks.Hook.{Hook}
 use Rattle.bpf_decode.specs.Program.{Code, Begins}
 use Rattle.bpf_model.specs.Run.{Safe}
+use Rattle.bpf_absstate.specs.View.{entry_view}
+use Rattle.bpf_plain.specs.Clear.{IsClear}
 use Rattle.bpf_plain.specs.Walks.{IsPlain, HasWalk}
 use Rattle.bpf_verifier.specs.declared.refusal.Refusal.{Refusal}
 use Rattle.bpf_rules.specs.declared.fault.Fault.TheVariants.{NoMemory}
@@ -10,12 +12,14 @@ use Rattle.apd_trace.specs.Trace.{IsTrace}
 use Rattle.apd_program.specs.declared.answer.Answer.{Answer}
 use Rattle.apd_program.specs.declared.answer.Answer.TheVariants.{Accepted, Run, Refused}
 
--- The verdict on a program: a refusal at one of its instructions, which no plain program gets, or what is said of it
--- with a budget within which it is safe, and which for a plain program is no more than its longest walk.
+-- The verdict on a program: a refusal at one of its instructions, which no plain program gets, nor one that is clear by
+-- the rules, or what is said of it with a budget within which it is safe, and which for a plain program is no more than
+-- its longest walk.
 pub data IsVerdict (says : Code → ℕ → Answer → Type 0) (p : Code) : Answer → Type 0 where
   Admitted : (budget : ℕ) (a : Answer) → Safe p.slots p.shapes budget → budget ≤ 2 ^ 22 →
       (IsPlain p.slots → HasWalk p.slots budget) → says p budget a → IsVerdict says p a
-  NotAdmitted : (e : Refusal) → e.fault ≢ NoMemory → Begins p.slots e.pc → (IsPlain p.slots → ⊥) → IsVerdict says p (Refused e)
+  NotAdmitted : (e : Refusal) → e.fault ≢ NoMemory → Begins p.slots e.pc → (IsPlain p.slots → ⊥) →
+      (IsClear p entry_view (2 ^ 22) → ⊥) → IsVerdict says p (Refused e)
 
 -- `verify` says the budget
 abbrev pub IsBudget : Code → ℕ → Answer → Type 0

@@ -10,8 +10,11 @@ use apd_inputs::shown;
 use apd_refusals::{explain, page_text};
 use apd_words::Request;
 use bpf_decode::{DecodeFault, Program};
+use bpf_insn::Insn;
+use bpf_line::InsnText;
 use bpf_regions::Hook;
 use bpf_text::AsmFault;
+use bpf_verifier::Refusal;
 use std::alloc::{AllocError, Global};
 
 /// The page on the number that a word spells.
@@ -33,11 +36,15 @@ fn unknown(alloc: Global, word: &str) -> ProgramFault {
     }
 }
 
-/// What a refusal means in one sentence; none where nothing is refused.
-pub(crate) fn sentence(alloc: Global, answer: &Answer) -> Result<Option<String>, AllocError> {
+/// What a refusal means in one sentence, with the instruction that is refused; none where nothing is refused.
+pub(crate) fn sentence(
+    alloc: Global,
+    answer: &Answer,
+    insn: Option<Insn>,
+) -> Result<Option<String>, AllocError> {
     match answer {
         Answer::Fault(fault) => at(alloc, "slot", fault.slot() as u64, fault.number()),
-        Answer::Refused(refusal) => at(alloc, "slot", refusal.pc as u64, refusal.number()),
+        Answer::Refused(refusal) => at_insn(alloc, *refusal, insn),
         Answer::LineFault(AsmFault::Line { line, number }) => at(alloc, "line", *line, *number),
         Answer::Unaccepted(fault) => told(alloc, "", fault.number()),
         _ => Ok(None),
@@ -48,6 +55,36 @@ pub(crate) fn sentence(alloc: Global, answer: &Answer) -> Result<Option<String>,
 fn at(alloc: Global, place: &str, at: u64, number: u8) -> Result<Option<String>, AllocError> {
     let place = format!(in alloc; "{place} {at}: ")?;
     told(alloc, place.as_str(), number)
+}
+
+/// What a refusal means at its slot, with the instruction there.
+fn at_insn(
+    alloc: Global,
+    refusal: Refusal,
+    insn: Option<Insn>,
+) -> Result<Option<String>, AllocError> {
+    let Some(insn) = insn else {
+        return at(alloc, "slot", refusal.pc as u64, refusal.number());
+    };
+    let slot = refusal.pc;
+    let place = format!(in alloc; "slot {slot} ({}): ", InsnText(insn))?;
+    told(alloc, place.as_str(), refusal.number())
+}
+
+/// The eight bytes of a slot of code, if it has them.
+fn slot_in(code: &[u8], slot: usize) -> Option<[u8; 8]> {
+    let mut bytes = [0; 8];
+    let rest = code.get(slot.saturating_mul(8)..)?;
+    let found = rest.get(..8)?;
+    bytes.copy_from_slice(found);
+    Some(bytes)
+}
+
+/// The instruction that stands at a slot of code, if there is one.
+fn insn_in(code: &[u8], slot: usize) -> Option<Insn> {
+    let first = slot_in(code, slot)?;
+    let second = slot_in(code, slot.saturating_add(1));
+    Insn::from_slots(first, second).ok()
 }
 
 /// What a number means behind the name of a place; none where it has no page.
@@ -67,6 +104,8 @@ fn told(alloc: Global, place: &str, number: u8) -> Result<Option<String>, AllocE
 pub(crate) struct Reason {
     wanted: bool,
     text: Result<Option<String>, AllocError>,
+    /// The instruction that is refused.
+    insn: Option<Insn>,
 }
 
 impl Reason {
@@ -79,6 +118,7 @@ impl Reason {
         Reason {
             wanted,
             text: Ok(None),
+            insn: None,
         }
     }
 
@@ -94,6 +134,18 @@ impl Reason {
         if self.wanted {
             self.text = fault_text(alloc, code, fault).map(Some);
         }
+    }
+
+    /// Points at the instruction that is refused, in its code.
+    pub(crate) fn points_at(&mut self, code: &[u8], answer: &Result<Answer, ProgramFault>) {
+        if let Ok(Answer::Refused(refusal)) = answer {
+            self.insn = insn_in(code, refusal.pc);
+        }
+    }
+
+    /// The instruction that is refused, if it is known.
+    pub(crate) fn insn(&self) -> Option<Insn> {
+        self.insn
     }
 
     /// The text, if there is one.

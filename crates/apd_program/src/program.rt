@@ -64,7 +64,7 @@ fn perform<F: Files, O: Write, E: Write>(
     let mut reason = Reason::wanted_by(&request);
     match answer(alloc, request, files, &mut reason) {
         Ok(answer) => {
-            let sentence = explaining::sentence(alloc, &answer);
+            let sentence = explaining::sentence(alloc, &answer, reason.insn());
             let status = print(alloc, answer, out, err);
             say_if_any(&sentence, err);
             say_if_any(reason.text(), err);
@@ -101,12 +101,12 @@ fn answer<F: Files>(
             file,
             frame,
             config,
-        } => trace(alloc, hook, file, frame, config, files),
+        } => trace(alloc, hook, file, frame, config, files, reason),
         Request::Explain { number } => explaining::page(alloc, number),
         Request::Frames { capture, ticks } => framing::frames(alloc, capture, ticks, files),
         Request::Help { command } => helping::help(alloc, command),
         Request::Run { .. } => Err(ProgramFault::NotThere("run")),
-        Request::Certify { hook, file, config } => certify(alloc, hook, file, config, files),
+        Request::Certify { hook, file, config } => certify(alloc, hook, file, config, files, reason),
         Request::Check {
             hook,
             file,
@@ -130,7 +130,9 @@ fn verify<F: Files>(
 {
     let setup = setup_of(alloc, config, files)?;
     let code = code(alloc, file, files)?;
-    verifying::verify(alloc, code.as_slice(), setup.shapes, hook, reason)
+    let answer = verifying::verify(alloc, code.as_slice(), setup.shapes, hook, reason);
+    reason.points_at(code.as_slice(), &answer);
+    answer
 }
 
 /// The code of the text of a file.
@@ -166,6 +168,7 @@ fn trace<F: Files>(
     word: &str,
     config: Option<&str>,
     files: &mut F,
+    reason: &mut Reason,
 ) -> Result<Answer, ProgramFault>
     ensures run { IfOk result (λ a. IsTraced (F.held files.old) hook file.now word.now (option_map (λ path. path.now) config.entry) a) }
     ensures fault { IfErr result (λ e. (e ≡ ProgramFault.NoMemory) ⊎ HasNoFrame (F.held files.old) file.now word.now (option_map (λ path. path.now) config.entry)) }
@@ -176,7 +179,9 @@ fn trace<F: Files>(
     let Some(frame) = Frame::new(bytes.as_slice()) else {
         return Err(ProgramFault::LongFrame);
     };
-    verifying::trace(alloc, code.as_slice(), setup, hook, &frame)
+    let answer = verifying::trace(alloc, code.as_slice(), setup, hook, &frame);
+    reason.points_at(code.as_slice(), &answer);
+    answer
 }
 
 /// The certificate of the program in a file, for the maps of a configuration.
@@ -186,13 +191,16 @@ fn certify<F: Files>(
     file: &str,
     config: Option<&str>,
     files: &mut F,
+    reason: &mut Reason,
 ) -> Result<Answer, ProgramFault>
     ensures certificate { IfOk result (λ a. IsOfCode (λ setup. IsCertificate hook) (F.held files.old) file.now (option_map (λ path. path.now) config.entry) a) }
     ensures fault { IfErr result (λ e. (e ≡ ProgramFault.NoMemory) ⊎ IsAtFault (F.held files.old) file.now (option_map (λ path. path.now) config.entry)) }
 {
     let setup = setup_of(alloc, config, files)?;
     let code = code(alloc, file, files)?;
-    certifying::certify(alloc, code.as_slice(), setup.shapes, hook)
+    let answer = certifying::certify(alloc, code.as_slice(), setup.shapes, hook);
+    reason.points_at(code.as_slice(), &answer);
+    answer
 }
 
 /// What a certificate in a file shows of the program in another.

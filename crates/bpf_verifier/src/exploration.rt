@@ -195,7 +195,7 @@ impl Exploration {
         inclusion_law();
         standing_law();
         walking_law();
-        self.observer.examines(&state)?;
+        self.observer.examines(&state, self.path.len(), self.after)?;
         self.visits += 1;
         if let Some(budget) = self.finished.covering(&state) {
             let unwound = self.unwind(budget)?;

@@ -1,6 +1,6 @@
 //! The states that an exploration finishes.
 
-ghost use Rattle.std.specs.Prelude.{◌≡◌, ◌≤◌, ◌^◌, ℕ, IfOk, IfErr, IfSome, IfNone, OnOk};
+ghost use Rattle.std.specs.Prelude.{◌≡◌, ◌≤◌, ◌^◌, ℕ, IfOk, IfErr, OnOk};
 ghost use Rattle.bpf_decode.specs.Program.{Begins};
 ghost use Rattle.bpf_model.specs.Run.{Safe};
 ghost use Rattle.bpf_absstate.specs.View.{entry_view};
@@ -9,7 +9,7 @@ ghost use Rattle.bpf_plain.specs.Walks.{IsPlain};
 ghost use Rattle.bpf_rules.specs.declared.fault.Fault.{Fault};
 
 use crate::exploration::{Exploration, observed_budget};
-use crate::observer::Observer;
+use crate::observer::{Heard, Observer};
 use crate::refusal::Refusal;
 use bpf_absstate::AbsState;
 use bpf_decode::Program;
@@ -33,34 +33,61 @@ pub fn explore(alloc: Global, program: &Program, _hook: Hook) -> Result<Vec<Entr
     standing_law();
     let mut exploration = Exploration::new(alloc, program, Observer::listening(alloc))?;
     let _budget = observed_budget(alloc, program, &mut exploration)?;
-    let finished = exploration.into_observer().into_finished();
-    Ok(finished.unwrap_or(Vec::new(alloc)))
+    match exploration.into_observer().into_heard() {
+        Some(heard) => Ok(heard.finished),
+        None => Ok(Vec::new(alloc)),
+    }
 }
 
-/// A refusal of `verify`, and what was known where it came.
+/// What an exploration found, and how it came to it.
 #[derive(Drop)]
 pub struct Explanation {
-    pub refusal: Refusal,
+    /// A budget within which the program is safe, or the refusal of `verify`.
+    pub verdict: Result<u32, Refusal>,
     /// The state that was examined last, unless memory was refused for it.
     pub state: Option<AbsState>,
+    /// The slots on the path to the state that was examined last, from slot 0 to its own.
+    pub path: Vec<usize>,
+    /// How many states were examined at each slot; none at those behind the last.
+    pub visits: Vec<u32>,
 }
 
-/// Why `verify` refuses a program, and in which state; none where it admits it.
-pub fn explain(
-    alloc: Global,
-    program: &Program,
-    _hook: Hook,
-) -> Result<Option<Explanation>, AllocError>
-    ensures admitted { IfOk result (λ o. IfNone o ((b : ℕ) × (b ≤ 2 ^ 22) × Safe program.now.slots program.now.shapes b)) }
-    ensures begins { IfOk result (λ o. IfSome o (λ x. Begins program.now.slots x.refusal.pc)) }
-    ensures clear { IfOk result (λ o. IfSome o (λ x. IsClear program.now entry_view (2 ^ 22) → x.refusal.fault ≡ Fault.NoMemory)) }
+/// What `verify` finds of a program, and how it comes to it. Nothing is promised but the verdict.
+pub fn explain(alloc: Global, program: &Program, _hook: Hook) -> Result<Explanation, AllocError>
+    ensures safe { IfOk result (λ x. IfOk x.verdict (Safe program.now.slots program.now.shapes)) }
+    ensures small { IfOk result (λ x. IfOk x.verdict (λ budget. budget ≤ 2 ^ 22)) }
+    ensures begins { IfOk result (λ x. IfErr x.verdict (λ e. Begins program.now.slots e.pc)) }
+    ensures clear { IfOk result (λ x. IfErr x.verdict (λ e. IsClear program.now entry_view (2 ^ 22) → e.fault ≡ Fault.NoMemory)) }
 {
     let mut exploration = Exploration::new(alloc, program, Observer::listening(alloc))?;
-    match observed_budget(alloc, program, &mut exploration) {
-        Ok(_) => Ok(None),
-        Err(refusal) => Ok(Some(Explanation {
-            refusal,
-            state: exploration.into_observer().into_examined(),
-        })),
+    let verdict = observed_budget(alloc, program, &mut exploration);
+    Ok(explanation(alloc, verdict, exploration.into_observer()))
+}
+
+/// A verdict with what was heard.
+fn explanation(alloc: Global, verdict: Result<u32, Refusal>, observer: Observer) -> Explanation
+    ensures verdict { result.verdict ≡ verdict }
+{
+    match observer.into_heard() {
+        Some(heard) => {
+            let Heard {
+                examined,
+                path,
+                visits,
+                ..
+            } = heard;
+            Explanation {
+                verdict,
+                state: examined,
+                path,
+                visits,
+            }
+        }
+        None => Explanation {
+            verdict,
+            state: None,
+            path: Vec::new(alloc),
+            visits: Vec::new(alloc),
+        },
     }
 }

@@ -48,12 +48,12 @@ impl fmt::Display for Fault {
 
     fn fmt<W: fmt::Write>(&self, f: &mut fmt::Formatter<W>) -> fmt::Result {
         f.write_str(match self {
-            Fault::TooShort => "the frame ends within its header",
-            Fault::WrongVersion => "the protocol version is not 0",
-            Fault::Unsupported => "the type, subtype, category or action is not supported",
-            Fault::ReservedUse => "a field holds a reserved value",
-            Fault::ElementCut => "an element is cut",
-            Fault::BodyLength => "the body has the wrong length",
+            Fault::TooShort => "50: the frame ends within its header",
+            Fault::WrongVersion => "51: the protocol version is not 0",
+            Fault::Unsupported => "52: the type, subtype, category or action is not supported",
+            Fault::ReservedUse => "53: a field holds a reserved value",
+            Fault::ElementCut => "54: an element is cut",
+            Fault::BodyLength => "55: the body has the wrong length",
         })
     }
 }

@@ -698,7 +698,7 @@ fn is_told(rt: &impl Abort, alloc: Global, fault: FrameFault, text: &str) {
 #[test]
 fn a_fault_tells_what_it_is(rt: HostRuntime) {
     let cut = FrameFault::Fault(Fault::ElementCut);
-    is_told(&rt, rt.alloc(), cut, "an element is cut");
+    is_told(&rt, rt.alloc(), cut, "54: an element is cut");
     is_told(&rt, rt.alloc(), FrameFault::Memory, "out of memory");
     let station = a_station().to_string(rt.alloc()).expect(&rt, "memory");
     same(&rt, station.as_str(), "02000000000a", "station");

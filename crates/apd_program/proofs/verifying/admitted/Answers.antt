@@ -7,4 +7,4 @@ pub returns-in-Ok-clause-verdict : goal.returns-in-Ok-clause-verdict
 returns-in-Ok-clause-verdict c = Admitted c.budget.result _ (rw c.budget.ensures.is c.in-Ok.ensures.safe) c.budget.ensures.small (rw c.budget.ensures.is c.in-Ok.ensures.walk) refl
 
 pub returns-in-Err-clause-verdict : goal.returns-in-Err-clause-verdict
-returns-in-Err-clause-verdict c = IsVerdict-refused IsBudget _ _ c.in-Err.refusal c.in-Err.ensures.plain c.in-Err.ensures.begins c.refused.ensures.refusal
+returns-in-Err-clause-verdict c = IsVerdict-refused IsBudget _ _ c.in-Err.refusal c.in-Err.ensures.plain c.in-Err.ensures.clear c.in-Err.ensures.begins c.refused.ensures.refusal

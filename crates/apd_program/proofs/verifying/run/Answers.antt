@@ -8,4 +8,4 @@ returns-in_ok-text-in-Ok-clause-run c =
     (IsTrace-of c.in-Ok.accepted _ _ _ _ _ c.in-Ok.ensures.code c.in-Ok.ensures.hook c.in_ok-text-in-Ok.ensures.is)
 
 pub returns-in-Err-clause-run : goal.returns-in-Err-clause-run
-returns-in-Err-clause-run c = IsVerdict-refused (IsRun c.args.hook c.args.frame.now c.args.draw) _ _ c.in-Err.refusal c.in-Err.ensures.plain c.in-Err.ensures.begins c.refused.ensures.refusal
+returns-in-Err-clause-run c = IsVerdict-refused (IsRun c.args.hook c.args.frame.now c.args.draw) _ _ c.in-Err.refusal c.in-Err.ensures.plain c.in-Err.ensures.clear c.in-Err.ensures.begins c.refused.ensures.refusal

@@ -1,0 +1,96 @@
+//! The way to an instruction, as text.
+
+use bpf_decode::Program;
+use bpf_insn::Insn;
+use bpf_line::InsnText;
+use std::alloc::AllocError;
+use std::fmt::Write;
+
+/// How many branches are shown at most: the last ones.
+const SHOWN: usize = 8;
+
+/// The branch at a slot, if there is one.
+fn branch_at(program: &Program, slot: usize) -> Option<Insn> {
+    match program.insn_at(slot) {
+        Some(Some(insn)) => branch(insn),
+        _ => None,
+    }
+}
+
+/// The instruction, if it is a branch.
+fn branch(insn: Insn) -> Option<Insn> {
+    match insn {
+        Insn::Branch { .. } => Some(insn),
+        _ => None,
+    }
+}
+
+/// How many branches stand on a way, but for its end.
+fn count_branches(program: &Program, way: &[usize]) -> usize {
+    let steps = way.len().saturating_sub(1);
+    way.iter()
+        .take(steps)
+        .filter(|slot| branch_at(program, **slot).is_some())
+        .count()
+}
+
+/// How long the way is, and its last branches, each with the way that it went.
+pub(crate) fn append_way(
+    text: &mut String,
+    program: &Program,
+    way: &[usize],
+) -> Result<(), AllocError> {
+    let steps = way.len().saturating_sub(1);
+    if steps == 0 {
+        return Ok(());
+    }
+    let branches = count_branches(program, way);
+    writeln!(text, "  steps before it: {steps}, branches: {branches}")?;
+    let hidden = branches.saturating_sub(SHOWN);
+    if hidden > 0 {
+        writeln!(text, "    {hidden} branches, and then")?;
+    }
+    append_branches(text, program, way, hidden)
+}
+
+/// The branches behind so many that are hidden.
+fn append_branches(
+    text: &mut String,
+    program: &Program,
+    way: &[usize],
+    hidden: usize,
+) -> Result<(), AllocError> {
+    let mut before = None;
+    let mut hidden = hidden;
+    for slot in way.iter() {
+        let from = before;
+        before = Some(*slot);
+        let Some(from) = from else {
+            continue;
+        };
+        let Some(insn) = branch_at(program, from) else {
+            continue;
+        };
+        if hidden > 0 {
+            hidden -= 1;
+            continue;
+        }
+        append_branch(text, from, insn, *slot)?;
+    }
+    Ok(())
+}
+
+/// The line of a branch, and where it went.
+fn append_branch(
+    text: &mut String,
+    slot: usize,
+    insn: Insn,
+    next: usize,
+) -> Result<(), AllocError> {
+    if next == slot.wrapping_add(1) {
+        writeln!(text, "    slot {slot}: {}: not taken", InsnText(insn))?;
+        return Ok(());
+    }
+    writeln!(text, "    slot {slot}: {}: taken, to slot {next}", InsnText(insn))?;
+    Ok(())
+}
