@@ -61,11 +61,11 @@ pub fn explain(alloc: Global, program: &Program, _hook: Hook) -> Result<Explanat
 {
     let mut exploration = Exploration::new(alloc, program, Observer::listening(alloc))?;
     let verdict = observed_budget(alloc, program, &mut exploration);
-    Ok(explanation(alloc, verdict, exploration.into_observer()))
+    Ok(explained(alloc, verdict, exploration.into_observer()))
 }
 
 /// A verdict with what was heard.
-fn explanation(alloc: Global, verdict: Result<u32, Refusal>, observer: Observer) -> Explanation
+fn explained(alloc: Global, verdict: Result<u32, Refusal>, observer: Observer) -> Explanation
     ensures verdict { result.verdict ≡ verdict }
 {
     match observer.into_heard() {

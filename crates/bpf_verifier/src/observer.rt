@@ -47,7 +47,8 @@ impl Heard {
         }
         let start = self.starts.last().map_or(0, |start| *start);
         self.path.truncate(start.saturating_add(after as usize));
-        self.path.push(slot)
+        self.path.push(slot)?;
+        Ok(())
     }
 
     /// One state more was examined at this slot.

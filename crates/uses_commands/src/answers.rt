@@ -69,6 +69,15 @@ fn tells_want_of_memory(rt: HostRuntime) {
 }
 
 #[test]
+fn without_words_it_tells_how_it_is_used(rt: HostRuntime) {
+    let alloc = rt.alloc();
+    let mut out = Vec::new(alloc);
+    let mut err = Vec::new(alloc);
+    let status = apd_main(alloc, &[], &mut NoRoom, &mut out, &mut err);
+    assert!(rt; status == 2 && out.is_empty() && !err.is_empty());
+}
+
+#[test]
 fn leaves_a_beginning_where_a_write_fails(rt: HostRuntime) {
     let alloc = rt.alloc();
     let line = b"accepted budget 2\n";
