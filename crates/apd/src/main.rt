@@ -4,9 +4,9 @@
 use apd_entry::Messages;
 use apd_files::RealFiles;
 use std::alloc::{AllocError, Global};
+use std::env::FillError;
 use std::io::{ErrorKind, IsTerminal, Write};
 use std::process::ExitCode;
-use std::env::FillError;
 use std::rt::Env;
 use std::sync::Wait;
 use std::thread::Threads;

@@ -60,11 +60,7 @@ fn append_costs(text: &mut String, budget: u32, examined: Examined) -> Result<()
 }
 
 /// The slot with the most states.
-fn append_slot(
-    text: &mut String,
-    program: &Program,
-    examined: Examined,
-) -> Result<(), AllocError> {
+fn append_slot(text: &mut String, program: &Program, examined: Examined) -> Result<(), AllocError> {
     if let Some(Some(insn)) = program.insn_at(examined.slot) {
         let Examined { slot, most, .. } = examined;
         writeln!(

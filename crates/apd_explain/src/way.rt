@@ -91,6 +91,10 @@ fn append_branch(
         writeln!(text, "    slot {slot}: {}: not taken", InsnText(insn))?;
         return Ok(());
     }
-    writeln!(text, "    slot {slot}: {}: taken, to slot {next}", InsnText(insn))?;
+    writeln!(
+        text,
+        "    slot {slot}: {}: taken, to slot {next}",
+        InsnText(insn)
+    )?;
     Ok(())
 }

@@ -106,7 +106,9 @@ fn answer<F: Files>(
         Request::Frames { capture, ticks } => framing::frames(alloc, capture, ticks, files),
         Request::Help { command } => helping::help(alloc, command),
         Request::Run { .. } => Err(ProgramFault::NotThere("run")),
-        Request::Certify { hook, file, config } => certify(alloc, hook, file, config, files, reason),
+        Request::Certify { hook, file, config } => certify(
+            alloc, hook, file, config, files, reason,
+        ),
         Request::Check {
             hook,
             file,

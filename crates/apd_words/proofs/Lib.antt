@@ -1,3 +1,4 @@
 pub mod Added
 pub mod Parsed
+pub mod Traced
 pub mod Usual
