@@ -1,4 +1,3 @@
 pub mod Added
 pub mod Parsed
-pub mod Traced
 pub mod Usual

@@ -22,25 +22,25 @@ accepts_named p names text t =
     ap (λ (v : ValueParser). accepts false v text) t.is ∙ list_any-map (λ name. bytes_eq name text) (λ s. s.now) t.given.now ∙ ap (list_any (λ name. bytes_eq name text)) t.spelled
 
 -- the word is no flag, nor the end of the flags
-pub record IsPlain (word : Text) : Type 0 where
-  pub dashes : bytes_eq word (45 ∷ 45 ∷ []) ≡ false
-  pub long : long_of word ≡ None
-  pub short : short_of word ≡ None
+record IsPlain (word : Text) : Type 0 where
+  dashes : bytes_eq word (45 ∷ 45 ∷ []) ≡ false
+  long : long_of word ≡ None
+  short : short_of word ≡ None
 
-pub plain : (word : Text) → IsOperand word → IsPlain word
+plain : (word : Text) → IsOperand word → IsPlain word
 plain [] h = record { dashes = refl; long = refl; short = refl }
 plain (first ∷ rest) h =
     let other : (first == 45) ≡ false = ne_eqb first 45 h in
     record { dashes = rw other refl; long = rw other refl; short = rw other refl }
 
 -- a hook's name is taken for it
-pub taken : (p : ValueParser) (hook : Hook) → TakesNames p hook_names → accepts false p (name_of hook) ≡ true
+taken : (p : ValueParser) (hook : Hook) → TakesNames p hook_names → accepts false p (name_of hook) ≡ true
 taken p Association t = accepts_named p hook_names (codes "assoc") t
 taken p Addba t = accepts_named p hook_names (codes "addba") t
 taken p Data t = accepts_named p hook_names (codes "data") t
 
 -- nor is a hook's name
-pub named : (hook : Hook) → IsPlain (name_of hook)
+named : (hook : Hook) → IsPlain (name_of hook)
 named Association = record { dashes = refl; long = refl; short = refl }
 named Addba = record { dashes = refl; long = refl; short = refl }
 named Data = record { dashes = refl; long = refl; short = refl }

@@ -2,8 +2,8 @@
 //!
 //! Main call: `read_words`. It stands on `clap` and `bpf_regions`. It answers a `Request` that the
 //! words spell, the text of a help that they ask for, or a fault's text. Words that spell a request
-//! by their usual order are read as that request. [`laws`] shows which words spell `verify`, `asm`,
-//! `disasm` and `trace`. The texts are tested, not proved.
+//! by their usual order are read as that request. [`laws`] shows which words spell `verify`, `asm`
+//! and `disasm`. The texts are tested, not proved.
 #![tactic(auto)]
 
 ghost use Rattle.std.specs.Prelude.{◌≡◌};
