@@ -12,5 +12,5 @@ mod refusal;
 mod values;
 mod way;
 
-pub use reason::{fault_text, reason_text};
+pub use reason::{fault_text, insn_text, reason_text};
 pub use values::{NumberText, SlotText, ValueText};

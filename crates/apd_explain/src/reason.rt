@@ -6,6 +6,8 @@ use crate::way::append_way;
 use apd_refusals::explain as page_of;
 use bpf_absstate::AbsState;
 use bpf_decode::{DecodeFault, Program};
+use bpf_insn::Insn;
+use bpf_line::InsnText;
 use bpf_regions::Hook;
 use bpf_verifier::{Explanation, Refusal, explain};
 use std::alloc::{AllocError, Global};
@@ -93,4 +95,25 @@ fn append_bytes(text: &mut String, code: &[u8], slot: usize) -> Result<(), Alloc
     }
     writeln!(text)?;
     Ok(())
+}
+
+/// The eight bytes of a slot of code, if it has them.
+fn slot_in(code: &[u8], slot: usize) -> Option<[u8; 8]> {
+    let mut bytes = [0; 8];
+    let rest = code.get(slot.saturating_mul(8)..)?;
+    let found = rest.get(..8)?;
+    bytes.copy_from_slice(found);
+    Some(bytes)
+}
+
+/// The text of the instruction that stands at a slot of code; none where there is none.
+pub fn insn_text(alloc: Global, code: &[u8], slot: usize) -> Result<Option<String>, AllocError> {
+    let Some(first) = slot_in(code, slot) else {
+        return Ok(None);
+    };
+    let second = slot_in(code, slot.saturating_add(1));
+    match Insn::from_slots(first, second) {
+        Ok(insn) => Ok(Some(format!(in alloc; "{}", InsnText(insn))?)),
+        Err(_) => Ok(None),
+    }
 }

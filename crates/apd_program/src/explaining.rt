@@ -5,13 +5,11 @@ ghost use Rattle.apd_program.specs.Pages.{IsPage, HasNoPage};
 
 use crate::answer::Answer;
 use crate::fault::ProgramFault;
-use apd_explain::{fault_text, reason_text};
+use apd_explain::{fault_text, insn_text, reason_text};
 use apd_inputs::shown;
 use apd_refusals::{explain, page_text};
 use apd_words::Request;
 use bpf_decode::{DecodeFault, Program};
-use bpf_insn::Insn;
-use bpf_line::InsnText;
 use bpf_regions::Hook;
 use bpf_text::AsmFault;
 use bpf_verifier::Refusal;
@@ -40,7 +38,7 @@ fn unknown(alloc: Global, word: &str) -> ProgramFault {
 pub(crate) fn sentence(
     alloc: Global,
     answer: &Answer,
-    insn: Option<Insn>,
+    insn: &Option<String>,
 ) -> Result<Option<String>, AllocError> {
     match answer {
         Answer::Fault(fault) => at(alloc, "slot", fault.slot() as u64, fault.number()),
@@ -61,30 +59,14 @@ fn at(alloc: Global, place: &str, at: u64, number: u8) -> Result<Option<String>,
 fn at_insn(
     alloc: Global,
     refusal: Refusal,
-    insn: Option<Insn>,
+    insn: &Option<String>,
 ) -> Result<Option<String>, AllocError> {
     let Some(insn) = insn else {
         return at(alloc, "slot", refusal.pc as u64, refusal.number());
     };
     let slot = refusal.pc;
-    let place = format!(in alloc; "slot {slot} ({}): ", InsnText(insn))?;
+    let place = format!(in alloc; "slot {slot} ({insn}): ")?;
     told(alloc, place.as_str(), refusal.number())
-}
-
-/// The eight bytes of a slot of code, if it has them.
-fn slot_in(code: &[u8], slot: usize) -> Option<[u8; 8]> {
-    let mut bytes = [0; 8];
-    let rest = code.get(slot.saturating_mul(8)..)?;
-    let found = rest.get(..8)?;
-    bytes.copy_from_slice(found);
-    Some(bytes)
-}
-
-/// The instruction that stands at a slot of code, if there is one.
-fn insn_in(code: &[u8], slot: usize) -> Option<Insn> {
-    let first = slot_in(code, slot)?;
-    let second = slot_in(code, slot.saturating_add(1));
-    Insn::from_slots(first, second).ok()
 }
 
 /// What a number means behind the name of a place; none where it has no page.
@@ -104,8 +86,8 @@ fn told(alloc: Global, place: &str, number: u8) -> Result<Option<String>, AllocE
 pub(crate) struct Reason {
     wanted: bool,
     text: Result<Option<String>, AllocError>,
-    /// The instruction that is refused.
-    insn: Option<Insn>,
+    /// The instruction that is refused, as text.
+    insn: Option<String>,
 }
 
 impl Reason {
@@ -137,15 +119,20 @@ impl Reason {
     }
 
     /// Points at the instruction that is refused, in its code.
-    pub(crate) fn points_at(&mut self, code: &[u8], answer: &Result<Answer, ProgramFault>) {
+    pub(crate) fn points_at(
+        &mut self,
+        alloc: Global,
+        code: &[u8],
+        answer: &Result<Answer, ProgramFault>,
+    ) {
         if let Ok(Answer::Refused(refusal)) = answer {
-            self.insn = insn_in(code, refusal.pc);
+            self.insn = insn_text(alloc, code, refusal.pc).unwrap_or(None);
         }
     }
 
     /// The instruction that is refused, if it is known.
-    pub(crate) fn insn(&self) -> Option<Insn> {
-        self.insn
+    pub(crate) fn insn(&self) -> &Option<String> {
+        &self.insn
     }
 
     /// The text, if there is one.

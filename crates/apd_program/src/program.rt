@@ -133,7 +133,7 @@ fn verify<F: Files>(
     let setup = setup_of(alloc, config, files)?;
     let code = code(alloc, file, files)?;
     let answer = verifying::verify(alloc, code.as_slice(), setup.shapes, hook, reason);
-    reason.points_at(code.as_slice(), &answer);
+    reason.points_at(alloc, code.as_slice(), &answer);
     answer
 }
 
@@ -182,7 +182,7 @@ fn trace<F: Files>(
         return Err(ProgramFault::LongFrame);
     };
     let answer = verifying::trace(alloc, code.as_slice(), setup, hook, &frame);
-    reason.points_at(code.as_slice(), &answer);
+    reason.points_at(alloc, code.as_slice(), &answer);
     answer
 }
 
@@ -201,7 +201,7 @@ fn certify<F: Files>(
     let setup = setup_of(alloc, config, files)?;
     let code = code(alloc, file, files)?;
     let answer = certifying::certify(alloc, code.as_slice(), setup.shapes, hook);
-    reason.points_at(code.as_slice(), &answer);
+    reason.points_at(alloc, code.as_slice(), &answer);
     answer
 }
 
