@@ -3,7 +3,7 @@
 
 use crate::alike::compare_on_frames;
 use crate::policies::POLICIES;
-use crate::programs::{admitted, of_slots};
+use crate::programs::{admitted, of_policy};
 use crate::same::{holds, same};
 use bpf_machine::{Accepted, Bare, ListPort, Outcome};
 use bpf_regions::{Context, Frame};
@@ -27,7 +27,7 @@ fn both_machines_come_to_the_same(rt: HostRuntime) {
         compare_on_frames(&rt, &accepted, text);
     }
     for policy in &POLICIES {
-        let program = of_slots(&rt, rt.alloc(), policy.slots, policy.map);
+        let program = of_policy(&rt, rt.alloc(), policy.slots, policy.maps);
         let accepted = verify(rt.alloc(), program, policy.hook);
         let accepted = accepted.ok().expect(&rt, policy.name);
         compare_on_frames(&rt, &accepted, policy.name);

@@ -3,13 +3,13 @@
 
 use bpf_regions::{Hook, Scope, Shape, WordWidth};
 
-/// A program, what it is verified for, and its map, if it has one.
+/// A program, what it is verified for, and its maps.
 #[derive(Clone, Copy, Drop)]
 pub struct Policy {
     pub name: &'static str,
     pub slots: &'static [u64],
     pub hook: Hook,
-    pub map: Option<Shape>,
+    pub maps: &'static [Shape],
 }
 
 const AGREEMENTS: [u64; 7] = [
@@ -425,6 +425,40 @@ const VENDORS: [u64; 20] = [
     0x9500000000000000,
 ];
 
+const VOICE: [u64; 31] = [
+    0x71340a0000000000,
+    0xb703000018000000,
+    0x16040100ff000000,
+    0xb70300001a000000,
+    0x0f31000000000000,
+    0xb706000000000000,
+    0xbf13000000000000,
+    0x070300000a000000,
+    0x2d230a0000000000,
+    0x7112070000000000,
+    0x7113060000000000,
+    0x6403000008000000,
+    0x4c23000000000000,
+    0x5603050000080000,
+    0x7111090000000000,
+    0x54010000fc000000,
+    0xb406000001000000,
+    0x16010100b8000000,
+    0xb406000000000000,
+    0x1851000000000000,
+    0x0000000000000000,
+    0xbf62000000000000,
+    0x8500000001000000,
+    0x1500030000000000,
+    0x7901000000000000,
+    0x0701000001000000,
+    0x7b10000000000000,
+    0xb700000000000000,
+    0x1506010000000000,
+    0xb7000000022e0000,
+    0x9500000000000000,
+];
+
 const MOVE_AND_EXIT: [u64; 2] = [0xb700000001000000, 0x9500000000000000];
 
 const MARK_FIVE: [u64; 5] = [
@@ -435,105 +469,196 @@ const MARK_FIVE: [u64; 5] = [
     0x9500000000000000,
 ];
 
-/// All of them but the examples in the assembler's language.
-pub const POLICIES: [Policy; 14] = [
+const ADMISSION: [u64; 5] = [
+    0x69310e0000000000,
+    0xb700000000000000,
+    0xb50101000a000000,
+    0xb700000025000000,
+    0x9500000000000000,
+];
+
+const WINDOWS: [u64; 5] = [
+    0x71310a0000000000,
+    0xb700000008000000,
+    0x5501010007000000,
+    0xb700000000000000,
+    0x9500000000000000,
+];
+
+const MARK_OR_DROP: [u64; 9] = [
+    0xbf13000000000000,
+    0x070300001b000000,
+    0xb700000000000000,
+    0x2d23040000000000,
+    0x71141a0000000000,
+    0xb700000002050000,
+    0x5504010078000000,
+    0xb700000001000000,
+    0x9500000000000000,
+];
+
+const MARK_AND_COUNT: [u64; 11] = [
+    0x1864000001000000,
+    0x0000000000000000,
+    0xb705000001000000,
+    0xdb54000000000000,
+    0x1864000000000000,
+    0x0000000000000000,
+    0x7940000000000000,
+    0x57000000ff000000,
+    0x6700000008000000,
+    0x4700000002000000,
+    0x9500000000000000,
+];
+
+/// All of them that are admitted, but two in the assembler's language: `texts` has the loop and the
+/// header of variable length.
+pub const POLICIES: [Policy; 19] = [
     Policy {
         name: "agreements",
         slots: &AGREEMENTS,
         hook: Hook::Addba,
-        map: None,
+        maps: &[],
     },
     Policy {
         name: "association_rate",
         slots: &ASSOCIATION_RATE,
         hook: Hook::Association,
-        map: Some(Shape {
+        maps: &[Shape {
             entries: 1,
             words: 2,
             width: WordWidth::Eight,
             scope: Scope::Shared,
-        }),
+        }],
     },
     Policy {
         name: "counters",
         slots: &COUNTERS,
         hook: Hook::Data,
-        map: Some(Shape {
+        maps: &[Shape {
             entries: 9,
             words: 2,
             width: WordWidth::Eight,
             scope: Scope::Worker,
-        }),
+        }],
     },
     Policy {
         name: "dscp",
         slots: &DSCP,
         hook: Hook::Data,
-        map: None,
+        maps: &[],
     },
     Policy {
         name: "elements",
         slots: &ELEMENTS,
         hook: Hook::Association,
-        map: None,
+        maps: &[],
     },
     Policy {
         name: "first_things",
         slots: &FIRST_THINGS,
         hook: Hook::Data,
-        map: None,
+        maps: &[],
     },
     Policy {
         name: "ip_options",
         slots: &IP_OPTIONS,
         hook: Hook::Data,
-        map: None,
+        maps: &[],
     },
     Policy {
         name: "load",
         slots: &LOAD,
         hook: Hook::Association,
-        map: None,
+        maps: &[],
     },
     Policy {
         name: "sampling",
         slots: &SAMPLING,
         hook: Hook::Data,
-        map: None,
+        maps: &[],
     },
     Policy {
         name: "token_bucket",
         slots: &TOKEN_BUCKET,
         hook: Hook::Data,
-        map: Some(Shape {
+        maps: &[Shape {
             entries: 2008,
             words: 2,
             width: WordWidth::Eight,
             scope: Scope::Shared,
-        }),
+        }],
     },
     Policy {
         name: "udp_port",
         slots: &UDP_PORT,
         hook: Hook::Data,
-        map: None,
+        maps: &[],
     },
     Policy {
         name: "vendors",
         slots: &VENDORS,
         hook: Hook::Association,
-        map: None,
+        maps: &[],
+    },
+    Policy {
+        name: "voice",
+        slots: &VOICE,
+        hook: Hook::Data,
+        maps: &[Shape {
+            entries: 2,
+            words: 1,
+            width: WordWidth::Eight,
+            scope: Scope::Worker,
+        }],
     },
     Policy {
         name: "move_and_exit",
         slots: &MOVE_AND_EXIT,
         hook: Hook::Data,
-        map: None,
+        maps: &[],
     },
     Policy {
         name: "mark_five",
         slots: &MARK_FIVE,
         hook: Hook::Data,
-        map: None,
+        maps: &[],
+    },
+    Policy {
+        name: "admission",
+        slots: &ADMISSION,
+        hook: Hook::Association,
+        maps: &[],
+    },
+    Policy {
+        name: "windows",
+        slots: &WINDOWS,
+        hook: Hook::Addba,
+        maps: &[],
+    },
+    Policy {
+        name: "mark_or_drop",
+        slots: &MARK_OR_DROP,
+        hook: Hook::Data,
+        maps: &[],
+    },
+    Policy {
+        name: "mark_and_count",
+        slots: &MARK_AND_COUNT,
+        hook: Hook::Data,
+        maps: &[
+            Shape {
+                entries: 1,
+                words: 2,
+                width: WordWidth::Eight,
+                scope: Scope::Shared,
+            },
+            Shape {
+                entries: 1,
+                words: 1,
+                width: WordWidth::Eight,
+                scope: Scope::Worker,
+            },
+        ],
     },
 ];

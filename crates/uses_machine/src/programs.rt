@@ -8,35 +8,38 @@ use bpf_verifier::verify;
 use std::alloc::Global;
 use std::process::Abort;
 
-/// The shapes of one map, or of none.
-fn shapes_of(rt: &impl Abort, alloc: Global, map: Option<Shape>) -> Shapes {
-    let mut shapes = Vec::new(alloc);
-    if let Some(shape) = map {
-        shapes.push(shape).expect(rt, "memory");
-    }
-    Shapes::new(shapes).expect(rt, "a map within the limits")
-}
-
-/// The program of these bytes.
-fn of_code(rt: &impl Abort, alloc: Global, code: &[u8], map: Option<Shape>) -> Program {
-    let shapes = shapes_of(rt, alloc, map);
+/// The program of these bytes, over these maps.
+fn of_code(rt: &impl Abort, alloc: Global, code: &[u8], maps: &[Shape]) -> Program {
+    let shapes = Vec::from_slice(alloc, maps).expect(rt, "memory");
+    let shapes = Shapes::new(shapes).expect(rt, "maps within the limits");
     decode(alloc, code, shapes).expect(rt, "a well-formed program")
 }
 
-/// The program of these slots, each with its first byte as the highest.
-pub fn of_slots(rt: &impl Abort, alloc: Global, slots: &[u64], map: Option<Shape>) -> Program {
+/// The program of these slots, each with its first byte as the highest, over these maps.
+pub fn of_policy(rt: &impl Abort, alloc: Global, slots: &[u64], maps: &[Shape]) -> Program {
     let mut code = Vec::new(alloc);
     for slot in slots {
         code.extend_from_slice(&slot.to_be_bytes())
             .expect(rt, "memory");
     }
-    of_code(rt, alloc, &code, map)
+    of_code(rt, alloc, &code, maps)
+}
+
+/// The program of such slots, over one map or none.
+pub fn of_slots(rt: &impl Abort, alloc: Global, slots: &[u64], map: Option<Shape>) -> Program {
+    match map {
+        Some(shape) => of_policy(rt, alloc, slots, &[shape]),
+        None => of_policy(rt, alloc, slots, &[]),
+    }
 }
 
 /// The program of this text.
 pub fn of_text(rt: &impl Abort, alloc: Global, text: &str, map: Option<Shape>) -> Program {
     let code = assemble(alloc, text).expect(rt, text);
-    of_code(rt, alloc, &code, map)
+    match map {
+        Some(shape) => of_code(rt, alloc, &code, &[shape]),
+        None => of_code(rt, alloc, &code, &[]),
+    }
 }
 
 /// That program, admitted for data frames.
