@@ -3,7 +3,7 @@
 ghost use Rattle.std.specs.Prelude.{◌≡◌, IfOk};
 ghost use Rattle.std.specs.Arc.{arc_value};
 
-use bpf_decode::decode;
+use bpf_decode::{Program, decode};
 use bpf_machine::{Accepted, ListPort, Outcome, run};
 use bpf_regions::{Context, Frame, Hook, Shape, Shapes};
 use bpf_text::assemble;
@@ -25,6 +25,12 @@ pub fn shapes_of(alloc: Global, map: Option<Shape>) -> Result<Shapes, Fail> {
     }
 }
 
+/// The program of a text, for maps of these shapes.
+pub fn program_of(alloc: Global, text: &str, shapes: Shapes) -> Result<Program, Fail> {
+    let code = assemble(alloc, text)?;
+    Ok(decode(alloc, &code, shapes)?)
+}
+
 /// The program of a text, accepted for a hook and maps of these shapes.
 pub fn accepted(
     alloc: Global,
@@ -34,8 +40,7 @@ pub fn accepted(
 ) -> Result<Arc<Accepted>, Fail>
     ensures { IfOk result (λ p. (arc_value p).hook ≡ hook) }
 {
-    let code = assemble(alloc, text)?;
-    let program = decode(alloc, &code, shapes)?;
+    let program = program_of(alloc, text, shapes)?;
     let accepted = verify(alloc, program, hook)?;
     Ok(Arc::new(alloc, accepted)?)
 }

@@ -17,7 +17,7 @@ const ONE: &str = "mov r0, 1\nexit";
 const ZERO: &str = "mov r0, 0\nexit";
 
 /// The set that a reader has after it learned all loads so far.
-fn enter_after<R: Wait>(
+pub fn enter_after<R: Wait>(
     rt: &R,
     publisher: &mut Publisher,
     sets: &Published,
