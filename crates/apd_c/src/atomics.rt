@@ -122,5 +122,11 @@ pub extern "C" fn apd_c_compare_exchange(
         (CompareExchange expected new) result.value (held maps.new) }
     ensures kept { result.number ≢ 0 → held maps.new ≡ held maps.old }
 {
-    access_at(alloc, maps, map, word, MapOp::CompareExchange { expected, new })
+    access_at(
+        alloc,
+        maps,
+        map,
+        word,
+        MapOp::CompareExchange { expected, new },
+    )
 }

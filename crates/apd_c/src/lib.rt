@@ -1,9 +1,9 @@
 //! The library for C programs: exports, which `include/apd.h` declares.
 //!
 //! Main calls: `apd_c_verify`, `apd_c_run`, `apd_c_certify`, `apd_c_check` and `apd_c_link_frame`. It stands on
-//! `bpf_verifier`, `bpf_cert`, `bpf_machine`, `ap_tables` and `ap_single`. Each export calls a function of those and states its clauses again. C keeps what it is
-//! given in a `Handle`, which is empty or owns one value; a call that finds another value in it than it asks for answers
-//! 91 and leaves it.
+//! `bpf_verifier`, `bpf_cert`, `bpf_machine`, `ap_tables` and `ap_single`. Each export calls a function of those and states
+//! its clauses again. C keeps what it is given in a `Handle`, which is empty or owns one value; a call that finds another
+//! value in it than it asks for answers 91 and leaves it.
 #![tactic(auto)]
 
 mod answer;
@@ -24,7 +24,8 @@ mod words;
 
 pub use answer::Answer;
 pub use atomics::{
-    apd_c_compare_exchange, apd_c_exchange, apd_c_fetch_add, apd_c_fetch_and, apd_c_fetch_or, apd_c_fetch_xor,
+    apd_c_compare_exchange, apd_c_exchange, apd_c_fetch_add, apd_c_fetch_and, apd_c_fetch_or,
+    apd_c_fetch_xor,
 };
 pub use certificates::{apd_c_certify, apd_c_check, apd_c_read};
 pub use code::{apd_c_budget, apd_c_verify};

@@ -73,13 +73,7 @@ fn has_word(shapes: &Shapes, map: u32, word: u32) -> bool
 }
 
 /// One access to a word, by the seats of C.
-fn ask(
-    maps: &[MapTables],
-    hand: &mut WorkerState,
-    map: u32,
-    word: u32,
-    operation: MapOp,
-) -> u64
+fn ask(maps: &[MapTables], hand: &mut WorkerState, map: u32, word: u32, operation: MapOp) -> u64
     requires there { word < words_in (slice_get (shapes_of maps.now) map) }
     requires fitting { IsFitting maps.now 0 hand.old.seats }
     ensures made { Gives (reads_of maps.now) hand.old (Access map word operation) result hand.new }
