@@ -1,6 +1,6 @@
 //! What C does with words of maps.
 
-ghost use Rattle.std.specs.Prelude.{◌≡◌, ◌≢◌, ◌<◌, ◌↔◌, map, slice_get, Some, None, IsTrue, IfSome, IfOk, IfErr};
+ghost use Rattle.std.specs.Prelude.{◌≡◌, ◌≢◌, ◌<◌, map, slice_get, Some, None, IsTrue, IfSome, IfOk, IfErr};
 ghost use Rattle.bpf_regions.specs.declared.asks.Ask.TheVariants.{Access};
 ghost use Rattle.bpf_regions.specs.declared.maps.MapOp.TheVariants.{Load, Store};
 ghost use Rattle.bpf_model.specs.Run.{InRange, words_in};
@@ -14,8 +14,9 @@ use crate::answer::{NO_MEMORY, NOT_EMPTY, OTHER_VALUE, OUT_OF_LIMITS};
 use crate::handle::{Content, Handle};
 use crate::maps::Maps;
 use crate::shapes::{MapShape, shapes_from};
+use ap_tables::ApTables;
 use bpf_helpers::{HookPort, MapTables, WorkerState, WorkerView};
-use bpf_regions::{MapOp, Shapes};
+use bpf_regions::{MapOp, Scope};
 use bpf_tagged::Port;
 use std::alloc::Global;
 
@@ -63,13 +64,10 @@ pub(crate) fn put_maps(handle: &mut Handle, boxed: Box<Content>, maps: Maps)
 }
 
 /// Whether there is a map of that number, and the word is one of its words.
-fn has_word(shapes: &Shapes, map: u32, word: u32) -> bool
-    ensures { IsTrue result ↔ (word < words_in (slice_get shapes.now map)) }
+fn has_word(tables: &ApTables, map: u32, word: u32) -> bool
+    ensures { IsTrue result → word < words_in (slice_get (shapes_of tables.now.maps) map) }
 {
-    match shapes.as_slice().get(map as usize) {
-        Some(shape) => word < shape.word_count(),
-        None => false,
-    }
+    tables.has_word(Scope::Shared, map as usize, word)
 }
 
 /// One access to a word, by the seats of C.
@@ -96,7 +94,7 @@ fn access(maps: Maps, at: u32, word: u32, operation: MapOp) -> (Maps, Loaded)
         IsAccessed maps at word operation result.1.value result.0 }
     ensures refused { result.1.number ≢ 0 → result.0 ≡ maps }
 {
-    if !has_word(&maps.shapes, at, word) {
+    if !has_word(&maps.tables, at, word) {
         return (maps, Loaded::refused(OUT_OF_LIMITS));
     }
     let Maps {
