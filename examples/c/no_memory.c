@@ -87,6 +87,7 @@ static int serve(long refused)
     apd_handle code = APD_EMPTY, link = APD_EMPTY, maps = APD_EMPTY, outs = APD_EMPTY;
     uint8_t frame[APD_FRAME_MOST];
     size_t count = 0;
+    left = -1;
     int ok = !apd_maps(&maps, NULL, 0, 0) && !apd_verify(&code, APD_ASSOC, seven, 16, NULL, 0).number;
 
     left = refused;
