@@ -1,5 +1,5 @@
 /*
- * apd.h - the verifier and the machine of apd, for programs in C and C++.
+ * apd.h - the verifier, the machine and the link of apd, for programs in C and C++.
  *
  * Link with libapd.a. Its code is proved: each function below states what the library function that it calls states
  * (crates/apd_c). The proofs begin at the functions named apd_c_*; the inline functions of this header test pointers for
@@ -54,14 +54,17 @@ enum apd_number {
     APD_OTHER_VALUE = 91,    /* a handle holds nothing, or another value than the call asks for */
     APD_NOT_EMPTY = 92,      /* the handle that is to be filled isn't empty */
     APD_OTHER_MAPS = 93,     /* the program is for maps of other shapes */
-    APD_NULL = 94            /* a pointer is NULL, or one handle is passed twice */
+    APD_NULL = 94,           /* a pointer is NULL, or one handle is passed twice */
+    APD_OTHER_HOOK = 95      /* the program was verified for another hook */
 };
 
 enum apd_hook { APD_ASSOC = 1, APD_ADDBA = 2, APD_DATA = 3 };
 
-enum { APD_FRAME_MOST = 2400, APD_NOTES_MOST = 16, APD_STATIONS_MOST = 2007 };
+enum { APD_FRAME_MOST = 2400, APD_NOTES_MOST = 16, APD_STATIONS_MOST = 2007, APD_NO_TID = 255 };
 
-/* A program, maps or bytes; empty where it is zero. */
+enum apd_kind { APD_NOTHING = 0, APD_SEND = 1, APD_UP = 2, APD_NOTE = 3 };
+
+/* A program, maps, bytes, an access point or its outs; empty where it is zero. */
 typedef struct apd_handle {
     bool full;
     void *at;
@@ -106,6 +109,31 @@ typedef struct apd_report {
     uint64_t notes[APD_NOTES_MOST];
 } apd_report;
 
+/* What an access point is made with: its address, its network's name, and its supported rates. */
+typedef struct apd_network {
+    uint8_t bssid[6];
+    uint8_t name_length; /* at most 32 */
+    uint8_t name[32];
+    uint8_t rate_count; /* 1 to 8 */
+    uint8_t rates[8];
+} apd_network;
+
+/* A station, by its address. */
+typedef struct apd_station {
+    uint8_t octets[6];
+} apd_station;
+
+/* What came out of an event, but for its bytes. What a kind doesn't have is 0. */
+typedef struct apd_out {
+    uint32_t kind; /* APD_SEND: a frame to be sent; APD_UP: data to be passed up; APD_NOTE */
+    size_t length; /* of the frame or the data */
+    uint8_t source[6], destination[6];
+    uint16_t number; /* the data's sequence number */
+    uint8_t tid;     /* APD_NO_TID where the data has none */
+    uint8_t mark;    /* by the program for data */
+    uint8_t note;    /* 50 to 55: no frame; 56: not for this access point; 63: an unknown station */
+} apd_out;
+
 /* The proved functions. No pointer is NULL, and no handle is passed twice to one call. */
 apd_answer apd_c_verify(apd_handle *code, uint32_t hook, const uint8_t *bytes, size_t length, const apd_shape *shapes,
                         size_t maps);
@@ -117,7 +145,24 @@ size_t apd_c_read(apd_handle *bytes, uint8_t *into, size_t room);
 uint32_t apd_c_maps(apd_handle *maps, const apd_shape *shapes, size_t count, uint64_t draw);
 apd_loaded apd_c_load(apd_handle *maps, uint32_t map, uint32_t word);
 uint32_t apd_c_store(apd_handle *maps, uint32_t map, uint32_t word, uint64_t value);
+apd_loaded apd_c_exchange(apd_handle *maps, uint32_t map, uint32_t word, uint64_t value);
+apd_loaded apd_c_fetch_add(apd_handle *maps, uint32_t map, uint32_t word, uint64_t value);
+apd_loaded apd_c_fetch_or(apd_handle *maps, uint32_t map, uint32_t word, uint64_t value);
+apd_loaded apd_c_fetch_and(apd_handle *maps, uint32_t map, uint32_t word, uint64_t value);
+apd_loaded apd_c_fetch_xor(apd_handle *maps, uint32_t map, uint32_t word, uint64_t value);
+apd_loaded apd_c_compare_exchange(apd_handle *maps, uint32_t map, uint32_t word, uint64_t expected, uint64_t next);
 apd_report apd_c_run(apd_handle *code, apd_handle *maps, const uint8_t *frame, size_t length, const apd_given *given);
+uint32_t apd_c_link(apd_handle *link, const apd_network *network, const apd_shape *shapes, size_t maps);
+uint32_t apd_c_link_load(apd_handle *link, uint32_t hook, apd_handle *code);
+uint32_t apd_c_link_frame(apd_handle *link, apd_handle *maps, apd_handle *outs, const uint8_t *bytes, size_t length);
+uint32_t apd_c_link_tick(apd_handle *link, apd_handle *maps, apd_handle *outs, uint32_t units);
+uint32_t apd_c_link_kick(apd_handle *link, apd_handle *maps, apd_handle *outs, const apd_station *station,
+                         uint16_t reason);
+uint32_t apd_c_link_close(apd_handle *link, apd_handle *maps, apd_handle *outs, const apd_station *station,
+                          uint8_t tid);
+size_t apd_c_outs(apd_handle *outs);
+apd_out apd_c_out(apd_handle *outs, size_t at);
+size_t apd_c_out_bytes(apd_handle *outs, size_t at, uint8_t *into, size_t room);
 void apd_c_free(apd_handle *handle);
 
 /* What is pointed to where there is nothing: no pointer is NULL, also for no values. */
@@ -203,6 +248,45 @@ static inline uint32_t apd_store(apd_handle *maps, uint32_t map, uint32_t word, 
     return maps ? apd_c_store(maps, map, word, value) : (uint32_t)APD_NULL;
 }
 
+/* Atomic operations on a word; each answers what the word held before. Numbers are taken mod 2^(8 * width). */
+static inline apd_loaded apd_exchange(apd_handle *maps, uint32_t map, uint32_t word, uint64_t value)
+{
+    apd_loaded none = {APD_NULL, 0};
+    return maps ? apd_c_exchange(maps, map, word, value) : none;
+}
+
+static inline apd_loaded apd_fetch_add(apd_handle *maps, uint32_t map, uint32_t word, uint64_t value)
+{
+    apd_loaded none = {APD_NULL, 0};
+    return maps ? apd_c_fetch_add(maps, map, word, value) : none;
+}
+
+static inline apd_loaded apd_fetch_or(apd_handle *maps, uint32_t map, uint32_t word, uint64_t value)
+{
+    apd_loaded none = {APD_NULL, 0};
+    return maps ? apd_c_fetch_or(maps, map, word, value) : none;
+}
+
+static inline apd_loaded apd_fetch_and(apd_handle *maps, uint32_t map, uint32_t word, uint64_t value)
+{
+    apd_loaded none = {APD_NULL, 0};
+    return maps ? apd_c_fetch_and(maps, map, word, value) : none;
+}
+
+static inline apd_loaded apd_fetch_xor(apd_handle *maps, uint32_t map, uint32_t word, uint64_t value)
+{
+    apd_loaded none = {APD_NULL, 0};
+    return maps ? apd_c_fetch_xor(maps, map, word, value) : none;
+}
+
+/* Puts next where the word holds expected. */
+static inline apd_loaded apd_compare_exchange(apd_handle *maps, uint32_t map, uint32_t word, uint64_t expected,
+                                              uint64_t next)
+{
+    apd_loaded none = {APD_NULL, 0};
+    return maps ? apd_c_compare_exchange(maps, map, word, expected, next) : none;
+}
+
 /* Runs a program on a frame of at most 2400 bytes over maps of its shapes. It waits for nothing and takes no memory. */
 static inline apd_report apd_run(apd_handle *code, apd_handle *maps, const uint8_t *frame, size_t length,
                                  const apd_given *given)
@@ -212,6 +296,84 @@ static inline apd_report apd_run(apd_handle *code, apd_handle *maps, const uint8
         return none;
     }
     return apd_c_run(code, maps, apd_some_bytes(frame), length, given);
+}
+
+/* Fills an empty handle with an access point that has handled nothing and has no programs yet, for maps of these shapes. */
+static inline uint32_t apd_link(apd_handle *link, const apd_network *network, const apd_shape *shapes, size_t maps)
+{
+    if (!link || !network || (!shapes && maps))
+        return APD_NULL;
+    return apd_c_link(link, network, apd_some_shapes(shapes), maps);
+}
+
+/* Takes the program out of its handle, and has the access point judge by it on this hook. */
+static inline uint32_t apd_link_load(apd_handle *link, uint32_t hook, apd_handle *code)
+{
+    if (!link || !code || link == code)
+        return APD_NULL;
+    return apd_c_link_load(link, hook, code);
+}
+
+/* Whether these are three handles. */
+static inline bool apd_are_three(const apd_handle *link, const apd_handle *maps, const apd_handle *outs)
+{
+    return link && maps && outs && link != maps && link != outs && maps != outs;
+}
+
+/* A frame of at most 2400 bytes, without its FCS, comes. Programs run over the maps; an empty handle is filled with what
+   comes out, which apd_outs, apd_out_at and apd_out_bytes read. What is refused changes nothing. */
+static inline uint32_t apd_link_frame(apd_handle *link, apd_handle *maps, apd_handle *outs, const uint8_t *bytes,
+                                      size_t length)
+{
+    if (!apd_are_three(link, maps, outs) || (!bytes && length))
+        return APD_NULL;
+    return apd_c_link_frame(link, maps, outs, apd_some_bytes(bytes), length);
+}
+
+/* As many units of time pass. */
+static inline uint32_t apd_link_tick(apd_handle *link, apd_handle *maps, apd_handle *outs, uint32_t units)
+{
+    return apd_are_three(link, maps, outs) ? apd_c_link_tick(link, maps, outs, units) : (uint32_t)APD_NULL;
+}
+
+/* Sends a station away with a reason code. */
+static inline uint32_t apd_link_kick(apd_handle *link, apd_handle *maps, apd_handle *outs, const apd_station *station,
+                                     uint16_t reason)
+{
+    if (!apd_are_three(link, maps, outs) || !station)
+        return APD_NULL;
+    return apd_c_link_kick(link, maps, outs, station, reason);
+}
+
+/* Ends a station's block acknowledgement agreement for a TID below 8. */
+static inline uint32_t apd_link_close(apd_handle *link, apd_handle *maps, apd_handle *outs, const apd_station *station,
+                                      uint8_t tid)
+{
+    if (!apd_are_three(link, maps, outs) || !station)
+        return APD_NULL;
+    return apd_c_link_close(link, maps, outs, station, tid);
+}
+
+/* How many outs a handle holds. */
+static inline size_t apd_outs(apd_handle *outs)
+{
+    return outs ? apd_c_outs(outs) : 0;
+}
+
+/* One of them, but for its bytes; of kind APD_NOTHING where there is none. */
+static inline apd_out apd_out_at(apd_handle *outs, size_t at)
+{
+    apd_out none = {APD_NOTHING, 0, {0}, {0}, 0, 0, 0, 0};
+    return outs ? apd_c_out(outs, at) : none;
+}
+
+/* Copies as many of its bytes as there is room for, and answers how many it has. With NULL it only tells. */
+static inline size_t apd_out_bytes(apd_handle *outs, size_t at, uint8_t *into, size_t room)
+{
+    uint8_t nothing[1];
+    if (!outs)
+        return 0;
+    return into ? apd_c_out_bytes(outs, at, into, room) : apd_c_out_bytes(outs, at, nothing, 0);
 }
 
 /* Frees what a handle holds, and leaves it empty. An empty one stays so. */

@@ -125,6 +125,19 @@ static void hostile_maps(void)
     WANT(apd_load(&maps, 0, 1).value, 0xffffffffU);
     WANT(apd_store(&maps, 0, 2, 1), APD_OUT_OF_LIMITS);
     WANT(apd_store(&maps, UINT32_MAX, 0, 1), APD_OUT_OF_LIMITS);
+    WANT(apd_fetch_add(&maps, 0, 1, 3).value, 0xffffffffU);
+    WANT(apd_exchange(&maps, 0, 1, 0x100000005ULL).value, 2);
+    WANT(apd_fetch_or(&maps, 0, 1, 8).value, 5);
+    WANT(apd_fetch_and(&maps, 0, 1, 12).value, 13);
+    WANT(apd_fetch_xor(&maps, 0, 1, 0x1fffffff0ULL).value, 12);
+    WANT(apd_compare_exchange(&maps, 0, 1, 0x1fffffffcULL, 0x300000007ULL).value, 0xfffffffcU);
+    WANT(apd_compare_exchange(&maps, 0, 1, 8, 9).value, 7);
+    WANT(apd_load(&maps, 0, 1).value, 7);
+    WANT(apd_load(&maps, 0, 0).value, 0);
+    WANT(apd_fetch_add(&maps, 0, 2, 1).number, APD_OUT_OF_LIMITS);
+    WANT(apd_fetch_or(&maps, 1, 0, 1).number, APD_OUT_OF_LIMITS);
+    WANT(apd_exchange(NULL, 0, 0, 1).number, APD_NULL);
+    WANT(apd_compare_exchange(&code, 0, 0, 0, 1).number, APD_OTHER_VALUE);
     WANT(apd_verify(&code, APD_DATA, adds, 72, &shape, 1).number, APD_OK);
     WANT(apd_run(&code, &maps, NULL, 0, &given).number, APD_OTHER_MAPS);
     WANT(apd_maps(&wide, &shape, 1, 0), APD_OK);
@@ -132,6 +145,9 @@ static void hostile_maps(void)
     WANT(apd_run(&code, &wide, NULL, 0, &given).r0, 14);
     WANT(apd_load(&wide, 0, 1).value, 14);
     WANT(apd_load(&wide, 0, 0).value, 0);
+    WANT(apd_fetch_add(&wide, 0, 1, UINT64_MAX).value, 14);
+    WANT(apd_compare_exchange(&wide, 0, 1, 13, UINT64_MAX).value, 13);
+    WANT(apd_load(&wide, 0, 1).value, UINT64_MAX);
     apd_free(&wide);
     apd_free(&maps);
     apd_free(&code);
@@ -160,6 +176,89 @@ static void many_notes(void)
     apd_free(&code);
 }
 
+static const apd_network lab = {{2, 0, 0, 0, 0, 1}, 3, "lab", 4, {0x82, 0x84, 0x8b, 0x96}};
+
+static void hostile_links(void)
+{
+    apd_handle link = APD_EMPTY, code = APD_EMPTY, other = APD_EMPTY, maps = APD_EMPTY;
+    apd_network named = lab, rated = lab, none = lab;
+    apd_shape shape = {1, 1, 8}, odd = {1, 1, 5};
+
+    named.name_length = 33;
+    rated.rate_count = 9;
+    none.rate_count = 0;
+    WANT(apd_link(NULL, &lab, NULL, 0), APD_NULL);
+    WANT(apd_link(&link, NULL, NULL, 0), APD_NULL);
+    WANT(apd_link(&link, &lab, NULL, 1), APD_NULL);
+    WANT(apd_link(&link, &named, NULL, 0), APD_OUT_OF_LIMITS);
+    WANT(apd_link(&link, &rated, NULL, 0), APD_OUT_OF_LIMITS);
+    WANT(apd_link(&link, &none, NULL, 0), APD_OUT_OF_LIMITS);
+    WANT(apd_link(&link, &lab, &odd, 1), APD_OUT_OF_LIMITS);
+    WANT(apd_link(&link, &lab, NULL, 0), APD_OK);
+    WANT(apd_link(&link, &lab, NULL, 0), APD_NOT_EMPTY);
+    WANT(apd_verify(&code, APD_ASSOC, seven, 16, NULL, 0).number, APD_OK);
+    WANT(apd_verify(&other, APD_DATA, seven, 16, &shape, 1).number, APD_OK);
+    WANT(apd_maps(&maps, NULL, 0, 0), APD_OK);
+    WANT(apd_link_load(&link, APD_ASSOC, NULL), APD_NULL);
+    WANT(apd_link_load(&link, APD_ASSOC, &link), APD_NULL);
+    WANT(apd_link_load(&link, 0, &code), APD_OUT_OF_LIMITS);
+    WANT(apd_link_load(&link, APD_DATA, &code), APD_OTHER_HOOK);
+    WANT(apd_link_load(&link, APD_DATA, &other), APD_OTHER_MAPS);
+    WANT(apd_link_load(&link, APD_DATA, &maps), APD_OTHER_VALUE);
+    WANT(apd_link_load(&maps, APD_ASSOC, &code), APD_OTHER_VALUE);
+    WANT(apd_budget(&code), 2);
+    WANT(apd_link_load(&link, APD_ASSOC, &code), APD_OK);
+    WANT(code.full, 0);
+    WANT(apd_link_load(&link, APD_ASSOC, &code), APD_OTHER_VALUE);
+    apd_free(&maps);
+    apd_free(&other);
+    apd_free(&link);
+}
+
+static void hostile_events(void)
+{
+    apd_handle link = APD_EMPTY, maps = APD_EMPTY, wide = APD_EMPTY, outs = APD_EMPTY;
+    apd_station station = {{2, 0, 0, 0, 0, 10}};
+    apd_shape shape = {1, 1, 8};
+    uint8_t frame[2401] = {0}, byte = 0xee;
+
+    WANT(apd_link(&link, &lab, NULL, 0), APD_OK);
+    WANT(apd_maps(&maps, NULL, 0, 0), APD_OK);
+    WANT(apd_maps(&wide, &shape, 1, 0), APD_OK);
+    WANT(apd_link_frame(&link, &maps, NULL, frame, 1), APD_NULL);
+    WANT(apd_link_frame(&link, &maps, &maps, frame, 1), APD_NULL);
+    WANT(apd_link_frame(&link, &link, &outs, frame, 1), APD_NULL);
+    WANT(apd_link_frame(&link, &maps, &outs, NULL, 1), APD_NULL);
+    WANT(apd_link_frame(&link, &maps, &outs, frame, 2401), APD_OUT_OF_LIMITS);
+    WANT(apd_link_frame(&link, &maps, &wide, frame, 1), APD_NOT_EMPTY);
+    WANT(apd_link_frame(&link, &wide, &outs, frame, 1), APD_OTHER_MAPS);
+    WANT(apd_link_frame(&maps, &link, &outs, frame, 1), APD_OTHER_VALUE);
+    WANT(apd_link_kick(&link, &maps, &outs, NULL, 1), APD_NULL);
+    WANT(apd_link_close(&link, &maps, &outs, &station, 8), APD_OUT_OF_LIMITS);
+    WANT(apd_outs(&outs), 0);
+    WANT(apd_link_frame(&link, &maps, &outs, NULL, 0), APD_OK);
+    WANT(apd_link_frame(&link, &maps, &outs, NULL, 0), APD_NOT_EMPTY);
+    WANT(apd_outs(&outs), 1);
+    WANT(apd_out_at(&outs, 0).kind, APD_NOTE);
+    WANT(apd_out_at(&outs, 0).note, 50);
+    WANT(apd_out_at(&outs, 1).kind, APD_NOTHING);
+    WANT(apd_out_at(&maps, 0).kind, APD_NOTHING);
+    WANT(apd_out_bytes(&outs, 0, &byte, 1), 0);
+    WANT(byte, 0xee);
+    apd_free(&outs);
+    WANT(apd_link_frame(&link, &maps, &outs, frame, 2400), APD_OK);
+    apd_free(&outs);
+    WANT(apd_link_kick(&link, &maps, &outs, &station, 1), APD_OK);
+    WANT(apd_out_at(&outs, 0).note, 63);
+    apd_free(&outs);
+    WANT(apd_link_tick(&link, &maps, &outs, UINT32_MAX), APD_OK);
+    WANT(apd_outs(&outs), 0);
+    apd_free(&outs);
+    apd_free(&wide);
+    apd_free(&maps);
+    apd_free(&link);
+}
+
 int main(void)
 {
     hostile_code();
@@ -167,6 +266,8 @@ int main(void)
     hostile_runs();
     hostile_maps();
     many_notes();
+    hostile_links();
+    hostile_events();
     if (!failed)
         printf("all as wanted\n");
     return failed;

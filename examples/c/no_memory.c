@@ -60,19 +60,80 @@ static int live(long refused)
     return ok ? left < 0 : -1;
 }
 
-int main(void)
+/* A frame in hex. */
+static size_t spelled(const char *hex, uint8_t *frame)
+{
+    size_t length = 0;
+
+    for (; hex[2 * length]; length++) {
+        char pair[3] = {hex[2 * length], hex[2 * length + 1], 0};
+        frame[length] = (uint8_t)strtoul(pair, NULL, 16);
+    }
+    return length;
+}
+
+/* What a station sends: it authenticates, associates, asks for an agreement, and leaves a gap in its data. */
+static const char *const frames[] = {
+    "b000000002000000000102000000000a0200000000011000000001000000",
+    "0000000002000000000102000000000a020000000001200001000a0000036c6162010482848b96",
+    "d000000002000000000102000000000a020000000001400003000702010a004006",
+    "8801000002000000000102000000000a0200000000ff700600006c617465",
+};
+
+/* An access point's life, in which the allocation of that number is refused: as above. */
+static int serve(long refused)
+{
+    static const apd_network lab = {{2, 0, 0, 0, 0, 1}, 3, "lab", 4, {0x82, 0x84, 0x8b, 0x96}};
+    apd_handle code = APD_EMPTY, link = APD_EMPTY, maps = APD_EMPTY, outs = APD_EMPTY;
+    uint8_t frame[APD_FRAME_MOST];
+    size_t count = 0;
+    left = -1;
+    int ok = !apd_maps(&maps, NULL, 0, 0) && !apd_verify(&code, APD_ASSOC, seven, 16, NULL, 0).number;
+
+    left = refused;
+    uint32_t number = apd_link(&link, &lab, NULL, 0);
+    if (ok && number)
+        ok = number == APD_NO_MEMORY && !link.full && !apd_link(&link, &lab, NULL, 0);
+    for (int at = 0; ok && at < 4; at++) {
+        size_t length = spelled(frames[at], frame);
+
+        number = apd_link_frame(&link, &maps, &outs, frame, length);
+        if (number)
+            ok = number == APD_NO_MEMORY && !outs.full && !apd_link_frame(&link, &maps, &outs, frame, length);
+        count += apd_outs(&outs);
+        apd_free(&outs);
+    }
+    number = apd_link_tick(&link, &maps, &outs, 10);
+    if (ok && number)
+        ok = number == APD_NO_MEMORY && !outs.full && !apd_link_tick(&link, &maps, &outs, 10);
+    count += apd_outs(&outs);
+    apd_free(&outs);
+    ok = ok && count == 5 && !apd_link_load(&link, APD_ASSOC, &code);
+    apd_free(&maps);
+    apd_free(&link);
+    apd_free(&code);
+    return ok ? left < 0 : -1;
+}
+
+static int try_each(int (*life)(long))
 {
     for (long refused = 0; refused < 10000; refused++) {
-        int was = live(refused);
+        int was = life(refused);
         if (was < 0) {
             printf("allocation %ld: another answer than is wanted\n", refused);
             return 1;
         }
-        if (was == 0) {
-            printf("all as wanted\n");
+        if (was == 0)
             return 0;
-        }
     }
     printf("no end\n");
     return 1;
+}
+
+int main(void)
+{
+    if (try_each(live) || try_each(serve))
+        return 1;
+    printf("all as wanted\n");
+    return 0;
 }

@@ -6,3 +6,6 @@ pub mod Code
 pub mod Words
 pub mod Runs
 pub mod Certificates
+pub mod Link
+pub mod Outs
+pub mod Events

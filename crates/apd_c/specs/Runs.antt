@@ -25,7 +25,7 @@ pub record RunsOn (a : Verified) (m : Maps) (frame : List ℕ) (g : Given) (repo
   pub notes : take report.count report.notes ≡ outcome.notes.items
   pub shapes : m'.shapes ≡ m.shapes
   pub tables : m'.tables ≡ m.tables
-  pub seats : m'.seats ≡ m.seats
+  pub hand : m'.hand ≡ m.hand
 
 -- the run over the maps that a handle holds
 abbrev pub HasRun : Verified → Option Content → List ℕ → Given → Report → Option Content → Type 0

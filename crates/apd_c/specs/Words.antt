@@ -1,7 +1,10 @@
 -- What C does with words of maps.
 use Rattle.std.specs.Prelude.{◌≡◌, ℕ, List, map, Option, Some, None}
-use Rattle.bpf_regions.specs.declared.maps.MapOp.TheVariants.{Load, Store}
-use Rattle.ap_tables.specs.Accesses.{Accesses}
+use Rattle.bpf_regions.specs.declared.asks.Ask.TheVariants.{Access}
+use Rattle.bpf_regions.specs.declared.maps.MapOp.{MapOp}
+use Rattle.bpf_model.specs.Run.{InRange}
+use Rattle.bpf_helpers.specs.Tables.{Tables}
+use Rattle.bpf_helpers.specs.Hooked as hooked
 use Rattle.apd_c.specs.declared.handle.Content.{Content}
 use Rattle.apd_c.specs.declared.handle.Content.TheVariants as content
 use Rattle.apd_c.specs.declared.maps.Maps.{Maps}
@@ -12,28 +15,24 @@ use Rattle.apd_c.specs.Given.{shape_of}
 abbrev pub HoldsMaps : List MapShape → ℕ → Option Content → Type 0
 HoldsMaps shapes draw o = (m : Maps) × (o ≡ Some (content.Maps m)) × (m.shapes ≡ map shape_of shapes) × (m.state.draw ≡ draw)
 
+-- what C reads of maps: their tables
+abbrev pub reads_of : List Tables → hooked.Given
+reads_of maps = record { maps = maps; worker = 0; clock = 0; stations = 0 }
+
 -- all but the seats of C is as it was
 pub record KeepsAll (m m' : Maps) : Type 0 where
   pub shapes : m'.shapes ≡ m.shapes
   pub tables : m'.tables ≡ m.tables
   pub state : m'.state ≡ m.state
 
--- one load of a word by the seat of C
-pub record IsLoaded (m : Maps) (at word value : ℕ) (m' : Maps) : Type 0 where
+-- One access to a word by the seat of C, in the legal history of the map's table. Its answer is in the word's range; a
+-- store's is 0.
+pub record IsAccessed (m : Maps) (at word : ℕ) (operation : MapOp) (answer : ℕ) (m' : Maps) : Type 0 where
   pub keeps : KeepsAll m m'
-  pub made : Accesses m.tables.maps m.seats at word Load value m'.seats
+  pub made : hooked.Gives (reads_of m.tables.maps) m.hand (Access at word operation) answer m'.hand
+  pub in_range : InRange m.shapes (Access at word operation) answer
 
--- one store of a number, mod 2^(8 * width), in a word by the seat of C
-pub record IsStored (m : Maps) (at word value : ℕ) (m' : Maps) : Type 0 where
-  pub keeps : KeepsAll m m'
-  pub made : Accesses m.tables.maps m.seats at word (Store value) 0 m'.seats
-
--- one load, where the handle holds maps
-abbrev pub HasLoaded : Option Content → ℕ → ℕ → ℕ → Option Content → Type 0
-HasLoaded o at word value o' =
-    (m : Maps) × (m' : Maps) × (o ≡ Some (content.Maps m)) × (o' ≡ Some (content.Maps m')) × IsLoaded m at word value m'
-
--- one store, where the handle holds maps
-abbrev pub HasStored : Option Content → ℕ → ℕ → ℕ → Option Content → Type 0
-HasStored o at word value o' =
-    (m : Maps) × (m' : Maps) × (o ≡ Some (content.Maps m)) × (o' ≡ Some (content.Maps m')) × IsStored m at word value m'
+-- one access, where the handle holds maps
+abbrev pub HasAccessed : Option Content → ℕ → ℕ → MapOp → ℕ → Option Content → Type 0
+HasAccessed o at word operation answer o' =
+    (m : Maps) × (m' : Maps) × (o ≡ Some (content.Maps m)) × (o' ≡ Some (content.Maps m')) × IsAccessed m at word operation answer m'

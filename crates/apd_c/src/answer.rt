@@ -19,6 +19,8 @@ pub(crate) const OTHER_VALUE: u32 = 91;
 pub(crate) const NOT_EMPTY: u32 = 92;
 /// The program is for maps of other shapes.
 pub(crate) const OTHER_MAPS: u32 = 93;
+/// The program was verified for another hook.
+pub(crate) const OTHER_HOOK: u32 = 95;
 /// Memory was refused.
 pub(crate) const NO_MEMORY: u32 = 40;
 

@@ -171,7 +171,7 @@ pub extern "C" fn apd_c_check(
 }
 
 /// Copies as many bytes as there is room for.
-fn copied(bytes: &[u8], into: &mut [u8])
+pub(crate) fn copied(bytes: &[u8], into: &mut [u8])
     ensures copied { take (min (length bytes.now) (length into.old)) into.new ≡
         take (min (length bytes.now) (length into.old)) bytes.now }
 {

@@ -8,6 +8,8 @@ ghost use Rattle.apd_c.specs.Holding.{holds, held_by};
 
 use crate::loose::Loose;
 use crate::maps::Maps;
+use ap_core::Out;
+use ap_single::AccessPoint;
 use bpf_machine::Accepted;
 use std::alloc::Global;
 use std::marker::Model;
@@ -23,6 +25,10 @@ pub enum Content {
     Maps(Maps),
     /// Bytes that C reads by `apd_c_read`.
     Bytes(Vec<u8>),
+    /// Eight shards and their programs.
+    Link(AccessPoint),
+    /// What came out of an event.
+    Outs(Vec<Out>),
 }
 
 /// What C sees of a content: an address.

@@ -1,27 +1,40 @@
 //! The library for C programs: exports, which `include/apd.h` declares.
 //!
-//! Main calls: `apd_c_verify`, `apd_c_run`, `apd_c_certify` and `apd_c_check`. It stands on `bpf_verifier`, `bpf_cert`,
-//! `bpf_machine` and `ap_tables`. Each export calls a function of those and states its clauses again. C keeps what it is
-//! given in a `Handle`, which is empty or owns one value; a call that finds another value in it than it asks for answers
-//! 91 and leaves it.
+//! Main calls: `apd_c_verify`, `apd_c_run`, `apd_c_certify`, `apd_c_check` and `apd_c_link_frame`. It stands on
+//! `bpf_verifier`, `bpf_cert`, `bpf_machine`, `ap_tables` and `ap_single`. Each export calls a function of those and states
+//! its clauses again. C keeps what it is given in a `Handle`, which is empty or owns one value; a call that finds another
+//! value in it than it asks for answers 91 and leaves it.
 #![tactic(auto)]
 
 mod answer;
+mod atomics;
 mod certificates;
 mod code;
+mod events;
 mod handle;
 mod keeping;
+mod link;
+mod loads;
 mod loose;
 mod maps;
+mod outs;
 mod runs;
 mod shapes;
 mod words;
 
 pub use answer::Answer;
+pub use atomics::{
+    apd_c_compare_exchange, apd_c_exchange, apd_c_fetch_add, apd_c_fetch_and, apd_c_fetch_or,
+    apd_c_fetch_xor,
+};
 pub use certificates::{apd_c_certify, apd_c_check, apd_c_read};
 pub use code::{apd_c_budget, apd_c_verify};
+pub use events::{Station, apd_c_link_close, apd_c_link_frame, apd_c_link_kick, apd_c_link_tick};
 pub use handle::Handle;
 pub use keeping::apd_c_free;
+pub use link::{Network, apd_c_link};
+pub use loads::apd_c_link_load;
+pub use outs::{OutHead, apd_c_out, apd_c_out_bytes, apd_c_outs};
 pub use runs::{Given, Report, apd_c_run};
 pub use shapes::MapShape;
 pub use words::{Loaded, apd_c_load, apd_c_maps, apd_c_store};

@@ -2,9 +2,8 @@
 
 ghost use Rattle.std.specs.Prelude.{◌≡◌, ◌≢◌, ◌≤◌, ◌⊎◌, map, None, Some, IfOk, IfErr, IfSome};
 ghost use Rattle.bpf_helpers.specs.Hooked.{IsFitting, shapes_of};
-ghost use Rattle.ap_tables.specs.Stocks.{AreOperators};
 
-use ap_tables::{ApTables, OperatorSeats, operators_law};
+use ap_tables::ApTables;
 use bpf_helpers::{WorkerState, tables_law};
 use bpf_regions::Shapes;
 use shared_maps::MapFault;
@@ -16,10 +15,10 @@ pub struct Maps {
     pub shapes: Shapes,
     pub tables: ApTables,
     pub state: WorkerState,
-    pub seats: OperatorSeats,
+    pub hand: WorkerState,
     pub ghost for_maps: { shapes ≡ shapes_of tables.maps },
     pub ghost fitting: { IsFitting tables.maps 0 state.seats },
-    pub ghost own: { AreOperators tables.maps seats },
+    pub ghost own: { IsFitting tables.maps 0 hand.seats },
 }
 
 impl Maps {
@@ -28,16 +27,15 @@ impl Maps {
         ensures shapes { IfOk result (λ m. m.shapes ≡ shapes) }
         ensures draw { IfOk result (λ m. m.state.draw ≡ draw) }
     {
-        operators_law();
         tables_law();
         let mut tables = ApTables::new(alloc, &shapes, 1)?;
-        let seats = tables.operator(alloc)?;
+        let hand = tables.worker(alloc, 0, 0)?;
         let state = tables.worker(alloc, 0, draw)?;
         Ok(Maps {
             shapes,
             tables,
             state,
-            seats,
+            hand,
         })
     }
 }

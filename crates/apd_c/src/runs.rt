@@ -67,7 +67,7 @@ fn reported(outcome: &Outcome) -> Report
     }
 }
 
-fn are_alike(shapes: &[Shape], others: &[Shape]) -> bool
+pub(crate) fn are_alike(shapes: &[Shape], others: &[Shape]) -> bool
     ensures { IsTrue result ↔ (shapes.now ≡ others.now) }
 {
     shapes == others
@@ -95,7 +95,7 @@ fn run_on(accepted: &Accepted, maps: Maps, frame: &[u8], given: &Given) -> (Maps
         shapes,
         tables,
         mut state,
-        seats,
+        hand,
     } = maps;
     let view = WorkerView {
         maps: tables.maps(),
@@ -110,7 +110,7 @@ fn run_on(accepted: &Accepted, maps: Maps, frame: &[u8], given: &Given) -> (Maps
         shapes,
         tables,
         state,
-        seats,
+        hand,
     };
     return (after, report);
 }

@@ -1,16 +1,23 @@
 //! What C does with words of maps.
 
-ghost use Rattle.std.specs.Prelude.{◌≡◌, ◌≢◌, ◌⊎◌, map, Some, None, IfSome, IfOk, IfErr};
+ghost use Rattle.std.specs.Prelude.{◌≡◌, ◌≢◌, ◌<◌, map, slice_get, Some, None, IsTrue, IfSome, IfOk, IfErr};
+ghost use Rattle.bpf_regions.specs.declared.asks.Ask.TheVariants.{Access};
+ghost use Rattle.bpf_regions.specs.declared.maps.MapOp.TheVariants.{Load, Store};
+ghost use Rattle.bpf_model.specs.Run.{InRange, words_in};
+ghost use Rattle.bpf_helpers.specs.Hooked.{Gives, IsFitting, shapes_of};
 ghost use Rattle.apd_c.specs.declared.handle.Content.TheVariants.{Maps as MapsContent};
 ghost use Rattle.apd_c.specs.Held.{held};
 ghost use Rattle.apd_c.specs.Given.{shape_of};
-ghost use Rattle.apd_c.specs.Words.{IsLoaded, IsStored, HoldsMaps, HasLoaded, HasStored};
+ghost use Rattle.apd_c.specs.Words.{HasAccessed, HoldsMaps, IsAccessed, reads_of};
 
 use crate::answer::{NO_MEMORY, NOT_EMPTY, OTHER_VALUE, OUT_OF_LIMITS};
 use crate::handle::{Content, Handle};
 use crate::maps::Maps;
 use crate::shapes::{MapShape, shapes_from};
-use bpf_regions::Scope;
+use ap_tables::ApTables;
+use bpf_helpers::{HookPort, MapTables, WorkerState, WorkerView};
+use bpf_regions::{MapOp, Scope};
+use bpf_tagged::Port;
 use std::alloc::Global;
 
 /// A word that was loaded, or why none was.
@@ -56,52 +63,76 @@ pub(crate) fn put_maps(handle: &mut Handle, boxed: Box<Content>, maps: Maps)
     handle.put(boxed);
 }
 
-/// The word, if a map has it.
-fn load(maps: Maps, at: u32, word: u32) -> (Maps, Loaded)
-    ensures loaded { result.1.number ≡ 0 → IsLoaded maps at word result.1.value result.0 }
+/// Whether there is a map of that number, and the word is one of its words.
+fn has_word(tables: &ApTables, map: u32, word: u32) -> bool
+    ensures { IsTrue result → word < words_in (slice_get (shapes_of tables.now.maps) map) }
+{
+    tables.has_word(Scope::Shared, map as usize, word)
+}
+
+/// One access to a word, by the seats of C.
+fn ask(maps: &[MapTables], hand: &mut WorkerState, map: u32, word: u32, operation: MapOp) -> u64
+    requires there { word < words_in (slice_get (shapes_of maps.now) map) }
+    requires fitting { IsFitting maps.now 0 hand.old.seats }
+    ensures made { Gives (reads_of maps.now) hand.old (Access map word operation) result hand.new }
+    ensures in_range { InRange (shapes_of maps.now) (Access map word operation) result }
+    ensures fitting { IsFitting maps.now 0 hand.new.seats }
+{
+    let view = WorkerView {
+        maps,
+        worker: 0,
+        clock: 0,
+        stations: 0,
+    };
+    let mut port = HookPort { view, state: hand };
+    port.access(map, word, operation)
+}
+
+/// One access to a word, if a map has it.
+fn access(maps: Maps, at: u32, word: u32, operation: MapOp) -> (Maps, Loaded)
+    ensures made { result.1.number ≡ 0 →
+        IsAccessed maps at word operation result.1.value result.0 }
     ensures refused { result.1.number ≢ 0 → result.0 ≡ maps }
 {
-    if !maps.tables.has_word(Scope::Shared, at as usize, word) {
+    if !has_word(&maps.tables, at, word) {
         return (maps, Loaded::refused(OUT_OF_LIMITS));
     }
     let Maps {
         shapes,
         tables,
         state,
-        mut seats,
+        mut hand,
     } = maps;
-    let value = tables.read(&mut seats, at as usize, word);
+    let value = ask(tables.maps(), &mut hand, at, word, operation);
     let after = Maps {
         shapes,
         tables,
         state,
-        seats,
+        hand,
     };
     return (after, Loaded { number: 0, value });
 }
 
-/// Stores a number in the word, if a map has it.
-fn store(maps: Maps, at: u32, word: u32, value: u64) -> (Maps, u32)
-    ensures stored { result.1 ≡ 0 → IsStored maps at word value result.0 }
-    ensures refused { result.1 ≢ 0 → result.0 ≡ maps }
+/// One access to a word of the maps that a handle holds.
+pub(crate) fn access_at(
+    alloc: Global,
+    maps: &mut Handle,
+    map: u32,
+    word: u32,
+    operation: MapOp,
+) -> Loaded
+    ensures made { result.number ≡ 0 →
+        HasAccessed (held maps.old) map word operation result.value (held maps.new) }
+    ensures kept { result.number ≢ 0 → held maps.new ≡ held maps.old }
 {
-    if !maps.tables.has_word(Scope::Shared, at as usize, word) {
-        return (maps, OUT_OF_LIMITS);
+    match take_maps(alloc, maps) {
+        None => return Loaded::refused(OTHER_VALUE),
+        Some((boxed, words)) => {
+            let (words, loaded) = access(words, map, word, operation);
+            put_maps(maps, boxed, words);
+            return loaded;
+        }
     }
-    let Maps {
-        shapes,
-        tables,
-        state,
-        mut seats,
-    } = maps;
-    tables.store(&mut seats, at as usize, word, value);
-    let after = Maps {
-        shapes,
-        tables,
-        state,
-        seats,
-    };
-    return (after, 0);
 }
 
 /// Maps of words 0, as C tells them.
@@ -153,17 +184,10 @@ pub extern "C" fn apd_c_maps(
 #[unsafe(no_mangle)]
 pub extern "C" fn apd_c_load(alloc: Global, maps: &mut Handle, map: u32, word: u32) -> Loaded
     ensures loaded { result.number ≡ 0 →
-        HasLoaded (held maps.old) map word result.value (held maps.new) }
+        HasAccessed (held maps.old) map word Load result.value (held maps.new) }
     ensures kept { result.number ≢ 0 → held maps.new ≡ held maps.old }
 {
-    match take_maps(alloc, maps) {
-        None => return Loaded::refused(OTHER_VALUE),
-        Some((boxed, words)) => {
-            let (words, loaded) = load(words, map, word);
-            put_maps(maps, boxed, words);
-            return loaded;
-        }
-    }
+    access_at(alloc, maps, map, word, MapOp::Load)
 }
 
 /// One store of a number, mod 2^(8 * width), in a word of a map.
@@ -178,15 +202,8 @@ pub extern "C" fn apd_c_store(
     value: u64,
 ) -> u32
     ensures stored { result ≡ 0 →
-        HasStored (held maps.old) map word value (held maps.new) }
+        HasAccessed (held maps.old) map word (Store value) 0 (held maps.new) }
     ensures kept { result ≢ 0 → held maps.new ≡ held maps.old }
 {
-    match take_maps(alloc, maps) {
-        None => return OTHER_VALUE,
-        Some((boxed, words)) => {
-            let (words, number) = store(words, map, word, value);
-            put_maps(maps, boxed, words);
-            return number;
-        }
-    }
+    access_at(alloc, maps, map, word, MapOp::Store(value)).number
 }

@@ -1,0 +1,133 @@
+//! Eight shards and programs.
+
+ghost use Rattle.std.specs.Prelude.{◌≡◌, ℕ, length, None, Some, ◌∷◌, [], IfOk, IfSome};
+ghost use Rattle.std.specs.Option.{option_map};
+ghost use Rattle.bpf_helpers.specs.Hooked.{IsFitting, shapes_of};
+ghost use Rattle.bpf_helpers.specs.HookPorts.{given_by};
+ghost use Rattle.ap_model.specs.AccessPoint.{shard_of};
+ghost use Rattle.ap_core.specs.Shards.{reads};
+ghost use Rattle.ap_core.specs.AccessPoints.{readings_of, outs_in, AreFresh};
+ghost use Rattle.program_judge.specs.Programs.{IsFor, no_programs, replaced};
+ghost use Rattle.ap_single.specs.Leading.{IsGiven, IsLike, Leads};
+
+use ap_core::{Event, LinkConfig, Out, Shard, handle_all, new_shards, shard_of};
+use bpf_helpers::{MapTables, WorkerState, WorkerView};
+use bpf_machine::Accepted;
+use bpf_regions::{Hook, Shapes};
+use program_judge::{ProgramJudge, Programs, judged_law};
+use std::alloc::{AllocError, Global};
+use std::marker::Model;
+
+/// Eight shards, each at the place of its number, and for each hook a program or none.
+#[derive(Drop)]
+pub struct AccessPoint {
+    shards: [Shard; 8],
+    programs: Programs,
+}
+
+impl Model for AccessPoint {
+    ghost use Rattle.ap_model.specs.AccessPoint.{InPlace};
+    ghost use Rattle.ap_core.specs.AccessPoints.{rules_of};
+    ghost use Rattle.ap_single.specs.Leading.{Parts};
+
+    ghost Value = { Parts };
+
+    ghost view = { λ a. record { shards = a.shards; programs = a.programs } };
+
+    ghost invariant = { λ a. InPlace (rules_of a.shards) };
+}
+
+/// What programs read, of this shard.
+fn view_of<'t>(shard: &Shard, maps: &'t [MapTables]) -> WorkerView<'t>
+    ensures maps { result.maps ≡ maps.entry }
+    ensures given { IsGiven maps.now (reads shard.now) (given_by result) }
+{
+    WorkerView {
+        maps,
+        worker: 0,
+        clock: shard.clock(),
+        stations: shard.stations(),
+    }
+}
+
+/// What programs read, of the shard that an event concerns.
+fn view_at<'t>(shards: &[Shard; 8], event: &Event, maps: &'t [MapTables]) -> WorkerView<'t>
+    ensures maps { result.maps ≡ maps.entry }
+    ensures worker { result.worker ≡ 0 }
+    ensures given { (s : ℕ) → shard_of event.now ≡ Some s →
+        IsGiven maps.now (readings_of shards.now s) (given_by result) }
+{
+    match shard_of(event) {
+        Some(at) => view_of(&shards[at], maps),
+        None => view_of(&shards[0], maps),
+    }
+}
+
+/// The one result of a list.
+fn only(results: Vec<Option<Vec<Out>>>) -> Option<Vec<Out>>
+    requires { length (outs_in results.items) ≡ 1 }
+    ensures { outs_in results.items ≡ option_map (λ outs. outs.items) result ∷ [] }
+{
+    let mut results = results;
+    match results.pop() {
+        Some(result) => result,
+        None => None,
+    }
+}
+
+impl AccessPoint {
+    /// An access point that has handled nothing and has no programs yet, for maps of these shapes.
+    pub fn new(alloc: Global, config: &LinkConfig, shapes: Shapes) -> Result<Self, AllocError>
+        ensures fresh { IfOk result (λ a. AreFresh config.now a.shards) }
+        ensures programs { IfOk result (λ a. a.programs ≡ no_programs shapes) }
+    {
+        let shards = new_shards(alloc, config)?;
+        let programs = Programs::none(shapes);
+        Ok(AccessPoint { shards, programs })
+    }
+
+    /// The shapes of the maps over which the programs run.
+    pub fn shapes(&self) -> &Shapes
+        ensures { result.now ≡ self.now.programs.shapes }
+    {
+        self.programs.shapes()
+    }
+
+    /// Has this program for a hook, or none, in place of the one that was there.
+    pub fn put(&mut self, hook: Hook, program: Option<Accepted>)
+        requires fits { IfSome program (IsFor self.old.programs.shapes hook) }
+        ensures programs { self.new.programs ≡ replaced hook self.old.programs program }
+        ensures shards { self.new.shards ≡ self.old.shards }
+    {
+        self.programs.put(hook, program);
+    }
+
+    /// Handles an event at the shards that it concerns, as `ap_core::handle_all` does, judged by the programs over these
+    /// maps. None where it is refused for memory, which leaves all as it was.
+    pub fn handle(
+        &mut self,
+        alloc: Global,
+        event: Event,
+        maps: &[MapTables],
+        state: &mut WorkerState,
+    ) -> Option<Vec<Out>>
+        requires for_maps { self.old.programs.shapes ≡ shapes_of maps.now }
+        requires fitting { IsFitting maps.now 0 state.old.seats }
+        ensures led { Leads self.old event maps.now state.old
+            (option_map (λ outs. outs.items) result) self.new state.new }
+        ensures refused { result ≡ None → IsLike self.old self.new × (state.new ≡ state.old) }
+        ensures fitting { IsFitting maps.now 0 state.new.seats }
+    {
+        judged_law();
+        let view = view_at(&self.shards, &event, maps);
+        let events = [event];
+        let mut judge = ProgramJudge::new(&self.programs, view, state);
+        match handle_all(alloc, &mut self.shards, &events, &mut judge) {
+            Err(_) => return None,
+            Ok(results) => {
+                let result = only(results);
+                return result;
+            }
+        }
+    }
+}

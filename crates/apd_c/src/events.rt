@@ -1,0 +1,253 @@
+//! Events at access points that C has.
+
+ghost use Rattle.std.specs.Prelude.{◌≡◌, ◌≢◌, Some, IfOk, IfErr, OnErr};
+ghost use Rattle.ap_model.specs.declared.event.Event.TheVariants as event;
+ghost use Rattle.ap_single.specs.Leading.{IsLike};
+ghost use Rattle.apd_c.specs.Held.{held};
+ghost use Rattle.apd_c.specs.Events.{HasLed, HasLedTo, IsLed, IsSame, LeadsTo, Stays};
+
+use crate::answer::{NO_MEMORY, NOT_EMPTY, OTHER_MAPS, OTHER_VALUE, OUT_OF_LIMITS};
+use crate::handle::{Content, Handle};
+use crate::maps::Maps;
+use crate::runs::are_alike;
+use crate::words::{put_maps, take_maps};
+use ap_core::{Event, Octets, Out};
+use ap_single::AccessPoint;
+use mac_types::{Address, Reason, Tid};
+use std::alloc::Global;
+
+/// A station, by its address.
+#[repr(C)]
+#[derive(Clone, Copy)]
+pub struct Station {
+    pub octets: [u8; 6],
+}
+
+/// An event, judged over these maps.
+fn lead(
+    alloc: Global,
+    access_point: &mut AccessPoint,
+    maps: Maps,
+    event: Event,
+) -> (Maps, Result<Vec<Out>, u32>)
+    ensures ok { IfOk result.1 (λ outs.
+        IsLed access_point.old maps event outs.items access_point.new result.0) }
+    ensures err { IfErr result.1 (λ number. number ≢ 0) }
+    ensures kept { OnErr result.1 (IsLike access_point.old access_point.new × IsSame maps result.0) }
+{
+    if !are_alike(access_point.shapes().as_slice(), maps.shapes.as_slice()) {
+        return (maps, Err(OTHER_MAPS));
+    }
+    let Maps {
+        shapes,
+        tables,
+        mut state,
+        hand,
+    } = maps;
+    let outs = access_point.handle(alloc, event, tables.maps(), &mut state);
+    let after = Maps {
+        shapes,
+        tables,
+        state,
+        hand,
+    };
+    match outs {
+        None => return (after, Err(NO_MEMORY)),
+        Some(outs) => return (after, Ok(outs)),
+    }
+}
+
+/// The same where a content is an access point.
+fn lead_in(
+    alloc: Global,
+    content: &mut Content,
+    maps: Maps,
+    event: Event,
+) -> (Maps, Result<Vec<Out>, u32>)
+    ensures ok { IfOk result.1 (λ outs.
+        HasLed (Some content.old) maps event outs.items (Some content.new) result.0) }
+    ensures err { IfErr result.1 (λ number. number ≢ 0) }
+    ensures kept { OnErr result.1 (Stays (Some content.old) (Some content.new) × IsSame maps result.0) }
+{
+    match content {
+        Content::Link(access_point) => {
+            let (maps, result) = lead(alloc, access_point, maps, event);
+            return (maps, result);
+        }
+        _ => return (maps, Err(OTHER_VALUE)),
+    }
+}
+
+/// The same where a handle holds an access point.
+fn lead_at(
+    alloc: Global,
+    link: &mut Handle,
+    maps: Maps,
+    event: Event,
+) -> (Maps, Result<Vec<Out>, u32>)
+    ensures ok { IfOk result.1 (λ outs.
+        HasLed (held link.old) maps event outs.items (held link.new) result.0) }
+    ensures err { IfErr result.1 (λ number. number ≢ 0) }
+    ensures kept { OnErr result.1 (Stays (held link.old) (held link.new) × IsSame maps result.0) }
+{
+    match link.take(alloc) {
+        None => return (maps, Err(OTHER_VALUE)),
+        Some(mut content) => {
+            let (maps, result) = lead_in(alloc, &mut content, maps, event);
+            link.put(content);
+            return (maps, result);
+        }
+    }
+}
+
+/// The same over the maps that a handle holds.
+fn lead_over(
+    alloc: Global,
+    link: &mut Handle,
+    maps: &mut Handle,
+    event: Event,
+) -> Result<Vec<Out>, u32>
+    ensures ok { IfOk result (λ outs.
+        HasLedTo event (held link.old) (held maps.old) outs.items (held link.new) (held maps.new)) }
+    ensures err { IfErr result (λ number. number ≢ 0) }
+    ensures kept { OnErr result (Stays (held link.old) (held link.new) × Stays (held maps.old) (held maps.new)) }
+{
+    match take_maps(alloc, maps) {
+        None => return Err(OTHER_VALUE),
+        Some((boxed, words)) => {
+            let (words, result) = lead_at(alloc, link, words, event);
+            put_maps(maps, boxed, words);
+            return result;
+        }
+    }
+}
+
+/// The same; an empty handle is filled with what came out. Its box is made first.
+fn lead_to(
+    alloc: Global,
+    link: &mut Handle,
+    maps: &mut Handle,
+    outs: &mut Handle,
+    event: Event,
+) -> u32
+    ensures led { result ≡ 0 → LeadsTo event (held link.old) (held maps.old)
+        (held outs.new) (held link.new) (held maps.new) }
+    ensures link { result ≢ 0 → Stays (held link.old) (held link.new) }
+    ensures maps { result ≢ 0 → Stays (held maps.old) (held maps.new) }
+    ensures outs { result ≢ 0 → held outs.new ≡ held outs.old }
+{
+    if let Some(content) = outs.take(alloc) {
+        outs.put(content);
+        return NOT_EMPTY;
+    }
+    match Box::new(alloc, Content::Nothing) {
+        Err(_) => return NO_MEMORY,
+        Ok(mut boxed) => match lead_over(alloc, link, maps, event) {
+            Err(number) => return number,
+            Ok(list) => {
+                drop(Box::replace(&mut boxed, Content::Outs(list)));
+                outs.put(boxed);
+                return 0;
+            }
+        },
+    }
+}
+
+/// A frame of at most 2400 bytes, without its FCS, comes to an access point. Its programs run over the maps that a handle
+/// holds. An empty handle is filled with what comes out.
+///
+/// 0: the outs are there. 40: memory was refused. 90: the frame is longer. 91: a handle doesn't hold what it is asked for.
+/// 92: the handle of the outs isn't empty. 93: the access point is for maps of other shapes. All but 0 leave all as it was.
+#[unsafe(no_mangle)]
+pub extern "C" fn apd_c_link_frame(
+    alloc: Global,
+    link: &mut Handle,
+    maps: &mut Handle,
+    outs: &mut Handle,
+    bytes: &[u8],
+) -> u32
+    ensures led { result ≡ 0 → LeadsTo (event.Frame bytes.now) (held link.old) (held maps.old)
+        (held outs.new) (held link.new) (held maps.new) }
+    ensures link { result ≢ 0 → Stays (held link.old) (held link.new) }
+    ensures maps { result ≢ 0 → Stays (held maps.old) (held maps.new) }
+    ensures outs { result ≢ 0 → held outs.new ≡ held outs.old }
+{
+    if bytes.len() > 2400 {
+        return OUT_OF_LIMITS;
+    }
+    match Octets::copy(alloc, bytes) {
+        Err(_) => return NO_MEMORY,
+        Ok(octets) => {
+            let number = lead_to(alloc, link, maps, outs, Event::Frame(octets));
+            return number;
+        }
+    }
+}
+
+/// As many units of time pass at all eight shards, or at none. The rest is as of `apd_c_link_frame`.
+#[unsafe(no_mangle)]
+pub extern "C" fn apd_c_link_tick(
+    alloc: Global,
+    link: &mut Handle,
+    maps: &mut Handle,
+    outs: &mut Handle,
+    units: u32,
+) -> u32
+    ensures led { result ≡ 0 → LeadsTo (event.Tick units) (held link.old) (held maps.old)
+        (held outs.new) (held link.new) (held maps.new) }
+    ensures link { result ≢ 0 → Stays (held link.old) (held link.new) }
+    ensures maps { result ≢ 0 → Stays (held maps.old) (held maps.new) }
+    ensures outs { result ≢ 0 → held outs.new ≡ held outs.old }
+{
+    lead_to(alloc, link, maps, outs, Event::Tick(units))
+}
+
+/// The operator sends a station away with a reason code. The rest is as of `apd_c_link_frame`.
+#[unsafe(no_mangle)]
+pub extern "C" fn apd_c_link_kick(
+    alloc: Global,
+    link: &mut Handle,
+    maps: &mut Handle,
+    outs: &mut Handle,
+    station: &Station,
+    reason: u16,
+) -> u32
+    ensures led { result ≡ 0 → LeadsTo (event.Kick station.now.octets reason) (held link.old) (held maps.old)
+        (held outs.new) (held link.new) (held maps.new) }
+    ensures link { result ≢ 0 → Stays (held link.old) (held link.new) }
+    ensures maps { result ≢ 0 → Stays (held maps.old) (held maps.new) }
+    ensures outs { result ≢ 0 → held outs.new ≡ held outs.old }
+{
+    let kick = Event::Kick {
+        station: Address::new(station.octets),
+        reason: Reason::new(reason),
+    };
+    lead_to(alloc, link, maps, outs, kick)
+}
+
+/// The operator ends a station's agreement for a TID below 8; 90 where it isn't below. The rest is as of
+/// `apd_c_link_frame`.
+#[unsafe(no_mangle)]
+pub extern "C" fn apd_c_link_close(
+    alloc: Global,
+    link: &mut Handle,
+    maps: &mut Handle,
+    outs: &mut Handle,
+    station: &Station,
+    tid: u8,
+) -> u32
+    ensures led { result ≡ 0 → LeadsTo (event.Close station.now.octets tid) (held link.old) (held maps.old)
+        (held outs.new) (held link.new) (held maps.new) }
+    ensures link { result ≢ 0 → Stays (held link.old) (held link.new) }
+    ensures maps { result ≢ 0 → Stays (held maps.old) (held maps.new) }
+    ensures outs { result ≢ 0 → held outs.new ≡ held outs.old }
+{
+    let Some(tid) = Tid::new(tid) else {
+        return OUT_OF_LIMITS;
+    };
+    let close = Event::Close {
+        station: Address::new(station.octets),
+        tid,
+    };
+    lead_to(alloc, link, maps, outs, close)
+}

@@ -1,0 +1,132 @@
+//! Programs by which access points judge.
+
+ghost use Rattle.std.specs.Prelude.{◌≡◌, ◌≢◌, Some, None, IfSome, OnOk, IfErr, OnErr};
+ghost use Rattle.bpf_regions.specs.declared.hooks.Hook.{Hook as AHook};
+ghost use Rattle.bpf_regions.specs.Hooks.{number_of};
+ghost use Rattle.bpf_machine.specs.Verified.{Verified};
+ghost use Rattle.apd_c.specs.declared.handle.Content.TheVariants.{Code as CodeContent};
+ghost use Rattle.apd_c.specs.Held.{held};
+ghost use Rattle.apd_c.specs.Link.{HasPut, Puts};
+
+use crate::answer::{OTHER_HOOK, OTHER_MAPS, OTHER_VALUE, OUT_OF_LIMITS};
+use crate::code::hook_of;
+use crate::handle::{Content, Handle};
+use crate::runs::are_alike;
+use ap_single::AccessPoint;
+use bpf_machine::Accepted;
+use bpf_regions::Hook;
+use std::alloc::Global;
+
+/// The program that a handle holds, and the box in which it stood; the handle is empty then.
+fn take_code(alloc: Global, handle: &mut Handle) -> Option<(Box<Content>, Accepted)>
+    ensures some { IfSome result (λ t. held handle.old ≡ Some (CodeContent t.1)) }
+    ensures emptied { IfSome result (λ t. held handle.new ≡ None) }
+    ensures none { result ≡ None → held handle.new ≡ held handle.old }
+{
+    match handle.take(alloc) {
+        None => return None,
+        Some(mut boxed) => match Box::replace(&mut boxed, Content::Nothing) {
+            Content::Code(accepted) => return Some((boxed, accepted)),
+            other => {
+                drop(Box::replace(&mut boxed, other));
+                handle.put(boxed);
+                return None;
+            }
+        },
+    }
+}
+
+/// Has the program, if it is for that hook and for the access point's maps.
+fn put(
+    access_point: &mut AccessPoint,
+    hook: Hook,
+    accepted: Accepted,
+) -> Result<(), (u32, Accepted)>
+    ensures ok { OnOk result (Puts hook accepted access_point.old access_point.new) }
+    ensures err { OnErr result (access_point.new ≡ access_point.old) }
+    ensures back { IfErr result (λ e. (e.0 ≢ 0) × (e.1 ≡ accepted)) }
+{
+    if accepted.hook() != hook {
+        return Err((OTHER_HOOK, accepted));
+    }
+    if !are_alike(
+        access_point.shapes().as_slice(),
+        accepted.program().shapes().as_slice(),
+    ) {
+        return Err((OTHER_MAPS, accepted));
+    }
+    access_point.put(hook, Some(accepted));
+    return Ok(());
+}
+
+/// The same where a content is an access point.
+fn put_in(content: &mut Content, hook: Hook, accepted: Accepted) -> Result<(), (u32, Accepted)>
+    ensures ok { OnOk result (HasPut hook accepted (Some content.old) (Some content.new)) }
+    ensures err { OnErr result (content.new ≡ content.old) }
+    ensures back { IfErr result (λ e. (e.0 ≢ 0) × (e.1 ≡ accepted)) }
+{
+    match content {
+        Content::Link(access_point) => {
+            let done = put(access_point, hook, accepted);
+            return done;
+        }
+        _ => return Err((OTHER_VALUE, accepted)),
+    }
+}
+
+/// The same where a handle holds an access point.
+fn put_at(
+    alloc: Global,
+    link: &mut Handle,
+    hook: u32,
+    accepted: Accepted,
+) -> Result<(), (u32, Accepted)>
+    ensures ok { OnOk result ((h : AHook) × (hook ≡ number_of h) × HasPut h accepted (held link.old) (held link.new)) }
+    ensures err { OnErr result (held link.new ≡ held link.old) }
+    ensures back { IfErr result (λ e. (e.0 ≢ 0) × (e.1 ≡ accepted)) }
+{
+    let Some(hook) = hook_of(hook) else {
+        return Err((OUT_OF_LIMITS, accepted));
+    };
+    match link.take(alloc) {
+        None => return Err((OTHER_VALUE, accepted)),
+        Some(mut content) => {
+            let done = put_in(&mut content, hook, accepted);
+            link.put(content);
+            return done;
+        }
+    }
+}
+
+/// Takes the program out of a handle, and has an access point judge by it on this hook (1 association, 2 addba, 3 data),
+/// in place of the program that was there.
+///
+/// 0: it judges by it, and the program's handle is empty. 90: no such hook. 91: a handle doesn't hold what it is asked for.
+/// 93: the program is for maps of other shapes. 95: it was verified for another hook. All but 0 leave both handles as they
+/// were. It takes no memory.
+#[unsafe(no_mangle)]
+pub extern "C" fn apd_c_link_load(
+    alloc: Global,
+    link: &mut Handle,
+    hook: u32,
+    code: &mut Handle,
+) -> u32
+    ensures loaded { result ≡ 0 → (h : AHook) × (hook ≡ number_of h)
+        × (a : Verified) × (held code.old ≡ Some (CodeContent a)) × HasPut h a (held link.old) (held link.new) }
+    ensures emptied { result ≡ 0 → held code.new ≡ None }
+    ensures link { result ≢ 0 → held link.new ≡ held link.old }
+    ensures code { result ≢ 0 → held code.new ≡ held code.old }
+{
+    match take_code(alloc, code) {
+        None => return OTHER_VALUE,
+        Some((boxed, accepted)) => match put_at(alloc, link, hook, accepted) {
+            Ok(()) => return 0,
+            Err((number, accepted)) => {
+                let mut boxed = boxed;
+                drop(Box::replace(&mut boxed, Content::Code(accepted)));
+                code.put(boxed);
+                return number;
+            }
+        },
+    }
+}

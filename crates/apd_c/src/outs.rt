@@ -1,0 +1,168 @@
+//! What came out of an event, as C reads it.
+
+ghost use Rattle.std.specs.Prelude.{◌≡◌, Some, length, min, slice_get, take};
+ghost use Rattle.apd_c.specs.Held.{held};
+ghost use Rattle.apd_c.specs.Outs.{body_of, head_of, nothing_out, outs_of, up_head};
+
+use crate::certificates::copied;
+use crate::handle::{Content, Handle};
+use ap_core::{Out, Up};
+use std::alloc::Global;
+
+/// What came out, but for its bytes. The kind is 1 for a frame to be sent, 2 for data to be passed up, 3 for a note, and 0
+/// where there is nothing. What a kind doesn't have is 0; the TID is 255 where the data has none.
+#[repr(C)]
+#[derive(Clone, Copy)]
+pub struct OutHead {
+    pub kind: u32,
+    /// How many bytes the frame or the data has.
+    pub length: usize,
+    pub source: [u8; 6],
+    pub destination: [u8; 6],
+    pub number: u16,
+    pub tid: u8,
+    pub mark: u8,
+    /// The number of the note.
+    pub note: u8,
+}
+
+/// The head of nothing.
+fn nothing() -> OutHead
+    ensures { result ≡ nothing_out }
+{
+    OutHead {
+        kind: 0,
+        length: 0,
+        source: [0, 0, 0, 0, 0, 0],
+        destination: [0, 0, 0, 0, 0, 0],
+        number: 0,
+        tid: 0,
+        mark: 0,
+        note: 0,
+    }
+}
+
+/// The head of data that is passed up.
+fn head_of_up(up: &Up) -> OutHead
+    ensures { result ≡ up_head up.now }
+{
+    let tid = match up.tid {
+        Some(tid) => tid.number(),
+        None => 255,
+    };
+    OutHead {
+        kind: 2,
+        length: up.body.bytes().len(),
+        source: up.source.octets(),
+        destination: up.destination.octets(),
+        number: up.number.number(),
+        tid,
+        mark: up.mark,
+        note: 0,
+    }
+}
+
+/// The head of one of a list.
+fn head_in(outs: &[Out], at: usize) -> OutHead
+    ensures { result ≡ head_of (slice_get outs.now at) }
+{
+    match outs.get(at) {
+        None => return nothing(),
+        Some(out) => match out {
+            Out::Send(bytes) => {
+                let mut head = nothing();
+                head.kind = 1;
+                head.length = bytes.bytes().len();
+                return head;
+            }
+            Out::Up(up) => return head_of_up(up),
+            Out::Note(number) => {
+                let mut head = nothing();
+                head.kind = 3;
+                head.note = *number;
+                return head;
+            }
+        },
+    }
+}
+
+/// The bytes of one of a list.
+fn body_in(outs: &[Out], at: usize) -> &[u8]
+    ensures { result.now ≡ body_of (slice_get outs.now at) }
+{
+    match outs.get(at) {
+        None => &[],
+        Some(out) => match out {
+            Out::Send(bytes) => bytes.bytes(),
+            Out::Up(up) => up.body.bytes(),
+            Out::Note(_) => &[],
+        },
+    }
+}
+
+/// The list of a content; none where it is something else.
+fn list(content: &Content) -> &[Out]
+    ensures { result.now ≡ outs_of (Some content.now) }
+{
+    match content {
+        Content::Outs(outs) => outs.as_slice(),
+        _ => &[],
+    }
+}
+
+/// How many outs a handle holds; 0 where it holds none.
+#[unsafe(no_mangle)]
+pub extern "C" fn apd_c_outs(alloc: Global, outs: &mut Handle) -> usize
+    ensures count { result ≡ length (outs_of (held outs.old)) }
+    ensures kept { held outs.new ≡ held outs.old }
+{
+    match outs.take(alloc) {
+        None => return 0,
+        Some(content) => {
+            let count = list(&content).len();
+            outs.put(content);
+            return count;
+        }
+    }
+}
+
+/// One of the outs that a handle holds, but for its bytes; of kind 0 where there is none at that place.
+#[unsafe(no_mangle)]
+pub extern "C" fn apd_c_out(alloc: Global, outs: &mut Handle, at: usize) -> OutHead
+    ensures is { result ≡ head_of (slice_get (outs_of (held outs.old)) at) }
+    ensures kept { held outs.new ≡ held outs.old }
+{
+    match outs.take(alloc) {
+        None => return nothing(),
+        Some(content) => {
+            let head = head_in(list(&content), at);
+            outs.put(content);
+            return head;
+        }
+    }
+}
+
+/// Copies the bytes of one of the outs, as many as there is room for, and answers how many it has.
+#[unsafe(no_mangle)]
+pub extern "C" fn apd_c_out_bytes(
+    alloc: Global,
+    outs: &mut Handle,
+    at: usize,
+    into: &mut [u8],
+) -> usize
+    ensures count { result ≡ length (body_of (slice_get (outs_of (held outs.old)) at)) }
+    ensures copied { take (min result (length into.old)) into.new ≡
+        take (min result (length into.old)) (body_of (slice_get (outs_of (held outs.old)) at)) }
+    ensures kept { held outs.new ≡ held outs.old }
+{
+    match outs.take(alloc) {
+        None => return 0,
+        Some(content) => {
+            let body = body_in(list(&content), at);
+            copied(body, into);
+            let count = body.len();
+            outs.put(content);
+            return count;
+        }
+    }
+}
