@@ -1,9 +1,10 @@
 /*
  * apd.h - the verifier, the machine and the link of apd, for programs in C and C++.
  *
- * Link with libapd.a. Its code is proved: each function below states what the library function that it calls states
- * (crates/apd_c). The proofs begin at the functions named apd_c_*; the inline functions of this header test pointers for
- * NULL, and are C like any other.
+ * Link with libapd.a. Its code is proved (crates/apd_c): what a call that answers 0 has done, and that one which answers
+ * another number changed nothing. When the calls on the link and on words of maps answer 90 to 95 is tested, not proved.
+ * The proofs begin at the functions named apd_c_*; the inline functions of this header test pointers for NULL, and are C
+ * like any other.
  *
  * What the caller keeps, without which nothing is promised:
  *  - Memory: a pointer leads to as many values as the count beside it says, which are initialized and which nothing else
