@@ -1,3 +1,4 @@
 pub mod Added
+pub mod Level
 pub mod Parsed
 pub mod Usual

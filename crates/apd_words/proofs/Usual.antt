@@ -3,29 +3,24 @@ use Rattle.std.proofs.Common.{◌≡◌, ◌==◌, ◌∙◌, true, false, List,
 use Rattle.std.specs.Str.{bytes_eq}
 use Rattle.std.specs.List.{list_any}
 use Rattle.std.proofs.lemmas.Bool.{ne_eqb}
-use Rattle.clap.specs.Lexer.{long_of, short_of}
-use Rattle.clap.specs.Words.{Text, fault_of, subcommand_of}
 use Rattle.clap.specs.ValueTests.{accepts}
+use Rattle.clap.specs.Walk.{Held, Text, Walk, finished, nothing_held}
+use Rattle.clap.specs.Simple.{Shape, built, built_leaf, inherited}
 use Rattle.clap.specs.declared.builder.value_parser.ValueParser.{ValueParser}
 use Rattle.clap.proofs.OnLiterals.{clap_on_literals}
 use Rattle.clap.proofs.WalkLemmas.{list_any-map}
 use Rattle.bpf_regions.specs.Hooks.{name_of}
 use Rattle.bpf_regions.specs.declared.hooks.Hook.{Hook}
 use Rattle.bpf_regions.specs.declared.hooks.Hook.TheVariants.{Association, Addba, Data}
-use Rattle.apd_words.specs.CommandLine.{command_line, hook_names, TakesNames}
-use Rattle.apd_words.specs.Asked.{Asked, Verify, Assemble, Disassemble, asked_in, hook_named}
+use Rattle.apd_words.specs.CommandLine.{command_line, hook_names, program as commands, verify, assemble, disassemble, trace, TakesNames}
+use Rattle.apd_words.specs.Asked.{Asked, Verify, Assemble, Disassemble, Trace, asked_in, hook_named}
 use Rattle.apd_words.specs.Spells.{IsOperand, Spells}
+use Rattle.apd_words.proofs.Level.{Enters, IsPlain, Passes, and_then, before_value, between, command_gives, command_passes, end_fault, first_operand, level_passes, next_operand, no_more, option_given, option_named, plain_then, value_then}
 
 -- a name is accepted by what takes it
 accepts_named : (p : ValueParser) (names : List Text) (text : Text) → TakesNames p names → accepts false p text ≡ list_any (λ name. bytes_eq name text) names
 accepts_named p names text t =
     ap (λ (v : ValueParser). accepts false v text) t.is ∙ list_any-map (λ name. bytes_eq name text) (λ s. s.now) t.given.now ∙ ap (list_any (λ name. bytes_eq name text)) t.spelled
-
--- the word is no flag, nor the end of the flags
-record IsPlain (word : Text) : Type 0 where
-  dashes : bytes_eq word (45 ∷ 45 ∷ []) ≡ false
-  long : long_of word ≡ None
-  short : short_of word ≡ None
 
 plain : (word : Text) → IsOperand word → IsPlain word
 plain [] h = record { dashes = refl; long = refl; short = refl }
@@ -39,104 +34,231 @@ taken p Association t = accepts_named p hook_names (codes "assoc") t
 taken p Addba t = accepts_named p hook_names (codes "addba") t
 taken p Data t = accepts_named p hook_names (codes "data") t
 
--- nor is a hook's name
+-- nor is a hook's name a flag
 named : (hook : Hook) → IsPlain (name_of hook)
 named Association = record { dashes = refl; long = refl; short = refl }
 named Addba = record { dashes = refl; long = refl; short = refl }
 named Data = record { dashes = refl; long = refl; short = refl }
 
--- what `verify` asks for, by the word that names the hook
-abbrev verify_by : Text → Text → Option Text → Option Asked
-verify_by name file config = option_and_then (λ hook. Some (Verify hook file config)) (hook_named name)
+-- a command as it is built
+abbrev leaf : Shape → Shape
+leaf s = built_leaf (inherited commands.top s)
 
-verify_named : (hook : Hook) (file : Text) (config : Option Text) → verify_by (name_of hook) file config ≡ Some (Verify hook file config)
-verify_named Association file config = refl
-verify_named Addba file config = refl
-verify_named Data file config = refl
+-- what a command asks for, by the word that names the hook
+abbrev by_hook : (Hook → Asked) → Text → Option Asked
+by_hook asks name = option_and_then (λ hook. Some (asks hook)) (hook_named name)
 
-verify_plain_takes : (p q : ValueParser) (program name file : Text) → accepts false p name ≡ true → IsPlain name → IsPlain file
-    → fault_of (command_line p q) (program ∷ codes "verify" ∷ name ∷ file ∷ []) ≡ []
+hook_is_named : (hook : Hook) (asks : Hook → Asked) → by_hook asks (name_of hook) ≡ Some (asks hook)
+hook_is_named Association asks = refl
+hook_is_named Addba asks = refl
+hook_is_named Data asks = refl
+
+-- ---- verify
+
+verify_enters : (p q : ValueParser) → Enters (built (command_line p q)) (codes "verify") (leaf (verify p))
 unfolding clap_on_literals
-verify_plain_takes p q program name file t n f = rw (n.dashes, n.long, n.short, f.dashes, f.long, f.short, t) refl
+verify_enters p q = record { turn = refl; met = refl; found = refl; above = refl }
 
-verify_plain_asks : (p q : ValueParser) (program name file : Text) → IsPlain name → IsPlain file
-    → asked_in (subcommand_of (command_line p q) (program ∷ codes "verify" ∷ name ∷ file ∷ [])) ≡ verify_by name file None
+-- what is held after HOOK FILE, and after `--config C`
+abbrev verified : ValueParser → Text → Text → Held
+verified p name file = next_operand (leaf (verify p)) (codes "FILE") file (first_operand (codes "HOOK") name)
+
+abbrev verified_with : ValueParser → Text → Text → Text → Held
+verified_with p name file config = option_given (leaf (verify p)) (codes "config") config (verified p name file)
+
+verify_operands : (p : ValueParser) (name file : Text) {rest : List Text} {end : Walk} → accepts false p name ≡ true → IsPlain name → IsPlain file
+    → Passes (leaf (verify p)) (between (verified p name file) 3) rest end → Passes (leaf (verify p)) (between nothing_held 1) (name ∷ file ∷ rest) end
 unfolding clap_on_literals
-verify_plain_asks p q program name file n f = rw (n.dashes, n.long, n.short, f.dashes, f.long, f.short) refl
+verify_operands p name file t n f more = plain_then 1 name n refl refl (plain_then 2 file f (rw t refl) refl more)
+
+verify_option : (p : ValueParser) (name file config : Text) → IsPlain config
+    → Passes (leaf (verify p)) (between (verified p name file) 3) (codes "--config" ∷ config ∷ []) (between (verified_with p name file config) 3)
+unfolding clap_on_literals
+verify_option p name file config c =
+    and_then {v = before_value (option_named (leaf (verify p)) (codes "config") (verified p name file)) (codes "config") 3} (codes "--config") refl refl
+    (value_then 3 config c refl (no_more _ _))
+
+verify_ends : (p : ValueParser) (name file : Text) → end_fault (leaf (verify p)) (verified p name file) false ≡ []
+unfolding clap_on_literals
+verify_ends p name file = refl
+
+verify_with_ends : (p : ValueParser) (name file config : Text) → end_fault (leaf (verify p)) (verified_with p name file config) false ≡ []
+unfolding clap_on_literals
+verify_with_ends p name file config = refl
+
+verify_asks : (p : ValueParser) (name file : Text)
+    → asked_in (Some ((leaf (verify p)).name, finished (leaf (verify p)).rules (verified p name file))) ≡ by_hook (λ hook. Verify hook file None) name
+unfolding clap_on_literals
+verify_asks p name file = refl
+
+verify_with_asks : (p : ValueParser) (name file config : Text)
+    → asked_in (Some ((leaf (verify p)).name, finished (leaf (verify p)).rules (verified_with p name file config))) ≡ by_hook (λ hook. Verify hook file (Some config)) name
+unfolding clap_on_literals
+verify_with_asks p name file config = refl
 
 pub verify_plain : (program file : Text) (hook : Hook) → IsOperand file → Spells (program ∷ codes "verify" ∷ name_of hook ∷ file ∷ []) (Verify hook file None)
-verify_plain program file hook f p q t u = record {
-  faultless = verify_plain_takes p q program (name_of hook) file (taken p hook t) (named hook) (plain file f);
-  asked = verify_plain_asks p q program (name_of hook) file (named hook) (plain file f) ∙ verify_named hook file None;
-}
+verify_plain program file hook f p q t u =
+    let name = name_of hook in
+    let passes = verify_operands p name file (taken p hook t) (named hook) (plain file f) (no_more _ _) in
+    record {
+      faultless = command_passes (verify_enters p q) (name ∷ file ∷ []) (level_passes passes (verify_ends p name file));
+      asked = ap asked_in (command_gives (verify_enters p q) passes) ∙ verify_asks p name file ∙ hook_is_named hook (λ it. Verify it file None);
+    }
 
-verify_configured_takes : (p q : ValueParser) (program name file config : Text) → accepts false p name ≡ true → IsPlain name → IsPlain file → IsPlain config
-    → fault_of (command_line p q) (program ∷ codes "verify" ∷ name ∷ file ∷ codes "--config" ∷ config ∷ []) ≡ []
+pub verify_configured : (program file config : Text) (hook : Hook) → IsOperand file → IsOperand config
+    → Spells (program ∷ codes "verify" ∷ name_of hook ∷ file ∷ codes "--config" ∷ config ∷ []) (Verify hook file (Some config))
+verify_configured program file config hook f c p q t u =
+    let name = name_of hook in
+    let passes = verify_operands p name file (taken p hook t) (named hook) (plain file f) (verify_option p name file config (plain config c)) in
+    record {
+      faultless = command_passes (verify_enters p q) (name ∷ file ∷ codes "--config" ∷ config ∷ []) (level_passes passes (verify_with_ends p name file config));
+      asked = ap asked_in (command_gives (verify_enters p q) passes) ∙ verify_with_asks p name file config ∙ hook_is_named hook (λ it. Verify it file (Some config));
+    }
+
+-- ---- asm
+
+assemble_enters : (p q : ValueParser) → Enters (built (command_line p q)) (codes "asm") (leaf assemble)
 unfolding clap_on_literals
-verify_configured_takes p q program name file config t n f c = rw (n.dashes, n.long, n.short, f.dashes, f.long, f.short, t, c.dashes, c.long, c.short) refl
+assemble_enters p q = record { turn = refl; met = refl; found = refl; above = refl }
 
-assoc_configured_asks : (p q : ValueParser) (program file config : Text) → IsPlain file → IsPlain config
-    → asked_in (subcommand_of (command_line p q) (program ∷ codes "verify" ∷ codes "assoc" ∷ file ∷ codes "--config" ∷ config ∷ [])) ≡ Some (Verify Association file (Some config))
+assemble_passes : (file : Text) → IsPlain file → Passes (leaf assemble) (between nothing_held 1) (file ∷ []) (between (first_operand (codes "FILE") file) 2)
 unfolding clap_on_literals
-assoc_configured_asks p q program file config f c = rw (f.dashes, f.long, f.short, c.dashes, c.long, c.short) refl
+assemble_passes file f = plain_then 1 file f refl refl (no_more _ _)
 
-addba_configured_asks : (p q : ValueParser) (program file config : Text) → IsPlain file → IsPlain config
-    → asked_in (subcommand_of (command_line p q) (program ∷ codes "verify" ∷ codes "addba" ∷ file ∷ codes "--config" ∷ config ∷ [])) ≡ Some (Verify Addba file (Some config))
+assemble_ends : (file : Text) → end_fault (leaf assemble) (first_operand (codes "FILE") file) false ≡ []
 unfolding clap_on_literals
-addba_configured_asks p q program file config f c = rw (f.dashes, f.long, f.short, c.dashes, c.long, c.short) refl
+assemble_ends file = refl
 
-data_configured_asks : (p q : ValueParser) (program file config : Text) → IsPlain file → IsPlain config
-    → asked_in (subcommand_of (command_line p q) (program ∷ codes "verify" ∷ codes "data" ∷ file ∷ codes "--config" ∷ config ∷ [])) ≡ Some (Verify Data file (Some config))
+assemble_asks : (file : Text) → asked_in (Some ((leaf assemble).name, finished (leaf assemble).rules (first_operand (codes "FILE") file))) ≡ Some (Assemble file)
 unfolding clap_on_literals
-data_configured_asks p q program file config f c = rw (f.dashes, f.long, f.short, c.dashes, c.long, c.short) refl
-
-verify_configured_asks : (p q : ValueParser) (program file config : Text) (hook : Hook) → IsPlain file → IsPlain config
-    → asked_in (subcommand_of (command_line p q) (program ∷ codes "verify" ∷ name_of hook ∷ file ∷ codes "--config" ∷ config ∷ [])) ≡ Some (Verify hook file (Some config))
-verify_configured_asks p q program file config Association f c = assoc_configured_asks p q program file config f c
-verify_configured_asks p q program file config Addba f c = addba_configured_asks p q program file config f c
-verify_configured_asks p q program file config Data f c = data_configured_asks p q program file config f c
-
-pub verify_configured : (program file config : Text) (hook : Hook) → IsOperand file → IsOperand config → Spells (program ∷ codes "verify" ∷ name_of hook ∷ file ∷ codes "--config" ∷ config ∷ []) (Verify hook file (Some config))
-verify_configured program file config hook f c p q t u = record {
-  faultless = verify_configured_takes p q program (name_of hook) file config (taken p hook t) (named hook) (plain file f) (plain config c);
-  asked = verify_configured_asks p q program file config hook (plain file f) (plain config c);
-}
-
-assemble_plain_takes : (p q : ValueParser) (program file : Text) → IsPlain file
-    → fault_of (command_line p q) (program ∷ codes "asm" ∷ file ∷ []) ≡ []
-unfolding clap_on_literals
-assemble_plain_takes p q program file f = rw (f.dashes, f.long, f.short) refl
-
-assemble_plain_asks : (p q : ValueParser) (program file : Text) → IsPlain file
-    → asked_in (subcommand_of (command_line p q) (program ∷ codes "asm" ∷ file ∷ [])) ≡ Some (Assemble file)
-unfolding clap_on_literals
-assemble_plain_asks p q program file f = rw (f.dashes, f.long, f.short) refl
+assemble_asks file = refl
 
 pub assemble_plain : (program file : Text) → IsOperand file → Spells (program ∷ codes "asm" ∷ file ∷ []) (Assemble file)
-assemble_plain program file f p q t u = record { faultless = assemble_plain_takes p q program file (plain file f); asked = assemble_plain_asks p q program file (plain file f) }
+assemble_plain program file f p q t u =
+    let passes = assemble_passes file (plain file f) in
+    record {
+      faultless = command_passes (assemble_enters p q) (file ∷ []) (level_passes passes (assemble_ends file));
+      asked = ap asked_in (command_gives (assemble_enters p q) passes) ∙ assemble_asks file;
+    }
 
-disassemble_plain_takes : (p q : ValueParser) (program file : Text) → IsPlain file
-    → fault_of (command_line p q) (program ∷ codes "disasm" ∷ file ∷ []) ≡ []
-unfolding clap_on_literals
-disassemble_plain_takes p q program file f = rw (f.dashes, f.long, f.short) refl
+-- ---- disasm
 
-disassemble_plain_asks : (p q : ValueParser) (program file : Text) → IsPlain file
-    → asked_in (subcommand_of (command_line p q) (program ∷ codes "disasm" ∷ file ∷ [])) ≡ Some (Disassemble file None false)
+disassemble_enters : (p q : ValueParser) → Enters (built (command_line p q)) (codes "disasm") (leaf disassemble)
 unfolding clap_on_literals
-disassemble_plain_asks p q program file f = rw (f.dashes, f.long, f.short) refl
+disassemble_enters p q = record { turn = refl; met = refl; found = refl; above = refl }
+
+-- what is held after FILE, and after `--config C`
+abbrev listed : Text → Held
+listed file = first_operand (codes "FILE") file
+
+abbrev listed_with : Text → Text → Held
+listed_with file config = option_given (leaf disassemble) (codes "config") config (listed file)
+
+disassemble_operand : (file : Text) {rest : List Text} {end : Walk} → IsPlain file
+    → Passes (leaf disassemble) (between (listed file) 2) rest end → Passes (leaf disassemble) (between nothing_held 1) (file ∷ rest) end
+unfolding clap_on_literals
+disassemble_operand file f more = plain_then 1 file f refl refl more
+
+disassemble_option : (file config : Text) → IsPlain config
+    → Passes (leaf disassemble) (between (listed file) 2) (codes "--config" ∷ config ∷ []) (between (listed_with file config) 2)
+unfolding clap_on_literals
+disassemble_option file config c =
+    and_then {v = before_value (option_named (leaf disassemble) (codes "config") (listed file)) (codes "config") 2} (codes "--config") refl refl
+    (value_then 2 config c refl (no_more _ _))
+
+disassemble_ends : (file : Text) → end_fault (leaf disassemble) (listed file) false ≡ []
+unfolding clap_on_literals
+disassemble_ends file = refl
+
+disassemble_with_ends : (file config : Text) → end_fault (leaf disassemble) (listed_with file config) false ≡ []
+unfolding clap_on_literals
+disassemble_with_ends file config = refl
+
+disassemble_asks : (file : Text) → asked_in (Some ((leaf disassemble).name, finished (leaf disassemble).rules (listed file))) ≡ Some (Disassemble file None false)
+unfolding clap_on_literals
+disassemble_asks file = refl
+
+disassemble_with_asks : (file config : Text)
+    → asked_in (Some ((leaf disassemble).name, finished (leaf disassemble).rules (listed_with file config))) ≡ Some (Disassemble file (Some config) false)
+unfolding clap_on_literals
+disassemble_with_asks file config = refl
 
 pub disassemble_plain : (program file : Text) → IsOperand file → Spells (program ∷ codes "disasm" ∷ file ∷ []) (Disassemble file None false)
-disassemble_plain program file f p q t u = record { faultless = disassemble_plain_takes p q program file (plain file f); asked = disassemble_plain_asks p q program file (plain file f) }
+disassemble_plain program file f p q t u =
+    let passes = disassemble_operand file (plain file f) (no_more _ _) in
+    record {
+      faultless = command_passes (disassemble_enters p q) (file ∷ []) (level_passes passes (disassemble_ends file));
+      asked = ap asked_in (command_gives (disassemble_enters p q) passes) ∙ disassemble_asks file;
+    }
 
-disassemble_configured_takes : (p q : ValueParser) (program file config : Text) → IsPlain file → IsPlain config
-    → fault_of (command_line p q) (program ∷ codes "disasm" ∷ file ∷ codes "--config" ∷ config ∷ []) ≡ []
+pub disassemble_configured : (program file config : Text) → IsOperand file → IsOperand config
+    → Spells (program ∷ codes "disasm" ∷ file ∷ codes "--config" ∷ config ∷ []) (Disassemble file (Some config) false)
+disassemble_configured program file config f c p q t u =
+    let passes = disassemble_operand file (plain file f) (disassemble_option file config (plain config c)) in
+    record {
+      faultless = command_passes (disassemble_enters p q) (file ∷ codes "--config" ∷ config ∷ []) (level_passes passes (disassemble_with_ends file config));
+      asked = ap asked_in (command_gives (disassemble_enters p q) passes) ∙ disassemble_with_asks file config;
+    }
+
+-- ---- trace
+
+trace_enters : (p q : ValueParser) → Enters (built (command_line p q)) (codes "trace") (leaf (trace p))
 unfolding clap_on_literals
-disassemble_configured_takes p q program file config f c = rw (f.dashes, f.long, f.short, c.dashes, c.long, c.short) refl
+trace_enters p q = record { turn = refl; met = refl; found = refl; above = refl }
 
-disassemble_configured_asks : (p q : ValueParser) (program file config : Text) → IsPlain file → IsPlain config
-    → asked_in (subcommand_of (command_line p q) (program ∷ codes "disasm" ∷ file ∷ codes "--config" ∷ config ∷ [])) ≡ Some (Disassemble file (Some config) false)
+-- what is held after HOOK FILE FRAME, and after `--config C`
+abbrev traced : ValueParser → Text → Text → Text → Held
+traced p name file frame = next_operand (leaf (trace p)) (codes "FRAME") frame (next_operand (leaf (trace p)) (codes "FILE") file (first_operand (codes "HOOK") name))
+
+abbrev traced_with : ValueParser → Text → Text → Text → Text → Held
+traced_with p name file frame config = option_given (leaf (trace p)) (codes "config") config (traced p name file frame)
+
+trace_operands : (p : ValueParser) (name file frame : Text) {rest : List Text} {end : Walk} → accepts false p name ≡ true → IsPlain name → IsPlain file → IsPlain frame
+    → Passes (leaf (trace p)) (between (traced p name file frame) 4) rest end → Passes (leaf (trace p)) (between nothing_held 1) (name ∷ file ∷ frame ∷ rest) end
 unfolding clap_on_literals
-disassemble_configured_asks p q program file config f c = rw (f.dashes, f.long, f.short, c.dashes, c.long, c.short) refl
+trace_operands p name file frame t n f g more = plain_then 1 name n refl refl (plain_then 2 file f (rw t refl) refl (plain_then 3 frame g refl refl more))
 
-pub disassemble_configured : (program file config : Text) → IsOperand file → IsOperand config → Spells (program ∷ codes "disasm" ∷ file ∷ codes "--config" ∷ config ∷ []) (Disassemble file (Some config) false)
-disassemble_configured program file config f c p q t u = record { faultless = disassemble_configured_takes p q program file config (plain file f) (plain config c); asked = disassemble_configured_asks p q program file config (plain file f) (plain config c) }
+trace_option : (p : ValueParser) (name file frame config : Text) → IsPlain config
+    → Passes (leaf (trace p)) (between (traced p name file frame) 4) (codes "--config" ∷ config ∷ []) (between (traced_with p name file frame config) 4)
+unfolding clap_on_literals
+trace_option p name file frame config c =
+    and_then {v = before_value (option_named (leaf (trace p)) (codes "config") (traced p name file frame)) (codes "config") 4} (codes "--config") refl refl
+    (value_then 4 config c refl (no_more _ _))
+
+trace_ends : (p : ValueParser) (name file frame : Text) → end_fault (leaf (trace p)) (traced p name file frame) false ≡ []
+unfolding clap_on_literals
+trace_ends p name file frame = refl
+
+trace_with_ends : (p : ValueParser) (name file frame config : Text) → end_fault (leaf (trace p)) (traced_with p name file frame config) false ≡ []
+unfolding clap_on_literals
+trace_with_ends p name file frame config = refl
+
+trace_asks : (p : ValueParser) (name file frame : Text)
+    → asked_in (Some ((leaf (trace p)).name, finished (leaf (trace p)).rules (traced p name file frame))) ≡ by_hook (λ hook. Trace hook file frame None) name
+unfolding clap_on_literals
+trace_asks p name file frame = refl
+
+trace_with_asks : (p : ValueParser) (name file frame config : Text)
+    → asked_in (Some ((leaf (trace p)).name, finished (leaf (trace p)).rules (traced_with p name file frame config))) ≡ by_hook (λ hook. Trace hook file frame (Some config)) name
+unfolding clap_on_literals
+trace_with_asks p name file frame config = refl
+
+pub trace_plain : (program file frame : Text) (hook : Hook) → IsOperand file → IsOperand frame
+    → Spells (program ∷ codes "trace" ∷ name_of hook ∷ file ∷ frame ∷ []) (Trace hook file frame None)
+trace_plain program file frame hook f g p q t u =
+    let name = name_of hook in
+    let passes = trace_operands p name file frame (taken p hook t) (named hook) (plain file f) (plain frame g) (no_more _ _) in
+    record {
+      faultless = command_passes (trace_enters p q) (name ∷ file ∷ frame ∷ []) (level_passes passes (trace_ends p name file frame));
+      asked = ap asked_in (command_gives (trace_enters p q) passes) ∙ trace_asks p name file frame ∙ hook_is_named hook (λ it. Trace it file frame None);
+    }
+
+pub trace_configured : (program file frame config : Text) (hook : Hook) → IsOperand file → IsOperand frame → IsOperand config
+    → Spells (program ∷ codes "trace" ∷ name_of hook ∷ file ∷ frame ∷ codes "--config" ∷ config ∷ []) (Trace hook file frame (Some config))
+trace_configured program file frame config hook f g c p q t u =
+    let name = name_of hook in
+    let passes = trace_operands p name file frame (taken p hook t) (named hook) (plain file f) (plain frame g) (trace_option p name file frame config (plain config c)) in
+    record {
+      faultless = command_passes (trace_enters p q) (name ∷ file ∷ frame ∷ codes "--config" ∷ config ∷ []) (level_passes passes (trace_with_ends p name file frame config));
+      asked = ap asked_in (command_gives (trace_enters p q) passes) ∙ trace_with_asks p name file frame config ∙ hook_is_named hook (λ it. Trace it file frame (Some config));
+    }

@@ -3,7 +3,7 @@
 ghost use Rattle.std.specs.Prelude.{◌∷◌, [], Some, None, List, ℕ, codes, false};
 ghost use Rattle.bpf_regions.specs.Hooks.{name_of};
 ghost use Rattle.bpf_regions.specs.declared.hooks.Hook.{Hook};
-ghost use Rattle.apd_words.specs.Asked.{Verify, Assemble, Disassemble};
+ghost use Rattle.apd_words.specs.Asked.{Verify, Assemble, Disassemble, Trace};
 ghost use Rattle.apd_words.specs.Spells.{IsOperand, Spells};
 
 /// The law of `apd verify HOOK FILE [--config C]`: the words ask for what they say, unless a FILE
@@ -32,4 +32,16 @@ pub fn disassemble_law()
     ensures configured { (program file config : List ℕ) → IsOperand file → IsOperand config
         → Spells (program ∷ codes "disasm" ∷ file ∷ codes "--config" ∷ config ∷ [])
         (Disassemble file (Some config) false) }
+{}
+
+/// The law of `apd trace HOOK FILE FRAME [--config C]`: the words ask for what they say, unless a
+/// FILE, FRAME or C begins with a hyphen.
+pub fn trace_law()
+    ensures plain { (program file frame : List ℕ) (hook : Hook) → IsOperand file → IsOperand frame
+        → Spells (program ∷ codes "trace" ∷ name_of hook ∷ file ∷ frame ∷ [])
+        (Trace hook file frame None) }
+    ensures configured { (program file frame config : List ℕ) (hook : Hook) →
+        IsOperand file → IsOperand frame → IsOperand config
+        → Spells (program ∷ codes "trace" ∷ name_of hook ∷ file ∷ frame ∷ codes "--config"
+        ∷ config ∷ []) (Trace hook file frame (Some config)) }
 {}
