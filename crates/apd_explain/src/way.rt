@@ -48,7 +48,7 @@ pub(crate) fn append_way(
     writeln!(text, "  steps before it: {steps}, branches: {branches}")?;
     let hidden = branches.saturating_sub(SHOWN);
     if hidden > 0 {
-        writeln!(text, "    {hidden} branches, and then")?;
+        writeln!(text, "    earlier branches: {hidden}")?;
     }
     append_branches(text, program, way, hidden)
 }
