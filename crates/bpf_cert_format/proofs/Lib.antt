@@ -5,3 +5,4 @@ pub mod Rising
 pub mod Regions
 pub mod Whole
 pub mod Again
+pub mod Refusals

@@ -1,6 +1,6 @@
 -- Labels, regions, values and stack slots as formats.
-use Rattle.std.proofs.Common.{◌≡◌, ℕ, zero, suc, ◌+◌, ◌-◌, ◌^◌, ◌<◌, ◌≤◌, Bool, true, false, cond, ltb, leb, eqb, List, [], ◌∷◌, ◌++◌, length, Option, Some, None, refl, sym, ap, subst, ◌∙◌, arith, inl, inr, ◌⊎◌}
-use Rattle.std.specs.Prelude.{nat_lt, nat_le, ◌==◌, ◌&&◌}
+use Rattle.std.proofs.Common.{◌≡◌, ℕ, ◌+◌, ◌-◌, ◌^◌, ◌<◌, ◌≤◌, Bool, true, false, cond, ltb, leb, eqb, List, ◌∷◌, ◌++◌, Option, Some, None, refl, sym, ap, subst, ◌∙◌, arith, inl, inr}
+use Rattle.std.specs.Prelude.{◌&&◌}
 use Rattle.std.specs.Int.{w16, to_le_bytes}
 use Rattle.std.proofs.lemmas.Bool.{ltb-true, lt-ltb, le-ltb, leb-true, le-leb, eqb-true, eq-eqb, ne_eqb, cases_eq, and_parts}
 use Rattle.bpf_interval.specs.Laws.{PlaceTwice}
@@ -10,13 +10,11 @@ use Rattle.bpf_absval.specs.declared.value.AbsRegion.TheVariants as place
 use Rattle.bpf_absval.specs.declared.value.AbsVal.{AbsVal}
 use Rattle.bpf_absval.specs.declared.value.AbsVal.TheVariants as abs
 use Rattle.bpf_absval.specs.declared.value.Label.{Label}
-use Rattle.bpf_absval.specs.declared.slot.AbsSlot.{AbsSlot}
-use Rattle.bpf_absval.specs.declared.slot.AbsSlot.TheVariants as slot
-use Rattle.bpf_cert_format.specs.Fits.{FitsNumber, FitsLabel, FitsLabels, FitsRegion, FitsValue, FitsStored, FitsCell}
-use Rattle.bpf_cert_format.specs.Spelling.{number, label, region, value, cell}
-use Rattle.bpf_cert_format.specs.Reading.{◌>>=◌, Reader, chained, read_as, only_if, byte_at, word_at, number_at, is_label, label_of, label_at, region_named, map_at, frame_pointer_at, pointer_into, value_tagged, value_at, cell_at}
-use Rattle.bpf_cert_format.proofs.Formats.{IsBytes, IsBytes-rest, bind_some, guard_some, chosen, found, some_is, Takes, Takes-then, IsFormat, chained_format, read_as_format, only_if_format}
-use Rattle.bpf_cert_format.proofs.Smallest.{byte_format, word_format, wide16, number_format}
+use Rattle.bpf_cert_format.specs.Fits.{FitsNumber, FitsLabels, FitsRegion, FitsValue, FitsStored}
+use Rattle.bpf_cert_format.specs.Spelling.{number, label, region, value}
+use Rattle.bpf_cert_format.specs.Reading.{chained, read_as, only_if, word_at, number_at, is_label, label_of, label_at, region_named, frame_pointer_at, pointer_into}
+use Rattle.bpf_cert_format.proofs.Formats.{IsBytes, bind_some, chosen, some_is, Takes, IsFormat, chained_format, read_as_format, only_if_format}
+use Rattle.bpf_cert_format.proofs.Smallest.{word_format, wide16, number_format}
 
 -- ---- labels
 

@@ -1,7 +1,6 @@
 -- Labels that rise, as a loop looks at them.
-use Rattle.std.proofs.Common.{◌≡◌, ℕ, suc, ◌+◌, ◌≤◌, ◌<◌, Bool, true, false, List, [], ◌∷◌, length, drop, get_or, refl, sym, ap, ◌∙◌, arith, drop-cons, add-one}
+use Rattle.std.proofs.Common.{◌≡◌, ℕ, suc, ◌+◌, ◌≤◌, ◌<◌, true, false, List, [], ◌∷◌, length, drop, get_or, refl, sym, ap, ◌∙◌, arith, drop-cons}
 use Rattle.std.specs.Prelude.{◌&&◌, nat_lt, nat_le}
-use Rattle.std.proofs.lemmas.Bool.{ltb-false, le-ltb, le-leb}
 use Rattle.std.proofs.lemmas.List.{drop_all}
 use Rattle.bpf_absval.specs.declared.room.Room.{Room}
 use Rattle.bpf_cert_format.specs.Reading.{are_rising}

@@ -1,19 +1,16 @@
 -- The smallest fields.
-use Rattle.std.proofs.Common.{◌≡◌, ℕ, zero, suc, ◌+◌, ◌^◌, ◌<◌, ◌≤◌, Bool, true, false, cond, ltb, leb, eqb, List, [], ◌∷◌, ◌++◌, length, get_or, take, drop, Option, Some, None, refl, sym, ap, subst, ◌∙◌, append_assoc, arith, inl, inr}
-use Rattle.std.specs.Prelude.{bit_and}
+use Rattle.std.proofs.Common.{◌≡◌, ℕ, ◌^◌, ◌<◌, ◌≤◌, Bool, true, false, cond, ltb, leb, List, [], ◌∷◌, ◌++◌, length, take, drop, Some, None, refl, sym, subst, arith}
 use Rattle.std.specs.Int.{Width, w16, w32, w64, byte_len, from_le_bytes, to_le_bytes}
-use Rattle.std.specs.List.{AllByRecursion}
 use Rattle.std.proofs.lemmas.Bool.{ltb-false, le-ltb, leb-true, le-leb, eqb-true, eq-eqb}
 use Rattle.std.proofs.lemmas.List.{take_at, drop_at, take-append-drop, length-append, length-take}
 use Rattle.std.proofs.lemmas.Nat.{le_bytes_2, le_bytes_4, le_bytes_8, from_le_bytes-to_le_bytes_2, from_le_bytes-to_le_bytes_4, from_le_bytes-to_le_bytes_8}
 use Rattle.bpf_interval.specs.Signed.{place}
 use Rattle.bpf_interval.specs.Laws.{PlaceTwice}
 use Rattle.bpf_absnum.specs.Number.{Num}
-use Rattle.bpf_absval.specs.declared.value.Label.{Label}
-use Rattle.bpf_cert_format.specs.Fits.{FitsNumber, FitsLabel, FitsLabels, AreBytes}
-use Rattle.bpf_cert_format.specs.Spelling.{number, label}
-use Rattle.bpf_cert_format.specs.Reading.{◌>>=◌, Reader, chained, read_as, only_if, byte_at, word_at, taken, pair_at, are_ordered, are_apart, are_signed_ordered, number_of, number_at, is_label, label_of, label_at}
-use Rattle.bpf_cert_format.proofs.Formats.{IsBytes, IsBytes-drop, IsBytes-take, IsBytes-rest, guard_some, found, some_is, Takes, IsFormat, chained_format, read_as_format, only_if_format}
+use Rattle.bpf_cert_format.specs.Fits.{FitsNumber, AreBytes}
+use Rattle.bpf_cert_format.specs.Spelling.{number}
+use Rattle.bpf_cert_format.specs.Reading.{Reader, chained, only_if, byte_at, word_at, taken, pair_at, are_ordered, are_apart, are_signed_ordered, number_of, number_at}
+use Rattle.bpf_cert_format.proofs.Formats.{IsBytes, IsBytes-drop, IsBytes-take, IsBytes-rest, some_is, Takes, IsFormat, chained_format, read_as_format, only_if_format}
 
 -- ---- a byte
 

@@ -1,9 +1,9 @@
 -- Values, stack slots, frames, rooms, entries and certificates as formats.
-use Rattle.std.proofs.Common.{◌≡◌, ℕ, zero, suc, ◌+◌, ◌*◌, ◌/◌, ◌^◌, ◌<◌, ◌≤◌, Bool, true, false, cond, ltb, leb, eqb, List, [], ◌∷◌, ◌++◌, length, Option, Some, None, refl, sym, ap, subst, ◌∙◌, arith, inl, inr, ◌⊎◌}
-use Rattle.std.specs.Prelude.{◌==◌, ◌&&◌}
+use Rattle.std.proofs.Common.{◌≡◌, ℕ, ◌*◌, ◌/◌, ◌^◌, ◌<◌, ◌≤◌, true, false, ltb, leb, eqb, List, [], ◌∷◌, ◌++◌, length, Option, Some, None, refl, sym, ap, subst, ◌∙◌, arith, inl, inr}
+use Rattle.std.specs.Prelude.{◌&&◌}
 use Rattle.std.specs.List.{flat_map, AllByRecursion}
 use Rattle.std.specs.Int.{w16, w32, to_le_bytes}
-use Rattle.std.proofs.lemmas.Bool.{ltb-true, lt-ltb, leb-true, le-leb, eqb-true, eq-eqb, ne_eqb, and_parts, and_from, true≢false}
+use Rattle.std.proofs.lemmas.Bool.{ltb-true, lt-ltb, leb-true, le-leb, eqb-true, eq-eqb, and_parts, and_from, true≢false}
 use Rattle.bpf_regions.specs.declared.hooks.Hook.{Hook}
 use Rattle.bpf_regions.specs.declared.hooks.Hook.TheVariants.{Association, Addba, Data}
 use Rattle.bpf_regions.specs.Hooks as hooks
@@ -17,8 +17,8 @@ use Rattle.bpf_cert_format.specs.declared.frame.Frame.{Frame}
 use Rattle.bpf_cert_format.specs.Views.{EntryView, CertificateView}
 use Rattle.bpf_cert_format.specs.Fits.{FitsValue, FitsStored, FitsCell, FitsFrame, Rise, IsMainFirst, FitsEntry, AreBytes, FitsCertificate}
 use Rattle.bpf_cert_format.specs.Spelling.{magic, number, label, region, value, cell, frame, room, rooms, frames, entry, code, entries, spelling}
-use Rattle.bpf_cert_format.specs.Reading.{◌>>=◌, Reader, chained, read_as, only_if, many, byte_at, word_at, taken, number_at, label_at, region_named, map_at, pointer_into, value_tagged, value_at, cell_at, frame_at, is_count, is_main_first, frames_at, room_at, are_rising, rooms_at, entry_of, entry_at, magic_at, hook_named, hook_at, code_at, entries_at, certificate_of, certificate_at, all_of}
-use Rattle.bpf_cert_format.proofs.Formats.{IsBytes, IsBytes-rest, bind_some, guard_some, chosen, found, some_is, Takes, Takes-then, IsFormat, chained_format, read_as_format, only_if_format, many_format}
+use Rattle.bpf_cert_format.specs.Reading.{◌>>=◌, chained, read_as, only_if, many, byte_at, word_at, taken, number_at, map_at, pointer_into, value_tagged, value_at, cell_at, frame_at, is_count, is_main_first, frames_at, room_at, are_rising, rooms_at, entry_of, entry_at, magic_at, hook_named, hook_at, code_at, entries_at, certificate_of, certificate_at}
+use Rattle.bpf_cert_format.proofs.Formats.{IsBytes, IsBytes-rest, bind_some, chosen, some_is, Takes, IsFormat, chained_format, read_as_format, only_if_format, many_format}
 use Rattle.bpf_cert_format.proofs.Smallest.{byte_format, word_format, taken_format, wide16, wide32, number_format}
 use Rattle.bpf_cert_format.proofs.Regions.{Pair, AreShort, spelled_short, short_format, Takes-cons, Tagged, place_format, pointer_takes, names, region_some}
 

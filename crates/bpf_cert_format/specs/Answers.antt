@@ -1,8 +1,10 @@
--- What reading answers.
-use Rattle.std.specs.Prelude.{◌≡◌, ℕ, List, length, Option, Some, None, Result, Ok, Err}
+-- What reading and writing answer.
+use Rattle.std.specs.Prelude.{◌≡◌, ℕ, List, length, Option, Some, None, Result, Ok, Err, IsOkUnless}
 use Rattle.bpf_regions.specs.declared.maps.Shape.{Shape}
 use Rattle.bpf_cert_format.specs.declared.fault.ReadFault.{ReadFault}
 use Rattle.bpf_cert_format.specs.declared.fault.ReadFault.TheVariants.{Memory, Malformed}
+use Rattle.bpf_cert_format.specs.declared.fault.WriteFault.{WriteFault}
+use Rattle.bpf_cert_format.specs.declared.fault.WriteFault.TheVariants as writing
 use Rattle.bpf_cert_format.specs.Fits.{FitsCertificate}
 use Rattle.bpf_cert_format.specs.Spelling.{spelling}
 use Rattle.bpf_cert_format.specs.Views.{CertificateView}
@@ -27,3 +29,7 @@ abbrev pub Reads : Result CertificateView ReadFault → CertificateView → Type
 Reads (Ok x) c = x ≡ c
 Reads (Err Memory) c = Unit {0}
 Reads (Err Malformed) c = ⊥
+
+-- nothing but memory was refused
+abbrev pub RefusedForMemoryAlone : {X : Type 0} → Result X WriteFault → Type 0
+RefusedForMemoryAlone result = IsOkUnless result writing.Memory

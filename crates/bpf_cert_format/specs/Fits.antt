@@ -1,5 +1,5 @@
 -- What has a spelling: what each field may hold.
-use Rattle.std.specs.Prelude.{◌≡◌, ℕ, ◌+◌, ◌*◌, ◌<◌, ◌≤◌, ◌^◌, List, [], ◌∷◌, length, Option, Some, None, bit_and}
+use Rattle.std.specs.Prelude.{◌≡◌, ℕ, ◌*◌, ◌<◌, ◌≤◌, ◌^◌, List, [], ◌∷◌, length, Option, Some, None, bit_and}
 use Rattle.std.specs.List.{AllByRecursion}
 use Rattle.bpf_absnum.specs.Number.{Num}
 use Rattle.bpf_absval.specs.declared.value.AbsRegion.{AbsRegion}

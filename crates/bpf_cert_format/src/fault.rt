@@ -1,7 +1,8 @@
-//! Why bytes could not be read.
+//! Why bytes could not be read, or not be written.
 
 ghost use Rattle.std.specs.Prelude.{◌≡◌};
-ghost use Rattle.bpf_cert_format.specs.declared.fault.ReadFault.TheVariants.{Memory};
+ghost use Rattle.bpf_cert_format.specs.declared.fault.ReadFault.TheVariants as reading;
+ghost use Rattle.bpf_cert_format.specs.declared.fault.WriteFault.TheVariants as writing;
 
 use std::alloc::{AllocError, AllocFailed};
 
@@ -15,7 +16,7 @@ pub enum ReadFault {
 }
 
 impl From<AllocError> for ReadFault {
-    ghost from_gives = { λ _ e. e ≡ Memory };
+    ghost from_gives = { λ _ e. e ≡ reading.Memory };
 
     fn from(_error: AllocError) -> ReadFault {
         ReadFault::Memory
@@ -23,7 +24,7 @@ impl From<AllocError> for ReadFault {
 }
 
 impl<T: Drop> From<AllocFailed<T>> for ReadFault {
-    ghost from_gives = { λ _ e. e ≡ Memory };
+    ghost from_gives = { λ _ e. e ≡ reading.Memory };
 
     fn from(_error: AllocFailed<T>) -> ReadFault {
         ReadFault::Memory
@@ -40,12 +41,16 @@ pub enum WriteFault {
 }
 
 impl From<AllocError> for WriteFault {
+    ghost from_gives = { λ _ e. e ≡ writing.Memory };
+
     fn from(_error: AllocError) -> WriteFault {
         WriteFault::Memory
     }
 }
 
 impl<T: Drop> From<AllocFailed<T>> for WriteFault {
+    ghost from_gives = { λ _ e. e ≡ writing.Memory };
+
     fn from(_error: AllocFailed<T>) -> WriteFault {
         WriteFault::Memory
     }

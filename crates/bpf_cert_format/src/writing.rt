@@ -1,9 +1,11 @@
 //! Certificates as bytes.
 
-ghost use Rattle.std.specs.Prelude.{◌≡◌, ◌<◌, ◌^◌, ◌++◌, ◌∷◌, [], length, IfOk, OnOk};
-ghost use Rattle.std.specs.List.{flat_map};
+ghost use Rattle.std.specs.Prelude.{◌≡◌, ◌*◌, ◌<◌, ◌≤◌, ◌^◌, ◌++◌, ◌∷◌, [], ℕ, length, IfOk, IsOk, OnOk};
+ghost use Rattle.std.specs.List.{flat_map, AllByRecursion};
 ghost use Rattle.std.specs.Int.{w16, w32, w64, to_le_bytes};
 ghost use Rattle.bpf_interval.specs.Signed.{word_at};
+ghost use Rattle.bpf_cert_format.specs.Answers.{RefusedForMemoryAlone};
+ghost use Rattle.bpf_cert_format.specs.Fits.{FitsRegion, FitsValue, FitsCell, FitsFrame, FitsEntry, FitsCertificate};
 ghost use Rattle.bpf_cert_format.specs.Spelling.{number as number_bytes, label as label_bytes, region as region_number, value as value_bytes, cell as cell_bytes, frame as frame_bytes, room as room_bytes, rooms as rooms_bytes, frames as frames_bytes, entry as entry_bytes, code as code_bytes, entries as entries_bytes, spelling};
 
 use crate::certificate::Certificate;
@@ -102,6 +104,7 @@ fn put_label(out: &mut Vec<u8>, label: Option<Label>) -> Result<(), AllocError>
 /// A number below 256 as a byte.
 fn byte_of(number: u32) -> Result<u8, WriteFault>
     ensures is { IfOk result (λ byte. byte ≡ number) }
+    ensures fitting { number < 256 → IsOk result }
 {
     if number < 256 {
         return Ok(number as u8);
@@ -112,6 +115,7 @@ fn byte_of(number: u32) -> Result<u8, WriteFault>
 /// The byte of a region other than the frame.
 fn region_byte(region: AbsRegion) -> Result<u8, WriteFault>
     ensures is { IfOk result (λ byte. byte ≡ region_number region) }
+    ensures fitting { (maps count : ℕ) → maps ≤ 224 → count ≤ 8 → FitsRegion maps count region → IsOk result }
 {
     match region {
         AbsRegion::Context => Ok(1),
@@ -146,6 +150,7 @@ fn put_two(out: &mut Vec<u8>, first: u8, second: u8) -> Result<(), AllocError>
 /// A tag, and a number below 256.
 fn put_tagged(out: &mut Vec<u8>, tag: u8, number: u32) -> Result<(), WriteFault>
     ensures is { OnOk result (out.new.items ≡ out.old.items ++ tag ∷ number ∷ []) }
+    ensures fitting { number < 256 → RefusedForMemoryAlone result }
 {
     let byte = byte_of(number)?;
     put_two(out, tag, byte)?;
@@ -154,6 +159,7 @@ fn put_tagged(out: &mut Vec<u8>, tag: u8, number: u32) -> Result<(), WriteFault>
 
 fn put_value(out: &mut Vec<u8>, value: AbsVal) -> Result<(), WriteFault>
     ensures is { OnOk result (out.new.items ≡ out.old.items ++ value_bytes value) }
+    ensures fitting { (maps count : ℕ) → maps ≤ 224 → count ≤ 8 → FitsValue maps count value → RefusedForMemoryAlone result }
 {
     match value {
         AbsVal::Unset => out.push(0)?,
@@ -179,6 +185,7 @@ fn put_value(out: &mut Vec<u8>, value: AbsVal) -> Result<(), WriteFault>
 
 fn put_cell(out: &mut Vec<u8>, cell: AbsSlot) -> Result<(), WriteFault>
     ensures is { OnOk result (out.new.items ≡ out.old.items ++ cell_bytes cell) }
+    ensures fitting { (maps count : ℕ) → maps ≤ 224 → count ≤ 8 → FitsCell maps count cell → RefusedForMemoryAlone result }
 {
     match cell {
         AbsSlot::Unset => out.push(0)?,
@@ -190,6 +197,7 @@ fn put_cell(out: &mut Vec<u8>, cell: AbsSlot) -> Result<(), WriteFault>
 
 fn put_values(out: &mut Vec<u8>, values: &[AbsVal]) -> Result<(), WriteFault>
     ensures is { OnOk result (out.new.items ≡ out.old.items ++ flat_map value_bytes values.now) }
+    ensures fitting { (maps count : ℕ) → maps ≤ 224 → count ≤ 8 → AllByRecursion (FitsValue maps count) values.now → RefusedForMemoryAlone result }
 {
     for value in values {
         put_value(out, *value)?;
@@ -199,6 +207,7 @@ fn put_values(out: &mut Vec<u8>, values: &[AbsVal]) -> Result<(), WriteFault>
 
 fn put_stack(out: &mut Vec<u8>, stack: &Stack) -> Result<(), WriteFault>
     ensures is { OnOk result (out.new.items ≡ out.old.items ++ flat_map cell_bytes stack.now) }
+    ensures fitting { (maps count : ℕ) → maps ≤ 224 → count ≤ 8 → AllByRecursion (FitsCell maps count) stack.now → RefusedForMemoryAlone result }
 {
     stack.whole();
     for index in 0..64 {
@@ -209,6 +218,7 @@ fn put_stack(out: &mut Vec<u8>, stack: &Stack) -> Result<(), WriteFault>
 
 fn put_frame(out: &mut Vec<u8>, frame: &Frame) -> Result<(), WriteFault>
     ensures is { OnOk result (out.new.items ≡ out.old.items ++ frame_bytes frame.now) }
+    ensures fitting { (maps count : ℕ) → maps ≤ 224 → count ≤ 8 → FitsFrame maps count frame.now → RefusedForMemoryAlone result }
 {
     put_u16(out, frame.return_slot)?;
     put_values(out, frame.registers.as_slice())?;
@@ -218,6 +228,7 @@ fn put_frame(out: &mut Vec<u8>, frame: &Frame) -> Result<(), WriteFault>
 
 fn put_frame_list(out: &mut Vec<u8>, frames: &[Frame]) -> Result<(), WriteFault>
     ensures is { OnOk result (out.new.items ≡ out.old.items ++ flat_map frame_bytes frames.now) }
+    ensures fitting { (maps count : ℕ) → maps ≤ 224 → count ≤ 8 → AllByRecursion (FitsFrame maps count) frames.now → RefusedForMemoryAlone result }
 {
     for frame in frames {
         put_frame(out, frame)?;
@@ -227,6 +238,7 @@ fn put_frame_list(out: &mut Vec<u8>, frames: &[Frame]) -> Result<(), WriteFault>
 
 fn put_frames(out: &mut Vec<u8>, frames: &[Frame]) -> Result<(), WriteFault>
     ensures is { OnOk result (out.new.items ≡ out.old.items ++ frames_bytes frames.now) }
+    ensures fitting { (maps count : ℕ) → maps ≤ 224 → count ≤ 8 → length frames.now ≤ count → AllByRecursion (FitsFrame maps count) frames.now → RefusedForMemoryAlone result }
 {
     if frames.len() > 255 {
         return Err(WriteFault::TooLarge);
@@ -236,7 +248,7 @@ fn put_frames(out: &mut Vec<u8>, frames: &[Frame]) -> Result<(), WriteFault>
     Ok(())
 }
 
-fn put_room_list(out: &mut Vec<u8>, rooms: &[Room]) -> Result<(), WriteFault>
+fn put_room_list(out: &mut Vec<u8>, rooms: &[Room]) -> Result<(), AllocError>
     ensures is { OnOk result (out.new.items ≡ out.old.items ++ flat_map room_bytes rooms.now) }
 {
     for room in rooms {
@@ -248,6 +260,7 @@ fn put_room_list(out: &mut Vec<u8>, rooms: &[Room]) -> Result<(), WriteFault>
 
 fn put_rooms(out: &mut Vec<u8>, rooms: &[Room]) -> Result<(), WriteFault>
     ensures is { OnOk result (out.new.items ≡ out.old.items ++ rooms_bytes rooms.now) }
+    ensures fitting { length rooms.now < 2 ^ 16 → RefusedForMemoryAlone result }
 {
     if rooms.len() > 65535 {
         return Err(WriteFault::TooLarge);
@@ -259,6 +272,7 @@ fn put_rooms(out: &mut Vec<u8>, rooms: &[Room]) -> Result<(), WriteFault>
 
 fn put_entry(out: &mut Vec<u8>, entry: &Entry) -> Result<(), WriteFault>
     ensures is { OnOk result (out.new.items ≡ out.old.items ++ entry_bytes entry.now) }
+    ensures fitting { (maps : ℕ) → maps ≤ 224 → FitsEntry maps entry.now → RefusedForMemoryAlone result }
 {
     put_u16(out, entry.pc())?;
     put_u32(out, entry.budget())?;
@@ -270,6 +284,7 @@ fn put_entry(out: &mut Vec<u8>, entry: &Entry) -> Result<(), WriteFault>
 
 fn put_entry_list(out: &mut Vec<u8>, entries: &[Entry]) -> Result<(), WriteFault>
     ensures is { OnOk result (out.new.items ≡ out.old.items ++ flat_map entry_bytes entries.now) }
+    ensures fitting { (maps : ℕ) → maps ≤ 224 → AllByRecursion (FitsEntry maps) entries.now → RefusedForMemoryAlone result }
 {
     for entry in entries {
         put_entry(out, entry)?;
@@ -279,6 +294,7 @@ fn put_entry_list(out: &mut Vec<u8>, entries: &[Entry]) -> Result<(), WriteFault
 
 fn put_entries(out: &mut Vec<u8>, entries: &[Entry]) -> Result<(), WriteFault>
     ensures is { OnOk result (out.new.items ≡ out.old.items ++ entries_bytes entries.now) }
+    ensures fitting { (maps : ℕ) → maps ≤ 224 → length entries.now < 2 ^ 32 → AllByRecursion (FitsEntry maps) entries.now → RefusedForMemoryAlone result }
 {
     if entries.len() > 4294967295 {
         return Err(WriteFault::TooLarge);
@@ -290,6 +306,7 @@ fn put_entries(out: &mut Vec<u8>, entries: &[Entry]) -> Result<(), WriteFault>
 
 fn put_code(out: &mut Vec<u8>, code: &[u8]) -> Result<(), WriteFault>
     ensures is { OnOk result (out.new.items ≡ out.old.items ++ code_bytes code.now) }
+    ensures fitting { length code.now < 8 * 2 ^ 16 → RefusedForMemoryAlone result }
 {
     let slots = code.len() / 8;
     if slots > 65535 {
@@ -304,7 +321,11 @@ fn put_code(out: &mut Vec<u8>, code: &[u8]) -> Result<(), WriteFault>
 ///
 /// `TooLarge`: a number is too large for its field. `Memory`: memory was refused.
 pub fn write(alloc: Global, certificate: &Certificate) -> Result<Vec<u8>, WriteFault>
+    // What is written is its spelling.
     ensures spelled { IfOk result (λ v. v.items ≡ spelling certificate.now) }
+    // A certificate that fits is refused for nothing but memory. The byte of a map's region is 32 and the map's number, so
+    // there are at most 224 maps.
+    ensures fitting { (maps : ℕ) → maps ≤ 224 → FitsCertificate maps certificate.now → RefusedForMemoryAlone result }
 {
     let mut out = Vec::new(alloc);
     out.extend_from_slice(b"APC2")?;

@@ -1,4 +1,3 @@
-use Rattle.std.proofs.Common.{◌≡◌, ◌+◌, ◌++◌, ◌∷◌, []}
 use Rattle.bpf_cert_format.specs.Views.{EntryView}
 use Rattle.bpf_cert_format.specs.Reading.{many, entry_at}
 use Rattle.bpf_cert_format.proofs.Loops.{goes_on, ends, is_done}

@@ -1,6 +1,5 @@
-use Rattle.std.proofs.Common.{◌≡◌, ◌-◌, ◌≤◌, ℕ, List, length, take, drop, refl}
-use Rattle.std.specs.Prelude.{slice_index_or}
-use Rattle.bpf_cert_format.specs.Reading.{many, value_at, cell_at, frame_at, room_at, entry_at, are_rising}
+use Rattle.std.proofs.Common.{◌≡◌, ◌-◌}
+use Rattle.bpf_cert_format.specs.Reading.{many, frame_at}
 use Rattle.bpf_cert_format.proofs.Loops.{with_front}
 use Rattle.bpf_cert_format.proofs.parts.frame_list_at.Given as goal
 

@@ -1,8 +1,8 @@
-use Rattle.std.proofs.Common.{◌≡◌, ◌+◌, ◌++◌, ◌∷◌, [], length, take, set, arith, sym, ap, ◌∙◌, subst, Some}
+use Rattle.std.proofs.Common.{◌≡◌, length, take, arith, ◌∙◌}
 use Rattle.std.proofs.lemmas.List.{take_more_set, take_all, length-set}
 use Rattle.bpf_absval.specs.declared.value.AbsVal.{AbsVal}
 use Rattle.bpf_cert_format.specs.Reading.{many, value_at}
-use Rattle.bpf_cert_format.proofs.Loops.{with_front, goes_on, ends, is_done}
+use Rattle.bpf_cert_format.proofs.Loops.{goes_on, ends, is_done}
 use Rattle.bpf_cert_format.proofs.parts.registers_at.Goals as goal
 
 pub returns-in-Err : goal.returns-in-Err

@@ -1,4 +1,3 @@
-use Rattle.std.proofs.Common.{◌≡◌, ◌+◌, ◌++◌, ◌∷◌, []}
 use Rattle.std.proofs.lemmas.Result.{err_from_is_err_and}
 use Rattle.bpf_absval.specs.declared.room.Room.{Room}
 use Rattle.bpf_cert_format.specs.Reading.{many, room_at}

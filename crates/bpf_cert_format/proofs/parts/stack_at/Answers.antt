@@ -1,10 +1,10 @@
-use Rattle.std.proofs.Common.{List, ◌≡◌, ◌≢◌, ◌+◌, ◌≤◌, ◌++◌, ◌∷◌, [], length, take, set, get_or, arith, sym, ap, ◌∙◌, subst, replicate, inl, inr, refl, ℕ}
+use Rattle.std.proofs.Common.{List, ◌≡◌, length, take, set, get_or, arith, ap, ◌∙◌, replicate, inl, inr, ℕ}
 use Rattle.std.proofs.lemmas.List.{take_more_set, take_all, length-set, length-replicate, get_or-set_other, get_or-replicate, get_or_past}
 use Rattle.std.proofs.lemmas.Bool.{cases_lt}
 use Rattle.bpf_absval.specs.declared.slot.AbsSlot.{AbsSlot}
 use Rattle.bpf_absval.specs.declared.slot.AbsSlot.TheVariants.{Unset}
 use Rattle.bpf_cert_format.specs.Reading.{many, cell_at}
-use Rattle.bpf_cert_format.proofs.Loops.{with_none, with_front, goes_on, ends, is_done}
+use Rattle.bpf_cert_format.proofs.Loops.{with_none, goes_on, ends, is_done}
 use Rattle.bpf_cert_format.proofs.parts.stack_at.Goals as goal
 
 all_unset : (k : ℕ) → get_or (replicate 64 Unset) k Unset ≡ Unset

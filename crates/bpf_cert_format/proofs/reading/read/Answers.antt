@@ -1,7 +1,4 @@
-use Rattle.std.proofs.Common.{◌≡◌, ◌<◌, List, length, get_or, arith, ap, subst, ℕ}
-use Rattle.bpf_cert_format.specs.Answers.{Gives}
-use Rattle.bpf_cert_format.specs.Reading.{all_of}
-use Rattle.bpf_cert_format.proofs.Formats.{IsBytes}
+use Rattle.std.proofs.Common.{arith}
 use Rattle.bpf_cert_format.proofs.Again.{is_found, is_only}
 use Rattle.bpf_cert_format.proofs.reading.read.Goals as goal
 
