@@ -1,6 +1,6 @@
 //! How long a shard takes for a QoS data frame of 100 bytes of one associated station that programs judge: without a
 //! program, under a filter of a port, and under a program that counts in a map. Beside these the verdict by itself and
-//! the run of the program by itself, which shows what the judge adds to the run. Each is the best of several rounds.
+//! the run of the program by itself, which shows what the judge adds to the run. Each is the least of all rounds.
 
 ghost use Rattle.std.specs.Prelude.{◌≡◌, ◌≤◌};
 ghost use Rattle.bpf_helpers.specs.Hooked.{IsFitting, shapes_of};
@@ -242,11 +242,11 @@ fn round<R: Runtime>(
     })
 }
 
-/// The least of each that one of so many rounds took, and of one more.
+/// The least of each that a round took: the first, or one of so many further ones.
 fn least<R: Runtime>(
     rt: &R,
     alloc: Global,
-    rounds: u64,
+    further: u64,
     served: &mut Served,
     policies: &Policies<'_, '_>,
     state: &mut WorkerState,
@@ -254,7 +254,7 @@ fn least<R: Runtime>(
     requires seats { IsFitting policies.now.maps.now 0 state.old.seats }
 {
     let mut least = round(rt, alloc, served, policies, state)?;
-    for _ in 0..rounds {
+    for _ in 0..further {
         least = least.least(round(rt, alloc, served, policies, state)?);
     }
     Ok(least)
@@ -264,7 +264,7 @@ fn least<R: Runtime>(
 fn least_under<R: Runtime + Wait>(
     rt: &R,
     alloc: Global,
-    rounds: u64,
+    further: u64,
     served: &mut Served,
     text: Option<&str>,
 ) -> Result<Spent> {
@@ -274,7 +274,7 @@ fn least_under<R: Runtime + Wait>(
         set: held.set(),
         maps: maps.as_slice(),
     };
-    let least = least(rt, alloc, rounds, served, &policies, &mut state);
+    let least = least(rt, alloc, further, served, &policies, &mut state);
     let _reader = held.leave();
     publisher.close(rt);
     least
@@ -303,12 +303,12 @@ impl Beside {
 fn turn<R: Runtime + Wait>(
     rt: &R,
     alloc: Global,
-    rounds: u64,
+    further: u64,
     served: &mut Served,
 ) -> Result<Beside> {
-    let without = least_under(rt, alloc, rounds, served, None)?;
-    let filter = least_under(rt, alloc, rounds, served, Some(FILTER))?;
-    let counter = least_under(rt, alloc, rounds, served, Some(COUNTER))?;
+    let without = least_under(rt, alloc, further, served, None)?;
+    let filter = least_under(rt, alloc, further, served, Some(FILTER))?;
+    let counter = least_under(rt, alloc, further, served, Some(COUNTER))?;
     Ok(Beside {
         without,
         filter,
@@ -316,13 +316,13 @@ fn turn<R: Runtime + Wait>(
     })
 }
 
-/// The least of each in several turns.
+/// The least of each in ten turns of 50 rounds, or in one of two rounds.
 fn in_turn<R: Runtime + Wait>(rt: &R, alloc: Global, size: Size) -> Result<Beside> {
-    let rounds = size.choose(50, 1);
+    let further = size.choose(49, 1);
     let mut served = opened(alloc)?;
-    let mut least = turn(rt, alloc, rounds, &mut served)?;
-    for _ in 0..size.choose(10, 0) {
-        least = least.least(turn(rt, alloc, rounds, &mut served)?);
+    let mut least = turn(rt, alloc, further, &mut served)?;
+    for _ in 0..size.choose(9, 0) {
+        least = least.least(turn(rt, alloc, further, &mut served)?);
     }
     Ok(least)
 }
@@ -357,22 +357,30 @@ fn report_frame<R: Runtime>(rt: &R, name: &str, spent: Spent, without: Spent) ->
     Ok(())
 }
 
-/// Prints how long a verdict takes by itself, beside the run by itself.
+/// Prints how long a verdict takes by itself, and the run by itself.
 fn report_verdict<R: Runtime>(rt: &R, name: &str, spent: Spent) -> Result<()> {
-    let added = spent.verdict.saturating_sub(spent.run);
     let verdict = Hundredths::each(spent.verdict);
     let run = Hundredths::each(spent.run);
-    let added = Hundredths::each(added);
+    eprintln!(rt; "{name}: {verdict} ns a verdict by itself, {run} ns a run by itself")?;
+    Ok(())
+}
+
+/// Prints what the judge adds to the run: in the shard, to a frame without a program, and by itself.
+fn report_added<R: Runtime>(rt: &R, name: &str, spent: Spent, without: Spent) -> Result<()> {
+    let more = spent.frame.saturating_sub(without.frame);
+    let in_shard = Hundredths::each(more.saturating_sub(spent.run));
+    let by_itself = Hundredths::each(spent.verdict.saturating_sub(spent.run));
     eprintln!(rt;
-        "{name}: {verdict} ns a verdict by itself, {run} ns a run by itself, so the judge adds {added} ns"
+        "{name}: the judge adds {in_shard} ns to the run in the shard, {by_itself} ns by itself"
     )?;
     Ok(())
 }
 
-/// Prints both.
+/// Prints all of one program.
 fn report<R: Runtime>(rt: &R, name: &str, spent: Spent, without: Spent) -> Result<()> {
     report_frame(rt, name, spent, without)?;
-    report_verdict(rt, name, spent)
+    report_verdict(rt, name, spent)?;
+    report_added(rt, name, spent, without)
 }
 
 /// Prints how long each takes without a program, under the filter, and under the counter.
