@@ -8,10 +8,16 @@ pub enum Benchmark {
     Frames,
     Windows,
     Link,
+    Judge,
 }
 
 /// All of them, in the order in which they are measured where no word chooses.
-const ALL: [Benchmark; 3] = [Benchmark::Frames, Benchmark::Windows, Benchmark::Link];
+const ALL: [Benchmark; 4] = [
+    Benchmark::Frames,
+    Benchmark::Windows,
+    Benchmark::Link,
+    Benchmark::Judge,
+];
 
 impl Benchmark {
     /// The benchmark that a word chooses.
@@ -20,6 +26,7 @@ impl Benchmark {
             "frames" => Some(Benchmark::Frames),
             "windows" => Some(Benchmark::Windows),
             "link" => Some(Benchmark::Link),
+            "judge" => Some(Benchmark::Judge),
             _ => None,
         }
     }
@@ -28,7 +35,7 @@ impl Benchmark {
     fn has_number(self) -> bool {
         match self {
             Benchmark::Windows | Benchmark::Link => true,
-            Benchmark::Frames => false,
+            Benchmark::Frames | Benchmark::Judge => false,
         }
     }
 }

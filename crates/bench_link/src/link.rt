@@ -2,7 +2,7 @@
 //! 500 stations in agreements in turn, 250 in each of two shards; and how long a copy of the frame takes.
 
 use crate::asked::{Size, Task};
-use anyhow::Result;
+use anyhow::{Result, bail};
 use ap_core::{Event, LinkConfig, ListJudge, Octets, Out, Shard};
 use mac_frame::Address;
 use std::alloc::{AllocError, Global};
@@ -15,6 +15,12 @@ const BSSID: [u8; 6] = [2, 0, 0, 0, 0, 1];
 /// How many stations are associated: each of two shards has identifiers for 250.
 const STATIONS: u16 = 500;
 
+/// LLC/SNAP, the header of IPv4 with UDP, and that of UDP to port 53.
+const DATAGRAM: [u8; 36] = [
+    0xaa, 0xaa, 3, 0, 0, 0, 8, 0, 0x45, 0, 0, 92, 0, 0, 0, 0, 64, 17, 0, 0, 10, 0, 0, 1, 10, 0, 0,
+    2, 0x13, 0x88, 0, 53, 0, 72, 0, 0,
+];
+
 /// The address of a station: even ones belong to shard 0, odd ones to shard 1.
 fn address(station: u16) -> [u8; 6] {
     let [high, low] = (((station >> 1) << 3) | (station & 1)).to_be_bytes();
@@ -23,9 +29,9 @@ fn address(station: u16) -> [u8; 6] {
 
 /// An event of a station.
 #[derive(Drop)]
-struct Sent {
+pub struct Sent {
     station: u16,
-    event: Event,
+    pub event: Event,
 }
 
 /// A frame to the access point: its first four bytes, three addresses, and what comes behind them.
@@ -42,20 +48,23 @@ fn frame(alloc: Global, first: [u8; 4], station: u16, rest: &[u8]) -> Result<Sen
 }
 
 /// What an access point of network `lab` is made with.
-fn config(alloc: Global) -> Result<Option<LinkConfig>, AllocError> {
+pub fn config(alloc: Global) -> Result<LinkConfig> {
     let ssid = Octets::copy(alloc, b"lab")?;
     let rates = Octets::copy(alloc, &[0x82, 0x84, 0x8b, 0x96])?;
-    Ok(LinkConfig::new(Address::new(BSSID), ssid, rates))
+    match LinkConfig::new(Address::new(BSSID), ssid, rates) {
+        Some(config) => Ok(config),
+        None => bail!("a configuration out of limits"),
+    }
 }
 
 /// Authentication of a station.
-fn authentication(alloc: Global, station: u16) -> Result<Sent, AllocError> {
+pub fn authentication(alloc: Global, station: u16) -> Result<Sent, AllocError> {
     let request = [0x10, 0, 0, 0, 1, 0, 0, 0];
     frame(alloc, [0xb0, 0, 0, 0], station, &request)
 }
 
 /// Association of a station.
-fn association(alloc: Global, station: u16) -> Result<Sent, AllocError> {
+pub fn association(alloc: Global, station: u16) -> Result<Sent, AllocError> {
     let request = [0x10, 0, 1, 0, 10, 0, 0, 3, b'l', b'a', b'b', 1, 1, 0x82];
     frame(alloc, [0, 0, 0, 0], station, &request)
 }
@@ -73,8 +82,16 @@ fn data(alloc: Global, station: u16, number: u16, size: u16) -> Result<Sent, All
     frame(alloc, [0x88, 0x01, 0, 0], station, &rest)
 }
 
+/// QoS data for TID 0 with number 3 and 100 bytes: LLC/SNAP, IPv4, and UDP to port 53.
+pub fn datagram(alloc: Global, station: u16) -> Result<Sent, AllocError> {
+    let mut rest = Vec::from_slice(alloc, &[0x30, 0, 0, 0])?;
+    rest.extend_from_slice(&DATAGRAM)?;
+    rest.resize(104, 0)?;
+    frame(alloc, [0x88, 0x01, 0, 0], station, &rest)
+}
+
 /// How many frames are passed up.
-fn ups(outs: &[Out]) -> u64 {
+pub fn ups(outs: &[Out]) -> u64 {
     let mut passed = 0u64;
     for out in outs {
         if let Out::Up(_) = out {
@@ -92,6 +109,13 @@ struct Halves {
 }
 
 impl Halves {
+    /// Both without stations.
+    fn new(alloc: Global, config: &LinkConfig) -> Result<Halves, AllocError> {
+        let even = Shard::new(alloc, 0, config)?;
+        let odd = Shard::new(alloc, 1, config)?;
+        Ok(Halves { even, odd })
+    }
+
     /// Handles events, each in the shard of its station, and counts the frames that are passed up.
     fn handle(&mut self, alloc: Global, events: &[Sent], answers: &[u64]) -> Result<u64> {
         let mut judge = ListJudge::new(answers);
@@ -180,26 +204,37 @@ fn associate(alloc: Global, halves: &mut Halves) -> Result<()> {
     Ok(())
 }
 
+/// Two shards with all stations.
+fn joined(alloc: Global) -> Result<Halves> {
+    let config = config(alloc)?;
+    let mut halves = Halves::new(alloc, &config)?;
+    associate(alloc, &mut halves)?;
+    Ok(halves)
+}
+
+/// Prints how long frames of one size take, so many of them: of one station, and of all.
+fn report_both<R: Runtime>(
+    rt: &R,
+    alloc: Global,
+    halves: &mut Halves,
+    frames: u64,
+    size: u16,
+) -> Result<()> {
+    for stations in [1, STATIONS] {
+        let load = Load {
+            stations,
+            frames,
+            size,
+        };
+        report(rt, alloc, halves, load)?;
+    }
+    Ok(())
+}
+
 /// Prints how long each load takes, of as many frames as the task says.
 pub fn print_times<R: Runtime>(rt: &R, alloc: Global, task: &Task, size: Size) -> Result<()> {
     let frames = task.number.unwrap_or(size.choose(20_000, 1000));
-    let Some(config) = config(alloc)? else {
-        return Ok(());
-    };
-    let mut halves = Halves {
-        even: Shard::new(alloc, 0, &config)?,
-        odd: Shard::new(alloc, 1, &config)?,
-    };
-    associate(alloc, &mut halves)?;
-    for size in [100, 1500] {
-        for stations in [1, STATIONS] {
-            let load = Load {
-                stations,
-                frames,
-                size,
-            };
-            report(rt, alloc, &mut halves, load)?;
-        }
-    }
-    Ok(())
+    let mut halves = joined(alloc)?;
+    report_both(rt, alloc, &mut halves, frames, 100)?;
+    report_both(rt, alloc, &mut halves, frames, 1500)
 }

@@ -4,14 +4,20 @@
 //! - `frames`: `parse` of a data frame of 1500 bytes and of an association request;
 //! - `windows`: a reorder buffer, for data in order and with every second pair swapped. Behind it comes how many pairs;
 //! - `link`: a shard, for data frames of 100 bytes and of 1500, of one associated station in an agreement and of 500
-//!   stations in turn, 250 in each of two shards; and a copy of the frame. Behind it comes how many frames.
+//!   stations in turn, 250 in each of two shards; and a copy of the frame. Behind it comes how many frames;
+//! - `judge`: a shard, for a data frame of 100 bytes of one associated station that programs judge: without a program,
+//!   under a filter of a port with a test of the frame's end, and under a program that counts in a map; beside each the
+//!   verdict by itself, the run of the program by itself, and what the judge adds to the run. Of 500 rounds of 1000 the
+//!   least of each is printed.
 //!
 //! `quick` makes all that has no number of its own small.
 #![tactic(auto)]
 
 mod asked;
 mod frames;
+mod judged;
 mod link;
+mod policies;
 mod windows;
 
 use anyhow::Result;
@@ -20,16 +26,18 @@ use std::alloc::Global;
 use std::env;
 use std::process::ExitCode;
 use std::rt::Runtime;
+use std::sync::Wait;
 
 /// What an unknown word is told.
-const USAGE: &str = "the benchmarks are frames, windows and link; quick makes them small";
+const USAGE: &str = "the benchmarks are frames, windows, link and judge; quick makes them small";
 
 /// Prints how long what a task asks for takes.
-fn perform<R: Runtime>(rt: &R, alloc: Global, task: &Task, size: Size) -> Result<()> {
+fn perform<R: Runtime + Wait>(rt: &R, alloc: Global, task: &Task, size: Size) -> Result<()> {
     match task.benchmark {
         Benchmark::Frames => frames::print_times(rt, alloc, size),
         Benchmark::Windows => windows::print_times(rt, task, size),
         Benchmark::Link => link::print_times(rt, alloc, task, size),
+        Benchmark::Judge => judged::print_times(rt, alloc, size),
     }
 }
 

@@ -1,0 +1,392 @@
+//! How long a shard takes for a QoS data frame of 100 bytes of one associated station that programs judge: without a
+//! program, under a filter of a port, and under a program that counts in a map. Beside these the verdict by itself and
+//! the run of the program by itself, which shows what the judge adds to the run. Each is the least of all rounds.
+
+ghost use Rattle.std.specs.Prelude.{◌≡◌, ◌≤◌};
+ghost use Rattle.bpf_helpers.specs.Hooked.{IsFitting, shapes_of};
+
+use crate::asked::Size;
+use crate::link::{Sent, association, authentication, config, datagram, ups};
+use crate::policies::{COUNTER, FILTER, Policies, Seated, entered, one_seat};
+use anyhow::{Result, bail};
+use ap_core::{Event, Judge, ListJudge, Shard};
+use bpf_helpers::{WorkerState, WorkerView, run_hook};
+use bpf_machine::Accepted;
+use bpf_regions::{Context, Frame, Hook};
+use hook_judge::{SetJudge, judging_law};
+use std::alloc::{AllocError, Global};
+use std::fmt;
+use std::rt::Runtime;
+use std::sync::Wait;
+use std::time::Instant;
+
+/// The station that sends.
+const STATION: u16 = 0;
+
+/// How often each is done in a round.
+const TIMES: u64 = 1000;
+
+/// A shard at which a station is associated, and a data frame of it.
+#[derive(Drop)]
+struct Served {
+    shard: Shard,
+    sent: Sent,
+}
+
+/// How many nanoseconds a round took: of the frame in the shard, of its verdict by itself and of the run by itself.
+#[derive(Clone, Copy)]
+struct Spent {
+    frame: u128,
+    verdict: u128,
+    run: u128,
+}
+
+impl Spent {
+    /// The less of each.
+    fn least(self, other: Spent) -> Spent {
+        Spent {
+            frame: self.frame.min(other.frame),
+            verdict: self.verdict.min(other.verdict),
+            run: self.run.min(other.run),
+        }
+    }
+}
+
+/// A shard without stations.
+fn without_stations(alloc: Global) -> Result<Shard> {
+    let config = config(alloc)?;
+    Ok(Shard::new(alloc, 0, &config)?)
+}
+
+/// Handles what a station sends, where it is accepted.
+fn accept(alloc: Global, shard: &mut Shard, sent: Sent) -> Result<(), AllocError> {
+    let mut judge = ListJudge::new(&[]);
+    shard.handle(alloc, &sent.event, &mut judge)?;
+    Ok(())
+}
+
+/// A shard with the station.
+fn joined(alloc: Global) -> Result<Shard> {
+    let mut shard = without_stations(alloc)?;
+    accept(alloc, &mut shard, authentication(alloc, STATION)?)?;
+    accept(alloc, &mut shard, association(alloc, STATION)?)?;
+    Ok(shard)
+}
+
+/// The same shard, and the station's frame.
+fn opened(alloc: Global) -> Result<Served> {
+    let shard = joined(alloc)?;
+    let sent = datagram(alloc, STATION)?;
+    Ok(Served { shard, sent })
+}
+
+/// What worker 0 reads of a shard.
+fn view_of<'t>(policies: &Policies<'_, 't>, clock: u64, stations: u16) -> WorkerView<'t>
+    requires few { stations ≤ 2007 }
+    ensures maps { result.maps ≡ policies.now.maps }
+    ensures worker { result.worker ≡ 0 }
+{
+    WorkerView {
+        maps: policies.maps,
+        worker: 0,
+        clock,
+        stations,
+    }
+}
+
+/// Handles the frame once, and answers how many frames were passed up.
+#[inline(never)]
+fn handled(
+    alloc: Global,
+    served: &mut Served,
+    policies: &Policies<'_, '_>,
+    state: &mut WorkerState,
+) -> Result<u64, AllocError>
+    requires seats { IsFitting policies.now.maps.now 0 state.old.seats }
+    ensures seats { IsFitting policies.now.maps.now 0 state.new.seats }
+{
+    judging_law();
+    let view = view_of(policies, served.shard.clock(), served.shard.stations());
+    let mut judge = SetJudge::new(policies.set, view, state);
+    let outs = served.shard.handle(alloc, &served.sent.event, &mut judge)?;
+    Ok(ups(&outs))
+}
+
+/// The verdict on a frame.
+#[inline(never)]
+fn verdict(frame: &Frame<'_>, policies: &Policies<'_, '_>, state: &mut WorkerState) -> u64
+    requires seats { IsFitting policies.now.maps.now 0 state.old.seats }
+    ensures seats { IsFitting policies.now.maps.now 0 state.new.seats }
+{
+    let view = view_of(policies, 0, 1);
+    let mut judge = SetJudge::new(policies.set, view, state);
+    judge.judge(Hook::Data, frame, &Context::new([0; 32]))
+}
+
+/// R0 of a run on a frame.
+#[inline(never)]
+fn ran(
+    accepted: &Accepted,
+    frame: &Frame<'_>,
+    policies: &Policies<'_, '_>,
+    state: &mut WorkerState,
+) -> u64
+    requires shapes { shapes_of policies.now.maps.now ≡ accepted.now.code.shapes }
+    requires seats { IsFitting policies.now.maps.now 0 state.old.seats }
+    ensures seats { IsFitting policies.now.maps.now 0 state.new.seats }
+{
+    let view = view_of(policies, 0, 1);
+    run_hook(accepted, frame, &Context::new([0; 32]), view, state).r0
+}
+
+/// A round of frames in the shard. It answers how many were passed up.
+fn handle_round(
+    alloc: Global,
+    served: &mut Served,
+    policies: &Policies<'_, '_>,
+    state: &mut WorkerState,
+) -> Result<u64, AllocError>
+    requires seats { IsFitting policies.now.maps.now 0 state.old.seats }
+    ensures seats { IsFitting policies.now.maps.now 0 state.new.seats }
+{
+    let mut passed = 0u64;
+    for _ in 0..TIMES {
+        passed = passed.wrapping_add(handled(alloc, served, policies, state)?);
+    }
+    Ok(passed)
+}
+
+/// A round of verdicts on a frame. It answers their sum.
+fn judge_round(frame: &Frame<'_>, policies: &Policies<'_, '_>, state: &mut WorkerState) -> u64
+    requires seats { IsFitting policies.now.maps.now 0 state.old.seats }
+    ensures seats { IsFitting policies.now.maps.now 0 state.new.seats }
+{
+    let mut sum = 0u64;
+    for _ in 0..TIMES {
+        sum = sum.wrapping_add(verdict(frame, policies, state));
+    }
+    sum
+}
+
+/// A round of runs on a frame. It answers the sum of their R0.
+fn run_round(
+    accepted: &Accepted,
+    frame: &Frame<'_>,
+    policies: &Policies<'_, '_>,
+    state: &mut WorkerState,
+) -> u64
+    requires shapes { shapes_of policies.now.maps.now ≡ accepted.now.code.shapes }
+    requires seats { IsFitting policies.now.maps.now 0 state.old.seats }
+    ensures seats { IsFitting policies.now.maps.now 0 state.new.seats }
+{
+    let mut sum = 0u64;
+    for _ in 0..TIMES {
+        sum = sum.wrapping_add(ran(accepted, frame, policies, state));
+    }
+    sum
+}
+
+/// How long a round of verdicts on a frame takes, and one of runs, if there is a program.
+fn spent_by_itself<R: Runtime>(
+    rt: &R,
+    frame: &Frame<'_>,
+    policies: &Policies<'_, '_>,
+    state: &mut WorkerState,
+) -> Result<(u128, u128)>
+    requires seats { IsFitting policies.now.maps.now 0 state.old.seats }
+    ensures seats { IsFitting policies.now.maps.now 0 state.new.seats }
+{
+    let start = Instant::now(rt)?;
+    let judged = judge_round(frame, policies, state);
+    let verdict = start.elapsed(rt)?.as_nanos();
+    let Some(accepted) = policies.set.program(Hook::Data) else {
+        return Ok((verdict, 0));
+    };
+    let start = Instant::now(rt)?;
+    let ended = run_round(accepted, frame, policies, state);
+    let run = start.elapsed(rt)?.as_nanos();
+    if judged != ended {
+        bail!("a verdict that is not R0");
+    }
+    Ok((verdict, run))
+}
+
+/// How long one round of each takes.
+fn round<R: Runtime>(
+    rt: &R,
+    alloc: Global,
+    served: &mut Served,
+    policies: &Policies<'_, '_>,
+    state: &mut WorkerState,
+) -> Result<Spent>
+    requires seats { IsFitting policies.now.maps.now 0 state.old.seats }
+    ensures seats { IsFitting policies.now.maps.now 0 state.new.seats }
+{
+    let start = Instant::now(rt)?;
+    let passed = handle_round(alloc, served, policies, state)?;
+    let spent = start.elapsed(rt)?.as_nanos();
+    if passed != TIMES {
+        bail!("a frame that is not passed up");
+    }
+    let Event::Frame(bytes) = &served.sent.event else {
+        bail!("no frame");
+    };
+    let Some(frame) = Frame::new(bytes.bytes()) else {
+        bail!("no frame");
+    };
+    let (verdict, run) = spent_by_itself(rt, &frame, policies, state)?;
+    Ok(Spent {
+        frame: spent,
+        verdict,
+        run,
+    })
+}
+
+/// The least of each that a round took: the first, or one of so many further ones.
+fn least<R: Runtime>(
+    rt: &R,
+    alloc: Global,
+    further: u64,
+    served: &mut Served,
+    policies: &Policies<'_, '_>,
+    state: &mut WorkerState,
+) -> Result<Spent>
+    requires seats { IsFitting policies.now.maps.now 0 state.old.seats }
+{
+    let mut least = round(rt, alloc, served, policies, state)?;
+    for _ in 0..further {
+        least = least.least(round(rt, alloc, served, policies, state)?);
+    }
+    Ok(least)
+}
+
+/// The same under a program for data, or under none.
+fn least_under<R: Runtime + Wait>(
+    rt: &R,
+    alloc: Global,
+    further: u64,
+    served: &mut Served,
+    text: Option<&str>,
+) -> Result<Spent> {
+    let Seated { maps, mut state } = one_seat(alloc)?;
+    let (publisher, held) = entered(rt, alloc, text, maps.as_slice())?;
+    let policies = Policies {
+        set: held.set(),
+        maps: maps.as_slice(),
+    };
+    let least = least(rt, alloc, further, served, &policies, &mut state);
+    let _reader = held.leave();
+    publisher.close(rt);
+    least
+}
+
+/// How long each takes without a program, under the filter, and under the counter.
+#[derive(Clone, Copy)]
+struct Beside {
+    without: Spent,
+    filter: Spent,
+    counter: Spent,
+}
+
+impl Beside {
+    /// The less of each.
+    fn least(self, other: Beside) -> Beside {
+        Beside {
+            without: self.without.least(other.without),
+            filter: self.filter.least(other.filter),
+            counter: self.counter.least(other.counter),
+        }
+    }
+}
+
+/// One turn of rounds without a program, then under the filter, and then under the counter.
+fn turn<R: Runtime + Wait>(
+    rt: &R,
+    alloc: Global,
+    further: u64,
+    served: &mut Served,
+) -> Result<Beside> {
+    let without = least_under(rt, alloc, further, served, None)?;
+    let filter = least_under(rt, alloc, further, served, Some(FILTER))?;
+    let counter = least_under(rt, alloc, further, served, Some(COUNTER))?;
+    Ok(Beside {
+        without,
+        filter,
+        counter,
+    })
+}
+
+/// The least of each in ten turns of 50 rounds, or in one of two rounds.
+fn in_turn<R: Runtime + Wait>(rt: &R, alloc: Global, size: Size) -> Result<Beside> {
+    let further = size.choose(49, 1);
+    let mut served = opened(alloc)?;
+    let mut least = turn(rt, alloc, further, &mut served)?;
+    for _ in 0..size.choose(9, 0) {
+        least = least.least(turn(rt, alloc, further, &mut served)?);
+    }
+    Ok(least)
+}
+
+/// A number with two digits behind its point.
+#[derive(Clone, Copy)]
+struct Hundredths(u128);
+
+impl Hundredths {
+    /// A quotient, cut.
+    fn of(number: u128, divisor: u128) -> Hundredths {
+        Hundredths(number.wrapping_mul(100) / divisor.max(1))
+    }
+
+    /// What one took of a round.
+    fn each(nanos: u128) -> Hundredths {
+        Hundredths::of(nanos, u128::from(TIMES))
+    }
+}
+
+impl fmt::Display for Hundredths {
+    fn fmt<W: fmt::Write>(&self, f: &mut fmt::Formatter<W>) -> fmt::Result {
+        write!(f, "{}.{:02}", self.0 / 100, self.0 % 100)
+    }
+}
+
+/// Prints how long a frame takes in the shard, beside one without a program.
+fn report_frame<R: Runtime>(rt: &R, name: &str, spent: Spent, without: Spent) -> Result<()> {
+    let frame = Hundredths::each(spent.frame);
+    let times = Hundredths::of(spent.frame, without.frame);
+    eprintln!(rt; "{name}: {frame} ns a frame in the shard, {times} times one without a program")?;
+    Ok(())
+}
+
+/// Prints how long a verdict takes by itself, and the run by itself.
+fn report_verdict<R: Runtime>(rt: &R, name: &str, spent: Spent) -> Result<()> {
+    let verdict = Hundredths::each(spent.verdict);
+    let run = Hundredths::each(spent.run);
+    eprintln!(rt; "{name}: {verdict} ns a verdict by itself, {run} ns a run by itself")?;
+    Ok(())
+}
+
+/// Prints what the judge adds to the run: in the shard, to a frame without a program, and by itself.
+fn report_added<R: Runtime>(rt: &R, name: &str, spent: Spent, without: Spent) -> Result<()> {
+    let more = spent.frame.saturating_sub(without.frame);
+    let in_shard = Hundredths::each(more.saturating_sub(spent.run));
+    let by_itself = Hundredths::each(spent.verdict.saturating_sub(spent.run));
+    eprintln!(rt;
+        "{name}: the judge adds {in_shard} ns to the run in the shard, {by_itself} ns by itself"
+    )?;
+    Ok(())
+}
+
+/// Prints all of one program.
+fn report<R: Runtime>(rt: &R, name: &str, spent: Spent, without: Spent) -> Result<()> {
+    report_frame(rt, name, spent, without)?;
+    report_verdict(rt, name, spent)?;
+    report_added(rt, name, spent, without)
+}
+
+/// Prints how long each takes without a program, under the filter, and under the counter.
+pub fn print_times<R: Runtime + Wait>(rt: &R, alloc: Global, size: Size) -> Result<()> {
+    let least = in_turn(rt, alloc, size)?;
+    report(rt, "no program", least.without, least.without)?;
+    report(rt, "port filter", least.filter, least.without)?;
+    report(rt, "map counter", least.counter, least.without)
+}
