@@ -1,19 +1,44 @@
 -- What C does with words of maps.
-use Rattle.std.specs.Prelude.{◌≡◌, ℕ, List, map, Option, Some, None}
+use Rattle.std.specs.Prelude.{◌≡◌, ◌⊎◌, ℕ, List, map, slice_get, nat_lt, if◌then◌else◌, Option, Some, None}
 use Rattle.bpf_regions.specs.declared.asks.Ask.TheVariants.{Access}
 use Rattle.bpf_regions.specs.declared.maps.MapOp.{MapOp}
-use Rattle.bpf_model.specs.Run.{InRange}
+use Rattle.bpf_regions.specs.declared.maps.Shape.{Shape}
+use Rattle.bpf_model.specs.Run.{InRange, words_in}
 use Rattle.bpf_helpers.specs.Tables.{Tables}
 use Rattle.bpf_helpers.specs.Hooked as hooked
 use Rattle.apd_c.specs.declared.handle.Content.{Content}
 use Rattle.apd_c.specs.declared.handle.Content.TheVariants as content
 use Rattle.apd_c.specs.declared.maps.Maps.{Maps}
 use Rattle.apd_c.specs.declared.shapes.MapShape.{MapShape}
-use Rattle.apd_c.specs.Given.{shape_of}
+use Rattle.apd_c.specs.Answers.{IsDone, Unless}
+use Rattle.apd_c.specs.Given.{AreInLimits, shape_of}
 
 -- the content is the words of maps of these shapes, and this word is drawn next
 abbrev pub HoldsMaps : List MapShape → ℕ → Option Content → Type 0
 HoldsMaps shapes draw o = (m : Maps) × (o ≡ Some (content.Maps m)) × (m.shapes ≡ map shape_of shapes) × (m.state.draw ≡ draw)
+
+-- the maps that are held
+abbrev pub maps_of : Option Content → Option Maps
+maps_of (Some (content.Maps m)) = Some m
+maps_of _ = None
+
+-- 0, or 90 exactly where a shape is out of its limits; 40 for want of memory, and 62 for want of a seat
+abbrev pub IsMakingNumber : List MapShape → ℕ → Type 0
+IsMakingNumber shapes number = (number ≡ 40) ⊎ (number ≡ 62) ⊎ Unless (AreInLimits shapes) 90 IsDone number
+
+-- The number that is answered where maps are made: 92 exactly where the handle isn't empty.
+abbrev pub IsMapsNumber : List MapShape → Option Content → ℕ → Type 0
+IsMapsNumber shapes (Some _) number = number ≡ 92
+IsMapsNumber shapes None number = IsMakingNumber shapes number
+
+-- 0, or 90 where no map has the word
+abbrev pub word_number : List Shape → ℕ → ℕ → ℕ
+word_number shapes map word = if nat_lt word (words_in (slice_get shapes map)) then 0 else 90
+
+-- 0, or 91 where there are no maps, and else 90 where none has the word
+abbrev pub access_number : Option Maps → ℕ → ℕ → ℕ
+access_number None map word = 91
+access_number (Some m) map word = word_number m.shapes map word
 
 -- what C reads of maps: their tables
 abbrev pub reads_of : List Tables → hooked.Given

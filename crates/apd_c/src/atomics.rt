@@ -3,7 +3,7 @@
 ghost use Rattle.std.specs.Prelude.{◌≡◌, ◌≢◌};
 ghost use Rattle.bpf_regions.specs.declared.maps.MapOp.TheVariants.{Swap, Add, Or, And, Xor, CompareExchange};
 ghost use Rattle.apd_c.specs.Held.{held};
-ghost use Rattle.apd_c.specs.Words.{HasAccessed};
+ghost use Rattle.apd_c.specs.Words.{HasAccessed, access_number, maps_of};
 
 use crate::handle::Handle;
 use crate::words::{Loaded, access_at};
@@ -25,6 +25,7 @@ pub extern "C" fn apd_c_exchange(
     ensures made { result.number ≡ 0 →
         HasAccessed (held maps.old) map word (Swap value) result.value (held maps.new) }
     ensures kept { result.number ≢ 0 → held maps.new ≡ held maps.old }
+    ensures number { result.number ≡ access_number (maps_of (held maps.old)) map word }
 {
     access_at(alloc, maps, map, word, MapOp::Swap(value))
 }
@@ -44,6 +45,7 @@ pub extern "C" fn apd_c_fetch_add(
     ensures made { result.number ≡ 0 →
         HasAccessed (held maps.old) map word (Add value) result.value (held maps.new) }
     ensures kept { result.number ≢ 0 → held maps.new ≡ held maps.old }
+    ensures number { result.number ≡ access_number (maps_of (held maps.old)) map word }
 {
     access_at(alloc, maps, map, word, MapOp::Add(value))
 }
@@ -63,6 +65,7 @@ pub extern "C" fn apd_c_fetch_or(
     ensures made { result.number ≡ 0 →
         HasAccessed (held maps.old) map word (Or value) result.value (held maps.new) }
     ensures kept { result.number ≢ 0 → held maps.new ≡ held maps.old }
+    ensures number { result.number ≡ access_number (maps_of (held maps.old)) map word }
 {
     access_at(alloc, maps, map, word, MapOp::Or(value))
 }
@@ -82,6 +85,7 @@ pub extern "C" fn apd_c_fetch_and(
     ensures made { result.number ≡ 0 →
         HasAccessed (held maps.old) map word (And value) result.value (held maps.new) }
     ensures kept { result.number ≢ 0 → held maps.new ≡ held maps.old }
+    ensures number { result.number ≡ access_number (maps_of (held maps.old)) map word }
 {
     access_at(alloc, maps, map, word, MapOp::And(value))
 }
@@ -101,6 +105,7 @@ pub extern "C" fn apd_c_fetch_xor(
     ensures made { result.number ≡ 0 →
         HasAccessed (held maps.old) map word (Xor value) result.value (held maps.new) }
     ensures kept { result.number ≢ 0 → held maps.new ≡ held maps.old }
+    ensures number { result.number ≡ access_number (maps_of (held maps.old)) map word }
 {
     access_at(alloc, maps, map, word, MapOp::Xor(value))
 }
@@ -121,6 +126,7 @@ pub extern "C" fn apd_c_compare_exchange(
     ensures made { result.number ≡ 0 → HasAccessed (held maps.old) map word
         (CompareExchange expected new) result.value (held maps.new) }
     ensures kept { result.number ≢ 0 → held maps.new ≡ held maps.old }
+    ensures number { result.number ≡ access_number (maps_of (held maps.old)) map word }
 {
     access_at(
         alloc,

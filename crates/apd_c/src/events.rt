@@ -4,7 +4,10 @@ ghost use Rattle.std.specs.Prelude.{◌≡◌, ◌≢◌, Some, IfOk, IfErr, OnE
 ghost use Rattle.ap_model.specs.declared.event.Event.TheVariants as event;
 ghost use Rattle.ap_single.specs.Leading.{IsLike};
 ghost use Rattle.apd_c.specs.Held.{held};
-ghost use Rattle.apd_c.specs.Events.{HasLed, HasLedTo, IsLed, IsSame, LeadsTo, Stays};
+ghost use Rattle.apd_c.specs.Answers.{number_in};
+ghost use Rattle.apd_c.specs.Events.{HasLed, HasLedTo, IsCloseNumber, IsEventNumber, IsFrameNumber, IsLed, IsNumberAt, IsNumberOf, IsNumberOver, IsSame, LeadsTo, Stays};
+ghost use Rattle.apd_c.specs.Link.{link_of};
+ghost use Rattle.apd_c.specs.Words.{maps_of};
 
 use crate::answer::{NO_MEMORY, NOT_EMPTY, OTHER_MAPS, OTHER_VALUE, OUT_OF_LIMITS};
 use crate::handle::{Content, Handle};
@@ -34,6 +37,7 @@ fn lead(
         IsLed access_point.old maps event outs.items access_point.new result.0) }
     ensures err { IfErr result.1 (λ number. number ≢ 0) }
     ensures kept { OnErr result.1 (IsLike access_point.old access_point.new × IsSame maps result.0) }
+    ensures number { IsNumberOf access_point.old maps (number_in result.1) }
 {
     if !are_alike(access_point.shapes().as_slice(), maps.shapes.as_slice()) {
         return (maps, Err(OTHER_MAPS));
@@ -68,6 +72,7 @@ fn lead_in(
         HasLed (Some content.old) maps event outs.items (Some content.new) result.0) }
     ensures err { IfErr result.1 (λ number. number ≢ 0) }
     ensures kept { OnErr result.1 (Stays (Some content.old) (Some content.new) × IsSame maps result.0) }
+    ensures number { IsNumberAt (link_of (Some content.old)) maps (number_in result.1) }
 {
     match content {
         Content::Link(access_point) => {
@@ -89,6 +94,7 @@ fn lead_at(
         HasLed (held link.old) maps event outs.items (held link.new) result.0) }
     ensures err { IfErr result.1 (λ number. number ≢ 0) }
     ensures kept { OnErr result.1 (Stays (held link.old) (held link.new) × IsSame maps result.0) }
+    ensures number { IsNumberAt (link_of (held link.old)) maps (number_in result.1) }
 {
     match link.take(alloc) {
         None => return (maps, Err(OTHER_VALUE)),
@@ -111,6 +117,7 @@ fn lead_over(
         HasLedTo event (held link.old) (held maps.old) outs.items (held link.new) (held maps.new)) }
     ensures err { IfErr result (λ number. number ≢ 0) }
     ensures kept { OnErr result (Stays (held link.old) (held link.new) × Stays (held maps.old) (held maps.new)) }
+    ensures number { IsNumberOver (link_of (held link.old)) (maps_of (held maps.old)) (number_in result) }
 {
     match take_maps(alloc, maps) {
         None => return Err(OTHER_VALUE),
@@ -135,6 +142,7 @@ fn lead_to(
     ensures link { result ≢ 0 → Stays (held link.old) (held link.new) }
     ensures maps { result ≢ 0 → Stays (held maps.old) (held maps.new) }
     ensures outs { result ≢ 0 → held outs.new ≡ held outs.old }
+    ensures number { IsEventNumber (link_of (held link.old)) (maps_of (held maps.old)) (held outs.old) result }
 {
     if let Some(content) = outs.take(alloc) {
         outs.put(content);
@@ -171,6 +179,7 @@ pub extern "C" fn apd_c_link_frame(
     ensures link { result ≢ 0 → Stays (held link.old) (held link.new) }
     ensures maps { result ≢ 0 → Stays (held maps.old) (held maps.new) }
     ensures outs { result ≢ 0 → held outs.new ≡ held outs.old }
+    ensures number { IsFrameNumber bytes.now (link_of (held link.old)) (maps_of (held maps.old)) (held outs.old) result }
 {
     if bytes.len() > 2400 {
         return OUT_OF_LIMITS;
@@ -198,6 +207,7 @@ pub extern "C" fn apd_c_link_tick(
     ensures link { result ≢ 0 → Stays (held link.old) (held link.new) }
     ensures maps { result ≢ 0 → Stays (held maps.old) (held maps.new) }
     ensures outs { result ≢ 0 → held outs.new ≡ held outs.old }
+    ensures number { IsEventNumber (link_of (held link.old)) (maps_of (held maps.old)) (held outs.old) result }
 {
     lead_to(alloc, link, maps, outs, Event::Tick(units))
 }
@@ -217,6 +227,7 @@ pub extern "C" fn apd_c_link_kick(
     ensures link { result ≢ 0 → Stays (held link.old) (held link.new) }
     ensures maps { result ≢ 0 → Stays (held maps.old) (held maps.new) }
     ensures outs { result ≢ 0 → held outs.new ≡ held outs.old }
+    ensures number { IsEventNumber (link_of (held link.old)) (maps_of (held maps.old)) (held outs.old) result }
 {
     let kick = Event::Kick {
         station: Address::new(station.octets),
@@ -241,6 +252,7 @@ pub extern "C" fn apd_c_link_close(
     ensures link { result ≢ 0 → Stays (held link.old) (held link.new) }
     ensures maps { result ≢ 0 → Stays (held maps.old) (held maps.new) }
     ensures outs { result ≢ 0 → held outs.new ≡ held outs.old }
+    ensures number { IsCloseNumber tid (link_of (held link.old)) (maps_of (held maps.old)) (held outs.old) result }
 {
     let Some(tid) = Tid::new(tid) else {
         return OUT_OF_LIMITS;
