@@ -1,5 +1,5 @@
 -- The numbers that calls answer.
-use Rattle.std.specs.Prelude.{◌≡◌, ◌⊎◌, ℕ, Result, Ok, Err}
+use Rattle.std.specs.Prelude.{◌≡◌, ◌⊎◌, ℕ, Option, Some, None, Result, Ok, Err}
 use Rattle.apd_c.specs.declared.answer.Answer.{Answer}
 
 -- a number that stands at no slot
@@ -20,10 +20,20 @@ number_with (Err refusal) = refusal.0
 abbrev pub IsDone : ℕ → Type 0
 IsDone number = number ≡ 0
 
--- this refusal exactly where P doesn't hold; where it does, what comes then
+-- this refusal exactly where P doesn't hold, and else what comes next
 abbrev pub Unless : {X : Type 0} → Type 0 → X → (X → Type 0) → X → Type 0
 Unless P refusal next x = ((P → ⊥) × (x ≡ refusal)) ⊎ (P × next x)
 
--- 40 for want of memory, or else this
-abbrev pub OrNoMemory : (ℕ → Type 0) → ℕ → Type 0
-OrNoMemory P number = (number ≡ 40) ⊎ P number
+-- this refusal exactly where there is none, and else what comes of the one
+abbrev pub UnlessSome : {A X : Type 0} → Option A → X → (A → X → Type 0) → X → Type 0
+UnlessSome None refusal next x = x ≡ refusal
+UnlessSome (Some a) refusal next x = next a x
+
+-- this refusal exactly where there is one, and else what comes next
+abbrev pub UnlessNone : {A X : Type 0} → Option A → X → (X → Type 0) → X → Type 0
+UnlessNone None refusal next x = next x
+UnlessNone (Some a) refusal next x = x ≡ refusal
+
+-- perhaps this refusal, and else what comes next
+abbrev pub Perhaps : {X : Type 0} → X → (X → Type 0) → X → Type 0
+Perhaps refusal next x = (x ≡ refusal) ⊎ next x

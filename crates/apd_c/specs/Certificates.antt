@@ -15,7 +15,7 @@ use Rattle.apd_c.specs.declared.answer.Answer.{Answer}
 use Rattle.apd_c.specs.declared.handle.Content.{Content}
 use Rattle.apd_c.specs.declared.handle.Content.TheVariants as content
 use Rattle.apd_c.specs.declared.shapes.MapShape.{MapShape}
-use Rattle.apd_c.specs.Answers.{answer, Unless}
+use Rattle.apd_c.specs.Answers.{answer, Perhaps, Unless, UnlessNone, UnlessSome}
 use Rattle.apd_c.specs.Given.{IsAskable, shape_of}
 use Rattle.apd_c.specs.Code.{IsUndecoded, code_of}
 
@@ -59,12 +59,11 @@ abbrev pub IsShownOr : ℕ → List ℕ → List Shape → List ℕ → Answer �
 IsShownOr hook bytes shapes certificate a =
     (a ≡ answer 0) ⊎ IsUndecoded bytes shapes a ⊎ ((h : Hook) × (hook ≡ number_of h) × IsUnshown h bytes shapes certificate a)
 
--- The answer to a check that is asked: 92 exactly where the handle isn't empty. Else it is 40, or 90 exactly where there is
--- no such hook or a shape is out of its limits; else 0, or why the program isn't let in.
+-- The answer where an empty handle is to be filled by a certificate: 92 exactly where it isn't empty; else perhaps 40; else
+-- 90 exactly where there is no such hook or a shape is out of its limits; else 0, or why the program isn't let in.
 abbrev pub IsCheckVerdict : ℕ → List ℕ → List MapShape → List ℕ → Option Content → Answer → Type 0
-IsCheckVerdict hook bytes shapes certificate (Some _) a = a ≡ answer 92
-IsCheckVerdict hook bytes shapes certificate None a =
-    (a ≡ answer 40) ⊎ Unless (IsAskable hook shapes) (answer 90) (IsShownOr hook bytes (map shape_of shapes) certificate) a
+IsCheckVerdict hook bytes shapes certificate o =
+    UnlessNone o (answer 92) (Perhaps (answer 40) (Unless (IsAskable hook shapes) (answer 90) (IsShownOr hook bytes (map shape_of shapes) certificate)))
 
 -- A verifier's fault, or 40, at a slot that begins an instruction.
 pub record IsUncertified (program : Verified) (answer : Answer) : Type 0 where
@@ -72,13 +71,11 @@ pub record IsUncertified (program : Verified) (answer : Answer) : Type 0 where
   pub begins : Begins program.code.slots answer.slot
   pub number : answer.number ≡ rules.number_of why
 
--- 0, or why the program has no certificate; 91 exactly where there is no program
-abbrev pub IsCertifiedOr : Option Verified → Answer → Type 0
-IsCertifiedOr None a = a ≡ answer 91
-IsCertifiedOr (Some program) a = (a ≡ answer 0) ⊎ (a ≡ answer 40) ⊎ IsUncertified program a
+-- 0, or why the program has no certificate
+abbrev pub IsCertifiedOr : Verified → Answer → Type 0
+IsCertifiedOr program = Perhaps (answer 40) (λ a. (a ≡ answer 0) ⊎ IsUncertified program a)
 
--- The answer where a certificate is asked for: 92 exactly where its handle isn't empty; else 91 exactly where the other one
--- holds no program; else 0, or why there is none.
+-- The answer where an empty handle is to be filled with a certificate: 92 exactly where it isn't empty; else 91 exactly where
+-- the other handle holds no program; else 0, or why there is none.
 abbrev pub IsCertifyAnswer : Option Content → Option Content → Answer → Type 0
-IsCertifyAnswer code (Some _) a = a ≡ answer 92
-IsCertifyAnswer code None a = IsCertifiedOr (code_of code) a
+IsCertifyAnswer code o = UnlessNone o (answer 92) (UnlessSome (code_of code) (answer 91) IsCertifiedOr)

@@ -20,7 +20,7 @@ use Rattle.apd_c.specs.declared.answer.Answer.{Answer}
 use Rattle.apd_c.specs.declared.handle.Content.{Content}
 use Rattle.apd_c.specs.declared.handle.Content.TheVariants as content
 use Rattle.apd_c.specs.declared.shapes.MapShape.{MapShape}
-use Rattle.apd_c.specs.Answers.{answer, Unless}
+use Rattle.apd_c.specs.Answers.{answer, Perhaps, Unless, UnlessNone}
 use Rattle.apd_c.specs.Given.{IsAskable, shape_of}
 
 -- The program that these bytes spell, for maps of these shapes and for a hook, safe within its budget.
@@ -74,8 +74,8 @@ budget_of _ = 0
 abbrev pub IsAdmittedOr : List ℕ → List Shape → Answer → Type 0
 IsAdmittedOr bytes shapes a = (a ≡ answer 0) ⊎ IsRefused bytes shapes a
 
--- The answer to a verdict that is asked: 92 exactly where the handle isn't empty. Else it is 40, or 90 exactly where there
--- is no such hook or a shape is out of its limits; else 0, or why the program isn't admitted.
+-- The answer where an empty handle is to be filled with a program: 92 exactly where it isn't empty; else perhaps 40; else 90
+-- exactly where there is no such hook or a shape is out of its limits; else 0, or why the program isn't admitted.
 abbrev pub IsVerdict : ℕ → List ℕ → List MapShape → Option Content → Answer → Type 0
-IsVerdict hook bytes shapes (Some _) a = a ≡ answer 92
-IsVerdict hook bytes shapes None a = (a ≡ answer 40) ⊎ Unless (IsAskable hook shapes) (answer 90) (IsAdmittedOr bytes (map shape_of shapes)) a
+IsVerdict hook bytes shapes o =
+    UnlessNone o (answer 92) (Perhaps (answer 40) (Unless (IsAskable hook shapes) (answer 90) (IsAdmittedOr bytes (map shape_of shapes))))

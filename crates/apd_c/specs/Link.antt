@@ -11,7 +11,8 @@ use Rattle.apd_c.specs.declared.handle.Content.{Content}
 use Rattle.apd_c.specs.declared.handle.Content.TheVariants as content
 use Rattle.apd_c.specs.declared.link.Network.{Network}
 use Rattle.apd_c.specs.declared.shapes.MapShape.{MapShape}
-use Rattle.apd_c.specs.Answers.{IsDone, OrNoMemory, Unless}
+use Rattle.apd_c.specs.Answers.{IsDone, Perhaps, Unless, UnlessNone, UnlessSome}
+use Rattle.apd_c.specs.Code.{code_of}
 use Rattle.apd_c.specs.Given.{AreInLimits, IsHook, shape_of}
 
 -- the configuration
@@ -26,12 +27,12 @@ pub record IsNetwork (n : Network) : Type 0 where
 
 -- 0, or 90 exactly where the name, the rates or a shape are out of their limits; 40 for want of memory
 abbrev pub IsNewNumber : Network → List MapShape → ℕ → Type 0
-IsNewNumber network shapes = OrNoMemory (Unless (IsNetwork network × AreInLimits shapes) 90 IsDone)
+IsNewNumber network shapes = Perhaps 40 (Unless (IsNetwork network × AreInLimits shapes) 90 IsDone)
 
--- The number that is answered where an access point is made: 92 exactly where the handle isn't empty.
+-- The number where an empty handle is to be filled with an access point: 92 exactly where it isn't empty; else the number of
+-- making one.
 abbrev pub IsLinkNumber : Network → List MapShape → Option Content → ℕ → Type 0
-IsLinkNumber network shapes (Some _) number = number ≡ 92
-IsLinkNumber network shapes None number = IsNewNumber network shapes number
+IsLinkNumber network shapes o = UnlessNone o 92 (IsNewNumber network shapes)
 
 -- an access point of this configuration that has handled nothing and has no programs, for maps of these shapes
 pub record IsMade (network : Network) (shapes : List MapShape) (a : Parts) : Type 0 where
@@ -58,20 +59,14 @@ abbrev pub link_of : Option Content → Option Parts
 link_of (Some (content.Link a)) = Some a
 link_of _ = None
 
--- 0, or 95 exactly where the program was verified for another hook; else 93 exactly where it is for other maps
+-- 0, or 95 exactly where the program was verified for another hook; else 93 exactly where it is for maps of other shapes
 abbrev pub IsPutNumber : ℕ → Verified → Parts → ℕ → Type 0
 IsPutNumber hook program a = Unless (number_of program.hook ≡ hook) 95 (Unless (program.code.shapes ≡ a.programs.shapes) 93 IsDone)
 
--- the same, or 91 exactly where there is no access point
-abbrev pub IsPutAtNumber : ℕ → Verified → Option Parts → ℕ → Type 0
-IsPutAtNumber hook program None number = number ≡ 91
-IsPutAtNumber hook program (Some a) number = IsPutNumber hook program a number
+-- the same for a hook and an access point: 90 exactly where there is no such hook; else 91 exactly where the handle holds none
+abbrev pub IsPutAtNumber : ℕ → Verified → Option Content → ℕ → Type 0
+IsPutAtNumber hook program link = Unless (IsHook hook) 90 (UnlessSome (link_of link) 91 (IsPutNumber hook program))
 
--- the same, or first 90 exactly where there is no such hook
-abbrev pub IsPutForNumber : ℕ → Verified → Option Parts → ℕ → Type 0
-IsPutForNumber hook program a = Unless (IsHook hook) 90 (IsPutAtNumber hook program a)
-
--- The number that is answered where a program is loaded: first 91 exactly where there is no program.
-abbrev pub IsLoadNumber : ℕ → Option Verified → Option Parts → ℕ → Type 0
-IsLoadNumber hook None a number = number ≡ 91
-IsLoadNumber hook (Some program) a number = IsPutForNumber hook program a number
+-- The number of loading: 91 exactly where a handle holds no program; else the number of putting it there.
+abbrev pub IsLoadNumber : ℕ → Option Content → Option Content → ℕ → Type 0
+IsLoadNumber hook code link = UnlessSome (code_of code) 91 (λ program. IsPutAtNumber hook program link)

@@ -9,7 +9,9 @@ use Rattle.apd_c.specs.declared.handle.Content.TheVariants as content
 use Rattle.apd_c.specs.declared.maps.Maps.{Maps}
 use Rattle.apd_c.specs.declared.runs.Given.{Given}
 use Rattle.apd_c.specs.declared.runs.Report.{Report}
-use Rattle.apd_c.specs.Answers.{IsDone, Unless}
+use Rattle.apd_c.specs.Answers.{IsDone, Unless, UnlessSome}
+use Rattle.apd_c.specs.Code.{code_of}
+use Rattle.apd_c.specs.Words.{maps_of}
 
 -- what the program reads: the words of the maps, the clock and the stations
 abbrev pub given_to : Maps → Given → hooked.Given
@@ -47,12 +49,7 @@ pub record IsGivable (frame : List ℕ) (g : Given) : Type 0 where
 abbrev pub IsNumberOn : Verified → Maps → List ℕ → Given → ℕ → Type 0
 IsNumberOn a m frame g = Unless (IsGivable frame g) 90 (Unless (m.shapes ≡ a.code.shapes) 93 IsDone)
 
--- the same, or 91 exactly where there are no maps
-abbrev pub IsNumberOver : Verified → Option Maps → List ℕ → Given → ℕ → Type 0
-IsNumberOver a None frame g number = number ≡ 91
-IsNumberOver a (Some m) frame g number = IsNumberOn a m frame g number
-
--- The number that a run answers: 91 exactly where a handle doesn't hold what it is asked for.
-abbrev pub IsRunNumber : Option Verified → Option Maps → List ℕ → Given → ℕ → Type 0
-IsRunNumber None m frame g number = number ≡ 91
-IsRunNumber (Some a) m frame g number = IsNumberOver a m frame g number
+-- The number of a run: 91 exactly where a handle doesn't hold what it is asked for; else 90 exactly where the frame or the
+-- stations are out of their limits; else 93 exactly where the program is for maps of other shapes; else 0.
+abbrev pub IsRunNumber : Option Content → Option Content → List ℕ → Given → ℕ → Type 0
+IsRunNumber code maps frame g = UnlessSome (code_of code) 91 (λ a. UnlessSome (maps_of maps) 91 (λ m. IsNumberOn a m frame g))

@@ -1,5 +1,5 @@
 -- What C does with words of maps.
-use Rattle.std.specs.Prelude.{◌≡◌, ◌⊎◌, ℕ, List, map, slice_get, nat_lt, if◌then◌else◌, Option, Some, None}
+use Rattle.std.specs.Prelude.{◌≡◌, ◌≢◌, ℕ, List, map, slice_get, nat_lt, if◌then◌else◌, Option, Some, None}
 use Rattle.bpf_regions.specs.declared.asks.Ask.TheVariants.{Access}
 use Rattle.bpf_regions.specs.declared.maps.MapOp.{MapOp}
 use Rattle.bpf_regions.specs.declared.maps.Shape.{Shape}
@@ -10,7 +10,8 @@ use Rattle.apd_c.specs.declared.handle.Content.{Content}
 use Rattle.apd_c.specs.declared.handle.Content.TheVariants as content
 use Rattle.apd_c.specs.declared.maps.Maps.{Maps}
 use Rattle.apd_c.specs.declared.shapes.MapShape.{MapShape}
-use Rattle.apd_c.specs.Answers.{IsDone, Unless}
+use Rattle.apd_c.specs.declared.words.Loaded.{Loaded}
+use Rattle.apd_c.specs.Answers.{IsDone, Perhaps, Unless, UnlessNone, UnlessSome}
 use Rattle.apd_c.specs.Given.{AreInLimits, shape_of}
 
 -- the content is the words of maps of these shapes, and this word is drawn next
@@ -24,21 +25,16 @@ maps_of _ = None
 
 -- 0, or 90 exactly where a shape is out of its limits; 40 for want of memory, and 62 for want of a seat
 abbrev pub IsMakingNumber : List MapShape → ℕ → Type 0
-IsMakingNumber shapes number = (number ≡ 40) ⊎ (number ≡ 62) ⊎ Unless (AreInLimits shapes) 90 IsDone number
+IsMakingNumber shapes = Perhaps 40 (Perhaps 62 (Unless (AreInLimits shapes) 90 IsDone))
 
--- The number that is answered where maps are made: 92 exactly where the handle isn't empty.
+-- The number where an empty handle is to be filled with maps: 92 exactly where it isn't empty; else the number of making
+-- them.
 abbrev pub IsMapsNumber : List MapShape → Option Content → ℕ → Type 0
-IsMapsNumber shapes (Some _) number = number ≡ 92
-IsMapsNumber shapes None number = IsMakingNumber shapes number
+IsMapsNumber shapes o = UnlessNone o 92 (IsMakingNumber shapes)
 
 -- 0, or 90 where no map has the word
 abbrev pub word_number : List Shape → ℕ → ℕ → ℕ
 word_number shapes map word = if nat_lt word (words_in (slice_get shapes map)) then 0 else 90
-
--- 0, or 91 where there are no maps, and else 90 where none has the word
-abbrev pub access_number : Option Maps → ℕ → ℕ → ℕ
-access_number None map word = 91
-access_number (Some m) map word = word_number m.shapes map word
 
 -- what C reads of maps: their tables
 abbrev pub reads_of : List Tables → hooked.Given
@@ -61,3 +57,14 @@ pub record IsAccessed (m : Maps) (at word : ℕ) (operation : MapOp) (answer : �
 abbrev pub HasAccessed : Option Content → ℕ → ℕ → MapOp → ℕ → Option Content → Type 0
 HasAccessed o at word operation answer o' =
     (m : Maps) × (m' : Maps) × (o ≡ Some (content.Maps m)) × (o' ≡ Some (content.Maps m')) × IsAccessed m at word operation answer m'
+
+-- the number of an access: 91 exactly where the handle holds no maps; else 90 where none has the word, and else 0
+abbrev pub IsAccessNumber : Option Content → ℕ → ℕ → ℕ → Type 0
+IsAccessNumber o at word = UnlessSome (maps_of o) 91 (λ m number. number ≡ word_number m.shapes at word)
+
+-- One operation on a word of the maps that a handle holds: 0 and the answer of the one access, or a number of a refusal,
+-- which changes nothing.
+pub record Operates (o : Option Content) (at word : ℕ) (operation : MapOp) (answer : Loaded) (o' : Option Content) : Type 0 where
+  pub made : answer.number ≡ 0 → HasAccessed o at word operation answer.value o'
+  pub kept : answer.number ≢ 0 → o' ≡ o
+  pub number : IsAccessNumber o at word answer.number

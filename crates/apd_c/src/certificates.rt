@@ -3,6 +3,7 @@
 ghost use Rattle.std.specs.Prelude.{◌≡◌, ◌≢◌, ◌⊎◌, map, Some, None, OnOk, IfOk, IfErr, IsSome, length, min, take};
 ghost use Rattle.bpf_regions.specs.declared.hooks.Hook.{Hook as AHook};
 ghost use Rattle.bpf_regions.specs.Hooks.{number_of};
+ghost use Rattle.apd_c.specs.Answers.{UnlessSome, answer};
 ghost use Rattle.apd_c.specs.Held.{held};
 ghost use Rattle.apd_c.specs.Given.{IsAskable, shape_of};
 ghost use Rattle.apd_c.specs.Certificates.{IsShown, Certifies, HoldsCertificate, HoldsShown, IsUnshown, IsCertifiedOr, IsCertifyAnswer, IsCheckVerdict, bytes_of};
@@ -22,7 +23,7 @@ use std::alloc::Global;
 fn certified(alloc: Global, content: &Content) -> Result<Vec<u8>, Answer>
     ensures ok { IfOk result (λ bytes. Certifies (Some content.now) bytes.items) }
     ensures err { IfErr result (λ e. e.number ≢ 0) }
-    ensures why { IfErr result (IsCertifiedOr (code_of (Some content.now))) }
+    ensures why { IfErr result (UnlessSome (code_of (Some content.now)) (answer 91) IsCertifiedOr) }
 {
     match content {
         Content::Code(accepted) => match certificate(alloc, accepted) {
@@ -42,7 +43,7 @@ fn certified(alloc: Global, content: &Content) -> Result<Vec<u8>, Answer>
 fn certificate_of(alloc: Global, code: &mut Handle) -> Result<Vec<u8>, Answer>
     ensures ok { IfOk result (λ bytes. Certifies (held code.old) bytes.items) }
     ensures err { IfErr result (λ e. e.number ≢ 0) }
-    ensures why { IfErr result (IsCertifiedOr (code_of (held code.old))) }
+    ensures why { IfErr result (UnlessSome (code_of (held code.old)) (answer 91) IsCertifiedOr) }
     ensures kept { held code.new ≡ held code.old }
 {
     match code.take(alloc) {

@@ -7,9 +7,9 @@ ghost use Rattle.bpf_regions.specs.Hooks.{number_of};
 ghost use Rattle.bpf_machine.specs.Verified.{Verified};
 ghost use Rattle.apd_c.specs.declared.handle.Content.TheVariants.{Code as CodeContent};
 ghost use Rattle.apd_c.specs.Held.{held};
-ghost use Rattle.apd_c.specs.Answers.{number_with};
+ghost use Rattle.apd_c.specs.Answers.{UnlessSome, number_with};
 ghost use Rattle.apd_c.specs.Code.{code_of};
-ghost use Rattle.apd_c.specs.Link.{HasPut, IsLoadNumber, IsPutAtNumber, IsPutForNumber, IsPutNumber, Puts, link_of};
+ghost use Rattle.apd_c.specs.Link.{HasPut, IsLoadNumber, IsPutAtNumber, IsPutNumber, Puts, link_of};
 
 use crate::answer::{OTHER_HOOK, OTHER_MAPS, OTHER_VALUE, OUT_OF_LIMITS};
 use crate::code::hook_of;
@@ -69,7 +69,8 @@ fn put_in(content: &mut Content, hook: Hook, accepted: Accepted) -> Result<(), (
     ensures ok { OnOk result (HasPut hook accepted (Some content.old) (Some content.new)) }
     ensures err { OnErr result (content.new ≡ content.old) }
     ensures back { IfErr result (λ e. (e.0 ≢ 0) × (e.1 ≡ accepted)) }
-    ensures number { IsPutAtNumber (number_of hook) accepted (link_of (Some content.old)) (number_with result) }
+    ensures number { UnlessSome (link_of (Some content.old)) 91 (IsPutNumber (number_of hook) accepted)
+        (number_with result) }
 {
     match content {
         Content::Link(access_point) => {
@@ -90,7 +91,7 @@ fn put_at(
     ensures ok { OnOk result ((h : AHook) × (hook ≡ number_of h) × HasPut h accepted (held link.old) (held link.new)) }
     ensures err { OnErr result (held link.new ≡ held link.old) }
     ensures back { IfErr result (λ e. (e.0 ≢ 0) × (e.1 ≡ accepted)) }
-    ensures number { IsPutForNumber hook accepted (link_of (held link.old)) (number_with result) }
+    ensures number { IsPutAtNumber hook accepted (held link.old) (number_with result) }
 {
     let Some(hook) = hook_of(hook) else {
         return Err((OUT_OF_LIMITS, accepted));
@@ -123,7 +124,7 @@ pub extern "C" fn apd_c_link_load(
     ensures emptied { result ≡ 0 → held code.new ≡ None }
     ensures link { result ≢ 0 → held link.new ≡ held link.old }
     ensures code { result ≢ 0 → held code.new ≡ held code.old }
-    ensures number { IsLoadNumber hook (code_of (held code.old)) (link_of (held link.old)) result }
+    ensures number { IsLoadNumber hook (held code.old) (held link.old) result }
 {
     match take_code(alloc, code) {
         None => return OTHER_VALUE,

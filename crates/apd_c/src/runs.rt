@@ -2,9 +2,9 @@
 
 ghost use Rattle.std.specs.Prelude.{◌≡◌, ◌≢◌, ◌≤◌, ◌↔◌, Some, IsTrue, take};
 ghost use Rattle.apd_c.specs.Held.{held};
-ghost use Rattle.apd_c.specs.Code.{code_of};
+ghost use Rattle.apd_c.specs.Answers.{UnlessSome};
 ghost use Rattle.apd_c.specs.Words.{maps_of};
-ghost use Rattle.apd_c.specs.Runs.{RunsOn, HasRun, RunsCode, IsNumberOn, IsNumberOver, IsRunNumber};
+ghost use Rattle.apd_c.specs.Runs.{RunsOn, HasRun, RunsCode, IsNumberOn, IsRunNumber};
 
 use crate::answer::{OTHER_MAPS, OTHER_VALUE, OUT_OF_LIMITS};
 use crate::handle::{Content, Handle};
@@ -129,7 +129,8 @@ fn run_at(
     ensures run { result.number ≡ 0 →
         HasRun accepted.now (held maps.old) frame.now given.now result (held maps.new) }
     ensures refused { result.number ≢ 0 → held maps.new ≡ held maps.old }
-    ensures number { IsNumberOver accepted.now (maps_of (held maps.old)) frame.now given.now result.number }
+    ensures number { UnlessSome (maps_of (held maps.old)) 91
+        (λ m. IsNumberOn accepted.now m frame.now given.now) result.number }
 {
     match take_maps(alloc, maps) {
         None => return refused(OTHER_VALUE),
@@ -152,8 +153,7 @@ fn run_content(
     ensures run { result.number ≡ 0 →
         RunsCode (Some content.now) (held maps.old) frame.now given.now result (held maps.new) }
     ensures refused { result.number ≢ 0 → held maps.new ≡ held maps.old }
-    ensures number { IsRunNumber (code_of (Some content.now)) (maps_of (held maps.old)) frame.now given.now
-        result.number }
+    ensures number { IsRunNumber (Some content.now) (held maps.old) frame.now given.now result.number }
 {
     match content {
         Content::Code(accepted) => {
@@ -182,8 +182,7 @@ pub extern "C" fn apd_c_run(
         RunsCode (held code.old) (held maps.old) frame.now given.now result (held maps.new) }
     ensures refused { result.number ≢ 0 → held maps.new ≡ held maps.old }
     ensures code { held code.new ≡ held code.old }
-    ensures number { IsRunNumber (code_of (held code.old)) (maps_of (held maps.old)) frame.now given.now
-        result.number }
+    ensures number { IsRunNumber (held code.old) (held maps.old) frame.now given.now result.number }
 {
     match code.take(alloc) {
         None => return refused(OTHER_VALUE),

@@ -10,7 +10,7 @@ ghost use Rattle.apd_c.specs.declared.handle.Content.TheVariants.{Maps as MapsCo
 ghost use Rattle.apd_c.specs.Held.{held};
 ghost use Rattle.apd_c.specs.Answers.{number_in};
 ghost use Rattle.apd_c.specs.Given.{shape_of};
-ghost use Rattle.apd_c.specs.Words.{HasAccessed, HoldsMaps, IsAccessed, IsMakingNumber, IsMapsNumber, access_number, maps_of, reads_of, word_number};
+ghost use Rattle.apd_c.specs.Words.{HasAccessed, HoldsMaps, IsAccessNumber, IsAccessed, IsMakingNumber, IsMapsNumber, Operates, maps_of, reads_of, word_number};
 
 use crate::answer::{NO_MEMORY, NOT_EMPTY, OTHER_VALUE, OUT_OF_LIMITS};
 use crate::handle::{Content, Handle};
@@ -127,10 +127,7 @@ pub(crate) fn access_at(
     word: u32,
     operation: MapOp,
 ) -> Loaded
-    ensures made { result.number ≡ 0 →
-        HasAccessed (held maps.old) map word operation result.value (held maps.new) }
-    ensures kept { result.number ≢ 0 → held maps.new ≡ held maps.old }
-    ensures number { result.number ≡ access_number (maps_of (held maps.old)) map word }
+    ensures { Operates (held maps.old) map word operation result (held maps.new) }
 {
     match take_maps(alloc, maps) {
         None => return Loaded::refused(OTHER_VALUE),
@@ -192,10 +189,7 @@ pub extern "C" fn apd_c_maps(
 /// 0: the word was loaded. 90: there is no such word. 91: the handle holds no maps. It takes no memory.
 #[unsafe(no_mangle)]
 pub extern "C" fn apd_c_load(alloc: Global, maps: &mut Handle, map: u32, word: u32) -> Loaded
-    ensures loaded { result.number ≡ 0 →
-        HasAccessed (held maps.old) map word Load result.value (held maps.new) }
-    ensures kept { result.number ≢ 0 → held maps.new ≡ held maps.old }
-    ensures number { result.number ≡ access_number (maps_of (held maps.old)) map word }
+    ensures { Operates (held maps.old) map word Load result (held maps.new) }
 {
     access_at(alloc, maps, map, word, MapOp::Load)
 }
@@ -214,7 +208,7 @@ pub extern "C" fn apd_c_store(
     ensures stored { result ≡ 0 →
         HasAccessed (held maps.old) map word (Store value) 0 (held maps.new) }
     ensures kept { result ≢ 0 → held maps.new ≡ held maps.old }
-    ensures number { result ≡ access_number (maps_of (held maps.old)) map word }
+    ensures number { IsAccessNumber (held maps.old) map word result }
 {
     access_at(alloc, maps, map, word, MapOp::Store(value)).number
 }
