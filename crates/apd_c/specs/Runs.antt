@@ -1,5 +1,5 @@
 -- What runs of programs come to, as C sees them.
-use Rattle.std.specs.Prelude.{◌≡◌, ◌≤◌, ℕ, List, length, take, Option, Some, None}
+use Rattle.std.specs.Prelude.{◌≡◌, ◌≤◌, ℕ, List, length, take, Option, Some}
 use Rattle.bpf_machine.specs.Verified.{Verified}
 use Rattle.bpf_machine.specs.Runs.{Ran, setting_of}
 use Rattle.bpf_machine.specs.declared.outcome.Outcome.{Outcome}
