@@ -158,8 +158,8 @@ fn made(alloc: Global, shapes: &[MapShape], draw: u64) -> Result<Maps, u32>
 
 /// Fills an empty handle with maps of these shapes, each of whose words is 0, and the word that programs draw first.
 ///
-/// 0: the handle holds them. 40: memory was refused. 90: a shape out of its limits. 92: the handle isn't empty. All but
-/// 0 leave the handle as it was.
+/// 0: the handle holds them. 40: memory was refused. 62: no seat of a map is left; only tests show that one is. 90: a shape out of
+/// its limits. 92: the handle isn't empty. All but 0 leave the handle as it was.
 #[unsafe(no_mangle)]
 pub extern "C" fn apd_c_maps(
     alloc: Global,
