@@ -1,18 +1,20 @@
 /*
  * apd.h - the verifier, the machine and the link of apd, for programs in C and C++.
  *
- * Link with libapd.a. Its code is proved (crates/apd_c): what a call that answers 0 has done, and that one which answers
- * another number changed nothing. When the calls on the link and on words of maps answer 90 to 95 is tested, not proved.
- * The proofs begin at the functions named apd_c_*; the inline functions of this header test pointers for NULL, and are C
- * like any other.
+ * Link with libapd.a. Its code is proved (crates/apd_c): what a call that answers 0 has done; that one which answers
+ * another number changed nothing; and when each of 90 to 93 and 95 is answered, so that a call for which none of them is
+ * due answers 0, or why code, a certificate or memory is refused. That memory isn't refused where there is some is tested,
+ * not proved. The proofs begin at the functions named apd_c_*; the inline functions of this header test pointers for NULL,
+ * which alone is answered by 94, and are C like any other.
  *
  * What the caller keeps, without which nothing is promised:
  *  - Memory: a pointer leads to as many values as the count beside it says, which are initialized and which nothing else
  *    writes during the call. The library keeps no pointer: what is passed need only stand while the call runs.
  *  - Handles: a handle is zero (APD_EMPTY) or as a call left it. Neither field is changed, no full handle is copied and
  *    used twice, and each is freed by apd_free.
- *  - Threads: there is one call at a time on a handle, and a handle stays on the thread that filled it. Handles are apart
- *    from each other: threads may call at the same time, each with handles of its own.
+ *  - Threads: there is one call at a time on a handle. Any thread may make it, once a lock, a thread's start or join, or a
+ *    sequentially consistent atomic has put the call before it first. Handles are apart from each other: threads may call
+ *    at the same time, each with handles of its own.
  *  - No call is made from a signal handler, or from the forked child of a process with threads.
  *  - Memory comes from malloc and goes by free, which are those of one allocator and align as the C standard says.
  */

@@ -1,6 +1,7 @@
 /* Calls with what no caller should pass: NULL, no bytes, too many bytes, and handles that hold something else. Prints the
    line of the first answer that is another than is wanted, and ends with status 1. */
 #include <apd.h>
+#include <pthread.h>
 #include <stdio.h>
 #include <string.h>
 
@@ -153,6 +154,34 @@ static void hostile_maps(void)
     apd_free(&code);
 }
 
+static pthread_mutex_t turn = PTHREAD_MUTEX_INITIALIZER;
+
+static void *count(void *maps)
+{
+    for (int at = 0; at < 1000; at++) {
+        pthread_mutex_lock(&turn);
+        apd_fetch_add(maps, 0, 0, 1);
+        pthread_mutex_unlock(&turn);
+    }
+    return NULL;
+}
+
+/* Two threads take turns at one handle. */
+static void handed_over(void)
+{
+    apd_handle maps = APD_EMPTY;
+    apd_shape shape = {1, 1, 8};
+    pthread_t threads[2];
+
+    WANT(apd_maps(&maps, &shape, 1, 0), APD_OK);
+    for (int at = 0; at < 2; at++)
+        WANT(pthread_create(&threads[at], NULL, count, &maps), 0);
+    for (int at = 0; at < 2; at++)
+        WANT(pthread_join(threads[at], NULL), 0);
+    WANT(apd_load(&maps, 0, 0).value, 2000);
+    apd_free(&maps);
+}
+
 static void many_notes(void)
 {
     apd_handle code = APD_EMPTY, maps = APD_EMPTY;
@@ -265,6 +294,7 @@ int main(void)
     hostile_certificate();
     hostile_runs();
     hostile_maps();
+    handed_over();
     many_notes();
     hostile_links();
     hostile_events();

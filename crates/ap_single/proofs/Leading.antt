@@ -1,5 +1,5 @@
 -- What one event leads to.
-use Rattle.std.proofs.Common.{◌≡◌, ℕ, ◌<◌, Option, Some, None, List, [], ◌∷◌, suc, length, refl, sym, ap, ◌∙◌, subst}
+use Rattle.std.proofs.Common.{◌≡◌, ℕ, ◌<◌, Option, Some, None, List, [], ◌∷◌, suc, length, refl, sym, ap, subst}
 use Rattle.bpf_helpers.specs.Tables.{Tables}
 use Rattle.bpf_helpers.specs.Hooked.{Given, Held}
 use Rattle.ap_model.specs.declared.event.Event.{Event}
@@ -9,7 +9,6 @@ use Rattle.ap_model.specs.Asks.{Ask, Answered}
 use Rattle.ap_model.specs.Readings.{Readings, Rules}
 use Rattle.ap_model.specs.Runs.{Entry, Run, rests, goes_on}
 use Rattle.ap_model.specs.AccessPoint.{Turn, AreTurns, no_event, refused, at_its_shard, ticked, EventsLead, shard_of, entries_of, asked_of}
-use Rattle.ap_core.specs.declared.shard.Shard.{Shard}
 use Rattle.ap_core.specs.AccessPoints.{rules_of, readings_of, RunsAll}
 use Rattle.program_judge.specs.declared.judge.ProgramJudge.{ProgramJudge}
 use Rattle.program_judge.specs.Judges.{Judges}

@@ -1,11 +1,13 @@
 -- What certificates come to, as C sees them.
-use Rattle.std.specs.Prelude.{◌≡◌, ◌⊎◌, ℕ, List, [], map, Option, Some, None}
+use Rattle.std.specs.Prelude.{◌≡◌, ◌⊎◌, ℕ, List, [], map, Option, Some}
 use Rattle.bpf_regions.specs.declared.hooks.Hook.{Hook}
 use Rattle.bpf_regions.specs.declared.maps.Shape.{Shape}
 use Rattle.bpf_regions.specs.Hooks.{number_of}
-use Rattle.bpf_decode.specs.Program.{Code, Spells}
+use Rattle.bpf_decode.specs.Program.{Code, Begins, Spells}
 use Rattle.bpf_model.specs.Run.{Safe}
 use Rattle.bpf_machine.specs.Verified.{Verified}
+use Rattle.bpf_rules.specs.Faults as rules
+use Rattle.bpf_rules.specs.declared.fault.Fault.{Fault}
 use Rattle.bpf_cert.specs.Certified.{Covered, Refuses}
 use Rattle.bpf_cert.specs.Faults as faults
 use Rattle.bpf_cert.specs.declared.fault.CertFault.{CertFault}
@@ -13,9 +15,9 @@ use Rattle.apd_c.specs.declared.answer.Answer.{Answer}
 use Rattle.apd_c.specs.declared.handle.Content.{Content}
 use Rattle.apd_c.specs.declared.handle.Content.TheVariants as content
 use Rattle.apd_c.specs.declared.shapes.MapShape.{MapShape}
-use Rattle.apd_c.specs.Answers.{answer}
-use Rattle.apd_c.specs.Given.{shape_of}
-use Rattle.apd_c.specs.Code.{IsUndecoded}
+use Rattle.apd_c.specs.Answers.{answer, Perhaps, Unless, UnlessNone, UnlessSome}
+use Rattle.apd_c.specs.Given.{IsAskable, shape_of}
+use Rattle.apd_c.specs.Code.{IsUndecoded, code_of}
 
 -- the bytes that are held; none of all else
 abbrev pub bytes_of : Option Content → List ℕ
@@ -52,9 +54,28 @@ pub record IsUnshown (hook : Hook) (bytes : List ℕ) (shapes : List Shape) (cer
   pub refuses : Refuses program hook certificate fault
   pub number : answer.number ≡ faults.number_of fault
 
--- The answer to a check that is asked: 92 exactly where the handle isn't empty; else 0, or why the program isn't let in.
+-- 0, or why the program isn't let in
+abbrev pub IsShownOr : ℕ → List ℕ → List Shape → List ℕ → Answer → Type 0
+IsShownOr hook bytes shapes certificate a =
+    (a ≡ answer 0) ⊎ IsUndecoded bytes shapes a ⊎ ((h : Hook) × (hook ≡ number_of h) × IsUnshown h bytes shapes certificate a)
+
+-- The answer where an empty handle is to be filled by a certificate: 92 exactly where it isn't empty; else perhaps 40; else
+-- 90 exactly where there is no such hook or a shape is out of its limits; else 0, or why the program isn't let in.
 abbrev pub IsCheckVerdict : ℕ → List ℕ → List MapShape → List ℕ → Option Content → Answer → Type 0
-IsCheckVerdict hook bytes shapes certificate (Some _) a = a ≡ answer 92
-IsCheckVerdict hook bytes shapes certificate None a =
-    (a ≡ answer 0) ⊎ (a ≡ answer 40) ⊎ (a ≡ answer 90) ⊎ IsUndecoded bytes (map shape_of shapes) a
-    ⊎ ((h : Hook) × (hook ≡ number_of h) × IsUnshown h bytes (map shape_of shapes) certificate a)
+IsCheckVerdict hook bytes shapes certificate o =
+    UnlessNone o (answer 92) (Perhaps (answer 40) (Unless (IsAskable hook shapes) (answer 90) (IsShownOr hook bytes (map shape_of shapes) certificate)))
+
+-- A verifier's fault, or 40, at a slot that begins an instruction.
+pub record IsUncertified (program : Verified) (answer : Answer) : Type 0 where
+  pub why : Fault
+  pub begins : Begins program.code.slots answer.slot
+  pub number : answer.number ≡ rules.number_of why
+
+-- 0, or why the program has no certificate
+abbrev pub IsCertifiedOr : Verified → Answer → Type 0
+IsCertifiedOr program = Perhaps (answer 40) (λ a. (a ≡ answer 0) ⊎ IsUncertified program a)
+
+-- The answer where an empty handle is to be filled with a certificate: 92 exactly where it isn't empty; else 91 exactly where
+-- the other handle holds no program; else 0, or why there is none.
+abbrev pub IsCertifyAnswer : Option Content → Option Content → Answer → Type 0
+IsCertifyAnswer code o = UnlessNone o (answer 92) (UnlessSome (code_of code) (answer 91) IsCertifiedOr)

@@ -20,8 +20,8 @@ use Rattle.apd_c.specs.declared.answer.Answer.{Answer}
 use Rattle.apd_c.specs.declared.handle.Content.{Content}
 use Rattle.apd_c.specs.declared.handle.Content.TheVariants as content
 use Rattle.apd_c.specs.declared.shapes.MapShape.{MapShape}
-use Rattle.apd_c.specs.Answers.{answer}
-use Rattle.apd_c.specs.Given.{shape_of}
+use Rattle.apd_c.specs.Answers.{answer, Perhaps, Unless, UnlessNone}
+use Rattle.apd_c.specs.Given.{IsAskable, shape_of}
 
 -- The program that these bytes spell, for maps of these shapes and for a hook, safe within its budget.
 pub record IsAdmitted (hook : Hook) (bytes : List ℕ) (shapes : List Shape) (a : Verified) : Type 0 where
@@ -60,13 +60,22 @@ abbrev pub HoldsAdmitted : ℕ → List ℕ → List MapShape → Option Content
 HoldsAdmitted hook bytes shapes o =
     (a : Verified) × (h : Hook) × (o ≡ Some (content.Code a)) × (hook ≡ number_of h) × IsAdmitted h bytes (map shape_of shapes) a
 
+-- the program that is held
+abbrev pub code_of : Option Content → Option Verified
+code_of (Some (content.Code a)) = Some a
+code_of _ = None
+
 -- the budget of a program; 0 of all else
 abbrev pub budget_of : Option Content → ℕ
 budget_of (Some (content.Code a)) = a.budget
 budget_of _ = 0
 
--- The answer to a verdict that is asked: 92 exactly where the handle isn't empty; else 0, or why the program isn't
--- admitted.
-abbrev pub IsVerdict : List ℕ → List MapShape → Option Content → Answer → Type 0
-IsVerdict bytes shapes (Some _) a = a ≡ answer 92
-IsVerdict bytes shapes None a = (a ≡ answer 0) ⊎ (a ≡ answer 40) ⊎ (a ≡ answer 90) ⊎ IsRefused bytes (map shape_of shapes) a
+-- 0, or why the program isn't admitted
+abbrev pub IsAdmittedOr : List ℕ → List Shape → Answer → Type 0
+IsAdmittedOr bytes shapes a = (a ≡ answer 0) ⊎ IsRefused bytes shapes a
+
+-- The answer where an empty handle is to be filled with a program: 92 exactly where it isn't empty; else perhaps 40; else 90
+-- exactly where there is no such hook or a shape is out of its limits; else 0, or why the program isn't admitted.
+abbrev pub IsVerdict : ℕ → List ℕ → List MapShape → Option Content → Answer → Type 0
+IsVerdict hook bytes shapes o =
+    UnlessNone o (answer 92) (Perhaps (answer 40) (Unless (IsAskable hook shapes) (answer 90) (IsAdmittedOr bytes (map shape_of shapes))))

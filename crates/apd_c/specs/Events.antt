@@ -1,12 +1,15 @@
 -- What events lead to at access points that C has.
-use Rattle.std.specs.Prelude.{◌≡◌, List, Option, Some}
+use Rattle.std.specs.Prelude.{◌≡◌, ◌≢◌, ◌≤◌, ◌<◌, ℕ, List, length, Option, Some}
 use Rattle.ap_model.specs.declared.event.Event.{Event}
 use Rattle.ap_model.specs.declared.event.Out.{Out}
 use Rattle.ap_single.specs.Leading.{Parts, IsLike, Leads}
 use Rattle.apd_c.specs.declared.handle.Content.{Content}
 use Rattle.apd_c.specs.declared.handle.Content.TheVariants as content
 use Rattle.apd_c.specs.declared.maps.Maps.{Maps}
+use Rattle.apd_c.specs.Answers.{IsDone, Perhaps, Unless, UnlessNone, UnlessSome}
+use Rattle.apd_c.specs.Link.{link_of}
 use Rattle.apd_c.specs.Outs.{outs_of}
+use Rattle.apd_c.specs.Words.{maps_of}
 
 -- the maps have what they had
 pub record IsSame (m m' : Maps) : Type 0 where
@@ -40,3 +43,31 @@ pub data Stays (o o' : Option Content) : Type 0 where
   same : o' ≡ o → Stays o o'
   like : (a a' : Parts) → o ≡ Some (content.Link a) → o' ≡ Some (content.Link a') → IsLike a a' → Stays o o'
   kept : (m m' : Maps) → o ≡ Some (content.Maps m) → o' ≡ Some (content.Maps m') → IsSame m m' → Stays o o'
+
+-- What an event comes to, at the access point of one handle and over the maps of another: 0 fills a third with what came
+-- out, and what is refused leaves all as it was.
+pub record Serves (event : Event) (o maps outs : Option Content) (number : ℕ) (o' maps' outs' : Option Content) : Type 0 where
+  pub led : number ≡ 0 → LeadsTo event o maps outs' o' maps'
+  pub link : number ≢ 0 → Stays o o'
+  pub maps_stay : number ≢ 0 → Stays maps maps'
+  pub outs_stay : number ≢ 0 → outs' ≡ outs
+
+-- 0, or 93 exactly where the access point's programs are for maps of other shapes; 40 for want of memory
+abbrev pub IsNumberOver : Maps → Parts → ℕ → Type 0
+IsNumberOver m a = Unless (a.programs.shapes ≡ m.shapes) 93 (Perhaps 40 IsDone)
+
+-- the same of two handles: 91 exactly where one doesn't hold what it is asked for
+abbrev pub IsNumberAt : Option Content → Option Content → ℕ → Type 0
+IsNumberAt link maps = UnlessSome (maps_of maps) 91 (λ m. UnlessSome (link_of link) 91 (IsNumberOver m))
+
+-- The number of an event: 92 exactly where the handle of the outs isn't empty; else perhaps 40; else that of the other two.
+abbrev pub IsEventNumber : Option Content → Option Content → Option Content → ℕ → Type 0
+IsEventNumber link maps outs = UnlessNone outs 92 (Perhaps 40 (IsNumberAt link maps))
+
+-- The number of a frame: 90 exactly where it is longer than 2400 bytes; else perhaps 40; else that of the event.
+abbrev pub IsFrameNumber : List ℕ → Option Content → Option Content → Option Content → ℕ → Type 0
+IsFrameNumber bytes link maps outs = Unless (length bytes ≤ 2400) 90 (Perhaps 40 (IsEventNumber link maps outs))
+
+-- The number of the end of an agreement: 90 exactly where the TID isn't below 8; else that of the event.
+abbrev pub IsCloseNumber : ℕ → Option Content → Option Content → Option Content → ℕ → Type 0
+IsCloseNumber tid link maps outs = Unless (tid < 8) 90 (IsEventNumber link maps outs)

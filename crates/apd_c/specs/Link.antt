@@ -1,6 +1,7 @@
 -- Access points that C has, and their programs.
-use Rattle.std.specs.Prelude.{◌≡◌, List, map, take, Option, Some}
+use Rattle.std.specs.Prelude.{◌≡◌, ◌≤◌, ℕ, List, map, take, Option, Some, None}
 use Rattle.bpf_regions.specs.declared.hooks.Hook.{Hook}
+use Rattle.bpf_regions.specs.Hooks.{number_of}
 use Rattle.bpf_machine.specs.Verified.{Verified}
 use Rattle.ap_model.specs.Readings.{Config}
 use Rattle.ap_core.specs.AccessPoints.{AreFresh}
@@ -10,11 +11,28 @@ use Rattle.apd_c.specs.declared.handle.Content.{Content}
 use Rattle.apd_c.specs.declared.handle.Content.TheVariants as content
 use Rattle.apd_c.specs.declared.link.Network.{Network}
 use Rattle.apd_c.specs.declared.shapes.MapShape.{MapShape}
-use Rattle.apd_c.specs.Given.{shape_of}
+use Rattle.apd_c.specs.Answers.{IsDone, Perhaps, Unless, UnlessNone, UnlessSome}
+use Rattle.apd_c.specs.Code.{code_of}
+use Rattle.apd_c.specs.Given.{AreInLimits, IsHook, shape_of}
 
 -- the configuration
 abbrev pub config_of : Network → Config
 config_of n = record { bssid = n.bssid; ssid = take n.name_length n.name; rates = take n.rate_count n.rates }
+
+-- the name and the rates are in their limits
+pub record IsNetwork (n : Network) : Type 0 where
+  pub named : n.name_length ≤ 32
+  pub some : 1 ≤ n.rate_count
+  pub few : n.rate_count ≤ 8
+
+-- 0, or 90 exactly where the name, the rates or a shape are out of their limits; 40 for want of memory
+abbrev pub IsNewNumber : Network → List MapShape → ℕ → Type 0
+IsNewNumber network shapes = Perhaps 40 (Unless (IsNetwork network × AreInLimits shapes) 90 IsDone)
+
+-- The number where an empty handle is to be filled with an access point: 92 exactly where it isn't empty; else the number of
+-- making one.
+abbrev pub IsLinkNumber : Network → List MapShape → Option Content → ℕ → Type 0
+IsLinkNumber network shapes o = UnlessNone o 92 (IsNewNumber network shapes)
 
 -- an access point of this configuration that has handled nothing and has no programs, for maps of these shapes
 pub record IsMade (network : Network) (shapes : List MapShape) (a : Parts) : Type 0 where
@@ -35,3 +53,20 @@ pub record Puts (hook : Hook) (program : Verified) (a a' : Parts) : Type 0 where
 -- the same where the content is an access point
 abbrev pub HasPut : Hook → Verified → Option Content → Option Content → Type 0
 HasPut hook program o o' = (a : Parts) × (a' : Parts) × (o ≡ Some (content.Link a)) × (o' ≡ Some (content.Link a')) × Puts hook program a a'
+
+-- the access point that is held
+abbrev pub link_of : Option Content → Option Parts
+link_of (Some (content.Link a)) = Some a
+link_of _ = None
+
+-- 0, or 95 exactly where the program was verified for another hook; else 93 exactly where it is for maps of other shapes
+abbrev pub IsPutNumber : ℕ → Verified → Parts → ℕ → Type 0
+IsPutNumber hook program a = Unless (number_of program.hook ≡ hook) 95 (Unless (program.code.shapes ≡ a.programs.shapes) 93 IsDone)
+
+-- the same for a hook and an access point: 90 exactly where there is no such hook; else 91 exactly where the handle holds none
+abbrev pub IsPutAtNumber : ℕ → Verified → Option Content → ℕ → Type 0
+IsPutAtNumber hook program link = Unless (IsHook hook) 90 (UnlessSome (link_of link) 91 (IsPutNumber hook program))
+
+-- The number of loading: 91 exactly where a handle holds no program; else the number of putting it there.
+abbrev pub IsLoadNumber : ℕ → Option Content → Option Content → ℕ → Type 0
+IsLoadNumber hook code link = UnlessSome (code_of code) 91 (λ program. IsPutAtNumber hook program link)

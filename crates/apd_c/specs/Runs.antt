@@ -1,5 +1,5 @@
 -- What runs of programs come to, as C sees them.
-use Rattle.std.specs.Prelude.{◌≡◌, ◌≤◌, ℕ, List, take, Option, Some, None}
+use Rattle.std.specs.Prelude.{◌≡◌, ◌≤◌, ℕ, List, length, take, Option, Some}
 use Rattle.bpf_machine.specs.Verified.{Verified}
 use Rattle.bpf_machine.specs.Runs.{Ran, setting_of}
 use Rattle.bpf_machine.specs.declared.outcome.Outcome.{Outcome}
@@ -9,6 +9,9 @@ use Rattle.apd_c.specs.declared.handle.Content.TheVariants as content
 use Rattle.apd_c.specs.declared.maps.Maps.{Maps}
 use Rattle.apd_c.specs.declared.runs.Given.{Given}
 use Rattle.apd_c.specs.declared.runs.Report.{Report}
+use Rattle.apd_c.specs.Answers.{IsDone, Unless, UnlessSome}
+use Rattle.apd_c.specs.Code.{code_of}
+use Rattle.apd_c.specs.Words.{maps_of}
 
 -- what the program reads: the words of the maps, the clock and the stations
 abbrev pub given_to : Maps → Given → hooked.Given
@@ -35,3 +38,18 @@ HasRun a o frame g report o' =
 -- the run of the program that a handle holds
 abbrev pub RunsCode : Option Content → Option Content → List ℕ → Given → Report → Option Content → Type 0
 RunsCode code o frame g report o' = (a : Verified) × (code ≡ Some (content.Code a)) × HasRun a o frame g report o'
+
+-- the frame and the number of stations are in their limits
+pub record IsGivable (frame : List ℕ) (g : Given) : Type 0 where
+  pub short : length frame ≤ 2400
+  pub few : g.stations ≤ 2007
+
+-- 0, or 90 exactly where the frame or the stations are out of their limits; else 93 exactly where the program is for maps
+-- of other shapes
+abbrev pub IsNumberOn : Verified → Maps → List ℕ → Given → ℕ → Type 0
+IsNumberOn a m frame g = Unless (IsGivable frame g) 90 (Unless (m.shapes ≡ a.code.shapes) 93 IsDone)
+
+-- The number of a run: 91 exactly where a handle doesn't hold what it is asked for; else 90 exactly where the frame or the
+-- stations are out of their limits; else 93 exactly where the program is for maps of other shapes; else 0.
+abbrev pub IsRunNumber : Option Content → Option Content → List ℕ → Given → ℕ → Type 0
+IsRunNumber code maps frame g = UnlessSome (code_of code) 91 (λ a. UnlessSome (maps_of maps) 91 (λ m. IsNumberOn a m frame g))

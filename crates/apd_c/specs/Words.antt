@@ -1,19 +1,40 @@
 -- What C does with words of maps.
-use Rattle.std.specs.Prelude.{◌≡◌, ℕ, List, map, Option, Some, None}
+use Rattle.std.specs.Prelude.{◌≡◌, ◌≢◌, ℕ, List, map, slice_get, nat_lt, if◌then◌else◌, Option, Some, None}
 use Rattle.bpf_regions.specs.declared.asks.Ask.TheVariants.{Access}
 use Rattle.bpf_regions.specs.declared.maps.MapOp.{MapOp}
-use Rattle.bpf_model.specs.Run.{InRange}
+use Rattle.bpf_regions.specs.declared.maps.Shape.{Shape}
+use Rattle.bpf_model.specs.Run.{InRange, words_in}
 use Rattle.bpf_helpers.specs.Tables.{Tables}
 use Rattle.bpf_helpers.specs.Hooked as hooked
 use Rattle.apd_c.specs.declared.handle.Content.{Content}
 use Rattle.apd_c.specs.declared.handle.Content.TheVariants as content
 use Rattle.apd_c.specs.declared.maps.Maps.{Maps}
 use Rattle.apd_c.specs.declared.shapes.MapShape.{MapShape}
-use Rattle.apd_c.specs.Given.{shape_of}
+use Rattle.apd_c.specs.declared.words.Loaded.{Loaded}
+use Rattle.apd_c.specs.Answers.{IsDone, Perhaps, Unless, UnlessNone, UnlessSome}
+use Rattle.apd_c.specs.Given.{AreInLimits, shape_of}
 
 -- the content is the words of maps of these shapes, and this word is drawn next
 abbrev pub HoldsMaps : List MapShape → ℕ → Option Content → Type 0
 HoldsMaps shapes draw o = (m : Maps) × (o ≡ Some (content.Maps m)) × (m.shapes ≡ map shape_of shapes) × (m.state.draw ≡ draw)
+
+-- the maps that are held
+abbrev pub maps_of : Option Content → Option Maps
+maps_of (Some (content.Maps m)) = Some m
+maps_of _ = None
+
+-- 0, or 90 exactly where a shape is out of its limits; 40 for want of memory, and 62 for want of a seat
+abbrev pub IsMakingNumber : List MapShape → ℕ → Type 0
+IsMakingNumber shapes = Perhaps 40 (Perhaps 62 (Unless (AreInLimits shapes) 90 IsDone))
+
+-- The number where an empty handle is to be filled with maps: 92 exactly where it isn't empty; else the number of making
+-- them.
+abbrev pub IsMapsNumber : List MapShape → Option Content → ℕ → Type 0
+IsMapsNumber shapes o = UnlessNone o 92 (IsMakingNumber shapes)
+
+-- 0, or 90 where no map has the word
+abbrev pub word_number : List Shape → ℕ → ℕ → ℕ
+word_number shapes map word = if nat_lt word (words_in (slice_get shapes map)) then 0 else 90
 
 -- what C reads of maps: their tables
 abbrev pub reads_of : List Tables → hooked.Given
@@ -36,3 +57,14 @@ pub record IsAccessed (m : Maps) (at word : ℕ) (operation : MapOp) (answer : �
 abbrev pub HasAccessed : Option Content → ℕ → ℕ → MapOp → ℕ → Option Content → Type 0
 HasAccessed o at word operation answer o' =
     (m : Maps) × (m' : Maps) × (o ≡ Some (content.Maps m)) × (o' ≡ Some (content.Maps m')) × IsAccessed m at word operation answer m'
+
+-- the number of an access: 91 exactly where the handle holds no maps; else 90 where none has the word, and else 0
+abbrev pub IsAccessNumber : Option Content → ℕ → ℕ → ℕ → Type 0
+IsAccessNumber o at word = UnlessSome (maps_of o) 91 (λ m number. number ≡ word_number m.shapes at word)
+
+-- One operation on a word of the maps that a handle holds: 0 and the answer of the one access, or a number of a refusal,
+-- which changes nothing.
+pub record Operates (o : Option Content) (at word : ℕ) (operation : MapOp) (answer : Loaded) (o' : Option Content) : Type 0 where
+  pub made : answer.number ≡ 0 → HasAccessed o at word operation answer.value o'
+  pub kept : answer.number ≢ 0 → o' ≡ o
+  pub number : IsAccessNumber o at word answer.number

@@ -1,9 +1,8 @@
 //! Operations on words of maps that read and write at once.
 
-ghost use Rattle.std.specs.Prelude.{◌≡◌, ◌≢◌};
 ghost use Rattle.bpf_regions.specs.declared.maps.MapOp.TheVariants.{Swap, Add, Or, And, Xor, CompareExchange};
 ghost use Rattle.apd_c.specs.Held.{held};
-ghost use Rattle.apd_c.specs.Words.{HasAccessed};
+ghost use Rattle.apd_c.specs.Words.{Operates};
 
 use crate::handle::Handle;
 use crate::words::{Loaded, access_at};
@@ -22,9 +21,7 @@ pub extern "C" fn apd_c_exchange(
     word: u32,
     value: u64,
 ) -> Loaded
-    ensures made { result.number ≡ 0 →
-        HasAccessed (held maps.old) map word (Swap value) result.value (held maps.new) }
-    ensures kept { result.number ≢ 0 → held maps.new ≡ held maps.old }
+    ensures { Operates (held maps.old) map word (Swap value) result (held maps.new) }
 {
     access_at(alloc, maps, map, word, MapOp::Swap(value))
 }
@@ -41,9 +38,7 @@ pub extern "C" fn apd_c_fetch_add(
     word: u32,
     value: u64,
 ) -> Loaded
-    ensures made { result.number ≡ 0 →
-        HasAccessed (held maps.old) map word (Add value) result.value (held maps.new) }
-    ensures kept { result.number ≢ 0 → held maps.new ≡ held maps.old }
+    ensures { Operates (held maps.old) map word (Add value) result (held maps.new) }
 {
     access_at(alloc, maps, map, word, MapOp::Add(value))
 }
@@ -60,9 +55,7 @@ pub extern "C" fn apd_c_fetch_or(
     word: u32,
     value: u64,
 ) -> Loaded
-    ensures made { result.number ≡ 0 →
-        HasAccessed (held maps.old) map word (Or value) result.value (held maps.new) }
-    ensures kept { result.number ≢ 0 → held maps.new ≡ held maps.old }
+    ensures { Operates (held maps.old) map word (Or value) result (held maps.new) }
 {
     access_at(alloc, maps, map, word, MapOp::Or(value))
 }
@@ -79,9 +72,7 @@ pub extern "C" fn apd_c_fetch_and(
     word: u32,
     value: u64,
 ) -> Loaded
-    ensures made { result.number ≡ 0 →
-        HasAccessed (held maps.old) map word (And value) result.value (held maps.new) }
-    ensures kept { result.number ≢ 0 → held maps.new ≡ held maps.old }
+    ensures { Operates (held maps.old) map word (And value) result (held maps.new) }
 {
     access_at(alloc, maps, map, word, MapOp::And(value))
 }
@@ -98,9 +89,7 @@ pub extern "C" fn apd_c_fetch_xor(
     word: u32,
     value: u64,
 ) -> Loaded
-    ensures made { result.number ≡ 0 →
-        HasAccessed (held maps.old) map word (Xor value) result.value (held maps.new) }
-    ensures kept { result.number ≢ 0 → held maps.new ≡ held maps.old }
+    ensures { Operates (held maps.old) map word (Xor value) result (held maps.new) }
 {
     access_at(alloc, maps, map, word, MapOp::Xor(value))
 }
@@ -118,9 +107,7 @@ pub extern "C" fn apd_c_compare_exchange(
     expected: u64,
     new: u64,
 ) -> Loaded
-    ensures made { result.number ≡ 0 → HasAccessed (held maps.old) map word
-        (CompareExchange expected new) result.value (held maps.new) }
-    ensures kept { result.number ≢ 0 → held maps.new ≡ held maps.old }
+    ensures { Operates (held maps.old) map word (CompareExchange expected new) result (held maps.new) }
 {
     access_at(
         alloc,

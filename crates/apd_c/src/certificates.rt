@@ -1,12 +1,13 @@
 //! Certificates made and checked.
 
-ghost use Rattle.std.specs.Prelude.{◌≡◌, ◌≢◌, ◌⊎◌, map, Some, None, IfOk, IfErr, length, min, take};
+ghost use Rattle.std.specs.Prelude.{◌≡◌, ◌≢◌, ◌⊎◌, map, Some, None, OnOk, IfOk, IfErr, IsSome, length, min, take};
 ghost use Rattle.bpf_regions.specs.declared.hooks.Hook.{Hook as AHook};
 ghost use Rattle.bpf_regions.specs.Hooks.{number_of};
+ghost use Rattle.apd_c.specs.Answers.{UnlessSome, answer};
 ghost use Rattle.apd_c.specs.Held.{held};
-ghost use Rattle.apd_c.specs.Given.{shape_of};
-ghost use Rattle.apd_c.specs.Certificates.{IsShown, Certifies, HoldsCertificate, HoldsShown, IsUnshown, IsCheckVerdict, bytes_of};
-ghost use Rattle.apd_c.specs.Code.{IsUndecoded};
+ghost use Rattle.apd_c.specs.Given.{IsAskable, shape_of};
+ghost use Rattle.apd_c.specs.Certificates.{IsShown, Certifies, HoldsCertificate, HoldsShown, IsUnshown, IsCertifiedOr, IsCertifyAnswer, IsCheckVerdict, bytes_of};
+ghost use Rattle.apd_c.specs.Code.{IsUndecoded, code_of};
 
 use crate::answer::{Answer, NO_MEMORY, NOT_EMPTY, OTHER_VALUE, OUT_OF_LIMITS};
 use crate::code::hook_of;
@@ -22,6 +23,7 @@ use std::alloc::Global;
 fn certified(alloc: Global, content: &Content) -> Result<Vec<u8>, Answer>
     ensures ok { IfOk result (λ bytes. Certifies (Some content.now) bytes.items) }
     ensures err { IfErr result (λ e. e.number ≢ 0) }
+    ensures why { IfErr result (UnlessSome (code_of (Some content.now)) (answer 91) IsCertifiedOr) }
 {
     match content {
         Content::Code(accepted) => match certificate(alloc, accepted) {
@@ -41,6 +43,7 @@ fn certified(alloc: Global, content: &Content) -> Result<Vec<u8>, Answer>
 fn certificate_of(alloc: Global, code: &mut Handle) -> Result<Vec<u8>, Answer>
     ensures ok { IfOk result (λ bytes. Certifies (held code.old) bytes.items) }
     ensures err { IfErr result (λ e. e.number ≢ 0) }
+    ensures why { IfErr result (UnlessSome (code_of (held code.old)) (answer 91) IsCertifiedOr) }
     ensures kept { held code.new ≡ held code.old }
 {
     match code.take(alloc) {
@@ -67,6 +70,7 @@ pub extern "C" fn apd_c_certify(
     ensures covered { result.number ≡ 0 → HoldsCertificate (held code.old) (held certificate.new) }
     ensures kept { result.number ≢ 0 → held certificate.new ≡ held certificate.old }
     ensures code { held code.new ≡ held code.old }
+    ensures why { IsCertifyAnswer (held code.old) (held certificate.old) result }
 {
     if let Some(content) = certificate.take(alloc) {
         certificate.put(content);
@@ -122,6 +126,7 @@ fn shown_for(
     ensures ok { IfOk result (λ a. (h : AHook) × (hook ≡ number_of h) ×
         IsShown h bytes.now (map shape_of shapes.now) certificate.now a) }
     ensures err { IfErr result (λ e. e.number ≢ 0) }
+    ensures within { OnOk result (IsAskable hook shapes.now) }
     ensures why { IfErr result (IsCheckVerdict hook bytes.now shapes.now certificate.now None) }
 {
     let Some(hook) = hook_of(hook) else {

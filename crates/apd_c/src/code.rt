@@ -1,11 +1,10 @@
 //! Programs that are verified.
 
-ghost use Rattle.std.specs.Prelude.{◌≡◌, ◌≢◌, ◌⊎◌, map, Some, IfOk, IfErr, IfSome};
+ghost use Rattle.std.specs.Prelude.{◌≡◌, ◌≢◌, ◌⊎◌, ◌↔◌, map, Some, None, IsSome, OnOk, IfOk, IfErr, IfSome};
 ghost use Rattle.bpf_regions.specs.declared.hooks.Hook.{Hook as AHook};
 ghost use Rattle.bpf_regions.specs.Hooks.{number_of};
-ghost use Rattle.apd_c.specs.Answers.{answer};
 ghost use Rattle.apd_c.specs.Held.{held};
-ghost use Rattle.apd_c.specs.Given.{shape_of};
+ghost use Rattle.apd_c.specs.Given.{IsAskable, IsHook, shape_of};
 ghost use Rattle.apd_c.specs.Code.{IsAdmitted, IsRefused, HoldsAdmitted, IsVerdict, budget_of};
 
 use crate::answer::{Answer, NO_MEMORY, NOT_EMPTY, OUT_OF_LIMITS};
@@ -19,7 +18,8 @@ use std::alloc::Global;
 
 /// The hook of that number.
 pub(crate) fn hook_of(number: u32) -> Option<Hook>
-    ensures { IfSome result (λ hook. number ≡ number_of hook) }
+    ensures is { IfSome result (λ hook. number ≡ number_of hook) }
+    ensures limits { IsSome result ↔ IsHook number }
 {
     match number {
         1 => Some(Hook::Association),
@@ -59,8 +59,8 @@ fn asked(alloc: Global, hook: u32, bytes: &[u8], shapes: &[MapShape]) -> Result<
     ensures ok { IfOk result (λ a. (h : AHook) × (hook ≡ number_of h)
         × IsAdmitted h bytes.now (map shape_of shapes.now) a) }
     ensures some { IfErr result (λ e. e.number ≢ 0) }
-    ensures err { IfErr result (λ e. (e ≡ answer 90) ⊎ (e ≡ answer 40)
-        ⊎ IsRefused bytes.now (map shape_of shapes.now) e) }
+    ensures within { OnOk result (IsAskable hook shapes.now) }
+    ensures err { IfErr result (IsVerdict hook bytes.now shapes.now None) }
 {
     let Some(hook) = hook_of(hook) else {
         return Err(Answer::of(OUT_OF_LIMITS));
@@ -89,7 +89,7 @@ pub extern "C" fn apd_c_verify(
     ensures admitted { result.number ≡ 0 →
         HoldsAdmitted hook bytes.now shapes.now (held code.new) }
     ensures kept { result.number ≢ 0 → held code.new ≡ held code.old }
-    ensures why { IsVerdict bytes.now shapes.now (held code.old) result }
+    ensures why { IsVerdict hook bytes.now shapes.now (held code.old) result }
 {
     if let Some(content) = code.take(alloc) {
         code.put(content);

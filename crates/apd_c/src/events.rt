@@ -4,7 +4,9 @@ ghost use Rattle.std.specs.Prelude.{◌≡◌, ◌≢◌, Some, IfOk, IfErr, OnE
 ghost use Rattle.ap_model.specs.declared.event.Event.TheVariants as event;
 ghost use Rattle.ap_single.specs.Leading.{IsLike};
 ghost use Rattle.apd_c.specs.Held.{held};
-ghost use Rattle.apd_c.specs.Events.{HasLed, HasLedTo, IsLed, IsSame, LeadsTo, Stays};
+ghost use Rattle.apd_c.specs.Answers.{UnlessSome, number_in};
+ghost use Rattle.apd_c.specs.Events.{HasLed, HasLedTo, IsCloseNumber, IsEventNumber, IsFrameNumber, IsLed, IsNumberAt, IsNumberOver, IsSame, Serves, Stays};
+ghost use Rattle.apd_c.specs.Link.{link_of};
 
 use crate::answer::{NO_MEMORY, NOT_EMPTY, OTHER_MAPS, OTHER_VALUE, OUT_OF_LIMITS};
 use crate::handle::{Content, Handle};
@@ -34,6 +36,7 @@ fn lead(
         IsLed access_point.old maps event outs.items access_point.new result.0) }
     ensures err { IfErr result.1 (λ number. number ≢ 0) }
     ensures kept { OnErr result.1 (IsLike access_point.old access_point.new × IsSame maps result.0) }
+    ensures number { IsNumberOver maps access_point.old (number_in result.1) }
 {
     if !are_alike(access_point.shapes().as_slice(), maps.shapes.as_slice()) {
         return (maps, Err(OTHER_MAPS));
@@ -68,6 +71,7 @@ fn lead_in(
         HasLed (Some content.old) maps event outs.items (Some content.new) result.0) }
     ensures err { IfErr result.1 (λ number. number ≢ 0) }
     ensures kept { OnErr result.1 (Stays (Some content.old) (Some content.new) × IsSame maps result.0) }
+    ensures number { UnlessSome (link_of (Some content.old)) 91 (IsNumberOver maps) (number_in result.1) }
 {
     match content {
         Content::Link(access_point) => {
@@ -89,6 +93,7 @@ fn lead_at(
         HasLed (held link.old) maps event outs.items (held link.new) result.0) }
     ensures err { IfErr result.1 (λ number. number ≢ 0) }
     ensures kept { OnErr result.1 (Stays (held link.old) (held link.new) × IsSame maps result.0) }
+    ensures number { UnlessSome (link_of (held link.old)) 91 (IsNumberOver maps) (number_in result.1) }
 {
     match link.take(alloc) {
         None => return (maps, Err(OTHER_VALUE)),
@@ -111,6 +116,7 @@ fn lead_over(
         HasLedTo event (held link.old) (held maps.old) outs.items (held link.new) (held maps.new)) }
     ensures err { IfErr result (λ number. number ≢ 0) }
     ensures kept { OnErr result (Stays (held link.old) (held link.new) × Stays (held maps.old) (held maps.new)) }
+    ensures number { IsNumberAt (held link.old) (held maps.old) (number_in result) }
 {
     match take_maps(alloc, maps) {
         None => return Err(OTHER_VALUE),
@@ -130,11 +136,9 @@ fn lead_to(
     outs: &mut Handle,
     event: Event,
 ) -> u32
-    ensures led { result ≡ 0 → LeadsTo event (held link.old) (held maps.old)
-        (held outs.new) (held link.new) (held maps.new) }
-    ensures link { result ≢ 0 → Stays (held link.old) (held link.new) }
-    ensures maps { result ≢ 0 → Stays (held maps.old) (held maps.new) }
-    ensures outs { result ≢ 0 → held outs.new ≡ held outs.old }
+    ensures serves { Serves event (held link.old) (held maps.old) (held outs.old) result
+        (held link.new) (held maps.new) (held outs.new) }
+    ensures number { IsEventNumber (held link.old) (held maps.old) (held outs.old) result }
 {
     if let Some(content) = outs.take(alloc) {
         outs.put(content);
@@ -166,11 +170,9 @@ pub extern "C" fn apd_c_link_frame(
     outs: &mut Handle,
     bytes: &[u8],
 ) -> u32
-    ensures led { result ≡ 0 → LeadsTo (event.Frame bytes.now) (held link.old) (held maps.old)
-        (held outs.new) (held link.new) (held maps.new) }
-    ensures link { result ≢ 0 → Stays (held link.old) (held link.new) }
-    ensures maps { result ≢ 0 → Stays (held maps.old) (held maps.new) }
-    ensures outs { result ≢ 0 → held outs.new ≡ held outs.old }
+    ensures serves { Serves (event.Frame bytes.now) (held link.old) (held maps.old) (held outs.old) result
+        (held link.new) (held maps.new) (held outs.new) }
+    ensures number { IsFrameNumber bytes.now (held link.old) (held maps.old) (held outs.old) result }
 {
     if bytes.len() > 2400 {
         return OUT_OF_LIMITS;
@@ -193,11 +195,9 @@ pub extern "C" fn apd_c_link_tick(
     outs: &mut Handle,
     units: u32,
 ) -> u32
-    ensures led { result ≡ 0 → LeadsTo (event.Tick units) (held link.old) (held maps.old)
-        (held outs.new) (held link.new) (held maps.new) }
-    ensures link { result ≢ 0 → Stays (held link.old) (held link.new) }
-    ensures maps { result ≢ 0 → Stays (held maps.old) (held maps.new) }
-    ensures outs { result ≢ 0 → held outs.new ≡ held outs.old }
+    ensures serves { Serves (event.Tick units) (held link.old) (held maps.old) (held outs.old) result
+        (held link.new) (held maps.new) (held outs.new) }
+    ensures number { IsEventNumber (held link.old) (held maps.old) (held outs.old) result }
 {
     lead_to(alloc, link, maps, outs, Event::Tick(units))
 }
@@ -212,11 +212,9 @@ pub extern "C" fn apd_c_link_kick(
     station: &Station,
     reason: u16,
 ) -> u32
-    ensures led { result ≡ 0 → LeadsTo (event.Kick station.now.octets reason) (held link.old) (held maps.old)
-        (held outs.new) (held link.new) (held maps.new) }
-    ensures link { result ≢ 0 → Stays (held link.old) (held link.new) }
-    ensures maps { result ≢ 0 → Stays (held maps.old) (held maps.new) }
-    ensures outs { result ≢ 0 → held outs.new ≡ held outs.old }
+    ensures serves { Serves (event.Kick station.now.octets reason) (held link.old) (held maps.old) (held outs.old) result
+        (held link.new) (held maps.new) (held outs.new) }
+    ensures number { IsEventNumber (held link.old) (held maps.old) (held outs.old) result }
 {
     let kick = Event::Kick {
         station: Address::new(station.octets),
@@ -236,11 +234,9 @@ pub extern "C" fn apd_c_link_close(
     station: &Station,
     tid: u8,
 ) -> u32
-    ensures led { result ≡ 0 → LeadsTo (event.Close station.now.octets tid) (held link.old) (held maps.old)
-        (held outs.new) (held link.new) (held maps.new) }
-    ensures link { result ≢ 0 → Stays (held link.old) (held link.new) }
-    ensures maps { result ≢ 0 → Stays (held maps.old) (held maps.new) }
-    ensures outs { result ≢ 0 → held outs.new ≡ held outs.old }
+    ensures serves { Serves (event.Close station.now.octets tid) (held link.old) (held maps.old) (held outs.old) result
+        (held link.new) (held maps.new) (held outs.new) }
+    ensures number { IsCloseNumber tid (held link.old) (held maps.old) (held outs.old) result }
 {
     let Some(tid) = Tid::new(tid) else {
         return OUT_OF_LIMITS;

@@ -10,6 +10,7 @@ mod answer;
 mod atomics;
 mod certificates;
 mod code;
+mod crossing;
 mod events;
 mod handle;
 mod keeping;
@@ -29,6 +30,7 @@ pub use atomics::{
 };
 pub use certificates::{apd_c_certify, apd_c_check, apd_c_read};
 pub use code::{apd_c_budget, apd_c_verify};
+pub use crossing::handles_law;
 pub use events::{Station, apd_c_link_close, apd_c_link_frame, apd_c_link_kick, apd_c_link_tick};
 pub use handle::Handle;
 pub use keeping::apd_c_free;

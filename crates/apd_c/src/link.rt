@@ -1,8 +1,9 @@
 //! Access points that C has.
 
-ghost use Rattle.std.specs.Prelude.{◌≡◌, ◌≢◌, Some, IfOk, IfErr, IfSome};
+ghost use Rattle.std.specs.Prelude.{◌≡◌, ◌≢◌, ◌↔◌, Some, IsSome, IfOk, IfErr, IfSome};
 ghost use Rattle.apd_c.specs.Held.{held};
-ghost use Rattle.apd_c.specs.Link.{IsMade, HoldsMade, config_of};
+ghost use Rattle.apd_c.specs.Answers.{number_in};
+ghost use Rattle.apd_c.specs.Link.{IsMade, IsNetwork, IsNewNumber, IsLinkNumber, HoldsMade, config_of};
 
 use crate::answer::{NO_MEMORY, NOT_EMPTY, OUT_OF_LIMITS};
 use crate::handle::{Content, Handle};
@@ -26,7 +27,8 @@ pub struct Network {
 
 /// The configuration. None where it is out of its limits.
 fn config_from(alloc: Global, network: &Network) -> Result<Option<LinkConfig>, AllocError>
-    ensures { IfOk result (λ o. IfSome o (λ c. c ≡ config_of network.now)) }
+    ensures is { IfOk result (λ o. IfSome o (λ c. c ≡ config_of network.now)) }
+    ensures limits { IfOk result (λ o. IsSome o ↔ IsNetwork network.now) }
 {
     let named = usize::from(network.name_length);
     let rated = usize::from(network.rate_count);
@@ -42,6 +44,7 @@ fn config_from(alloc: Global, network: &Network) -> Result<Option<LinkConfig>, A
 fn made(alloc: Global, network: &Network, shapes: &[MapShape]) -> Result<AccessPoint, u32>
     ensures ok { IfOk result (IsMade network.now shapes.now) }
     ensures err { IfErr result (λ number. number ≢ 0) }
+    ensures number { IsNewNumber network.now shapes.now (number_in result) }
 {
     match config_from(alloc, network) {
         Err(_) => return Err(NO_MEMORY),
@@ -70,6 +73,7 @@ pub extern "C" fn apd_c_link(
 ) -> u32
     ensures made { result ≡ 0 → HoldsMade network.now shapes.now (held link.new) }
     ensures kept { result ≢ 0 → held link.new ≡ held link.old }
+    ensures number { IsLinkNumber network.now shapes.now (held link.old) result }
 {
     if let Some(content) = link.take(alloc) {
         link.put(content);

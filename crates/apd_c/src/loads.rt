@@ -1,12 +1,15 @@
 //! Programs by which access points judge.
 
 ghost use Rattle.std.specs.Prelude.{◌≡◌, ◌≢◌, Some, None, IfSome, OnOk, IfErr, OnErr};
+ghost use Rattle.std.specs.Option.{option_map};
 ghost use Rattle.bpf_regions.specs.declared.hooks.Hook.{Hook as AHook};
 ghost use Rattle.bpf_regions.specs.Hooks.{number_of};
 ghost use Rattle.bpf_machine.specs.Verified.{Verified};
 ghost use Rattle.apd_c.specs.declared.handle.Content.TheVariants.{Code as CodeContent};
 ghost use Rattle.apd_c.specs.Held.{held};
-ghost use Rattle.apd_c.specs.Link.{HasPut, Puts};
+ghost use Rattle.apd_c.specs.Answers.{UnlessSome, number_with};
+ghost use Rattle.apd_c.specs.Code.{code_of};
+ghost use Rattle.apd_c.specs.Link.{HasPut, IsLoadNumber, IsPutAtNumber, IsPutNumber, Puts, link_of};
 
 use crate::answer::{OTHER_HOOK, OTHER_MAPS, OTHER_VALUE, OUT_OF_LIMITS};
 use crate::code::hook_of;
@@ -22,6 +25,7 @@ fn take_code(alloc: Global, handle: &mut Handle) -> Option<(Box<Content>, Accept
     ensures some { IfSome result (λ t. held handle.old ≡ Some (CodeContent t.1)) }
     ensures emptied { IfSome result (λ t. held handle.new ≡ None) }
     ensures none { result ≡ None → held handle.new ≡ held handle.old }
+    ensures code { option_map (λ t. t.1) result ≡ code_of (held handle.old) }
 {
     match handle.take(alloc) {
         None => return None,
@@ -45,6 +49,7 @@ fn put(
     ensures ok { OnOk result (Puts hook accepted access_point.old access_point.new) }
     ensures err { OnErr result (access_point.new ≡ access_point.old) }
     ensures back { IfErr result (λ e. (e.0 ≢ 0) × (e.1 ≡ accepted)) }
+    ensures number { IsPutNumber (number_of hook) accepted access_point.old (number_with result) }
 {
     if accepted.hook() != hook {
         return Err((OTHER_HOOK, accepted));
@@ -64,6 +69,8 @@ fn put_in(content: &mut Content, hook: Hook, accepted: Accepted) -> Result<(), (
     ensures ok { OnOk result (HasPut hook accepted (Some content.old) (Some content.new)) }
     ensures err { OnErr result (content.new ≡ content.old) }
     ensures back { IfErr result (λ e. (e.0 ≢ 0) × (e.1 ≡ accepted)) }
+    ensures number { UnlessSome (link_of (Some content.old)) 91 (IsPutNumber (number_of hook) accepted)
+        (number_with result) }
 {
     match content {
         Content::Link(access_point) => {
@@ -84,6 +91,7 @@ fn put_at(
     ensures ok { OnOk result ((h : AHook) × (hook ≡ number_of h) × HasPut h accepted (held link.old) (held link.new)) }
     ensures err { OnErr result (held link.new ≡ held link.old) }
     ensures back { IfErr result (λ e. (e.0 ≢ 0) × (e.1 ≡ accepted)) }
+    ensures number { IsPutAtNumber hook accepted (held link.old) (number_with result) }
 {
     let Some(hook) = hook_of(hook) else {
         return Err((OUT_OF_LIMITS, accepted));
@@ -116,6 +124,7 @@ pub extern "C" fn apd_c_link_load(
     ensures emptied { result ≡ 0 → held code.new ≡ None }
     ensures link { result ≢ 0 → held link.new ≡ held link.old }
     ensures code { result ≢ 0 → held code.new ≡ held code.old }
+    ensures number { IsLoadNumber hook (held code.old) (held link.old) result }
 {
     match take_code(alloc, code) {
         None => return OTHER_VALUE,

@@ -2,7 +2,9 @@
 
 ghost use Rattle.std.specs.Prelude.{◌≡◌, ◌≢◌, ◌≤◌, ◌↔◌, Some, IsTrue, take};
 ghost use Rattle.apd_c.specs.Held.{held};
-ghost use Rattle.apd_c.specs.Runs.{RunsOn, HasRun, RunsCode};
+ghost use Rattle.apd_c.specs.Answers.{UnlessSome};
+ghost use Rattle.apd_c.specs.Words.{maps_of};
+ghost use Rattle.apd_c.specs.Runs.{RunsOn, HasRun, RunsCode, IsNumberOn, IsRunNumber};
 
 use crate::answer::{OTHER_MAPS, OTHER_VALUE, OUT_OF_LIMITS};
 use crate::handle::{Content, Handle};
@@ -78,6 +80,7 @@ fn run_on(accepted: &Accepted, maps: Maps, frame: &[u8], given: &Given) -> (Maps
     ensures run { result.1.number ≡ 0 →
         RunsOn accepted.now maps frame.now given.now result.1 result.0 }
     ensures refused { result.1.number ≢ 0 → result.0 ≡ maps }
+    ensures number { IsNumberOn accepted.now maps frame.now given.now result.1.number }
 {
     let Some(frame) = Frame::new(frame) else {
         return (maps, refused(OUT_OF_LIMITS));
@@ -126,6 +129,8 @@ fn run_at(
     ensures run { result.number ≡ 0 →
         HasRun accepted.now (held maps.old) frame.now given.now result (held maps.new) }
     ensures refused { result.number ≢ 0 → held maps.new ≡ held maps.old }
+    ensures number { UnlessSome (maps_of (held maps.old)) 91
+        (λ m. IsNumberOn accepted.now m frame.now given.now) result.number }
 {
     match take_maps(alloc, maps) {
         None => return refused(OTHER_VALUE),
@@ -148,6 +153,7 @@ fn run_content(
     ensures run { result.number ≡ 0 →
         RunsCode (Some content.now) (held maps.old) frame.now given.now result (held maps.new) }
     ensures refused { result.number ≢ 0 → held maps.new ≡ held maps.old }
+    ensures number { IsRunNumber (Some content.now) (held maps.old) frame.now given.now result.number }
 {
     match content {
         Content::Code(accepted) => {
@@ -176,6 +182,7 @@ pub extern "C" fn apd_c_run(
         RunsCode (held code.old) (held maps.old) frame.now given.now result (held maps.new) }
     ensures refused { result.number ≢ 0 → held maps.new ≡ held maps.old }
     ensures code { held code.new ≡ held code.old }
+    ensures number { IsRunNumber (held code.old) (held maps.old) frame.now given.now result.number }
 {
     match code.take(alloc) {
         None => return refused(OTHER_VALUE),

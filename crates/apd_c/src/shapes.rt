@@ -1,7 +1,8 @@
 //! The shapes of maps, as C tells them.
 
-ghost use Rattle.std.specs.Prelude.{◌≡◌, map, IfOk, IfSome};
-ghost use Rattle.apd_c.specs.Given.{shape_of};
+ghost use Rattle.std.specs.Prelude.{◌≡◌, ◌↔◌, map, IsSome, IsTrue, IfOk, IfSome};
+ghost use Rattle.std.specs.List.{All};
+ghost use Rattle.apd_c.specs.Given.{AreInLimits, IsWidth, shape_of};
 
 use bpf_regions::{Scope, Shape, Shapes, WordWidth};
 use std::alloc::{AllocError, Global};
@@ -32,11 +33,19 @@ fn shape_of(given: MapShape) -> Shape
     }
 }
 
+/// Whether the words of all have 4 or 8 bytes.
+fn have_widths(given: &[MapShape]) -> bool
+    ensures { IsTrue result ↔ All (λ s. IsWidth s.width) given.now }
+{
+    given.iter().all(|one| one.width == 4 || one.width == 8)
+}
+
 /// The shapes, each with a scope that all share. None where they are more than 16, or one is out of its limits.
 pub(crate) fn shapes_from(alloc: Global, given: &[MapShape]) -> Result<Option<Shapes>, AllocError>
-    ensures { IfOk result (λ o. IfSome o (λ s. s ≡ map shape_of given.now)) }
+    ensures are { IfOk result (λ o. IfSome o (λ s. s ≡ map shape_of given.now)) }
+    ensures limits { IfOk result (λ o. IsSome o ↔ AreInLimits given.now) }
 {
-    if !given.iter().all(|one| one.width == 4 || one.width == 8) {
+    if !have_widths(given) {
         return Ok(None);
     }
     let mut shapes = Vec::new(alloc);

@@ -1,22 +1,23 @@
 //! What C does with words of maps.
 
-ghost use Rattle.std.specs.Prelude.{◌≡◌, ◌≢◌, ◌<◌, map, slice_get, Some, None, IsTrue, IfSome, IfOk, IfErr};
+ghost use Rattle.std.specs.Prelude.{◌≡◌, ◌≢◌, ◌<◌, ◌↔◌, map, slice_get, Some, None, IsTrue, IfSome, IfOk, IfErr};
+ghost use Rattle.std.specs.Option.{option_map};
 ghost use Rattle.bpf_regions.specs.declared.asks.Ask.TheVariants.{Access};
 ghost use Rattle.bpf_regions.specs.declared.maps.MapOp.TheVariants.{Load, Store};
 ghost use Rattle.bpf_model.specs.Run.{InRange, words_in};
 ghost use Rattle.bpf_helpers.specs.Hooked.{Gives, IsFitting, shapes_of};
 ghost use Rattle.apd_c.specs.declared.handle.Content.TheVariants.{Maps as MapsContent};
 ghost use Rattle.apd_c.specs.Held.{held};
+ghost use Rattle.apd_c.specs.Answers.{number_in};
 ghost use Rattle.apd_c.specs.Given.{shape_of};
-ghost use Rattle.apd_c.specs.Words.{HasAccessed, HoldsMaps, IsAccessed, reads_of};
+ghost use Rattle.apd_c.specs.Words.{HasAccessed, HoldsMaps, IsAccessNumber, IsAccessed, IsMakingNumber, IsMapsNumber, Operates, maps_of, reads_of, word_number};
 
 use crate::answer::{NO_MEMORY, NOT_EMPTY, OTHER_VALUE, OUT_OF_LIMITS};
 use crate::handle::{Content, Handle};
 use crate::maps::Maps;
 use crate::shapes::{MapShape, shapes_from};
-use ap_tables::ApTables;
 use bpf_helpers::{HookPort, MapTables, WorkerState, WorkerView};
-use bpf_regions::{MapOp, Scope};
+use bpf_regions::{MapOp, Shapes};
 use bpf_tagged::Port;
 use std::alloc::Global;
 
@@ -40,6 +41,7 @@ impl Loaded {
 pub(crate) fn take_maps(alloc: Global, handle: &mut Handle) -> Option<(Box<Content>, Maps)>
     ensures some { IfSome result (λ t. held handle.old ≡ Some (MapsContent t.1)) }
     ensures none { result ≡ None → held handle.new ≡ held handle.old }
+    ensures maps { option_map (λ t. t.1) result ≡ maps_of (held handle.old) }
 {
     match handle.take(alloc) {
         None => return None,
@@ -64,10 +66,13 @@ pub(crate) fn put_maps(handle: &mut Handle, boxed: Box<Content>, maps: Maps)
 }
 
 /// Whether there is a map of that number, and the word is one of its words.
-fn has_word(tables: &ApTables, map: u32, word: u32) -> bool
-    ensures { IsTrue result → word < words_in (slice_get (shapes_of tables.now.maps) map) }
+fn has_word(shapes: &Shapes, map: u32, word: u32) -> bool
+    ensures { IsTrue result ↔ (word < words_in (slice_get shapes.now map)) }
 {
-    tables.has_word(Scope::Shared, map as usize, word)
+    match shapes.get(map) {
+        Some(shape) => word < shape.word_count(),
+        None => false,
+    }
 }
 
 /// One access to a word, by the seats of C.
@@ -93,8 +98,9 @@ fn access(maps: Maps, at: u32, word: u32, operation: MapOp) -> (Maps, Loaded)
     ensures made { result.1.number ≡ 0 →
         IsAccessed maps at word operation result.1.value result.0 }
     ensures refused { result.1.number ≢ 0 → result.0 ≡ maps }
+    ensures number { result.1.number ≡ word_number maps.shapes at word }
 {
-    if !has_word(&maps.tables, at, word) {
+    if !has_word(&maps.shapes, at, word) {
         return (maps, Loaded::refused(OUT_OF_LIMITS));
     }
     let Maps {
@@ -121,9 +127,7 @@ pub(crate) fn access_at(
     word: u32,
     operation: MapOp,
 ) -> Loaded
-    ensures made { result.number ≡ 0 →
-        HasAccessed (held maps.old) map word operation result.value (held maps.new) }
-    ensures kept { result.number ≢ 0 → held maps.new ≡ held maps.old }
+    ensures { Operates (held maps.old) map word operation result (held maps.new) }
 {
     match take_maps(alloc, maps) {
         None => return Loaded::refused(OTHER_VALUE),
@@ -140,6 +144,7 @@ fn made(alloc: Global, shapes: &[MapShape], draw: u64) -> Result<Maps, u32>
     ensures ok { IfOk result (λ m. (m.shapes ≡ map shape_of shapes.now)
         × (m.state.draw ≡ draw)) }
     ensures err { IfErr result (λ number. number ≢ 0) }
+    ensures number { IsMakingNumber shapes.now (number_in result) }
 {
     match shapes_from(alloc, shapes) {
         Err(_) => return Err(NO_MEMORY),
@@ -153,8 +158,8 @@ fn made(alloc: Global, shapes: &[MapShape], draw: u64) -> Result<Maps, u32>
 
 /// Fills an empty handle with maps of these shapes, each of whose words is 0, and the word that programs draw first.
 ///
-/// 0: the handle holds them. 40: memory was refused. 90: a shape out of its limits. 92: the handle isn't empty. All but
-/// 0 leave the handle as it was.
+/// 0: the handle holds them. 40: memory was refused. 62: no seat of a map is left; only tests show that one is. 90: a shape out of
+/// its limits. 92: the handle isn't empty. All but 0 leave the handle as it was.
 #[unsafe(no_mangle)]
 pub extern "C" fn apd_c_maps(
     alloc: Global,
@@ -164,6 +169,7 @@ pub extern "C" fn apd_c_maps(
 ) -> u32
     ensures made { result ≡ 0 → HoldsMaps shapes.now draw (held maps.new) }
     ensures kept { result ≢ 0 → held maps.new ≡ held maps.old }
+    ensures number { IsMapsNumber shapes.now (held maps.old) result }
 {
     if let Some(content) = maps.take(alloc) {
         maps.put(content);
@@ -183,9 +189,7 @@ pub extern "C" fn apd_c_maps(
 /// 0: the word was loaded. 90: there is no such word. 91: the handle holds no maps. It takes no memory.
 #[unsafe(no_mangle)]
 pub extern "C" fn apd_c_load(alloc: Global, maps: &mut Handle, map: u32, word: u32) -> Loaded
-    ensures loaded { result.number ≡ 0 →
-        HasAccessed (held maps.old) map word Load result.value (held maps.new) }
-    ensures kept { result.number ≢ 0 → held maps.new ≡ held maps.old }
+    ensures { Operates (held maps.old) map word Load result (held maps.new) }
 {
     access_at(alloc, maps, map, word, MapOp::Load)
 }
@@ -204,6 +208,7 @@ pub extern "C" fn apd_c_store(
     ensures stored { result ≡ 0 →
         HasAccessed (held maps.old) map word (Store value) 0 (held maps.new) }
     ensures kept { result ≢ 0 → held maps.new ≡ held maps.old }
+    ensures number { IsAccessNumber (held maps.old) map word result }
 {
     access_at(alloc, maps, map, word, MapOp::Store(value)).number
 }

@@ -1,4 +1,4 @@
-use Rattle.std.proofs.Common.{◌≡◌, ℕ, refl, subst}
+use Rattle.std.proofs.Common.{ℕ, refl, subst}
 use Rattle.bpf_regions.specs.declared.asks.Ask.TheVariants.{Access}
 use Rattle.bpf_regions.specs.declared.maps.MapOp.TheVariants.{Store}
 use Rattle.bpf_helpers.specs.Hooked.{Gives}

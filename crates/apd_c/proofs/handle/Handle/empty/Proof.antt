@@ -1,6 +1,6 @@
 -- `empty` makes a handle that owns nothing.
-use Rattle.std.proofs.Common.{◌≡◌, List, [], ◌∷◌, refl, lit<}
-use mir.Val.{Val, vbool}
+use Rattle.std.proofs.Common.{◌≡◌, [], ◌∷◌, refl, lit<}
+use mir.Val.{vbool}
 use base.Logic.{emp}
 use base.Fml.{ftrue}
 use types.Kit.{‵, raw, ◌⊛◌, ◌$◌, ◌∵◌, !, qed, by, move, keep, drop, split, use0}
@@ -8,7 +8,6 @@ use types.Run.{false_lit, lit, no_more, and_then, returns, enter}
 use types.ByLocal.{alloc_all, pass_all, free_all, look_at, sets}
 use types.Part.{agg}
 use contract.Monad.{fact, fact_i}
-use contract.Running.{tables}
 use denote.RawPtr.{null_ptr, ptr_val}
 use denote.Steps.{nothing}
 use denote.Triple.Walked.{Stays, walk_of}
@@ -17,7 +16,6 @@ use Rattle.std.proofs.raw_atomic.Walks.{proved, leaves}
 use Rattle.std.specs.Prelude.{false}
 use Rattle.apd_c.proofs.Values.{both}
 use Rattle.apd_c.proofs.Handles.{empty_in}
-use Rattle.apd_c.specs.declared.handle.Content.{Content}
 use Rattle.apd_c.specs.declared.handle.Content.TheVariants.{Nothing}
 use Rattle.apd_c.specs.contracts.handle.Handle.empty as f
 use Rattle.apd_c.proofs.handle.Handle.empty.Statement.{statement}

@@ -1,8 +1,7 @@
 -- `opened` gives the box that a full handle owns.
-use Rattle.std.proofs.Common.{◌≡◌, ℕ, List, [], ◌∷◌, ◌++◌, refl, sym, ap, subst, lit<}
+use Rattle.std.proofs.Common.{◌≡◌, List, [], ◌∷◌, ◌++◌, refl, sym, ap, subst, lit<}
 use mir.Val.{Val, vptr, vbool, vcons, vnil, has_ty}
 use base.Logic.{SProp, ent, emp, id⊢}
-use base.Fml.{ftrue}
 use prog.Wp.{WpFn}
 use types.Kit.{‵, raw, ◌⊛◌, at_ret, ◌$◌, ◌∵◌, !, qed, by, move, keep, drop, split, fsplit, fjoin, suffices, rewrite, use0, use1}
 use types.Run.{stop, fld, lit, of_opd, no_more, and_then, first, branches, exec, returns, enter}
@@ -15,7 +14,7 @@ use denote.Exit.{yes}
 use denote.RattleType.{RattleType, owns}
 use denote.Signature.{types_at, type_at, plain}
 use denote.Builtin.{RawPtr}
-use denote.RawPtr.{Ptr, block_ptr, ptr_val}
+use denote.RawPtr.{block_ptr, ptr_val}
 use denote.Steps.{nothing}
 use denote.Param.{layout}
 use denote.Triple.Entry.{alive}

@@ -1,4 +1,4 @@
-use Rattle.std.proofs.Common.{◌≡◌, sym, ◌∙◌}
+use Rattle.std.proofs.Common.{sym, ◌∙◌}
 use Rattle.apd_c.proofs.maps.Maps.new.Goals as goal
 
 pub invariant_of-result : goal.invariant_of-result

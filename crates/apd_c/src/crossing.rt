@@ -1,0 +1,9 @@
+//! What may go from thread to thread.
+
+ghost use Rattle.core.specs.Thread.{IsSend};
+ghost use Rattle.apd_c.specs.contracts.handle.Handle.{the_row};
+
+/// A handle may go to another thread, whatever it holds: what it owns is the same to each.
+pub fn handles_law()
+    ensures { IsSend the_row }
+{}
