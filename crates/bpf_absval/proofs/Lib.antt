@@ -1,4 +1,5 @@
 mod Keeps
 mod Forgets
-mod Raised
 mod Raises
+mod Ordered
+mod Forked

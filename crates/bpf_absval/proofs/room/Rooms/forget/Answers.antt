@@ -1,9 +1,13 @@
-use Rattle.std.proofs.Common.{rules, ◌==◌, not}
-use Rattle.std.proofs.lemmas.Fn.{filter_same}
-use Rattle.bpf_absval.specs.declared.room.Room.{Room}
+use Rattle.std.proofs.Common.{◌≡◌, rules, sym, ◌∙◌, None}
+use Rattle.bpf_absval.specs.Leaves.{rooms_of}
+use Rattle.bpf_absval.proofs.Ordered.{between_without, without_unknown}
 use Rattle.bpf_absval.proofs.room.Rooms.forget.Goals as goal
 
-pub returns : goal.returns
-returns c =
-    rw (← c.self.view_is)
-    (filter_same _ (λ (r : Room). not (r.label == c.args.label)) _ (λ x b f' k. search rules) _ _ c.retain.ensures.filtered)
+pub returns-then-is_none-clause-ok : goal.returns-then-is_none-clause-ok
+returns-then-is_none-clause-ok c =
+    let none : c.find.result ≡ None = search rules in
+    rw (← c.self.view_is) (sym (without_unknown c.args.label (rooms_of c.self.inside.tree) (sym c.find.ensures ∙ none)))
+
+pub invariant_of-self : goal.invariant_of-self
+invariant_of-self c =
+    rw c.in_ok-tree.ensures (between_without 0 65536 c.args.label (rooms_of c.self.inside.tree) c.self.invariant)
