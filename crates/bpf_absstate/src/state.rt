@@ -21,7 +21,7 @@ pub struct AbsState {
     pc: usize,
     registers: Registers,
     frames: Rc<Chain>,
-    rooms: Rc<Rooms>,
+    rooms: Rooms,
     least: u16,
     /// How many call frames there are.
     depth: usize,
@@ -38,7 +38,7 @@ impl Model for AbsState {
       registers = a.registers;
       frames = a.frames.value;
       least = a.least;
-      rooms = a.rooms.value;
+      rooms = a.rooms;
     } };
 
     ghost invariant = { λ a. IsState a.depth (record {
@@ -46,7 +46,7 @@ impl Model for AbsState {
       registers = a.registers;
       frames = a.frames.value;
       least = a.least;
-      rooms = a.rooms.value;
+      rooms = a.rooms;
     }) };
 }
 
@@ -78,12 +78,11 @@ impl AbsState {
         let main = CallFrame::new(alloc, 0, Kept::none(alloc)?);
         let frames = Rc::new(alloc, Chain::with_newest(none, main))?;
         let registers = Registers::entry(alloc)?;
-        let rooms = Rc::new(alloc, Rooms::new(alloc))?;
         Ok(AbsState {
             pc: 0,
             registers,
             frames,
-            rooms,
+            rooms: Rooms::new(alloc),
             least: 0,
             depth: 1,
         })
@@ -164,8 +163,7 @@ impl AbsState {
         ensures ok { OnOk result (self.new ≡ with_room self.old label size) }
         ensures err { OnErr result (self.new ≡ self.old) }
     {
-        let rooms = Rc::make_mut(&mut self.rooms)?;
-        rooms.raise(label, size)?;
+        self.rooms.raise(label, size)?;
         Ok(())
     }
 
@@ -248,8 +246,7 @@ impl AbsState {
         let chain = self.frames.without_label(alloc, label)?;
         let frames = Rc::new(alloc, chain)?;
         let mut rooms = self.rooms.clone()?;
-        let left = Rc::make_mut(&mut rooms)?;
-        left.forget(label);
+        rooms.forget(label)?;
         let registers = self.registers.without_label(label)?;
         self.registers = registers;
         self.frames = frames;
