@@ -3,3 +3,4 @@ mod Forgets
 mod Raises
 mod Ordered
 mod Forked
+mod Newest

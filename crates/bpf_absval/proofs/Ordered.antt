@@ -1,7 +1,7 @@
 -- Rooms in the order of their labels: what a room changes before and behind a label.
-use Rattle.std.proofs.Common.{◌≡◌, ℕ, ◌+◌, ◌<◌, ◌≤◌, ◌==◌, not, max, List, [], ◌∷◌, ◌++◌, Bool, true, false, Some, None, refl, ap, ◌∙◌, arith, if◌then◌else◌}
+use Rattle.std.proofs.Common.{◌≡◌, ◌≢◌, ℕ, ◌+◌, ◌<◌, ◌≤◌, ◌==◌, not, max, List, [], ◌∷◌, ◌++◌, Bool, true, false, Some, None, refl, ap, sym, ◌∙◌, arith, if◌then◌else◌}
 use Rattle.std.specs.Prelude.{nat_lt}
-use Rattle.std.proofs.lemmas.Bool.{eqb-false, ltb-true, ltb-false, lt-ltb, le-ltb, ne_eqb, cond_both}
+use Rattle.std.proofs.lemmas.Bool.{eq-eqb, eqb-true, eqb-false, ltb-true, ltb-false, lt-ltb, le-ltb, ne_eqb, cond_both}
 use Rattle.std.proofs.lemmas.List.Elements.{filter-append}
 use Rattle.bpf_absval.specs.declared.room.Room.{Room}
 use Rattle.bpf_absval.specs.Rooms.{find_room, raised, rooms_without, Between}
@@ -165,3 +165,78 @@ raised_above low split label n (x ∷ l) h higher =
     let other : (x.label == label) ≡ false = ne_eqb x.label label (λ e. omega (arith, h.1, higher, e)) in
     let behind : nat_lt label x.label ≡ false = le-ltb label x.label (omega (arith, h.1, higher)) in
     rw (other, behind) (ap (λ (xs : List Room). x ∷ xs) (raised_above (x.label + 1) split label n l h.2 higher))
+
+-- ---- one room beside the others
+
+-- what is known behind a label that had no room
+pub found_raised : (label n : ℕ) (rs : List Room) → find_room rs label ≡ None → Some n ≡ find_room (raised rs label n) label
+unfolding find_room raised
+found_raised label n [] none = rw (eq-eqb label label refl) refl
+found_raised label n (r ∷ rs) none = by_tests (r.label == label) (nat_lt label r.label) refl refl (found_raised label n rs)
+  where
+    by_tests : (here lower : Bool) → (r.label == label) ≡ here → nat_lt label r.label ≡ lower → (find_room rs label ≡ None → Some n ≡ find_room (raised rs label n) label)
+        → Some n ≡ find_room (raised (r ∷ rs) label n) label
+    by_tests true lower is below rest = absurd (some_none r.size (rw is at none))
+    by_tests false true is below rest = rw (is, below, eq-eqb label label refl) refl
+    by_tests false false is below rest = rw (is, below, is) (rest (rw is at none))
+
+-- another label has the room that it had
+pub others_raised : (label other n : ℕ) (rs : List Room) → label ≢ other → find_room (raised rs label n) other ≡ find_room rs other
+unfolding find_room raised
+others_raised label other n [] apart = rw (ne_eqb label other apart) refl
+others_raised label other n (r ∷ rs) apart = by_tests (r.label == label) (nat_lt label r.label) refl refl (others_raised label other n rs apart)
+  where
+    by_tests : (here lower : Bool) → (r.label == label) ≡ here → nat_lt label r.label ≡ lower → find_room (raised rs label n) other ≡ find_room rs other
+        → find_room (raised (r ∷ rs) label n) other ≡ find_room (r ∷ rs) other
+    by_tests true lower is below rest =
+        let different : (r.label == other) ≡ false = ne_eqb r.label other (λ e. apart (sym (eqb-true r.label label is) ∙ e)) in
+        rw (is, different) refl
+    by_tests false true is below rest = rw (is, below, ne_eqb label other apart) refl
+    by_tests false false is below rest = rw (is, below) (ap (λ o. if r.label == other then Some r.size else o) rest)
+
+-- a room that is raised twice
+pub raised_twice : (label m n : ℕ) (rs : List Room) → raised (raised rs label m) label n ≡ raised rs label (max m n)
+unfolding raised
+raised_twice label m n [] = rw (eq-eqb label label refl) refl
+raised_twice label m n (r ∷ rs) = by_tests (r.label == label) (nat_lt label r.label) refl refl (raised_twice label m n rs)
+  where
+    by_tests : (here lower : Bool) → (r.label == label) ≡ here → nat_lt label r.label ≡ lower → raised (raised rs label m) label n ≡ raised rs label (max m n)
+        → raised (raised (r ∷ rs) label m) label n ≡ raised (r ∷ rs) label (max m n)
+    by_tests true lower is below rest =
+        let most : max (max r.size m) n ≡ max r.size (max m n) = omega arith in
+        rw (is, is, most) refl
+    by_tests false true is below rest = rw (is, below, eq-eqb label label refl) refl
+    by_tests false false is below rest = rw (is, below, is, below) (ap (λ (xs : List Room). r ∷ xs) rest)
+
+-- a room that was put is taken away again
+pub without_raised : (label n : ℕ) (rs : List Room) → find_room rs label ≡ None → rooms_without label (raised rs label n) ≡ rs
+unfolding find_room raised
+without_raised label n [] none = rw (eq-eqb label label refl) refl
+without_raised label n (r ∷ rs) none = by_tests (r.label == label) (nat_lt label r.label) refl refl (without_raised label n rs)
+  where
+    by_tests : (here lower : Bool) → (r.label == label) ≡ here → nat_lt label r.label ≡ lower → (find_room rs label ≡ None → rooms_without label (raised rs label n) ≡ rs)
+        → rooms_without label (raised (r ∷ rs) label n) ≡ r ∷ rs
+    by_tests true lower is below rest = absurd (some_none r.size (rw is at none))
+    by_tests false true is below rest =
+        rw (is, below, eq-eqb label label refl, is) (ap (λ (xs : List Room). r ∷ xs) (without_unknown label rs (rw is at none)))
+    by_tests false false is below rest = rw (is, below, is) (ap (λ (xs : List Room). r ∷ xs) (rest (rw is at none)))
+
+-- another room is taken away, before or after
+pub without_other : (low end label other n : ℕ) (rs : List Room) → Between low end rs → label ≢ other → rooms_without other (raised rs label n) ≡ raised (rooms_without other rs) label n
+unfolding Between raised
+without_other low end label other n [] h apart = rw (ne_eqb label other apart) refl
+without_other low end label other n (r ∷ rs) h apart =
+    by_tests (r.label == label) (nat_lt label r.label) (r.label == other) refl refl refl (without_other (r.label + 1) end label other n rs h.2 apart)
+  where
+    by_tests : (here lower gone : Bool) → (r.label == label) ≡ here → nat_lt label r.label ≡ lower → (r.label == other) ≡ gone
+        → rooms_without other (raised rs label n) ≡ raised (rooms_without other rs) label n
+        → rooms_without other (raised (r ∷ rs) label n) ≡ raised (rooms_without other (r ∷ rs)) label n
+    by_tests true lower true is below out rest = absurd (apart (sym (eqb-true r.label label is) ∙ eqb-true r.label other out))
+    by_tests true lower false is below out rest = rw (is, out, is) refl
+    by_tests false true true is below out rest =
+        let behind = between_without (r.label + 1) end other rs h.2 in
+        let lower : label < r.label + 1 = omega (arith, ltb-true label r.label below) in
+        rw (is, below, ne_eqb label other apart, out) (sym (raised_below (r.label + 1) end label n (rooms_without other rs) behind lower))
+    by_tests false true false is below out rest = rw (is, below, ne_eqb label other apart, out, is, below) refl
+    by_tests false false true is below out rest = rw (is, below, out) rest
+    by_tests false false false is below out rest = rw (is, below, out, is, below) (ap (λ (xs : List Room). r ∷ xs) rest)

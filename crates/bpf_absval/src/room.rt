@@ -1,7 +1,8 @@
 //! What is known to lie behind labels.
 
-ghost use Rattle.std.specs.Prelude.{◌≡◌, ◌^◌, [], OnOk, OnErr, IfOk};
+ghost use Rattle.std.specs.Prelude.{◌≡◌, ◌^◌, [], None, OnOk, OnErr, IfOk};
 ghost use Rattle.bpf_absval.specs.Rooms.{find_room, raised, rooms_without, Between};
+ghost use Rattle.bpf_absval.specs.Leaves.{rooms_of};
 
 use crate::tree::Tree;
 use std::alloc::{AllocError, Global};
@@ -20,21 +21,23 @@ pub struct Room {
 #[derive(Drop)]
 pub struct Rooms {
     alloc: Global,
+    /// The rooms of all labels but the newest.
     tree: Tree,
+    /// The room of the label that came last, which changes most often.
+    newest: Option<Room>,
 }
 
 impl Model for Rooms {
-    ghost use Rattle.std.specs.Prelude.{List, ◌^◌};
+    ghost use Rattle.std.specs.Prelude.{List};
     ghost use Rattle.bpf_absval.specs.declared.room.Room.{Room};
 
     ghost Value = { List Room };
 
-    ghost use Rattle.bpf_absval.specs.Rooms.{Between};
-    ghost use Rattle.bpf_absval.specs.Leaves.{rooms_of};
+    ghost use Rattle.bpf_absval.specs.Leaves.{rooms_of, with_newest, IsApart};
 
-    ghost view = { λ a. rooms_of a.tree };
+    ghost view = { λ a. with_newest a.newest (rooms_of a.tree) };
 
-    ghost invariant = { λ a. Between 0 (2 ^ 16) (rooms_of a.tree) };
+    ghost invariant = { λ a. IsApart a.newest (rooms_of a.tree) };
 }
 
 impl Clone for Rooms {
@@ -45,6 +48,7 @@ impl Clone for Rooms {
         Ok(Rooms {
             alloc: self.alloc,
             tree,
+            newest: self.newest,
         })
     }
 }
@@ -57,6 +61,7 @@ impl Rooms {
         Rooms {
             alloc,
             tree: Tree::Empty,
+            newest: None,
         }
     }
 
@@ -67,12 +72,29 @@ impl Rooms {
         let _tree = &self.tree;
     }
 
+    /// All rooms as one tree.
+    fn gathered(&self) -> Result<Tree, AllocError>
+        ensures { IfOk result (λ tree. rooms_of tree ≡ self.now) }
+    {
+        match self.newest {
+            None => {
+                let tree = self.tree.clone()?;
+                Ok(tree)
+            }
+            Some(room) => {
+                let tree = self.tree.with_room(self.alloc, room.label, room.size)?;
+                Ok(tree)
+            }
+        }
+    }
+
     /// All rooms, in the order of their labels.
     pub fn to_vec(&self) -> Result<Vec<Room>, AllocError>
         ensures { IfOk result (λ rooms. rooms.items ≡ self.now) }
     {
+        let tree = self.gathered()?;
         let mut rooms = Vec::new(self.alloc);
-        self.tree.list(&mut rooms)?;
+        tree.list(&mut rooms)?;
         Ok(rooms)
     }
 
@@ -80,7 +102,15 @@ impl Rooms {
     pub fn find(&self, label: u16) -> Option<u16>
         ensures { result ≡ find_room self.now label }
     {
-        self.tree.find(label)
+        match self.newest {
+            None => self.tree.find(label),
+            Some(room) => {
+                if room.label == label {
+                    return Some(room.size);
+                }
+                self.tree.find(label)
+            }
+        }
     }
 
     /// At least `size` bytes lie behind the label's place. Where memory is wanting the rooms stay as they are.
@@ -88,13 +118,46 @@ impl Rooms {
         ensures ok { OnOk result (self.new ≡ raised self.old label size) }
         ensures err { OnErr result (self.new ≡ self.old) }
     {
-        if let Some(known) = self.tree.find(label) {
-            if size <= known {
+        self.whole();
+        match self.find(label) {
+            None => self.put(label, size),
+            Some(known) => {
+                if size <= known {
+                    return Ok(());
+                }
+                self.raise_known(label, size)
+            }
+        }
+    }
+
+    /// Puts a room behind a label that has none.
+    fn put(&mut self, label: u16, size: u16) -> Result<(), AllocError>
+        requires { find_room self.old label ≡ None }
+        ensures ok { OnOk result (self.new ≡ raised self.old label size) }
+        ensures err { OnErr result (self.new ≡ self.old) }
+    {
+        let tree = self.gathered()?;
+        self.tree = tree;
+        self.newest = Some(Room { label, size });
+        Ok(())
+    }
+
+    /// Raises a room that is there.
+    fn raise_known(&mut self, label: u16, size: u16) -> Result<(), AllocError>
+        ensures ok { OnOk result (self.new ≡ raised self.old label size) }
+        ensures err { OnErr result (self.new ≡ self.old) }
+    {
+        if let Some(room) = self.newest {
+            if room.label == label {
+                let size = room.size.max(size);
+                self.newest = Some(Room { label, size });
                 return Ok(());
             }
         }
-        let tree = self.tree.with_room(self.alloc, label, size)?;
+        let all = self.gathered()?;
+        let tree = all.with_room(self.alloc, label, size)?;
         self.tree = tree;
+        self.newest = None;
         Ok(())
     }
 
@@ -103,11 +166,21 @@ impl Rooms {
         ensures ok { OnOk result (self.new ≡ rooms_without label self.old) }
         ensures err { OnErr result (self.new ≡ self.old) }
     {
-        if self.tree.find(label).is_none() {
-            return Ok(());
+        match self.newest {
+            None => {
+                let tree = self.tree.forgotten(self.alloc, label)?;
+                self.tree = tree;
+                return Ok(());
+            }
+            Some(room) => {
+                if room.label == label {
+                    self.newest = None;
+                    return Ok(());
+                }
+                let tree = self.tree.forgotten(self.alloc, label)?;
+                self.tree = tree;
+                return Ok(());
+            }
         }
-        let tree = self.tree.without_room(self.alloc, label)?;
-        self.tree = tree;
-        Ok(())
     }
 }

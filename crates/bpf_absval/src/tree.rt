@@ -317,6 +317,19 @@ impl Tree {
         }
     }
 
+    /// Without the label's room; where it has none, all is shared.
+    pub fn forgotten(&self, alloc: Global, label: u16) -> Result<Tree, AllocError>
+        ensures { IfOk result
+            (λ tree. rooms_of tree ≡ rooms_without label (rooms_of self.now)) }
+    {
+        if self.find(label).is_none() {
+            let tree = self.clone()?;
+            return Ok(tree);
+        }
+        let tree = self.without_room(alloc, label)?;
+        Ok(tree)
+    }
+
     /// Adds all rooms to a list.
     pub fn list(&self, rooms: &mut Vec<Room>) -> Result<(), AllocError>
         ensures { OnOk result (rooms.new.items ≡ rooms.old.items ++ rooms_of self.now) }
