@@ -21,7 +21,7 @@ pub struct AbsState {
     pc: usize,
     registers: Registers,
     frames: Rc<Chain>,
-    rooms: Rooms,
+    rooms: Rc<Rooms>,
     least: u16,
     /// How many call frames there are.
     depth: usize,
@@ -38,7 +38,7 @@ impl Model for AbsState {
       registers = a.registers;
       frames = a.frames.value;
       least = a.least;
-      rooms = a.rooms;
+      rooms = a.rooms.value;
     } };
 
     ghost invariant = { λ a. IsState a.depth (record {
@@ -46,7 +46,7 @@ impl Model for AbsState {
       registers = a.registers;
       frames = a.frames.value;
       least = a.least;
-      rooms = a.rooms;
+      rooms = a.rooms.value;
     }) };
 }
 
@@ -78,11 +78,12 @@ impl AbsState {
         let main = CallFrame::new(alloc, 0, Kept::none(alloc)?);
         let frames = Rc::new(alloc, Chain::with_newest(none, main))?;
         let registers = Registers::entry(alloc)?;
+        let rooms = Rc::new(alloc, Rooms::new(alloc))?;
         Ok(AbsState {
             pc: 0,
             registers,
             frames,
-            rooms: Rooms::new(alloc),
+            rooms,
             least: 0,
             depth: 1,
         })
@@ -163,7 +164,8 @@ impl AbsState {
         ensures ok { OnOk result (self.new ≡ with_room self.old label size) }
         ensures err { OnErr result (self.new ≡ self.old) }
     {
-        self.rooms.raise(label, size)?;
+        let rooms = Rc::make_mut(&mut self.rooms)?;
+        rooms.raise(label, size)?;
         Ok(())
     }
 
@@ -246,7 +248,8 @@ impl AbsState {
         let chain = self.frames.without_label(alloc, label)?;
         let frames = Rc::new(alloc, chain)?;
         let mut rooms = self.rooms.clone()?;
-        rooms.forget(label)?;
+        let left = Rc::make_mut(&mut rooms)?;
+        left.forget(label)?;
         let registers = self.registers.without_label(label)?;
         self.registers = registers;
         self.frames = frames;

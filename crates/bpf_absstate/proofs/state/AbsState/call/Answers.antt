@@ -8,8 +8,8 @@ use Rattle.bpf_absstate.proofs.state.AbsState.call.Goals as goal
 pub invariant_of-self : goal.invariant_of-self
 invariant_of-self c =
     let a = c.self.inside in
-    let old : View = record { pc = a.pc; registers = a.registers; frames = a.frames.value; least = a.least; rooms = a.rooms } in
-    let new : View = record { pc = c.args.to; registers = c.in_ok-registers.registers; frames = c.in_ok-frames.frames.value; least = a.least; rooms = a.rooms } in
+    let old : View = record { pc = a.pc; registers = a.registers; frames = a.frames.value; least = a.least; rooms = a.rooms.value } in
+    let new : View = record { pc = c.args.to; registers = c.in_ok-registers.registers; frames = c.in_ok-frames.frames.value; least = a.least; rooms = a.rooms.value } in
     let few : length a.frames.value < 8 = search rules in
     let same : called old c.args.to c.args.back ≡ new = search rules in
     let count = c.self.invariant.count in

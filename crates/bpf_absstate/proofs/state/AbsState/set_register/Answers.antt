@@ -7,7 +7,7 @@ use Rattle.bpf_absstate.proofs.state.AbsState.set_register.Goals as goal
 pub invariant_of-self-2 : goal.invariant_of-self-2
 invariant_of-self-2 c =
     let a = c.self.inside in
-    let old : View = record { pc = a.pc; registers = a.registers; frames = a.frames.value; least = a.least; rooms = a.rooms } in
+    let old : View = record { pc = a.pc; registers = a.registers; frames = a.frames.value; least = a.least; rooms = a.rooms.value } in
     record {
       view = subst (λ rs. IsView (record old { registers = rs })) (sym c.in_ok-set.ensures.ok) (whole_register old c.number.result c.args.value c.whole.ensures c.self.invariant.view);
       count = c.self.invariant.count;
