@@ -249,7 +249,7 @@ impl AbsState {
         let frames = Rc::new(alloc, chain)?;
         let mut rooms = self.rooms.clone()?;
         let left = Rc::make_mut(&mut rooms)?;
-        left.forget(label);
+        left.forget(label)?;
         let registers = self.registers.without_label(label)?;
         self.registers = registers;
         self.frames = frames;

@@ -26,7 +26,7 @@ nothing_behind label (r ∷ rs) =
     (λ kept. rw (not-true (r.label == label) kept) rest) (λ gone. rest)
 
 -- the rooms behind other labels stay
-others_stay : (label other : ℕ) (rs : List Room) → other ≢ label → find_room (rooms_without label rs) other ≡ find_room rs other
+pub others_stay : (label other : ℕ) (rs : List Room) → other ≢ label → find_room (rooms_without label rs) other ≡ find_room rs other
 unfolding find_room
 others_stay label other [] apart = refl
 others_stay label other (r ∷ rs) apart =

@@ -1,4 +1,6 @@
 mod Keeps
 mod Forgets
-mod Raised
 mod Raises
+mod Ordered
+mod Forked
+mod Newest

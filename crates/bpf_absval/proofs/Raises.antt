@@ -1,5 +1,6 @@
 -- What a raised room keeps.
-use Rattle.std.proofs.Common.{ℕ, ◌+◌, ◌≤◌, ◌==◌, max, List, [], ◌∷◌, length, Option, Some, None, ap, sym, ◌∙◌, arith}
+use Rattle.std.proofs.Common.{ℕ, ◌+◌, ◌≤◌, ◌==◌, max, List, [], ◌∷◌, length, Option, Some, None, ap, sym, ◌∙◌, arith, if◌then◌else◌}
+use Rattle.std.specs.Prelude.{nat_lt}
 use Rattle.std.proofs.lemmas.Bool.{eqb-true, cond_both}
 use Rattle.bpf_regions.specs.declared.memory.Value.TheVariants as value
 use Rattle.bpf_regions.specs.declared.memory.Region.TheVariants as region
@@ -18,13 +19,18 @@ unfolding find_room raised
 rooms_hold e [] label n other fits h =
     cond_both (label == other) (Some n) None (RoomHolds e other) (λ same. omega (arith, fits, ap e.base (eqb-true label other same))) (λ apart. tt)
 rooms_hold e (r ∷ rs) label n other fits h =
-    cond_both (r.label == label) (record r { size = max r.size n } ∷ rs) (r ∷ raised rs label n) (λ xs. RoomHolds e other (find_room xs other))
+    let new : Room = record { label = label; size = n } in
+    cond_both (r.label == label) (record r { size = max r.size n } ∷ rs) (if nat_lt label r.label then new ∷ r ∷ rs else r ∷ raised rs label n) (λ xs. RoomHolds e other (find_room xs other))
     (λ is. cond_both (r.label == other) (Some (max r.size n)) (find_room rs other) (RoomHolds e other)
     (λ same. omega (arith, fits, rw same at h, ap e.base (sym (eqb-true r.label label is) ∙ eqb-true r.label other same)))
     (λ apart. rw apart at h))
-    (λ not. cond_both (r.label == other) (Some r.size) (find_room (raised rs label n) other) (RoomHolds e other)
+    (λ not. cond_both (nat_lt label r.label) (new ∷ r ∷ rs) (r ∷ raised rs label n) (λ xs. RoomHolds e other (find_room xs other))
+    (λ lower. cond_both (label == other) (Some n) (find_room (r ∷ rs) other) (RoomHolds e other)
+    (λ same. omega (arith, fits, ap e.base (eqb-true label other same)))
+    (λ apart. h))
+    (λ higher. cond_both (r.label == other) (Some r.size) (find_room (raised rs label n) other) (RoomHolds e other)
     (λ same. rw same at h)
-    (λ apart. rooms_hold e rs label n other fits (rw apart at h)))
+    (λ apart. rooms_hold e rs label n other fits (rw apart at h))))
 
 label_holds : (e : Labels) (rooms : List Room) (label n : ℕ) (l : Option Label) (x : ℕ) → e.base label + n ≤ length e.setting.frame
     → LabelHolds e rooms l x → LabelHolds e (raised rooms label n) l x

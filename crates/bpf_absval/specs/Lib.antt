@@ -1,4 +1,6 @@
 pub mod Rooms
+pub mod Leaves
+pub mod Fall
 pub mod Meaning
 pub mod WellFormed
 pub mod Unlabelled

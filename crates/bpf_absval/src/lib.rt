@@ -11,6 +11,7 @@ pub mod inclusion;
 pub mod laws;
 pub mod room;
 pub mod slot;
+mod tree;
 pub mod value;
 
 pub use room::{Room, Rooms};

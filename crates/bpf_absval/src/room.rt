@@ -1,8 +1,10 @@
 //! What is known to lie behind labels.
 
-ghost use Rattle.std.specs.Prelude.{◌≡◌, ◌==◌, [], OnOk, OnErr, position};
-ghost use Rattle.bpf_absval.specs.Rooms.{find_room, raised, rooms_without};
+ghost use Rattle.std.specs.Prelude.{◌≡◌, ◌^◌, [], None, OnOk, OnErr, IfOk};
+ghost use Rattle.bpf_absval.specs.Rooms.{find_room, raised, rooms_without, Between};
+ghost use Rattle.bpf_absval.specs.Leaves.{rooms_of};
 
+use crate::tree::Tree;
 use std::alloc::{AllocError, Global};
 use std::marker::Model;
 
@@ -14,10 +16,15 @@ pub struct Room {
     pub size: u16,
 }
 
-/// What is known to lie behind labels, at most one room for each.
-#[derive(Debug, Drop)]
+/// What is known to lie behind labels, at most one room for each, in the order of the labels. A copy shares with the
+/// first what neither has changed since.
+#[derive(Drop)]
 pub struct Rooms {
-    list: Vec<Room>,
+    alloc: Global,
+    /// The rooms of all labels but the newest.
+    tree: Tree,
+    /// The room of the label that came last, which changes most often.
+    newest: Option<Room>,
 }
 
 impl Model for Rooms {
@@ -26,53 +33,84 @@ impl Model for Rooms {
 
     ghost Value = { List Room };
 
-    ghost view = { λ a. a.list.items };
+    ghost use Rattle.bpf_absval.specs.Leaves.{rooms_of, with_newest, IsApart};
+
+    ghost view = { λ a. with_newest a.newest (rooms_of a.tree) };
+
+    ghost invariant = { λ a. IsApart a.newest (rooms_of a.tree) };
 }
 
 impl Clone for Rooms {
     ghost is_clone = { λ a b. b ≡ a };
 
     fn clone(&self) -> Result<Rooms, AllocError> {
-        let list = self.list.clone()?;
-        Ok(Rooms { list })
+        let tree = self.tree.clone()?;
+        Ok(Rooms {
+            alloc: self.alloc,
+            tree,
+            newest: self.newest,
+        })
     }
 }
 
-/// The index of the label's room.
-fn index_of(rooms: &[Room], label: u16) -> Option<usize>
-    ensures { result ≡ position (λ r. r.label == label) rooms.now }
-{
-    rooms.iter().position(|room| room.label == label)
-}
-
 impl Rooms {
-    /// Nothing is known behind any label.
+    /// Nothing is known behind any label. It takes no memory.
     pub fn new(alloc: Global) -> Rooms
         ensures { result ≡ [] }
     {
         Rooms {
-            list: Vec::new(alloc),
+            alloc,
+            tree: Tree::Empty,
+            newest: None,
         }
     }
 
-    /// All rooms, in the order in which their labels came.
-    pub fn as_slice(&self) -> &[Room]
-        ensures { result.now ≡ self.now }
+    /// Labels rise from room to room.
+    pub fn whole(&self)
+        ensures { Between 0 (2 ^ 16) self.now }
     {
-        self.list.as_slice()
+        let _tree = &self.tree;
+    }
+
+    /// All rooms as one tree.
+    fn gathered(&self) -> Result<Tree, AllocError>
+        ensures { IfOk result (λ tree. rooms_of tree ≡ self.now) }
+    {
+        match self.newest {
+            None => {
+                let tree = self.tree.clone()?;
+                Ok(tree)
+            }
+            Some(room) => {
+                let tree = self.tree.with_room(self.alloc, room.label, room.size)?;
+                Ok(tree)
+            }
+        }
+    }
+
+    /// All rooms, in the order of their labels.
+    pub fn to_vec(&self) -> Result<Vec<Room>, AllocError>
+        ensures { IfOk result (λ rooms. rooms.items ≡ self.now) }
+    {
+        let tree = self.gathered()?;
+        let mut rooms = Vec::new(self.alloc);
+        tree.list(&mut rooms)?;
+        Ok(rooms)
     }
 
     /// How many bytes are known to lie behind the label's place.
-    #[tactic(auto, unfolding(crate::specs::Rooms::find_room))]
     pub fn find(&self, label: u16) -> Option<u16>
         ensures { result ≡ find_room self.now label }
     {
-        for room in &self.list {
-            if room.label == label {
-                return Some(room.size);
+        match self.newest {
+            None => self.tree.find(label),
+            Some(room) => {
+                if room.label == label {
+                    return Some(room.size);
+                }
+                self.tree.find(label)
             }
         }
-        None
     }
 
     /// At least `size` bytes lie behind the label's place. Where memory is wanting the rooms stay as they are.
@@ -80,23 +118,69 @@ impl Rooms {
         ensures ok { OnOk result (self.new ≡ raised self.old label size) }
         ensures err { OnErr result (self.new ≡ self.old) }
     {
-        match index_of(self.list.as_slice(), label) {
-            Some(at) => {
-                let room = &mut self.list[at];
-                room.size = room.size.max(size);
-                Ok(())
-            }
-            None => {
-                self.list.push(Room { label, size })?;
-                Ok(())
+        self.whole();
+        match self.find(label) {
+            None => self.put(label, size),
+            Some(known) => {
+                if size <= known {
+                    return Ok(());
+                }
+                self.raise_known(label, size)
             }
         }
     }
 
-    /// Nothing is known behind the label any more.
-    pub fn forget(&mut self, label: u16)
-        ensures { self.new ≡ rooms_without label self.old }
+    /// Puts a room behind a label that has none.
+    fn put(&mut self, label: u16, size: u16) -> Result<(), AllocError>
+        requires { find_room self.old label ≡ None }
+        ensures ok { OnOk result (self.new ≡ raised self.old label size) }
+        ensures err { OnErr result (self.new ≡ self.old) }
     {
-        self.list.retain(|room| room.label != label);
+        let tree = self.gathered()?;
+        self.tree = tree;
+        self.newest = Some(Room { label, size });
+        Ok(())
+    }
+
+    /// Raises a room that is there.
+    fn raise_known(&mut self, label: u16, size: u16) -> Result<(), AllocError>
+        ensures ok { OnOk result (self.new ≡ raised self.old label size) }
+        ensures err { OnErr result (self.new ≡ self.old) }
+    {
+        if let Some(room) = self.newest {
+            if room.label == label {
+                let size = room.size.max(size);
+                self.newest = Some(Room { label, size });
+                return Ok(());
+            }
+        }
+        let all = self.gathered()?;
+        let tree = all.with_room(self.alloc, label, size)?;
+        self.tree = tree;
+        self.newest = None;
+        Ok(())
+    }
+
+    /// Nothing is known behind the label any more. Where memory is wanting the rooms stay as they are.
+    pub fn forget(&mut self, label: u16) -> Result<(), AllocError>
+        ensures ok { OnOk result (self.new ≡ rooms_without label self.old) }
+        ensures err { OnErr result (self.new ≡ self.old) }
+    {
+        match self.newest {
+            None => {
+                let tree = self.tree.forgotten(self.alloc, label)?;
+                self.tree = tree;
+                return Ok(());
+            }
+            Some(room) => {
+                if room.label == label {
+                    self.newest = None;
+                    return Ok(());
+                }
+                let tree = self.tree.forgotten(self.alloc, label)?;
+                self.tree = tree;
+                return Ok(());
+            }
+        }
     }
 }

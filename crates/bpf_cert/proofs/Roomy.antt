@@ -1,6 +1,7 @@
 -- Rooms of rising labels, put one after the other.
-use Rattle.std.proofs.Common.{◌≡◌, ℕ, zero, suc, ◌+◌, ◌<◌, Bool, false, cond, eqb, List, [], ◌∷◌, ◌++◌, length, take, get_or, refl, sym, ◌∙◌, ap, arith, max}
-use Rattle.std.proofs.lemmas.Bool.{ne_eqb}
+use Rattle.std.proofs.Common.{◌≡◌, ℕ, zero, suc, ◌+◌, ◌<◌, false, eqb, List, [], ◌∷◌, ◌++◌, length, take, get_or, refl, sym, ◌∙◌, ap, arith}
+use Rattle.std.specs.Prelude.{nat_lt}
+use Rattle.std.proofs.lemmas.Bool.{ne_eqb, le-ltb}
 use Rattle.std.proofs.lemmas.List.{take_more}
 use Rattle.bpf_absval.specs.declared.room.Room.{Room}
 use Rattle.bpf_absval.specs.Rooms.{raised}
@@ -16,7 +17,8 @@ unfolding raised Below
 raised_new [] label size h = refl
 raised_new (r ∷ rs) label size h =
     let other : eqb r.label label ≡ false = ne_eqb _ _ (λ e. let lt = h.0 in omega (arith, lt, e)) in
-    ap (λ (b : Bool). cond b (record { label = r.label; size = max r.size size } ∷ rs) (r ∷ raised rs label size)) other ∙ ap (λ (xs : List Room). r ∷ xs) (raised_new rs label size h.1)
+    let behind : nat_lt label r.label ≡ false = le-ltb label r.label (let lt = h.0 in omega (arith, lt)) in
+    rw (other, behind) (ap (λ (xs : List Room). r ∷ xs) (raised_new rs label size h.1))
 
 above_front : (above : ℕ) (rs : List Room) (i : ℕ) (d : Room) → i < length rs → Rise above rs → above < (get_or rs i d).label
 unfolding Rise

@@ -56,10 +56,12 @@ fn rooms_rise_and_are_forgotten(rt: HostRuntime) {
     same(&rt, rooms.find(8), Some(40), "find");
     same(&rt, rooms.find(12), Some(0), "find");
     let copy = rooms.clone().expect(&rt, "memory");
-    rooms.forget(8);
+    rooms.forget(8).expect(&rt, "memory");
     same(&rt, rooms.find(8), None, "find");
     let low = Room { label: 8, size: 40 };
     let high = Room { label: 12, size: 0 };
+    let rooms = rooms.to_vec().expect(&rt, "memory");
+    let copy = copy.to_vec().expect(&rt, "memory");
     same(&rt, rooms.as_slice(), [high].as_slice(), "rooms");
     same(&rt, copy.as_slice(), [low, high].as_slice(), "copy");
 }
