@@ -1,5 +1,5 @@
 -- What C does with words of maps.
-use Rattle.std.specs.Prelude.{◌≡◌, ◌≢◌, ℕ, List, map, slice_get, nat_lt, if◌then◌else◌, Option, Some, None}
+use Rattle.std.specs.Prelude.{◌≡◌, ◌≢◌, ◌<◌, ℕ, List, map, slice_get, Option, Some, None}
 use Rattle.bpf_regions.specs.declared.asks.Ask.TheVariants.{Access}
 use Rattle.bpf_regions.specs.declared.maps.MapOp.{MapOp}
 use Rattle.bpf_regions.specs.declared.maps.Shape.{Shape}
@@ -32,9 +32,9 @@ IsMakingNumber shapes = Perhaps 40 (Perhaps 62 (Unless (AreInLimits shapes) 90 I
 abbrev pub IsMapsNumber : List MapShape → Option Content → ℕ → Type 0
 IsMapsNumber shapes o = UnlessNone o 92 (IsMakingNumber shapes)
 
--- 0, or 90 where no map has the word
-abbrev pub word_number : List Shape → ℕ → ℕ → ℕ
-word_number shapes map word = if nat_lt word (words_in (slice_get shapes map)) then 0 else 90
+-- 0, or 90 exactly where no map has the word
+abbrev pub IsWordNumber : List Shape → ℕ → ℕ → ℕ → Type 0
+IsWordNumber shapes at word = Unless (word < words_in (slice_get shapes at)) 90 IsDone
 
 -- what C reads of maps: their tables
 abbrev pub reads_of : List Tables → hooked.Given
@@ -58,9 +58,9 @@ abbrev pub HasAccessed : Option Content → ℕ → ℕ → MapOp → ℕ → Op
 HasAccessed o at word operation answer o' =
     (m : Maps) × (m' : Maps) × (o ≡ Some (content.Maps m)) × (o' ≡ Some (content.Maps m')) × IsAccessed m at word operation answer m'
 
--- the number of an access: 91 exactly where the handle holds no maps; else 90 where none has the word, and else 0
+-- The number of an access: 91 exactly where the handle holds no maps; else 90 exactly where none has the word; else 0.
 abbrev pub IsAccessNumber : Option Content → ℕ → ℕ → ℕ → Type 0
-IsAccessNumber o at word = UnlessSome (maps_of o) 91 (λ m number. number ≡ word_number m.shapes at word)
+IsAccessNumber o at word = UnlessSome (maps_of o) 91 (λ m. IsWordNumber m.shapes at word)
 
 -- One operation on a word of the maps that a handle holds: 0 and the answer of the one access, or a number of a refusal,
 -- which changes nothing.

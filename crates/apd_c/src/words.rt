@@ -10,7 +10,7 @@ ghost use Rattle.apd_c.specs.declared.handle.Content.TheVariants.{Maps as MapsCo
 ghost use Rattle.apd_c.specs.Held.{held};
 ghost use Rattle.apd_c.specs.Answers.{number_in};
 ghost use Rattle.apd_c.specs.Given.{shape_of};
-ghost use Rattle.apd_c.specs.Words.{HasAccessed, HoldsMaps, IsAccessNumber, IsAccessed, IsMakingNumber, IsMapsNumber, Operates, maps_of, reads_of, word_number};
+ghost use Rattle.apd_c.specs.Words.{HasAccessed, HoldsMaps, IsAccessNumber, IsAccessed, IsMakingNumber, IsMapsNumber, IsWordNumber, Operates, maps_of, reads_of};
 
 use crate::answer::{NO_MEMORY, NOT_EMPTY, OTHER_VALUE, OUT_OF_LIMITS};
 use crate::handle::{Content, Handle};
@@ -98,7 +98,7 @@ fn access(maps: Maps, at: u32, word: u32, operation: MapOp) -> (Maps, Loaded)
     ensures made { result.1.number ≡ 0 →
         IsAccessed maps at word operation result.1.value result.0 }
     ensures refused { result.1.number ≢ 0 → result.0 ≡ maps }
-    ensures number { result.1.number ≡ word_number maps.shapes at word }
+    ensures number { IsWordNumber maps.shapes at word result.1.number }
 {
     if !has_word(&maps.shapes, at, word) {
         return (maps, Loaded::refused(OUT_OF_LIMITS));
