@@ -1,0 +1,7 @@
+use Rattle.live_scenes.proofs.Keeping.{chief_reached}
+use Rattle.live_scenes.proofs.hands.Chief.store.Goals as goal
+
+pub invariant_of-self : goal.invariant_of-self
+invariant_of-self g c =
+    let was = c.args.self.now in
+    record { is_chief = chief_reached was.ap.now was.token c.store.new.operator was.is_chief c.store.ensures.own c.store.ensures.same }

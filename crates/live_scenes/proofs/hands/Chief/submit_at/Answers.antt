@@ -1,0 +1,7 @@
+use Rattle.live_scenes.proofs.Keeping.{chief_put}
+use Rattle.live_scenes.proofs.hands.Chief.submit_at.Goals as goal
+
+pub invariant_of-self : goal.invariant_of-self
+invariant_of-self g c =
+    let was = c.args.self.now in
+    record { is_chief = chief_put was.ap.now was.token c.submit_at.new.operator was.is_chief c.submit_at.ensures.own c.submit_at.ensures.same }

@@ -1,0 +1,156 @@
+//! The tokens of an access point, as they are given out.
+
+ghost use Rattle.std.specs.Prelude.{◌≡◌, ◌+◌, ◌≤◌, IfOk, OnOk};
+ghost use Rattle.std.specs.List.{All};
+ghost use Rattle.ap_live.specs.Lives.{KeepsLive};
+ghost use Rattle.ap_live.specs.Opening.{parts_in_all};
+ghost use Rattle.ap_live.specs.Tokens.{AreLeft};
+ghost use Rattle.live_scenes.specs.Rights.{IsChief, IsHand};
+
+use crate::hands::{Chief, Hand};
+use crate::purse::{PARTS, Purse};
+use ap_books::Ledgers;
+use ap_live::{LeftTokens, LiveAp, OperatorToken, WorkerToken, newcomers_law, tokens_law};
+use ap_locked::Journals;
+use std::alloc::{AllocError, Global};
+
+/// The tokens of so many workers, which are all; that of the first is the last.
+fn hire_workers<B: Ledgers + Journals>(
+    ap: &mut LiveAp<B>,
+    alloc: Global,
+    left: &mut LeftTokens<B>,
+    count: usize,
+) -> Result<Vec<WorkerToken<B>>, AllocError>
+    requires left { AreLeft ap.old left.old }
+    requires all { ap.old.stock.workers ≡ count }
+    ensures own { IfOk result (λ ws. All (IsHand ap.new) ws.items) }
+    ensures parts { OnOk result (left.new.parts + count ≡ left.old.parts) }
+    ensures keeps { OnOk result (KeepsLive ap.old ap.new) }
+{
+    newcomers_law();
+    tokens_law();
+    let mut tokens = Vec::with_capacity(alloc, count)?;
+    for hired in 0..count {
+        let Ok(token) = ap.worker(alloc, left, count - 1 - hired) else {
+            return Err(AllocError);
+        };
+        tokens.push_reserved(token);
+    }
+    Ok(tokens)
+}
+
+/// The tokens of so many operators.
+fn hire_operators<B: Ledgers + Journals>(
+    ap: &mut LiveAp<B>,
+    alloc: Global,
+    left: &mut LeftTokens<B>,
+    count: usize,
+) -> Result<Vec<OperatorToken<B>>, AllocError>
+    requires left { AreLeft ap.old left.old }
+    ensures left { OnOk result (AreLeft ap.new left.new) }
+    ensures own { IfOk result (λ os. All (IsChief ap.new) os.items) }
+    ensures parts { OnOk result (left.new.parts + count ≡ left.old.parts) }
+    ensures workers { OnOk result (ap.new.stock.workers ≡ ap.old.stock.workers) }
+{
+    newcomers_law();
+    tokens_law();
+    let mut tokens = Vec::with_capacity(alloc, count)?;
+    for _hired in 0..count {
+        let Ok(token) = ap.operator(alloc, left) else {
+            return Err(AllocError);
+        };
+        tokens.push_reserved(token);
+    }
+    Ok(tokens)
+}
+
+/// The tokens of all workers, and of some operators.
+#[derive(Drop)]
+pub(crate) struct Crew<B: Ledgers + Journals> {
+    pub workers: Vec<WorkerToken<B>>,
+    pub operators: Vec<OperatorToken<B>>,
+}
+
+/// The tokens of so many workers, which are all, and of so many operators.
+fn hire<B: Ledgers + Journals>(
+    ap: &mut LiveAp<B>,
+    alloc: Global,
+    left: &mut LeftTokens<B>,
+    many: (usize, usize),
+) -> Result<Crew<B>, AllocError>
+    requires left { AreLeft ap.old left.old }
+    requires all { ap.old.stock.workers ≡ many.0 }
+    ensures hands { IfOk result (λ c. All (IsHand ap.new) c.workers.items) }
+    ensures chiefs { IfOk result (λ c. All (IsChief ap.new) c.operators.items) }
+    ensures parts { OnOk result (left.new.parts + many.0 + many.1 ≡ left.old.parts) }
+{
+    tokens_law();
+    let operators = hire_operators(ap, alloc, left, many.1)?;
+    let workers = hire_workers(ap, alloc, left, many.0)?;
+    Ok(Crew { workers, operators })
+}
+
+/// The tokens of so many workers, which are all, and of so many operators, and the parts of the ledgers that are left.
+/// Nothing was given out before.
+pub(crate) fn deal<B: Ledgers + Journals>(
+    ap: &mut LiveAp<B>,
+    alloc: Global,
+    left: LeftTokens<B>,
+    many: (usize, usize),
+) -> Result<(Crew<B>, Purse<B>), AllocError>
+    requires left { AreLeft ap.old left }
+    requires all { ap.old.stock.workers ≡ many.0 }
+    requires few { many.0 ≤ 8 }
+    requires few_operators { many.1 ≤ 8 }
+    requires parts { left.parts ≡ parts_in_all }
+    ensures hands { IfOk result (λ t. All (IsHand ap.new) t.0.workers.items) }
+    ensures chiefs { IfOk result (λ t. All (IsChief ap.new) t.0.operators.items) }
+{
+    let mut left = left;
+    let Ok(crew) = hire(ap, alloc, &mut left, many) else {
+        // Given up by a call, since eight shards have many parts.
+        drop(left);
+        return Err(AllocError);
+    };
+    let purse = Purse {
+        shares: left.into_shares(),
+        parts: PARTS - many.0 as u64 - many.1 as u64,
+    };
+    Ok((crew, purse))
+}
+
+/// The workers of an access point, by the order of their numbers.
+pub(crate) fn hands_of<'a, B: Ledgers + Journals>(
+    alloc: Global,
+    ap: &'a LiveAp<B>,
+    tokens: Vec<WorkerToken<B>>,
+) -> Result<Vec<Hand<'a, B>>, AllocError>
+    requires { All (IsHand ap.now) tokens.items }
+{
+    let mut tokens = tokens;
+    let mut hands = Vec::with_capacity(alloc, tokens.len())?;
+    let mut number = 0u8;
+    'tokens: while let Some(token) = tokens.pop() {
+        hands.push_reserved(Hand { ap, token, number });
+        number = number.wrapping_add(1);
+    }
+    Ok(hands)
+}
+
+/// The operators of an access point, numbered from 0 on.
+pub(crate) fn chiefs_of<'a, B: Ledgers + Journals>(
+    alloc: Global,
+    ap: &'a LiveAp<B>,
+    tokens: Vec<OperatorToken<B>>,
+) -> Result<Vec<Chief<'a, B>>, AllocError>
+    requires { All (IsChief ap.now) tokens.items }
+{
+    let mut tokens = tokens;
+    let mut chiefs = Vec::with_capacity(alloc, tokens.len())?;
+    let mut number = 0u8;
+    'tokens: while let Some(token) = tokens.pop() {
+        chiefs.push_reserved(Chief { ap, token, number });
+        number = number.wrapping_add(1);
+    }
+    Ok(chiefs)
+}

@@ -1,0 +1,49 @@
+//! Parts of the ledgers that come back.
+
+ghost use Rattle.std.specs.Prelude.{◌≡◌};
+ghost use Rattle.ap_books.specs.Holdings.{HasParts};
+
+use ap_books::{Ledgers, Portions, Totals};
+use ap_live::LiveAp;
+use ap_locked::Journals;
+use std::sync::Wait;
+
+/// Into how many parts each ledger of an access point is cut.
+pub(crate) const PARTS: u64 = 17;
+
+/// So many parts of each ledger.
+#[derive(Drop)]
+pub(crate) struct Purse<B: Ledgers> {
+    pub shares: Portions<B>,
+    pub parts: u64,
+    pub ghost so_many: { HasParts parts shares },
+}
+
+impl<B: Ledgers> Purse<B> {
+    /// Takes a part of each ledger in, with what it has counted. There are never more parts than `PARTS`.
+    pub(crate) fn take(&mut self, part: Portions<B>)
+        requires { HasParts 1 part }
+    {
+        if self.parts < PARTS {
+            self.shares.merge(part);
+            self.parts += 1;
+        } else {
+            // Given up by a call, since eight shards have many parts.
+            drop(part);
+        }
+    }
+}
+
+/// What all have counted. None where a part is missing.
+pub(crate) fn total<B: Ledgers + Journals, R: Wait>(
+    rt: &R,
+    ap: &LiveAp<B>,
+    purse: &mut Purse<B>,
+) -> Option<Totals>
+    requires { B.shares ≡ 17 }
+{
+    if purse.parts != PARTS {
+        return None;
+    }
+    Some(ap.gather(rt, &mut purse.shares))
+}

@@ -1,0 +1,48 @@
+//! Workers that serve as long as operators submit.
+
+use crate::hands::Hand;
+use crate::tallying::Tally;
+use ap_books::Ledgers;
+use ap_locked::Journals;
+use ap_tagged::{OpenGate, Tagged};
+use std::alloc::Global;
+use std::sync::Wait;
+use std::sync::atomic::AtomicU64;
+use std::sync::atomic::Ordering::SeqCst;
+use std::thread;
+
+/// Serves what the queue holds. True where nobody submits any more, and nothing was left, or memory was refused.
+fn turn<B: Ledgers + Journals, R: Wait>(
+    rt: &R,
+    alloc: Global,
+    hand: &mut Hand<'_, B>,
+    tally: &mut Tally,
+    list: &mut Vec<Tagged>,
+    operating: &AtomicU64,
+) -> bool {
+    let over = operating.load(SeqCst) == 0;
+    let refused = hand.serve(rt, alloc, &OpenGate, list).is_err();
+    let none = list.is_empty();
+    tally.take(list);
+    if none && !over {
+        thread::yield_now();
+    }
+    refused || (over && none)
+}
+
+/// Serves until nobody submits any more, and nothing is left in the queue. It answers what was handed on.
+pub(crate) fn serve_on<B: Ledgers + Journals, R: Wait>(
+    rt: &R,
+    alloc: Global,
+    hand: &mut Hand<'_, B>,
+    operating: &AtomicU64,
+) -> Tally {
+    let mut tally = Tally::new();
+    let mut list = Vec::new(alloc);
+    for _ in rt.forever() {
+        if turn(rt, alloc, hand, &mut tally, &mut list, operating) {
+            return tally;
+        }
+    }
+    unreachable!()
+}

@@ -1,0 +1,233 @@
+//! Operators, workers and a publisher, all beside each other.
+
+use crate::hands::{Chief, Hand};
+use crate::operating::{Diary, operate_on};
+use crate::programs::publish;
+use crate::scenes::{Scene, Story};
+use crate::serving::serve_on;
+use crate::tallying::Tally;
+use ap_books::{Ledgers, Totals};
+use ap_locked::Journals;
+use ap_tagged::OpenGate;
+use bpf_regions::WordWidth;
+use std::alloc::Global;
+use std::sync::atomic::AtomicU64;
+use std::sync::atomic::Ordering::SeqCst;
+use std::sync::{Mutex, Wait};
+use std::thread::yield_now;
+use versions::Publisher;
+
+/// Adds 1 to word 0 of both maps, and passes the data up.
+const PASSING: &str = "lddw r1, value 0 0
+mov r2, 1
+atomic_add [r1+0], r2
+lddw r1, value 1 0
+atomic_add [r1+0], r2
+mov r0, 0
+exit
+";
+
+/// Adds 1 to word 1 of both maps, and drops the data.
+const DROPPING: &str = "lddw r1, value 0 0
+mov r2, 1
+atomic_add [r1+8], r2
+lddw r1, value 1 0
+atomic_add [r1+8], r2
+mov r0, 1
+exit
+";
+
+/// How often the publisher lets others go on before it publishes again.
+const YIELDS: u32 = 200;
+
+/// What a soak found.
+#[derive(Clone, Copy)]
+pub struct Found {
+    /// How many items operators put, and what their commands led to.
+    pub put: u64,
+    pub acted: Totals,
+    /// What workers handed on.
+    pub served: Totals,
+    /// How much was otherwise than it should be.
+    wrong: u64,
+    /// How often a program was published.
+    pub published: u64,
+    /// What the counters of the shared map and of the workers' map are in the end: of data that was passed up, and of
+    /// data that was dropped.
+    shared: [u64; 2],
+    summed: [u64; 2],
+}
+
+impl Found {
+    /// Nothing was found yet.
+    fn new() -> Found {
+        Found {
+            put: 0,
+            acted: Totals::new(),
+            served: Totals::new(),
+            wrong: 0,
+            published: 0,
+            shared: [0, 0],
+            summed: [0, 0],
+        }
+    }
+
+    /// What a worker handed on.
+    fn add_tally(&mut self, tally: &Tally) {
+        self.served = self.served.and(tally.totals);
+        self.wrong = self.wrong.wrapping_add(tally.wrong);
+    }
+
+    /// What an operator did.
+    fn add_diary(&mut self, diary: Diary) {
+        self.put = self.put.wrapping_add(diary.put);
+        self.acted = self.acted.and(diary.acted);
+        self.wrong = self.wrong.wrapping_add(diary.wrong);
+    }
+
+    /// What is first found not to be as it should, in words, where these are the totals of all.
+    pub fn fault(&self, totals: Totals) -> Option<&'static str> {
+        if self.published < 2 {
+            return Some("nothing was published while events were served");
+        }
+        if self.wrong != 0 {
+            return Some("an event was refused, out of its order, or led to something else");
+        }
+        if self.served.events != self.put {
+            return Some("another number of events was served than was put");
+        }
+        if totals != self.served.and(self.acted) {
+            return Some("the totals aren't what was handed back");
+        }
+        let counted = [self.served.up, self.served.dropped];
+        if self.shared != counted {
+            return Some("the shared counters aren't what was handed back");
+        }
+        if self.summed != counted {
+            return Some("the sums of the workers' counters aren't what was handed back");
+        }
+        None
+    }
+}
+
+/// Lets others go on.
+fn pause() {
+    for _ in 0..YIELDS {
+        yield_now();
+    }
+}
+
+/// A soak: so much data of each of four operators.
+#[derive(Drop)]
+pub struct Soak {
+    events: u64,
+    found: Mutex<Found>,
+    /// How many operators are still at work.
+    operating: AtomicU64,
+}
+
+impl Soak {
+    /// A soak that is not done yet. Its access point has four operators and maps of 8 bytes a word.
+    pub fn new(events: u64) -> Soak {
+        Soak {
+            events,
+            found: Mutex::new(Found::new()),
+            operating: AtomicU64::new(4),
+        }
+    }
+
+    /// What was found so far.
+    pub fn found<R: Wait>(&self, rt: &R) -> Found {
+        *self.found.lock(rt)
+    }
+}
+
+/// Publishes the two programs in turn, as long as there are operators. It answers how often it did.
+fn publish_on<R: Wait>(
+    rt: &R,
+    alloc: Global,
+    publisher: &mut Publisher,
+    operating: &AtomicU64,
+) -> u64 {
+    let mut published = 0u64;
+    for _ in rt.forever() {
+        if operating.load(SeqCst) == 0 {
+            return published;
+        }
+        for text in [DROPPING, PASSING] {
+            if publish(rt, alloc, publisher, text, WordWidth::Eight) {
+                published = published.wrapping_add(1);
+            }
+            pause();
+        }
+    }
+    unreachable!()
+}
+
+/// Reads both counters of both maps.
+fn read_counters<B: Ledgers + Journals>(chief: &mut Chief<'_, B>, found: &mut Found) {
+    for word in 0..2u32 {
+        let place = word as usize;
+        found.shared[place] = chief.read(0, word).unwrap_or(u64::MAX);
+        found.summed[place] = chief.sum(1, word).unwrap_or(u64::MAX);
+    }
+}
+
+/// Eight stations of each of four operators come to their agreements.
+fn join_all<B: Ledgers + Journals, R: Wait>(
+    rt: &R,
+    alloc: Global,
+    scene: &mut Scene<'_, B>,
+    found: &mut Found,
+) {
+    if let Some(chief) = scene.chiefs.first_mut() {
+        for owner in 0..4u8 {
+            if chief.join(rt, alloc, owner) {
+                found.put = found.put.wrapping_add(24);
+            }
+        }
+    }
+    let mut tally = Tally::new();
+    let mut list = Vec::new(alloc);
+    scene.serve(rt, alloc, &OpenGate, &mut list);
+    tally.take(&mut list);
+    found.add_tally(&tally);
+}
+
+impl<R: Wait> Story<R> for Soak {
+    fn prepare<B: Ledgers + Journals>(
+        &mut self,
+        rt: &R,
+        alloc: Global,
+        scene: &mut Scene<'_, B>,
+        publisher: &mut Publisher,
+    ) {
+        let mut found = Found::new();
+        if !publish(rt, alloc, publisher, PASSING, WordWidth::Eight) {
+            found.wrong = 1;
+        }
+        join_all(rt, alloc, scene, &mut found);
+        *self.found.lock(rt) = found;
+    }
+
+    fn work<B: Ledgers + Journals>(&self, rt: &R, alloc: Global, hand: &mut Hand<'_, B>) {
+        let tally = serve_on(rt, alloc, hand, &self.operating);
+        self.found.lock(rt).add_tally(&tally);
+    }
+
+    fn operate<B: Ledgers + Journals>(&self, rt: &R, alloc: Global, chief: &mut Chief<'_, B>) {
+        let diary = operate_on(rt, alloc, chief, self.events, &self.operating);
+        self.found.lock(rt).add_diary(diary);
+    }
+
+    fn publish(&self, rt: &R, alloc: Global, publisher: &mut Publisher) {
+        let published = publish_on(rt, alloc, publisher, &self.operating);
+        self.found.lock(rt).published = published;
+    }
+
+    fn finish<B: Ledgers + Journals>(&mut self, rt: &R, scene: &mut Scene<'_, B>) {
+        if let Some(chief) = scene.chiefs.first_mut() {
+            read_counters(chief, &mut *self.found.lock(rt));
+        }
+    }
+}

@@ -1,0 +1,70 @@
+//! What several tests do with an access point.
+
+use ap_books::{Ledgers, Totals};
+use ap_locked::Journals;
+use ap_tagged::{Fate, Gate, Tagged};
+use bpf_regions::WordWidth;
+use live_scenes::{Scene, Story, data, joining, play, settings};
+use std::alloc::Global;
+use std::process::Abort;
+use std::sync::Wait;
+use std::thread::Threads;
+
+/// Tells a story with so many workers and operators, over maps of this width, and answers the totals.
+pub fn tell<R: Threads + Wait + Abort + Sync, S: Story<R> + Sync>(
+    rt: &R,
+    alloc: Global,
+    many: (u32, usize),
+    width: WordWidth,
+    story: &mut S,
+) -> Totals {
+    let settings = settings(alloc, many.0, width).expect(rt, "settings");
+    play(rt, alloc, settings, many.1, story).expect(rt, "totals")
+}
+
+/// One operator puts a frame of a station under a call: steps 0 to 2 bring it to its agreement, and 3 is data, whose
+/// number is that of the call. False for want of memory, or where its queue is full.
+pub fn puts<L: Ledgers + Journals, R: Wait>(
+    rt: &R,
+    alloc: Global,
+    scene: &mut Scene<'_, L>,
+    station: [u8; 6],
+    step: u8,
+    call: u64,
+) -> bool {
+    let event = match step {
+        3 => data(alloc, station, (call % 4096) as u16),
+        _ => joining(alloc, station, step),
+    };
+    match (event, scene.chiefs.first_mut()) {
+        (Ok(event), Some(chief)) => chief.submit(rt, call, event).is_ok(),
+        _ => false,
+    }
+}
+
+/// What became of all that was handed on, a digit each, the first in front: 1 where it was decided, 2 where it was
+/// refused, and 3 where it wasn't handled.
+pub fn fates(list: &[Tagged]) -> u64 {
+    let mut digits = 0u64;
+    for tagged in list {
+        let digit = match tagged.fate {
+            Fate::Decided { .. } => 1,
+            Fate::Refused => 2,
+            Fate::NotHandled => 3,
+        };
+        digits = digits.wrapping_mul(10).wrapping_add(digit);
+    }
+    digits
+}
+
+/// Each worker serves what its queue holds, one after the other. It answers what became of it, as `fates`.
+pub fn serve<L: Ledgers + Journals, R: Wait, G: Gate>(
+    rt: &R,
+    alloc: Global,
+    scene: &mut Scene<'_, L>,
+    gate: &G,
+) -> u64 {
+    let mut list = Vec::new(alloc);
+    scene.serve(rt, alloc, gate, &mut list);
+    fates(list.as_slice())
+}

@@ -1,0 +1,21 @@
+//! The soak of `Soak`, a short one.
+
+use crate::same::same;
+use crate::scene::tell;
+use bpf_regions::WordWidth;
+use live_scenes::Soak;
+use std::test::Fail;
+
+/// How much data each of four operators submits. `bench_live soak` does the same with as much as is asked for.
+const EVENTS: u64 = 5000;
+
+#[test]
+fn operators_workers_and_a_publisher_beside_each_other(rt: HostRuntime) -> Result<(), Fail> {
+    for workers in [2, 4, 8] {
+        let mut soak = Soak::new(EVENTS);
+        let totals = tell(&rt, rt.alloc(), (workers, 4), WordWidth::Eight, &mut soak);
+        let fault = soak.found(&rt).fault(totals);
+        same(&rt, fault, None, "the soak");
+    }
+    Ok(())
+}
