@@ -171,6 +171,9 @@ where
     } = hands;
     let mut loads = loads;
     let Ok(ready) = ready_workers::<B, L, G>(alloc, ap, gate, workers) else {
+        // Given up by calls, since they have many parts.
+        drop(operator);
+        drop(hoard);
         loads.close(rt);
         return without_memory(writer);
     };
