@@ -62,7 +62,8 @@ impl Agreements {
 
     /// The agreement of a station for a TID.
     pub fn get(&self, station: Address, tid: Tid) -> Option<&Entry>
-        ensures { MatchOption result (agreement_in self.now.kept station tid ≡ None) (λ e. agreement_in self.now.kept station tid ≡ Some e.now.using) }
+        ensures { MatchOption result (agreement_in self.now.kept station tid ≡ None)
+            (λ e. agreement_in self.now.kept station tid ≡ Some e.now.using) }
     {
         match self.find(station, tid) {
             Ok(at) => Some(&self.entries[at]),
@@ -85,7 +86,8 @@ impl Agreements {
     /// The agreement of a station for a TID, and its place. It stays there until an agreement is put
     /// in or taken out.
     pub fn get_placed(&self, station: Address, tid: Tid) -> Option<(usize, &Entry)>
-        ensures { MatchOption result (agreement_in self.now.kept station tid ≡ None) (λ p. Stands self.now.kept station tid p.0 p.1.now) }
+        ensures { MatchOption result (agreement_in self.now.kept station tid ≡ None)
+            (λ p. Stands self.now.kept station tid p.0 p.1.now) }
     {
         match self.find(station, tid) {
             Ok(at) => Some((at, &self.entries[at])),
@@ -104,9 +106,11 @@ impl Agreements {
         out: &mut Released,
     )
         requires inside { at < length self.old.kept }
-        requires wanted { (d : Kept) → IsWanted (slice_index_or self.old.kept at d).using.window number }
+        requires wanted { (d : Kept) → IsWanted (slice_index_or self.old.kept at d).using.window
+            number }
         requires empty { array_vec_len out.old ≡ 0 }
-        ensures uses { (a : List ℕ) (tid : ℕ) → IsPlaceOf self.old.kept (a, tid) at → UsesData true self.old.kept a tid number item clock self.new.kept out.new.items }
+        ensures uses { (a : List ℕ) (tid : ℕ) → IsPlaceOf self.old.kept (a, tid) at →
+            UsesData true self.old.kept a tid number item clock self.new.kept out.new.items }
         ensures few { (d : Kept)
             → array_vec_len out.new ≤ most_passed (slice_index_or self.old.kept at d).using.window number }
         ensures numbers { All (λ p. p.0 < 4096) out.new.items }
@@ -119,8 +123,10 @@ impl Agreements {
     /// came at this time: who calls this passes it up.
     pub fn pass_alone(&mut self, at: usize, number: SequenceNumber, clock: u64)
         requires inside { at < length self.old.kept }
-        requires alone { (d : Kept) → IsAlone (slice_index_or self.old.kept at d).using.window number }
-        ensures { (a : List ℕ) (tid : ℕ) → IsPlaceOf self.old.kept (a, tid) at → UsesAlone self.old.kept a tid number clock self.new.kept }
+        requires alone { (d : Kept) → IsAlone (slice_index_or self.old.kept at d).using.window
+            number }
+        ensures { (a : List ℕ) (tid : ℕ) → IsPlaceOf self.old.kept (a, tid) at →
+            UsesAlone self.old.kept a tid number clock self.new.kept }
     {
         let entry = &mut self.entries[at];
         entry.pass_alone(number, clock);
@@ -129,8 +135,10 @@ impl Agreements {
     /// Data that the window of the agreement at this place doesn't want came at this time.
     pub fn leave(&mut self, at: usize, number: SequenceNumber, clock: u64)
         requires inside { at < length self.old.kept }
-        requires unwanted { (d : Kept) → IsWanted (slice_index_or self.old.kept at d).using.window number → ⊥ }
-        ensures { (a : List ℕ) (tid : ℕ) → IsPlaceOf self.old.kept (a, tid) at → UsesData false self.old.kept a tid number None clock self.new.kept [] }
+        requires unwanted { (d : Kept) → IsWanted (slice_index_or self.old.kept at d).using.window
+            number → ⊥ }
+        ensures { (a : List ℕ) (tid : ℕ) → IsPlaceOf self.old.kept (a, tid) at →
+            UsesData false self.old.kept a tid number None clock self.new.kept [] }
     {
         let entry = &mut self.entries[at];
         entry.leave(number, clock);
@@ -160,7 +168,9 @@ impl Agreements {
 
     /// Takes the agreement of a station for a TID out.
     pub fn remove(&mut self, station: Address, tid: Tid) -> Option<Entry>
-        ensures was { MatchOption result (agreement_in self.old.kept station tid ≡ None) (λ e. (agreement_in self.old.kept station tid ≡ Some e.using) × (key_of e ≡ (station, tid))) }
+        ensures was { MatchOption result (agreement_in self.old.kept station tid ≡ None)
+            (λ e. (agreement_in self.old.kept station tid ≡ Some e.using)
+            × (key_of e ≡ (station, tid))) }
         ensures sets { Sets self.old.kept station tid None self.new.kept }
     {
         match self.find(station, tid) {
@@ -172,7 +182,9 @@ impl Agreements {
     /// Puts an agreement in, for which there is room, and answers the one that it replaces.
     pub fn put(&mut self, entry: Entry) -> Option<Entry>
         requires { 1 ≤ self.old.room }
-        ensures was { MatchOption result (agreement_in self.old.kept entry.station entry.tid ≡ None) (λ e. (agreement_in self.old.kept entry.station entry.tid ≡ Some e.using) × (key_of e ≡ key_of entry)) }
+        ensures was { MatchOption result (agreement_in self.old.kept entry.station entry.tid ≡ None)
+            (λ e. (agreement_in self.old.kept entry.station entry.tid ≡ Some e.using)
+            × (key_of e ≡ key_of entry)) }
         ensures sets { Sets self.old.kept entry.station entry.tid (Some entry.using) self.new.kept }
     {
         match self.find(entry.station(), entry.tid()) {
@@ -222,12 +234,14 @@ impl Agreements {
     /// rising address and then TID.
     pub fn take_late(&mut self, clock: u64, ended: &mut Vec<Entry>)
         requires empty { ended.old.items ≡ [] }
-        requires room { count_by (λ k. is_late clock k.using) self.old.kept ≤ vec_capacity ended.old }
+        requires room { count_by (λ k. is_late clock k.using) self.old.kept ≤ vec_capacity
+            ended.old }
         ensures many { vec_len ended.new ≡ count_by (λ k. is_late clock k.using) self.old.kept }
         ensures held { all_held ended.new.items ≡ late_held clock self.old.kept }
         ensures rising { AllPairs IsBefore (map key_of ended.new.items) }
         ensures exact { (k : Kept) → Contains ended.new.items k ↔ IsLateIn clock self.old.kept k }
-        ensures others { (a : List ℕ) (tid : ℕ) → agreement_in self.new.kept a tid ≡ unless_late clock (agreement_in self.old.kept a tid) }
+        ensures others { (a : List ℕ) (tid : ℕ) → agreement_in self.new.kept a tid
+            ≡ unless_late clock (agreement_in self.old.kept a tid) }
     {
         split_late(&mut self.entries, clock, ended);
     }
@@ -236,7 +250,8 @@ impl Agreements {
 /// Moves the late ones to `ended`.
 fn split_late(entries: &mut Vec<Entry>, clock: u64, ended: &mut Vec<Entry>)
     requires empty { ended.old.items ≡ [] }
-    requires room { count_by (λ k. is_late clock k.using) entries.old.items ≤ vec_capacity ended.old }
+    requires room { count_by (λ k. is_late clock k.using) entries.old.items ≤ vec_capacity
+        ended.old }
     ensures kept { entries.new.items ≡ filter (λ k. not (is_late clock k.using)) entries.old.items }
     ensures ended { ended.new.items ≡ filter (λ k. is_late clock k.using) entries.old.items }
 {

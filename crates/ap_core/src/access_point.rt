@@ -80,7 +80,8 @@ fn tick_below(
     beside: usize,
 ) -> Result<Vec<Out>, AllocError>
     requires { count ≤ 8 }
-    ensures ticked { IfOk result (λ outs. TickedBelow count units shards.old shards.new outs.items) }
+    ensures ticked { IfOk result
+        (λ outs. TickedBelow count units shards.old shards.new outs.items) }
     ensures room { IfOk result (λ outs. vec_len outs + beside ≤ vec_capacity outs) }
     ensures refused { IfErr result (λ _. shards.new ≡ shards.old) }
 {
@@ -100,7 +101,8 @@ fn tick_below(
 
 /// A tick of all eight shards, or of none.
 fn tick_all(alloc: Global, shards: &mut [Shard; 8], units: u32) -> Option<Vec<Out>>
-    ensures { MatchOption result (shards.new ≡ shards.old) (λ outs. TickedBelow 8 units shards.old shards.new outs.items) }
+    ensures { MatchOption result (shards.new ≡ shards.old)
+        (λ outs. TickedBelow 8 units shards.old shards.new outs.items) }
 {
     match tick_below(alloc, shards, 8, units, 0) {
         Ok(outs) => Some(outs),
@@ -118,7 +120,8 @@ fn handle_at<J: Judge>(
 ) -> Option<Vec<Out>>
     requires fits { at < 8 }
     requires concerns { shard_of event.now ≡ Some at }
-    ensures { RunsOne J.gives shards.old event.now judge.old (option_map (λ outs. outs.items) result) shards.new judge.new }
+    ensures { RunsOne J.gives shards.old event.now judge.old
+        (option_map (λ outs. outs.items) result) shards.new judge.new }
 {
     let shard = &mut shards[at];
     match shard.handle(alloc, event, judge) {
@@ -134,7 +137,8 @@ fn handle_one<J: Judge>(
     event: &Event,
     judge: &mut J,
 ) -> Option<Vec<Out>>
-    ensures { RunsOne J.gives shards.old event.now judge.old (option_map (λ outs. outs.items) result) shards.new judge.new }
+    ensures { RunsOne J.gives shards.old event.now judge.old
+        (option_map (λ outs. outs.items) result) shards.new judge.new }
 {
     match event {
         Event::Frame(bytes) => {
@@ -167,7 +171,9 @@ pub fn handle_all<J: Judge>(
     // Shard s stands at place s.
     requires place { InPlace (rules_of shards.old) }
     // The outs and the verdicts of each shard are a run of the link, from its readings on.
-    ensures run { IfOk result (λ results. RunsAll J.gives shards.old events.now judge.old (outs_in results.items) shards.new judge.new) }
+    ensures run { IfOk result
+        (λ results. RunsAll J.gives shards.old events.now judge.old (outs_in results.items)
+        shards.new judge.new) }
     ensures place { InPlace (rules_of shards.new) }
     ensures refused { IfErr result (λ _. (shards.new ≡ shards.old) × (judge.new ≡ judge.old)) }
 {

@@ -23,7 +23,8 @@ pub(crate) fn on_delba(
     station: Address,
     tid: Tid,
 ) -> Result<Vec<Out>, AllocError>
-    ensures step { IfOk result (λ outs. Ends (reading state.old) station tid [] [] outs.items (reading state.new)) }
+    ensures step { IfOk result
+        (λ outs. Ends (reading state.old) station tid [] [] outs.items (reading state.new)) }
     ensures shard { state.new.link.shard ≡ state.old.link.shard }
     ensures refused { IfErr result (λ _. state.new ≡ state.old) }
 {
@@ -46,7 +47,10 @@ fn close(
     station: Address,
     tid: Tid,
 ) -> Result<Vec<Out>, AllocError>
-    ensures step { IfOk result (λ outs. Ends (reading state.old) station tid (delba (rules state.old.link.shard config.now) station tid 37 ∷ []) [] outs.items (reading state.new)) }
+    ensures step { IfOk result
+        (λ outs. Ends (reading state.old) station tid
+        (delba (rules state.old.link.shard config.now) station tid 37 ∷ []) [] outs.items
+        (reading state.new)) }
     ensures shard { state.new.link.shard ≡ state.old.link.shard }
     ensures refused { IfErr result (λ _. state.new ≡ state.old) }
 {
@@ -75,7 +79,9 @@ pub(crate) fn on_close(
     station: Address,
     tid: Tid,
 ) -> Result<Vec<Out>, AllocError>
-    ensures step { IfOk result (λ outs. Closes (rules state.old.link.shard config.now) (reading state.old) station tid [] outs.items (reading state.new)) }
+    ensures step { IfOk result
+        (λ outs. Closes (rules state.old.link.shard config.now) (reading state.old) station tid []
+        outs.items (reading state.new)) }
     ensures shard { state.new.link.shard ≡ state.old.link.shard }
     ensures refused { IfErr result (λ _. state.new ≡ state.old) }
 {

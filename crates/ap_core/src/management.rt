@@ -54,7 +54,9 @@ pub(crate) fn on_authentication(
     algorithm: u16,
     transaction: u16,
 ) -> Result<Vec<Out>, AllocError>
-    ensures step { IfOk result (λ outs. Authenticates (rules state.old.link.shard config.now) (reading state.old) station algorithm transaction [] outs.items (reading state.new)) }
+    ensures step { IfOk result
+        (λ outs. Authenticates (rules state.old.link.shard config.now) (reading state.old) station
+        algorithm transaction [] outs.items (reading state.new)) }
     ensures shard { state.new.link.shard ≡ state.old.link.shard }
     ensures refused { IfErr result (λ _. state.new ≡ state.old) }
 {
@@ -87,7 +89,8 @@ fn suits(frame: &MacFrame, asked: &Asked) -> bool
 
 /// Whether a request names this network.
 fn names(frame: &MacFrame, asked: &Asked, config: &LinkConfig) -> bool
-    ensures { (shard : ℕ) → (IsTrue result ↔ Names (rules shard config.now) (request frame.now asked.now)) }
+    ensures { (shard : ℕ) → (IsTrue result ↔ Names (rules shard config.now)
+        (request frame.now asked.now)) }
 {
     match frame.ssid() {
         Some(text) => return text == config.ssid(),
@@ -106,7 +109,8 @@ fn response(
 ) -> MacFrame
     requires rates { rates ≡ rates_text config.now.rates }
     requires few { length config.now.rates ≤ 8 }
-    ensures is { (shard : ℕ) → sends result ≡ association_answer (rules shard config.now) station again status aid }
+    ensures is { (shard : ℕ) → sends result
+        ≡ association_answer (rules shard config.now) station again status aid }
     ensures short { length result.tail ≤ 12 }
 {
     if again {
@@ -126,7 +130,8 @@ fn refuse(
 ) -> Vec<Out>
     requires rates { rates ≡ rates_text config.now.rates }
     requires few { length config.now.rates ≤ 8 }
-    ensures { (shard : ℕ) → result.items ≡ association_answer (rules shard config.now) station again status 0 ∷ [] }
+    ensures { (shard : ℕ) → result.items
+        ≡ association_answer (rules shard config.now) station again status 0 ∷ [] }
 {
     let answer = response(config, station, again, status, AidField::NONE, rates);
     room.send(&answer)
@@ -134,7 +139,8 @@ fn refuse(
 
 /// What the hook is told of a request.
 fn context_of(state: &State, frame: &MacFrame, asked: &Asked) -> Context
-    ensures { result ≡ (association_ask (reading state.now) frame.now.sender (request frame.now asked.now)).context }
+    ensures { result ≡ (association_ask (reading state.now) frame.now.sender
+        (request frame.now asked.now)).context }
 {
     let station = frame.sender();
     let asker = Asker {
@@ -164,7 +170,9 @@ fn answer_request<J: Judge>(
     requires known { IsSome (standing state.old.link frame.now.sender) }
     requires rates { rates ≡ rates_text config.now.rates }
     requires few { length config.now.rates ≤ 8 }
-    ensures step { Handled J.gives (λ asks outs. Associates (rules state.old.link.shard config.now) (reading state.old) frame.now.sender (request frame.now asked.now) asks outs (reading state.new)) judge.old result.items judge.new }
+    ensures step { Handled J.gives (λ asks outs. Associates (rules state.old.link.shard config.now)
+        (reading state.old) frame.now.sender (request frame.now asked.now) asks outs
+        (reading state.new)) judge.old result.items judge.new }
     ensures shard { state.new.link.shard ≡ state.old.link.shard }
 {
     let station = frame.sender();
@@ -217,7 +225,10 @@ pub(crate) fn on_association<J: Judge>(
 ) -> Result<Vec<Out>, AllocError>
     requires bytes { bytes.now ≡ spelling frame.now }
     requires known { IsSome (standing state.old.link frame.now.sender) }
-    ensures step { IfOk result (λ outs. Handled J.gives (λ asks outs. Associates (rules state.old.link.shard config.now) (reading state.old) frame.now.sender (request frame.now asked.now) asks outs (reading state.new)) judge.old outs.items judge.new) }
+    ensures step { IfOk result
+        (λ outs. Handled J.gives (λ asks outs. Associates (rules state.old.link.shard config.now)
+        (reading state.old) frame.now.sender (request frame.now asked.now) asks outs
+        (reading state.new)) judge.old outs.items judge.new) }
     ensures shard { state.new.link.shard ≡ state.old.link.shard }
     ensures refused { IfErr result (λ _. (state.new ≡ state.old) × (judge.new ≡ judge.old)) }
 {

@@ -14,7 +14,8 @@ use std::alloc::AllocError;
 /// It is authenticated. Where memory runs out nothing changes.
 pub(crate) fn authenticate(state: &mut State, station: Address) -> Result<(), AllocError>
     requires { IsSome (standing state.old.link station) ⊎ (IsFull (standing state.old.link) → ⊥) }
-    ensures moves { OnOk result (Moves (reading state.old) station (Some Known.Authenticated) (reading state.new)) }
+    ensures moves { OnOk result
+        (Moves (reading state.old) station (Some Known.Authenticated) (reading state.new)) }
     ensures shard { state.new.link.shard ≡ state.old.link.shard }
     ensures refused { OnErr result (state.new ≡ state.old) }
 {
@@ -27,7 +28,8 @@ pub(crate) fn authenticate(state: &mut State, station: Address) -> Result<(), Al
 pub(crate) fn associate(state: &mut State, station: Address, aid: u16)
     requires known { IsSome (standing state.old.link station) }
     requires free { IsFree state.old.link.shard (standing state.old.link) station aid }
-    ensures moves { Moves (reading state.old) station (Some (Known.Associated aid)) (reading state.new) }
+    ensures moves { Moves (reading state.old) station (Some (Known.Associated aid))
+        (reading state.new) }
     ensures shard { state.new.link.shard ≡ state.old.link.shard }
 {
     state.link.on_assoc(station, aid);
@@ -36,7 +38,8 @@ pub(crate) fn associate(state: &mut State, station: Address, aid: u16)
 
 /// It is disassociated.
 pub(crate) fn disassociate(state: &mut State, station: Address)
-    ensures moves { Moves (reading state.old) station (disassociated (standing state.old.link station)) (reading state.new) }
+    ensures moves { Moves (reading state.old) station
+        (disassociated (standing state.old.link station)) (reading state.new) }
     ensures shard { state.new.link.shard ≡ state.old.link.shard }
 {
     state.link.on_disassoc(station);

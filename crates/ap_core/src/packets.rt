@@ -31,7 +31,8 @@ pub(crate) struct DataFrame<'a, 'b> {
 
 /// What the hook is told of data, whose agreement's window starts so.
 fn context_of(state: &State, came: &DataFrame<'_, '_>, start: Option<SequenceNumber>) -> Context
-    ensures { result ≡ contexts.data_context came.now.frame.sender (standing state.now.link came.now.frame.sender) came.now.tid came.now.number start }
+    ensures { result ≡ contexts.data_context came.now.frame.sender
+        (standing state.now.link came.now.frame.sender) came.now.tid came.now.number start }
 {
     let station = came.frame.sender();
     let asker = Asker {
@@ -51,7 +52,8 @@ fn deliver<J: Judge>(
     judge: &mut J,
 ) -> Result<Vec<Out>, AllocError>
     requires bytes { IsSpelled came }
-    ensures step { IfOk result (λ outs. JudgesData J.gives state.now came.entry start judge.old outs.items judge.new) }
+    ensures step { IfOk result
+        (λ outs. JudgesData J.gives state.now came.entry start judge.old outs.items judge.new) }
     ensures refused { IfErr result (λ _. judge.new ≡ judge.old) }
 {
     let outs = Vec::with_capacity(alloc, 1)?;
@@ -83,7 +85,9 @@ pub(crate) fn on_plain_data<J: Judge>(
 ) -> Result<Vec<Out>, AllocError>
     requires bytes { IsSpelled came }
     requires plain { agreement_for (reading state.now) came.frame.sender came.tid ≡ None }
-    ensures step { IfOk result (λ outs. HandlesData J.gives state.now came.entry judge.old outs.items state.now judge.new) }
+    ensures step { IfOk result
+        (λ outs. HandlesData J.gives state.now came.entry judge.old outs.items state.now
+        judge.new) }
     ensures refused { IfErr result (λ _. judge.new ≡ judge.old) }
 {
     let outs = deliver(alloc, state, came, None, judge)?;
@@ -108,7 +112,9 @@ fn on_data_alone<J: Judge>(
 ) -> Result<Vec<Out>, AllocError>
     requires bytes { IsSpelled came }
     requires under { IsUnder state.old.agreements.kept came under IsAlone }
-    ensures step { IfOk result (λ outs. HandlesData J.gives state.old came.entry judge.old outs.items state.new judge.new) }
+    ensures step { IfOk result
+        (λ outs. HandlesData J.gives state.old came.entry judge.old outs.items state.new
+        judge.new) }
     ensures shard { state.new.link.shard ≡ state.old.link.shard }
     ensures refused { IfErr result (λ _. (state.new ≡ state.old) × (judge.new ≡ judge.old)) }
 {
@@ -141,7 +147,9 @@ fn on_wanted_data<J: Judge>(
 ) -> Result<Vec<Out>, AllocError>
     requires bytes { IsSpelled came }
     requires under { IsUnder state.old.agreements.kept came under (IsWantedFor most) }
-    ensures step { IfOk result (λ outs. HandlesData J.gives state.old came.entry judge.old outs.items state.new judge.new) }
+    ensures step { IfOk result
+        (λ outs. HandlesData J.gives state.old came.entry judge.old outs.items state.new
+        judge.new) }
     ensures shard { state.new.link.shard ≡ state.old.link.shard }
     ensures refused { IfErr result (λ _. (state.new ≡ state.old) × (judge.new ≡ judge.old)) }
 {
@@ -172,7 +180,9 @@ pub(crate) fn on_qos_data<J: Judge>(
 ) -> Result<Vec<Out>, AllocError>
     requires bytes { IsSpelled came }
     requires tid { came.tid ≡ Some tid }
-    ensures step { IfOk result (λ outs. HandlesData J.gives state.old came.entry judge.old outs.items state.new judge.new) }
+    ensures step { IfOk result
+        (λ outs. HandlesData J.gives state.old came.entry judge.old outs.items state.new
+        judge.new) }
     ensures shard { state.new.link.shard ≡ state.old.link.shard }
     ensures refused { IfErr result (λ _. (state.new ≡ state.old) × (judge.new ≡ judge.old)) }
 {

@@ -59,7 +59,8 @@ pub(crate) fn pass_all(entry: Entry, outs: &mut Vec<Out>)
 /// The same, if an agreement was replaced.
 pub(crate) fn pass_replaced(replaced: Option<Entry>, outs: &mut Vec<Out>)
     requires { vec_len outs.old + held_replaced replaced ≤ vec_capacity outs.old }
-    ensures passes { MatchOption replaced (outs.new.items ≡ outs.old.items) (λ e. PassesAll e outs.old.items outs.new.items) }
+    ensures passes { MatchOption replaced (outs.new.items ≡ outs.old.items)
+        (λ e. PassesAll e outs.old.items outs.new.items) }
     ensures len { vec_len outs.new ≤ vec_len outs.old + held_replaced replaced }
     ensures capacity { vec_capacity outs.new ≡ vec_capacity outs.old }
 {

@@ -51,7 +51,11 @@ fn check<J: Judge>(
     judge: &mut J,
 ) -> Result<Vec<Out>, AllocError>
     requires bytes { bytes.now ≡ spelling frame }
-    ensures step { IfOk result (λ outs. Handled J.gives (λ asks outs. Checked (rules state.old.link.shard config.now) (reading state.old) frame (check_of (rules state.old.link.shard config.now) (reading state.old) frame) asks outs (reading state.new)) judge.old outs.items judge.new) }
+    ensures step { IfOk result
+        (λ outs. Handled J.gives (λ asks outs. Checked (rules state.old.link.shard config.now)
+        (reading state.old) frame (check_of (rules state.old.link.shard config.now)
+        (reading state.old) frame) asks outs (reading state.new)) judge.old outs.items
+        judge.new) }
     ensures shard { state.new.link.shard ≡ state.old.link.shard }
     ensures refused { IfErr result (λ _. (state.new ≡ state.old) × (judge.new ≡ judge.old)) }
 {
@@ -84,7 +88,10 @@ fn on_frame<J: Judge>(
     judge: &mut J,
 ) -> Result<Vec<Out>, AllocError>
     requires bytes { bytes.now ≡ spelling frame }
-    ensures step { IfOk result (λ outs. Handled J.gives (λ asks outs. FrameComes (rules state.old.link.shard config.now) (reading state.old) bytes.now asks outs (reading state.new)) judge.old outs.items judge.new) }
+    ensures step { IfOk result
+        (λ outs. Handled J.gives (λ asks outs. FrameComes (rules state.old.link.shard config.now)
+        (reading state.old) bytes.now asks outs (reading state.new)) judge.old outs.items
+        judge.new) }
     ensures shard { state.new.link.shard ≡ state.old.link.shard }
     ensures refused { IfErr result (λ _. (state.new ≡ state.old) × (judge.new ≡ judge.old)) }
 {
@@ -109,7 +116,10 @@ pub(crate) fn receive<J: Judge>(
     bytes: &[u8],
     judge: &mut J,
 ) -> Result<Vec<Out>, AllocError>
-    ensures step { IfOk result (λ outs. Handled J.gives (λ asks outs. FrameComes (rules state.old.link.shard config.now) (reading state.old) bytes.now asks outs (reading state.new)) judge.old outs.items judge.new) }
+    ensures step { IfOk result
+        (λ outs. Handled J.gives (λ asks outs. FrameComes (rules state.old.link.shard config.now)
+        (reading state.old) bytes.now asks outs (reading state.new)) judge.old outs.items
+        judge.new) }
     ensures shard { state.new.link.shard ≡ state.old.link.shard }
     ensures refused { IfErr result (λ _. (state.new ≡ state.old) × (judge.new ≡ judge.old)) }
 {

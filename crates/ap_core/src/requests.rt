@@ -21,7 +21,9 @@ pub(crate) fn on_request(
     tid: Tid,
     start: SequenceNumber,
 ) -> Result<Vec<Out>, AllocError>
-    ensures step { IfOk result (λ outs. RequestComes (rules state.old.link.shard config.now) (reading state.old) station tid start [] outs.items (reading state.new)) }
+    ensures step { IfOk result
+        (λ outs. RequestComes (rules state.old.link.shard config.now) (reading state.old) station
+        tid start [] outs.items (reading state.new)) }
     ensures shard { state.new.link.shard ≡ state.old.link.shard }
     ensures refused { IfErr result (λ _. state.new ≡ state.old) }
 {

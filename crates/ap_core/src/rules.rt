@@ -46,8 +46,12 @@ fn on_management<J: Judge>(
     judge: &mut J,
 ) -> Result<Vec<Out>, AllocError>
     requires bytes { bytes.now ≡ spelling frame.now }
-    requires permitted { class_answer (standing state.old.link frame.now.sender) (class_of (management_subtype body)) ≡ ClassAnswer.Permitted }
-    ensures step { IfOk result (λ outs. Handled J.gives (λ asks outs. ManagementComes (rules state.old.link.shard config.now) (reading state.old) frame.now body asks outs (reading state.new)) judge.old outs.items judge.new) }
+    requires permitted { class_answer (standing state.old.link frame.now.sender)
+        (class_of (management_subtype body)) ≡ ClassAnswer.Permitted }
+    ensures step { IfOk result
+        (λ outs. Handled J.gives (λ asks outs. ManagementComes
+        (rules state.old.link.shard config.now) (reading state.old) frame.now body asks outs
+        (reading state.new)) judge.old outs.items judge.new) }
     ensures shard { state.new.link.shard ≡ state.old.link.shard }
     ensures refused { IfErr result (λ _. (state.new ≡ state.old) × (judge.new ≡ judge.old)) }
 {
@@ -135,7 +139,10 @@ fn on_control(
     station: Address,
     body: Control,
 ) -> Result<Vec<Out>, AllocError>
-    ensures step { IfOk result (λ outs. (f : SpelledFrame) → f.sender ≡ station → ControlComes (rules state.old.link.shard config.now) (reading state.old) f body [] outs.items (reading state.new)) }
+    ensures step { IfOk result
+        (λ outs. (f : SpelledFrame) → f.sender ≡ station →
+        ControlComes (rules state.old.link.shard config.now) (reading state.old) f body []
+        outs.items (reading state.new)) }
     ensures shard { state.new.link.shard ≡ state.old.link.shard }
     ensures refused { IfErr result (λ _. state.new ≡ state.old) }
 {
@@ -160,7 +167,10 @@ fn on_data_kind<J: Judge>(
     judge: &mut J,
 ) -> Result<Vec<Out>, AllocError>
     requires bytes { bytes.now ≡ spelling frame }
-    ensures step { IfOk result (λ outs. (c : Rules) → Handled J.gives (λ asks outs. DataKindComes c (reading state.old) frame destination number kind asks outs (reading state.new)) judge.old outs.items judge.new) }
+    ensures step { IfOk result
+        (λ outs. (c : Rules) → Handled J.gives
+        (λ asks outs. DataKindComes c (reading state.old) frame destination number kind asks
+        outs (reading state.new)) judge.old outs.items judge.new) }
     ensures shard { state.new.link.shard ≡ state.old.link.shard }
     ensures refused { IfErr result (λ _. (state.new ≡ state.old) × (judge.new ≡ judge.old)) }
 {
@@ -202,8 +212,12 @@ pub(crate) fn follow<J: Judge>(
     judge: &mut J,
 ) -> Result<Vec<Out>, AllocError>
     requires bytes { bytes.now ≡ spelling frame }
-    requires permitted { class_answer (standing state.old.link frame.sender) (class_of (content_subtype frame.content)) ≡ ClassAnswer.Permitted }
-    ensures step { IfOk result (λ outs. Handled J.gives (λ asks outs. Follows (rules state.old.link.shard config.now) (reading state.old) frame frame.content asks outs (reading state.new)) judge.old outs.items judge.new) }
+    requires permitted { class_answer (standing state.old.link frame.sender)
+        (class_of (content_subtype frame.content)) ≡ ClassAnswer.Permitted }
+    ensures step { IfOk result
+        (λ outs. Handled J.gives (λ asks outs. Follows (rules state.old.link.shard config.now)
+        (reading state.old) frame frame.content asks outs (reading state.new)) judge.old
+        outs.items judge.new) }
     ensures shard { state.new.link.shard ≡ state.old.link.shard }
     ensures refused { IfErr result (λ _. (state.new ≡ state.old) × (judge.new ≡ judge.old)) }
 {

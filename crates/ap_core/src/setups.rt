@@ -40,7 +40,8 @@ fn answer(
     status: Status,
     size: u8,
 ) -> MacFrame
-    ensures is { (shard : ℕ) (frame : SpelledFrame) → sends result ≡ setup_answer (rules shard config.now) station (setup frame request.now) status size }
+    ensures is { (shard : ℕ) (frame : SpelledFrame) → sends result
+        ≡ setup_answer (rules shard config.now) station (setup frame request.now) status size }
     ensures short { result.tail ≡ [] }
 {
     let size = match BufferSize::new(u16::from(size)) {
@@ -56,7 +57,8 @@ fn answer(
 
 /// What the hook is told of a request.
 fn context_of(state: &State, frame: &MacFrame, request: &SetupRequest) -> Context
-    ensures { result ≡ (setup_ask (reading state.now) frame.now.sender (setup frame.now request.now)).context }
+    ensures { result ≡ (setup_ask (reading state.now) frame.now.sender
+        (setup frame.now request.now)).context }
 {
     let station = frame.sender();
     let asker = Asker {
@@ -90,9 +92,12 @@ fn grant(
     requires key { key_of entry ≡ (station, request.now.parameters.tid) }
     requires some { 1 ≤ size }
     requires fits { size ≤ 64 }
-    requires outs { held_under (agreement_in state.old.agreements.kept station request.now.parameters.tid) + 1 ≤ vec_capacity outs }
+    requires outs { held_under (agreement_in state.old.agreements.kept station
+        request.now.parameters.tid) + 1 ≤ vec_capacity outs }
     requires empty { outs.items ≡ [] }
-    ensures step { (frame : SpelledFrame) → IsGranted (rules state.old.link.shard config.now) (reading state.old) station (setup frame request.now) size result.items (reading state.new) }
+    ensures step { (frame : SpelledFrame) →
+        IsGranted (rules state.old.link.shard config.now) (reading state.old) station
+        (setup frame request.now) size result.items (reading state.new) }
     ensures shard { state.new.link.shard ≡ state.old.link.shard }
 {
     let opened = entry.opened(request.start, size, request.timeout, state.clock);
@@ -115,7 +120,10 @@ fn on_immediate<J: Judge>(
 ) -> Result<Vec<Out>, AllocError>
     requires bytes { bytes.now ≡ spelling frame.now }
     requires immediate { request.now.parameters.policy ≡ BlockAckPolicy.Immediate }
-    ensures step { IfOk result (λ outs. Handled J.gives (λ asks outs. SetsUp (rules state.old.link.shard config.now) (reading state.old) frame.now.sender (setup frame.now request.now) asks outs (reading state.new)) judge.old outs.items judge.new) }
+    ensures step { IfOk result
+        (λ outs. Handled J.gives (λ asks outs. SetsUp (rules state.old.link.shard config.now)
+        (reading state.old) frame.now.sender (setup frame.now request.now) asks outs
+        (reading state.new)) judge.old outs.items judge.new) }
     ensures shard { state.new.link.shard ≡ state.old.link.shard }
     ensures refused { IfErr result (λ _. (state.new ≡ state.old) × (judge.new ≡ judge.old)) }
 {
@@ -150,7 +158,9 @@ fn decline(
     station: Address,
     request: &SetupRequest,
 ) -> Result<Vec<Out>, AllocError>
-    ensures { IfOk result (λ outs. (shard : ℕ) (frame : SpelledFrame) → outs.items ≡ setup_answer (rules shard config.now) station (setup frame request.now) 37 0 ∷ []) }
+    ensures { IfOk result
+        (λ outs. (shard : ℕ) (frame : SpelledFrame) → outs.items
+        ≡ setup_answer (rules shard config.now) station (setup frame request.now) 37 0 ∷ []) }
 {
     let room = Room::new(alloc)?;
     let status = Status::REQUEST_DECLINED;
@@ -169,7 +179,10 @@ pub(crate) fn on_setup<J: Judge>(
     judge: &mut J,
 ) -> Result<Vec<Out>, AllocError>
     requires bytes { bytes.now ≡ spelling frame.now }
-    ensures step { IfOk result (λ outs. Handled J.gives (λ asks outs. SetsUp (rules state.old.link.shard config.now) (reading state.old) frame.now.sender (setup frame.now request.now) asks outs (reading state.new)) judge.old outs.items judge.new) }
+    ensures step { IfOk result
+        (λ outs. Handled J.gives (λ asks outs. SetsUp (rules state.old.link.shard config.now)
+        (reading state.old) frame.now.sender (setup frame.now request.now) asks outs
+        (reading state.new)) judge.old outs.items judge.new) }
     ensures shard { state.new.link.shard ≡ state.old.link.shard }
     ensures refused { IfErr result (λ _. (state.new ≡ state.old) × (judge.new ≡ judge.old)) }
 {

@@ -92,7 +92,8 @@ impl Shard {
         event: &Event,
         judge: &mut J,
     ) -> Result<Vec<Out>, AllocError>
-        ensures step { IfOk result (λ outs. Handles J.gives self.old event.now judge.old outs.items self.new judge.new) }
+        ensures step { IfOk result
+            (λ outs. Handles J.gives self.old event.now judge.old outs.items self.new judge.new) }
         ensures rules { ruled self.new ≡ ruled self.old }
         ensures refused { IfErr result (λ _. (self.new ≡ self.old) × (judge.new ≡ judge.old)) }
     {
@@ -135,7 +136,8 @@ impl Shard {
     pub(crate) fn tick(&mut self, alloc: Global, units: u32, room: TickRoom, outs: &mut Vec<Out>)
         requires room { HasRoom self.old.state units room }
         requires outs { vec_len outs.old + late_outs self.old.state units ≤ vec_capacity outs.old }
-        ensures step { TickStep (ruled self.old) (reads self.old) units outs.old.items outs.new.items (reads self.new) }
+        ensures step { TickStep (ruled self.old) (reads self.old) units outs.old.items
+            outs.new.items (reads self.new) }
         ensures rules { ruled self.new ≡ ruled self.old }
         ensures len { vec_len outs.new ≤ vec_len outs.old + late_outs self.old.state units }
         ensures capacity { vec_capacity outs.new ≡ vec_capacity outs.old }
@@ -145,7 +147,9 @@ impl Shard {
 
     /// Time passes.
     fn on_tick(&mut self, alloc: Global, units: u32) -> Result<Vec<Out>, AllocError>
-        ensures step { IfOk result (λ outs. Step (ruled self.old) (reads self.old) (Event.Tick units) [] outs.items (reads self.new)) }
+        ensures step { IfOk result
+            (λ outs. Step (ruled self.old) (reads self.old) (Event.Tick units) [] outs.items
+            (reads self.new)) }
         ensures rules { ruled self.new ≡ ruled self.old }
         ensures refused { IfErr result (λ _. self.new ≡ self.old) }
     {
@@ -162,7 +166,9 @@ impl Shard {
         station: Address,
         reason: Reason,
     ) -> Result<Vec<Out>, AllocError>
-        ensures step { IfOk result (λ outs. Step (ruled self.old) (reads self.old) (Event.Kick station reason) [] outs.items (reads self.new)) }
+        ensures step { IfOk result
+            (λ outs. Step (ruled self.old) (reads self.old) (Event.Kick station reason) []
+            outs.items (reads self.new)) }
         ensures rules { ruled self.new ≡ ruled self.old }
         ensures refused { IfErr result (λ _. self.new ≡ self.old) }
     {

@@ -66,7 +66,8 @@ pub(crate) fn most_outs(state: &State, units: u32) -> usize
 /// Ends an agreement: all that it held is passed up, and then its DELBA is sent.
 fn end_one(alloc: Global, config: &LinkConfig, entry: Entry, frame: FrameRoom, outs: &mut Vec<Out>)
     requires { vec_len outs.old + (numbers_held entry.using.window + 1) ≤ vec_capacity outs.old }
-    ensures ends { (shard : ℕ) → EndsOne (rules shard config.now) entry outs.old.items outs.new.items }
+    ensures ends { (shard : ℕ) → EndsOne (rules shard config.now) entry outs.old.items
+        outs.new.items }
     ensures len { vec_len outs.new ≤ vec_len outs.old + (numbers_held entry.using.window + 1) }
     ensures capacity { vec_capacity outs.new ≡ vec_capacity outs.old }
 {
@@ -87,7 +88,8 @@ fn end_all(
 )
     requires frames { vec_len ended ≤ vec_len frames }
     requires room { vec_len outs.old + outs_of_ends ended.items ≤ vec_capacity outs.old }
-    ensures ends { (shard : ℕ) → EndsAll (rules shard config.now) ended.items outs.old.items outs.new.items }
+    ensures ends { (shard : ℕ) → EndsAll (rules shard config.now) ended.items outs.old.items
+        outs.new.items }
     ensures len { vec_len outs.new ≤ vec_len outs.old + outs_of_ends ended.items }
     ensures capacity { vec_capacity outs.new ≡ vec_capacity outs.old }
 {
@@ -110,7 +112,8 @@ pub(crate) fn tick(
 )
     requires room { HasRoom state.old units room }
     requires outs { vec_len outs.old + late_outs state.old units ≤ vec_capacity outs.old }
-    ensures step { TickStep (rules state.old.link.shard config.now) (reading state.old) units outs.old.items outs.new.items (reading state.new) }
+    ensures step { TickStep (rules state.old.link.shard config.now) (reading state.old) units
+        outs.old.items outs.new.items (reading state.new) }
     ensures len { vec_len outs.new ≤ vec_len outs.old + late_outs state.old units }
     ensures capacity { vec_capacity outs.new ≡ vec_capacity outs.old }
     ensures shard { state.new.link.shard ≡ state.old.link.shard }

@@ -24,10 +24,13 @@ pub fn headline_law()
     ensures opened { (parts : ℕ) → UpholdAll (whole parts) }
     ensures given { (a b : Eight) → UpholdAll a → HasGivenOne a b → UpholdAll b }
     ensures newcomers { (a u : Eight) → UpholdAll a → IsNewcomer a u → UpholdAll u }
-    ensures renewed { (a b : Eight) → UpholdAll a → AreRenewed a b → AreFresh (holding_of b) → UpholdAll b }
-    ensures served { (a : Live) (w w2 : Worker) (l l2 : List Tagged) → UpholdAll w.shards → Served a w w2 l l2 →
+    ensures renewed { (a b : Eight) → UpholdAll a → AreRenewed a b → AreFresh (holding_of b) →
+        UpholdAll b }
+    ensures served { (a : Live) (w w2 : Worker) (l l2 : List Tagged) → UpholdAll w.shards →
+        Served a w w2 l l2 →
         WorkerHeadline a w w2 l l2 × UpholdAll w2.shards }
-    ensures acted { (o o2 : Operator) (e : Event) (outs : List Out) → UpholdAll o.shards → Acted o e outs o2 →
+    ensures acted { (o o2 : Operator) (e : Event) (outs : List Out) → UpholdAll o.shards →
+        Acted o e outs o2 →
         OperatorHeadline o e outs o2 × UpholdAll o2.shards }
     ensures counted { (e : Eight) → UpholdAll e → counted_by e ≡ own_counts e }
 {

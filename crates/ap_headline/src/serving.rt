@@ -47,7 +47,8 @@ pub fn act<B: Ledgers + Journals, R: Wait>(
 ) -> Result<Vec<Out>, AllocError>
     requires command { IsTrue (is_command event.now) }
     requires upholds { UpholdAll operator.old.shards }
-    ensures headline { IfOk result (λ outs. OperatorHeadline operator.old event.now outs.items operator.new) }
+    ensures headline { IfOk result
+        (λ outs. OperatorHeadline operator.old event.now outs.items operator.new) }
     ensures upholds { UpholdAll operator.new.shards }
     ensures refused { IfErr result (λ _. operator.new ≡ operator.old) }
 {

@@ -10,7 +10,8 @@ ghost use Rattle.ap_live.specs.Tokens.{IsOperator, IsWorker, Operator, Worker};
 
 /// Tokens that were given stay those of the access point, whatever tokens it gives.
 pub fn tokens_law()
-    ensures operators { (a b : Live) (o : Operator) → KeepsLive a b → IsOperator a o → IsOperator b o }
+    ensures operators { (a b : Live) (o : Operator) → KeepsLive a b → IsOperator a o →
+        IsOperator b o }
     ensures workers { (a b : Live) (w : Worker) → KeepsLive a b → IsWorker a w → IsWorker b w }
 {}
 

@@ -27,7 +27,8 @@ impl<B: Ledgers + Journals> LiveAp<B> {
         requires own { IsOperator self.now operator.old }
         requires there { Names Shared self.now.stock.maps map word }
         ensures own { IsOperator self.now operator.new }
-        ensures made { Accesses self.now.stock.maps operator.old.seats map word (Store value) 0 operator.new.seats }
+        ensures made { Accesses self.now.stock.maps operator.old.seats map word (Store value) 0
+            operator.new.seats }
         ensures same { operator.new ≡ record operator.old { seats = operator.new.seats } }
     {
         self.tables.store(&mut operator.seats, map, word, value)
@@ -39,7 +40,8 @@ impl<B: Ledgers + Journals> LiveAp<B> {
         requires own { IsOperator self.now operator.old }
         requires there { Names Shared self.now.stock.maps map word }
         ensures own { IsOperator self.now operator.new }
-        ensures made { Accesses self.now.stock.maps operator.old.seats map word Load result operator.new.seats }
+        ensures made { Accesses self.now.stock.maps operator.old.seats map word Load result
+            operator.new.seats }
         ensures same { operator.new ≡ record operator.old { seats = operator.new.seats } }
     {
         self.tables.read(&mut operator.seats, map, word)
@@ -51,7 +53,8 @@ impl<B: Ledgers + Journals> LiveAp<B> {
         requires own { IsOperator self.now operator.old }
         requires there { Names Worker self.now.stock.maps map word }
         ensures own { IsOperator self.now operator.new }
-        ensures made { Sums self.now.stock.maps operator.old.seats map word result operator.new.seats }
+        ensures made { Sums self.now.stock.maps operator.old.seats map word result
+            operator.new.seats }
         ensures same { operator.new ≡ record operator.old { seats = operator.new.seats } }
     {
         self.tables.sum(&mut operator.seats, map, word)

@@ -110,7 +110,8 @@ impl<B: Ledgers + Journals> LiveAp<B> {
         requires few { settings.workers ≤ 8 }
         requires named { AreNamed B.name_of B.shares B.journal_of new }
         requires parts { B.shares ≡ parts_in_all }
-        ensures { IfOk result (λ o. IsOpened settings.workers settings.shapes settings.draw o.ap o.publisher o.left) }
+        ensures { IfOk result
+            (λ o. IsOpened settings.workers settings.shapes settings.draw o.ap o.publisher o.left) }
     {
         let Settings {
             link,

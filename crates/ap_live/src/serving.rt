@@ -88,7 +88,8 @@ impl<B: Ledgers + Journals> LiveAp<B> {
         ensures own { IsWorker self.now worker.new }
         ensures number { worker.new.number ≡ worker.old.number }
         ensures pass { worker.new.pass ≡ worker.old.pass }
-        ensures became { Becomes self.now worker.old.number (progress_of worker.old) at.entry.1.now at.entry.0 result (progress_of worker.new) }
+        ensures became { Becomes self.now worker.old.number (progress_of worker.old) at.entry.1.now
+            at.entry.0 result (progress_of worker.new) }
     {
         if gate.stop(call) {
             return Fate::NotHandled;
@@ -119,7 +120,8 @@ impl<B: Ledgers + Journals> LiveAp<B> {
         ensures own { IsWorker self.now result.0 }
         ensures number { result.0.number ≡ worker.number }
         ensures pass { result.0.pass ≡ worker.pass }
-        ensures became { Becomes self.now worker.number (progress_of worker) at.entry.1.now at.entry.0 result.1 (progress_of result.0) }
+        ensures became { Becomes self.now worker.number (progress_of worker) at.entry.1.now
+            at.entry.0 result.1 (progress_of result.0) }
     {
         let WorkerToken {
             number,

@@ -28,8 +28,12 @@ impl<B: Ledgers + Journals> LiveAp<B> {
     ) -> Result<(), Unserved>
         requires own { IsOperator self.now operator.old }
         ensures own { IsOperator self.now operator.new }
-        ensures put { OnOk result (puts_of operator.new.lines ≡ served (puts_of operator.old.lines) call event (first_shard event) (shard_count event)) }
-        ensures refused { IfErr result (StopsAt self.now.queues operator.old.lines operator.new.lines call event (first_shard event) (shard_count event)) }
+        ensures put { OnOk result
+            (puts_of operator.new.lines ≡ served (puts_of operator.old.lines) call event
+            (first_shard event) (shard_count event)) }
+        ensures refused { IfErr result
+            (StopsAt self.now.queues operator.old.lines operator.new.lines call event
+            (first_shard event) (shard_count event)) }
         ensures same { operator.new ≡ record operator.old { lines = operator.new.lines } }
     {
         self.lines.submit(rt, &mut operator.lines, call, event)
@@ -48,8 +52,12 @@ impl<B: Ledgers + Journals> LiveAp<B> {
         requires tick { IsTick event }
         requires below { shard < 8 }
         ensures own { IsOperator self.now operator.new }
-        ensures put { OnOk result (puts_of operator.new.lines ≡ served (puts_of operator.old.lines) call event shard (8 - shard)) }
-        ensures refused { IfErr result (StopsAt self.now.queues operator.old.lines operator.new.lines call event shard (8 - shard)) }
+        ensures put { OnOk result
+            (puts_of operator.new.lines ≡ served (puts_of operator.old.lines) call event shard
+            (8 - shard)) }
+        ensures refused { IfErr result
+            (StopsAt self.now.queues operator.old.lines operator.new.lines call event shard
+            (8 - shard)) }
         ensures same { operator.new ≡ record operator.old { lines = operator.new.lines } }
     {
         self.lines

@@ -27,8 +27,11 @@ impl<B: Ledgers + Journals, const SHARD: usize> Locked<B, SHARD> {
         event: &Event,
         judge: &mut J,
     ) -> Result<(Vec<Out>, bool), AllocError>
-        ensures entry { IfOk result (λ r. Decided J.gives self.old mine.old event.now judge.old r.0.items r.1 self.new mine.new judge.new) }
-        ensures refused { IfErr result (λ _. (self.new ≡ self.old) × (mine.new ≡ mine.old) × (judge.new ≡ judge.old)) }
+        ensures entry { IfOk result
+            (λ r. Decided J.gives self.old mine.old event.now judge.old r.0.items r.1 self.new
+            mine.new judge.new) }
+        ensures refused { IfErr result
+            (λ _. (self.new ≡ self.old) × (mine.new ≡ mine.old) × (judge.new ≡ judge.old)) }
     {
         asks_law::<J>();
         if !self.author.prepare(&self.journal) {

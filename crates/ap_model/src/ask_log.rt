@@ -46,7 +46,8 @@ impl AskLog {
 
     /// Lists an ask and its answer.
     pub fn note(&mut self, hook: Hook, frame: &Frame<'_>, context: &Context, answer: u64)
-        ensures { self.new.asks ≡ self.old.asks ++ (record { hook = hook; frame = frame.now; context = context.now }, answer) ∷ [] }
+        ensures { self.new.asks ≡ self.old.asks ++
+            (record { hook = hook; frame = frame.now; context = context.now }, answer) ∷ [] }
     {
         let asked = Asked {
             hook,

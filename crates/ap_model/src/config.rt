@@ -45,8 +45,10 @@ impl LinkConfig {
 
     /// None where the name is longer than 32 bytes, or there are no rates or more than 8.
     pub fn new(bssid: Address, ssid: Octets, rates: Octets) -> Option<Self>
-        ensures valid { IsSome result ↔ IsConfig (record { bssid = bssid; ssid = ssid; rates = rates }) }
-        ensures value { IfSome result (λ c. c ≡ record { bssid = bssid; ssid = ssid; rates = rates }) }
+        ensures valid { IsSome result ↔ IsConfig
+            (record { bssid = bssid; ssid = ssid; rates = rates }) }
+        ensures value { IfSome result
+            (λ c. c ≡ record { bssid = bssid; ssid = ssid; rates = rates }) }
     {
         let named = ssid.bytes().len() <= 32;
         let some = !rates.bytes().is_empty();

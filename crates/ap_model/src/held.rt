@@ -44,7 +44,16 @@ impl Held {
 
     /// The frame with its source, its TID and its number, passed up. None of the place of none.
     pub fn up(self, source: Address, tid: Tid, number: SequenceNumber) -> Option<Up>
-        ensures { result ≡ option_map (λ h. record { source = source; destination = h.0; tid = Some tid; number = number; mark = h.1; body = h.2 }) self }
+        ensures { result ≡ option_map (λ h.
+            record {
+              source = source;
+              destination = h.0;
+              tid = Some tid;
+              number = number;
+              mark =
+                  h.1;
+              body = h.2;
+            }) self }
     {
         let (destination, mark, body) = self.frame?;
         Some(Up {

@@ -18,7 +18,8 @@ pub trait Judge {
 
     /// One ask and its answer.
     fn judge(&mut self, hook: Hook, frame: &Frame<'_>, context: &Context) -> u64
-        ensures { gives self.old (record { hook = hook; frame = frame.now; context = context.now }) result self.new };
+        ensures { gives self.old (record { hook = hook; frame = frame.now; context = context.now })
+            result self.new };
 
     /// Each ask is listed, once, at the end.
     ghost lists: { (p p2 : Self) (q : Ask) (a : ℕ) → gives p q a p2 → asks p2 ≡ asks p ++ (q, a) ∷ [] };

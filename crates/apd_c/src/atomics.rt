@@ -107,7 +107,8 @@ pub extern "C" fn apd_c_compare_exchange(
     expected: u64,
     new: u64,
 ) -> Loaded
-    ensures { Operates (held maps.old) map word (CompareExchange expected new) result (held maps.new) }
+    ensures { Operates (held maps.old) map word (CompareExchange expected new) result
+        (held maps.new) }
 {
     access_at(
         alloc,

@@ -35,7 +35,8 @@ fn lead(
     ensures ok { IfOk result.1 (λ outs.
         IsLed access_point.old maps event outs.items access_point.new result.0) }
     ensures err { IfErr result.1 (λ number. number ≢ 0) }
-    ensures kept { OnErr result.1 (IsLike access_point.old access_point.new × IsSame maps result.0) }
+    ensures kept { OnErr result.1 (IsLike access_point.old access_point.new
+        × IsSame maps result.0) }
     ensures number { IsNumberOver maps access_point.old (number_in result.1) }
 {
     if !are_alike(access_point.shapes().as_slice(), maps.shapes.as_slice()) {
@@ -70,8 +71,10 @@ fn lead_in(
     ensures ok { IfOk result.1 (λ outs.
         HasLed (Some content.old) maps event outs.items (Some content.new) result.0) }
     ensures err { IfErr result.1 (λ number. number ≢ 0) }
-    ensures kept { OnErr result.1 (Stays (Some content.old) (Some content.new) × IsSame maps result.0) }
-    ensures number { UnlessSome (link_of (Some content.old)) 91 (IsNumberOver maps) (number_in result.1) }
+    ensures kept { OnErr result.1 (Stays (Some content.old) (Some content.new)
+        × IsSame maps result.0) }
+    ensures number { UnlessSome (link_of (Some content.old)) 91 (IsNumberOver maps)
+        (number_in result.1) }
 {
     match content {
         Content::Link(access_point) => {
@@ -93,7 +96,8 @@ fn lead_at(
         HasLed (held link.old) maps event outs.items (held link.new) result.0) }
     ensures err { IfErr result.1 (λ number. number ≢ 0) }
     ensures kept { OnErr result.1 (Stays (held link.old) (held link.new) × IsSame maps result.0) }
-    ensures number { UnlessSome (link_of (held link.old)) 91 (IsNumberOver maps) (number_in result.1) }
+    ensures number { UnlessSome (link_of (held link.old)) 91 (IsNumberOver maps)
+        (number_in result.1) }
 {
     match link.take(alloc) {
         None => return (maps, Err(OTHER_VALUE)),
@@ -115,7 +119,8 @@ fn lead_over(
     ensures ok { IfOk result (λ outs.
         HasLedTo event (held link.old) (held maps.old) outs.items (held link.new) (held maps.new)) }
     ensures err { IfErr result (λ number. number ≢ 0) }
-    ensures kept { OnErr result (Stays (held link.old) (held link.new) × Stays (held maps.old) (held maps.new)) }
+    ensures kept { OnErr result
+        (Stays (held link.old) (held link.new) × Stays (held maps.old) (held maps.new)) }
     ensures number { IsNumberAt (held link.old) (held maps.old) (number_in result) }
 {
     match take_maps(alloc, maps) {
@@ -170,9 +175,11 @@ pub extern "C" fn apd_c_link_frame(
     outs: &mut Handle,
     bytes: &[u8],
 ) -> u32
-    ensures serves { Serves (event.Frame bytes.now) (held link.old) (held maps.old) (held outs.old) result
+    ensures serves { Serves (event.Frame bytes.now) (held link.old) (held maps.old) (held outs.old)
+        result
         (held link.new) (held maps.new) (held outs.new) }
-    ensures number { IsFrameNumber bytes.now (held link.old) (held maps.old) (held outs.old) result }
+    ensures number { IsFrameNumber bytes.now (held link.old) (held maps.old) (held outs.old)
+        result }
 {
     if bytes.len() > 2400 {
         return OUT_OF_LIMITS;
@@ -195,7 +202,8 @@ pub extern "C" fn apd_c_link_tick(
     outs: &mut Handle,
     units: u32,
 ) -> u32
-    ensures serves { Serves (event.Tick units) (held link.old) (held maps.old) (held outs.old) result
+    ensures serves { Serves (event.Tick units) (held link.old) (held maps.old) (held outs.old)
+        result
         (held link.new) (held maps.new) (held outs.new) }
     ensures number { IsEventNumber (held link.old) (held maps.old) (held outs.old) result }
 {
@@ -212,7 +220,8 @@ pub extern "C" fn apd_c_link_kick(
     station: &Station,
     reason: u16,
 ) -> u32
-    ensures serves { Serves (event.Kick station.now.octets reason) (held link.old) (held maps.old) (held outs.old) result
+    ensures serves { Serves (event.Kick station.now.octets reason) (held link.old) (held maps.old)
+        (held outs.old) result
         (held link.new) (held maps.new) (held outs.new) }
     ensures number { IsEventNumber (held link.old) (held maps.old) (held outs.old) result }
 {
@@ -234,7 +243,8 @@ pub extern "C" fn apd_c_link_close(
     station: &Station,
     tid: u8,
 ) -> u32
-    ensures serves { Serves (event.Close station.now.octets tid) (held link.old) (held maps.old) (held outs.old) result
+    ensures serves { Serves (event.Close station.now.octets tid) (held link.old) (held maps.old)
+        (held outs.old) result
         (held link.new) (held maps.new) (held outs.new) }
     ensures number { IsCloseNumber tid (held link.old) (held maps.old) (held outs.old) result }
 {

@@ -69,7 +69,8 @@ fn put_in(content: &mut Content, hook: Hook, accepted: Accepted) -> Result<(), (
     ensures ok { OnOk result (HasPut hook accepted (Some content.old) (Some content.new)) }
     ensures err { OnErr result (content.new ≡ content.old) }
     ensures back { IfErr result (λ e. (e.0 ≢ 0) × (e.1 ≡ accepted)) }
-    ensures number { UnlessSome (link_of (Some content.old)) 91 (IsPutNumber (number_of hook) accepted)
+    ensures number { UnlessSome (link_of (Some content.old)) 91
+        (IsPutNumber (number_of hook) accepted)
         (number_with result) }
 {
     match content {
@@ -88,7 +89,8 @@ fn put_at(
     hook: u32,
     accepted: Accepted,
 ) -> Result<(), (u32, Accepted)>
-    ensures ok { OnOk result ((h : AHook) × (hook ≡ number_of h) × HasPut h accepted (held link.old) (held link.new)) }
+    ensures ok { OnOk result
+        ((h : AHook) × (hook ≡ number_of h) × HasPut h accepted (held link.old) (held link.new)) }
     ensures err { OnErr result (held link.new ≡ held link.old) }
     ensures back { IfErr result (λ e. (e.0 ≢ 0) × (e.1 ≡ accepted)) }
     ensures number { IsPutAtNumber hook accepted (held link.old) (number_with result) }

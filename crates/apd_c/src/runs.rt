@@ -153,7 +153,8 @@ fn run_content(
     ensures run { result.number ≡ 0 →
         RunsCode (Some content.now) (held maps.old) frame.now given.now result (held maps.new) }
     ensures refused { result.number ≢ 0 → held maps.new ≡ held maps.old }
-    ensures number { IsRunNumber (Some content.now) (held maps.old) frame.now given.now result.number }
+    ensures number { IsRunNumber (Some content.now) (held maps.old) frame.now given.now
+        result.number }
 {
     match content {
         Content::Code(accepted) => {

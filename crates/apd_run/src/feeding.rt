@@ -123,7 +123,8 @@ pub(crate) fn feed<W: Serving + Drop, O: Operating<W>, R: Wait>(
     ensures same { O.crew operator.new ≡ O.crew operator.old }
     ensures told { OnOk result (Tells told.old.items told.new.items) }
     ensures on { IfOk result (λ next. start < next) }
-    ensures rest { IfOk result (λ next. drop next commands.now ≡ after_wait (drop start commands.now)) }
+    ensures rest { IfOk result
+        (λ next. drop next commands.now ≡ after_wait (drop start commands.now)) }
 {
     let mut next = start;
     'lines: while next < commands.len() {

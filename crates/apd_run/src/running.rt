@@ -55,7 +55,8 @@ fn beside<W: Serving + Drop, O: Operating<W> + Drop, R: Wait, P: Write + Drop>(
     started: bool,
 ) -> Ran<W, O, P>
     requires home { vec_len staff.workers ≡ length setting.now.desks.now }
-    ensures home { OnOk result.memory (vec_len result.staff.workers ≡ length setting.now.desks.now) }
+    ensures home { OnOk result.memory (vec_len result.staff.workers
+        ≡ length setting.now.desks.now) }
     ensures workers { OnOk result.memory
         ((O.crew result.staff.operator).workers ≡ (O.crew staff.operator).workers) }
     ensures shows { IfOk result.memory (Shows (P.contents writer) (O.crew staff.operator).counted
@@ -93,7 +94,8 @@ pub(crate) fn run_threads<
     writer: P,
 ) -> Ran<W, O, P>
     requires home { vec_len staff.workers ≡ length setting.now.desks.now }
-    ensures home { OnOk result.memory (vec_len result.staff.workers ≡ length setting.now.desks.now) }
+    ensures home { OnOk result.memory (vec_len result.staff.workers
+        ≡ length setting.now.desks.now) }
     ensures workers { OnOk result.memory
         ((O.crew result.staff.operator).workers ≡ (O.crew staff.operator).workers) }
     ensures shows { IfOk result.memory (Shows (P.contents writer) (O.crew staff.operator).counted

@@ -95,10 +95,12 @@ fn enter_by_four<R: Threads + Wait + Sync>(
     join(
         rt,
         || -> ()
-            requires { IsSync R.row × (one.0.list ≡ entrance.now.list) × (one.1.list ≡ entrance.now.list) }
+            requires { IsSync R.row × (one.0.list ≡ entrance.now.list)
+                × (one.1.list ≡ entrance.now.list) }
         { enter_by_two(rt, entrance, one, rounds) },
         || -> ()
-            requires { IsSync R.row × (other.0.list ≡ entrance.now.list) × (other.1.list ≡ entrance.now.list) }
+            requires { IsSync R.row × (other.0.list ≡ entrance.now.list)
+                × (other.1.list ≡ entrance.now.list) }
         { enter_by_two(rt, entrance, other, rounds) },
     );
 }

@@ -68,7 +68,8 @@ impl<F: Drop> Agreement<F> {
         requires size_fits { size ≤ 64 }
         ensures size { result.size ≡ size }
         ensures window { Reads (opening start) result }
-        ensures scoreboard { ReadsScoreboard (blank start size) size result.scoreboard_start result.scoreboard_bits }
+        ensures scoreboard { ReadsScoreboard (blank start size) size result.scoreboard_start
+            result.scoreboard_bits }
     {
         Agreement {
             slots: empty_slots(),
@@ -123,7 +124,8 @@ impl<F: Drop> Agreement<F> {
         requires number_fits { number < 4096 }
         requires alone { IsAlone self.old number }
         ensures size { self.new.size ≡ self.old.size }
-        ensures window { (item : Option F) → DataMovesWindow true number item self.old self.new (frame_of number (Some item)) }
+        ensures window { (item : Option F) →
+            DataMovesWindow true number item self.old self.new (frame_of number (Some item)) }
         ensures scoreboard { DataMarksScoreboard number self.old self.new }
     {
         let size = self.size;
@@ -146,7 +148,8 @@ impl<F: Drop> Agreement<F> {
         ensures wanted { IsTrue (is_taken result) ↔ IsWanted self.old number }
         ensures back { HandsBack item result }
         ensures size { self.new.size ≡ self.old.size }
-        ensures window { DataMovesWindow (is_taken result) number item self.old self.new out.new.items }
+        ensures window { DataMovesWindow (is_taken result) number item self.old self.new
+            out.new.items }
         ensures scoreboard { DataMarksScoreboard number self.old self.new }
         ensures few { array_vec_len out.new ≤ most_passed self.old number }
     {

@@ -8,8 +8,10 @@ ghost use Rattle.blockack.specs.Same.{HaveWindows, HaveScoreboards, DataReadsThe
 /// A sequence number means no two whole numbers to one window, and it means one to each window that
 /// starts at 2048 or later. (To an earlier one it may mean a number below 0, which is old.)
 pub fn unwrap_law()
-    ensures one { (start number n m : ℕ) → IsUnwrapped start number n → IsUnwrapped start number m → n ≡ m }
-    ensures some { (start number : ℕ) → number < 4096 → 2048 ≤ start → ((n : ℕ) × IsUnwrapped start number n) }
+    ensures one { (start number n m : ℕ) → IsUnwrapped start number n → IsUnwrapped start number m →
+        n ≡ m }
+    ensures some { (start number : ℕ) → number < 4096 → 2048 ≤ start →
+        ((n : ℕ) × IsUnwrapped start number n) }
 {}
 
 /// What an agreement hands up (IEEE 802.11-2016, 10.24.7.6.1). Over any list of calls for data and

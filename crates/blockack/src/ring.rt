@@ -52,9 +52,12 @@ pub(crate) fn advance<F: Drop, A>(
     requires least_fits { least < 4096 }
     requires room { array_vec_len out.old + held_count slots.old ≤ 64 }
     ensures next { IsNextFree (ring_at slots.old start) least result }
-    ensures rest { Shifts result (ring_at slots.old start) (ring_at slots.new ((start + result) % 4096)) }
-    ensures frames { out.new.items ≡ out.old.items ++ gathered (ring_at slots.old start) start result }
-    ensures room { array_vec_len out.new + held_count slots.new ≤ array_vec_len out.old + held_count slots.old }
+    ensures rest { Shifts result (ring_at slots.old start)
+        (ring_at slots.new ((start + result) % 4096)) }
+    ensures frames { out.new.items ≡ out.old.items ++ gathered (ring_at slots.old start) start
+        result }
+    ensures room { array_vec_len out.new + held_count slots.new ≤ array_vec_len out.old + held_count
+        slots.old }
 {
     let mut moved = 0;
     let mut at = start;
@@ -82,7 +85,8 @@ pub(crate) fn skip<F: Drop, A>(
     requires least_fits { least < 4096 }
     requires empty { array_vec_len out.old ≡ 0 }
     ensures next { IsNextFree (ring_at slots.old start) least result }
-    ensures rest { Shifts result (ring_at slots.old start) (ring_at slots.new ((start + result) % 4096)) }
+    ensures rest { Shifts result (ring_at slots.old start)
+        (ring_at slots.new ((start + result) % 4096)) }
     ensures frames { out.new.items ≡ gathered (ring_at slots.old start) start result }
     ensures of { length slots.old ≡ 64 }
     ensures few { array_vec_len out.new ≤ held_count slots.old }
@@ -109,8 +113,10 @@ pub(crate) fn store<F: Drop, A>(
     requires past { (i : ℕ) → size ≤ i → ring_at slots.old start i ≡ None }
     requires free { ring_at slots.old start (ahead start number) ≡ None }
     requires empty { array_vec_len out.old ≡ 0 }
-    ensures next { IsNextFree (stored slots.old start number item) (ahead start number + 1 - size) result }
-    ensures rest { Shifts result (stored slots.old start number item) (ring_at slots.new ((start + result) % 4096)) }
+    ensures next { IsNextFree (stored slots.old start number item) (ahead start number + 1 - size)
+        result }
+    ensures rest { Shifts result (stored slots.old start number item)
+        (ring_at slots.new ((start + result) % 4096)) }
     ensures frames { out.new.items ≡ gathered (stored slots.old start number item) start result }
     ensures of { length slots.old ≡ 64 }
     ensures few { array_vec_len out.new ≤ held_count slots.old + 1 }

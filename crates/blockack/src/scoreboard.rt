@@ -31,7 +31,8 @@ impl Bitmap {
         requires some_size { 1 ≤ size }
         requires size_fits { size ≤ 64 }
         ensures sound { IsSoundBitmap size self.new.start self.new.bits }
-        ensures step { DataMarks size number self.old.start self.old.bits self.new.start self.new.bits }
+        ensures step { DataMarks size number self.old.start self.old.bits self.new.start
+            self.new.bits }
     {
         let ahead = distance(self.start, number);
         if ahead >= HALF {
@@ -49,7 +50,8 @@ impl Bitmap {
         requires some_size { 1 ≤ size }
         requires size_fits { size ≤ 64 }
         ensures sound { IsSoundBitmap size self.new.start self.new.bits }
-        ensures step { RequestMarks size number self.old.start self.old.bits self.new.start self.new.bits }
+        ensures step { RequestMarks size number self.old.start self.old.bits self.new.start
+            self.new.bits }
     {
         let ahead = distance(self.start, number);
         if ahead >= HALF || ahead == 0 {

@@ -20,7 +20,9 @@ pub fn serve<J: Judge>(
     events: &[Event],
     judge: &mut J,
 ) -> Result<Vec<Option<Vec<Out>>>, AllocError>
-    ensures headline { IfOk result (λ results. HoldsFromNobody J.gives config.now events.now judge.old (outs_in results.items) judge.new) }
+    ensures headline { IfOk result
+        (λ results. HoldsFromNobody J.gives config.now events.now judge.old (outs_in results.items)
+        judge.new) }
     ensures refused { IfErr result (λ _. judge.new ≡ judge.old) }
 {
     link_law::<J>();
@@ -38,7 +40,9 @@ pub fn go_on<J: Judge>(
     judge: &mut J,
 ) -> Result<Vec<Option<Vec<Out>>>, AllocError>
     requires place { InPlace (rules_of shards.old) }
-    ensures headline { IfOk result (λ results. ∥ HoldsOn J.gives shards.old events.now judge.old (outs_in results.items) shards.new judge.new ∥₁) }
+    ensures headline { IfOk result
+        (λ results. ∥ HoldsOn J.gives shards.old events.now judge.old (outs_in results.items)
+        shards.new judge.new ∥₁) }
     ensures place { InPlace (rules_of shards.new) }
 {
     link_law::<J>();
@@ -55,7 +59,9 @@ pub fn decide<J: Judge>(
     event: &Event,
     judge: &mut J,
 ) -> Result<Vec<Out>, AllocError>
-    ensures headline { IfOk result (λ outs. ∥ HoldsAtOne J.gives shard.old event.now judge.old outs.items shard.new judge.new ∥₁) }
+    ensures headline { IfOk result
+        (λ outs. ∥ HoldsAtOne J.gives shard.old event.now judge.old outs.items shard.new judge.new
+        ∥₁) }
 {
     link_law::<J>();
     shard.known();
@@ -76,7 +82,8 @@ pub fn compare<J: Judge>(
     one: &mut J,
     other: &mut J,
 ) -> Result<Twice, AllocError>
-    ensures headline { IfOk result (HoldsTwice J.gives config.now events.now one.old one.new other.old other.new) }
+    ensures headline { IfOk result
+        (HoldsTwice J.gives config.now events.now one.old one.new other.old other.new) }
 {
     link_law::<J>();
     let first = serve(alloc, config, events, one)?;

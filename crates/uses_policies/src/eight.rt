@@ -20,7 +20,8 @@ use std::alloc::{AllocError, Global};
 fn view_at<'t>(shards: &[Shard; 8], event: &Event, policies: Policies<'_, 't>) -> WorkerView<'t>
     ensures maps { result.maps ≡ policies.entry.maps }
     ensures worker { result.worker ≡ policies.entry.worker }
-    ensures given { (s : ℕ) → shard_of event.now ≡ Some s → IsGiven policies.entry (readings_of shards.now s) (given_by result) }
+    ensures given { (s : ℕ) → shard_of event.now ≡ Some s →
+        IsGiven policies.entry (readings_of shards.now s) (given_by result) }
 {
     match shard_of(event) {
         Some(at) => view_of(&shards[at], policies),
@@ -39,7 +40,9 @@ fn decide_at(
     requires one { length event.now ≡ 1 }
     requires place { InPlace (rules_of shards.old) }
     requires seats { IsFitting policies.maps.now policies.worker state.old.seats }
-    ensures policed { IfOk result (λ results. EventsPoliced policies.entry shards.old event.now (outs_in results.items) shards.new) }
+    ensures policed { IfOk result
+        (λ results. EventsPoliced policies.entry shards.old event.now (outs_in results.items)
+        shards.new) }
     ensures place { InPlace (rules_of shards.new) }
     ensures seats { IsFitting policies.entry.maps.now policies.entry.worker state.new.seats }
 {
@@ -62,7 +65,9 @@ pub fn go_on(
 ) -> Result<Vec<Option<Vec<Out>>>, AllocError>
     requires place { InPlace (rules_of shards.old) }
     requires seats { IsFitting policies.maps.now policies.worker state.old.seats }
-    ensures policed { IfOk result (λ results. EventsPoliced policies.entry shards.old events.now (outs_in results.items) shards.new) }
+    ensures policed { IfOk result
+        (λ results. EventsPoliced policies.entry shards.old events.now (outs_in results.items)
+        shards.new) }
     ensures place { InPlace (rules_of shards.new) }
     ensures seats { IsFitting policies.entry.maps.now policies.entry.worker state.new.seats }
 {
@@ -88,7 +93,8 @@ pub fn serve(
     state: &mut WorkerState,
 ) -> Result<Vec<Option<Vec<Out>>>, AllocError>
     requires seats { IsFitting policies.maps.now policies.worker state.old.seats }
-    ensures headline { IfOk result (λ results. HeadlineHolds policies.entry config.now events.now (outs_in results.items)) }
+    ensures headline { IfOk result
+        (λ results. HeadlineHolds policies.entry config.now events.now (outs_in results.items)) }
     ensures seats { IsFitting policies.entry.maps.now policies.entry.worker state.new.seats }
 {
     link_law::<ListJudge<'_>>();

@@ -39,7 +39,9 @@ pub fn decide(
     state: &mut WorkerState,
 ) -> Result<Vec<Out>, AllocError>
     requires seats { IsFitting policies.maps.now policies.worker state.old.seats }
-    ensures headline { IfOk result (λ outs. ∥ EventHolds policies.entry shard.old event.now state.old outs.items shard.new state.new ∥₁) }
+    ensures headline { IfOk result
+        (λ outs. ∥ EventHolds policies.entry shard.old event.now state.old outs.items shard.new
+        state.new ∥₁) }
     ensures seats { IsFitting policies.entry.maps.now policies.entry.worker state.new.seats }
     ensures refused { IfErr result (λ _. (shard.new ≡ shard.old) × (state.new ≡ state.old)) }
 {

@@ -179,7 +179,8 @@ pub fn loaded_programs(
     texts: Texts<'_>,
     maps: &[MapTables],
 ) -> Result<Programs, Fail>
-    ensures association { IfOk result (λ t. IfSome (kept t.association) (λ p. p.hook ≡ Association)) }
+    ensures association { IfOk result
+        (λ t. IfSome (kept t.association) (λ p. p.hook ≡ Association)) }
     ensures addba { IfOk result (λ t. IfSome (kept t.addba) (λ p. p.hook ≡ Addba)) }
     ensures frames { IfOk result (λ t. IfSome (kept t.frames) (λ p. p.hook ≡ Data)) }
 {

@@ -35,7 +35,8 @@ fn shape_of(words: u32, width: WordWidth, scope: Scope) -> Shape
 fn one_map(alloc: Global, shape: Shape, workers: usize, seats: u32) -> Result<[MapTables; 1], Fail>
     requires valid { IsShape shape }
     requires some_worker { 0 < workers }
-    ensures tables { IfOk result (λ maps. (worker : ℕ) → worker < workers → HaveTables maps worker) }
+    ensures tables { IfOk result
+        (λ maps. (worker : ℕ) → worker < workers → HaveTables maps worker) }
     ensures shapes { IfOk result (λ maps. shapes_of maps ≡ shape ∷ []) }
 {
     Ok([MapTables::new(alloc, shape, workers, seats)?])

@@ -133,10 +133,12 @@ fn read_by_four<R: Threads + Wait + Sync>(
     let (first, second) = join(
         rt,
         || -> bool
-            requires { IsSync R.row × (one.0.list ≡ entrance.now.list) × (one.1.list ≡ entrance.now.list) }
+            requires { IsSync R.row × (one.0.list ≡ entrance.now.list)
+                × (one.1.list ≡ entrance.now.list) }
         { read_by_two(rt, entrance, one, reading) },
         || -> bool
-            requires { IsSync R.row × (other.0.list ≡ entrance.now.list) × (other.1.list ≡ entrance.now.list) }
+            requires { IsSync R.row × (other.0.list ≡ entrance.now.list)
+                × (other.1.list ≡ entrance.now.list) }
         { read_by_two(rt, entrance, other, reading) },
     );
     first && second
@@ -168,7 +170,8 @@ fn two_readers(
     requires sets { sets.old.list ≡ entrance.now.list }
     ensures publisher { publisher.new ≡ publisher.old }
     ensures sets { sets.new.list ≡ entrance.now.list }
-    ensures own { IfSome result (λ pair. (pair.0.list ≡ entrance.now.list) × (pair.1.list ≡ entrance.now.list)) }
+    ensures own { IfSome result
+        (λ pair. (pair.0.list ≡ entrance.now.list) × (pair.1.list ≡ entrance.now.list)) }
 {
     let one = told_reader(publisher, sets, entrance)?;
     let other = told_reader(publisher, sets, entrance)?;
@@ -183,8 +186,10 @@ fn read_beside<R: Threads + Wait + Sync>(
     publisher: &mut Publisher,
     sides: (&Side, &Side),
 ) -> (bool, bool)
-    requires first { (readers.0.0.list ≡ entrance.now.list) × (readers.0.1.list ≡ entrance.now.list) }
-    requires second { (readers.1.0.list ≡ entrance.now.list) × (readers.1.1.list ≡ entrance.now.list) }
+    requires first { (readers.0.0.list ≡ entrance.now.list)
+        × (readers.0.1.list ≡ entrance.now.list) }
+    requires second { (readers.1.0.list ≡ entrance.now.list)
+        × (readers.1.1.list ≡ entrance.now.list) }
 {
     let (first, second) = readers;
     let left = AtomicU32::new(4);
@@ -192,8 +197,10 @@ fn read_beside<R: Threads + Wait + Sync>(
     join(
         rt,
         || -> bool
-            requires first { (first.0.list ≡ entrance.now.list) × (first.1.list ≡ entrance.now.list) }
-            requires second { IsSync R.row × (second.0.list ≡ entrance.now.list) × (second.1.list ≡ entrance.now.list) }
+            requires first { (first.0.list ≡ entrance.now.list)
+                × (first.1.list ≡ entrance.now.list) }
+            requires second { IsSync R.row × (second.0.list ≡ entrance.now.list)
+                × (second.1.list ≡ entrance.now.list) }
         { read_by_four(rt, entrance, first, second, reading) },
         move || exchange(rt, publisher, sides, reading),
     )
