@@ -8,6 +8,7 @@
 #![tactic(auto)]
 
 mod class;
+mod holders;
 mod link;
 mod standing;
 

@@ -4,10 +4,10 @@ ghost use Rattle.std.specs.Prelude.{◌≡◌, ◌≢◌, ℕ, true, false, ◌+
 ghost use Rattle.assoc.specs.declared.standing.Known.{Known};
 ghost use Rattle.assoc.specs.Standings.{IsFull, IsFree, IsLeastFree, NoneTwice, HoldsAsTheyStand, standing, IsMoved, disassociated, associated_count};
 
+use crate::holders::Holders;
 use crate::standing::{Known, Standing};
 use mac_frame::Address;
 use std::alloc::{AllocError, Global};
-use std::array;
 use std::collections::HashMap;
 use std::marker::Model;
 
@@ -24,7 +24,7 @@ pub struct Link {
     shard: u16,
     stations: HashMap<Address, Known>,
     /// At place k the station that has the identifier 8 k + shard.
-    holders: [Option<Address>; 251],
+    holders: Holders,
 }
 
 impl Model for Link {
@@ -62,7 +62,7 @@ impl Link {
         Link {
             shard,
             stations: HashMap::new(alloc),
-            holders: array::from_fn(|_| None),
+            holders: Holders::none(),
         }
     }
 
@@ -92,10 +92,7 @@ impl Link {
     pub fn associated(&self) -> u16
         ensures { result ≡ associated_count self.now }
     {
-        self.holders
-            .iter()
-            .filter(|holder| holder.is_some())
-            .count() as u16
+        self.holders.count()
     }
 
     /// Tells a proof that the identifiers are held as the stations stand, each once, and does
@@ -125,7 +122,7 @@ impl Link {
         ensures moves { IsMoved (standing self.old) station
             (Some Known.Authenticated) (standing self.new) }
     {
-        self.holders[(aid / 8) as usize] = None;
+        self.holders.free((aid / 8) as usize);
         match self.stations.insert(station, Known::Authenticated) {
             Ok(_) => {}
             Err(_) => unreachable!(),
@@ -193,7 +190,10 @@ impl Link {
     {
         for place in 0..251u16 {
             let aid = 8 * place + self.shard;
-            if aid > 0 && aid <= GREATEST_AID && is_open(self.holders[place as usize], station) {
+            if aid > 0
+                && aid <= GREATEST_AID
+                && is_open(self.holders.get(place as usize), station)
+            {
                 return Some(aid);
             }
         }
@@ -220,7 +220,7 @@ impl Link {
         ensures moves { IsMoved (standing self.old) station
             (Some (Known.Associated aid)) (standing self.new) }
     {
-        self.holders[(aid / 8) as usize] = Some(station);
+        self.holders.give((aid / 8) as usize, station);
         match self.stations.insert(station, Known::Associated(aid)) {
             Ok(_) => {}
             Err(_) => unreachable!(),
