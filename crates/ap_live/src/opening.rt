@@ -120,12 +120,19 @@ impl<B: Ledgers + Journals> LiveAp<B> {
             workers,
         } = settings;
         let places = open_places(alloc, &shapes, workers)?;
-        let shards = Shards::open(alloc, &link, new)?;
+        let shards = match Shards::open(alloc, &link, new) {
+            Ok(shards) => shards,
+            Err(error) => {
+                drop(places);
+                return Err(error);
+            }
+        };
         let list = match published(rt, alloc, shapes, workers) {
             Ok(list) => list,
             Err(error) => {
-                // Given up by a call, since eight shards have many parts.
+                // Given up by calls, since eight shards and the places have many parts.
                 drop(shards);
+                drop(places);
                 return Err(error);
             }
         };

@@ -74,7 +74,15 @@ pub(crate) fn deal<B: Ledgers + Journals>(
     ensures list { ap.new.list ≡ ap.old.list }
 {
     let mut left = left;
-    let Rights { operator, workers } = give_rights(ap, alloc, &mut left, count)?;
+    let rights = match give_rights(ap, alloc, &mut left, count) {
+        Ok(rights) => rights,
+        Err(error) => {
+            // Given up by a call, since its parts are many.
+            drop(left);
+            return Err(error);
+        }
+    };
+    let Rights { operator, workers } = rights;
     let parts = 16 - workers.len() as u64;
     let hoard = left.into_shares();
     Ok(Hands {

@@ -41,13 +41,7 @@ impl PlainPort {
         draw: u64,
     ) -> Result<Self, AllocError>
         requires few { stations ≤ 2007 }
-        ensures is { IfOk result
-            (λ p. p ≡ record {
-              tables = map zeros shapes.now;
-              clock = clock;
-              stations = stations;
-              draw = draw;
-            }) }
+        ensures is { IfOk result (λ p. p ≡ record { tables = map zeros shapes.now; clock = clock; stations = stations; draw = draw }) }
         ensures shapes { IfOk result (λ p. shapes_of p ≡ shapes.now) }
     {
         let tables = empty_tables(alloc, shapes)?;

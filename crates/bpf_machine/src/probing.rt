@@ -40,8 +40,7 @@ pub fn probe<P: Port>(
     limit: u32,
 ) -> Probe
     requires shapes { P.shapes port.old ≡ program.now.shapes }
-    ensures is { Probed P.gives (setting_of program.now frame.now context.now) port.old port.new
-        limit result }
+    ensures is { Probed P.gives (setting_of program.now frame.now context.now) port.old port.new limit result }
     ensures shapes { P.shapes port.new ≡ P.shapes port.old }
 {
     let received = frame.bytes();

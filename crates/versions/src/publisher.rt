@@ -162,8 +162,7 @@ impl Publisher {
         ensures shapes { self.new.shapes ≡ self.old.shapes }
         ensures added { OnOk result (self.new ≡ with_load self.old (load hook (kept program))) }
         ensures refused { OnErr result (self.new ≡ self.old) }
-        ensures others { IsErrOf result OtherShapes ↔ HasOtherShapes self.old.shapes
-            (kept program) }
+        ensures others { IsErrOf result OtherShapes ↔ HasOtherShapes self.old.shapes (kept program) }
         ensures own { OnOk result (IfSome (kept program) (IsFor self.old.shapes hook)) }
     {
         replace_with(
