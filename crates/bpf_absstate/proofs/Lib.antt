@@ -7,6 +7,7 @@ mod Pointers
 mod Slots
 mod Stacks
 mod Values
+mod Differ
 pub mod Chained
 pub mod Whole
 pub mod Returned

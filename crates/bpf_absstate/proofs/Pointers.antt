@@ -7,8 +7,11 @@ use Rattle.std.specs.declared.alloc.Global.{Global}
 use Rattle.std.specs.declared.rc.Rc.{Rc}
 use Rattle.bpf_absval.specs.declared.room.Room.{Room}
 use Rattle.bpf_absval.specs.declared.value.AbsVal.{AbsVal}
+use Rattle.bpf_absval.specs.declared.value.AbsVal.TheVariants as abs
 use Rattle.bpf_absval.specs.Inclusion.{value_included}
+use Rattle.bpf_absstate.specs.Difference.{IsValueOutside}
 use Rattle.bpf_absstate.specs.Inclusion.{values_included}
+use Rattle.bpf_absstate.proofs.Whole.{same_within}
 use Rattle.bpf_absstate.specs.Shared.{held_by}
 
 pub held-set : (rs : List (Rc AbsVal Global)) (i : ℕ) (r : Rc AbsVal Global) (v : AbsVal) (now : List AbsVal) → held_by rs ≡ now → r.value ≡ v →
@@ -94,11 +97,17 @@ one_test rooms others a b k x y h same =
     ap (λ v. value_included rooms others v (get_or (held_by b) k y.value) && left_of rooms others a b (k + 1)) (sym (held-at a k x)) ∙
     ap (λ v. value_included rooms others (get_or a k x).value v && left_of rooms others a b (k + 1)) (sym (held-at b k y))
 
-pub differs : (rooms others : List Room) (a b : List (Rc AbsVal Global)) (k : ℕ) (x y : Rc AbsVal Global) → k < length a → length a ≡ length b →
-    false ≡ value_included rooms others (get_or a k x).value (get_or b k y).value → values_included rooms others (held_by a) (held_by b) ≡ left_of rooms others a b k →
-    false ≡ values_included rooms others (held_by a) (held_by b)
-differs rooms others a b k x y h same found so_far =
-    sym (so_far ∙ one_test rooms others a b k x y h same ∙ ap (λ t. t && left_of rooms others a b (k + 1)) (sym found))
+-- the values at place k differ
+pub found : (rooms others : List Room) (a b : List (Rc AbsVal Global)) (k : ℕ) (x y : Rc AbsVal Global) → k < length a →
+    false ≡ value_included rooms others (get_or a k x).value (get_or b k y).value → length a ≡ length b → IsValueOutside rooms others (held_by a) (held_by b) k
+found rooms others a b k x y h differs same =
+    let inside : k < length (held_by a) = omega (arith, h, length_held a) in
+    let there : k < length (held_by b) = omega (arith, h, same, length_held b) in
+    record {
+      within = inside;
+      outside = ap (λ v. value_included rooms others v (get_or (held_by b) k abs.Unset)) (same_within (held_by a) k abs.Unset x.value inside ∙ sym (held-at a k x)) ∙
+          ap (λ v. value_included rooms others (get_or a k x).value v) (same_within (held_by b) k abs.Unset y.value there ∙ sym (held-at b k y)) ∙ sym differs;
+    }
 
 pub goes_on : (rooms others : List Room) (a b : List (Rc AbsVal Global)) (k : ℕ) (x y : Rc AbsVal Global) → k < length a → length a ≡ length b →
     true ≡ value_included rooms others (get_or a k x).value (get_or b k y).value → values_included rooms others (held_by a) (held_by b) ≡ left_of rooms others a b k →
@@ -107,9 +116,9 @@ goes_on rooms others a b k x y h same so so_far =
     so_far ∙ one_test rooms others a b k x y h same ∙ ap (λ t. t && left_of rooms others a b (k + 1)) (sym so)
 
 pub ends : (rooms others : List Room) (a b : List (Rc AbsVal Global)) (k : ℕ) → length a ≤ k → length a ≡ length b →
-    values_included rooms others (held_by a) (held_by b) ≡ left_of rooms others a b k → true ≡ values_included rooms others (held_by a) (held_by b)
+    values_included rooms others (held_by a) (held_by b) ≡ left_of rooms others a b k → values_included rooms others (held_by a) (held_by b) ≡ true
 ends rooms others a b k h same so_far =
-    sym (so_far ∙ past_end rooms others (held_by a) (held_by b) k (omega (arith, h, length_held a)) (length_held a ∙ same ∙ sym (length_held b)))
+    so_far ∙ past_end rooms others (held_by a) (held_by b) k (omega (arith, h, length_held a)) (length_held a ∙ same ∙ sym (length_held b))
 
 -- ---- what was read
 

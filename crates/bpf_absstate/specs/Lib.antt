@@ -7,3 +7,4 @@ pub mod Linked
 pub mod Fall
 pub mod Popped
 pub mod Laws
+pub mod Difference

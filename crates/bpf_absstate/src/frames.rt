@@ -1,10 +1,11 @@
 //! The call frames of a state: a chain behind shared pointers, the newest first in memory, the main function's first in
 //! definitions.
 
-ghost use Rattle.std.specs.Prelude.{◌≡◌, ◌<◌, ◌+◌, [], ◌∷◌, ◌++◌, length, map, slice_index_or, slice_set, take, OnOk, OnErr, IfOk};
+ghost use Rattle.std.specs.Prelude.{◌≡◌, ◌<◌, ◌+◌, [], ◌∷◌, ◌++◌, length, map, slice_index_or, slice_set, take, OnOk, OnErr, IfOk, IfSome, IfNone, true};
 ghost use Rattle.bpf_absval.specs.declared.slot.AbsSlot.TheVariants.{Unset};
 ghost use Rattle.bpf_absstate.specs.View.{main_frame, empty_stack, frame_unlabelled, with_frame_slot};
 ghost use Rattle.bpf_absstate.specs.Popped.{Popped};
+ghost use Rattle.bpf_absstate.specs.Difference.{part_outside, IsPlaceOutside};
 ghost use Rattle.bpf_absstate.specs.Inclusion.{frame_included, frames_included};
 
 use crate::registers::Kept;
@@ -22,6 +23,24 @@ pub struct CallFrame {
     /// What the caller has in R6 to R9; nothing for the main function.
     pub kept: Kept,
     pub stack: Stack,
+}
+
+/// A part of a call frame.
+#[derive(Clone, Copy)]
+pub enum Part {
+    /// Where the function returns to.
+    Return,
+    /// What the caller has in one of R6 to R9, the first being number 0.
+    Kept(u8),
+    /// A slot of the stack.
+    Slot(u8),
+}
+
+/// A part of the call frame of that number, the main function's being number 0.
+#[derive(Clone, Copy)]
+pub struct Place {
+    pub frame: u8,
+    pub part: Part,
 }
 
 /// What a frame keeps for its caller.
@@ -58,12 +77,45 @@ impl CallFrame {
         }
     }
 
-    fn is_included(&self, other: &CallFrame, rooms: &Rooms, others: &Rooms) -> bool
-        ensures is { result ≡ frame_included rooms.now others.now self.now other.now }
+    /// The first part that does not lie in the other's.
+    fn first_outside(&self, other: &CallFrame, rooms: &Rooms, others: &Rooms) -> Option<Part>
+        ensures none { IfNone result
+            (frame_included rooms.now others.now self.now other.now ≡ true) }
+        ensures some { IfSome result
+            (λ part. part_outside rooms.now others.now self.now other.now part ≡ true) }
     {
-        self.return_slot == other.return_slot
-            && self.kept.is_included(&other.kept, rooms, others)
-            && self.stack.is_included(&other.stack, rooms, others)
+        if self.return_slot != other.return_slot {
+            return Some(Part::Return);
+        }
+        if let Some(number) = self.kept.first_outside(&other.kept, rooms, others) {
+            return Some(Part::Kept(number as u8));
+        }
+        match self.stack.first_outside(&other.stack, rooms, others) {
+            Some(index) => Some(Part::Slot(index as u8)),
+            None => None,
+        }
+    }
+
+    /// Whether a part does not lie in the other's.
+    pub fn lies_outside(&self, other: &CallFrame, part: Part, rooms: &Rooms, others: &Rooms) -> bool
+        ensures is { result ≡ part_outside rooms.now others.now self.now other.now part }
+    {
+        match part {
+            Part::Return => self.return_slot != other.return_slot,
+            Part::Kept(number) => {
+                number < 4
+                    && !self
+                        .kept
+                        .lies_in(&other.kept, number as usize, rooms, others)
+            }
+            Part::Slot(index) => {
+                if index >= 64 {
+                    return false;
+                }
+                let slot = self.stack.get(index as usize);
+                !slot.is_included(&other.stack.get(index as usize), rooms, others)
+            }
+        }
     }
 
     /// The frame without a label.
@@ -230,23 +282,52 @@ impl Chain {
         }
     }
 
-    #[tactic(auto, using(crate::proofs::Chained::included_more, crate::proofs::Chained::none_included, crate::proofs::Chained::not_in_none), unfolding(crate::specs::Inclusion::frames_included))]
-    /// Whether there are as many frames, each in the other's of its number.
-    pub fn is_included(&self, other: &Chain, rooms: &Rooms, others: &Rooms) -> bool
-        ensures is { result ≡ frames_included rooms.now others.now self.now other.now }
+    /// The frame of that number, of so many.
+    #[tactic(auto, using(crate::proofs::Chained::get_before, crate::proofs::Chained::get_last, std::proofs::lemmas::List::length_push))]
+    pub fn frame(&self, count: usize, k: usize) -> &CallFrame
+        requires whole { count ≡ length self.now }
+        requires within { k < count }
+        ensures is { result.now ≡ slice_index_or self.now k main_frame }
     {
         match &self.link {
-            Link::End => match &other.link {
-                Link::End => true,
-                Link::More(_, _) => false,
-            },
+            Link::End => unreachable!(),
+            Link::More(frame, below) => {
+                if k + 1 == count {
+                    return frame;
+                }
+                below.frame(count - 1, k)
+            }
+        }
+    }
+
+    /// The newest place that does not lie in the other's, where both have so many frames.
+    #[tactic(auto, using(crate::proofs::Chained::included_more, crate::proofs::Chained::none_included, crate::proofs::Chained::not_in_none, crate::proofs::Chained::get_before, crate::proofs::Chained::get_last, std::proofs::lemmas::List::length_push), unfolding(crate::specs::Inclusion::frames_included))]
+    pub fn first_outside(
+        &self,
+        other: &Chain,
+        count: u8,
+        rooms: &Rooms,
+        others: &Rooms,
+    ) -> Option<Place>
+        requires whole { count ≡ length self.now }
+        requires same { count ≡ length other.now }
+        ensures none { IfNone result
+            (frames_included rooms.now others.now self.now other.now ≡ true) }
+        ensures some { IfSome result
+            (IsPlaceOutside rooms.now others.now self.now other.now) }
+    {
+        match &self.link {
+            Link::End => None,
             Link::More(frame, below) => match &other.link {
-                Link::End => false,
+                Link::End => None,
                 Link::More(other_frame, other_below) => {
-                    if !frame.is_included(other_frame, rooms, others) {
-                        return false;
+                    if let Some(part) = frame.first_outside(other_frame, rooms, others) {
+                        return Some(Place {
+                            frame: count - 1,
+                            part,
+                        });
                     }
-                    return below.is_included(other_below, rooms, others);
+                    return below.first_outside(other_below, count - 1, rooms, others);
                 }
             },
         }

@@ -1,7 +1,7 @@
 //! Abstract states of a program: what its registers and its call frames' stacks may hold.
 //!
-//! Main calls: `AbsState::entry`, `set_register`, `set_slot`, `call`, `is_included`. It stands on
-//! `bpf_stack`. Each change is its definition in `specs/View.antt`, and a refused growth changes
+//! Main calls: `AbsState::entry`, `set_register`, `set_slot`, `call`, `is_included`,
+//! `difference`, `differs_at`. It stands on `bpf_stack`. Each change is its definition in `specs/View.antt`, and a refused growth changes
 //! nothing. `specs/Contains.antt` says which states of the machine an abstract one contains.
 //! [`laws`] has what each change keeps, and that an included state's machine states are the
 //! including one's.
@@ -12,5 +12,5 @@ pub mod laws;
 pub mod registers;
 pub mod state;
 
-pub use frames::CallFrame;
-pub use state::AbsState;
+pub use frames::{CallFrame, Part, Place};
+pub use state::{AbsState, Difference};

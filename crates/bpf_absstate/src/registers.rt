@@ -1,8 +1,9 @@
 //! What registers may hold. Copies share each value until one of them writes it.
 
-ghost use Rattle.std.specs.Prelude.{◌≡◌, ◌+◌, ◌<◌, [], ◌∷◌, length, map, replicate, slice_get, slice_set, Some, OnOk, OnErr, IfOk};
+ghost use Rattle.std.specs.Prelude.{◌≡◌, ◌+◌, ◌<◌, [], ◌∷◌, length, map, replicate, slice_get, slice_set, Some, OnOk, OnErr, IfOk, IfSome, IfNone, true};
 ghost use Rattle.bpf_absval.specs.declared.value.AbsVal.TheVariants.{Unset};
 ghost use Rattle.bpf_absval.specs.Unlabelled.{unlabelled};
+ghost use Rattle.bpf_absstate.specs.Difference.{lies_in_at, IsValueOutside};
 ghost use Rattle.bpf_absstate.specs.Inclusion.{values_included};
 ghost use Rattle.bpf_absstate.specs.Shared.{held_by};
 ghost use Rattle.bpf_absstate.specs.View.{entry_registers, stack_end, main_frame, callee_registers, caller_registers, kept_of, without_arguments};
@@ -132,17 +133,20 @@ fn take_labels(values: &mut [Rc<AbsVal>], label: u16) -> Result<(), AllocError>
     Ok(())
 }
 
-/// Whether each value of `a` lies in that of `b` at the same place.
-fn are_included(a: &[Rc<AbsVal>], b: &[Rc<AbsVal>], rooms: &Rooms, others: &Rooms) -> bool
+/// The first place at which the value of `a` does not lie in that of `b`.
+fn first_outside(a: &[Rc<AbsVal>], b: &[Rc<AbsVal>], rooms: &Rooms, others: &Rooms) -> Option<usize>
     requires { length a.now ≡ length b.now }
-    ensures is { result ≡ values_included rooms.now others.now (held_by a.now) (held_by b.now) }
+    ensures none { IfNone result
+        (values_included rooms.now others.now (held_by a.now) (held_by b.now) ≡ true) }
+    ensures some { IfSome result
+        (IsValueOutside rooms.now others.now (held_by a.now) (held_by b.now)) }
 {
     for k in 0..a.len() {
         if !a[k].is_included(&b[k], rooms, others) {
-            return false;
+            return Some(k);
         }
     }
-    true
+    None
 }
 
 impl Values {
@@ -237,11 +241,22 @@ impl Values {
         Ok(())
     }
 
-    /// Whether each register lies in the other's.
-    fn is_included(&self, other: &Values, rooms: &Rooms, others: &Rooms) -> bool
-        ensures is { result ≡ values_included rooms.now others.now self.now other.now }
+    /// The first register that does not lie in the other's.
+    fn first_outside(&self, other: &Values, rooms: &Rooms, others: &Rooms) -> Option<usize>
+        ensures none { IfNone result
+            (values_included rooms.now others.now self.now other.now ≡ true) }
+        ensures some { IfSome result (IsValueOutside rooms.now others.now self.now other.now) }
+        ensures few { IfSome result (λ number. number < 11) }
     {
-        are_included(&self.values, &other.values, rooms, others)
+        first_outside(&self.values, &other.values, rooms, others)
+    }
+
+    /// Whether a register lies in the other's.
+    fn lies_in(&self, other: &Values, number: usize, rooms: &Rooms, others: &Rooms) -> bool
+        requires { number < 11 }
+        ensures is { result ≡ lies_in_at rooms.now others.now self.now other.now number }
+    {
+        self.values[number].is_included(&other.values[number], rooms, others)
     }
 
     /// What a caller keeps: R6 to R9.
@@ -329,11 +344,22 @@ impl Kept {
         Ok(Kept { values })
     }
 
-    /// Whether each value lies in the other's.
-    pub fn is_included(&self, other: &Kept, rooms: &Rooms, others: &Rooms) -> bool
-        ensures is { result ≡ values_included rooms.now others.now self.now other.now }
+    /// The first value that does not lie in the other's.
+    pub fn first_outside(&self, other: &Kept, rooms: &Rooms, others: &Rooms) -> Option<usize>
+        ensures none { IfNone result
+            (values_included rooms.now others.now self.now other.now ≡ true) }
+        ensures some { IfSome result (IsValueOutside rooms.now others.now self.now other.now) }
+        ensures few { IfSome result (λ number. number < 4) }
     {
-        are_included(&self.values, &other.values, rooms, others)
+        first_outside(&self.values, &other.values, rooms, others)
+    }
+
+    /// Whether one of the values lies in the other's.
+    pub fn lies_in(&self, other: &Kept, number: usize, rooms: &Rooms, others: &Rooms) -> bool
+        requires { number < 4 }
+        ensures is { result ≡ lies_in_at rooms.now others.now self.now other.now number }
+    {
+        self.values[number].is_included(&other.values[number], rooms, others)
     }
 }
 
@@ -414,10 +440,21 @@ impl Registers {
         Ok(Registers { shared })
     }
 
-    /// Whether each register lies in the other's.
-    pub fn is_included(&self, other: &Registers, rooms: &Rooms, others: &Rooms) -> bool
-        ensures is { result ≡ values_included rooms.now others.now self.now other.now }
+    /// The first register that does not lie in the other's.
+    pub fn first_outside(&self, other: &Registers, rooms: &Rooms, others: &Rooms) -> Option<usize>
+        ensures none { IfNone result
+            (values_included rooms.now others.now self.now other.now ≡ true) }
+        ensures some { IfSome result (IsValueOutside rooms.now others.now self.now other.now) }
+        ensures few { IfSome result (λ number. number < 11) }
     {
-        self.shared.is_included(&other.shared, rooms, others)
+        self.shared.first_outside(&other.shared, rooms, others)
+    }
+
+    /// Whether a register lies in the other's.
+    pub fn lies_in(&self, other: &Registers, number: usize, rooms: &Rooms, others: &Rooms) -> bool
+        requires { number < 11 }
+        ensures is { result ≡ lies_in_at rooms.now others.now self.now other.now number }
+    {
+        self.shared.lies_in(&other.shared, number, rooms, others)
     }
 }

@@ -1,13 +1,14 @@
 //! A state as contracts see it: plain lists. In memory, copies share what none of them has written.
 
-ghost use Rattle.std.specs.Prelude.{◌≡◌, ◌<◌, ◌≤◌, length, slice_index_or, OnOk, OnErr, IfOk};
+ghost use Rattle.std.specs.Prelude.{◌≡◌, ◌<◌, ◌≤◌, length, slice_index_or, OnOk, OnErr, IfOk, IfSome, IfNone, OnSome, true, false, not};
 ghost use Rattle.bpf_absval.specs.Rooms.{find_room};
 ghost use Rattle.bpf_absval.specs.declared.slot.AbsSlot.TheVariants.{Unset};
+ghost use Rattle.bpf_absstate.specs.Difference.{stand_together, lies_outside};
 ghost use Rattle.bpf_absstate.specs.Inclusion.{state_included};
 ghost use Rattle.bpf_absstate.specs.View.{entry_view, register, stack_of, at_slot, with_register, with_slot, with_least, with_room, without_label, without_arguments, called, returned};
 ghost use Rattle.bpf_absstate.specs.WellFormed.{IsView};
 
-use crate::frames::{CallFrame, Chain};
+use crate::frames::{CallFrame, Chain, Place};
 use crate::registers::{Kept, Registers};
 use bpf_absval::{AbsSlot, AbsVal, Rooms};
 use bpf_insn::Reg;
@@ -25,6 +26,17 @@ pub struct AbsState {
     least: u16,
     /// How many call frames there are.
     depth: usize,
+}
+
+/// Where one state does not lie in another.
+#[derive(Clone, Copy)]
+pub enum Difference {
+    /// They stand at two slots, have two depths, or less of the received frame is known.
+    Apart,
+    /// A register.
+    Register(u8),
+    /// A part of a call frame.
+    Frame(Place),
 }
 
 impl Model for AbsState {
@@ -257,16 +269,78 @@ impl AbsState {
         Ok(())
     }
 
+    /// Whether the states stand apart: at two slots, with two depths, or so that less of the received frame is known here.
+    fn stands_apart(&self, other: &AbsState) -> bool
+        ensures is { result ≡ not (stand_together self.now other.now) }
+    {
+        self.pc != other.pc || self.least < other.least || self.depth != other.depth
+    }
+
+    /// Where this state does not lie in the other, if it does not.
+    pub fn difference(&self, other: &AbsState) -> Option<Difference>
+        ensures none { IfNone result (state_included self.now other.now ≡ true) }
+        ensures some { IfSome result
+            (λ difference. lies_outside self.now other.now difference ≡ true) }
+        ensures outside { OnSome result (state_included self.now other.now ≡ false) }
+    {
+        if self.stands_apart(other) {
+            return Some(Difference::Apart);
+        }
+        let rooms = &self.rooms;
+        let others = &other.rooms;
+        if let Some(number) = self
+            .registers
+            .first_outside(&other.registers, rooms, others)
+        {
+            return Some(Difference::Register(number as u8));
+        }
+        let depth = self.depth as u8;
+        match self
+            .frames
+            .first_outside(&other.frames, depth, rooms, others)
+        {
+            Some(place) => Some(Difference::Frame(place)),
+            None => None,
+        }
+    }
+
+    /// Whether this state does not lie in the other there; then it is not included. Nothing else is compared.
+    pub fn differs_at(&self, other: &AbsState, difference: Difference) -> bool
+        ensures is { result ≡ lies_outside self.now other.now difference }
+        ensures outside { result ≡ true → state_included self.now other.now ≡ false }
+    {
+        let rooms = &self.rooms;
+        let others = &other.rooms;
+        match difference {
+            Difference::Apart => self.stands_apart(other),
+            Difference::Register(number) => {
+                let number = number as usize;
+                number < 11
+                    && !self
+                        .registers
+                        .lies_in(&other.registers, number, rooms, others)
+            }
+            Difference::Frame(place) => {
+                let k = place.frame as usize;
+                if k >= self.depth || k >= other.depth {
+                    return false;
+                }
+                let frame = self.frames.frame(self.depth, k);
+                frame.lies_outside(
+                    other.frames.frame(other.depth, k),
+                    place.part,
+                    rooms,
+                    others,
+                )
+            }
+        }
+    }
+
     /// Whether each state of this one is one of the other, as far as values tell: both stand at one slot with the same call
     /// chain, and each value lies in the other's.
     pub fn is_included(&self, other: &AbsState) -> bool
         ensures is { result ≡ state_included self.now other.now }
     {
-        let rooms = &self.rooms;
-        let others = &other.rooms;
-        self.pc == other.pc
-            && other.least <= self.least
-            && self.registers.is_included(&other.registers, rooms, others)
-            && self.frames.is_included(&other.frames, rooms, others)
+        self.difference(other).is_none()
     }
 }

@@ -2,8 +2,8 @@
 //!
 //! Main calls: `Finished::keep` and `Finished::covering`. It stands on `bpf_absstate`. At each slot
 //! the newest 64 are kept. `covering` answers the budget of the newest kept state in which the
-//! asked one lies. A refused growth changes nothing. That a kept budget is right is its caller's
-//! promise, not this crate's.
+//! asked one lies; each is compared first where an earlier one differed. A refused growth changes
+//! nothing. That a kept budget is right is its caller's promise, not this crate's.
 #![tactic(auto)]
 
 pub mod finished;

@@ -1,3 +1,4 @@
 mod Both
+pub mod Outside
 mod Sides
 pub mod Unsets

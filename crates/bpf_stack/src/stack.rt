@@ -1,9 +1,9 @@
 //! The stack of one call frame: 64 slots.
 
-ghost use Rattle.std.specs.Prelude.{◌≡◌, ◌<◌, map, slice_set, slice_get, OnOk, OnErr, replicate};
+ghost use Rattle.std.specs.Prelude.{◌≡◌, ◌<◌, map, slice_set, slice_get, OnOk, OnErr, IfSome, IfNone, replicate, true};
 ghost use Rattle.bpf_absval.specs.Unlabelled.{slot_unlabelled};
 ghost use Rattle.bpf_absval.specs.declared.slot.AbsSlot.TheVariants as cell;
-ghost use Rattle.bpf_stack.specs.Included.{slots_included};
+ghost use Rattle.bpf_stack.specs.Included.{slots_included, IsOutside};
 ghost use Rattle.bpf_stack.specs.Leaves.{IsStack};
 
 use crate::tree::Slots;
@@ -81,13 +81,24 @@ impl Stack {
         self.slots.set(alloc, 64, index, slot)
     }
 
+    /// The first place at which the slot of this stack, in a state with `rooms`, does not lie in the other's, in a state
+    /// with `others`.
+    pub fn first_outside(&self, other: &Stack, rooms: &Rooms, others: &Rooms) -> Option<usize>
+        ensures none { IfNone result
+            (slots_included rooms.now others.now self.now other.now ≡ true) }
+        ensures some { IfSome result (IsOutside rooms.now others.now self.now other.now) }
+        ensures few { IfSome result (λ index. index < 64) }
+    {
+        let _other = &other.slots;
+        self.slots.first_outside(&other.slots, 64, rooms, others)
+    }
+
     /// Whether each slot of this stack, in a state with `rooms`, lies in the other's at the same place, in a state with
     /// `others`.
     pub fn is_included(&self, other: &Stack, rooms: &Rooms, others: &Rooms) -> bool
         ensures { result ≡ slots_included rooms.now others.now self.now other.now }
     {
-        let _other = &other.slots;
-        self.slots.is_included(&other.slots, rooms, others)
+        self.first_outside(other, rooms, others).is_none()
     }
 
     /// Takes the label from each slot; what has none stays shared. Where memory is wanting the stack stays as it is.

@@ -1,12 +1,12 @@
 //! A row of slots as a binary tree, which copies share until one of them is written. Unset slots side by side take no
 //! memory.
 
-ghost use Rattle.std.specs.Prelude.{◌≡◌, ◌^◌, ◌<◌, ◌++◌, length, map, slice_set, slice_get, OnOk, OnErr, IfOk, replicate};
+ghost use Rattle.std.specs.Prelude.{◌≡◌, ◌^◌, ◌<◌, ◌++◌, length, map, slice_set, slice_get, OnOk, OnErr, IfOk, IfSome, IfNone, replicate, true};
 ghost use Rattle.std.specs.List.{list_any, list_all};
 ghost use Rattle.bpf_absval.specs.Unlabelled.{slot_unlabelled, slot_has_label};
 ghost use Rattle.bpf_absval.specs.Inclusion.{slot_included};
 ghost use Rattle.bpf_absval.specs.declared.slot.AbsSlot.TheVariants as cell;
-ghost use Rattle.bpf_stack.specs.Included.{slots_included};
+ghost use Rattle.bpf_stack.specs.Included.{slots_included, IsSet, IsOutside};
 ghost use Rattle.bpf_stack.specs.Leaves.{slots_of, IsEven};
 
 use bpf_absval::{AbsSlot, Rooms};
@@ -179,53 +179,93 @@ impl Slots {
         }
     }
 
-    /// Whether unset slots lie in this row.
-    fn admits_unset(&self, rooms: &Rooms, others: &Rooms) -> bool
-        ensures { result
-            ≡ list_all (slot_included rooms.now others.now cell.Unset) (slots_of self.now) }
+    /// The first place at which an unset slot does not lie in that of this row, of `count` slots.
+    fn first_set(&self, count: usize, rooms: &Rooms, others: &Rooms) -> Option<usize>
+        requires whole { count ≡ length (slots_of self.now) }
+        ensures none { IfNone result
+            (list_all (slot_included rooms.now others.now cell.Unset) (slots_of self.now) ≡ true) }
+        ensures some { IfSome result (IsSet rooms.now others.now (slots_of self.now)) }
     {
         match self {
-            Slots::Unset(_) => true,
-            Slots::Leaf(slot) => AbsSlot::Unset.is_included(slot, rooms, others),
+            Slots::Unset(_) => None,
+            Slots::Leaf(slot) => {
+                if AbsSlot::Unset.is_included(slot, rooms, others) {
+                    return None;
+                }
+                return Some(0);
+            }
             Slots::Fork(pair) => {
+                let half = count / 2;
                 let pair: &Pair = pair;
-                pair.left.admits_unset(rooms, others) && pair.right.admits_unset(rooms, others)
+                if let Some(index) = pair.left.first_set(half, rooms, others) {
+                    return Some(index);
+                }
+                match pair.right.first_set(half, rooms, others) {
+                    Some(index) => {
+                        return Some(half + index);
+                    }
+                    None => {
+                        return None;
+                    }
+                }
             }
         }
     }
 
-    /// Whether each slot of this row lies in the other's at the same place.
-    pub fn is_included(&self, other: &Slots, rooms: &Rooms, others: &Rooms) -> bool
-        requires { length (slots_of self.now) ≡ length (slots_of other.now) }
-        ensures { result
-            ≡ slots_included rooms.now others.now (slots_of self.now) (slots_of other.now) }
+    /// The first place at which the slot of this row, of `count` slots, does not lie in the other's.
+    pub fn first_outside(
+        &self,
+        other: &Slots,
+        count: usize,
+        rooms: &Rooms,
+        others: &Rooms,
+    ) -> Option<usize>
+        requires whole { count ≡ length (slots_of self.now) }
+        requires same { count ≡ length (slots_of other.now) }
+        ensures none { IfNone result
+            (slots_included rooms.now others.now (slots_of self.now) (slots_of other.now) ≡ true) }
+        ensures some { IfSome result
+            (IsOutside rooms.now others.now (slots_of self.now) (slots_of other.now)) }
     {
         match self {
-            Slots::Unset(_) => other.admits_unset(rooms, others),
+            Slots::Unset(_) => other.first_set(count, rooms, others),
             Slots::Leaf(a) => match other {
-                Slots::Unset(_) => true,
-                Slots::Leaf(b) => a.is_included(b, rooms, others),
+                Slots::Unset(_) => None,
+                Slots::Leaf(b) => {
+                    if a.is_included(b, rooms, others) {
+                        return None;
+                    }
+                    return Some(0);
+                }
                 // The rows of a fork have more than one slot.
                 Slots::Fork(b) => {
                     let b: &Pair = b;
                     let _half = &b.left;
-                    return false;
+                    return None;
                 }
             },
             Slots::Fork(a) => {
                 let a: &Pair = a;
                 match other {
-                    Slots::Unset(_) => true,
+                    Slots::Unset(_) => None,
                     Slots::Leaf(_) => {
                         let _half = &a.left;
-                        return false;
+                        return None;
                     }
                     Slots::Fork(b) => {
                         let b: &Pair = b;
-                        if !a.left.is_included(&b.left, rooms, others) {
-                            return false;
+                        let half = count / 2;
+                        if let Some(index) = a.left.first_outside(&b.left, half, rooms, others) {
+                            return Some(index);
                         }
-                        return a.right.is_included(&b.right, rooms, others);
+                        match a.right.first_outside(&b.right, half, rooms, others) {
+                            Some(index) => {
+                                return Some(half + index);
+                            }
+                            None => {
+                                return None;
+                            }
+                        }
                     }
                 }
             }
