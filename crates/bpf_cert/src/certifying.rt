@@ -1,7 +1,10 @@
 //! Certificates made: an admitted program is explored again, and what was found is written down.
 
-ghost use Rattle.std.specs.Prelude.{◌≡◌, ℕ, IfOk, IfErr};
+ghost use Rattle.std.specs.Prelude.{◌≡◌, ◌⊎◌, ℕ, IfOk, IfErr};
 ghost use Rattle.bpf_decode.specs.Program.{Begins};
+ghost use Rattle.bpf_absstate.specs.View.{entry_view};
+ghost use Rattle.bpf_plain.specs.Clear.{IsClear};
+ghost use Rattle.bpf_rules.specs.declared.fault.Fault.{Fault};
 ghost use Rattle.bpf_cert.specs.Certified.{Covered};
 
 use crate::checking::certified_budget;
@@ -15,7 +18,7 @@ use bpf_machine::Accepted;
 use bpf_plain::laws::standing_law;
 use bpf_prune::Entry as Finished;
 use bpf_regions::Hook;
-use bpf_verifier::{Fault, Refusal, explore};
+use bpf_verifier::{Fault, Refusal, StateLimit, explore_within};
 use std::alloc::{AllocError, Global};
 
 /// Adds the entries that describe these states.
@@ -103,14 +106,34 @@ fn proved(alloc: Global, program: &Program, hook: Hook, bytes: Vec<u8>) -> Resul
 /// stands for states that don't fit a certificate.
 pub fn certificate(alloc: Global, accepted: &Accepted) -> Result<Vec<u8>, Refusal>
     // Within some budget the bytes show that the program is safe.
-    ensures covered { IfOk result (λ bytes. (b : ℕ) × Covered accepted.now.code accepted.now.hook bytes.items b) }
+    ensures covered { IfOk result
+        (λ bytes. (b : ℕ) × Covered accepted.now.code accepted.now.hook bytes.items b) }
     ensures begins { IfErr result (λ e. Begins accepted.now.code.slots e.pc) }
+{
+    certificate_within(alloc, accepted, StateLimit::MOST)
+}
+
+/// The same, where at most so many states are examined: a program that has more of them is refused, as `verify_within`
+/// refuses it. One whose states, each counted once for every way to it, are no more than the limit and meet no fault is
+/// refused for memory alone, or at slot 0.
+pub fn certificate_within(
+    alloc: Global,
+    accepted: &Accepted,
+    limit: StateLimit,
+) -> Result<Vec<u8>, Refusal>
+    // Within some budget the bytes show that the program is safe.
+    ensures covered { IfOk result
+        (λ bytes. (b : ℕ) × Covered accepted.now.code accepted.now.hook bytes.items b) }
+    ensures begins { IfErr result (λ e. Begins accepted.now.code.slots e.pc) }
+    ensures clear { IfErr result
+        (λ e. IsClear accepted.now.code entry_view limit → (e.fault ≡ Fault.NoMemory)
+        ⊎ (e.pc ≡ 0)) }
 {
     let program = accepted.program();
     let hook = accepted.hook();
     program.whole();
     standing_law();
-    let finished = explore(alloc, program, hook)?;
+    let finished = explore_within(alloc, program, hook, limit)?;
     let entries = entries_of(alloc, program, &finished)?;
     match written(alloc, program, hook, entries) {
         Err(fault) => Err(unwritten(fault)),

@@ -158,7 +158,8 @@ fn shown_budget(
 fn accept(alloc: Global, program: Program, hook: Hook, budget: u32) -> Result<Accepted, AllocError>
     requires safe { Safe program.slots program.shapes budget }
     requires small { budget ≤ 2 ^ 22 }
-    ensures is { IfOk result (λ accepted. accepted ≡ record { code = program; hook = hook; budget = budget }) }
+    ensures is { IfOk result
+        (λ accepted. accepted ≡ record { code = program; hook = hook; budget = budget }) }
 {
     Accepted::new(alloc, program, hook, budget)
 }

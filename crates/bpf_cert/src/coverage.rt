@@ -42,7 +42,8 @@ pub(crate) fn begins(program: &Program, slot: usize) -> bool
 
 /// A way on to a state.
 fn arrive(program: &Program, claims: &Claims, state: AbsState, left: u32) -> Step
-    ensures is { Goes program.now claims.now left (Arrives program.now claims.now left state) result }
+    ensures is { Goes program.now claims.now left (Arrives program.now claims.now left state)
+        result }
 {
     if program.is_target(state.pc()) {
         return Step::Decided(claims.include(&state, left));
@@ -53,7 +54,8 @@ fn arrive(program: &Program, claims: &Claims, state: AbsState, left: u32) -> Ste
 /// The ways on from a state.
 fn follow(program: &Program, claims: &Claims, ways: Ways, left: u32) -> Step
     requires target { SecondIsTarget program.now ways }
-    ensures is { Goes program.now claims.now left (EachWay ways (Arrives program.now claims.now left)) result }
+    ensures is { Goes program.now claims.now left
+        (EachWay ways (Arrives program.now claims.now left)) result }
 {
     match ways {
         Ways::Nowhere => Step::Decided(true),
@@ -85,7 +87,9 @@ fn advance(
     state: &AbsState,
     left: u32,
 ) -> Result<Step, AllocError>
-    ensures is { IfOk result (Goes program.now claims.now left (LeadsWithin program.now claims.now (left + 1) state.now)) }
+    ensures is { IfOk result
+        (Goes program.now claims.now left
+        (LeadsWithin program.now claims.now (left + 1) state.now)) }
 {
     program.whole();
     if !begins(program, state.pc()) {
@@ -104,7 +108,8 @@ pub(crate) fn leads(
     claims: &Claims,
     claim: &Claim,
 ) -> Result<bool, AllocError>
-    ensures is { IfOk result (λ told. Tells told (LeadsWithin program.now claims.now claim.now.budget claim.now.state)) }
+    ensures is { IfOk result
+        (λ told. Tells told (LeadsWithin program.now claims.now claim.now.budget claim.now.state)) }
 {
     let mut state = claim.state.clone()?;
     let mut left = claim.budget;
@@ -143,7 +148,8 @@ fn lesser(best: Option<u32>, budget: u32) -> u32
 /// The least budget of the claims that include the start.
 fn start_budget(claims: &[Claim], start: &AbsState) -> Option<u32>
     requires start { start.now ≡ entry_view }
-    ensures is { MatchOption result (All (λ e. Includes e entry_view → ⊥) claims.now) (BeginsWithin claims.now) }
+    ensures is { MatchOption result (All (λ e. Includes e entry_view → ⊥) claims.now)
+        (BeginsWithin claims.now) }
 {
     let mut best = None;
     for claim in claims {
@@ -160,7 +166,9 @@ pub fn covered_budget(
     program: &Program,
     claims: &Claims,
 ) -> Result<Option<u32>, AllocError>
-    ensures is { IfOk result (λ o. MatchOption o ((b : ℕ) → AreCovered program.now claims.now b → ⊥) (AreCovered program.now claims.now)) }
+    ensures is { IfOk result
+        (λ o. MatchOption o ((b : ℕ) → AreCovered program.now claims.now b → ⊥)
+        (AreCovered program.now claims.now)) }
 {
     let start = AbsState::entry(alloc)?;
     if !are_kept(alloc, program, claims)? {

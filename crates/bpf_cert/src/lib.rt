@@ -18,7 +18,7 @@ pub mod laws;
 mod sifting;
 mod widening;
 
-pub use certifying::certificate;
+pub use certifying::{certificate, certificate_within};
 pub use checking::check;
 pub use claim::Claim;
 pub use claims::Claims;

@@ -80,6 +80,7 @@ are_signed_ordered p = nat_le (signed_place p.0) (signed_place p.1)
 abbrev pub number_of : ((ℕ × ℕ) × ((ℕ × ℕ) × (ℕ × ℕ))) → Num
 number_of p = num_of (bounds p.0.0 p.0.1) (bounds (signed_place p.1.1.0) (signed_place p.1.1.1)) (tnum_of p.1.0.0 p.1.0.1)
 
+-- an abstract number: its unsigned bounds in order, its known bits apart from the unknown ones, its signed bounds in order
 unfoldable pub number_at : Reader Num
 number_at =
     read_as number_of (chained (only_if are_ordered pair_at) (λ _. chained (only_if are_apart pair_at) (λ _. only_if are_signed_ordered pair_at)))
@@ -92,6 +93,7 @@ is_label p = (if p.0 == 0 then p.1 == 0 else nat_le p.1 2400)
 abbrev pub label_of : ℕ × ℕ → Option Label
 label_of p = (if p.0 == 0 then None else Some (record { label = p.0; distance = p.1 }))
 
+-- a label and its distance, or no label
 unfoldable pub label_at : Reader (Option Label)
 label_at = read_as label_of (only_if is_label (chained (word_at w16) (λ _. word_at w16)))
 
@@ -119,6 +121,7 @@ pointer_into maps frames b bytes =
     (if b == 0 then frame_pointer_at bytes
     else (region_named maps frames b >>= λ region. read_as (abs.Pointer region) number_at bytes))
 
+-- the rest of a value whose kind is told by that byte: unset, a number, a pointer, the frame's end, a map, a lookup
 unfoldable pub value_tagged : ℕ → ℕ → ℕ → Reader AbsVal
 value_tagged maps frames tag bytes =
     (if tag == 0 then Some (abs.Unset, bytes)
@@ -129,9 +132,11 @@ value_tagged maps frames tag bytes =
     else (if tag == 5 then read_as abs.Lookup (map_at maps) bytes
     else None))))))
 
+-- a value: a byte for its kind, and the rest
 unfoldable pub value_at : ℕ → ℕ → Reader AbsVal
 value_at maps frames bytes = byte_at bytes >>= λ t. value_tagged maps frames t.0 t.1
 
+-- a slot of a stack: unset, bytes that are set, or a stored value
 unfoldable pub cell_at : ℕ → ℕ → Reader AbsSlot
 cell_at maps frames bytes =
     byte_at bytes >>= λ t.
@@ -141,6 +146,7 @@ cell_at maps frames bytes =
 
 -- ---- frames, rooms, entries
 
+-- a frame of the stack: where it returns to, its ten registers, its 64 slots
 unfoldable pub frame_at : ℕ → ℕ → Reader Frame
 frame_at maps count =
     read_as (λ p. record { return_slot = p.0; registers = p.1.0; stack = p.1.1 })
@@ -155,17 +161,21 @@ abbrev pub is_main_first : List Frame → Bool
 is_main_first [] = false
 is_main_first (f ∷ fs) = f.return_slot == 0
 
+-- how many frames there are, and each of them, the main function's first
 unfoldable pub frames_at : ℕ → Reader (List Frame)
 frames_at maps =
     only_if is_main_first (read_as (λ p. p.1) (chained (only_if is_count byte_at) (λ n. many (frame_at maps n) n)))
 
+-- a label, and how many bytes are known behind its place
 unfoldable pub room_at : Reader Room
 room_at = read_as (λ p. record { label = p.0; size = p.1 }) (chained (word_at w16) (λ _. word_at w16))
 
+-- the labels are above that one and rise, and no room passes 2400 bytes
 unfoldable pub are_rising : ℕ → List Room → Bool
 are_rising above [] = true
 are_rising above (r ∷ rs) = nat_lt above r.label && nat_le r.size 2400 && are_rising r.label rs
 
+-- how many rooms there are, and each of them, by rising labels
 unfoldable pub rooms_at : Reader (List Room)
 rooms_at = only_if (are_rising 0) (read_as (λ p. p.1) (chained (word_at w16) (λ n. many room_at n)))
 
@@ -173,6 +183,7 @@ rooms_at = only_if (are_rising 0) (read_as (λ p. p.1) (chained (word_at w16) (�
 abbrev pub entry_of : ℕ × (ℕ × (ℕ × (List Room × List Frame))) → EntryView
 entry_of p = record { pc = p.0; budget = p.1.0; least = p.1.1.0; rooms = p.1.1.1.0; frames = p.1.1.1.1 }
 
+-- an entry: its slot, its budget, the least length of the received frame, the rooms, the frames of the stack
 unfoldable pub entry_at : ℕ → Reader EntryView
 entry_at maps =
     read_as entry_of
@@ -180,6 +191,7 @@ entry_at maps =
 
 -- ---- the whole
 
+-- the four bytes with which each certificate begins
 unfoldable pub magic_at : Reader ℕ
 magic_at = only_if (λ n. n == 843272257) (word_at w32)
 
@@ -188,12 +200,15 @@ abbrev pub hook_named : ℕ → Option Hook
 hook_named b =
     (if b == 1 then Some Association else (if b == 2 then Some Addba else (if b == 3 then Some Data else None)))
 
+-- the hook
 unfoldable pub hook_at : Reader Hook
 hook_at bytes = byte_at bytes >>= λ b. hook_named b.0 >>= λ hook. Some (hook, b.1)
 
+-- how many slots the code has, and its bytes
 unfoldable pub code_at : Reader (List ℕ)
 code_at = read_as (λ p. p.1) (chained (word_at w16) (λ n. taken (8 * n)))
 
+-- how many entries there are, and each of them
 unfoldable pub entries_at : ℕ → Reader (List EntryView)
 entries_at maps = read_as (λ p. p.1) (chained (word_at w32) (λ n. many (entry_at maps) n))
 
@@ -201,6 +216,7 @@ entries_at maps = read_as (λ p. p.1) (chained (word_at w32) (λ n. many (entry_
 abbrev pub certificate_of : ℕ × (Hook × (List ℕ × List EntryView)) → CertificateView
 certificate_of p = record { hook = p.1.0; code = p.1.1.0; entries = p.1.1.1 }
 
+-- a certificate: how it begins, its hook, its code, its entries
 unfoldable pub certificate_at : ℕ → Reader CertificateView
 certificate_at maps =
     read_as certificate_of (chained magic_at (λ _. chained hook_at (λ _. chained code_at (λ _. entries_at maps))))

@@ -29,7 +29,13 @@ impl Entry {
     /// An entry from its parts: the slot, the budget, the known least length of the received frame, what is known to lie
     /// behind labels, and the call frames, the main function's first.
     pub fn new(pc: u16, budget: u32, least: u16, rooms: Vec<Room>, frames: Vec<Frame>) -> Entry
-        ensures is { result ≡ record { pc = pc; budget = budget; least = least; rooms = rooms.items; frames = frames.items } }
+        ensures is { result ≡ record {
+          pc = pc;
+          budget = budget;
+          least = least;
+          rooms = rooms.items;
+          frames = frames.items;
+        } }
     {
         Entry {
             pc,

@@ -87,7 +87,8 @@ fn pair_at(bytes: &[u8]) -> Result<((u64, u64), &[u8]), ReadFault>
 
 /// The words between two that are read as signed, if they are in order.
 fn signed_between(low: u64, high: u64) -> Option<SignedInterval>
-    ensures is { result ≡ (if nat_le (place low) (place high) then Some (bounds (place low) (place high)) else None) }
+    ensures is { result ≡ (if nat_le (place low) (place high) then Some
+        (bounds (place low) (place high)) else None) }
 {
     place_law();
     let low = low.cast_signed();

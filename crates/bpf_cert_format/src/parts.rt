@@ -110,7 +110,8 @@ fn frame_list_at(
 ) -> Result<(Vec<Frame>, &[u8]), ReadFault>
     requires few_maps { maps ≤ 16 }
     requires few_frames { frames ≤ 8 }
-    ensures is { Gives (λ x. (x.0.items, x.1.now)) result (many (reads_frame maps frames) frames bytes.now) }
+    ensures is { Gives (λ x. (x.0.items, x.1.now)) result
+        (many (reads_frame maps frames) frames bytes.now) }
 {
     let mut list = Vec::new(alloc);
     let mut rest = bytes;
@@ -232,7 +233,8 @@ pub(crate) fn entry_list_at(
     bytes: &[u8],
 ) -> Result<(Vec<Entry>, &[u8]), ReadFault>
     requires few_maps { maps ≤ 16 }
-    ensures is { Gives (λ x. (x.0.items, x.1.now)) result (many (reads_entry maps) count bytes.now) }
+    ensures is { Gives (λ x. (x.0.items, x.1.now)) result
+        (many (reads_entry maps) count bytes.now) }
 {
     let mut list = Vec::new(alloc);
     let mut rest = bytes;

@@ -47,7 +47,8 @@ fn put_u32(out: &mut Vec<u8>, number: u32) -> Result<(), AllocError>
 
 /// Two numbers of 64 bits.
 fn put_pair(out: &mut Vec<u8>, first: u64, second: u64) -> Result<(), AllocError>
-    ensures is { OnOk result (out.new.items ≡ out.old.items ++ (to_le_bytes w64 first ++ to_le_bytes w64 second)) }
+    ensures is { OnOk result
+        (out.new.items ≡ out.old.items ++ (to_le_bytes w64 first ++ to_le_bytes w64 second)) }
 {
     out.extend_from_slice(&first.to_le_bytes())?;
     out.extend_from_slice(&second.to_le_bytes())?;
@@ -55,21 +56,27 @@ fn put_pair(out: &mut Vec<u8>, first: u64, second: u64) -> Result<(), AllocError
 }
 
 fn put_range(out: &mut Vec<u8>, range: Interval) -> Result<(), AllocError>
-    ensures is { OnOk result (out.new.items ≡ out.old.items ++ (to_le_bytes w64 range.low ++ to_le_bytes w64 range.high)) }
+    ensures is { OnOk result
+        (out.new.items ≡ out.old.items ++
+        (to_le_bytes w64 range.low ++ to_le_bytes w64 range.high)) }
 {
     put_pair(out, range.low(), range.high())?;
     Ok(())
 }
 
 fn put_bits(out: &mut Vec<u8>, bits: Tnum) -> Result<(), AllocError>
-    ensures is { OnOk result (out.new.items ≡ out.old.items ++ (to_le_bytes w64 bits.value ++ to_le_bytes w64 bits.mask)) }
+    ensures is { OnOk result
+        (out.new.items ≡ out.old.items ++
+        (to_le_bytes w64 bits.value ++ to_le_bytes w64 bits.mask)) }
 {
     put_pair(out, bits.value(), bits.mask())?;
     Ok(())
 }
 
 fn put_signed(out: &mut Vec<u8>, signed: SignedInterval) -> Result<(), AllocError>
-    ensures is { OnOk result (out.new.items ≡ out.old.items ++ (to_le_bytes w64 (word_at signed.low) ++ to_le_bytes w64 (word_at signed.high))) }
+    ensures is { OnOk result
+        (out.new.items ≡ out.old.items ++
+        (to_le_bytes w64 (word_at signed.low) ++ to_le_bytes w64 (word_at signed.high))) }
 {
     let (low, high) = words_of(signed);
     put_pair(out, low, high)?;
@@ -115,7 +122,8 @@ fn byte_of(number: u32) -> Result<u8, WriteFault>
 /// The byte of a region other than the frame.
 fn region_byte(region: AbsRegion) -> Result<u8, WriteFault>
     ensures is { IfOk result (λ byte. byte ≡ region_number region) }
-    ensures fitting { (maps count : ℕ) → maps ≤ 224 → count ≤ 8 → FitsRegion maps count region → IsOk result }
+    ensures fitting { (maps count : ℕ) → maps ≤ 224 → count ≤ 8 → FitsRegion maps count region →
+        IsOk result }
 {
     match region {
         AbsRegion::Context => Ok(1),
@@ -131,7 +139,8 @@ fn region_byte(region: AbsRegion) -> Result<u8, WriteFault>
 
 /// A number and a label.
 fn put_place(out: &mut Vec<u8>, offset: AbsNum, label: Option<Label>) -> Result<(), AllocError>
-    ensures is { OnOk result (out.new.items ≡ out.old.items ++ (number_bytes offset ++ label_bytes label)) }
+    ensures is { OnOk result
+        (out.new.items ≡ out.old.items ++ (number_bytes offset ++ label_bytes label)) }
 {
     put_number(out, offset)?;
     put_label(out, label)?;
@@ -159,7 +168,8 @@ fn put_tagged(out: &mut Vec<u8>, tag: u8, number: u32) -> Result<(), WriteFault>
 
 fn put_value(out: &mut Vec<u8>, value: AbsVal) -> Result<(), WriteFault>
     ensures is { OnOk result (out.new.items ≡ out.old.items ++ value_bytes value) }
-    ensures fitting { (maps count : ℕ) → maps ≤ 224 → count ≤ 8 → FitsValue maps count value → RefusedForMemoryAlone result }
+    ensures fitting { (maps count : ℕ) → maps ≤ 224 → count ≤ 8 → FitsValue maps count value →
+        RefusedForMemoryAlone result }
 {
     match value {
         AbsVal::Unset => out.push(0)?,
@@ -185,7 +195,8 @@ fn put_value(out: &mut Vec<u8>, value: AbsVal) -> Result<(), WriteFault>
 
 fn put_cell(out: &mut Vec<u8>, cell: AbsSlot) -> Result<(), WriteFault>
     ensures is { OnOk result (out.new.items ≡ out.old.items ++ cell_bytes cell) }
-    ensures fitting { (maps count : ℕ) → maps ≤ 224 → count ≤ 8 → FitsCell maps count cell → RefusedForMemoryAlone result }
+    ensures fitting { (maps count : ℕ) → maps ≤ 224 → count ≤ 8 → FitsCell maps count cell →
+        RefusedForMemoryAlone result }
 {
     match cell {
         AbsSlot::Unset => out.push(0)?,
@@ -197,7 +208,8 @@ fn put_cell(out: &mut Vec<u8>, cell: AbsSlot) -> Result<(), WriteFault>
 
 fn put_values(out: &mut Vec<u8>, values: &[AbsVal]) -> Result<(), WriteFault>
     ensures is { OnOk result (out.new.items ≡ out.old.items ++ flat_map value_bytes values.now) }
-    ensures fitting { (maps count : ℕ) → maps ≤ 224 → count ≤ 8 → AllByRecursion (FitsValue maps count) values.now → RefusedForMemoryAlone result }
+    ensures fitting { (maps count : ℕ) → maps ≤ 224 → count ≤ 8 →
+        AllByRecursion (FitsValue maps count) values.now → RefusedForMemoryAlone result }
 {
     for value in values {
         put_value(out, *value)?;
@@ -207,7 +219,8 @@ fn put_values(out: &mut Vec<u8>, values: &[AbsVal]) -> Result<(), WriteFault>
 
 fn put_stack(out: &mut Vec<u8>, stack: &Stack) -> Result<(), WriteFault>
     ensures is { OnOk result (out.new.items ≡ out.old.items ++ flat_map cell_bytes stack.now) }
-    ensures fitting { (maps count : ℕ) → maps ≤ 224 → count ≤ 8 → AllByRecursion (FitsCell maps count) stack.now → RefusedForMemoryAlone result }
+    ensures fitting { (maps count : ℕ) → maps ≤ 224 → count ≤ 8 →
+        AllByRecursion (FitsCell maps count) stack.now → RefusedForMemoryAlone result }
 {
     stack.whole();
     for index in 0..64 {
@@ -218,7 +231,8 @@ fn put_stack(out: &mut Vec<u8>, stack: &Stack) -> Result<(), WriteFault>
 
 fn put_frame(out: &mut Vec<u8>, frame: &Frame) -> Result<(), WriteFault>
     ensures is { OnOk result (out.new.items ≡ out.old.items ++ frame_bytes frame.now) }
-    ensures fitting { (maps count : ℕ) → maps ≤ 224 → count ≤ 8 → FitsFrame maps count frame.now → RefusedForMemoryAlone result }
+    ensures fitting { (maps count : ℕ) → maps ≤ 224 → count ≤ 8 → FitsFrame maps count frame.now →
+        RefusedForMemoryAlone result }
 {
     put_u16(out, frame.return_slot)?;
     put_values(out, frame.registers.as_slice())?;
@@ -228,7 +242,8 @@ fn put_frame(out: &mut Vec<u8>, frame: &Frame) -> Result<(), WriteFault>
 
 fn put_frame_list(out: &mut Vec<u8>, frames: &[Frame]) -> Result<(), WriteFault>
     ensures is { OnOk result (out.new.items ≡ out.old.items ++ flat_map frame_bytes frames.now) }
-    ensures fitting { (maps count : ℕ) → maps ≤ 224 → count ≤ 8 → AllByRecursion (FitsFrame maps count) frames.now → RefusedForMemoryAlone result }
+    ensures fitting { (maps count : ℕ) → maps ≤ 224 → count ≤ 8 →
+        AllByRecursion (FitsFrame maps count) frames.now → RefusedForMemoryAlone result }
 {
     for frame in frames {
         put_frame(out, frame)?;
@@ -238,7 +253,8 @@ fn put_frame_list(out: &mut Vec<u8>, frames: &[Frame]) -> Result<(), WriteFault>
 
 fn put_frames(out: &mut Vec<u8>, frames: &[Frame]) -> Result<(), WriteFault>
     ensures is { OnOk result (out.new.items ≡ out.old.items ++ frames_bytes frames.now) }
-    ensures fitting { (maps count : ℕ) → maps ≤ 224 → count ≤ 8 → length frames.now ≤ count → AllByRecursion (FitsFrame maps count) frames.now → RefusedForMemoryAlone result }
+    ensures fitting { (maps count : ℕ) → maps ≤ 224 → count ≤ 8 → length frames.now ≤ count →
+        AllByRecursion (FitsFrame maps count) frames.now → RefusedForMemoryAlone result }
 {
     if frames.len() > 255 {
         return Err(WriteFault::TooLarge);
@@ -272,7 +288,8 @@ fn put_rooms(out: &mut Vec<u8>, rooms: &[Room]) -> Result<(), WriteFault>
 
 fn put_entry(out: &mut Vec<u8>, entry: &Entry) -> Result<(), WriteFault>
     ensures is { OnOk result (out.new.items ≡ out.old.items ++ entry_bytes entry.now) }
-    ensures fitting { (maps : ℕ) → maps ≤ 224 → FitsEntry maps entry.now → RefusedForMemoryAlone result }
+    ensures fitting { (maps : ℕ) → maps ≤ 224 → FitsEntry maps entry.now →
+        RefusedForMemoryAlone result }
 {
     put_u16(out, entry.pc())?;
     put_u32(out, entry.budget())?;
@@ -284,7 +301,8 @@ fn put_entry(out: &mut Vec<u8>, entry: &Entry) -> Result<(), WriteFault>
 
 fn put_entry_list(out: &mut Vec<u8>, entries: &[Entry]) -> Result<(), WriteFault>
     ensures is { OnOk result (out.new.items ≡ out.old.items ++ flat_map entry_bytes entries.now) }
-    ensures fitting { (maps : ℕ) → maps ≤ 224 → AllByRecursion (FitsEntry maps) entries.now → RefusedForMemoryAlone result }
+    ensures fitting { (maps : ℕ) → maps ≤ 224 → AllByRecursion (FitsEntry maps) entries.now →
+        RefusedForMemoryAlone result }
 {
     for entry in entries {
         put_entry(out, entry)?;
@@ -294,7 +312,8 @@ fn put_entry_list(out: &mut Vec<u8>, entries: &[Entry]) -> Result<(), WriteFault
 
 fn put_entries(out: &mut Vec<u8>, entries: &[Entry]) -> Result<(), WriteFault>
     ensures is { OnOk result (out.new.items ≡ out.old.items ++ entries_bytes entries.now) }
-    ensures fitting { (maps : ℕ) → maps ≤ 224 → length entries.now < 2 ^ 32 → AllByRecursion (FitsEntry maps) entries.now → RefusedForMemoryAlone result }
+    ensures fitting { (maps : ℕ) → maps ≤ 224 → length entries.now < 2 ^ 32 →
+        AllByRecursion (FitsEntry maps) entries.now → RefusedForMemoryAlone result }
 {
     if entries.len() > 4294967295 {
         return Err(WriteFault::TooLarge);
@@ -325,7 +344,8 @@ pub fn write(alloc: Global, certificate: &Certificate) -> Result<Vec<u8>, WriteF
     ensures spelled { IfOk result (λ v. v.items ≡ spelling certificate.now) }
     // A certificate that fits is refused for nothing but memory. The byte of a map's region is 32 and the map's number, so
     // there are at most 224 maps.
-    ensures fitting { (maps : ℕ) → maps ≤ 224 → FitsCertificate maps certificate.now → RefusedForMemoryAlone result }
+    ensures fitting { (maps : ℕ) → maps ≤ 224 → FitsCertificate maps certificate.now →
+        RefusedForMemoryAlone result }
 {
     let mut out = Vec::new(alloc);
     out.extend_from_slice(b"APC2")?;

@@ -2,6 +2,7 @@ pub mod Clear
 pub mod Counting
 pub mod Found
 pub mod Laws
+pub mod Limits
 pub mod Path
 pub mod Refusals
 pub mod Safety

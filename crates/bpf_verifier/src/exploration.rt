@@ -16,6 +16,7 @@ ghost use Rattle.bpf_verifier.specs.Safety.{AllSafe};
 ghost use Rattle.bpf_plain.specs.Walks.{IsPlain, HasWalk};
 
 use crate::laws::examination_law;
+use crate::limit::StateLimit;
 use crate::observer::Observer;
 use crate::refusal::Refusal;
 use bpf_absstate::AbsState;
@@ -27,9 +28,6 @@ use bpf_plain::laws::{standing_law, walking_law};
 use bpf_prune::{Entry, Finished};
 use bpf_rules::{Fault, Ways};
 use std::alloc::{AllocError, Global};
-
-/// How many states are examined at most.
-const VISITS: u32 = 4194304;
 
 /// A state some of whose ways are being explored: one that stands at a target slot, or has two ways.
 #[derive(Drop)]
@@ -109,7 +107,9 @@ impl Exploration {
         pending: Option<AbsState>,
         best: u32,
     ) -> Result<(), AllocError>
-        ensures path { OnOk result (self.new.path.items ≡ self.old.path.items ++ (record { before = before; state = state; pending = pending; best = best }) ∷ []) }
+        ensures path { OnOk result
+            (self.new.path.items ≡ self.old.path.items ++
+            (record { before = before; state = state; pending = pending; best = best }) ∷ []) }
         ensures after { OnOk result (self.new.after ≡ 0) }
         ensures finished { self.new.finished ≡ self.old.finished }
         ensures visits { self.new.visits ≡ self.old.visits }
@@ -145,10 +145,18 @@ impl Exploration {
         ensures visits { IfOk result (λ u. self.new.visits ≡ self.old.visits) }
         ensures counted { IfOk result (λ u. IsCountedSoFar self.new) }
         ensures paid { IfOk result (IsPaidSoFar self.new) }
-        ensures begun { IfOk result (λ u. (slots : List (Option Insn)) → IsBegunSoFar slots self.old → IsBegunSoFar slots self.new × IsBegun slots u) }
-        ensures safe { IfOk result (λ u. (p : Setting) (start a : View) → IsSafeSoFar p start a self.old → AllSafe p done a → IsSafeAfter p start self.new u) }
-        ensures walked { IfOk result (λ u. (slots : List (Option Insn)) (start a : View) → IsWalkedSoFar slots start a self.old → Reaches slots a.pc done → IsWalkedAfter slots start self.new u) }
-        ensures clear { IfOk result (λ u. (c : Code) (n : ℕ) → IsClearSoFar c n self.old → IsClearAfter c n self.new u) }
+        ensures begun { IfOk result
+            (λ u. (slots : List (Option Insn)) → IsBegunSoFar slots self.old →
+            IsBegunSoFar slots self.new × IsBegun slots u) }
+        ensures safe { IfOk result
+            (λ u. (p : Setting) (start a : View) → IsSafeSoFar p start a self.old →
+            AllSafe p done a → IsSafeAfter p start self.new u) }
+        ensures walked { IfOk result
+            (λ u. (slots : List (Option Insn)) (start a : View) →
+            IsWalkedSoFar slots start a self.old → Reaches slots a.pc done →
+            IsWalkedAfter slots start self.new u) }
+        ensures clear { IfOk result
+            (λ u. (c : Code) (n : ℕ) → IsClearSoFar c n self.old → IsClearAfter c n self.new u) }
     {
         let mut done = done;
         while let Some(frame) = self.path.pop() {
@@ -177,18 +185,28 @@ impl Exploration {
     /// Examines a state, unless a finished one covers it. Its first way is explored next; where there is none it is
     /// done.
     fn visit(&mut self, alloc: Global, program: &Program, state: AbsState) -> Result<Unwound, Fault>
-        requires room { self.old.visits < VISITS }
+        requires room { self.old.visits < 2 ^ 22 }
         requires counted { IsCountedSoFar self.old }
         requires paid { weight self.old.path.items self.old.after ≤ self.old.visits }
         requires stands { StandsIn program.now.slots state }
         ensures visits { IfOk result (λ u. self.new.visits ≡ self.old.visits + 1) }
         ensures counted { IfOk result (λ u. IsCountedSoFar self.new) }
         ensures paid { IfOk result (IsPaidSoFar self.new) }
-        ensures begun { IfOk result (λ u. IsBegunSoFar program.now.slots self.old → IsBegunSoFar program.now.slots self.new × IsBegun program.now.slots u) }
-        ensures safe { IfOk result (λ u. (p : Setting) (start : View) → IsSetting program.now p → IsSafeSoFar p start state self.old → IsSafeAfter p start self.new u) }
-        ensures walked { IfOk result (λ u. (start : View) → IsPlain program.now.slots → IsWalkedSoFar program.now.slots start state self.old → IsWalkedAfter program.now.slots start self.new u) }
-        ensures clear { IfOk result (λ u. (l m n : ℕ) → IsClear program.now state l → IsClearSoFar program.now m self.old → l + m ≤ n + 1 → IsClearAfter program.now n self.new u) }
-        ensures refuses { IfErr result (λ e. (n : ℕ) → IsClear program.now state n → e ≡ Fault.NoMemory) }
+        ensures begun { IfOk result
+            (λ u. IsBegunSoFar program.now.slots self.old → IsBegunSoFar program.now.slots self.new
+            × IsBegun program.now.slots u) }
+        ensures safe { IfOk result
+            (λ u. (p : Setting) (start : View) → IsSetting program.now p →
+            IsSafeSoFar p start state self.old → IsSafeAfter p start self.new u) }
+        ensures walked { IfOk result
+            (λ u. (start : View) → IsPlain program.now.slots →
+            IsWalkedSoFar program.now.slots start state self.old →
+            IsWalkedAfter program.now.slots start self.new u) }
+        ensures clear { IfOk result
+            (λ u. (l m n : ℕ) → IsClear program.now state l → IsClearSoFar program.now m self.old →
+            l + m ≤ n + 1 → IsClearAfter program.now n self.new u) }
+        ensures refuses { IfErr result
+            (λ e. (n : ℕ) → IsClear program.now state n → e ≡ Fault.NoMemory) }
     {
         program.whole();
         examination_law();
@@ -227,17 +245,21 @@ impl Exploration {
     }
 }
 
-/// Explores each path of a program, and answers a budget within which it is safe. The exploration tells its observer.
+/// Explores each path of a program, of so many states at most, and answers a budget within which it is safe. The
+/// exploration tells its observer.
 pub(crate) fn observed_budget(
     alloc: Global,
     program: &Program,
     exploration: &mut Exploration,
+    limit: StateLimit,
 ) -> Result<u32, Refusal>
     requires fresh { IsFresh program.now exploration.old }
     ensures safe { IfOk result (Safe program.now.slots program.now.shapes) }
-    ensures small { IfOk result (λ budget. budget ≤ 2 ^ 22) }
-    ensures walk { IfOk result (λ budget. IsPlain program.now.slots → HasWalk program.now.slots budget) }
-    ensures clear { IfErr result (λ e. IsClear program.now entry_view (2 ^ 22) → e.fault ≡ Fault.NoMemory) }
+    ensures small { IfOk result (λ budget. budget ≤ limit) }
+    ensures walk { IfOk result
+        (λ budget. IsPlain program.now.slots → HasWalk program.now.slots budget) }
+    ensures clear { IfErr result
+        (λ e. IsClear program.now entry_view limit → e.fault ≡ Fault.NoMemory) }
     ensures begins { IfErr result (λ e. Begins program.now.slots e.pc) }
 {
     program.whole();
@@ -246,8 +268,9 @@ pub(crate) fn observed_budget(
     standing_law();
     walking_law();
     within_law();
+    let most = limit.states();
     let mut current = AbsState::entry(alloc)?;
-    'visit: while exploration.visits < VISITS {
+    'visit: while exploration.visits < most {
         let pc = current.pc();
         match exploration.visit(alloc, program, current) {
             Ok(Unwound::Onward(next)) => current = next,
@@ -262,15 +285,21 @@ pub(crate) fn observed_budget(
 }
 
 /// The same, and nobody observes it.
-pub(crate) fn find_budget(alloc: Global, program: &Program) -> Result<u32, Refusal>
+pub(crate) fn find_budget(
+    alloc: Global,
+    program: &Program,
+    limit: StateLimit,
+) -> Result<u32, Refusal>
     ensures safe { IfOk result (Safe program.now.slots program.now.shapes) }
-    ensures small { IfOk result (λ budget. budget ≤ 2 ^ 22) }
-    ensures walk { IfOk result (λ budget. IsPlain program.now.slots → HasWalk program.now.slots budget) }
-    ensures clear { IfErr result (λ e. IsClear program.now entry_view (2 ^ 22) → e.fault ≡ Fault.NoMemory) }
+    ensures small { IfOk result (λ budget. budget ≤ limit) }
+    ensures walk { IfOk result
+        (λ budget. IsPlain program.now.slots → HasWalk program.now.slots budget) }
+    ensures clear { IfErr result
+        (λ e. IsClear program.now entry_view limit → e.fault ≡ Fault.NoMemory) }
     ensures begins { IfErr result (λ e. Begins program.now.slots e.pc) }
 {
     program.whole();
     standing_law();
     let mut exploration = Exploration::new(alloc, program, Observer::off())?;
-    observed_budget(alloc, program, &mut exploration)
+    observed_budget(alloc, program, &mut exploration, limit)
 }

@@ -1,18 +1,20 @@
 //! The verifier: it explores a program over abstract states, and admits what is safe within a budget.
 //!
-//! Main calls: `verify` and `explore`. It stands on `bpf_checks`, `bpf_prune` and the laws of the rules. What it admits
-//! is safe within the budget that it answers, for every frame, context and port. A plain program, and
-//! one that is clear by the rules, is refused for memory alone. A refusal has a number and a slot.
+//! Main calls: `verify` and `explore`, and the same within a limit of states. It stands on `bpf_checks`, `bpf_prune` and
+//! the laws of the rules. What it admits is safe within the budget that it answers, for every frame, context and port.
+//! A plain program, and one that is clear by the rules, is refused for memory alone. A refusal has a number and a slot.
 #![tactic(auto)]
 
 pub mod admission;
 mod exploration;
 pub mod laws;
+pub mod limit;
 pub mod listing;
 mod observer;
 pub mod refusal;
 
-pub use admission::verify;
+pub use admission::{verify, verify_within};
 pub use bpf_rules::Fault;
-pub use listing::{Explanation, explain, explore};
+pub use limit::StateLimit;
+pub use listing::{Explanation, explain, explain_within, explore, explore_within};
 pub use refusal::Refusal;

@@ -9,6 +9,7 @@ ghost use Rattle.bpf_plain.specs.Walks.{IsPlain};
 ghost use Rattle.bpf_rules.specs.declared.fault.Fault.{Fault};
 
 use crate::exploration::{Exploration, observed_budget};
+use crate::limit::StateLimit;
 use crate::observer::{Heard, Observer};
 use crate::refusal::Refusal;
 use bpf_absstate::AbsState;
@@ -22,17 +23,37 @@ use std::alloc::{AllocError, Global};
 /// a local call), with their slots and budgets, in that order; or its refusal.
 ///
 /// Nothing else is promised of the list: whoever uses it checks it.
-pub fn explore(alloc: Global, program: &Program, _hook: Hook) -> Result<Vec<Entry>, Refusal>
-    ensures safe { OnOk result ((b : ℕ) × (b ≤ 2 ^ 22) × Safe program.now.slots program.now.shapes b) }
+pub fn explore(alloc: Global, program: &Program, hook: Hook) -> Result<Vec<Entry>, Refusal>
+    ensures safe { OnOk result
+        ((b : ℕ) × (b ≤ 2 ^ 22) × Safe program.now.slots program.now.shapes b) }
     ensures plain { IfErr result (λ e. IsPlain program.now.slots → e.fault ≡ Fault.NoMemory) }
     ensures begins { IfErr result (λ e. Begins program.now.slots e.pc) }
-    ensures clear { IfErr result (λ e. IsClear program.now entry_view (2 ^ 22) → e.fault ≡ Fault.NoMemory) }
+    ensures clear { IfErr result
+        (λ e. IsClear program.now entry_view (2 ^ 22) → e.fault ≡ Fault.NoMemory) }
+{
+    explore_within(alloc, program, hook, StateLimit::MOST)
+}
+
+/// The same of `verify_within`.
+pub fn explore_within(
+    alloc: Global,
+    program: &Program,
+    _hook: Hook,
+    limit: StateLimit,
+) -> Result<Vec<Entry>, Refusal>
+    ensures safe { OnOk result
+        ((b : ℕ) × (b ≤ limit) × Safe program.now.slots program.now.shapes b) }
+    ensures plain { IfErr result
+        (λ e. limit ≡ 2 ^ 22 → IsPlain program.now.slots → e.fault ≡ Fault.NoMemory) }
+    ensures begins { IfErr result (λ e. Begins program.now.slots e.pc) }
+    ensures clear { IfErr result
+        (λ e. IsClear program.now entry_view limit → e.fault ≡ Fault.NoMemory) }
 {
     program.whole();
     plain_law();
     standing_law();
     let mut exploration = Exploration::new(alloc, program, Observer::listening(alloc))?;
-    let _budget = observed_budget(alloc, program, &mut exploration)?;
+    let _budget = observed_budget(alloc, program, &mut exploration, limit)?;
     match exploration.into_observer().into_heard() {
         Some(heard) => Ok(heard.finished),
         None => Ok(Vec::new(alloc)),
@@ -53,14 +74,33 @@ pub struct Explanation {
 }
 
 /// What `verify` finds of a program, and how it comes to it. Nothing is promised but the verdict.
-pub fn explain(alloc: Global, program: &Program, _hook: Hook) -> Result<Explanation, AllocError>
+pub fn explain(alloc: Global, program: &Program, hook: Hook) -> Result<Explanation, AllocError>
     ensures safe { IfOk result (λ x. IfOk x.verdict (Safe program.now.slots program.now.shapes)) }
     ensures small { IfOk result (λ x. IfOk x.verdict (λ budget. budget ≤ 2 ^ 22)) }
     ensures begins { IfOk result (λ x. IfErr x.verdict (λ e. Begins program.now.slots e.pc)) }
-    ensures clear { IfOk result (λ x. IfErr x.verdict (λ e. IsClear program.now entry_view (2 ^ 22) → e.fault ≡ Fault.NoMemory)) }
+    ensures clear { IfOk result
+        (λ x. IfErr x.verdict (λ e. IsClear program.now entry_view (2 ^ 22) → e.fault
+        ≡ Fault.NoMemory)) }
+{
+    explain_within(alloc, program, hook, StateLimit::MOST)
+}
+
+/// The same of `verify_within`.
+pub fn explain_within(
+    alloc: Global,
+    program: &Program,
+    _hook: Hook,
+    limit: StateLimit,
+) -> Result<Explanation, AllocError>
+    ensures safe { IfOk result (λ x. IfOk x.verdict (Safe program.now.slots program.now.shapes)) }
+    ensures small { IfOk result (λ x. IfOk x.verdict (λ budget. budget ≤ limit)) }
+    ensures begins { IfOk result (λ x. IfErr x.verdict (λ e. Begins program.now.slots e.pc)) }
+    ensures clear { IfOk result
+        (λ x. IfErr x.verdict (λ e. IsClear program.now entry_view limit → e.fault
+        ≡ Fault.NoMemory)) }
 {
     let mut exploration = Exploration::new(alloc, program, Observer::listening(alloc))?;
-    let verdict = observed_budget(alloc, program, &mut exploration);
+    let verdict = observed_budget(alloc, program, &mut exploration, limit);
     Ok(explained(alloc, verdict, exploration.into_observer()))
 }
 

@@ -40,7 +40,8 @@ impl<'a> Reading<'a> {
 
     fn begin(&mut self, place: u64, block: Block<'a>) -> Result<(), CaptureFault>
         ensures ok { IfOk result
-            (λ _. begun place (state_of self.old) (framed_of block.entry) ≡ Ok (state_of self.new)) }
+            (λ _. begun place (state_of self.old) (framed_of block.entry)
+            ≡ Ok (state_of self.new)) }
         ensures fault { IfErr result
             (λ e. begun place (state_of self.old) (framed_of block.entry) ≡ Err e) }
     {

@@ -40,7 +40,7 @@ visit-init c =
       safe = λ p set. none (λ e. AllSafe p e.budget e.state) table _ c.requires.fresh.finished;
       walks = λ plain. rw same (Linked-empty (LeadsBySlots slots) (IsWalked slots) fs after entry_view empty none_after (walking.stays slots entry_view));
       walked = λ plain. none (λ e. Reaches slots e.state.pc e.budget) table _ c.requires.fresh.finished;
-      clear = λ clear. (2 ^ 22, 0, rw same clear, AreClear-none c.args.program.now fs empty, omega (arith, c.requires.fresh.visits));
+      clear = λ clear. (c.args.limit, 0, rw same clear, AreClear-none c.args.program.now fs empty, omega (arith, c.requires.fresh.visits));
     }
 
 pub visit-preserved : goal.visit-preserved
@@ -57,9 +57,9 @@ visit-preserved c =
       walked = λ plain. (c.in-Ok-Onward.ensures.walked entry_view plain (h.walks plain, h.walked plain)).1;
       clear = λ clear.
           let k = h.clear clear in
-          let left : ℕ = 2 ^ 22 - (c.visit.exploration.visits + 1) in
-          let r = rw c.in-Ok-Onward.field-0-is at c.in-Ok-Onward.ensures.clear k.0 k.1 left k.2 k.3 (omega (arith, k.4, c.visit-test.true)) in
-          (r.0, r.1, r.2, r.3, omega (arith, r.4, c.in-Ok-Onward.ensures.visits, c.visit-test.true));
+          let left : ℕ = c.args.limit - (c.visit.exploration.visits + 1) in
+          let r = rw c.in-Ok-Onward.field-0-is at c.in-Ok-Onward.ensures.clear k.0 k.1 left k.2 k.3 (omega (arith, k.4, c.visit-test.true, c.states-most.ensures.value)) in
+          (r.0, r.1, r.2, r.3, omega (arith, r.4, c.in-Ok-Onward.ensures.visits, c.visit-test.true, c.states-most.ensures.value));
     }
 
 pub returns-in-Ok-Over-clause-safe : goal.returns-in-Ok-Over-clause-safe
@@ -80,4 +80,4 @@ pub returns-clause-clear : goal.returns-clause-clear
 returns-clause-clear c = λ clear.
     let k = c.visit.invariant.clear clear in
     let some = clear_some c.args.program.now c.visit.current k.0 k.2 in
-    absurd (omega (arith, some, k.4, c.visit-test.false))
+    absurd (omega (arith, some, k.4, c.visit-test.false, c.states-most.ensures.value))

@@ -1,5 +1,4 @@
-use Rattle.std.proofs.Common.{◌≤◌, ◌-◌, ◌+◌, ◌^◌, ℕ}
-use Rattle.bpf_verifier.specs.declared.exploration.TheConstants.{VISITS}
+use Rattle.std.proofs.Common.{◌≤◌, ◌-◌, ◌+◌, ℕ}
 use Rattle.bpf_model.specs.State.{Setting}
 use Rattle.bpf_absstate.specs.View.{entry_view}
 use Rattle.bpf_plain.specs.Clear.{IsClear}
@@ -22,9 +21,9 @@ invariant-visit l = record {
   safe : (p : Setting) → IsSetting l.program p → AreSafe p l.exploration.finished;
   walks : IsPlain l.program.slots → Linked (LeadsBySlots l.program.slots) (IsWalked l.program.slots) l.exploration.path.items l.exploration.after entry_view l.current;
   walked : IsPlain l.program.slots → AreWalked l.program.slots l.exploration.finished;
-  clear : IsClear l.program entry_view (2 ^ 22) →
-      (m n : ℕ) × IsClear l.program l.current m × AreClear l.program l.exploration.path.items n × (l.exploration.visits + (m + n) ≤ 2 ^ 22);
+  clear : IsClear l.program entry_view l.fn.limit →
+      (m n : ℕ) × IsClear l.program l.current m × AreClear l.program l.exploration.path.items n × (l.exploration.visits + (m + n) ≤ l.fn.limit);
 }
 
 abbrev pub decreases-visit : goal.decreases-visit
-decreases-visit l = VISITS - l.exploration.visits
+decreases-visit l = l.most - l.exploration.visits
