@@ -13,37 +13,37 @@ use Rattle.apd_loads.specs.Loading.{LoadsProgram, Admitted, NotAdmitted, NoRoomT
 same_list : (a b : Beginning) → a ≡ b → a.list ≡ b.list
 same_list a b is = ap (λ (k : Beginning). k.list) is
 
-program_list : (hook : Hook) (program : Code) (a b : Beginning) (told : Told) → LoadsProgram hook program a b told → b.list ≡ a.list
-program_list hook program a b _ (Admitted budget force) = ap (λ (k : Beginning). k.list) force.loaded
-program_list hook program a b _ (NotAdmitted refusal is) = same_list b a is.unchanged
-program_list hook program a b _ (NoRoomToLoad is) = same_list b a is
+program_list : (limit : ℕ) (hook : Hook) (program : Code) (a b : Beginning) (told : Told) → LoadsProgram limit hook program a b told → b.list ≡ a.list
+program_list limit hook program a b _ (Admitted budget force small) = ap (λ (k : Beginning). k.list) force.loaded
+program_list limit hook program a b _ (NotAdmitted refusal is) = same_list b a is.unchanged
+program_list limit hook program a b _ (NoRoomToLoad is) = same_list b a is
 
-code_list : (hook : Hook) (code : List ℕ) (a b : Beginning) (told : Told) → LoadsCode hook code a b told → b.list ≡ a.list
-code_list hook code a b _ (Decoded program told spells shapes loads) = program_list hook program a b told loads
-code_list hook code a b _ (NotDecoded fault other refuses is) = same_list b a is
-code_list hook code a b _ (NoRoomToDecode is) = same_list b a is
+code_list : (limit : ℕ) (hook : Hook) (code : List ℕ) (a b : Beginning) (told : Told) → LoadsCode limit hook code a b told → b.list ≡ a.list
+code_list limit hook code a b _ (Decoded program told spells shapes loads) = program_list limit hook program a b told loads
+code_list limit hook code a b _ (NotDecoded fault other refuses is) = same_list b a is
+code_list limit hook code a b _ (NoRoomToDecode is) = same_list b a is
 
 -- the list of published loads is the same one
-pub file_list : (files : Held) (hook : Hook) (path : List ℕ) (a b : Beginning) (told : Told) → LoadsFile files hook path a b told → b.list ≡ a.list
-file_list files hook path a b _ (Read code told holds loads) = code_list hook code a b told loads
-file_list files hook path a b _ (NotRead fault other is_fault is) = same_list b a is
-file_list files hook path a b _ (NoRoomToRead is) = same_list b a is
+pub file_list : (files : Held) (limit : ℕ) (hook : Hook) (path : List ℕ) (a b : Beginning) (told : Told) → LoadsFile files limit hook path a b told → b.list ≡ a.list
+file_list files limit hook path a b _ (Read code told holds loads) = code_list limit hook code a b told loads
+file_list files limit hook path a b _ (NotRead fault other is_fault is) = same_list b a is
+file_list files limit hook path a b _ (NoRoomToRead is) = same_list b a is
 
-program_told : (hook : Hook) (program : Code) (a b : Beginning) (told : Told) → LoadsProgram hook program a b told → told_counts told ≡ none
-program_told hook program a b _ (Admitted budget force) = refl
-program_told hook program a b _ (NotAdmitted refusal is) = refl
-program_told hook program a b _ (NoRoomToLoad is) = refl
+program_told : (limit : ℕ) (hook : Hook) (program : Code) (a b : Beginning) (told : Told) → LoadsProgram limit hook program a b told → told_counts told ≡ none
+program_told limit hook program a b _ (Admitted budget force small) = refl
+program_told limit hook program a b _ (NotAdmitted refusal is) = refl
+program_told limit hook program a b _ (NoRoomToLoad is) = refl
 
-code_told : (hook : Hook) (code : List ℕ) (a b : Beginning) (told : Told) → LoadsCode hook code a b told → told_counts told ≡ none
-code_told hook code a b _ (Decoded program told spells shapes loads) = program_told hook program a b told loads
-code_told hook code a b _ (NotDecoded fault other refuses is) = refl
-code_told hook code a b _ (NoRoomToDecode is) = refl
+code_told : (limit : ℕ) (hook : Hook) (code : List ℕ) (a b : Beginning) (told : Told) → LoadsCode limit hook code a b told → told_counts told ≡ none
+code_told limit hook code a b _ (Decoded program told spells shapes loads) = program_told limit hook program a b told loads
+code_told limit hook code a b _ (NotDecoded fault other refuses is) = refl
+code_told limit hook code a b _ (NoRoomToDecode is) = refl
 
 -- what is told of a load counts nothing
-pub file_told : (files : Held) (hook : Hook) (path : List ℕ) (a b : Beginning) (told : Told) → LoadsFile files hook path a b told → told_counts told ≡ none
-file_told files hook path a b _ (Read code told holds loads) = code_told hook code a b told loads
-file_told files hook path a b _ (NotRead fault other is_fault is) = refl
-file_told files hook path a b _ (NoRoomToRead is) = refl
+pub file_told : (files : Held) (limit : ℕ) (hook : Hook) (path : List ℕ) (a b : Beginning) (told : Told) → LoadsFile files limit hook path a b told → told_counts told ≡ none
+file_told files limit hook path a b _ (Read code told holds loads) = code_told limit hook code a b told loads
+file_told files limit hook path a b _ (NotRead fault other is_fault is) = refl
+file_told files limit hook path a b _ (NoRoomToRead is) = refl
 
 adopted_list : (hook : Hook) (program : Code) (certificate : List ℕ) (a b : Beginning) (told : Told) → adopting.AdoptsProgram hook program certificate a b told
     → b.list ≡ a.list

@@ -17,6 +17,7 @@ mod worker;
 pub use ap_live::Settings;
 pub use ap_shards::NewShards;
 pub use ap_tagged::{Gate, OpenGate};
+pub use apd_loads::StateLimit;
 pub use naming::Publications;
 pub use operator::LiveOperator;
 pub use running::{Supplies, run_live};

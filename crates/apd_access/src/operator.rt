@@ -16,15 +16,22 @@ use ap_live::{LiveAp, OperatorToken};
 use ap_locked::Journals;
 use ap_model::Event;
 use apd_inputs::Files;
-use apd_loads::Loads;
+use apd_loads::{Loads, StateLimit};
 use apd_run::{Operating, Told, Waiting};
 use apd_script::{Command, MapWord};
 use bpf_regions::{Hook, Scope};
 use std::marker::{Model, PhantomData};
 use std::sync::Wait;
 
+/// Where programs come from: files, and how many states of each the verifier may examine.
+#[derive(Drop)]
+pub(crate) struct Sources<'a, F> {
+    pub(crate) files: &'a mut F,
+    pub(crate) limit: StateLimit,
+}
+
 /// The operator of a run: its token, the parts of the ledgers that no worker has, the programs that are
-/// put in force, and the files that they come from. Contracts see all but the files.
+/// put in force, and where they come from. Contracts see all but the last.
 #[derive(Drop)]
 pub struct LiveOperator<'a, B: Ledgers + Journals, L: Publications, F> {
     pub(crate) ap: &'a LiveAp<B>,
@@ -33,7 +40,7 @@ pub struct LiveOperator<'a, B: Ledgers + Journals, L: Publications, F> {
     pub(crate) parts: u64,
     pub(crate) workers: u64,
     pub(crate) loads: &'a mut Loads,
-    pub(crate) files: &'a mut F,
+    pub(crate) sources: Sources<'a, F>,
     pub(crate) list: PhantomData<L>,
 }
 
@@ -67,7 +74,9 @@ impl<'a, B: Ledgers + Journals, L: Publications, F: Files> LiveOperator<'a, B, L
         ensures same { crew_of self.new ≡ crew_of self.old }
         ensures nothing { told_counts result ≡ none }
     {
-        self.loads.load(rt, &mut *self.files, hook, path)
+        let limit = self.sources.limit;
+        let files = &mut *self.sources.files;
+        self.loads.load(rt, files, hook, path, limit)
     }
 
     /// Adopts a program for a hook, with its certificate.
@@ -75,8 +84,8 @@ impl<'a, B: Ledgers + Journals, L: Publications, F: Files> LiveOperator<'a, B, L
         ensures same { crew_of self.new ≡ crew_of self.old }
         ensures nothing { told_counts result ≡ none }
     {
-        self.loads
-            .adopt(rt, &mut *self.files, hook, path, certificate)
+        let files = &mut *self.sources.files;
+        self.loads.adopt(rt, files, hook, path, certificate)
     }
 
     /// Leaves a hook without a program.

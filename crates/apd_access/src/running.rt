@@ -13,7 +13,7 @@ ghost use Rattle.apd_run.specs.Shows.{Runs};
 
 use crate::hands::{Hands, deal};
 use crate::naming::Publications;
-use crate::operator::LiveOperator;
+use crate::operator::{LiveOperator, Sources};
 use crate::worker::LiveWorker;
 use ap_books::{Ledgers, Portions};
 use ap_live::{LiveAp, Opened, OperatorToken, Settings, WorkerToken};
@@ -21,7 +21,7 @@ use ap_locked::Journals;
 use ap_shards::NewShards;
 use ap_tagged::Gate;
 use apd_inputs::Files;
-use apd_loads::Loads;
+use apd_loads::{Loads, StateLimit};
 use apd_run::{Ready, Staff, run_script};
 use apd_script::Numbered;
 use bpf_regions::Shapes;
@@ -34,10 +34,12 @@ use std::thread::Threads;
 /// The status of a run that memory was refused to.
 const NO_MEMORY: u8 = 3;
 
-/// What a run uses besides its access point: the files of its loads, and who is told of each event.
+/// What a run uses besides its access point: the files of its loads, how many states of each program the
+/// verifier may examine, and who is told of each event.
 #[derive(Drop)]
 pub struct Supplies<'a, F, G: Drop> {
     pub files: &'a mut F,
+    pub limit: StateLimit,
     pub gate: G,
 }
 
@@ -87,7 +89,7 @@ fn new_operator<'a, B, L, F>(
     kept: (Portions<B>, u64),
     workers: u64,
     loads: &'a mut Loads,
-    files: &'a mut F,
+    sources: Sources<'a, F>,
 ) -> LiveOperator<'a, B, L, F>
 where
     B: Ledgers + Journals,
@@ -109,7 +111,7 @@ where
         parts,
         workers,
         loads,
-        files,
+        sources,
         list: PhantomData,
     }
 }
@@ -162,7 +164,7 @@ where
     requires loads { loads.list ≡ L.list }
     ensures runs { Runs (P.contents writer) (P.contents result.0) none result.1 }
 {
-    let Supplies { files, gate } = supplies;
+    let Supplies { files, limit, gate } = supplies;
     let Hands {
         operator,
         workers,
@@ -178,7 +180,8 @@ where
         return without_memory(writer);
     };
     let many = ready.len() as u64;
-    let operator = new_operator::<B, L, F>(ap, operator, (hoard, parts), many, &mut loads, files);
+    let sources = Sources { files, limit };
+    let operator = new_operator::<B, L, F>(ap, operator, (hoard, parts), many, &mut loads, sources);
     let ended = run_staffed(rt, alloc, operator, ready, commands, writer);
     loads.close(rt);
     ended

@@ -10,6 +10,7 @@ abbrev pub told_counts : Told → Counts
 told_counts (Handled outs dropped) = counts_of outs.items dropped
 told_counts _ = none
 
+-- what a report counts
 unfoldable pub report_counts : Report → Counts
 report_counts r = told_counts r.told
 

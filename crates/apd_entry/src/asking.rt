@@ -9,10 +9,19 @@ use apd_runner::RunWords;
 use apd_words::{Request, Told, read_words};
 use std::alloc::Global;
 
+/// The run of a script: its words, how many states of each program the verifier may examine, and whether
+/// no progress is told.
+#[derive(Clone, Copy, Debug)]
+pub(crate) struct ScriptRun<'a> {
+    pub(crate) words: RunWords<'a>,
+    pub(crate) states: u32,
+    pub(crate) quiet: bool,
+}
+
 /// What words ask for: the run of a script, or something else, which may be nothing. Or memory ran out.
 #[derive(Clone, Copy, Debug)]
 pub(crate) enum Asking<'a> {
-    Run { words: RunWords<'a>, quiet: bool },
+    Run(ScriptRun<'a>),
     Other,
     NoMemory,
 }
@@ -26,6 +35,7 @@ fn of_request<'a>(request: Request<'a>) -> Asking<'a>
             config,
             script,
             workers,
+            states,
             quiet,
         } => {
             let words = RunWords {
@@ -33,7 +43,11 @@ fn of_request<'a>(request: Request<'a>) -> Asking<'a>
                 script,
                 workers,
             };
-            return Asking::Run { words, quiet };
+            return Asking::Run(ScriptRun {
+                words,
+                states,
+                quiet,
+            });
         }
         _ => return Asking::Other,
     }

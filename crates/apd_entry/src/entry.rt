@@ -9,12 +9,12 @@ ghost use Rattle.apd_inputs.specs.Held.{Held};
 ghost use Rattle.apd_program.specs.Program.{Performs};
 ghost use Rattle.apd_entry.specs.Asking.{is_run};
 
-use crate::asking::{Asking, asked};
+use crate::asking::{Asking, ScriptRun, asked};
 use apd_inputs::Files;
 use apd_output::write_whole;
 use apd_program::apd_main;
 use apd_progress::Progress;
-use apd_runner::{OpenGate, RunWords, Supplies, run};
+use apd_runner::{OpenGate, StateLimit, Supplies, run};
 use std::alloc::Global;
 use std::io::Write;
 use std::sync::Wait;
@@ -29,11 +29,11 @@ pub struct Messages<'a, E> {
     pub watched: bool,
 }
 
-/// Runs a script, and tells its progress where somebody looks on.
+/// Runs a script, and tells its progress where somebody looks on who wants it.
 fn run_watched<R, F, O, E>(
     rt: &R,
     alloc: Global,
-    words: RunWords<'_>,
+    asked: ScriptRun<'_>,
     files: &mut F,
     out: O,
     messages: Messages<'_, E>,
@@ -46,13 +46,19 @@ where
     ensures runs { Runs (O.contents out) (O.contents result.0) none result.1 }
 {
     let Messages { err, watched } = messages;
-    if watched {
+    let ScriptRun {
+        words,
+        states,
+        quiet,
+    } = asked;
+    let limit = StateLimit::nearest(states);
+    if watched && !quiet {
         let progress = Progress::new(rt);
         let gate = &progress;
-        return run(rt, alloc, words, Supplies { files, gate }, out, err);
+        return run(rt, alloc, words, Supplies { files, limit, gate }, out, err);
     }
     let gate = OpenGate;
-    return run(rt, alloc, words, Supplies { files, gate }, out, err);
+    return run(rt, alloc, words, Supplies { files, limit, gate }, out, err);
 }
 
 /// The end of a program that was refused memory before it began.
@@ -81,8 +87,8 @@ where
     F: Files,
     O: Write + Drop,
     E: Write,
-    ensures run { (config script : List ℕ) (workers : ℕ) (quiet : Bool)
-        → Spells (map (λ word. word.now) words.entry.now) (Run config script workers quiet)
+    ensures run { (config script : List ℕ) (workers states : ℕ) (quiet : Bool)
+        → Spells (map (λ word. word.now) words.entry.now) (Run config script workers states quiet)
         → Runs (O.contents out) (O.contents result.0) none result.1 }
     ensures other { (a : Asked)
         → Spells (map (λ word. word.now) words.entry.now) a → is_run a ≡ false
@@ -90,9 +96,8 @@ where
 {
     let Messages { err, watched } = messages;
     match asked(alloc, words) {
-        Asking::Run { words, quiet } => {
-            let watched = watched && !quiet;
-            return run_watched(rt, alloc, words, files, out, Messages { err, watched });
+        Asking::Run(asked) => {
+            return run_watched(rt, alloc, asked, files, out, Messages { err, watched });
         }
         Asking::Other => {
             let mut out = out;

@@ -9,14 +9,19 @@ use bpf_decode::{DecodeFault, Program};
 use bpf_insn::Insn;
 use bpf_line::InsnText;
 use bpf_regions::Hook;
-use bpf_verifier::{Explanation, Refusal, explain};
+use bpf_verifier::{Explanation, Refusal, StateLimit, explain_within};
 use std::alloc::{AllocError, Global};
 use std::fmt::Write;
 
 /// The lines on a program: what the verifier knew where it refuses it, the way there, and the cure; or, for one
-/// that it admits, the budget, and where its states stand. The program is explored anew.
-pub fn reason_text(alloc: Global, program: &Program, hook: Hook) -> Result<String, AllocError> {
-    let explanation = explain(alloc, program, hook)?;
+/// that it admits, the budget, and where its states stand. The program is explored anew, of so many states at most.
+pub fn reason_text(
+    alloc: Global,
+    program: &Program,
+    hook: Hook,
+    limit: StateLimit,
+) -> Result<String, AllocError> {
+    let explanation = explain_within(alloc, program, hook, limit)?;
     match explanation.verdict {
         Ok(budget) => costs_text(alloc, program, budget, explanation.visits.as_slice()),
         Err(refusal) => refusal_text(alloc, program, refusal, &explanation),

@@ -2,6 +2,7 @@
 use Rattle.std.specs.Prelude.{◌≡◌, List, ℕ, Err}
 use Rattle.hex.specs.declared.error.FromHexError.{FromHexError}
 use Rattle.apd_inputs.specs.Held.{Held, Holds, Lacks, code_of}
+use Rattle.apd_inputs.specs.declared.files.FileKind.TheVariants.{Code}
 use Rattle.apd_inputs.specs.declared.code.CodeFault.{CodeFault}
 use Rattle.apd_inputs.specs.declared.code.CodeFault.TheVariants.{Unreadable, Digits, NoMemory}
 
@@ -13,6 +14,6 @@ pub record HoldsNoCode (files : Held) (path : List ℕ) (fault : FromHexError) :
 
 -- the fault is the file's; of memory nothing is said
 abbrev pub IsFaultOf : Held → List ℕ → CodeFault → Type 0
-IsFaultOf files path Unreadable = Lacks files path
+IsFaultOf files path Unreadable = Lacks Code files path
 IsFaultOf files path (Digits fault) = HoldsNoCode files path fault
 IsFaultOf files path NoMemory = Unit {0}

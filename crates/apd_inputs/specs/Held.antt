@@ -1,8 +1,12 @@
 -- Files, and the code that they spell.
-use Rattle.std.specs.Prelude.{◌≡◌, ℕ, List, Option, Some, None, Result, Ok, IfSome, not, filter}
+use Rattle.std.specs.Prelude.{◌≡◌, ◌<◌, ◌⊎◌, ℕ, List, Option, Some, None, Result, Ok, IfSome, not, filter, length}
 use Rattle.std.specs.Char.{is_ascii_whitespace}
 use Rattle.hex.specs.Hex.{decode_of}
 use Rattle.hex.specs.declared.error.FromHexError.{FromHexError}
+use Rattle.apd_inputs.specs.Kinds.{most_of}
+use Rattle.apd_inputs.specs.declared.files.FileFault.{FileFault}
+use Rattle.apd_inputs.specs.declared.files.FileFault.TheVariants as fault
+use Rattle.apd_inputs.specs.declared.files.FileKind.{FileKind}
 
 -- What is known of files, by their paths: nothing, or the file's bytes, or that there is none to be read.
 abbrev pub Held : Type 0
@@ -12,9 +16,22 @@ Held = List ℕ → Option (Option (List ℕ))
 abbrev pub Holds : Held → List ℕ → List ℕ → Type 0
 Holds files path bytes = IfSome (files path) (λ file. file ≡ Some bytes)
 
--- there is no such file that can be read, as far as is known
-abbrev pub Lacks : Held → List ℕ → Type 0
-Lacks files path = IfSome (files path) (λ file. file ≡ None)
+-- there is no file, or it has more bytes than are read of one of its kind
+abbrev pub IsNoInput : FileKind → Option (List ℕ) → Type 0
+IsNoInput kind file = (file ≡ None) ⊎ ((bytes : List ℕ) × (file ≡ Some bytes) × (most_of kind < length bytes))
+
+-- why a file of the kind isn't read: it is too long, or there is none; of memory nothing is said
+abbrev pub IsUnread : FileKind → FileFault → Option (List ℕ) → Type 0
+IsUnread kind fault.NoMemory file = Unit {0}
+IsUnread kind (fault.TooLong most) file = (most ≡ most_of kind) × ((bytes : List ℕ) × (file ≡ Some bytes) × (most_of kind < length bytes))
+IsUnread kind fault.Missing file = file ≡ None
+IsUnread kind fault.Directory file = file ≡ None
+IsUnread kind fault.NotAllowed file = file ≡ None
+IsUnread kind fault.Failed file = file ≡ None
+
+-- no file of the kind can be read there, as far as is known
+abbrev pub Lacks : FileKind → Held → List ℕ → Type 0
+Lacks kind files path = IfSome (files path) (IsNoInput kind)
 
 -- the code that hex digits of either case spell, with white space between any two
 abbrev pub code_of : List ℕ → Result (List ℕ) FromHexError

@@ -1,2 +1,3 @@
-pub mod Held
 pub mod Faults
+pub mod Held
+pub mod Kinds

@@ -4,14 +4,14 @@ ghost use Rattle.std.specs.Prelude.{◌≡◌, ◌⊎◌, Ok, Err, IfOk, IfErr};
 ghost use Rattle.apd_inputs.specs.Held.{HoldsCode, code_of};
 ghost use Rattle.apd_inputs.specs.Faults.{IsFaultOf};
 
-use crate::files::{FileFault, Files};
+use crate::files::{FileFault, FileKind, Files};
 use hex::FromHexError;
 use std::alloc::Global;
 
 /// Why no code was read from a file.
 #[derive(Clone, Copy, Debug, PartialEq, Eq)]
 pub enum CodeFault {
-    /// There is no such file, or it can't be read.
+    /// There is no such file, or it can't be read, or it is longer than 16 MiB.
     Unreadable,
     /// Without its white space it isn't hex digits in pairs.
     Digits(FromHexError),
@@ -41,7 +41,7 @@ pub fn read_code<F: Files>(alloc: Global, path: &str, files: &mut F) -> Result<V
     ensures fault { IfErr result (IsFaultOf (F.held files.old) path.now) }
     ensures same { F.held files.new ≡ F.held files.old }
 {
-    let text = match files.read(path) {
+    let text = match files.read(path, FileKind::Code) {
         Ok(text) => text,
         Err(FileFault::NoMemory) => return Err(CodeFault::NoMemory),
         Err(_) => return Err(CodeFault::Unreadable),

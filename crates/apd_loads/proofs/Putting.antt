@@ -1,5 +1,5 @@
 -- A program that is put in force.
-use Rattle.std.proofs.Common.{◌≡◌, ℕ, List, subst}
+use Rattle.std.proofs.Common.{◌≡◌, ◌≤◌, ℕ, List, subst}
 use Rattle.bpf_regions.specs.declared.hooks.Hook.{Hook}
 use Rattle.bpf_decode.specs.Program.{Code}
 use Rattle.bpf_machine.specs.Verified.{Verified}
@@ -10,10 +10,10 @@ use Rattle.apd_loads.specs.Loading.{IsInForce, PutsInForce, InForce, NoRoomToPut
 use Rattle.apd_loads.specs.Adopting.{AdoptsProgram, Certified, NoRoomToAdopt}
 
 -- once the verifier admitted it
-pub loaded : (hook : Hook) (a : Verified) (program : Code) (old new : Beginning) (told : Told) → a.code ≡ program → PutsInForce hook a old new told
-    → LoadsProgram hook program old new told
-loaded hook a program old new _ is (InForce force) = Admitted a.budget (subst (λ (code : Code). IsInForce hook code old new a.budget) is force)
-loaded hook a program old new _ is (NoRoomToPut same) = NoRoomToLoad same
+pub loaded : (limit : ℕ) (hook : Hook) (a : Verified) (program : Code) (old new : Beginning) (told : Told) → a.code ≡ program → a.budget ≤ limit → PutsInForce hook a old new told
+    → LoadsProgram limit hook program old new told
+loaded limit hook a program old new _ is small (InForce force) = Admitted a.budget (subst (λ (code : Code). IsInForce hook code old new a.budget) is force) small
+loaded limit hook a program old new _ is small (NoRoomToPut same) = NoRoomToLoad same
 
 -- once a certificate did
 pub adopted : (hook : Hook) (a : Verified) (program : Code) (certificate : List ℕ) (old new : Beginning) (told : Told) → IsAdmitted program hook certificate a

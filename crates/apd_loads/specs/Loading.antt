@@ -1,5 +1,5 @@
 -- What a load does, and what it answers.
-use Rattle.std.specs.Prelude.{◌≡◌, ◌≢◌, ◌^◌, ℕ, List, Some}
+use Rattle.std.specs.Prelude.{◌≡◌, ◌≢◌, ◌≤◌, ◌^◌, ℕ, List, Some}
 use Rattle.bpf_regions.specs.declared.hooks.Hook.{Hook}
 use Rattle.bpf_decode.specs.Program.{Code, Spells, Begins}
 use Rattle.bpf_decode.specs.Answer.{Refuses}
@@ -7,6 +7,8 @@ use Rattle.bpf_decode.specs.declared.fault.DecodeFault.{DecodeFault}
 use Rattle.bpf_decode.specs.declared.fault.DecodeFault.TheVariants as decode
 use Rattle.bpf_model.specs.Run.{Safe}
 use Rattle.bpf_machine.specs.Verified.{Verified}
+use Rattle.bpf_absstate.specs.View.{entry_view}
+use Rattle.bpf_plain.specs.Clear.{IsClear}
 use Rattle.bpf_plain.specs.Walks.{IsPlain}
 use Rattle.bpf_rules.specs.declared.fault.Fault.TheVariants as verify
 use Rattle.bpf_verifier.specs.declared.refusal.Refusal.{Refusal}
@@ -34,36 +36,41 @@ pub data PutsInForce (hook : Hook) (a : Verified) (old new : Beginning) : Told �
   InForce : IsInForce hook a.code old new a.budget → PutsInForce hook a old new (Loaded a.budget)
   NoRoomToPut : new ≡ old → PutsInForce hook a old new Memory
 
--- the verifier doesn't admit the program, which isn't plain then, and nothing changes
-pub record IsRefused (program : Code) (old new : Beginning) (refusal : Refusal) : Type 0 where
+-- the verifier doesn't admit the program within the limit of states, within which it isn't clear then, nor plain where
+-- the limit is the greatest, and nothing changes
+pub record IsRefused
+    (limit : ℕ) (program : Code) (old new : Beginning) (refusal : Refusal) : Type 0 where
   pub reason : refusal.fault ≢ verify.NoMemory
   pub place : Begins program.slots refusal.pc
-  pub not_plain : IsPlain program.slots → ⊥
+  pub not_plain : limit ≡ 2 ^ 22 → IsPlain program.slots → ⊥
+  pub not_clear : IsClear program entry_view limit → ⊥
   pub unchanged : new ≡ old
 
 -- what is done with a program, and what is told of it
-pub data LoadsProgram (hook : Hook) (program : Code) (old new : Beginning) : Told → Type 0 where
-  Admitted : (budget : ℕ) → IsInForce hook program old new budget →
-      LoadsProgram hook program old new (Loaded budget)
-  NotAdmitted : (refusal : Refusal) → IsRefused program old new refusal →
-      LoadsProgram hook program old new (Refused refusal)
-  NoRoomToLoad : new ≡ old → LoadsProgram hook program old new Memory
+pub data LoadsProgram
+    (limit : ℕ) (hook : Hook) (program : Code) (old new : Beginning) : Told → Type 0 where
+  Admitted : (budget : ℕ) → IsInForce hook program old new budget → budget ≤ limit →
+      LoadsProgram limit hook program old new (Loaded budget)
+  NotAdmitted : (refusal : Refusal) → IsRefused limit program old new refusal →
+      LoadsProgram limit hook program old new (Refused refusal)
+  NoRoomToLoad : new ≡ old → LoadsProgram limit hook program old new Memory
 
 -- the same of code, which spells one program for the maps in use, or has a fault
-pub data LoadsCode (hook : Hook) (code : List ℕ) (old new : Beginning) : Told → Type 0 where
+pub data LoadsCode
+    (limit : ℕ) (hook : Hook) (code : List ℕ) (old new : Beginning) : Told → Type 0 where
   Decoded : (program : Code) (told : Told) → Spells code program → program.shapes ≡ old.shapes
-      → LoadsProgram hook program old new told → LoadsCode hook code old new told
+      → LoadsProgram limit hook program old new told → LoadsCode limit hook code old new told
   NotDecoded : (fault : DecodeFault) → fault ≢ decode.NoMemory →
       Refuses code old.shapes fault → new ≡ old
-      → LoadsCode hook code old new (Fault fault)
-  NoRoomToDecode : new ≡ old → LoadsCode hook code old new Memory
+      → LoadsCode limit hook code old new (Fault fault)
+  NoRoomToDecode : new ≡ old → LoadsCode limit hook code old new Memory
 
 -- the same of a file, as far as is known what it holds
-pub data LoadsFile
-    (files : Held) (hook : Hook) (path : List ℕ) (old new : Beginning) : Told → Type 0 where
+pub data LoadsFile (files : Held) (limit : ℕ) (hook : Hook) (path : List ℕ)
+    (old new : Beginning) : Told → Type 0 where
   Read : (code : List ℕ) (told : Told) → HoldsCode files path code →
-      LoadsCode hook code old new told
-      → LoadsFile files hook path old new told
+      LoadsCode limit hook code old new told
+      → LoadsFile files limit hook path old new told
   NotRead : (fault : CodeFault) → fault ≢ read.NoMemory → IsFaultOf files path fault → new ≡ old
-      → LoadsFile files hook path old new Unreadable
-  NoRoomToRead : new ≡ old → LoadsFile files hook path old new Memory
+      → LoadsFile files limit hook path old new Unreadable
+  NoRoomToRead : new ≡ old → LoadsFile files limit hook path old new Memory

@@ -11,7 +11,7 @@ use bpf_decode::{DecodeFault, Program, decode};
 use bpf_machine::Accepted;
 use bpf_regions::{Hook, Shapes};
 use bpf_rules::Fault;
-use bpf_verifier::verify;
+use bpf_verifier::{StateLimit, verify_within};
 use std::alloc::{AllocError, Global};
 use std::marker::Model;
 use std::sync::{Arc, Wait};
@@ -67,17 +67,24 @@ impl Loads {
         publisher.close(rt);
     }
 
-    /// Reads a file, whose hex digits spell code, and puts the code's program in force for a hook.
-    /// The answer is `Unreadable` where the file can't be read or holds no hex digits in pairs; the
+    /// Reads a file, whose hex digits spell code, and puts the code's program in force for a hook. The
+    /// verifier examines no more states of it than the limit. The answer is `Unreadable` where the file can't be read or holds no hex digits in pairs; the
     /// code's fault; the verifier's refusal; `Memory`; or the program's budget. All but the last
     /// leave what is in force.
-    pub fn load<R: Wait, F: Files>(&mut self, rt: &R, files: &mut F, hook: Hook, path: &str) -> Told
-        ensures loads { LoadsFile (F.held files.old) hook path.now self.old self.new result }
+    pub fn load<R: Wait, F: Files>(
+        &mut self,
+        rt: &R,
+        files: &mut F,
+        hook: Hook,
+        path: &str,
+        limit: StateLimit,
+    ) -> Told
+        ensures loads { LoadsFile (F.held files.old) limit hook path.now self.old self.new result }
         ensures same { F.held files.new ≡ F.held files.old }
     {
         match read_code(self.alloc, path, files) {
             Ok(code) => {
-                let told = self.load_code(rt, hook, code.as_slice());
+                let told = self.load_code(rt, hook, code.as_slice(), limit);
                 return told;
             }
             Err(CodeFault::NoMemory) => return Told::Memory,
@@ -109,15 +116,15 @@ impl Loads {
         }
     }
 
-    fn load_code<R: Wait>(&mut self, rt: &R, hook: Hook, code: &[u8]) -> Told
-        ensures { LoadsCode hook code.now self.old self.new result }
+    fn load_code<R: Wait>(&mut self, rt: &R, hook: Hook, code: &[u8], limit: StateLimit) -> Told
+        ensures { LoadsCode limit hook code.now self.old self.new result }
     {
         let Ok(shapes) = self.shapes() else {
             return Told::Memory;
         };
         match decode(self.alloc, code, shapes) {
             Ok(program) => {
-                let told = self.load_program(rt, hook, program);
+                let told = self.load_program(rt, hook, program, limit);
                 return told;
             }
             Err(fault) => match fault {
@@ -127,11 +134,17 @@ impl Loads {
         }
     }
 
-    fn load_program<R: Wait>(&mut self, rt: &R, hook: Hook, program: Program) -> Told
+    fn load_program<R: Wait>(
+        &mut self,
+        rt: &R,
+        hook: Hook,
+        program: Program,
+        limit: StateLimit,
+    ) -> Told
         requires { program.shapes ≡ self.old.shapes }
-        ensures { LoadsProgram hook program self.old self.new result }
+        ensures { LoadsProgram limit hook program self.old self.new result }
     {
-        match verify(self.alloc, program, hook) {
+        match verify_within(self.alloc, program, hook, limit) {
             Ok(accepted) => {
                 let told = self.put_in_force(rt, hook, accepted);
                 return told;

@@ -13,14 +13,16 @@ use Rattle.capture.specs.declared.fault.CaptureFault.TheVariants as capture
 use Rattle.apd_program.specs.declared.fault.ProgramFault.{ProgramFault}
 use Rattle.apd_program.specs.declared.fault.ProgramFault.TheVariants.{NoMemory}
 use Rattle.apd_program.specs.declared.reading.Setup.{Setup}
+use Rattle.apd_inputs.specs.declared.files.FileKind.{FileKind}
+use Rattle.apd_inputs.specs.declared.files.FileKind.TheVariants.{Certificate}
 use Rattle.apd_inputs.specs.Held.{Held, Holds, HoldsCode, code_of}
 use Rattle.apd_program.specs.Setups.{Configures}
-use Rattle.apd_program.specs.Faults.{HasBadCode, NoCode, HasBadConfiguration, NoConfiguration, IsBadConfig, HasBadCapture, NoCapture, IsAtFault, OfConfiguration, OfCode, IsNoFrame, NoDigits, HasNoFrame, OfFiles, OfWord, HasNoCertificate, OfOthers, OfCertificate}
+use Rattle.apd_program.specs.Faults.{HasBadCode, HasBadDigits, NoCode, HasBadConfiguration, NoConfiguration, IsBadConfig, HasBadCapture, NoCapture, IsAtFault, OfConfiguration, OfCode, IsNoFrame, NoDigits, HasNoFrame, OfFiles, OfWord, HasNoCertificate, OfOthers, OfCertificate}
 
-pub code_at_fault : (files : Held) (path text slice : List ℕ) (e : FromHexError) (f : ProgramFault) → Holds files path text → slice ≡ text → (e ≡ OutOfMemory) ⊎ (code_of slice ≡ Err e) → (e ≡ OutOfMemory → f ≡ NoMemory)
-    → (f ≡ NoMemory) ⊎ HasBadCode files path
-code_at_fault files path text slice e f there same (inl memory) m = inl (m memory)
-code_at_fault files path text slice e f there same (inr fault) m = inr (NoCode text e there (rw (← same) fault))
+pub code_at_fault : (kind : FileKind) (files : Held) (path text slice : List ℕ) (e : FromHexError) (f : ProgramFault) → Holds files path text → slice ≡ text → (e ≡ OutOfMemory) ⊎ (code_of slice ≡ Err e) → (e ≡ OutOfMemory → f ≡ NoMemory)
+    → (f ≡ NoMemory) ⊎ HasBadDigits kind files path
+code_at_fault kind files path text slice e f there same (inl memory) m = inl (m memory)
+code_at_fault kind files path text slice e f there same (inr fault) m = inr (NoCode text e there (rw (← same) fault))
 
 known : (e : ConfigFault) → (e ≡ config.NoMemory) ⊎ (e ≢ config.NoMemory)
 known config.NoMemory = inl refl
@@ -90,10 +92,10 @@ HasNoCertificate-others files file certificate config e (inl memory) = inl memor
 HasNoCertificate-others files file certificate config e (inr fault) = inr (OfOthers fault)
 
 pub HasNoCertificate-file : (files later last : Held) (file certificate code : List ℕ) (config : Option (List ℕ)) (setup : Setup) (e : ProgramFault) → later ≡ files → last ≡ later → Configures files config setup
-    → HoldsCode later file code → (e ≡ NoMemory) ⊎ HasBadCode last certificate → (e ≡ NoMemory) ⊎ HasNoCertificate files file certificate config
+    → HoldsCode later file code → (e ≡ NoMemory) ⊎ HasBadDigits Certificate last certificate → (e ≡ NoMemory) ⊎ HasNoCertificate files file certificate config
 HasNoCertificate-file files later last file certificate code config setup e same still fine held (inl memory) = inl memory
 HasNoCertificate-file files later last file certificate code config setup e same still fine held (inr bad) =
-    inr (OfCertificate setup code fine (let P : Held → Type 0 = λ f. HoldsCode f file code in subst P same held) (let P : Held → Type 0 = λ f. HasBadCode f certificate in subst P (still ∙ same) bad))
+    inr (OfCertificate setup code fine (let P : Held → Type 0 = λ f. HoldsCode f file code in subst P same held) (let P : Held → Type 0 = λ f. HasBadDigits Certificate f certificate in subst P (still ∙ same) bad))
 
 pub frame_at_fault : (word : List ℕ) (e : FromHexError) (f : ProgramFault) → (e ≡ OutOfMemory) ⊎ (decode_of word ≡ Err e) → (e ≡ OutOfMemory → f ≡ NoMemory) → (f ≡ NoMemory) ⊎ IsNoFrame word
 frame_at_fault word e f (inl memory) m = inl (m memory)

@@ -1,5 +1,5 @@
 -- From parts of an answer to the answer.
-use Rattle.std.proofs.Common.{◌≡◌, ◌≢◌, ◌^◌, ℕ, List, Result, IfOk, IsUtf8, take, sym, subst}
+use Rattle.std.proofs.Common.{◌≡◌, ◌≢◌, ◌⊎◌, ◌^◌, ℕ, List, Result, IfOk, IsUtf8, take, sym, subst, inl, inr}
 use Rattle.std.specs.Str.Lossy.{utf8_valid_len}
 use Rattle.std.proofs.lemmas.Result.{IfOk-weaker}
 use Rattle.bpf_regions.specs.declared.hooks.Hook.{Hook}
@@ -36,18 +36,24 @@ module _ (says : decoded.Code → Answer → Type 0) (code : List ℕ) (shapes :
       let P : Answer → Type 0 = IsOfProgram says code shapes in
       IfOk-weaker r (λ a. (a ≡ Fault e) × (e ≢ decode_fault.NoMemory)) P (λ a h. subst P (sym h.0) (Undecoded e h.1 refuses)) told
 
-pub IsVerdict-refused : (says : decoded.Code → ℕ → Answer → Type 0) (p : decoded.Code) (r : Result Answer ProgramFault) (e : Refusal) → (IsPlain p.slots → e.fault ≡ verify_fault.NoMemory) →
-    (IsClear p entry_view (2 ^ 22) → e.fault ≡ verify_fault.NoMemory) → decoded.Begins p.slots e.pc
-    → IfOk r (λ a. (a ≡ Refused e) × (e.fault ≢ verify_fault.NoMemory)) → IfOk r (IsVerdict says p)
-IsVerdict-refused says p r e plain clear begins told =
-    let P : Answer → Type 0 = IsVerdict says p in
-    IfOk-weaker r (λ a. (a ≡ Refused e) × (e.fault ≢ verify_fault.NoMemory)) P (λ a h. subst P (sym h.0) (NotAdmitted e h.1 begins (λ is_plain. h.1 (plain is_plain)) (λ is_clear. h.1 (clear is_clear)))) told
+pub IsVerdict-refused : (limit : ℕ) (says : decoded.Code → ℕ → Answer → Type 0) (p : decoded.Code) (r : Result Answer ProgramFault) (e : Refusal) →
+    (limit ≡ 2 ^ 22 → IsPlain p.slots → e.fault ≡ verify_fault.NoMemory) → (IsClear p entry_view limit → e.fault ≡ verify_fault.NoMemory) → decoded.Begins p.slots e.pc
+    → IfOk r (λ a. (a ≡ Refused e) × (e.fault ≢ verify_fault.NoMemory)) → IfOk r (IsVerdict limit says p)
+IsVerdict-refused limit says p r e plain clear begins told =
+    let P : Answer → Type 0 = IsVerdict limit says p in
+    IfOk-weaker r (λ a. (a ≡ Refused e) × (e.fault ≢ verify_fault.NoMemory)) P (λ a h. subst P (sym h.0) (NotAdmitted e h.1 begins (λ most is_plain. h.1 (plain most is_plain)) (λ is_clear. h.1 (clear is_clear)))) told
 
-pub IsCertificate-refused : (hook : Hook) (p : decoded.Code) (r : Result Answer ProgramFault) (e : Refusal) → decoded.Begins p.slots e.pc
-    → IfOk r (λ a. (a ≡ Refused e) × (e.fault ≢ verify_fault.NoMemory)) → IfOk r (IsCertificate hook p)
-IsCertificate-refused hook p r e begins told =
-    let P : Answer → Type 0 = IsCertificate hook p in
-    IfOk-weaker r (λ a. (a ≡ Refused e) × (e.fault ≢ verify_fault.NoMemory)) P (λ a h. subst P (sym h.0) (NotMade e h.1 begins)) told
+-- a refusal for memory, or at the start
+at_start : (e : Refusal) → e.fault ≢ verify_fault.NoMemory → (e.fault ≡ verify_fault.NoMemory) ⊎ (e.pc ≡ 0) → e.pc ≡ 0
+at_start e other (inl memory) = absurd (other memory)
+at_start e other (inr start) = start
+
+pub IsCertificate-refused : (limit : ℕ) (hook : Hook) (p : decoded.Code) (r : Result Answer ProgramFault) (e : Refusal) → decoded.Begins p.slots e.pc
+    → (IsClear p entry_view limit → (e.fault ≡ verify_fault.NoMemory) ⊎ (e.pc ≡ 0))
+    → IfOk r (λ a. (a ≡ Refused e) × (e.fault ≢ verify_fault.NoMemory)) → IfOk r (IsCertificate limit hook p)
+IsCertificate-refused limit hook p r e begins clear told =
+    let P : Answer → Type 0 = IsCertificate limit hook p in
+    IfOk-weaker r (λ a. (a ≡ Refused e) × (e.fault ≢ verify_fault.NoMemory)) P (λ a h. subst P (sym h.0) (NotMade e h.1 begins (λ is_clear. at_start e h.1 (clear is_clear)))) told
 
 pub IsChecked-refused : (hook : Hook) (bytes : List ℕ) (p : decoded.Code) (r : Result Answer ProgramFault) (e : CertFault) → shown.Refuses p hook bytes e
     → IfOk r (λ a. (a ≡ Unaccepted e) × (e ≢ cert_fault.NoMemory)) → IfOk r (IsChecked hook bytes p)

@@ -2,9 +2,11 @@
 use Rattle.std.specs.Prelude.{List, ℕ, Option}
 use Rattle.bpf_regions.specs.declared.hooks.Hook.{Hook}
 use Rattle.bpf_decode.specs.Program.{Code}
+use Rattle.bpf_verifier.specs.Limits.{nearest}
 use Rattle.apd_words.specs.Asked.{Asked, Verify, Assemble, Disassemble, Trace, Explain, Frames, Help, Certify, Check}
 use Rattle.apd_program.specs.declared.answer.Answer.{Answer}
 use Rattle.apd_program.specs.declared.reading.Setup.{Setup}
+use Rattle.apd_inputs.specs.declared.files.FileKind.TheVariants as kind
 use Rattle.apd_inputs.specs.Held.{Held, Holds, Lacks, HoldsCode}
 use Rattle.apd_program.specs.Setups.{IsFrame, Configures}
 use Rattle.apd_program.specs.Faults.{IsAtFault, HasNoFrame, HasBadCapture, HasNoCertificate}
@@ -30,10 +32,10 @@ pub record IsOfText (says : List ℕ → Answer → Type 0) (files : Held) (file
   pub said : says text a
 
 -- the run of the program in the file on the frame that the word spells
-pub record IsTraced (files : Held) (hook : Hook) (file word : List ℕ) (config : Option (List ℕ)) (a : Answer) : Type 0 where
+pub record IsTraced (files : Held) (limit : ℕ) (hook : Hook) (file word : List ℕ) (config : Option (List ℕ)) (a : Answer) : Type 0 where
   pub frame : List ℕ
   pub spelled : IsFrame word frame
-  pub said : IsOfCode (λ setup. IsVerdict (IsRun hook frame setup.draw)) files file config a
+  pub said : IsOfCode (λ setup. IsVerdict limit (IsRun hook frame setup.draw)) files file config a
 
 -- what the certificate in one file shows of the program in the other
 pub record IsCheckedFile (files : Held) (hook : Hook) (file certificate : List ℕ) (config : Option (List ℕ)) (a : Answer) : Type 0 where
@@ -43,26 +45,26 @@ pub record IsCheckedFile (files : Held) (hook : Hook) (file certificate : List �
 
 -- what is answered to each command, by what the files hold
 abbrev pub IsAnswer : Held → Asked → Answer → Type 0
-IsAnswer files (Verify hook file config) a = IsOfCode (λ setup. IsVerdict IsBudget) files file config a
+IsAnswer files (Verify hook file config states) a = IsOfCode (λ setup. IsVerdict (nearest states) IsBudget) files file config a
 IsAnswer files (Assemble file) a = IsOfText IsAssembly files file a
 IsAnswer files (Disassemble file config slots) a = IsOfCode (λ setup. IsListingWith slots) files file config a
-IsAnswer files (Trace hook file word config) a = IsTraced files hook file word config a
+IsAnswer files (Trace hook file word config states) a = IsTraced files (nearest states) hook file word config a
 IsAnswer files (Explain word) a = IsPage word a
 IsAnswer files (Frames capture ticks) a = IsOfText (IsScript ticks) files capture a
 IsAnswer files (Help command) a = IsHelpText (help_words command) a
-IsAnswer files (Certify hook file config) a = IsOfCode (λ setup. IsCertificate hook) files file config a
+IsAnswer files (Certify hook file config states) a = IsOfCode (λ setup. IsCertificate (nearest states) hook) files file config a
 IsAnswer files (Check hook file certificate config) a = IsCheckedFile files hook file certificate config a
 IsAnswer files _ a = ⊥
 
 -- there is no answer: a file or a word is at fault, or the command isn't there yet
 abbrev pub HasNoAnswer : Held → Asked → Type 0
-HasNoAnswer files (Verify hook file config) = IsAtFault files file config
-HasNoAnswer files (Assemble file) = Lacks files file
+HasNoAnswer files (Verify hook file config states) = IsAtFault files file config
+HasNoAnswer files (Assemble file) = Lacks kind.Text files file
 HasNoAnswer files (Disassemble file config slots) = IsAtFault files file config
-HasNoAnswer files (Trace hook file word config) = HasNoFrame files file word config
+HasNoAnswer files (Trace hook file word config states) = HasNoFrame files file word config
 HasNoAnswer files (Explain word) = HasNoPage word
 HasNoAnswer files (Frames capture ticks) = HasBadCapture files capture
 HasNoAnswer files (Help command) = HasNoHelp (help_words command)
-HasNoAnswer files (Certify hook file config) = IsAtFault files file config
+HasNoAnswer files (Certify hook file config states) = IsAtFault files file config
 HasNoAnswer files (Check hook file certificate config) = HasNoCertificate files file certificate config
 HasNoAnswer files _ = Unit {0}

@@ -1,9 +1,11 @@
 -- What `cert` and `check` answer for a program.
-use Rattle.std.specs.Prelude.{◌≢◌, ℕ, List, Vec}
+use Rattle.std.specs.Prelude.{◌≡◌, ◌≢◌, ℕ, List, Vec}
 use Rattle.std.specs.declared.alloc.Global.{Global}
 use Rattle.bpf_regions.specs.declared.hooks.Hook.{Hook}
 use Rattle.bpf_decode.specs.Program.{Code, Begins}
 use Rattle.bpf_model.specs.Run.{Safe}
+use Rattle.bpf_absstate.specs.View.{entry_view}
+use Rattle.bpf_plain.specs.Clear.{IsClear}
 use Rattle.bpf_verifier.specs.declared.refusal.Refusal.{Refusal}
 use Rattle.bpf_rules.specs.declared.fault.Fault.TheVariants as fault
 use Rattle.bpf_cert.specs.Certified.{Covered, Refuses}
@@ -12,10 +14,13 @@ use Rattle.bpf_cert.specs.declared.fault.CertFault.TheVariants.{NoMemory}
 use Rattle.apd_program.specs.declared.answer.Answer.{Answer}
 use Rattle.apd_program.specs.declared.answer.Answer.TheVariants.{Accepted, Certificate, Refused, Unaccepted}
 
--- `cert` says bytes that show within some budget that the program is safe, or a refusal at one of its instructions
-pub data IsCertificate (hook : Hook) (p : Code) : Answer → Type 0 where
-  Made : (bytes : Vec ℕ Global) (b : ℕ) → Covered p hook bytes.items b → IsCertificate hook p (Certificate bytes)
-  NotMade : (e : Refusal) → e.fault ≢ fault.NoMemory → Begins p.slots e.pc → IsCertificate hook p (Refused e)
+-- `cert` says bytes that show within some budget that the program is safe, or a refusal at one of its instructions,
+-- which is the first one where the program is clear by the rules within the limit
+pub data IsCertificate (limit : ℕ) (hook : Hook) (p : Code) : Answer → Type 0 where
+  Made : (bytes : Vec ℕ Global) (b : ℕ) → Covered p hook bytes.items b →
+      IsCertificate limit hook p (Certificate bytes)
+  NotMade : (e : Refusal) → e.fault ≢ fault.NoMemory → Begins p.slots e.pc →
+      (IsClear p entry_view limit → e.pc ≡ 0) → IsCertificate limit hook p (Refused e)
 
 -- `check` says the budget within which the bytes show that the program is safe, or why they show none
 pub data IsChecked (hook : Hook) (bytes : List ℕ) (p : Code) : Answer → Type 0 where

@@ -9,22 +9,29 @@ use Rattle.capture.specs.Captures.{Refuses}
 use Rattle.capture.specs.declared.fault.CaptureFault.{CaptureFault}
 use Rattle.capture.specs.declared.fault.CaptureFault.TheVariants as capture
 use Rattle.apd_program.specs.declared.reading.Setup.{Setup}
+use Rattle.apd_inputs.specs.declared.files.FileKind.{FileKind}
+use Rattle.apd_inputs.specs.declared.files.FileKind.TheVariants.{Configuration, Code, Certificate, Capture}
 use Rattle.apd_inputs.specs.Held.{Held, Holds, Lacks, HoldsCode, code_of}
 use Rattle.apd_program.specs.Setups.{Configures}
 
--- the file can't be read, or doesn't hold hex digits in pairs
-pub data HasBadCode (files : Held) (path : List ℕ) : Type 0 where
-  NoFile : Lacks files path → HasBadCode files path
-  NoCode : (text : List ℕ) (e : FromHexError) → Holds files path text → code_of text ≡ Err e → HasBadCode files path
+-- a file of the kind can't be read, or doesn't hold hex digits in pairs
+pub data HasBadDigits (kind : FileKind) (files : Held) (path : List ℕ) : Type 0 where
+  NoFile : Lacks kind files path → HasBadDigits kind files path
+  NoCode : (text : List ℕ) (e : FromHexError) → Holds files path text → code_of text ≡ Err e →
+      HasBadDigits kind files path
+
+-- that of the code
+abbrev pub HasBadCode : Held → List ℕ → Type 0
+HasBadCode = HasBadDigits Code
 
 -- the file can't be read, or isn't a configuration
 pub data HasBadConfiguration (files : Held) (path : List ℕ) : Type 0 where
-  NoFile : Lacks files path → HasBadConfiguration files path
+  NoFile : Lacks Configuration files path → HasBadConfiguration files path
   NoConfiguration : (text : List ℕ) (e : ConfigFault) → Holds files path text → e ≢ config.NoMemory → TellsOfText text e → HasBadConfiguration files path
 
 -- the file can't be read, or isn't a capture
 pub data HasBadCapture (files : Held) (path : List ℕ) : Type 0 where
-  NoFile : Lacks files path → HasBadCapture files path
+  NoFile : Lacks Capture files path → HasBadCapture files path
   NoCapture : (text : List ℕ) (e : CaptureFault) → Holds files path text → e ≢ capture.NoMemory → Refuses text e → HasBadCapture files path
 
 -- a configuration is named, and its file is none
@@ -50,4 +57,4 @@ pub data HasNoFrame (files : Held) (file word : List ℕ) (config : Option (List
 -- the configuration or the code is at fault, or none is and the certificate's file can't be read, or doesn't hold hex digits in pairs
 pub data HasNoCertificate (files : Held) (file certificate : List ℕ) (config : Option (List ℕ)) : Type 0 where
   OfOthers : IsAtFault files file config → HasNoCertificate files file certificate config
-  OfCertificate : (setup : Setup) (code : List ℕ) → Configures files config setup → HoldsCode files file code → HasBadCode files certificate → HasNoCertificate files file certificate config
+  OfCertificate : (setup : Setup) (code : List ℕ) → Configures files config setup → HoldsCode files file code → HasBadDigits Certificate files certificate → HasNoCertificate files file certificate config

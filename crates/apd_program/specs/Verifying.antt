@@ -12,14 +12,15 @@ use Rattle.apd_trace.specs.Trace.{IsTrace}
 use Rattle.apd_program.specs.declared.answer.Answer.{Answer}
 use Rattle.apd_program.specs.declared.answer.Answer.TheVariants.{Accepted, Run, Refused}
 
--- The verdict on a program: a refusal at one of its instructions, which no plain program gets, nor one that is clear by
--- the rules, or what is said of it with a budget within which it is safe, and which for a plain program is no more than
--- its longest walk.
-pub data IsVerdict (says : Code → ℕ → Answer → Type 0) (p : Code) : Answer → Type 0 where
-  Admitted : (budget : ℕ) (a : Answer) → Safe p.slots p.shapes budget → budget ≤ 2 ^ 22 →
-      (IsPlain p.slots → HasWalk p.slots budget) → says p budget a → IsVerdict says p a
-  NotAdmitted : (e : Refusal) → e.fault ≢ NoMemory → Begins p.slots e.pc → (IsPlain p.slots → ⊥) →
-      (IsClear p entry_view (2 ^ 22) → ⊥) → IsVerdict says p (Refused e)
+-- The verdict on a program, of which no more states than the limit are examined: a refusal at one of its instructions,
+-- which none gets that is clear by the rules within the limit, nor a plain one under the greatest limit, or what is said
+-- of it with a budget within which it is safe, and which for a plain program is no more than its longest walk.
+pub data IsVerdict (limit : ℕ) (says : Code → ℕ → Answer → Type 0) (p : Code) : Answer → Type 0 where
+  Admitted : (budget : ℕ) (a : Answer) → Safe p.slots p.shapes budget → budget ≤ limit →
+      (IsPlain p.slots → HasWalk p.slots budget) → says p budget a → IsVerdict limit says p a
+  NotAdmitted : (e : Refusal) → e.fault ≢ NoMemory → Begins p.slots e.pc →
+      (limit ≡ 2 ^ 22 → IsPlain p.slots → ⊥) → (IsClear p entry_view limit → ⊥) →
+      IsVerdict limit says p (Refused e)
 
 -- `verify` says the budget
 abbrev pub IsBudget : Code → ℕ → Answer → Type 0

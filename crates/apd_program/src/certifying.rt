@@ -1,15 +1,18 @@
 //! Certificates, made and checked: the commands `cert` and `check`.
 
 ghost use Rattle.std.specs.Prelude.{◌≡◌, ◌≢◌, IfOk, IfErr};
+ghost use Rattle.bpf_verifier.specs.Limits.{nearest};
 ghost use Rattle.bpf_cert.specs.declared.fault.CertFault.{CertFault};
 ghost use Rattle.apd_program.specs.Certifying.{IsCertificate, IsChecked};
 ghost use Rattle.apd_program.specs.Programs.{IsOfProgram};
 
 use crate::answer::{Answer, refused, undecoded};
 use crate::fault::ProgramFault;
-use bpf_cert::{CertFault, certificate};
+use crate::verifying::Terms;
+use bpf_cert::{CertFault, certificate_within};
 use bpf_decode::{Program, decode};
 use bpf_regions::{Hook, Shapes};
+use bpf_verifier::verify_within;
 use std::alloc::Global;
 
 /// The answer to a certificate that isn't accepted.
@@ -24,12 +27,13 @@ fn unaccepted(fault: CertFault) -> Result<Answer, ProgramFault>
 }
 
 /// The certificate of a program, or the verifier's refusal.
-fn certified(alloc: Global, program: Program, hook: Hook) -> Result<Answer, ProgramFault>
-    ensures certificate { IfOk result (IsCertificate hook program) }
+fn certified(alloc: Global, program: Program, terms: Terms) -> Result<Answer, ProgramFault>
+    ensures certificate { IfOk result (IsCertificate (nearest terms.states) terms.hook program) }
     ensures memory { IfErr result (λ e. e ≡ ProgramFault.NoMemory) }
 {
-    match bpf_verifier::verify(alloc, program, hook) {
-        Ok(accepted) => match certificate(alloc, &accepted) {
+    let limit = terms.limit();
+    match verify_within(alloc, program, terms.hook, limit) {
+        Ok(accepted) => match certificate_within(alloc, &accepted, limit) {
             Ok(bytes) => Ok(Answer::Certificate(bytes)),
             Err(refusal) => refused(refusal),
         },
@@ -42,13 +46,13 @@ pub(crate) fn certify(
     alloc: Global,
     code: &[u8],
     shapes: Shapes,
-    hook: Hook,
+    terms: Terms,
 ) -> Result<Answer, ProgramFault>
-    ensures certificate { IfOk result (IsOfProgram (IsCertificate hook) code.now shapes) }
+    ensures certificate { IfOk result (IsOfProgram (IsCertificate (nearest terms.states) terms.hook) code.now shapes) }
     ensures memory { IfErr result (λ e. e ≡ ProgramFault.NoMemory) }
 {
     match decode(alloc, code, shapes) {
-        Ok(program) => certified(alloc, program, hook),
+        Ok(program) => certified(alloc, program, terms),
         Err(fault) => undecoded(fault),
     }
 }

@@ -5,12 +5,12 @@ ghost use Rattle.apd_program.specs.Pages.{IsPage, HasNoPage};
 
 use crate::answer::Answer;
 use crate::fault::ProgramFault;
+use crate::verifying::Terms;
 use apd_explain::{fault_text, insn_text, reason_text};
 use apd_inputs::shown;
 use apd_refusals::{explain, page_text};
 use apd_words::Request;
 use bpf_decode::{DecodeFault, Program};
-use bpf_regions::Hook;
 use bpf_text::AsmFault;
 use bpf_verifier::Refusal;
 use std::alloc::{AllocError, Global};
@@ -105,9 +105,9 @@ impl Reason {
     }
 
     /// What the verifier finds of a program.
-    pub(crate) fn explain(&mut self, alloc: Global, program: &Program, hook: Hook) {
+    pub(crate) fn explain(&mut self, alloc: Global, program: &Program, terms: Terms) {
         if self.wanted {
-            self.text = reason_text(alloc, program, hook).map(Some);
+            self.text = reason_text(alloc, program, terms.hook, terms.limit()).map(Some);
         }
     }
 

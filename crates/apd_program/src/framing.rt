@@ -9,7 +9,7 @@ use crate::answer::Answer;
 use crate::fault::{ProgramFault, of_capture};
 use crate::reading::read;
 use apd_frames::script_text;
-use apd_inputs::Files;
+use apd_inputs::{FileKind, Files};
 use capture::read_capture;
 use std::alloc::Global;
 
@@ -23,7 +23,7 @@ pub(crate) fn frames<F: Files>(
     ensures script { IfOk result (λ a. IsOfText (IsScript ticks) (F.held files.old) path.now a) }
     ensures fault { IfErr result (λ e. (e ≡ ProgramFault.NoMemory) ⊎ HasBadCapture (F.held files.old) path.now) }
 {
-    let file = read(alloc, path, files)?;
+    let file = read(alloc, path, FileKind::Capture, files)?;
     match read_capture(alloc, file.as_slice()) {
         Ok(packets) => {
             let text = script_text(alloc, packets.as_slice(), ticks)?;

@@ -9,6 +9,9 @@ use apd_output::{Unwritten, write_whole};
 use std::alloc::{AllocError, Global};
 use std::io::{ErrorKind, Write};
 
+/// What is told where memory ran out. It is written as it stands, since a text that is made takes memory.
+const NO_MEMORY: &str = "apd: out of memory\n";
+
 /// Prints an answer, and answers the program's status: the answer's where its whole text was
 /// written, 2 where a write failed, 3 where memory ran out before the first.
 pub(crate) fn print<W: Write, E: Write>(
@@ -21,6 +24,7 @@ pub(crate) fn print<W: Write, E: Write>(
 {
     let status = answer.status();
     let Ok(text) = answer.printed(alloc) else {
+        say(NO_MEMORY, err);
         return 3;
     };
     match write_whole(out, text.as_bytes()) {
@@ -71,11 +75,16 @@ pub(crate) fn say_if_any<W: Write>(text: &Result<Option<String>, AllocError>, wr
 pub(crate) fn complain<W: Write>(alloc: Global, fault: &ProgramFault, err: &mut W) -> u8
     ensures is { result ≡ fault_status fault.now }
 {
-    if let Ok(text) = format!(in alloc; "{fault}\n") {
-        say(text.as_str(), err);
-    }
     match fault {
-        ProgramFault::NoMemory => 3,
-        _ => 2,
+        ProgramFault::NoMemory => {
+            say(NO_MEMORY, err);
+            return 3;
+        }
+        _ => {
+            if let Ok(text) = format!(in alloc; "{fault}\n") {
+                say(text.as_str(), err);
+            }
+            return 2;
+        }
     }
 }

@@ -4,6 +4,7 @@ ghost use Rattle.std.specs.Prelude.{◌≡◌, ◌≤◌, ◌⊎◌, IfOk, IfErr
 ghost use Rattle.std.specs.Io.KnownBytes.{Keeps};
 ghost use Rattle.apd_words.specs.Asked.{Asked, asked_of};
 ghost use Rattle.apd_words.specs.Spells.{Spells};
+ghost use Rattle.bpf_verifier.specs.Limits.{nearest};
 ghost use Rattle.apd_inputs.specs.Held.{Lacks};
 ghost use Rattle.apd_program.specs.Faults.{IsAtFault, HasNoFrame, HasNoCertificate};
 ghost use Rattle.apd_program.specs.Certifying.{IsCertificate};
@@ -17,8 +18,9 @@ use crate::explaining::Reason;
 use crate::fault::ProgramFault;
 use crate::printing::{complain, print, print_text, say, say_if_any};
 use crate::reading::{code, frame, read, setup_of};
+use crate::verifying::Terms;
 use crate::{certifying, explaining, framing, helping, texts, verifying};
-use apd_inputs::Files;
+use apd_inputs::{FileKind, Files};
 use apd_words::{Request, Told, read_words};
 use bpf_regions::{Frame, Hook};
 use std::alloc::Global;
@@ -88,8 +90,9 @@ fn answer<F: Files>(
             hook,
             file,
             config,
+            states,
             ..
-        } => verify(alloc, hook, file, config, files, reason),
+        } => verify(alloc, Terms { hook, states }, file, config, files, reason),
         Request::Assemble { file } => assemble(alloc, file, files),
         Request::Disassemble {
             file,
@@ -101,14 +104,21 @@ fn answer<F: Files>(
             file,
             frame,
             config,
-        } => trace(alloc, hook, file, frame, config, files, reason),
+            states,
+        } => {
+            let terms = Terms { hook, states };
+            trace(alloc, terms, file, frame, config, files, reason)
+        }
         Request::Explain { number } => explaining::page(alloc, number),
         Request::Frames { capture, ticks } => framing::frames(alloc, capture, ticks, files),
         Request::Help { command } => helping::help(alloc, command),
         Request::Run { .. } => Err(ProgramFault::NotThere("run")),
-        Request::Certify { hook, file, config } => certify(
-            alloc, hook, file, config, files, reason,
-        ),
+        Request::Certify {
+            hook,
+            file,
+            config,
+            states,
+        } => certify(alloc, Terms { hook, states }, file, config, files, reason),
         Request::Check {
             hook,
             file,
@@ -121,18 +131,18 @@ fn answer<F: Files>(
 /// The verdict on the code of a file, for the maps of a configuration.
 fn verify<F: Files>(
     alloc: Global,
-    hook: Hook,
+    terms: Terms,
     file: &str,
     config: Option<&str>,
     files: &mut F,
     reason: &mut Reason,
 ) -> Result<Answer, ProgramFault>
-    ensures verdict { IfOk result (λ a. IsOfCode (λ setup. IsVerdict IsBudget) (F.held files.old) file.now (option_map (λ path. path.now) config.entry) a) }
+    ensures verdict { IfOk result (λ a. IsOfCode (λ setup. IsVerdict (nearest terms.states) IsBudget) (F.held files.old) file.now (option_map (λ path. path.now) config.entry) a) }
     ensures fault { IfErr result (λ e. (e ≡ ProgramFault.NoMemory) ⊎ IsAtFault (F.held files.old) file.now (option_map (λ path. path.now) config.entry)) }
 {
     let setup = setup_of(alloc, config, files)?;
-    let code = code(alloc, file, files)?;
-    let answer = verifying::verify(alloc, code.as_slice(), setup.shapes, hook, reason);
+    let code = code(alloc, file, FileKind::Code, files)?;
+    let answer = verifying::verify(alloc, code.as_slice(), setup.shapes, terms, reason);
     reason.points_at(alloc, code.as_slice(), &answer);
     answer
 }
@@ -140,9 +150,9 @@ fn verify<F: Files>(
 /// The code of the text of a file.
 fn assemble<F: Files>(alloc: Global, file: &str, files: &mut F) -> Result<Answer, ProgramFault>
     ensures assembly { IfOk result (λ a. IsOfText IsAssembly (F.held files.old) file.now a) }
-    ensures fault { IfErr result (λ e. (e ≡ ProgramFault.NoMemory) ⊎ Lacks (F.held files.old) file.now) }
+    ensures fault { IfErr result (λ e. (e ≡ ProgramFault.NoMemory) ⊎ Lacks FileKind.Text (F.held files.old) file.now) }
 {
-    let text = read(alloc, file, files)?;
+    let text = read(alloc, file, FileKind::Text, files)?;
     texts::assemble(alloc, text.as_slice())
 }
 
@@ -158,30 +168,30 @@ fn disassemble<F: Files>(
     ensures fault { IfErr result (λ e. (e ≡ ProgramFault.NoMemory) ⊎ IsAtFault (F.held files.old) file.now (option_map (λ path. path.now) config.entry)) }
 {
     let setup = setup_of(alloc, config, files)?;
-    let code = code(alloc, file, files)?;
+    let code = code(alloc, file, FileKind::Code, files)?;
     texts::disassemble(alloc, code.as_slice(), setup.shapes, slots)
 }
 
 /// The run of the code of a file on the frame that a word spells.
 fn trace<F: Files>(
     alloc: Global,
-    hook: Hook,
+    terms: Terms,
     file: &str,
     word: &str,
     config: Option<&str>,
     files: &mut F,
     reason: &mut Reason,
 ) -> Result<Answer, ProgramFault>
-    ensures run { IfOk result (λ a. IsTraced (F.held files.old) hook file.now word.now (option_map (λ path. path.now) config.entry) a) }
+    ensures run { IfOk result (λ a. IsTraced (F.held files.old) (nearest terms.states) terms.hook file.now word.now (option_map (λ path. path.now) config.entry) a) }
     ensures fault { IfErr result (λ e. (e ≡ ProgramFault.NoMemory) ⊎ HasNoFrame (F.held files.old) file.now word.now (option_map (λ path. path.now) config.entry)) }
 {
     let setup = setup_of(alloc, config, files)?;
-    let code = code(alloc, file, files)?;
+    let code = code(alloc, file, FileKind::Code, files)?;
     let bytes = frame(alloc, word)?;
     let Some(frame) = Frame::new(bytes.as_slice()) else {
         return Err(ProgramFault::LongFrame);
     };
-    let answer = verifying::trace(alloc, code.as_slice(), setup, hook, &frame);
+    let answer = verifying::trace(alloc, code.as_slice(), setup, terms, &frame);
     reason.points_at(alloc, code.as_slice(), &answer);
     answer
 }
@@ -189,18 +199,18 @@ fn trace<F: Files>(
 /// The certificate of the program in a file, for the maps of a configuration.
 fn certify<F: Files>(
     alloc: Global,
-    hook: Hook,
+    terms: Terms,
     file: &str,
     config: Option<&str>,
     files: &mut F,
     reason: &mut Reason,
 ) -> Result<Answer, ProgramFault>
-    ensures certificate { IfOk result (λ a. IsOfCode (λ setup. IsCertificate hook) (F.held files.old) file.now (option_map (λ path. path.now) config.entry) a) }
+    ensures certificate { IfOk result (λ a. IsOfCode (λ setup. IsCertificate (nearest terms.states) terms.hook) (F.held files.old) file.now (option_map (λ path. path.now) config.entry) a) }
     ensures fault { IfErr result (λ e. (e ≡ ProgramFault.NoMemory) ⊎ IsAtFault (F.held files.old) file.now (option_map (λ path. path.now) config.entry)) }
 {
     let setup = setup_of(alloc, config, files)?;
-    let code = code(alloc, file, files)?;
-    let answer = certifying::certify(alloc, code.as_slice(), setup.shapes, hook);
+    let code = code(alloc, file, FileKind::Code, files)?;
+    let answer = certifying::certify(alloc, code.as_slice(), setup.shapes, terms);
     reason.points_at(alloc, code.as_slice(), &answer);
     answer
 }
@@ -218,8 +228,8 @@ fn check<F: Files>(
     ensures fault { IfErr result (λ e. (e ≡ ProgramFault.NoMemory) ⊎ HasNoCertificate (F.held files.old) file.now certificate.now (option_map (λ path. path.now) config.entry)) }
 {
     let setup = setup_of(alloc, config, files)?;
-    let bytes = code(alloc, file, files)?;
-    let shown = code(alloc, certificate, files)?;
+    let bytes = code(alloc, file, FileKind::Code, files)?;
+    let shown = code(alloc, certificate, FileKind::Certificate, files)?;
     certifying::check(
         alloc,
         bytes.as_slice(),

@@ -4,11 +4,11 @@ ghost use Rattle.std.specs.Prelude.{◌≡◌, ◌⊎◌, Ok, [], IfOk, IfErr, o
 ghost use Rattle.hex.specs.Hex.{decode_of};
 ghost use Rattle.apd_inputs.specs.Held.{Holds, Lacks, HoldsCode};
 ghost use Rattle.apd_program.specs.Setups.{HoldsSetup, Configures};
-ghost use Rattle.apd_program.specs.Faults.{HasBadCode, HasBadConfiguration, IsBadConfig, IsNoFrame};
+ghost use Rattle.apd_program.specs.Faults.{HasBadDigits, HasBadConfiguration, IsBadConfig, IsNoFrame};
 
 use crate::fault::{ProgramFault, of_code, of_configuration, of_digits};
 use apd_config::read_configuration;
-use apd_inputs::{FileFault, Files, code_in, shown};
+use apd_inputs::{FileFault, FileKind, Files, code_in, shown};
 use bpf_regions::Shapes;
 use std::alloc::Global;
 
@@ -21,17 +21,18 @@ pub(crate) struct Setup {
     pub draw: u64,
 }
 
-/// The bytes of a file.
+/// The bytes of a file of this kind.
 pub(crate) fn read<F: Files>(
     alloc: Global,
     path: &str,
+    kind: FileKind,
     files: &mut F,
 ) -> Result<Vec<u8>, ProgramFault>
     ensures there { IfOk result (λ bytes. Holds (F.held files.old) path.now bytes.items) }
-    ensures fault { IfErr result (λ e. (e ≡ ProgramFault.NoMemory) ⊎ Lacks (F.held files.old) path.now) }
+    ensures fault { IfErr result (λ e. (e ≡ ProgramFault.NoMemory) ⊎ Lacks kind (F.held files.old) path.now) }
     ensures same { F.held files.new ≡ F.held files.old }
 {
-    match files.read(path) {
+    match files.read(path, kind) {
         Ok(bytes) => Ok(bytes),
         Err(FileFault::NoMemory) => Err(ProgramFault::NoMemory),
         Err(why) => {
@@ -57,7 +58,7 @@ fn configured<F: Files>(alloc: Global, path: &str, files: &mut F) -> Result<Setu
     ensures fault { IfErr result (λ e. (e ≡ ProgramFault.NoMemory) ⊎ HasBadConfiguration (F.held files.old) path.now) }
     ensures same { F.held files.new ≡ F.held files.old }
 {
-    let text = read(alloc, path, files)?;
+    let text = read(alloc, path, FileKind::Configuration, files)?;
     match read_configuration(alloc, text.as_slice()) {
         Ok(configuration) => Ok(Setup {
             draw: configuration.draw,
@@ -86,17 +87,19 @@ pub(crate) fn setup_of<F: Files>(
     }
 }
 
-/// The code that a file spells.
+/// The code or the certificate that a file spells.
 pub(crate) fn code<F: Files>(
     alloc: Global,
     path: &str,
+    kind: FileKind,
     files: &mut F,
 ) -> Result<Vec<u8>, ProgramFault>
     ensures code { IfOk result (λ code. HoldsCode (F.held files.old) path.now code.items) }
-    ensures fault { IfErr result (λ e. (e ≡ ProgramFault.NoMemory) ⊎ HasBadCode (F.held files.old) path.now) }
+    ensures fault { IfErr result
+        (λ e. (e ≡ ProgramFault.NoMemory) ⊎ HasBadDigits kind (F.held files.old) path.now) }
     ensures same { F.held files.new ≡ F.held files.old }
 {
-    let text = read(alloc, path, files)?;
+    let text = read(alloc, path, kind, files)?;
     match code_in(alloc, text.as_slice()) {
         Ok(code) => Ok(code),
         Err(fault) => Err(of_code(alloc, path, text.as_slice(), fault)),

@@ -1,6 +1,7 @@
 //! The verdict on code, and the run of what is admitted: the commands `verify` and `trace`.
 
 ghost use Rattle.std.specs.Prelude.{◌≡◌, IfOk, IfErr};
+ghost use Rattle.bpf_verifier.specs.Limits.{nearest};
 ghost use Rattle.apd_program.specs.Programs.{IsOfProgram};
 ghost use Rattle.apd_program.specs.Verifying.{IsVerdict, IsBudget, IsRun};
 
@@ -11,20 +12,38 @@ use crate::reading::Setup;
 use apd_trace::trace_text;
 use bpf_decode::{Program, decode};
 use bpf_regions::{Frame, Hook, Shapes};
+use bpf_verifier::{StateLimit, verify_within};
 use std::alloc::Global;
+
+/// For which hook a program is verified, and how many states are asked for.
+#[derive(Clone, Copy)]
+pub(crate) struct Terms {
+    pub(crate) hook: Hook,
+    pub(crate) states: u32,
+}
+
+impl Terms {
+    /// How many states may be examined.
+    pub(crate) fn limit(&self) -> StateLimit
+        ensures is { result ≡ nearest self.now.states }
+    {
+        StateLimit::nearest(self.states)
+    }
+}
 
 /// The verifier's verdict on a program.
 fn admitted(
     alloc: Global,
     program: Program,
-    hook: Hook,
+    terms: Terms,
     reason: &mut Reason,
 ) -> Result<Answer, ProgramFault>
-    ensures verdict { IfOk result (IsVerdict IsBudget program) }
+    ensures verdict { IfOk result (IsVerdict (nearest terms.states) IsBudget program) }
     ensures memory { IfErr result (λ e. e ≡ ProgramFault.NoMemory) }
 {
-    reason.explain(alloc, &program, hook);
-    match bpf_verifier::verify(alloc, program, hook) {
+    reason.explain(alloc, &program, terms);
+    let limit = terms.limit();
+    match verify_within(alloc, program, terms.hook, limit) {
         Ok(accepted) => Ok(Answer::Accepted {
             budget: accepted.budget(),
         }),
@@ -37,14 +56,14 @@ pub(crate) fn verify(
     alloc: Global,
     code: &[u8],
     shapes: Shapes,
-    hook: Hook,
+    terms: Terms,
     reason: &mut Reason,
 ) -> Result<Answer, ProgramFault>
-    ensures verdict { IfOk result (IsOfProgram (IsVerdict IsBudget) code.now shapes) }
+    ensures verdict { IfOk result (IsOfProgram (IsVerdict (nearest terms.states) IsBudget) code.now shapes) }
     ensures memory { IfErr result (λ e. e ≡ ProgramFault.NoMemory) }
 {
     match decode(alloc, code, shapes) {
-        Ok(program) => admitted(alloc, program, hook, reason),
+        Ok(program) => admitted(alloc, program, terms, reason),
         Err(fault) => {
             reason.explain_fault(alloc, code, fault);
             undecoded(fault)
@@ -56,14 +75,15 @@ pub(crate) fn verify(
 fn run(
     alloc: Global,
     program: Program,
-    hook: Hook,
+    terms: Terms,
     frame: &Frame,
     draw: u64,
 ) -> Result<Answer, ProgramFault>
-    ensures run { IfOk result (IsVerdict (IsRun hook frame.now draw) program) }
+    ensures run { IfOk result (IsVerdict (nearest terms.states) (IsRun terms.hook frame.now draw) program) }
     ensures memory { IfErr result (λ e. e ≡ ProgramFault.NoMemory) }
 {
-    match bpf_verifier::verify(alloc, program, hook) {
+    let limit = terms.limit();
+    match verify_within(alloc, program, terms.hook, limit) {
         Ok(accepted) => {
             let text = trace_text(alloc, &accepted, frame, draw)?;
             Ok(Answer::Run(text))
@@ -77,15 +97,15 @@ pub(crate) fn trace(
     alloc: Global,
     code: &[u8],
     setup: Setup,
-    hook: Hook,
+    terms: Terms,
     frame: &Frame,
 ) -> Result<Answer, ProgramFault>
-    ensures run { IfOk result (IsOfProgram (IsVerdict (IsRun hook frame.now setup.draw)) code.now setup.shapes) }
+    ensures run { IfOk result (IsOfProgram (IsVerdict (nearest terms.states) (IsRun terms.hook frame.now setup.draw)) code.now setup.shapes) }
     ensures memory { IfErr result (λ e. e ≡ ProgramFault.NoMemory) }
 {
     let Setup { shapes, draw } = setup;
     match decode(alloc, code, shapes) {
-        Ok(program) => run(alloc, program, hook, frame, draw),
+        Ok(program) => run(alloc, program, terms, frame, draw),
         Err(fault) => undecoded(fault),
     }
 }

@@ -83,8 +83,8 @@ is used.",
     Explanation {
         number: 36,
         title: "the verifier gives up",
-        meaning: "It examined 4194304 states without an end: the program never ends, or it has too many ways. \
-The slot says where it stood.",
+        meaning: "It examined 4194304 states without an end, or as many as `--states` lets it: the program never ends, \
+or it has too many ways. The slot says where it stood.",
         habit: "A loop without a bound, or one that moves a pointer on in each turn, so that no two turns are alike.",
         programs: Some((
             Example::Text("ja -1\nexit\n"),

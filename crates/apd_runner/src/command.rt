@@ -8,7 +8,7 @@ use crate::fault::{RunFault, complain, of_script, say_why};
 use crate::setup::{configuration, copy_of, read, settings};
 use apd_access::{NewShards, Supplies, run_live};
 use apd_config::Configuration;
-use apd_inputs::Files;
+use apd_inputs::{FileKind, Files};
 use apd_progress::Watcher;
 use apd_script::{Numbered, read_script};
 use std::alloc::Global;
@@ -85,12 +85,12 @@ where
     E: Write,
     ensures runs { Runs (P.contents out) (P.contents result.0) none result.1 }
 {
-    let Supplies { files, gate } = supplies;
+    let Supplies { files, limit, gate } = supplies;
     let configuration = match configuration(alloc, words.config, files) {
         Ok(configuration) => configuration,
         Err(fault) => return (out, complain(alloc, &fault, err)),
     };
-    let text = match read(alloc, words.script, files) {
+    let text = match read(alloc, words.script, FileKind::Script, files) {
         Ok(text) => text,
         Err(fault) => return (out, complain(alloc, &fault, err)),
     };
@@ -107,7 +107,7 @@ where
         configuration,
         words.workers.max(1).min(8),
         commands.as_slice(),
-        Supplies { files, gate },
+        Supplies { files, limit, gate },
         out,
     );
     say_why(status, err);

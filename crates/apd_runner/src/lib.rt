@@ -10,5 +10,5 @@ mod command;
 mod fault;
 mod setup;
 
-pub use apd_access::{Gate, OpenGate, Supplies};
+pub use apd_access::{Gate, OpenGate, StateLimit, Supplies};
 pub use command::{RunWords, run};

@@ -6,18 +6,19 @@ use crate::fault::{RunFault, of_configuration, unreadable};
 use ap_model::{LinkConfig, Octets};
 use apd_access::Settings;
 use apd_config::{Configuration, read_configuration};
-use apd_inputs::Files;
+use apd_inputs::{FileKind, Files};
 use bpf_regions::Shapes;
 use mac_types::Address;
 use std::alloc::{AllocError, Global};
 
-/// The bytes of a file.
+/// The bytes of a file of this kind.
 pub(crate) fn read<F: Files>(
     alloc: Global,
     path: &str,
+    kind: FileKind,
     files: &mut F,
 ) -> Result<Vec<u8>, RunFault> {
-    match files.read(path) {
+    match files.read(path, kind) {
         Ok(bytes) => Ok(bytes),
         Err(why) => Err(unreadable(alloc, path, why)),
     }
@@ -29,7 +30,7 @@ pub(crate) fn configuration<F: Files>(
     path: &str,
     files: &mut F,
 ) -> Result<Configuration, RunFault> {
-    let text = read(alloc, path, files)?;
+    let text = read(alloc, path, FileKind::Configuration, files)?;
     match read_configuration(alloc, text.as_slice()) {
         Ok(configuration) => Ok(configuration),
         Err(fault) => Err(of_configuration(alloc, path, fault)),

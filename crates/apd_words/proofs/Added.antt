@@ -1,6 +1,6 @@
 -- What a command is with one more argument, and a program with one more command.
 use Rattle.std.proofs.Common.{◌≡◌, ◌∙◌, ◌||◌, false, ap, ap₂}
-use Rattle.clap.specs.Words.{App, Rule, Shape, AddsArg, AddsSubcommand, app_of, rule_of, with_rule, with_subcommand}
+use Rattle.clap.specs.Words.{App, Rule, Shape, AddsArg, AddsSubcommand, rule_of, with_subcommand}
 use Rattle.clap.specs.declared.builder.arg.Arg.{Arg}
 use Rattle.clap.specs.declared.builder.command.Command.{Command}
 use Rattle.apd_words.specs.Built.{IsCommand, IsProgram, with_argument}

@@ -1,12 +1,12 @@
 -- A command line whose words are known one by one: how a command is entered, and how its words are taken.
-use Rattle.std.proofs.Common.{◌≡◌, ◌∙◌, ◌+◌, ℕ, Bool, true, false, List, [], ◌∷◌, ◌++◌, Option, Some, None, refl, sym, ap, ap₂, append-nil, append_assoc}
+use Rattle.std.proofs.Common.{◌≡◌, ◌∙◌, ℕ, Bool, true, false, List, [], ◌∷◌, ◌++◌, Some, None, refl, sym, ap, ap₂, append-nil, append_assoc}
 use Rattle.std.specs.Prelude.{find, is_some, option_map}
 use Rattle.std.specs.List.{fold}
 use Rattle.std.specs.Option.{option_map_or}
 use Rattle.std.specs.Str.{bytes_eq}
 use Rattle.clap.specs.Kinds.{Kinds, or_else}
 use Rattle.clap.specs.Lexer.{long_of, short_of}
-use Rattle.clap.specs.Walk.{Held, Names, Rule, Walk, Text, Waiting, idle, option, next, value, after_step, answers_to, arg_by_id, arg_by_index, finished, nothing_held, option_word, pushed, settled, to_positional, walk, walked}
+use Rattle.clap.specs.Walk.{Held, Names, Rule, Walk, Text, idle, option, next, value, after_step, answers_to, arg_by_id, arg_by_index, finished, nothing_held, option_word, pushed, settled, to_positional, walk, walked}
 use Rattle.clap.specs.Simple.{App, Shape, entered, label_of, names_of, rows_at}
 use Rattle.clap.specs.Faults.{built_fault, check_fault, defaults_fault, entered_fault, level_fault, settle_fault, step_fault, turn_fault, walk_fault}
 

@@ -1,4 +1,5 @@
 pub mod Added
 pub mod Level
 pub mod Parsed
+pub mod States
 pub mod Usual

@@ -1,19 +1,20 @@
 -- Words in their usual order are taken, and ask for what they spell.
-use Rattle.std.proofs.Common.{◌≡◌, ◌==◌, ◌∙◌, true, false, List, [], ◌∷◌, Option, Some, None, refl, ap, codes, option_and_then}
+use Rattle.std.proofs.Common.{◌≡◌, ◌==◌, ◌∙◌, ℕ, Bool, true, false, if◌then◌else◌, List, [], ◌∷◌, Option, Some, None, refl, ap, codes, option_and_then}
 use Rattle.std.specs.Str.{bytes_eq}
 use Rattle.std.specs.List.{list_any}
 use Rattle.std.proofs.lemmas.Bool.{ne_eqb}
-use Rattle.clap.specs.ValueTests.{accepts}
+use Rattle.clap.specs.ValueTests.{accepts, is_unsigned_in}
 use Rattle.clap.specs.Walk.{Held, Text, Walk, finished, nothing_held}
 use Rattle.clap.specs.Simple.{Shape, built, built_leaf, inherited}
 use Rattle.clap.specs.declared.builder.value_parser.ValueParser.{ValueParser}
+use Rattle.clap.specs.declared.builder.value_parser.ValueParser.TheVariants.{Unsigned}
 use Rattle.clap.proofs.OnLiterals.{clap_on_literals}
 use Rattle.clap.proofs.WalkLemmas.{list_any-map}
 use Rattle.bpf_regions.specs.Hooks.{name_of}
 use Rattle.bpf_regions.specs.declared.hooks.Hook.{Hook}
 use Rattle.bpf_regions.specs.declared.hooks.Hook.TheVariants.{Association, Addba, Data}
-use Rattle.apd_words.specs.CommandLine.{command_line, hook_names, program as commands, verify, assemble, disassemble, trace, TakesNames}
-use Rattle.apd_words.specs.Asked.{Asked, Verify, Assemble, Disassemble, Trace, asked_in, hook_named}
+use Rattle.apd_words.specs.CommandLine.{command_line, hook_names, most_states, program as commands, verify, assemble, disassemble, trace, TakesNames}
+use Rattle.apd_words.specs.Asked.{Asked, Verify, Assemble, Disassemble, Trace, asked_in, hook_named, states_named}
 use Rattle.apd_words.specs.Spells.{IsOperand, Spells}
 use Rattle.apd_words.proofs.Level.{Enters, IsPlain, Passes, and_then, before_value, between, command_gives, command_passes, end_fault, first_operand, level_passes, next_operand, no_more, option_given, option_named, plain_then, value_then}
 
@@ -27,6 +28,15 @@ plain [] h = record { dashes = refl; long = refl; short = refl }
 plain (first ∷ rest) h =
     let other : (first == 45) ≡ false = ne_eqb first 45 h in
     record { dashes = rw other refl; long = rw other refl; short = rw other refl }
+
+-- what is there only where a test holds
+from_some : (b : Bool) (m n : ℕ) → (if b then Some m else None) ≡ Some n → b ≡ true
+from_some true m n e = refl
+from_some false m n e = cc
+
+-- a number of states is accepted
+accepted : (number : Text) (n : ℕ) → states_named number ≡ Some n → is_unsigned_in 1 most_states number ≡ true
+accepted number n e = from_some (is_unsigned_in 1 most_states number) _ n e
 
 -- a hook's name is taken for it
 taken : (p : ValueParser) (hook : Hook) → TakesNames p hook_names → accepts false p (name_of hook) ≡ true
@@ -87,32 +97,65 @@ unfolding clap_on_literals
 verify_with_ends p name file config = refl
 
 verify_asks : (p : ValueParser) (name file : Text)
-    → asked_in (Some ((leaf (verify p)).name, finished (leaf (verify p)).rules (verified p name file))) ≡ by_hook (λ hook. Verify hook file None) name
+    → asked_in (Some ((leaf (verify p)).name, finished (leaf (verify p)).rules (verified p name file))) ≡ by_hook (λ hook. Verify hook file None most_states) name
 unfolding clap_on_literals
 verify_asks p name file = refl
 
 verify_with_asks : (p : ValueParser) (name file config : Text)
-    → asked_in (Some ((leaf (verify p)).name, finished (leaf (verify p)).rules (verified_with p name file config))) ≡ by_hook (λ hook. Verify hook file (Some config)) name
+    → asked_in (Some ((leaf (verify p)).name, finished (leaf (verify p)).rules (verified_with p name file config))) ≡ by_hook (λ hook. Verify hook file (Some config) most_states) name
 unfolding clap_on_literals
 verify_with_asks p name file config = refl
 
-pub verify_plain : (program file : Text) (hook : Hook) → IsOperand file → Spells (program ∷ codes "verify" ∷ name_of hook ∷ file ∷ []) (Verify hook file None)
+-- after `--states N`
+abbrev verified_within : ValueParser → Text → Text → Text → Held
+verified_within p name file number = option_given (leaf (verify p)) (codes "states") number (verified p name file)
+
+verify_limit : (p : ValueParser) (name file number : Text) → IsPlain number
+    → Passes (leaf (verify p)) (between (verified p name file) 3) (codes "--states" ∷ number ∷ []) (between (verified_within p name file number) 3)
+unfolding clap_on_literals
+verify_limit p name file number c =
+    and_then {v = before_value (option_named (leaf (verify p)) (codes "states") (verified p name file)) (codes "states") 3} (codes "--states") refl refl
+    (value_then 3 number c refl (no_more _ _))
+
+verify_within_ends : (p : ValueParser) (name file number : Text) → accepts false (Unsigned 1 most_states) number ≡ true
+    → end_fault (leaf (verify p)) (verified_within p name file number) false ≡ []
+unfolding clap_on_literals
+verify_within_ends p name file number a = rw a refl
+
+verify_within_asks : (p : ValueParser) (name file number : Text)
+    → asked_in (Some ((leaf (verify p)).name, finished (leaf (verify p)).rules (verified_within p name file number)))
+    ≡ option_and_then (λ hook. option_and_then (λ n. Some (Verify hook file None n)) (states_named number)) (hook_named name)
+unfolding clap_on_literals
+verify_within_asks p name file number = refl
+
+pub verify_plain : (program file : Text) (hook : Hook) → IsOperand file → Spells (program ∷ codes "verify" ∷ name_of hook ∷ file ∷ []) (Verify hook file None most_states)
 verify_plain program file hook f p q t u =
     let name = name_of hook in
     let passes = verify_operands p name file (taken p hook t) (named hook) (plain file f) (no_more _ _) in
     record {
       faultless = command_passes (verify_enters p q) (name ∷ file ∷ []) (level_passes passes (verify_ends p name file));
-      asked = ap asked_in (command_gives (verify_enters p q) passes) ∙ verify_asks p name file ∙ hook_is_named hook (λ it. Verify it file None);
+      asked = ap asked_in (command_gives (verify_enters p q) passes) ∙ verify_asks p name file ∙ hook_is_named hook (λ it. Verify it file None most_states);
     }
 
 pub verify_configured : (program file config : Text) (hook : Hook) → IsOperand file → IsOperand config
-    → Spells (program ∷ codes "verify" ∷ name_of hook ∷ file ∷ codes "--config" ∷ config ∷ []) (Verify hook file (Some config))
+    → Spells (program ∷ codes "verify" ∷ name_of hook ∷ file ∷ codes "--config" ∷ config ∷ []) (Verify hook file (Some config) most_states)
 verify_configured program file config hook f c p q t u =
     let name = name_of hook in
     let passes = verify_operands p name file (taken p hook t) (named hook) (plain file f) (verify_option p name file config (plain config c)) in
     record {
       faultless = command_passes (verify_enters p q) (name ∷ file ∷ codes "--config" ∷ config ∷ []) (level_passes passes (verify_with_ends p name file config));
-      asked = ap asked_in (command_gives (verify_enters p q) passes) ∙ verify_with_asks p name file config ∙ hook_is_named hook (λ it. Verify it file (Some config));
+      asked = ap asked_in (command_gives (verify_enters p q) passes) ∙ verify_with_asks p name file config ∙ hook_is_named hook (λ it. Verify it file (Some config) most_states);
+    }
+
+pub verify_limited : (program file number : Text) (hook : Hook) (n : ℕ) → IsOperand file → IsOperand number → states_named number ≡ Some n
+    → Spells (program ∷ codes "verify" ∷ name_of hook ∷ file ∷ codes "--states" ∷ number ∷ []) (Verify hook file None n)
+verify_limited program file number hook n f c e p q t u =
+    let name = name_of hook in
+    let passes = verify_operands p name file (taken p hook t) (named hook) (plain file f) (verify_limit p name file number (plain number c)) in
+    record {
+      faultless = command_passes (verify_enters p q) (name ∷ file ∷ codes "--states" ∷ number ∷ []) (level_passes passes (verify_within_ends p name file number (accepted number n e)));
+      asked = ap asked_in (command_gives (verify_enters p q) passes) ∙ verify_within_asks p name file number
+          ∙ ap (λ o. option_and_then (λ it. option_and_then (λ m. Some (Verify it file None m)) o) (hook_named name)) e ∙ hook_is_named hook (λ it. Verify it file None n);
     }
 
 -- ---- asm
@@ -234,31 +277,64 @@ unfolding clap_on_literals
 trace_with_ends p name file frame config = refl
 
 trace_asks : (p : ValueParser) (name file frame : Text)
-    → asked_in (Some ((leaf (trace p)).name, finished (leaf (trace p)).rules (traced p name file frame))) ≡ by_hook (λ hook. Trace hook file frame None) name
+    → asked_in (Some ((leaf (trace p)).name, finished (leaf (trace p)).rules (traced p name file frame))) ≡ by_hook (λ hook. Trace hook file frame None most_states) name
 unfolding clap_on_literals
 trace_asks p name file frame = refl
 
 trace_with_asks : (p : ValueParser) (name file frame config : Text)
-    → asked_in (Some ((leaf (trace p)).name, finished (leaf (trace p)).rules (traced_with p name file frame config))) ≡ by_hook (λ hook. Trace hook file frame (Some config)) name
+    → asked_in (Some ((leaf (trace p)).name, finished (leaf (trace p)).rules (traced_with p name file frame config))) ≡ by_hook (λ hook. Trace hook file frame (Some config) most_states) name
 unfolding clap_on_literals
 trace_with_asks p name file frame config = refl
 
+-- after `--states N`
+abbrev traced_within : ValueParser → Text → Text → Text → Text → Held
+traced_within p name file frame number = option_given (leaf (trace p)) (codes "states") number (traced p name file frame)
+
+trace_limit : (p : ValueParser) (name file frame number : Text) → IsPlain number
+    → Passes (leaf (trace p)) (between (traced p name file frame) 4) (codes "--states" ∷ number ∷ []) (between (traced_within p name file frame number) 4)
+unfolding clap_on_literals
+trace_limit p name file frame number c =
+    and_then {v = before_value (option_named (leaf (trace p)) (codes "states") (traced p name file frame)) (codes "states") 4} (codes "--states") refl refl
+    (value_then 4 number c refl (no_more _ _))
+
+trace_within_ends : (p : ValueParser) (name file frame number : Text) → accepts false (Unsigned 1 most_states) number ≡ true
+    → end_fault (leaf (trace p)) (traced_within p name file frame number) false ≡ []
+unfolding clap_on_literals
+trace_within_ends p name file frame number a = rw a refl
+
+trace_within_asks : (p : ValueParser) (name file frame number : Text)
+    → asked_in (Some ((leaf (trace p)).name, finished (leaf (trace p)).rules (traced_within p name file frame number)))
+    ≡ option_and_then (λ hook. option_and_then (λ n. Some (Trace hook file frame None n)) (states_named number)) (hook_named name)
+unfolding clap_on_literals
+trace_within_asks p name file frame number = refl
+
 pub trace_plain : (program file frame : Text) (hook : Hook) → IsOperand file → IsOperand frame
-    → Spells (program ∷ codes "trace" ∷ name_of hook ∷ file ∷ frame ∷ []) (Trace hook file frame None)
+    → Spells (program ∷ codes "trace" ∷ name_of hook ∷ file ∷ frame ∷ []) (Trace hook file frame None most_states)
 trace_plain program file frame hook f g p q t u =
     let name = name_of hook in
     let passes = trace_operands p name file frame (taken p hook t) (named hook) (plain file f) (plain frame g) (no_more _ _) in
     record {
       faultless = command_passes (trace_enters p q) (name ∷ file ∷ frame ∷ []) (level_passes passes (trace_ends p name file frame));
-      asked = ap asked_in (command_gives (trace_enters p q) passes) ∙ trace_asks p name file frame ∙ hook_is_named hook (λ it. Trace it file frame None);
+      asked = ap asked_in (command_gives (trace_enters p q) passes) ∙ trace_asks p name file frame ∙ hook_is_named hook (λ it. Trace it file frame None most_states);
     }
 
 pub trace_configured : (program file frame config : Text) (hook : Hook) → IsOperand file → IsOperand frame → IsOperand config
-    → Spells (program ∷ codes "trace" ∷ name_of hook ∷ file ∷ frame ∷ codes "--config" ∷ config ∷ []) (Trace hook file frame (Some config))
+    → Spells (program ∷ codes "trace" ∷ name_of hook ∷ file ∷ frame ∷ codes "--config" ∷ config ∷ []) (Trace hook file frame (Some config) most_states)
 trace_configured program file frame config hook f g c p q t u =
     let name = name_of hook in
     let passes = trace_operands p name file frame (taken p hook t) (named hook) (plain file f) (plain frame g) (trace_option p name file frame config (plain config c)) in
     record {
       faultless = command_passes (trace_enters p q) (name ∷ file ∷ frame ∷ codes "--config" ∷ config ∷ []) (level_passes passes (trace_with_ends p name file frame config));
-      asked = ap asked_in (command_gives (trace_enters p q) passes) ∙ trace_with_asks p name file frame config ∙ hook_is_named hook (λ it. Trace it file frame (Some config));
+      asked = ap asked_in (command_gives (trace_enters p q) passes) ∙ trace_with_asks p name file frame config ∙ hook_is_named hook (λ it. Trace it file frame (Some config) most_states);
+    }
+
+pub trace_limited : (program file frame number : Text) (hook : Hook) (n : ℕ) → IsOperand file → IsOperand frame → IsOperand number → states_named number ≡ Some n
+    → Spells (program ∷ codes "trace" ∷ name_of hook ∷ file ∷ frame ∷ codes "--states" ∷ number ∷ []) (Trace hook file frame None n)
+trace_limited program file frame number hook n f g c e p q t u =
+    let name = name_of hook in
+    let passes = trace_operands p name file frame (taken p hook t) (named hook) (plain file f) (plain frame g) (trace_limit p name file frame number (plain number c)) in
+    record {
+      faultless = command_passes (trace_enters p q) (name ∷ file ∷ frame ∷ codes "--states" ∷ number ∷ []) (level_passes passes (trace_within_ends p name file frame number (accepted number n e)));
+      asked = ap asked_in (command_gives (trace_enters p q) passes) ∙ trace_within_asks p name file frame number
+          ∙ ap (λ o. option_and_then (λ it. option_and_then (λ m. Some (Trace it file frame None m)) o) (hook_named name)) e ∙ hook_is_named hook (λ it. Trace it file frame None n);
     }

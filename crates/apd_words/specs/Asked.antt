@@ -1,21 +1,24 @@
 -- What words ask for.
-use Rattle.std.specs.Prelude.{ℕ, ◌-◌, ◌&&◌, Bool, true, false, not, nat_le, List, [], ◌∷◌, codes, Option, Some, None, option_map, option_and_then, if◌then◌else◌}
+use Rattle.std.specs.Prelude.{ℕ, ◌-◌, ◌&&◌, Bool, false, not, nat_le, List, [], ◌∷◌, codes, Option, Some, None, option_map, option_and_then, if◌then◌else◌}
 use Rattle.std.specs.Option.{option_map_or}
 use Rattle.std.specs.Str.{bytes_eq}
+use Rattle.std.specs.Str.Parse.{digits_value, without_leading_plus}
+use Rattle.clap.specs.ValueTests.{is_unsigned_in}
 use Rattle.clap.specs.Words.{Row, Text, first_of}
 use Rattle.bpf_regions.specs.declared.hooks.Hook.{Hook}
 use Rattle.bpf_regions.specs.declared.hooks.Hook.TheVariants.{Association, Addba, Data}
+use Rattle.apd_words.specs.CommandLine.{most_states}
 use Rattle.apd_words.specs.declared.Request.{Request}
 use Rattle.apd_words.specs.declared.Request.TheVariants as request
 
 -- a request, with its words as texts
 pub data Asked : Type 0 where
-  Verify : Hook → Text → Option Text → Asked
+  Verify : Hook → Text → Option Text → ℕ → Asked
   Assemble : Text → Asked
   Disassemble : Text → Option Text → Bool → Asked
-  Trace : Hook → Text → Text → Option Text → Asked
-  Run : Text → Text → ℕ → Bool → Asked
-  Certify : Hook → Text → Option Text → Asked
+  Trace : Hook → Text → Text → Option Text → ℕ → Asked
+  Run : Text → Text → ℕ → ℕ → Bool → Asked
+  Certify : Hook → Text → Option Text → ℕ → Asked
   Check : Hook → Text → Text → Option Text → Asked
   Explain : Text → Asked
   Frames : Text → Bool → Asked
@@ -23,15 +26,17 @@ pub data Asked : Type 0 where
 
 -- what a request asks for; `--explain` asks for nothing but a text on standard error
 abbrev pub asked_of : Request → Asked
-asked_of (request.Verify hook file config explain) =
-    Verify hook file.now (option_map (λ s. s.now) config)
+asked_of (request.Verify hook file config states explain) =
+    Verify hook file.now (option_map (λ s. s.now) config) states
 asked_of (request.Assemble file) = Assemble file.now
 asked_of (request.Disassemble file config slots) =
     Disassemble file.now (option_map (λ s. s.now) config) slots
-asked_of (request.Trace hook file frame config) =
-    Trace hook file.now frame.now (option_map (λ s. s.now) config)
-asked_of (request.Run config script workers quiet) = Run config.now script.now workers quiet
-asked_of (request.Certify hook file config) = Certify hook file.now (option_map (λ s. s.now) config)
+asked_of (request.Trace hook file frame config states) =
+    Trace hook file.now frame.now (option_map (λ s. s.now) config) states
+asked_of (request.Run config script workers states quiet) =
+    Run config.now script.now workers states quiet
+asked_of (request.Certify hook file config states) =
+    Certify hook file.now (option_map (λ s. s.now) config) states
 asked_of (request.Check hook file certificate config) =
     Check hook file.now certificate.now (option_map (λ s. s.now) config)
 asked_of (request.Explain number) = Explain number.now
@@ -56,6 +61,12 @@ workers_named (digit ∷ []) =
     (if nat_le 49 digit && nat_le digit 56 then Some (digit - 48) else None)
 workers_named _ = None
 
+-- a number from 1 to the most states, in decimal digits
+abbrev pub states_named : Text → Option ℕ
+states_named text =
+    (if is_unsigned_in 1 most_states text then Some (digits_value 10 (without_leading_plus text))
+    else None)
+
 -- ---- what the arguments of a command ask for; `first_of id rows` is the value of an argument
 
 -- a flag that was given has the value `true`, else `false`
@@ -66,12 +77,17 @@ is_set flag rows = option_map_or (λ text. bytes_eq text (codes "true")) (first_
 abbrev pub hook_at : List Row → Option Hook
 hook_at rows = option_and_then hook_named (first_of (codes "HOOK") rows)
 
--- `verify HOOK FILE [--config C] [--explain]`
+-- how many states the verifier may examine
+abbrev pub states_at : List Row → Option ℕ
+states_at rows = option_and_then states_named (first_of (codes "states") rows)
+
+-- `verify HOOK FILE [--config C] [--states N] [--explain]`
 abbrev pub verify_of : List Row → Option Asked
 verify_of rows = do
   hook ← hook_at rows
   file ← first_of (codes "FILE") rows
-  Some (Verify hook file (first_of (codes "config") rows))
+  states ← states_at rows
+  Some (Verify hook file (first_of (codes "config") rows) states)
 
 -- `asm FILE`
 abbrev pub assemble_of : List Row → Option Asked
@@ -85,28 +101,31 @@ disassemble_of rows = do
   file ← first_of (codes "FILE") rows
   Some (Disassemble file (first_of (codes "config") rows) (is_set (codes "slots") rows))
 
--- `trace HOOK FILE FRAME [--config C]`
+-- `trace HOOK FILE FRAME [--config C] [--states N]`
 abbrev pub trace_of : List Row → Option Asked
 trace_of rows = do
   hook ← hook_at rows
   file ← first_of (codes "FILE") rows
   frame ← first_of (codes "FRAME") rows
-  Some (Trace hook file frame (first_of (codes "config") rows))
+  states ← states_at rows
+  Some (Trace hook file frame (first_of (codes "config") rows) states)
 
--- `run C SCRIPT [--workers N] [--quiet]`
+-- `run C SCRIPT [--workers N] [--states N] [--quiet]`
 abbrev pub run_of : List Row → Option Asked
 run_of rows = do
   config ← first_of (codes "C") rows
   script ← first_of (codes "SCRIPT") rows
   workers ← option_and_then workers_named (first_of (codes "workers") rows)
-  Some (Run config script workers (is_set (codes "quiet") rows))
+  states ← states_at rows
+  Some (Run config script workers states (is_set (codes "quiet") rows))
 
--- `cert HOOK FILE [--config C]`
+-- `cert HOOK FILE [--config C] [--states N]`
 abbrev pub certify_of : List Row → Option Asked
 certify_of rows = do
   hook ← hook_at rows
   file ← first_of (codes "FILE") rows
-  Some (Certify hook file (first_of (codes "config") rows))
+  states ← states_at rows
+  Some (Certify hook file (first_of (codes "config") rows) states)
 
 -- `check HOOK FILE CERT [--config C]`
 abbrev pub check_of : List Row → Option Asked

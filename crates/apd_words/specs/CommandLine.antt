@@ -1,11 +1,11 @@
 -- The commands of `apd`, with their arguments in order.
-use Rattle.std.specs.Prelude.{◌≡◌, true, List, [], ◌∷◌, map, codes, Some}
+use Rattle.std.specs.Prelude.{◌≡◌, ℕ, true, List, [], ◌∷◌, map, codes, Some}
 use Rattle.std.specs.Borrow.{Bor}
 use Rattle.clap.specs.Words.{App, Rule, Shape, Text, new_rule, with_subcommand}
 use Rattle.clap.specs.Simple.{new_shape}
 use Rattle.clap.specs.declared.builder.action.ArgAction.TheVariants.{Set, SetTrue}
 use Rattle.clap.specs.declared.builder.value_parser.ValueParser.{ValueParser}
-use Rattle.clap.specs.declared.builder.value_parser.ValueParser.TheVariants.{Names}
+use Rattle.clap.specs.declared.builder.value_parser.ValueParser.TheVariants.{Names, Unsigned}
 
 -- the names of the hooks
 abbrev pub hook_names : List Text
@@ -16,6 +16,10 @@ abbrev pub worker_names : List Text
 worker_names =
     codes "1" ∷ codes "2" ∷ codes "3" ∷ codes "4" ∷ codes "5" ∷ codes "6"
     ∷ codes "7" ∷ codes "8" ∷ []
+
+-- the most states that the verifier may be let examine
+abbrev pub most_states : ℕ
+most_states = 4194304
 
 -- a value is one of these names
 pub record TakesNames (parser : ValueParser) (names : List Text) : Type 0 where
@@ -56,6 +60,13 @@ abbrev pub workers : ValueParser → Rule
 workers numbers =
     record (option (codes "workers")) { parser = Some numbers; defaults = codes "2" ∷ [] }
 
+-- `--states N`, the most where it is left out
+abbrev pub states : Rule
+states = record (option (codes "states")) {
+  parser = Some (Unsigned 1 most_states);
+  defaults = codes "4194304" ∷ [];
+}
+
 -- a command with these arguments
 abbrev pub command : Text → List Rule → Shape
 command name rules = record (new_shape name) { rules = rules }
@@ -64,9 +75,10 @@ command name rules = record (new_shape name) { rules = rules }
 abbrev pub hook_command : Text → ValueParser → List Rule → Shape
 hook_command name hooks more = command name (hook hooks ∷ file ∷ more)
 
--- `verify HOOK FILE [--config C] [--explain]`
+-- `verify HOOK FILE [--config C] [--states N] [--explain]`
 abbrev pub verify : ValueParser → Shape
-verify hooks = hook_command (codes "verify") hooks (config ∷ flag (codes "explain") ∷ [])
+verify hooks =
+    hook_command (codes "verify") hooks (config ∷ states ∷ flag (codes "explain") ∷ [])
 
 -- `asm FILE`
 abbrev pub assemble : Shape
@@ -76,19 +88,20 @@ assemble = command (codes "asm") (file ∷ [])
 abbrev pub disassemble : Shape
 disassemble = command (codes "disasm") (file ∷ config ∷ flag (codes "slots") ∷ [])
 
--- `trace HOOK FILE FRAME [--config C]`
+-- `trace HOOK FILE FRAME [--config C] [--states N]`
 abbrev pub trace : ValueParser → Shape
-trace hooks = hook_command (codes "trace") hooks (required (codes "FRAME") ∷ config ∷ [])
+trace hooks =
+    hook_command (codes "trace") hooks (required (codes "FRAME") ∷ config ∷ states ∷ [])
 
--- `run C SCRIPT [--workers N] [--quiet]`
+-- `run C SCRIPT [--workers N] [--states N] [--quiet]`
 abbrev pub run : ValueParser → Shape
 run numbers =
     command (codes "run") (required (codes "C") ∷ required (codes "SCRIPT")
-    ∷ workers numbers ∷ flag (codes "quiet") ∷ [])
+    ∷ workers numbers ∷ states ∷ flag (codes "quiet") ∷ [])
 
--- `cert HOOK FILE [--config C]`
+-- `cert HOOK FILE [--config C] [--states N]`
 abbrev pub certify : ValueParser → Shape
-certify hooks = hook_command (codes "cert") hooks (config ∷ [])
+certify hooks = hook_command (codes "cert") hooks (config ∷ states ∷ [])
 
 -- `check HOOK FILE CERT [--config C]`
 abbrev pub check : ValueParser → Shape

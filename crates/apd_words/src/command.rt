@@ -5,14 +5,18 @@ ghost use Rattle.clap.specs.Words.{App, Rule, Shape, app_of, rule_of, with_subco
 ghost use Rattle.clap.specs.Simple.{new_shape};
 ghost use Rattle.clap.specs.declared.builder.value_parser.ValueParser.TheVariants.{Names};
 ghost use Rattle.apd_words.specs.Built.{IsProgram, IsCommand, with_argument};
-ghost use Rattle.apd_words.specs.CommandLine.{command_line, program, with_code_commands, with_run_commands, with_certificate_commands, with_reading_commands, hook_command, required, optional, flag, hook, file, config, workers, verify, assemble, disassemble, trace, run, certify, check, explain, frames, help};
+ghost use Rattle.apd_words.specs.CommandLine.{command_line, program, with_code_commands, with_run_commands, with_certificate_commands, with_reading_commands, hook_command, required, optional, flag, hook, file, config, workers, states, verify, assemble, disassemble, trace, run, certify, check, explain, frames, help};
 
+use clap::builder::ValueParser;
 use clap::{Arg, ArgAction, Command};
 use std::alloc::{AllocError, Global};
 
 pub(crate) static HOOKS: [&str; 3] = ["assoc", "addba", "data"];
 
 pub(crate) static WORKERS: [&str; 8] = ["1", "2", "3", "4", "5", "6", "7", "8"];
+
+/// The most states that a limit may name.
+pub(crate) const MOST_STATES: u32 = 4194304;
 
 const VERSION: &str = "0.1.0";
 
@@ -137,6 +141,7 @@ fn verify<'a>(alloc: Global, hooks: &'a [&'a str]) -> Made<'a>
 {
     let about = "Verify a program for a hook and print its budget";
     let command = with_arg(hook_command(alloc, "verify", about, hooks), config(alloc));
+    let command = with_arg(command, states(alloc));
     let why = "Tell on standard error why, and what is known there";
     with_arg(command, flag(alloc, "explain", why))
 }
@@ -174,7 +179,7 @@ fn trace<'a>(alloc: Global, hooks: &'a [&'a str]) -> Made<'a>
         command,
         required(alloc, "FRAME", "The frame, as hex digits"),
     );
-    with_arg(command, config(alloc))
+    with_arg(with_arg(command, config(alloc)), states(alloc))
 }
 
 fn run<'a>(alloc: Global, numbers: &'a [&'a str]) -> Made<'a>
@@ -187,6 +192,7 @@ fn run<'a>(alloc: Global, numbers: &'a [&'a str]) -> Made<'a>
     );
     let command = with_arg(command, required(alloc, "SCRIPT", "The script"));
     let command = with_arg(command, workers(alloc, numbers));
+    let command = with_arg(command, states(alloc));
     with_arg(
         command,
         flag(alloc, "quiet", "Tell no progress on standard error"),
@@ -197,7 +203,8 @@ fn certify<'a>(alloc: Global, hooks: &'a [&'a str]) -> Made<'a>
     ensures is { IfOk result (IsCommand (certify (Names hooks.entry))) }
 {
     let about = "Verify a program and print its certificate in hex";
-    with_arg(hook_command(alloc, "cert", about, hooks), config(alloc))
+    let command = with_arg(hook_command(alloc, "cert", about, hooks), config(alloc));
+    with_arg(command, states(alloc))
 }
 
 fn check<'a>(alloc: Global, hooks: &'a [&'a str]) -> Made<'a>
@@ -309,4 +316,17 @@ fn workers<'a>(alloc: Global, numbers: &'a [&'a str]) -> Arg<'a>
         .default_value("2")
         .hide_possible_values(true)
         .help("How many worker threads serve the shards, 1 to 8")
+}
+
+fn states<'a>(alloc: Global) -> Arg<'a>
+    ensures is { rule_of result ≡ states }
+    ensures local { result.global ≡ false }
+{
+    Arg::new(alloc, "states")
+        .long("states")
+        .value_name("N")
+        .action(ArgAction::Set)
+        .value_parser(ValueParser::Unsigned(1, u64::from(MOST_STATES)))
+        .default_value("4194304")
+        .help("How many states the verifier may examine, 1 to 4194304")
 }

@@ -1,20 +1,25 @@
 //! What words in their usual order ask for.
 
-ghost use Rattle.std.specs.Prelude.{◌∷◌, [], Some, None, List, ℕ, codes, false};
+ghost use Rattle.std.specs.Prelude.{◌≡◌, ◌∷◌, [], Some, None, List, ℕ, codes, false};
 ghost use Rattle.bpf_regions.specs.Hooks.{name_of};
 ghost use Rattle.bpf_regions.specs.declared.hooks.Hook.{Hook};
-ghost use Rattle.apd_words.specs.Asked.{Verify, Assemble, Disassemble, Trace};
+ghost use Rattle.apd_words.specs.Asked.{Verify, Assemble, Disassemble, Trace, states_named};
+ghost use Rattle.apd_words.specs.CommandLine.{most_states};
 ghost use Rattle.apd_words.specs.Spells.{IsOperand, Spells};
 
-/// The law of `apd verify HOOK FILE [--config C]`: the words ask for what they say, unless a FILE
-/// or C begins with a hyphen.
+/// The law of `apd verify HOOK FILE`, with `--config C` or `--states N`: the words ask for what they say,
+/// unless a FILE, C or N begins with a hyphen.
 pub fn verify_law()
     ensures plain { (program file : List ℕ) (hook : Hook) → IsOperand file
-        → Spells (program ∷ codes "verify" ∷ name_of hook ∷ file ∷ []) (Verify hook file None) }
+        → Spells (program ∷ codes "verify" ∷ name_of hook ∷ file ∷ []) (Verify hook file None most_states) }
     ensures configured { (program file config : List ℕ) (hook : Hook) →
         IsOperand file → IsOperand config
         → Spells (program ∷ codes "verify" ∷ name_of hook ∷ file ∷ codes "--config" ∷ config ∷ [])
-        (Verify hook file (Some config)) }
+        (Verify hook file (Some config) most_states) }
+    ensures limited { (program file number : List ℕ) (hook : Hook) (states : ℕ) →
+        IsOperand file → IsOperand number → states_named number ≡ Some states
+        → Spells (program ∷ codes "verify" ∷ name_of hook ∷ file ∷ codes "--states" ∷ number ∷ [])
+        (Verify hook file None states) }
 {}
 
 /// The law of `apd asm FILE`: the words ask for what they say, unless a FILE
@@ -34,14 +39,18 @@ pub fn disassemble_law()
         (Disassemble file (Some config) false) }
 {}
 
-/// The law of `apd trace HOOK FILE FRAME [--config C]`: the words ask for what they say, unless a
-/// FILE, FRAME or C begins with a hyphen.
+/// The law of `apd trace HOOK FILE FRAME`, with `--config C` or `--states N`: the words ask for what they
+/// say, unless a FILE, FRAME, C or N begins with a hyphen.
 pub fn trace_law()
     ensures plain { (program file frame : List ℕ) (hook : Hook) → IsOperand file → IsOperand frame
         → Spells (program ∷ codes "trace" ∷ name_of hook ∷ file ∷ frame ∷ [])
-        (Trace hook file frame None) }
+        (Trace hook file frame None most_states) }
     ensures configured { (program file frame config : List ℕ) (hook : Hook) →
         IsOperand file → IsOperand frame → IsOperand config
         → Spells (program ∷ codes "trace" ∷ name_of hook ∷ file ∷ frame ∷ codes "--config"
-        ∷ config ∷ []) (Trace hook file frame (Some config)) }
+        ∷ config ∷ []) (Trace hook file frame (Some config) most_states) }
+    ensures limited { (program file frame number : List ℕ) (hook : Hook) (states : ℕ) →
+        IsOperand file → IsOperand frame → IsOperand number → states_named number ≡ Some states
+        → Spells (program ∷ codes "trace" ∷ name_of hook ∷ file ∷ frame ∷ codes "--states"
+        ∷ number ∷ []) (Trace hook file frame None states) }
 {}

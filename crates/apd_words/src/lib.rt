@@ -21,11 +21,13 @@ pub use words::read_words;
 /// What the words ask for. Paths and frames are as they were written.
 #[derive(Clone, Copy)]
 pub enum Request<'a> {
-    /// `explain` asks for the reason on standard error.
+    /// `explain` asks for the reason on standard error. The states that the verifier may examine are
+    /// 1 to 4194304, here and below.
     Verify {
         hook: Hook,
         file: &'a str,
         config: Option<&'a str>,
+        states: u32,
         explain: bool,
     },
     Assemble {
@@ -41,18 +43,21 @@ pub enum Request<'a> {
         file: &'a str,
         frame: &'a str,
         config: Option<&'a str>,
+        states: u32,
     },
     /// The workers are 1 to 8. `quiet` asks for no progress on standard error.
     Run {
         config: &'a str,
         script: &'a str,
         workers: u8,
+        states: u32,
         quiet: bool,
     },
     Certify {
         hook: Hook,
         file: &'a str,
         config: Option<&'a str>,
+        states: u32,
     },
     Check {
         hook: Hook,

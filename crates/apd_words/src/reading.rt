@@ -1,12 +1,13 @@
 //! What the matches ask for.
 
-ghost use Rattle.std.specs.Prelude.{◌≡◌, ◌≤◌, IfSome, option_map};
+ghost use Rattle.std.specs.Prelude.{◌≡◌, ◌≤◌, ◌^◌, IfSome, option_map};
 ghost use Rattle.clap.specs.Matches.{found_of};
 ghost use Rattle.clap.specs.Simple.{subcommand_rows_of};
 ghost use Rattle.clap.specs.Walk.{first_of, rows_of};
-ghost use Rattle.apd_words.specs.Asked.{asked_of, asked_in, hook_named, hook_at, workers_named, verify_of, assemble_of, disassemble_of, trace_of, run_of, certify_of, check_of, explain_of, frames_of, help_of, is_set};
+ghost use Rattle.apd_words.specs.Asked.{asked_of, asked_in, hook_named, hook_at, workers_named, states_named, states_at, verify_of, assemble_of, disassemble_of, trace_of, run_of, certify_of, check_of, explain_of, frames_of, help_of, is_set};
 
 use crate::Request;
+use crate::command::MOST_STATES;
 use bpf_regions::Hook;
 use clap::ArgMatches;
 
@@ -36,11 +37,13 @@ fn verify<'a>(matches: &ArgMatches<'a>) -> Option<Request<'a>>
     let hook = hook(matches)?;
     let file = value(matches, "FILE")?;
     let config = value(matches, "config");
+    let states = states(matches)?;
     let explain = flag(matches, "explain");
     Some(Request::Verify {
         hook,
         file,
         config,
+        states,
         explain,
     })
 }
@@ -72,11 +75,13 @@ fn trace<'a>(matches: &ArgMatches<'a>) -> Option<Request<'a>>
     let file = value(matches, "FILE")?;
     let frame = value(matches, "FRAME")?;
     let config = value(matches, "config");
+    let states = states(matches)?;
     Some(Request::Trace {
         hook,
         file,
         frame,
         config,
+        states,
     })
 }
 
@@ -86,11 +91,13 @@ fn run<'a>(matches: &ArgMatches<'a>) -> Option<Request<'a>>
     let config = value(matches, "C")?;
     let script = value(matches, "SCRIPT")?;
     let workers = workers_named(value(matches, "workers")?)?;
+    let states = states(matches)?;
     let quiet = flag(matches, "quiet");
     Some(Request::Run {
         config,
         script,
         workers,
+        states,
         quiet,
     })
 }
@@ -101,7 +108,13 @@ fn certify<'a>(matches: &ArgMatches<'a>) -> Option<Request<'a>>
     let hook = hook(matches)?;
     let file = value(matches, "FILE")?;
     let config = value(matches, "config");
-    Some(Request::Certify { hook, file, config })
+    let states = states(matches)?;
+    Some(Request::Certify {
+        hook,
+        file,
+        config,
+        states,
+    })
 }
 
 fn check<'a>(matches: &ArgMatches<'a>) -> Option<Request<'a>>
@@ -194,6 +207,27 @@ fn workers_named(text: &str) -> Option<u8>
         "6" => Some(6),
         "7" => Some(7),
         "8" => Some(8),
+        _ => None,
+    }
+}
+
+/// How many states the verifier may examine.
+fn states(matches: &ArgMatches<'_>) -> Option<u32>
+    ensures is { result ≡ states_at (rows_of (found_of matches.now)) }
+    ensures from { IfSome result (λ states. 1 ≤ states) }
+    ensures to { IfSome result (λ states. states ≤ 2 ^ 22) }
+{
+    let text = value(matches, "states")?;
+    states_named(text)
+}
+
+fn states_named(text: &str) -> Option<u32>
+    ensures is { result ≡ states_named text.now }
+    ensures from { IfSome result (λ states. 1 ≤ states) }
+    ensures to { IfSome result (λ states. states ≤ 2 ^ 22) }
+{
+    match text.parse::<u32>() {
+        Ok(states) if 1 <= states && states <= MOST_STATES => Some(states),
         _ => None,
     }
 }

@@ -1,7 +1,7 @@
 //! What `apd` answers for files in memory.
 
 use crate::writing::Narrow;
-use apd_inputs::{FileFault, Files};
+use apd_inputs::{FileFault, FileKind, Files};
 use apd_program::apd_main;
 use std::alloc::Global;
 use std::test::Fail;
@@ -11,9 +11,13 @@ use std::test::Fail;
 struct Folder<'a>(&'a [(&'a str, &'a [u8])], Global);
 
 impl Files for Folder<'_> {
-    fn read(&mut self, path: &str) -> Result<Vec<u8>, FileFault> {
+    fn read(&mut self, path: &str, kind: FileKind) -> Result<Vec<u8>, FileFault> {
+        let most = kind.most();
         for (name, bytes) in self.0 {
             if *name == path {
+                if bytes.len() as u64 > most {
+                    return Err(FileFault::TooLong(most));
+                }
                 return Vec::from_slice(self.1, bytes).map_err(|_| FileFault::NoMemory);
             }
         }
@@ -26,7 +30,7 @@ impl Files for Folder<'_> {
 struct NoRoom;
 
 impl Files for NoRoom {
-    fn read(&mut self, _path: &str) -> Result<Vec<u8>, FileFault> {
+    fn read(&mut self, _path: &str, _kind: FileKind) -> Result<Vec<u8>, FileFault> {
         Err(FileFault::NoMemory)
     }
 }

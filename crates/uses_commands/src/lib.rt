@@ -1,5 +1,5 @@
-//! The program `apd` where a session can't show it: want of memory, writers that fail, code and frames of the greatest
-//! length; and the faults of configurations and the times of captures by rows. All else is in the session of
+//! The program `apd` where a session can't show it: want of memory, writers that fail, code, frames and files of the
+//! greatest length; and the faults of configurations and the times of captures by rows. All else is in the session of
 //! `uses_apd`.
 #![tactic(auto)]
 
@@ -9,5 +9,7 @@ mod answers;
 mod captures;
 #[cfg(test)]
 mod configuration;
+#[cfg(test)]
+mod lengths;
 #[cfg(test)]
 mod writing;

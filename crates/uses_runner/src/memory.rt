@@ -1,8 +1,8 @@
 //! Files in memory, and runs over them.
 
-use apd_inputs::{FileFault, Files};
+use apd_inputs::{FileFault, FileKind, Files};
 use apd_progress::Watcher;
-use apd_runner::{OpenGate, RunWords, Supplies, run};
+use apd_runner::{OpenGate, RunWords, StateLimit, Supplies, run};
 use std::alloc::Global;
 use std::sync::Wait;
 use std::thread::Threads;
@@ -32,8 +32,10 @@ fn text_of<'a>(files: &'a [File<'a>], path: &str) -> Option<&'a str> {
 }
 
 impl Files for Memory<'_> {
-    fn read(&mut self, path: &str) -> Result<Vec<u8>, FileFault> {
+    fn read(&mut self, path: &str, kind: FileKind) -> Result<Vec<u8>, FileFault> {
+        let most = kind.most();
         match text_of(self.files, path) {
+            Some(text) if text.len() as u64 > most => return Err(FileFault::TooLong(most)),
             Some(text) => match Vec::from_slice(self.alloc, text.as_bytes()) {
                 Ok(bytes) => return Ok(bytes),
                 Err(_) => return Err(FileFault::NoMemory),
@@ -68,6 +70,7 @@ pub fn watched<R: Threads + Wait + Sync, G: Watcher + Copy + Send>(
     let mut memory = Memory { alloc, files };
     let supplies = Supplies {
         files: &mut memory,
+        limit: StateLimit::MOST,
         gate,
     };
     let mut err = Vec::new(alloc);

@@ -2,7 +2,8 @@ use Rattle.std.proofs.Common.{rules, ◌≡◌, ◌⊎◌, option_map}
 use Rattle.std.specs.Result.{IfErr}
 use Rattle.std.proofs.lemmas.Result.{IfErr-weaker}
 use Rattle.apd_program.specs.declared.fault.ProgramFault.TheVariants.{NoMemory}
-use Rattle.apd_program.specs.Faults.{IsBadConfig, HasBadCode}
+use Rattle.apd_inputs.specs.declared.files.FileKind.TheVariants.{Certificate}
+use Rattle.apd_program.specs.Faults.{IsBadConfig, HasBadCode, HasBadDigits}
 use Rattle.apd_program.proofs.Faulty.{IsAtFault-configuration, IsAtFault-code, HasNoCertificate-others, HasNoCertificate-file}
 use Rattle.apd_program.proofs.program.check.Goals as goal
 
@@ -18,5 +19,5 @@ returns-in_err-bytes-clause-fault g c =
 
 pub returns-in_err-shown-clause-fault : goal.returns-in_err-shown-clause-fault
 returns-in_err-shown-clause-fault g c =
-    let bad : IfErr c.from_residual-in_err-shown.result (λ e. (e ≡ NoMemory) ⊎ HasBadCode (g.F.Files.held c.code.new.files) c.args.certificate.now) = search rules in
+    let bad : IfErr c.from_residual-in_err-shown.result (λ e. (e ≡ NoMemory) ⊎ HasBadDigits Certificate (g.F.Files.held c.code.new.files) c.args.certificate.now) = search rules in
     IfErr-weaker c.from_residual-in_err-shown.result _ _ (λ e h. HasNoCertificate-file _ _ _ _ _ _ _ _ e c.setup_of.ensures.same c.code.ensures.same c.in_ok-setup.ensures.setup c.in_ok-bytes.ensures.code h) bad

@@ -11,9 +11,10 @@ returns-in_default g c =
     NotAdmitted c.in-Err.refusal (record {
       reason = c.in_default.not-NoMemory;
       place = c.in-Err.ensures.begins;
-      not_plain = λ plain. c.in_default.not-NoMemory (c.in-Err.ensures.plain plain);
+      not_plain = λ most plain. c.in_default.not-NoMemory (c.in-Err.ensures.plain most plain);
+      not_clear = λ clear. c.in_default.not-NoMemory (c.in-Err.ensures.clear clear);
       unchanged = refl;
     })
 
 pub returns-in-Ok : goal.returns-in-Ok
-returns-in-Ok g c = loaded _ c.in-Ok.accepted _ _ _ _ (search rules) c.put_in_force-told.ensures
+returns-in-Ok g c = loaded _ _ c.in-Ok.accepted _ _ _ _ c.in-Ok.ensures.code c.in-Ok.ensures.small c.put_in_force-told.ensures
