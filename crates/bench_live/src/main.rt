@@ -1,0 +1,62 @@
+//! How many events a second an access point takes that several threads serve, on standard error. Words of the command
+//! line choose what is measured, and without any `filled` and `submitted` are:
+//!
+//! - `filled`: queues of 256 events each are filled, and then all workers serve at once, many times over. Behind it
+//!   comes how many times;
+//! - `submitted`: one submitter beside the workers. Behind it comes how many events;
+//! - `soak`: four operators and a publisher beside four workers, as the tests of `uses_workers` have it. Behind it
+//!   comes how much data.
+//!
+//! The events are QoS data of agreements, 100 bytes each, spread over eight shards; there are 1, 2 and 4 workers, and
+//! no program, the port filter, and programs that count in a map that all workers share or that each has for itself.
+//! `quick` makes all that has no number of its own small.
+#![tactic(auto)]
+
+mod asked;
+mod filled;
+mod loads;
+mod programs;
+mod soak;
+mod stations;
+mod submitted;
+
+use anyhow::Result;
+use asked::{Asked, Benchmark, Size, Task};
+use std::env;
+use std::process::ExitCode;
+use std::rt::Runtime;
+use std::sync::Wait;
+use std::thread::Threads;
+
+/// What an unknown word is told.
+const USAGE: &str = "the benchmarks are filled, submitted and soak; quick makes them small";
+
+/// Prints what a task asks for.
+fn perform<R: Threads + Wait + Runtime + Sync + AllocGlobal>(
+    rt: &R,
+    task: &Task,
+    size: Size,
+) -> Result<()> {
+    let alloc = rt.alloc();
+    match task.benchmark {
+        Benchmark::Filled => filled::print_rates(rt, alloc, task, size),
+        Benchmark::Submitted => submitted::print_rates(rt, alloc, task, size),
+        Benchmark::Soak => soak::print_found(rt, alloc, task, size),
+    }
+}
+
+fn main(rt: HostRuntime) -> Result<ExitCode> {
+    let alloc = rt.alloc();
+    let mut asked = Asked::new(alloc);
+    for word in env::args(&rt)?.skip(1) {
+        if let Some(unknown) = asked.take(word)? {
+            eprintln!(rt; "bench_live: {unknown}: no such word here; {USAGE}")?;
+            return Ok(ExitCode::from(2));
+        }
+    }
+    let size = asked.size;
+    for task in &asked.finish()? {
+        perform(&rt, task, size)?;
+    }
+    Ok(ExitCode::SUCCESS)
+}

@@ -1,0 +1,32 @@
+//! Stations with agreements, one of each shard, and their data.
+
+use ap_books::Ledgers;
+use ap_locked::Journals;
+use ap_model::Event;
+use ap_tagged::OpenGate;
+use live_scenes::{Scene, address, data};
+use std::alloc::Global;
+use std::sync::Wait;
+
+/// Each station comes to its agreement. False for want of memory.
+pub fn join_all<B: Ledgers + Journals, R: Wait>(
+    rt: &R,
+    alloc: Global,
+    scene: &mut Scene<'_, B>,
+) -> bool {
+    let Some(chief) = scene.chiefs.first_mut() else {
+        return false;
+    };
+    if !chief.join(rt, alloc, 0) {
+        return false;
+    }
+    let mut list = Vec::new(alloc);
+    scene.serve(rt, alloc, &OpenGate, &mut list);
+    list.len() == 24
+}
+
+/// The data with this place in a stream of all eight stations in turn.
+pub fn event(alloc: Global, index: u64) -> Option<Event> {
+    let station = address(0, (index % 8) as u8);
+    data(alloc, station, (index / 8 % 4096) as u16).ok()
+}

@@ -1,0 +1,170 @@
+//! Code that is decoded, verified and run.
+
+use crate::maps::{copied, some_shapes};
+use crate::numbers::Numbers;
+use crate::runs::{Inputs, Seen, judged_runs, look};
+use crate::tally::Judged;
+use crate::weight::weigh;
+use bpf_cert::{certificate, check};
+use bpf_decode::{DecodeFault, Program, decode, encode};
+use bpf_machine::Accepted;
+use bpf_regions::Hook;
+use bpf_verifier::verify;
+use std::alloc::{AllocError, Global};
+
+/// How many steps a run may have before its program is put aside: what is verified is verified turn by turn.
+const LONG: u32 = 1024;
+
+/// How often slots may be reached in all, each once for every way to it.
+const MOST: u64 = 16384;
+
+/// One of the hooks.
+fn hook(numbers: &mut Numbers) -> Hook {
+    match numbers.below(3) {
+        0 => Hook::Association,
+        1 => Hook::Addba,
+        _ => Hook::Data,
+    }
+}
+
+/// What is said of code that is no program.
+pub fn undecoded(fault: DecodeFault) -> Judged {
+    match fault.number() {
+        1..=3 | 10..=19 => Judged::Refused,
+        _ => Judged::Wrong("an unknown fault of code"),
+    }
+}
+
+/// What is said of a program that is not let in.
+fn refused(number: u8) -> Judged {
+    match number {
+        30..=38 => Judged::Refused,
+        _ => Judged::Wrong("an unknown refusal of a program"),
+    }
+}
+
+/// Whether a program is spelled by these bytes.
+fn is_spelled(alloc: Global, program: &Program, code: &[u8]) -> Result<bool, AllocError> {
+    let again = encode(alloc, program)?;
+    Ok(again.as_slice() == code)
+}
+
+/// Whether a certificate is accepted for a program.
+fn is_checked(alloc: Global, program: Program, hook: Hook, bytes: &[u8]) -> bool {
+    match check(alloc, program, hook, bytes) {
+        Ok(_) => true,
+        Err(_) => false,
+    }
+}
+
+/// Whether a certificate is accepted for code that was let in.
+fn is_checked_code(
+    alloc: Global,
+    accepted: &Accepted,
+    code: &[u8],
+    bytes: &[u8],
+) -> Result<bool, AllocError> {
+    let shapes = copied(alloc, accepted.program().shapes())?;
+    match decode(alloc, code, shapes) {
+        Ok(program) => Ok(is_checked(alloc, program, accepted.hook(), bytes)),
+        Err(_) => Ok(false),
+    }
+}
+
+/// Whether the certificate of what was let in, if it has one, is accepted for it.
+fn is_certified(alloc: Global, accepted: &Accepted, code: &[u8]) -> Result<bool, AllocError> {
+    match certificate(alloc, accepted) {
+        Ok(bytes) => is_checked_code(alloc, accepted, code, &bytes),
+        Err(_) => Ok(true),
+    }
+}
+
+/// What becomes of what was let in, after runs that were seen.
+fn judged_accepted(
+    alloc: Global,
+    numbers: &mut Numbers,
+    accepted: &Accepted,
+    code: &[u8],
+    inputs: &Inputs,
+) -> Result<Judged, AllocError> {
+    if numbers.is_one_in(16) && !is_certified(alloc, accepted, code)? {
+        return Ok(Judged::Wrong("its certificate is refused"));
+    }
+    Ok(judged_runs(accepted, inputs))
+}
+
+/// Verifies a program for a hook, and runs it where it is let in.
+fn judged_program(
+    alloc: Global,
+    numbers: &mut Numbers,
+    program: Program,
+    code: &[u8],
+    inputs: &Inputs,
+) -> Result<Judged, AllocError> {
+    match verify(alloc, program, hook(numbers)) {
+        Ok(accepted) => judged_accepted(alloc, numbers, &accepted, code, inputs),
+        Err(refusal) => Ok(refused(refusal.number())),
+    }
+}
+
+/// What is wrong with a program that was seen to meet a fault, once it is verified.
+fn judged_faulty(judged: Judged) -> Judged {
+    match judged {
+        Judged::Admitted { .. } => Judged::Wrong("let in, and a run meets a fault"),
+        other => other,
+    }
+}
+
+/// Whether code is verified: where jumps lead back, or there are too many ways, once in eight times, since that may take
+/// long.
+fn is_light(alloc: Global, numbers: &mut Numbers, code: &[u8]) -> Result<bool, AllocError> {
+    let weight = weigh(alloc, code)?;
+    if weight.turns || weight.states > MOST {
+        return Ok(numbers.is_one_in(8));
+    }
+    Ok(true)
+}
+
+/// Looks at the runs of a program, and verifies it unless one is long.
+fn judged_runs_first(
+    alloc: Global,
+    numbers: &mut Numbers,
+    program: Program,
+    code: &[u8],
+    inputs: &Inputs,
+) -> Result<Judged, AllocError> {
+    match look(&program, inputs, LONG) {
+        Seen::Long => Ok(Judged::Long),
+        Seen::Ended => judged_program(alloc, numbers, program, code, inputs),
+        Seen::Faulted => {
+            let judged = judged_program(alloc, numbers, program, code, inputs)?;
+            Ok(judged_faulty(judged))
+        }
+    }
+}
+
+/// What becomes of a program.
+fn judged_whole(
+    alloc: Global,
+    numbers: &mut Numbers,
+    program: Program,
+    code: &[u8],
+) -> Result<Judged, AllocError> {
+    if !is_light(alloc, numbers, code)? {
+        return Ok(Judged::Long);
+    }
+    let inputs = Inputs::new(alloc, numbers.next())?;
+    judged_runs_first(alloc, numbers, program, code, &inputs)
+}
+
+/// Decodes code, writes it again, looks at its runs, verifies it for a hook, and runs what is let in.
+pub fn judged(alloc: Global, numbers: &mut Numbers, code: &[u8]) -> Result<Judged, AllocError> {
+    let shapes = some_shapes(alloc, numbers)?;
+    match decode(alloc, code, shapes) {
+        Ok(program) if is_spelled(alloc, &program, code)? => {
+            judged_whole(alloc, numbers, program, code)
+        }
+        Ok(_) => Ok(Judged::Wrong("written again it is other code")),
+        Err(fault) => Ok(undecoded(fault)),
+    }
+}

@@ -1,0 +1,88 @@
+//! A sweep: inputs of a kind, made from a seed, and what becomes of them.
+
+use crate::framed::edge_of;
+use crate::kinds::Kind;
+use crate::numbers::Numbers;
+use crate::tally::{Judged, Tally};
+use std::alloc::{AllocError, Global};
+use std::io;
+
+/// What a sweep has: the kind, how many inputs, and the seed of the first. The next has the next.
+#[derive(Clone, Copy)]
+pub struct Task {
+    pub kind: Kind,
+    pub count: u64,
+    pub seed: u64,
+}
+
+/// An input that something is wrong with.
+#[derive(Drop)]
+struct Found {
+    seed: u64,
+    what: &'static str,
+    input: Vec<u8>,
+}
+
+/// The input of a seed.
+fn input_of(
+    alloc: Global,
+    kind: Kind,
+    numbers: &mut Numbers,
+    samples: &[Vec<u8>],
+    seed: u64,
+) -> Result<Vec<u8>, AllocError> {
+    if let Kind::Octets = kind {
+        return edge_of(alloc, samples, seed as usize);
+    }
+    if samples.is_empty() {
+        return Ok(Vec::new(alloc));
+    }
+    let sample = &samples[numbers.place_in(samples.len())];
+    kind.input(alloc, numbers, sample)
+}
+
+/// Makes the inputs and counts what becomes of them, up to the first with which something is wrong.
+fn swept<R: Eprint>(
+    rt: &R,
+    alloc: Global,
+    task: Task,
+    samples: &[Vec<u8>],
+) -> io::Result<(Tally, Option<Found>)> {
+    let mut tally = Tally::NONE;
+    for number in 0..task.count {
+        let seed = task.seed.wrapping_add(number);
+        let mut numbers = Numbers::new(seed);
+        let input = input_of(alloc, task.kind, &mut numbers, samples, seed)?;
+        let judged = task.kind.judged(alloc, &mut numbers, &input)?;
+        if let Judged::Wrong(what) = judged {
+            return Ok((tally, Some(Found { seed, what, input })));
+        }
+        tally.count(judged);
+        if number % 0x10_0000 == 0xf_ffff {
+            eprintln!(rt; "{}: {}", task.kind.name(), tally)?;
+        }
+    }
+    Ok((tally, None))
+}
+
+/// Prints bytes as hex digits.
+fn print_digits<R: Print>(rt: &R, bytes: &[u8]) -> io::Result<()> {
+    for byte in bytes {
+        print!(rt; "{byte:02x}")?;
+    }
+    println!(rt; "")
+}
+
+/// Makes a sweep and prints its counts. False where something is wrong: then it prints the seed and the input.
+pub fn print_counts<R: Print + Eprint>(rt: &R, alloc: Global, task: Task) -> io::Result<bool> {
+    let samples = task.kind.samples(alloc)?;
+    let (tally, found) = swept(rt, alloc, task, &samples)?;
+    let name = task.kind.name();
+    let Some(found) = found else {
+        println!(rt; "{name}: {} inputs, {tally}", task.count)?;
+        return Ok(true);
+    };
+    println!(rt; "{name}: wrong at seed {}: {}", found.seed, found.what)?;
+    print_digits(rt, &found.input)?;
+    Ok(false)
+}
