@@ -2,12 +2,12 @@
 _apd() {
     local word=${COMP_WORDS[COMP_CWORD]} options='' first=''
     case ${COMP_WORDS[1]} in
-        verify) options='--config --explain --help' first='assoc addba data' ;;
+        verify) options='--config --states --explain --help' first='assoc addba data' ;;
         asm) options='--help' first='' ;;
         disasm) options='--config --slots --help' first='' ;;
-        trace) options='--config --help' first='assoc addba data' ;;
-        run) options='--workers --quiet --help' first='' ;;
-        cert) options='--config --help' first='assoc addba data' ;;
+        trace) options='--config --states --help' first='assoc addba data' ;;
+        run) options='--workers --states --quiet --help' first='' ;;
+        cert) options='--config --states --help' first='assoc addba data' ;;
         check) options='--config --help' first='assoc addba data' ;;
         explain) options='--help' first='' ;;
         frames) options='--no-ticks --help' first='' ;;
