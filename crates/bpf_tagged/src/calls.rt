@@ -7,6 +7,7 @@ ghost use Rattle.bpf_tagged.specs.Took.{Moves, IsPaired};
 use crate::{Machine, Stepped};
 use bpf_model::{Caller, StackFrame};
 use bpf_regions::{Region, Value};
+use bpf_values::causes;
 
 /// After a call R1 to R5 are unset.
 pub fn clear_arguments(regs: &mut [Value; 11])
@@ -51,10 +52,10 @@ pub fn perform_call(machine: &mut Machine, to: Option<usize>) -> Stepped
     ensures { Moves (λ s. call_local s to) result machine.old machine.new }
 {
     if machine.stack.is_full() {
-        return Stepped::Faulted(35);
+        return Stepped::Faulted(causes::TOO_MANY_FRAMES);
     }
     let Some(to) = to else {
-        return Stepped::Faulted(15);
+        return Stepped::Faulted(causes::ASTRAY);
     };
     let depth = machine.stack.len() as u8;
     machine.callers.push(Caller {
@@ -79,8 +80,8 @@ fn exit_value(value: Value) -> Result<u64, u8>
 {
     match value {
         Value::Number(x) => Ok(x),
-        Value::Unset => Err(30),
-        _ => Err(38),
+        Value::Unset => Err(causes::UNSET),
+        _ => Err(causes::NO_RESULT),
     }
 }
 

@@ -12,6 +12,7 @@ use crate::calls::clear_arguments;
 use crate::{Machine, Port, Stepped};
 use bpf_regions::{Helper, Region, Shape, Shapes, Value};
 use bpf_values::arithmetic::{number_in, wrong_kinds};
+use bpf_values::causes;
 
 /// Goes on after a helper with its answer in R0.
 fn answer_with(machine: &mut Machine, value: Value)
@@ -117,5 +118,5 @@ pub fn perform_help<P: Port>(
     if helper == 5 {
         return perform_note(machine);
     }
-    return Stepped::Faulted(18);
+    return Stepped::Faulted(causes::NO_HELPER);
 }

@@ -12,6 +12,7 @@ use crate::machine::read;
 use crate::{Machine, Stepped};
 use bpf_insn::{Compare, Reg, Source};
 use bpf_regions::Value;
+use bpf_values::causes;
 use bpf_values::comparisons::is_taken;
 use bpf_words::word_of_int;
 
@@ -58,7 +59,7 @@ fn perform_jump(machine: &mut Machine, to: Option<usize>) -> Stepped
             machine.pc = to;
             return Stepped::On(None);
         }
-        None => return Stepped::Faulted(15),
+        None => return Stepped::Faulted(causes::ASTRAY),
     }
 }
 

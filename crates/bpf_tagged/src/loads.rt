@@ -14,6 +14,7 @@ use bpf_insn::Reg;
 use bpf_model::Place;
 use bpf_regions::{MapOp, Region, Value};
 use bpf_values::bytes::{load_in, loaded, read_number};
+use bpf_values::causes;
 use bpf_values::places::{place_of, with_offset};
 
 /// A load: how many bytes, whether with their sign, into which register, and through which value.
@@ -99,10 +100,10 @@ fn load_target(from: Value) -> Result<Target, u8>
             region,
             base: offset,
         }),
-        Value::Unset => Err(30),
-        Value::Number(_) => Err(31),
-        Value::FrameEnd => Err(31),
-        Value::MapReference(_) => Err(31),
+        Value::Unset => Err(causes::UNSET),
+        Value::Number(_) => Err(causes::WRONG_OPERAND),
+        Value::FrameEnd => Err(causes::WRONG_OPERAND),
+        Value::MapReference(_) => Err(causes::WRONG_OPERAND),
     }
 }
 

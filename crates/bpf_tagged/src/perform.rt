@@ -23,6 +23,7 @@ use crate::{Input, Machine, Port, Stepped};
 use bpf_insn::{AtomicOp, Insn};
 use bpf_regions::{Shapes, Value};
 use bpf_values::bytes::size_in_bytes;
+use bpf_values::causes;
 use bpf_words::word_of_int;
 
 /// CMPXCHG alone reads R0.
@@ -186,8 +187,8 @@ pub fn perform_slot<P: Port>(
     match slot {
         Some(held) => match held {
             Some(insn) => return perform(input, insn, machine, port),
-            None => return Stepped::Faulted(15),
+            None => return Stepped::Faulted(causes::ASTRAY),
         },
-        None => return Stepped::Faulted(16),
+        None => return Stepped::Faulted(causes::PAST_THE_END),
     }
 }

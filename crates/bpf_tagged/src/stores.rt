@@ -14,6 +14,7 @@ use bpf_model::Place;
 use bpf_regions::{MapOp, Value};
 use bpf_values::arithmetic::{unset, wrong_kind};
 use bpf_values::bytes::store_in;
+use bpf_values::causes;
 use bpf_values::places::{place_of, points_elsewhere, taken_by, with_offset};
 
 fn number_of(value: Value) -> u64
@@ -42,11 +43,11 @@ fn store_placed<P: Port>(
     ensures paired { IsPaired machine.old → IsPaired machine.new }
 {
     match place {
-        Place::Frame(_) => return Stepped::Faulted(31),
-        Place::Context(_) => return Stepped::Faulted(31),
+        Place::Frame(_) => return Stepped::Faulted(causes::WRONG_OPERAND),
+        Place::Context(_) => return Stepped::Faulted(causes::WRONG_OPERAND),
         Place::Stack { frame, at } => {
             if points_elsewhere(frame, value) {
-                return Stepped::Faulted(37);
+                return Stepped::Faulted(causes::STACK_POINTER_STORED);
             }
             store_in(machine.stack.as_mut_slice(), frame, at, size, value);
             machine.pc += 1;
@@ -68,10 +69,10 @@ fn store_target(value: Value, to: Value) -> Result<Target, u8>
         store_of p s n value to offset ≡ Fault cause) }
 {
     match to {
-        Value::Unset => Err(30),
+        Value::Unset => Err(causes::UNSET),
         Value::Pointer { region, offset } => {
             if unset(value) {
-                return Err(30);
+                return Err(causes::UNSET);
             }
             Ok(Target {
                 region,

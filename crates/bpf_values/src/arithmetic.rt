@@ -4,6 +4,7 @@ ghost use Rattle.std.specs.Prelude.{◌≡◌, ◌<◌, ◌≤◌, ℕ};
 ghost use Rattle.bpf_insn.specs.Widths.{order_bits};
 ghost use Rattle.bpf_model.specs.Alu.{operation, computed, is_unset, wrong, wrong_two, number, numbers, sum, difference, moved, alu, extended, negation, ordered, wide_value};
 
+use crate::causes;
 use bpf_insn::{AluOp, ByteOrder, Extension, OrderWidth, Wide};
 use bpf_regions::{Region, Value};
 use bpf_words::{
@@ -30,14 +31,22 @@ pub fn unset(a: Value) -> bool
 pub fn wrong_kind(a: Value) -> u8
     ensures { result ≡ wrong a }
 {
-    if unset(a) { 30 } else { 31 }
+    if unset(a) {
+        causes::UNSET
+    } else {
+        causes::WRONG_OPERAND
+    }
 }
 
 /// The fault of two values of which one or both are of the wrong kind.
 pub fn wrong_kinds(a: Value, b: Value) -> u8
     ensures { result ≡ wrong_two a b }
 {
-    if unset(a) || unset(b) { 30 } else { 31 }
+    if unset(a) || unset(b) {
+        causes::UNSET
+    } else {
+        causes::WRONG_OPERAND
+    }
 }
 
 /// An operation on 64 bits.
@@ -101,11 +110,11 @@ pub fn number_in(a: Value) -> Result<u64, u8>
     ensures { result ≡ number a }
 {
     match a {
-        Value::Unset => Err(30),
+        Value::Unset => Err(causes::UNSET),
         Value::Number(x) => Ok(x),
-        Value::Pointer { .. } => Err(31),
-        Value::FrameEnd => Err(31),
-        Value::MapReference(_) => Err(31),
+        Value::Pointer { .. } => Err(causes::WRONG_OPERAND),
+        Value::FrameEnd => Err(causes::WRONG_OPERAND),
+        Value::MapReference(_) => Err(causes::WRONG_OPERAND),
     }
 }
 
@@ -163,21 +172,27 @@ fn move_value(wide: bool, b: Value) -> Result<Value, u8>
     ensures { result ≡ moved wide b }
 {
     match b {
-        Value::Unset => Err(30),
+        Value::Unset => Err(causes::UNSET),
         Value::Number(x) => Ok(Value::Number(if wide { x } else { u64::from(low_half(x)) })),
         Value::Pointer { region, offset } => {
             if wide {
                 Ok(Value::Pointer { region, offset })
             } else {
-                Err(31)
+                Err(causes::WRONG_OPERAND)
             }
         }
-        Value::FrameEnd => { if wide { Ok(Value::FrameEnd) } else { Err(31) } }
+        Value::FrameEnd => {
+            if wide {
+                Ok(Value::FrameEnd)
+            } else {
+                Err(causes::WRONG_OPERAND)
+            }
+        }
         Value::MapReference(map) => {
             if wide {
                 Ok(Value::MapReference(map))
             } else {
-                Err(31)
+                Err(causes::WRONG_OPERAND)
             }
         }
     }

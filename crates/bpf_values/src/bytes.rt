@@ -6,6 +6,7 @@ ghost use Rattle.bpf_values.specs.Inside.{IsWhole, IsSize};
 ghost use Rattle.bpf_model.specs.Memory.{size_bytes, number_at, set_bytes, set_byte, spill_at, joined, with_number, without, number_stored, spilled, stored, from_stack, as_loaded, loaded_number};
 
 use crate::arithmetic::unset;
+use crate::causes;
 use bpf_insn::Size;
 use bpf_model::StackFrame;
 use bpf_regions::Value;
@@ -47,7 +48,11 @@ fn one_byte(frame: &StackFrame, at: usize) -> Result<u64, u8>
 {
     match frame.bytes[at] {
         Some(byte) => Ok(u64::from(byte)),
-        None => Err(if unset(frame.spills[at / 8]) { 30 } else { 31 }),
+        None => Err(if unset(frame.spills[at / 8]) {
+            causes::UNSET
+        } else {
+            causes::WRONG_OPERAND
+        }),
     }
 }
 

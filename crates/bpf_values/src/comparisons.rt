@@ -4,6 +4,7 @@ ghost use Rattle.std.specs.Prelude.{◌≡◌, ◌<◌, ◌≤◌, ℕ};
 ghost use Rattle.bpf_model.specs.Alu.{holds, end_test, null_test, wide_test, narrow_test, taken};
 
 use crate::arithmetic::wrong_kinds;
+use crate::causes;
 use bpf_insn::Compare;
 use bpf_regions::{Region, Value};
 use bpf_words::{low_half, signed_order_32, signed_order_64};
@@ -54,7 +55,7 @@ fn against_end(compare: Compare, x: u64, y: u64) -> Result<bool, u8>
         Compare::Ge => Ok(x >= y),
         Compare::Lt => Ok(x < y),
         Compare::Le => Ok(x <= y),
-        _ => Err(31),
+        _ => Err(causes::WRONG_OPERAND),
     }
 }
 
@@ -62,9 +63,21 @@ fn against_null(compare: Compare, zero: bool) -> Result<bool, u8>
     ensures { result ≡ null_test compare zero }
 {
     match compare {
-        Compare::Eq => { if zero { Ok(false) } else { Err(31) } }
-        Compare::Ne => { if zero { Ok(true) } else { Err(31) } }
-        _ => Err(31),
+        Compare::Eq => {
+            if zero {
+                Ok(false)
+            } else {
+                Err(causes::WRONG_OPERAND)
+            }
+        }
+        Compare::Ne => {
+            if zero {
+                Ok(true)
+            } else {
+                Err(causes::WRONG_OPERAND)
+            }
+        }
+        _ => Err(causes::WRONG_OPERAND),
     }
 }
 

@@ -9,6 +9,7 @@
 
 pub mod arithmetic;
 pub mod bytes;
+pub mod causes;
 pub mod comparisons;
 pub mod map_words;
 pub mod places;

@@ -7,6 +7,7 @@ ghost use Rattle.bpf_model.specs.Memory.{place, place_in_map, storable, storable
 ghost use Rattle.bpf_model.specs.Run.{setting};
 ghost use Rattle.bpf_values.specs.Inside.{IsInside, IsWordIn};
 
+use crate::causes;
 use bpf_model::Place;
 use bpf_regions::{Region, Shape, Shapes, Value};
 use bpf_words::word_of_int;
@@ -37,11 +38,11 @@ fn in_map(map: u32, index: u32, at: u64, size: usize, shape: Option<Shape>) -> R
     ensures there { IfOk result (λ place. IsWordIn shape place) }
 {
     let Some(shape) = shape else {
-        return Err(32);
+        return Err(causes::OUTSIDE_REGION);
     };
     let width = u64::from(shape.width.bytes());
     if size as u64 != width || at % width != 0 {
-        return Err(33);
+        return Err(causes::MISALIGNED);
     }
     let bytes = u64::from(shape.entry_bytes());
     if index < shape.entries && width <= bytes && at <= bytes - width {
@@ -50,7 +51,7 @@ fn in_map(map: u32, index: u32, at: u64, size: usize, shape: Option<Shape>) -> R
             word: word_at(index, at, width, shape),
         });
     }
-    Err(32)
+    Err(causes::OUTSIDE_REGION)
 }
 
 fn fits(at: u64, size: usize, length: usize) -> bool
@@ -80,13 +81,13 @@ pub fn place_of(
             if fits(at, size, frame.len()) {
                 return Ok(Place::Frame(at as usize));
             }
-            return Err(32);
+            return Err(causes::OUTSIDE_REGION);
         }
         Region::Context => {
             if fits(at, size, context.len()) {
                 return Ok(Place::Context(at as usize));
             }
-            return Err(32);
+            return Err(causes::OUTSIDE_REGION);
         }
         Region::Stack(k) => {
             if (k as usize) < depth && fits(at, size, 512) {
@@ -95,7 +96,7 @@ pub fn place_of(
                     at: at as usize,
                 });
             }
-            return Err(32);
+            return Err(causes::OUTSIDE_REGION);
         }
         Region::Entry { map, index } => {
             return in_map(map, index, at, size, shapes.get(map));
@@ -110,11 +111,11 @@ fn for_stack(at: u64, size: usize, value: Value) -> Result<Value, u8>
         Value::Number(x) => Ok(Value::Number(x)),
         _ => {
             if size != 8 {
-                Err(31)
+                Err(causes::WRONG_OPERAND)
             } else if at % 8 == 0 {
                 Ok(value)
             } else {
-                Err(33)
+                Err(causes::MISALIGNED)
             }
         }
     }
@@ -125,7 +126,7 @@ fn for_map(value: Value) -> Result<Value, u8>
 {
     match value {
         Value::Number(x) => Ok(Value::Number(x)),
-        _ => Err(31),
+        _ => Err(causes::WRONG_OPERAND),
     }
 }
 
@@ -134,8 +135,8 @@ pub fn taken_by(region: Region, at: u64, size: usize, value: Value) -> Result<Va
     ensures { result ≡ storable region at size value }
 {
     match region {
-        Region::Frame => Err(31),
-        Region::Context => Err(31),
+        Region::Frame => Err(causes::WRONG_OPERAND),
+        Region::Context => Err(causes::WRONG_OPERAND),
         Region::Stack(_) => for_stack(at, size, value),
         Region::Entry { .. } => for_map(value),
     }
@@ -160,13 +161,13 @@ pub fn for_atomic(region: Region, at: u64, size: usize) -> Result<Region, u8>
     ensures { result ≡ atomic_region region at size }
 {
     match region {
-        Region::Frame => Err(31),
-        Region::Context => Err(31),
+        Region::Frame => Err(causes::WRONG_OPERAND),
+        Region::Context => Err(causes::WRONG_OPERAND),
         Region::Stack(k) => {
             if at % size as u64 == 0 {
                 Ok(Region::Stack(k))
             } else {
-                Err(33)
+                Err(causes::MISALIGNED)
             }
         }
         Region::Entry { map, index } => Ok(Region::Entry { map, index }),
