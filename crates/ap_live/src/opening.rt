@@ -119,18 +119,19 @@ impl<B: Ledgers + Journals> LiveAp<B> {
             draw,
             workers,
         } = settings;
-        let places = open_places(alloc, &shapes, workers)?;
-        let shards = match Shards::open(alloc, &link, new) {
-            Ok(shards) => shards,
+        let shards = Shards::open(alloc, &link, new)?;
+        // Given up by calls on each way out, since eight shards and the places have many parts.
+        drop(link);
+        let places = match open_places(alloc, &shapes, workers) {
+            Ok(places) => places,
             Err(error) => {
-                drop(places);
+                drop(shards);
                 return Err(error);
             }
         };
         let list = match published(rt, alloc, shapes, workers) {
             Ok(list) => list,
             Err(error) => {
-                // Given up by calls, since eight shards and the places have many parts.
                 drop(shards);
                 drop(places);
                 return Err(error);

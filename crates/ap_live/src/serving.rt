@@ -19,6 +19,12 @@ use std::sync::Wait;
 /// How many shards there are.
 const SHARDS: u16 = 8;
 
+/// An item that a worker took, and the gate that is told of it.
+struct Taken<'a, G: Gate> {
+    item: &'a Item,
+    gate: &'a G,
+}
+
 impl<B: Ledgers + Journals> LiveAp<B> {
     /// Serves what the worker's queue holds, until it is found empty or the gate says stop. Each event
     /// that was taken is handed on, in order. At a refusal the list holds what was served.
@@ -69,9 +75,14 @@ impl<B: Ledgers + Journals> LiveAp<B> {
     {
         let queue = self.lines.queue(worker.number);
         let queued = queue.take(rt, &mut worker.pass)?;
-        let Item { call, shard, event } = queued.item;
-        let fate = self.handle(rt, alloc, worker, gate, call, (shard, &event));
-        Some(Tagged { call, shard, fate })
+        let item = queued.item;
+        let taken = Taken { item: &item, gate };
+        let fate = self.handle(rt, alloc, worker, taken);
+        Some(Tagged {
+            call: item.call,
+            shard: item.shard,
+            fate,
+        })
     }
 
     /// What becomes of an event that was taken.
@@ -80,30 +91,30 @@ impl<B: Ledgers + Journals> LiveAp<B> {
         rt: &R,
         alloc: Global,
         worker: &mut WorkerToken<B>,
-        gate: &G,
-        call: u64,
-        at: (u16, &Event),
+        taken: Taken<'_, G>,
     ) -> Fate
         requires { IsWorker self.now worker.old }
         ensures own { IsWorker self.now worker.new }
         ensures number { worker.new.number ≡ worker.old.number }
         ensures pass { worker.new.pass ≡ worker.old.pass }
-        ensures became { Becomes self.now worker.old.number (progress_of worker.old) at.entry.1.now
-            at.entry.0 result (progress_of worker.new) }
+        ensures became { Becomes self.now worker.old.number (progress_of worker.old)
+            taken.entry.item.now.event taken.entry.item.now.shard result (progress_of worker.new) }
     {
-        if gate.stop(call) {
+        let Taken { item, gate } = taken;
+        if gate.stop(item.call) {
             return Fate::NotHandled;
         }
-        if at.0 >= SHARDS {
+        if item.shard >= SHARDS {
             return Fate::Refused;
         }
-        gate.begin(call);
+        gate.begin(item.call);
+        let at = (item.shard, &item.event);
         let fate = replace_with(
             worker,
             (self, rt, alloc, at),
             |worker, (ap, rt, alloc, at)| { ap.decided(rt, alloc, worker, at) },
         );
-        gate.end(call);
+        gate.end(item.call);
         fate
     }
 
