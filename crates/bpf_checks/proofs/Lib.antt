@@ -1,3 +1,5 @@
 pub mod Touched
 pub mod Outcomes
 pub mod Slots
+pub mod Answering
+pub mod Written

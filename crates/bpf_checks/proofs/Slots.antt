@@ -1,6 +1,6 @@
 -- A store and an atomic leave the state at its slot.
 use Rattle.std.proofs.Common.{◌≡◌, ℕ, refl, sym, ◌∙◌, ap, Bool, true, false, Option, Some, None, List, Result, slice_get, ℤ}
-use Rattle.std.specs.Prelude.{◌==◌, if◌then◌else◌}
+use Rattle.std.specs.Prelude.{◌==◌, ◌≢◌, if◌then◌else◌}
 use Rattle.bpf_insn.specs.declared.insn.AtomicOp.{AtomicOp}
 use Rattle.bpf_regions.specs.declared.maps.Shape.{Shape}
 use Rattle.bpf_model.specs.Memory.{old_into}
@@ -8,12 +8,12 @@ use Rattle.bpf_absnum.specs.Number.{Num}
 use Rattle.bpf_absval.specs.declared.value.AbsRegion.{AbsRegion}
 use Rattle.bpf_absval.specs.declared.value.AbsRegion.TheVariants as place
 use Rattle.bpf_absval.specs.declared.value.AbsVal.{AbsVal}
-use Rattle.bpf_absval.specs.declared.value.AbsVal.TheVariants.{Unset, Number, Pointer, Lookup}
+use Rattle.bpf_absval.specs.declared.value.AbsVal.TheVariants.{Unset, Number, Pointer, Lookup, Frame, FrameEnd, MapReference}
 use Rattle.bpf_absstate.specs.View.{View}
 use Rattle.bpf_rules.specs.declared.fault.Fault.{Fault}
 use Rattle.bpf_rules.specs.declared.fault.Fault.TheVariants as fault
 use Rattle.bpf_rules.proofs.Outcomes.{okay, refused, okay-same, refused-okay, unless_ok, on_ok}
-use Rattle.bpf_rules.specs.Memory.{unless, bytes_stored, stored, strays, spilled, is_spill, stored_in_stack, stored_in_map, stored_into, store, atomic, atomic_on, with_old, offset_of, aligned_fault}
+use Rattle.bpf_rules.specs.Memory.{unless, bytes_stored, stored, strays, spilled, is_spill, stored_in_stack, stored_in_map, stored_into, store, atomic, atomic_on, with_old, offset_of, aligned_fault, operands_fault}
 
 either_pc : (c : Bool) (x y : View) (n : ℕ) → x.pc ≡ n → y.pc ≡ n → (if c then x else y).pc ≡ n
 either_pc true x y n h g = h
@@ -78,3 +78,13 @@ pub store_pc : (shapes : List Shape) (a : View) (n : ℕ) (v to : AbsVal) (by : 
 store_pc shapes a n Unset to by b e = absurd (refused-okay fault.Unset b e)
 store_pc shapes a n v (Pointer r offset) by b e = into_pc shapes a r (offset_of offset by) n v b e
 store_pc shapes a n v to by b e = absurd (refused-okay _ b e)
+
+-- an atomic goes through a pointer alone
+pub atomic_refused : (shapes : List Shape) (a : View) (n : ℕ) (op : AtomicOp) (src : ℕ) (by : ℤ) (to v r0 : AbsVal) → ((r : AbsRegion) (offset : Num) → to ≢ Pointer r offset) → atomic shapes a n op src by to v r0 ≡ refused (operands_fault to v r0)
+atomic_refused shapes a n op src by (Pointer r offset) v r0 differs = absurd (differs r offset refl)
+atomic_refused shapes a n op src by Unset v r0 differs = refl
+atomic_refused shapes a n op src by (Number x) v r0 differs = refl
+atomic_refused shapes a n op src by (Frame offset l) v r0 differs = refl
+atomic_refused shapes a n op src by FrameEnd v r0 differs = refl
+atomic_refused shapes a n op src by (MapReference m) v r0 differs = refl
+atomic_refused shapes a n op src by (Lookup m) v r0 differs = refl

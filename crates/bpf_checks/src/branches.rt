@@ -1,6 +1,6 @@
 //! Conditional jumps: which ways are visited, and what each teaches.
 
-ghost use Rattle.std.specs.Prelude.{◌≡◌, ◌≤◌, IfOk, IfSome};
+ghost use Rattle.std.specs.Prelude.{◌≡◌, ◌≤◌, IfOk, IfSome, OnOk, true, false};
 ghost use Rattle.bpf_absval.specs.declared.value.AbsVal.TheVariants.{Number};
 ghost use Rattle.bpf_checks.specs.Lessons.{lesson_of};
 ghost use Rattle.bpf_absstate.specs.View.{with_register};
@@ -20,14 +20,38 @@ use std::alloc::AllocError;
 /// The states on the way that isn't taken and on the way that is, at the jump itself; None where a way is not visited.
 pub type Split = (Option<AbsState>, Option<AbsState>);
 
+/// What a conditional jump tests.
+#[derive(Clone, Copy)]
+pub struct Test {
+    pub compare: Compare,
+    pub wide: bool,
+    pub dst: Reg,
+    pub source: Source,
+}
+
+impl Test {
+    /// A comparison of 64 bits (`wide`) or of 32 of a register with a source.
+    pub fn new(compare: Compare, wide: bool, dst: Reg, source: Source) -> Test
+        ensures is { result
+            ≡ record { compare = compare; wide = wide; dst = dst; source = source } }
+    {
+        Test {
+            compare,
+            wide,
+            dst,
+            source,
+        }
+    }
+}
+
 /// What is compared with; JMP32 compares the low 32 bits of an immediate.
-fn compared_with(state: &AbsState, wide: bool, source: Source) -> AbsVal
-    ensures is { result ≡ compared_value wide state.now source }
+fn compared_with(state: &AbsState, test: &Test) -> AbsVal
+    ensures is { result ≡ compared_value test.now.wide state.now test.now.source }
 {
-    match source {
+    match test.source {
         Source::Imm(number) => {
             let word = word_of_int(number);
-            let word = if wide { word } else { word % 4294967296 };
+            let word = if test.wide { word } else { word % 4294967296 };
             AbsVal::Number(AbsNum::single(word))
         }
         Source::Reg(register) => state.register(register),
@@ -35,69 +59,71 @@ fn compared_with(state: &AbsState, wide: bool, source: Source) -> AbsVal
 }
 
 /// Whether both sides are one register.
-fn same_register(dst: Reg, source: &Source) -> bool
-    ensures is { result ≡ is_itself dst source.now }
+fn same_register(dst: Reg, source: Source) -> bool
+    ensures is { result ≡ is_itself dst source }
 {
     match source {
         Source::Imm(_) => false,
-        Source::Reg(register) => *register == dst,
+        Source::Reg(register) => register == dst,
     }
 }
 
 /// What is left of both operands on a way.
-fn narrow(
-    wide: bool,
-    compare: Compare,
-    itself: bool,
-    taken: bool,
-    x: AbsNum,
-    y: AbsNum,
-) -> Option<(AbsNum, AbsNum)>
-    ensures is { result ≡ narrowed wide compare itself taken x y }
+fn narrow(test: &Test, taken: bool, x: AbsNum, y: AbsNum) -> Option<(AbsNum, AbsNum)>
+    ensures is { result ≡ narrowed test.now.wide test.now.compare
+        (is_itself test.now.dst test.now.source) taken x y }
 {
-    if itself && !x.is_single() {
+    if same_register(test.dst, test.source) && !x.is_single() {
         return Some((x, y));
     }
-    x.branch(compare, wide, taken, y)
+    x.branch(test.compare, test.wide, taken, y)
 }
 
-/// A copy of the state in which the operands are what is left of them.
+/// Puts a number into a register. What has it already isn't written.
+#[tactic(auto, using(crate::proofs::Written::written_again))]
+fn put_number(state: &mut AbsState, register: Reg, number: AbsNum) -> Result<(), AllocError>
+    ensures is { OnOk result (state.new ≡ with_register state.old register (Number number)) }
+{
+    let value = AbsVal::Number(number);
+    if state.register(register) == value {
+        return Ok(());
+    }
+    state.set_register(register, value)?;
+    Ok(())
+}
+
+/// The state in which the operands are what is left of them.
 fn with_narrowed(
-    state: &AbsState,
-    dst: Reg,
-    source: &Source,
+    mut state: AbsState,
+    test: &Test,
     x: AbsNum,
     y: AbsNum,
 ) -> Result<AbsState, AllocError>
-    ensures is { IfOk result (λ next. next ≡ narrowed_state state.now dst source.now x y) }
+    ensures is { IfOk result
+        (λ next. next ≡ narrowed_state state test.now.dst test.now.source x y) }
 {
-    let mut next = state.clone()?;
-    next.set_register(dst, AbsVal::Number(x))?;
-    if let Source::Reg(register) = source {
-        next.set_register(*register, AbsVal::Number(y))?;
+    put_number(&mut state, test.dst, x)?;
+    if let Source::Reg(register) = test.source {
+        put_number(&mut state, register, y)?;
     }
-    Ok(next)
+    Ok(state)
 }
 
 /// A way of a comparison of numbers.
 fn way_of_numbers(
-    state: &AbsState,
-    wide: bool,
-    compare: Compare,
+    state: AbsState,
+    test: &Test,
     taken: bool,
-    dst: Reg,
-    source: &Source,
     x: &AbsNum,
     y: &AbsNum,
 ) -> Result<Option<AbsState>, AllocError>
-    ensures is { IfOk result
-        (λ way. way ≡ number_way state.now wide compare taken dst source.now x.now y.now) }
+    ensures is { IfOk result (λ way. way ≡ number_way state
+        test.now.wide test.now.compare taken test.now.dst test.now.source x.now y.now) }
 {
-    let itself = same_register(dst, source);
-    match narrow(wide, compare, itself, taken, *x, *y) {
+    match narrow(test, taken, *x, *y) {
         None => Ok(None),
         Some((u, v)) => {
-            let next = with_narrowed(state, dst, source, u, v)?;
+            let next = with_narrowed(state, test, u, v)?;
             Ok(Some(next))
         }
     }
@@ -105,19 +131,17 @@ fn way_of_numbers(
 
 /// Both ways of a comparison of numbers.
 fn ways_of_numbers(
-    state: &AbsState,
-    wide: bool,
-    compare: Compare,
-    dst: Reg,
-    source: &Source,
+    state: AbsState,
+    test: &Test,
     x: &AbsNum,
     y: &AbsNum,
 ) -> Result<Split, AllocError>
-    ensures is { IfOk result
-        (λ ways. ways ≡ number_ways state.now wide compare dst source.now x.now y.now) }
+    ensures is { IfOk result (λ ways. ways ≡ number_ways state
+        test.now.wide test.now.compare test.now.dst test.now.source x.now y.now) }
 {
-    let fall = way_of_numbers(state, wide, compare, false, dst, source, x, y)?;
-    let jump = way_of_numbers(state, wide, compare, true, dst, source, x, y)?;
+    let copy = state.clone()?;
+    let fall = way_of_numbers(copy, test, false, x, y)?;
+    let jump = way_of_numbers(state, test, true, x, y)?;
     Ok((fall, jump))
 }
 
@@ -143,27 +167,26 @@ fn taken_unless_null(compare: Compare, zero: bool) -> Option<bool>
 }
 
 /// Whether a source is the immediate 0.
-fn is_zero_source(source: &Source) -> bool
-    ensures is { result ≡ is_zero source.now }
+fn is_zero_source(source: Source) -> bool
+    ensures is { result ≡ is_zero source }
 {
     match source {
-        Source::Imm(number) => word_of_int(*number) == 0,
+        Source::Imm(number) => word_of_int(number) == 0,
         Source::Reg(_) => false,
     }
 }
 
-/// A copy of the state with a value in a register.
-fn with_value(state: &AbsState, dst: Reg, value: AbsVal) -> Result<AbsState, AllocError>
-    ensures is { IfOk result (λ next. next ≡ with_register state.now dst value) }
+/// The state with a value in a register.
+fn with_value(mut state: AbsState, dst: Reg, value: AbsVal) -> Result<AbsState, AllocError>
+    ensures is { IfOk result (λ next. next ≡ with_register state dst value) }
 {
-    let mut next = state.clone()?;
-    next.set_register(dst, value)?;
-    Ok(next)
+    state.set_register(dst, value)?;
+    Ok(state)
 }
 
 /// The ways of a lookup's answer that is tested for null: it is 0, or points to the start of an entry.
-fn ways_of_lookup(state: &AbsState, dst: Reg, map: u32, test: Option<bool>) -> Result<Split, Fault>
-    ensures is { IsOrNoMemory result (lookup_ways state.now dst map test) }
+fn ways_of_lookup(state: AbsState, dst: Reg, map: u32, test: Option<bool>) -> Result<Split, Fault>
+    ensures is { IsOrNoMemory result (lookup_ways state dst map test) }
 {
     let Some(taken) = test else {
         return Err(Fault::NotTested);
@@ -172,7 +195,8 @@ fn ways_of_lookup(state: &AbsState, dst: Reg, map: u32, test: Option<bool>) -> R
         region: AbsRegion::Entry(map),
         offset: AbsNum::single(0),
     };
-    let set = with_value(state, dst, pointer)?;
+    let copy = state.clone()?;
+    let set = with_value(copy, dst, pointer)?;
     let null = with_value(state, dst, AbsVal::Number(AbsNum::single(0)))?;
     if taken {
         return Ok((Some(null), Some(set)));
@@ -181,41 +205,39 @@ fn ways_of_lookup(state: &AbsState, dst: Reg, map: u32, test: Option<bool>) -> R
 }
 
 /// The one way of a pointer that is tested for null.
-fn ways_of_pointer(state: &AbsState, test: Option<bool>) -> Result<Split, Fault>
-    ensures is { IsOrNoMemory result (pointer_ways state.now test) }
+fn ways_of_pointer(state: AbsState, test: Option<bool>) -> Result<Split, Fault>
+    ensures is { result ≡ pointer_ways state test }
 {
     let Some(taken) = test else {
         return Err(Fault::WrongOperand);
     };
-    let set = state.clone()?;
     if taken {
-        return Ok((None, Some(set)));
+        return Ok((None, Some(state)));
     }
-    Ok((Some(set), None))
+    Ok((Some(state), None))
 }
 
 /// A way on which the offset and `more` bytes are at most the frame's length; None where no frame is so long.
 fn with_learnt(
-    state: &AbsState,
+    mut state: AbsState,
     offset: AbsNum,
     label: &Option<Label>,
     more: u16,
 ) -> Result<Option<AbsState>, AllocError>
     requires small { more ≤ 1 }
-    ensures is { IfOk result (λ way. way ≡ learnt state.now offset label.now more) }
+    ensures is { IfOk result (λ way. way ≡ learnt state offset label.now more) }
 {
     let low = offset.range().low();
     if low > 2400 - u64::from(more) {
         return Ok(None);
     }
-    let mut next = state.clone()?;
-    next.raise_least(low as u16 + more);
+    state.raise_least(low as u16 + more);
     if let Some(label) = label {
         if u64::from(label.distance) <= low {
-            next.raise_room(label.label, label.distance + more)?;
+            state.raise_room(label.label, label.distance + more)?;
         }
     }
-    Ok(Some(next))
+    Ok(Some(state))
 }
 
 /// How many bytes more than the offset a way teaches of a comparison of a pointer with the frame's end: none on the ways
@@ -255,20 +277,17 @@ fn taught_by(compare: Compare, taken: bool) -> Option<u16>
 
 /// A way of a comparison of a pointer with the frame's end.
 fn way_of_end(
-    state: &AbsState,
+    state: AbsState,
     offset: AbsNum,
     label: &Option<Label>,
     compare: Compare,
     taken: bool,
 ) -> Result<Option<AbsState>, AllocError>
     ensures is { IfOk result
-        (λ way. way ≡ taught state.now offset label.now (lesson compare taken)) }
+        (λ way. way ≡ taught state offset label.now (lesson compare taken)) }
 {
     match taught_by(compare, taken) {
-        None => {
-            let next = state.clone()?;
-            Ok(Some(next))
-        }
+        None => Ok(Some(state)),
         Some(more) => {
             let next = with_learnt(state, offset, label, more)?;
             Ok(next)
@@ -278,18 +297,19 @@ fn way_of_end(
 
 /// Both ways of a comparison of a pointer with the frame's end.
 fn ways_of_end(
-    state: &AbsState,
+    state: AbsState,
     offset: AbsNum,
     label: Option<Label>,
     compare: Option<Compare>,
 ) -> Result<Split, Fault>
-    ensures is { IsOrNoMemory result (end_test state.now offset label compare) }
+    ensures is { IsOrNoMemory result (end_test state offset label compare) }
 {
     let Some(compare) = compare else {
         return Err(Fault::WrongOperand);
     };
     let place = &offset;
-    let fall = way_of_end(state, *place, &label, compare, false)?;
+    let copy = state.clone()?;
+    let fall = way_of_end(copy, *place, &label, compare, false)?;
     let jump = way_of_end(state, *place, &label, compare, true)?;
     Ok((fall, jump))
 }
@@ -322,50 +342,45 @@ fn as_order(compare: Compare) -> Option<Compare>
 
 /// The ways of a comparison of 64 bits with a number.
 fn ways_against_number(
-    state: &AbsState,
-    compare: Compare,
-    dst: Reg,
-    source: &Source,
+    state: AbsState,
+    test: &Test,
     left: AbsVal,
     y: AbsNum,
 ) -> Result<Split, Fault>
-    ensures is { IsOrNoMemory result (wide_ways state.now compare dst source.now left (Number y)) }
+    requires wide { test.now.wide ≡ true }
+    ensures is { IsOrNoMemory result
+        (wide_ways state test.now.compare test.now.dst test.now.source left (Number y)) }
 {
-    let test = taken_unless_null(compare, is_zero_source(source));
+    let null = taken_unless_null(test.compare, is_zero_source(test.source));
     match left {
         AbsVal::Number(x) => {
-            let ways = ways_of_numbers(state, true, compare, dst, source, &x, &y)?;
+            let ways = ways_of_numbers(state, test, &x, &y)?;
             Ok(ways)
         }
-        AbsVal::Lookup(map) => ways_of_lookup(state, dst, map, test),
-        AbsVal::Frame { .. } => ways_of_pointer(state, test),
-        AbsVal::Pointer { .. } => ways_of_pointer(state, test),
+        AbsVal::Lookup(map) => ways_of_lookup(state, test.dst, map, null),
+        AbsVal::Frame { .. } => ways_of_pointer(state, null),
+        AbsVal::Pointer { .. } => ways_of_pointer(state, null),
         AbsVal::Unset => Err(Fault::Unset),
         _ => Err(Fault::WrongOperand),
     }
 }
 
 /// The ways of a comparison of 64 bits.
-fn ways_of_wide(
-    state: &AbsState,
-    compare: Compare,
-    dst: Reg,
-    source: &Source,
-    left: AbsVal,
-    right: AbsVal,
-) -> Result<Split, Fault>
-    ensures is { IsOrNoMemory result (wide_ways state.now compare dst source.now left right) }
+fn ways_of_wide(state: AbsState, test: &Test, left: AbsVal, right: AbsVal) -> Result<Split, Fault>
+    requires wide { test.now.wide ≡ true }
+    ensures is { IsOrNoMemory result
+        (wide_ways state test.now.compare test.now.dst test.now.source left right) }
 {
     match right {
-        AbsVal::Number(y) => ways_against_number(state, compare, dst, source, left, y),
+        AbsVal::Number(y) => ways_against_number(state, test, left, y),
         AbsVal::FrameEnd => match left {
             AbsVal::Frame { offset, label } => {
-                ways_of_end(state, offset, label, as_order(compare))
+                ways_of_end(state, offset, label, as_order(test.compare))
             }
             _ => Err(fault_of_two(left, right)),
         },
         AbsVal::Frame { offset, label } => match left {
-            AbsVal::FrameEnd => ways_of_end(state, offset, label, turn(compare)),
+            AbsVal::FrameEnd => ways_of_end(state, offset, label, turn(test.compare)),
             _ => Err(fault_of_two(left, right)),
         },
         _ => Err(fault_of_two(left, right)),
@@ -373,20 +388,15 @@ fn ways_of_wide(
 }
 
 /// The ways of a comparison of 32 bits.
-fn ways_of_narrow(
-    state: &AbsState,
-    compare: Compare,
-    dst: Reg,
-    source: &Source,
-    left: AbsVal,
-    right: AbsVal,
-) -> Result<Split, Fault>
-    ensures is { IsOrNoMemory result (narrow_ways state.now compare dst source.now left right) }
+fn ways_of_narrow(state: AbsState, test: &Test, left: AbsVal, right: AbsVal) -> Result<Split, Fault>
+    requires narrow { test.now.wide ≡ false }
+    ensures is { IsOrNoMemory result
+        (narrow_ways state test.now.compare test.now.dst test.now.source left right) }
 {
     match left {
         AbsVal::Number(x) => match right {
             AbsVal::Number(y) => {
-                let ways = ways_of_numbers(state, false, compare, dst, source, &x, &y)?;
+                let ways = ways_of_numbers(state, test, &x, &y)?;
                 Ok(ways)
             }
             _ => Err(fault_of_two(left, right)),
@@ -396,19 +406,14 @@ fn ways_of_narrow(
 }
 
 /// The ways of a conditional jump, at the jump itself.
-pub fn split_ways(
-    state: &AbsState,
-    wide: bool,
-    compare: Compare,
-    dst: Reg,
-    source: &Source,
-) -> Result<Split, Fault>
-    ensures is { IsOrNoMemory result (split state.now wide compare dst source.now) }
+pub fn split_ways(state: AbsState, test: &Test) -> Result<Split, Fault>
+    ensures is { IsOrNoMemory result
+        (split state test.now.wide test.now.compare test.now.dst test.now.source) }
 {
-    let left = state.register(dst);
-    let right = compared_with(state, wide, *source);
-    if wide {
-        return ways_of_wide(state, compare, dst, source, left, right);
+    let left = state.register(test.dst);
+    let right = compared_with(&state, test);
+    if test.wide {
+        return ways_of_wide(state, test, left, right);
     }
-    ways_of_narrow(state, compare, dst, source, left, right)
+    ways_of_narrow(state, test, left, right)
 }

@@ -75,26 +75,26 @@ fn set_in(slot: AbsSlot, mask: u8) -> AbsSlot
     AbsSlot::Bytes(slot.set_bytes() | mask)
 }
 
-/// A copy of the state with `n` bytes of a stack set.
+/// The state with `n` bytes of a stack set.
 #[tactic(auto, using(crate::proofs::Touched::touched_one))]
-pub fn with_bytes_set(state: &AbsState, k: u8, at: usize, n: u32) -> Result<AbsState, AllocError>
-    requires lives { k < length state.now.frames }
+pub fn with_bytes_set(mut state: AbsState, k: u8, at: usize, n: u32) -> Result<AbsState, AllocError>
+    requires lives { k < length state.frames }
     requires few { n ≤ 8 }
     requires inside { at + n ≤ 512 }
     requires some { 1 ≤ n }
-    ensures is { IfOk result (λ next. next ≡ bytes_stored state.now k at n) }
+    ensures is { IfOk result (λ next. next ≡ bytes_stored state k at n) }
 {
     let touched = touched_bytes(at, n);
     let first = set_in(state.slot(k as usize, at / 8), (touched % 256) as u8);
-    let mut next = state.clone()?;
-    next.set_slot(k as usize, at / 8, first)?;
     let second = (touched / 256) as u8;
     if second == 0 {
-        return Ok(next);
+        state.set_slot(k as usize, at / 8, first)?;
+        return Ok(state);
     }
-    let slot = set_in(state.slot(k as usize, at / 8 + 1), second);
-    next.set_slot(k as usize, at / 8 + 1, slot)?;
-    Ok(next)
+    let behind = set_in(state.slot(k as usize, at / 8 + 1), second);
+    state.set_slot(k as usize, at / 8, first)?;
+    state.set_slot(k as usize, at / 8 + 1, behind)?;
+    Ok(state)
 }
 
 /// Whether an access is to eight bytes at a multiple of 8.
@@ -104,24 +104,23 @@ pub fn is_whole_slot(at: usize, n: u32) -> bool
     n == 8 && at % 8 == 0
 }
 
-/// A copy of the state with a value stored: whole, or a number's bytes.
+/// The state with a value stored: whole, or a number's bytes.
 pub fn with_stored(
-    state: &AbsState,
+    mut state: AbsState,
     k: u8,
     at: usize,
     n: u32,
     value: AbsVal,
 ) -> Result<AbsState, AllocError>
-    requires lives { k < length state.now.frames }
+    requires lives { k < length state.frames }
     requires few { n ≤ 8 }
     requires inside { at + n ≤ 512 }
     requires some { 1 ≤ n }
-    ensures is { IfOk result (λ next. next ≡ stored state.now k at n value) }
+    ensures is { IfOk result (λ next. next ≡ stored state k at n value) }
 {
     if is_whole_slot(at, n) {
-        let mut next = state.clone()?;
-        next.set_slot(k as usize, at / 8, AbsSlot::Stored(value))?;
-        return Ok(next);
+        state.set_slot(k as usize, at / 8, AbsSlot::Stored(value))?;
+        return Ok(state);
     }
     let next = with_bytes_set(state, k, at, n)?;
     Ok(next)

@@ -1,12 +1,13 @@
 //! One instruction in one abstract state.
 
-ghost use Rattle.std.specs.Prelude.{◌≡◌, ◌<◌, ◌+◌, ℕ, ℤ, Ok, Some};
+ghost use Rattle.std.specs.Prelude.{◌≡◌, ◌<◌, ◌+◌, ℕ, ℤ, Ok, Some, true};
+ghost use Rattle.bpf_checks.specs.Kinds.{is_access};
 ghost use Rattle.bpf_insn.specs.declared.insn.Insn.{Insn};
 ghost use Rattle.bpf_decode.specs.Flow.{IsJump, jump_of};
 ghost use Rattle.bpf_decode.specs.Program.{Begins, Holds};
 ghost use Rattle.bpf_rules.specs.Faults.{IsOrNoMemory, on};
 ghost use Rattle.bpf_rules.specs.Examined.{examined, put, put_number as put_numbers, operated, branched, compared, landing};
-ghost use Rattle.bpf_rules.specs.Memory.{load as loads, store as stores, atomic as atomics, next_pc};
+ghost use Rattle.bpf_rules.specs.Memory.{store as stores, atomic as atomics, next_pc};
 ghost use Rattle.bpf_rules.specs.Operands.{alu, source_value};
 ghost use Rattle.bpf_rules.specs.Branches.{split};
 ghost use Rattle.bpf_rules.specs.Calls.{helped, answered, call as calls};
@@ -18,192 +19,145 @@ ghost use Rattle.bpf_model.specs.Step.{atomic_bytes};
 ghost use Rattle.bpf_words.specs.Word.{word_of};
 ghost use Rattle.bpf_absval.specs.declared.value.AbsVal.TheVariants.{Number};
 
-use crate::branches::split_ways;
+use crate::branches::{Test, split_ways};
 use crate::flow::{
-    after_helper, call_at, exit, expected_by, goes_to, helper_answer, put_result, put_value,
-    source_of, target, ways_at,
+    after_helper, call_at, exit, goes_to, helper_answer, put_result, put_value, source_of, target,
+    ways_at,
 };
-use crate::memory::{atomic_through, bytes_of_atomic, bytes_of_size, load_through, store_through};
+use crate::memory::{Address, Exchange, atomic_through, load_through, store_through};
 use crate::operands::{gives_label, number_of, operate, wide_load};
 use bpf_absnum::AbsNum;
 use bpf_absstate::AbsState;
 use bpf_absval::AbsVal;
 use bpf_decode::Program;
-use bpf_insn::{
-    AluOp, AtomicOp, ByteOrder, Compare, Extension, Insn, OrderWidth, Reg, Size, Source,
-};
+use bpf_insn::{AluOp, ByteOrder, Extension, Insn, OrderWidth, Reg, Size, Source};
 use bpf_regions::Shapes;
 use bpf_rules::{Fault, Ways};
 use bpf_words::word_of_int;
 use std::alloc::Global;
 
+/// An arithmetic operation, of 64 bits or of 32.
+#[derive(Clone, Copy)]
+struct Operator {
+    op: AluOp,
+    wide: bool,
+}
+
 /// An arithmetic operation.
 fn arithmetic(
     alloc: Global,
-    state: &AbsState,
-    op: AluOp,
-    wide: bool,
+    state: AbsState,
+    operator: Operator,
     dst: Reg,
-    source: &Source,
+    source: Source,
 ) -> Result<Ways, Fault>
-    requires inside { state.now.pc < 16384 }
+    requires inside { state.pc < 16384 }
     ensures is { IsOrNoMemory result
-        (on (alu state.now.pc op wide (register state.now dst) (source_value state.now source.now))
-        (operated state.now op dst (register state.now dst) (source_value state.now source.now))) }
+        (on (alu state.pc operator.op operator.wide
+        (register state dst) (source_value state source))
+        (operated state operator.op dst (register state dst) (source_value state source))) }
 {
+    let op = operator.op;
     let a = state.register(dst);
-    let b = source_of(state, source);
+    let b = source_of(&state, source);
     let left = &a;
     let right = &b;
-    match operate(state.pc() as u16, op, wide, *left, *right) {
+    match operate(state.pc() as u16, op, operator.wide, *left, *right) {
         Err(fault) => Err(fault),
         Ok(value) => put_result(alloc, state, gives_label(op, *left, *right), dst, value),
     }
 }
 
 /// An operation on a number, once it is computed.
-fn put_number(state: &AbsState, dst: Reg, number: AbsNum) -> Result<Ways, Fault>
-    requires inside { state.now.pc < 16384 }
-    ensures is { IsOrNoMemory result (put state.now 1 dst (Number number)) }
+fn put_number(state: AbsState, dst: Reg, number: AbsNum) -> Result<Ways, Fault>
+    requires inside { state.pc < 16384 }
+    ensures is { IsOrNoMemory result (put state 1 dst (Number number)) }
 {
     put_value(state, 1, dst, AbsVal::Number(number))
 }
 
 /// A conditional jump.
-fn branch(
-    state: &AbsState,
-    compare: Compare,
-    wide: bool,
-    dst: Reg,
-    source: &Source,
-    by: i16,
-) -> Result<Ways, Fault>
-    requires inside { state.now.pc < 16384 }
-    requires leads { (t : ℕ) × IsJump state.now.pc by t }
+fn branch(state: AbsState, test: &Test, by: i16) -> Result<Ways, Fault>
+    requires inside { state.pc < 16384 }
+    requires leads { (t : ℕ) × IsJump state.pc by t }
     ensures is { IsOrNoMemory result
-        (on (split state.now wide compare dst source.now) (λ w. Ok (branched state.now by w))) }
+        (on (split state test.now.wide test.now.compare test.now.dst test.now.source)
+        (λ w. Ok (branched state by w))) }
 {
-    match split_ways(state, wide, compare, dst, source) {
+    let pc = state.pc();
+    match split_ways(state, test) {
         Err(fault) => Err(fault),
-        Ok(ways) => {
-            let pc = state.pc();
-            Ok(ways_at(ways, pc + 1, target(pc, i32::from(by))))
-        }
+        Ok(ways) => Ok(ways_at(ways, pc + 1, target(pc, i32::from(by)))),
     }
 }
 
 /// A helper call.
-fn help(state: &AbsState, helper: i32) -> Result<Ways, Fault>
-    requires inside { state.now.pc < 16384 }
+fn help(state: AbsState, helper: i32) -> Result<Ways, Fault>
+    requires inside { state.pc < 16384 }
     ensures is { IsOrNoMemory result
-        (on (helped state.now (word_of helper)) (λ v. Ok (One (answered state.now v)))) }
+        (on (helped state (word_of helper)) (λ v. Ok (One (answered state v)))) }
 {
-    match helper_answer(state, word_of_int(helper)) {
+    match helper_answer(&state, word_of_int(helper)) {
         Err(fault) => Err(fault),
         Ok(value) => after_helper(state, value),
     }
 }
 
-/// A load.
-fn load(
-    shapes: &Shapes,
-    state: &AbsState,
-    size: Size,
-    signed: bool,
-    dst: Reg,
-    src: Reg,
-    by: i16,
-) -> Result<Ways, Fault>
-    requires inside { state.now.pc < 16384 }
-    ensures is { IsOrNoMemory result (on (loads shapes.now state.now (size_bytes size) signed
-        (register state.now src) by) (put state.now 1 dst)) }
+/// The state after a load, with what it gave in a register.
+fn put_loaded(state: AbsState, dst: Reg, loaded: Result<AbsVal, Fault>) -> Result<Ways, Fault>
+    requires inside { state.pc < 16384 }
+    ensures is { IsOrNoMemory result (on loaded (put state 1 dst)) }
 {
-    match load_through(
-        shapes,
-        state,
-        bytes_of_size(size),
-        signed,
-        state.register(src),
-        by,
-    ) {
+    match loaded {
         Err(fault) => Err(fault),
         Ok(value) => put_value(state, 1, dst, value),
     }
 }
 
-/// A store.
+/// A store of so many bytes of a value.
 fn store(
     shapes: &Shapes,
-    state: &AbsState,
+    state: AbsState,
+    address: Address,
     size: Size,
-    dst: Reg,
-    by: i16,
-    source: &Source,
+    value: AbsVal,
 ) -> Result<Ways, Fault>
-    requires inside { state.now.pc < 16384 }
+    requires inside { state.pc < 16384 }
     ensures is { IsOrNoMemory result
-        (on (stores shapes.now state.now (size_bytes size) (source_value state.now source.now)
-        (register state.now dst) by) (λ b. Ok (One (next_pc b)))) }
+        (on (stores shapes.now state (size_bytes size) value address.pointer address.by)
+        (λ b. Ok (One (next_pc b)))) }
 {
-    let value = source_of(state, source);
-    match store_through(
-        shapes,
-        state,
-        bytes_of_size(size),
-        value,
-        state.register(dst),
-        by,
-    ) {
+    let pc = state.pc();
+    match store_through(shapes, state, address, size, value) {
         Err(fault) => Err(fault),
-        Ok(mut next) => {
-            next.go_to(state.pc() + 1);
-            Ok(Ways::One(next))
-        }
+        Ok(next) => Ok(goes_to(next, pc + 1)),
     }
 }
 
 /// An atomic.
 fn atomic(
     shapes: &Shapes,
-    state: &AbsState,
-    op: AtomicOp,
-    wide: bool,
-    dst: Reg,
-    src: Reg,
-    by: i16,
+    state: AbsState,
+    address: Address,
+    operator: Exchange,
 ) -> Result<Ways, Fault>
-    requires inside { state.now.pc < 16384 }
+    requires inside { state.pc < 16384 }
     ensures is { IsOrNoMemory result
-        (on (atomics shapes.now state.now (atomic_bytes wide) op src by (register state.now dst)
-        (register state.now src) (compared op state.now)) (λ b. Ok (One (next_pc b)))) }
+        (on (atomics shapes.now state (atomic_bytes operator.wide) operator.op operator.src
+        address.by address.pointer (register state operator.src) (compared operator.op state))
+        (λ b. Ok (One (next_pc b)))) }
 {
-    let pointer = state.register(dst);
-    let number = state.register(src);
-    let expected = expected_by(state, op);
-    let outcome = atomic_through(
-        shapes,
-        state,
-        op,
-        bytes_of_atomic(wide),
-        src,
-        by,
-        pointer,
-        number,
-        expected,
-    );
-    match outcome {
+    let pc = state.pc();
+    match atomic_through(shapes, state, address, operator) {
         Err(fault) => Err(fault),
-        Ok(mut next) => {
-            next.go_to(state.pc() + 1);
-            Ok(Ways::One(next))
-        }
+        Ok(next) => Ok(goes_to(next, pc + 1)),
     }
 }
 
-fn extend(state: &AbsState, from: Extension, wide: bool, dst: Reg, src: Reg) -> Result<Ways, Fault>
-    requires inside { state.now.pc < 16384 }
+fn extend(state: AbsState, from: Extension, wide: bool, dst: Reg, src: Reg) -> Result<Ways, Fault>
+    requires inside { state.pc < 16384 }
     ensures is { IsOrNoMemory result
-        (put_numbers state.now dst (num_extended from wide) (register state.now src)) }
+        (put_numbers state dst (num_extended from wide) (register state src)) }
 {
     match number_of(state.register(src)) {
         Err(fault) => Err(fault),
@@ -211,10 +165,10 @@ fn extend(state: &AbsState, from: Extension, wide: bool, dst: Reg, src: Reg) -> 
     }
 }
 
-fn negate(state: &AbsState, wide: bool, dst: Reg) -> Result<Ways, Fault>
-    requires inside { state.now.pc < 16384 }
+fn negate(state: AbsState, wide: bool, dst: Reg) -> Result<Ways, Fault>
+    requires inside { state.pc < 16384 }
     ensures is { IsOrNoMemory result
-        (put_numbers state.now dst (num_negated wide) (register state.now dst)) }
+        (put_numbers state dst (num_negated wide) (register state dst)) }
 {
     match number_of(state.register(dst)) {
         Err(fault) => Err(fault),
@@ -222,10 +176,10 @@ fn negate(state: &AbsState, wide: bool, dst: Reg) -> Result<Ways, Fault>
     }
 }
 
-fn order(state: &AbsState, order: ByteOrder, width: OrderWidth, dst: Reg) -> Result<Ways, Fault>
-    requires inside { state.now.pc < 16384 }
+fn order(state: AbsState, order: ByteOrder, width: OrderWidth, dst: Reg) -> Result<Ways, Fault>
+    requires inside { state.pc < 16384 }
     ensures is { IsOrNoMemory result
-        (put_numbers state.now dst (num_ordered order width) (register state.now dst)) }
+        (put_numbers state dst (num_ordered order width) (register state dst)) }
 {
     match number_of(state.register(dst)) {
         Err(fault) => Err(fault),
@@ -234,29 +188,72 @@ fn order(state: &AbsState, order: ByteOrder, width: OrderWidth, dst: Reg) -> Res
 }
 
 /// A jump that is always taken.
-fn jump(state: &AbsState, by: i32) -> Result<Ways, Fault>
-    requires inside { state.now.pc < 16384 }
-    requires leads { (t : ℕ) × IsJump state.now.pc by t }
-    ensures is { IsOrNoMemory result (Ok (One (at_slot state.now (landing state.now.pc by)))) }
+fn jump(state: AbsState, by: i32) -> Ways
+    requires inside { state.pc < 16384 }
+    requires leads { (t : ℕ) × IsJump state.pc by t }
+    ensures is { result ≡ One (at_slot state (landing state.pc by)) }
 {
-    goes_to(state, target(state.pc(), by))
+    let to = target(state.pc(), by);
+    goes_to(state, to)
 }
 
 /// A local call.
-fn call(alloc: Global, state: &AbsState, by: i32) -> Result<Ways, Fault>
-    requires inside { state.now.pc < 16384 }
-    requires leads { (t : ℕ) × IsJump state.now.pc by t }
-    ensures is { IsOrNoMemory result
-        (on (calls state.now (landing state.now.pc by)) (λ b. Ok (One b))) }
+fn call(alloc: Global, state: AbsState, by: i32) -> Result<Ways, Fault>
+    requires inside { state.pc < 16384 }
+    requires leads { (t : ℕ) × IsJump state.pc by t }
+    ensures is { IsOrNoMemory result (on (calls state (landing state.pc by)) (λ b. Ok (One b))) }
 {
-    call_at(alloc, state, target(state.pc(), by))
+    let to = target(state.pc(), by);
+    call_at(alloc, state, to)
+}
+
+/// A load, a store or an atomic.
+fn examine_access(shapes: &Shapes, insn: Insn, state: AbsState) -> Result<Ways, Fault>
+    requires access { is_access insn ≡ true }
+    requires inside { state.pc < 16384 }
+    ensures is { IsOrNoMemory result (examined shapes.now insn state) }
+{
+    match insn {
+        Insn::Load {
+            size,
+            signed,
+            dst,
+            src,
+            offset,
+        } => {
+            let address = Address::at(&state, src, offset);
+            let loaded = load_through(shapes, &state, address, size, signed);
+            put_loaded(state, dst, loaded)
+        }
+        Insn::Store {
+            size,
+            dst,
+            offset,
+            source,
+        } => {
+            let address = Address::at(&state, dst, offset);
+            let value = source_of(&state, source);
+            store(shapes, state, address, size, value)
+        }
+        Insn::Atomic {
+            op,
+            wide,
+            dst,
+            src,
+            offset,
+        } => {
+            let address = Address::at(&state, dst, offset);
+            atomic(shapes, state, address, Exchange { op, wide, src })
+        }
+        _ => unreachable!(),
+    }
 }
 
 /// What an instruction makes of an abstract state: the ways on, or the fault that it meets first.
-fn examine_insn(alloc: Global, shapes: &Shapes, insn: Insn, state: &AbsState) -> Result<Ways, Fault>
-    requires inside { state.now.pc < 16384 }
-    requires leads { (x : ℤ) → jump_of insn ≡ Some x → (t : ℕ) × IsJump state.now.pc x t }
-    ensures is { IsOrNoMemory result (examined shapes.now insn state.now) }
+fn examine_insn(alloc: Global, shapes: &Shapes, insn: Insn, state: AbsState) -> Result<Ways, Fault>
+    requires inside { state.pc < 16384 }
+    requires leads { (x : ℤ) → jump_of insn ≡ Some x → (t : ℕ) × IsJump state.pc x t }
+    ensures is { IsOrNoMemory result (examined shapes.now insn state) }
 {
     match insn {
         Insn::Alu {
@@ -264,7 +261,7 @@ fn examine_insn(alloc: Global, shapes: &Shapes, insn: Insn, state: &AbsState) ->
             wide,
             dst,
             source,
-        } => arithmetic(alloc, state, op, wide, dst, &source),
+        } => arithmetic(alloc, state, Operator { op, wide }, dst, source),
         Insn::MovSx {
             from,
             wide,
@@ -277,39 +274,22 @@ fn examine_insn(alloc: Global, shapes: &Shapes, insn: Insn, state: &AbsState) ->
             width,
             dst,
         } => order(state, bytes, width, dst),
-        Insn::Jump { offset } => jump(state, i32::from(offset)),
-        Insn::JumpLong { offset } => jump(state, offset),
+        Insn::LoadWide { dst, value } => put_value(state, 2, dst, wide_load(value)),
+        Insn::Jump { offset } => Ok(jump(state, i32::from(offset))),
+        Insn::JumpLong { offset } => Ok(jump(state, offset)),
         Insn::Branch {
             compare,
             wide,
             dst,
             source,
             offset,
-        } => branch(state, compare, wide, dst, &source, offset),
+        } => branch(state, &Test::new(compare, wide, dst, source), offset),
         Insn::Call { helper } => help(state, helper),
         Insn::CallLocal { offset } => call(alloc, state, offset),
-        Insn::Exit => exit(state, state.register(Reg::new(0))),
-        Insn::Load {
-            size,
-            signed,
-            dst,
-            src,
-            offset,
-        } => load(shapes, state, size, signed, dst, src, offset),
-        Insn::Store {
-            size,
-            dst,
-            offset,
-            source,
-        } => store(shapes, state, size, dst, offset, &source),
-        Insn::Atomic {
-            op,
-            wide,
-            dst,
-            src,
-            offset,
-        } => atomic(shapes, state, op, wide, dst, src, offset),
-        Insn::LoadWide { dst, value } => put_value(state, 2, dst, wide_load(value)),
+        Insn::Exit => exit(state),
+        Insn::Load { .. } => examine_access(shapes, insn, state),
+        Insn::Store { .. } => examine_access(shapes, insn, state),
+        Insn::Atomic { .. } => examine_access(shapes, insn, state),
     }
 }
 
@@ -318,6 +298,16 @@ pub fn examine(alloc: Global, program: &Program, state: &AbsState) -> Result<Way
     requires begins { Begins program.now.slots state.now.pc }
     ensures is { (i : Insn) → Holds program.now.slots state.now.pc i →
         IsOrNoMemory result (examined program.now.shapes i state.now) }
+{
+    let copy = state.clone()?;
+    examine_moved(alloc, program, copy)
+}
+
+/// The same of a state that nobody else has: what its ways can go on with isn't copied.
+pub fn examine_moved(alloc: Global, program: &Program, state: AbsState) -> Result<Ways, Fault>
+    requires begins { Begins program.now.slots state.pc }
+    ensures is { (i : Insn) → Holds program.now.slots state.pc i →
+        IsOrNoMemory result (examined program.now.shapes i state) }
 {
     program.whole();
     match program.insn_at(state.pc()) {

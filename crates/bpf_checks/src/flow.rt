@@ -2,7 +2,7 @@
 
 ghost use Rattle.std.specs.Prelude.{◌≡◌, ◌<◌, ◌≤◌, ◌+◌, ℕ, if◌then◌else◌, Ok};
 ghost use Rattle.bpf_absnum.specs.Number.{Num};
-ghost use Rattle.bpf_absstate.specs.View.{at_slot, without_label, returned};
+ghost use Rattle.bpf_absstate.specs.View.{register, at_slot, without_label, returned};
 ghost use Rattle.bpf_decode.specs.Flow.{IsJump};
 ghost use Rattle.bpf_rules.specs.Faults.{IsOrNoMemory, on};
 ghost use Rattle.bpf_rules.specs.Operands.{source_value, makes_label};
@@ -23,49 +23,48 @@ use bpf_words::word_of_int;
 use std::alloc::{AllocError, Global};
 
 /// What a register holds, or an immediate.
-pub fn source_of(state: &AbsState, source: &Source) -> AbsVal
-    ensures is { result ≡ source_value state.now source.now }
+pub fn source_of(state: &AbsState, source: Source) -> AbsVal
+    ensures is { result ≡ source_value state.now source }
 {
     match source {
-        Source::Imm(number) => AbsVal::Number(AbsNum::single(word_of_int(*number))),
-        Source::Reg(register) => state.register(*register),
+        Source::Imm(number) => AbsVal::Number(AbsNum::single(word_of_int(number))),
+        Source::Reg(register) => state.register(register),
     }
 }
 
 /// So many slots on, with a value in a register.
-pub fn put_value(state: &AbsState, slots: usize, dst: Reg, value: AbsVal) -> Result<Ways, Fault>
-    requires inside { state.now.pc < 16384 }
+pub fn put_value(mut state: AbsState, slots: usize, dst: Reg, value: AbsVal) -> Result<Ways, Fault>
+    requires inside { state.pc < 16384 }
     requires few { slots ≤ 2 }
-    ensures is { IsOrNoMemory result (put state.now slots dst value) }
+    ensures is { IsOrNoMemory result (put state slots dst value) }
 {
-    let mut next = state.clone()?;
-    next.set_register(dst, value)?;
-    next.go_to(state.pc() + slots);
-    Ok(Ways::One(next))
+    let next = state.pc() + slots;
+    state.set_register(dst, value)?;
+    state.go_to(next);
+    Ok(Ways::One(state))
 }
 
 /// The next slot, with the value of an operation in a register; where it gives a frame pointer a label of its own, what
 /// other values had of that label is forgotten.
 pub fn put_result(
     alloc: Global,
-    state: &AbsState,
+    mut state: AbsState,
     labels: bool,
     dst: Reg,
     value: AbsVal,
 ) -> Result<Ways, Fault>
-    requires inside { state.now.pc < 16384 }
+    requires inside { state.pc < 16384 }
     ensures is { IsOrNoMemory result (put
-        (if labels then without_label state.now (state.now.pc + 1) else state.now) 1 dst value) }
+        (if labels then without_label state (state.pc + 1) else state) 1 dst value) }
 {
     if !labels {
         return put_value(state, 1, dst, value);
     }
-    let mut next = state.clone()?;
     let pc = state.pc();
-    next.forget_label(alloc, pc as u16 + 1)?;
-    next.set_register(dst, value)?;
-    next.go_to(pc + 1);
-    Ok(Ways::One(next))
+    state.forget_label(alloc, pc as u16 + 1)?;
+    state.set_register(dst, value)?;
+    state.go_to(pc + 1);
+    Ok(Ways::One(state))
 }
 
 /// Where a jump leads that stays in the program.
@@ -81,12 +80,11 @@ pub fn target(pc: usize, by: i32) -> usize
 }
 
 /// The same state at another slot.
-pub fn goes_to(state: &AbsState, pc: usize) -> Result<Ways, Fault>
-    ensures is { IsOrNoMemory result (Ok (One (at_slot state.now pc))) }
+pub fn goes_to(mut state: AbsState, pc: usize) -> Ways
+    ensures is { result ≡ One (at_slot state pc) }
 {
-    let mut next = state.clone()?;
-    next.go_to(pc);
-    Ok(Ways::One(next))
+    state.go_to(pc);
+    Ways::One(state)
 }
 
 /// The ways that are visited, each at its slot.
@@ -144,42 +142,43 @@ pub fn helper_answer(state: &AbsState, helper: u64) -> Result<AbsVal, Fault>
 }
 
 /// The state after a helper's answer.
-pub fn after_helper(state: &AbsState, value: AbsVal) -> Result<Ways, Fault>
-    requires inside { state.now.pc < 16384 }
-    ensures is { IsOrNoMemory result (Ok (One (answered state.now value))) }
+#[tactic(auto, using(crate::proofs::Answering::answered_last))]
+pub fn after_helper(mut state: AbsState, value: AbsVal) -> Result<Ways, Fault>
+    requires inside { state.pc < 16384 }
+    ensures is { IsOrNoMemory result (Ok (One (answered state value))) }
 {
-    let mut next = state.clone()?;
-    next.set_register(Reg::new(0), value)?;
-    next.clear_arguments()?;
-    next.go_to(state.pc() + 1);
-    Ok(Ways::One(next))
+    let next = state.pc() + 1;
+    state.clear_arguments()?;
+    state.set_register(Reg::new(0), value)?;
+    state.go_to(next);
+    Ok(Ways::One(state))
 }
 
 /// The state in which a local function begins.
-pub fn call_at(alloc: Global, state: &AbsState, to: usize) -> Result<Ways, Fault>
-    requires inside { state.now.pc < 16384 }
-    ensures is { IsOrNoMemory result (on (call state.now to) (λ b. Ok (One b))) }
+pub fn call_at(alloc: Global, mut state: AbsState, to: usize) -> Result<Ways, Fault>
+    requires inside { state.pc < 16384 }
+    ensures is { IsOrNoMemory result (on (call state to) (λ b. Ok (One b))) }
 {
     if state.depth() >= 8 {
         return Err(Fault::TooManyFrames);
     }
-    let mut next = state.clone()?;
-    next.call(alloc, to, state.pc() as u16 + 1)?;
-    Ok(Ways::One(next))
+    let back = state.pc() as u16 + 1;
+    state.call(alloc, to, back)?;
+    Ok(Ways::One(state))
 }
 
 /// EXIT wants a number in R0: the end of the run, or of the function that was called.
-pub fn exit(state: &AbsState, value: AbsVal) -> Result<Ways, Fault>
-    ensures is { IsOrNoMemory result (on (exit_number value) (λ x. Ok (exited state.now))) }
+pub fn exit(mut state: AbsState) -> Result<Ways, Fault>
+    ensures is { IsOrNoMemory result
+        (on (exit_number (register state 0)) (λ x. Ok (exited state))) }
 {
-    match value {
+    match state.register(Reg::new(0)) {
         AbsVal::Number(_) => {
             if state.depth() == 1 {
                 return Ok(Ways::Nowhere);
             }
-            let mut next = state.clone()?;
-            next.return_to_caller()?;
-            Ok(Ways::One(next))
+            state.return_to_caller()?;
+            Ok(Ways::One(state))
         }
         AbsVal::Unset => Err(Fault::Unset),
         _ => Err(Fault::NoResult),

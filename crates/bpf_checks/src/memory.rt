@@ -5,11 +5,13 @@ ghost use Rattle.bpf_regions.specs.declared.maps.Shape.{Shape};
 ghost use Rattle.bpf_absnum.specs.Number.{Num};
 ghost use Rattle.bpf_rules.specs.Faults.{IsOrNoMemory};
 ghost use Rattle.bpf_rules.specs.Memory.{offset_of, loaded, loaded_bytes, loaded_stack, loaded_from, load, spilled, stored_in_stack, stored_in_map, stored_into, store, with_old, atomic_on, atomic, strays, is_spill, read_only, entry_fault, operands_fault};
-ghost use Rattle.bpf_absstate.specs.View.{stack_of};
+ghost use Rattle.bpf_rules.specs.Examined.{compared};
+ghost use Rattle.bpf_absstate.specs.View.{register, stack_of};
 ghost use Rattle.bpf_model.specs.Memory.{size_bytes, old_into};
 ghost use Rattle.bpf_model.specs.Step.{atomic_bytes};
 
 use crate::bytes::{fault_of_reading, is_whole_slot, with_bytes_set, with_stored};
+use crate::flow::expected_by;
 use crate::operands::{fault_of, fault_of_two};
 use crate::places::{
     aligned_in_stack, fault_in_context, fault_in_entry, fault_in_frame, offset_by, place_in_stack,
@@ -22,8 +24,42 @@ use bpf_regions::Shapes;
 use bpf_rules::Fault;
 use std::alloc::AllocError;
 
+/// Where an access leads: through a value that has to be a pointer, so many bytes from it.
+#[derive(Clone, Copy)]
+pub struct Address {
+    pub pointer: AbsVal,
+    pub by: i16,
+}
+
+/// An atomic operation, of 8 bytes or of 4, and the register of its number.
+#[derive(Clone, Copy)]
+pub struct Exchange {
+    pub op: AtomicOp,
+    pub wide: bool,
+    pub src: Reg,
+}
+
+/// The offsets of a region at which an access may begin.
+#[derive(Clone, Copy)]
+struct Spot {
+    region: AbsRegion,
+    at: AbsNum,
+}
+
+impl Address {
+    /// Through the value of a register, so many bytes from it.
+    pub fn at(state: &AbsState, base: Reg, by: i16) -> Address
+        ensures is { result ≡ record { pointer = register state.now base; by = by } }
+    {
+        Address {
+            pointer: state.register(base),
+            by,
+        }
+    }
+}
+
 /// How many bytes a load or store moves.
-pub fn bytes_of_size(size: Size) -> u32
+fn bytes_of_size(size: Size) -> u32
     ensures is { result ≡ size_bytes size }
     ensures some { 1 ≤ result }
     ensures few { result ≤ 8 }
@@ -86,16 +122,16 @@ fn load_stack(state: &AbsState, k: u8, at: usize, n: u32, signed: bool) -> Resul
 fn load_region(
     shapes: &Shapes,
     state: &AbsState,
-    region: AbsRegion,
-    at: AbsNum,
+    place: Spot,
     n: u32,
     signed: bool,
 ) -> Result<AbsVal, Fault>
     requires few { n ≤ 8 }
     requires some { 1 ≤ n }
-    ensures is { result ≡ loaded_from shapes.now state.now region at n signed }
+    ensures is { result ≡ loaded_from shapes.now state.now place.region place.at n signed }
 {
-    match region {
+    let at = place.at;
+    match place.region {
         AbsRegion::Context => match fault_in_context(at, u64::from(n)) {
             Some(fault) => Err(fault),
             None => Ok(number_of_bytes(signed, n)),
@@ -115,15 +151,16 @@ fn load_region(
 pub fn load_through(
     shapes: &Shapes,
     state: &AbsState,
-    n: u32,
+    address: Address,
+    size: Size,
     signed: bool,
-    pointer: AbsVal,
-    by: i16,
 ) -> Result<AbsVal, Fault>
-    requires few { n ≤ 8 }
-    requires some { 1 ≤ n }
-    ensures is { result ≡ load shapes.now state.now n signed pointer by }
+    ensures is { result
+        ≡ load shapes.now state.now (size_bytes size) signed address.pointer address.by }
 {
+    let by = address.by;
+    let n = bytes_of_size(size);
+    let pointer = address.pointer;
     match pointer {
         AbsVal::Frame { offset, label } => {
             match fault_in_frame(state, offset, label, by, u64::from(n)) {
@@ -132,7 +169,8 @@ pub fn load_through(
             }
         }
         AbsVal::Pointer { region, offset } => {
-            load_region(shapes, state, region, offset_by(offset, by), n, signed)
+            let at = offset_by(offset, by);
+            load_region(shapes, state, Spot { region, at }, n, signed)
         }
         _ => Err(fault_of(pointer)),
     }
@@ -151,16 +189,16 @@ fn leads_to_other_stack(k: u8, value: &AbsVal) -> bool
     }
 }
 
-/// A copy of the state with a value other than a number stored: in 8 bytes at a multiple of 8, and a pointer to a stack
-/// frame into that frame alone.
-fn spill(state: &AbsState, k: u8, at: AbsNum, n: u32, value: AbsVal) -> Result<AbsState, Fault>
+/// The state with a value other than a number stored: in 8 bytes at a multiple of 8, and a pointer to a stack frame into
+/// that frame alone.
+fn spill(state: AbsState, k: u8, at: AbsNum, n: u32, value: AbsVal) -> Result<AbsState, Fault>
     requires few { n ≤ 8 }
-    ensures is { IsOrNoMemory result (spilled state.now k at n value) }
+    ensures is { IsOrNoMemory result (spilled state k at n value) }
 {
     if n != 8 {
         return Err(Fault::WrongOperand);
     }
-    match aligned_in_stack(state, k, at, 8) {
+    match aligned_in_stack(&state, k, at, 8) {
         Err(fault) => Err(fault),
         Ok(place) => {
             if leads_to_other_stack(k, &value) {
@@ -179,9 +217,9 @@ fn can_spill(at: AbsNum, n: u32) -> bool
     n == 8 && at.is_single() && at.range().low() % 8 == 0
 }
 
-/// A copy of the state with a value stored in a stack.
+/// The state with a value stored in a stack.
 fn store_in_stack(
-    state: &AbsState,
+    state: AbsState,
     k: u8,
     at: AbsNum,
     n: u32,
@@ -189,10 +227,10 @@ fn store_in_stack(
 ) -> Result<AbsState, Fault>
     requires few { n ≤ 8 }
     requires some { 1 ≤ n }
-    ensures is { IsOrNoMemory result (stored_in_stack state.now k at n value) }
+    ensures is { IsOrNoMemory result (stored_in_stack state k at n value) }
 {
     match value {
-        AbsVal::Number(_) => match place_in_stack(state, k, at, n) {
+        AbsVal::Number(_) => match place_in_stack(&state, k, at, n) {
             Err(fault) => Err(fault),
             Ok(place) => {
                 let next = with_stored(state, k, place, n, value)?;
@@ -209,18 +247,15 @@ fn store_in_stack(
     }
 }
 
-/// A copy of the state with a number stored in a map, which is not followed.
-fn store_in_map(state: &AbsState, fault: Option<Fault>, value: AbsVal) -> Result<AbsState, Fault>
+/// The state after a number was stored in a map, which is not followed.
+fn store_in_map(state: AbsState, fault: Option<Fault>, value: AbsVal) -> Result<AbsState, Fault>
     ensures is { (shape : Option Shape) (at : Num) (n : ℕ) → fault ≡ entry_fault shape at n →
-        IsOrNoMemory result (stored_in_map state.now shape at n value) }
+        result ≡ stored_in_map state shape at n value }
 {
     match value {
         AbsVal::Number(_) => match fault {
             Some(fault) => Err(fault),
-            None => {
-                let next = state.clone()?;
-                Ok(next)
-            }
+            None => Ok(state),
         },
         _ => Err(fault_of(value)),
     }
@@ -236,24 +271,23 @@ fn fault_of_read_only(value: AbsVal) -> Fault
     }
 }
 
-/// A copy of the state with a value stored into a region other than the frame.
+/// The state with a value stored into a region other than the frame.
 fn store_in_region(
     shapes: &Shapes,
-    state: &AbsState,
-    region: AbsRegion,
-    at: AbsNum,
+    state: AbsState,
+    place: Spot,
     n: u32,
     value: AbsVal,
 ) -> Result<AbsState, Fault>
     requires few { n ≤ 8 }
     requires some { 1 ≤ n }
-    ensures is { IsOrNoMemory result (stored_into shapes.now state.now region at n value) }
+    ensures is { IsOrNoMemory result (stored_into shapes.now state place.region place.at n value) }
 {
-    match region {
+    match place.region {
         AbsRegion::Context => Err(fault_of_read_only(value)),
-        AbsRegion::Stack(k) => store_in_stack(state, k, at, n, value),
+        AbsRegion::Stack(k) => store_in_stack(state, k, place.at, n, value),
         AbsRegion::Entry(map) => {
-            let fault = fault_in_entry(shapes.get(map), at, u64::from(n));
+            let fault = fault_in_entry(shapes.get(map), place.at, u64::from(n));
             store_in_map(state, fault, value)
         }
     }
@@ -262,21 +296,22 @@ fn store_in_region(
 /// What a store through a pointer leaves, at the same slot.
 pub fn store_through(
     shapes: &Shapes,
-    state: &AbsState,
-    n: u32,
+    state: AbsState,
+    address: Address,
+    size: Size,
     value: AbsVal,
-    pointer: AbsVal,
-    by: i16,
 ) -> Result<AbsState, Fault>
-    requires few { n ≤ 8 }
-    requires some { 1 ≤ n }
-    ensures is { IsOrNoMemory result (store shapes.now state.now n value pointer by) }
+    ensures is { IsOrNoMemory result
+        (store shapes.now state (size_bytes size) value address.pointer address.by) }
 {
+    let n = bytes_of_size(size);
+    let pointer = address.pointer;
     match value {
         AbsVal::Unset => Err(Fault::Unset),
         _ => match pointer {
             AbsVal::Pointer { region, offset } => {
-                store_in_region(shapes, state, region, offset_by(offset, by), n, value)
+                let at = offset_by(offset, address.by);
+                store_in_region(shapes, state, Spot { region, at }, n, value)
             }
             _ => Err(fault_of_two(pointer, value)),
         },
@@ -284,7 +319,7 @@ pub fn store_through(
 }
 
 /// How many bytes an atomic works on.
-pub fn bytes_of_atomic(wide: bool) -> u32
+fn bytes_of_atomic(wide: bool) -> u32
     ensures is { result ≡ atomic_bytes wide }
     ensures some { 1 ≤ result }
     ensures few { result ≤ 8 }
@@ -292,23 +327,23 @@ pub fn bytes_of_atomic(wide: bool) -> u32
     if wide { 8 } else { 4 }
 }
 
-/// A copy of the state after an atomic at an offset of a region.
+/// The state after an atomic at an offset of a region.
 fn atomic_in_region(
     shapes: &Shapes,
-    state: &AbsState,
+    state: AbsState,
     n: u32,
-    region: AbsRegion,
-    at: AbsNum,
+    place: Spot,
 ) -> Result<AbsState, Fault>
     requires few { n ≤ 8 }
     requires some { 1 ≤ n }
-    ensures is { IsOrNoMemory result (atomic_on shapes.now state.now n region at) }
+    ensures is { IsOrNoMemory result (atomic_on shapes.now state n place.region place.at) }
 {
-    match region {
+    let at = place.at;
+    match place.region {
         AbsRegion::Context => Err(Fault::WrongOperand),
-        AbsRegion::Stack(k) => match aligned_in_stack(state, k, at, n) {
+        AbsRegion::Stack(k) => match aligned_in_stack(&state, k, at, n) {
             Err(fault) => Err(fault),
-            Ok(place) => match fault_of_reading(state, k, place, n) {
+            Ok(place) => match fault_of_reading(&state, k, place, n) {
                 Some(fault) => Err(fault),
                 None => {
                     let next = with_bytes_set(state, k, place, n)?;
@@ -318,10 +353,7 @@ fn atomic_in_region(
         },
         AbsRegion::Entry(map) => match fault_in_entry(shapes.get(map), at, u64::from(n)) {
             Some(fault) => Err(fault),
-            None => {
-                let next = state.clone()?;
-                Ok(next)
-            }
+            None => Ok(state),
         },
     }
 }
@@ -368,33 +400,32 @@ fn fault_of_operands(pointer: AbsVal, number: AbsVal, expected: AbsVal) -> Fault
     Fault::WrongOperand
 }
 
-/// What an atomic through a pointer leaves, at the same slot, with the source's value and, for CMPXCHG, R0's.
+/// What an atomic through a pointer leaves, at the same slot.
 pub fn atomic_through(
     shapes: &Shapes,
-    state: &AbsState,
-    op: AtomicOp,
-    n: u32,
-    src: Reg,
-    by: i16,
-    pointer: AbsVal,
-    number: AbsVal,
-    expected: AbsVal,
+    state: AbsState,
+    address: Address,
+    exchange: Exchange,
 ) -> Result<AbsState, Fault>
-    requires few { n ≤ 8 }
-    requires some { 1 ≤ n }
     ensures is { IsOrNoMemory result
-        (atomic shapes.now state.now n op src by pointer number expected) }
+        (atomic shapes.now state (atomic_bytes exchange.wide) exchange.op exchange.src
+        address.by address.pointer (register state exchange.src) (compared exchange.op state)) }
 {
+    let pointer = address.pointer;
+    let number = state.register(exchange.src);
+    let expected = expected_by(&state, exchange.op);
     let AbsVal::Pointer { region, offset } = pointer else {
         return Err(fault_of_operands(pointer, number, expected));
     };
     if !matches!(number, AbsVal::Number(_)) || !matches!(expected, AbsVal::Number(_)) {
         return Err(fault_of_operands(pointer, number, expected));
     }
-    match atomic_in_region(shapes, state, n, region, offset_by(offset, by)) {
+    let n = bytes_of_atomic(exchange.wide);
+    let at = offset_by(offset, address.by);
+    match atomic_in_region(shapes, state, n, Spot { region, at }) {
         Err(fault) => Err(fault),
         Ok(next) => {
-            let next = put_old(next, old_number_into(op, src), n)?;
+            let next = put_old(next, old_number_into(exchange.op, exchange.src), n)?;
             Ok(next)
         }
     }

@@ -1,4 +1,4 @@
-use Rattle.std.proofs.Common.{rules, SFits, w16, w32, Ok, subst, to_z-of_z}
+use Rattle.std.proofs.Common.{rules, ◌≡◌, SFits, w16, w32, Ok, subst, to_z-of_z}
 use Rattle.bpf_words.specs.Word.{word_of}
 use Rattle.bpf_rules.specs.Branches.{split}
 use Rattle.bpf_rules.specs.Calls.{helped, answered}
@@ -9,16 +9,16 @@ use Rattle.bpf_checks.proofs.examination.examine_insn.Goals as goal
 
 pub returns-in-Branch : goal.returns-in-Branch
 returns-in-Branch c =
-    let s = c.args.state.now in
+    let s = c.args.state in
     let fits : SFits w16 c.in-Branch.offset = search rules in
     record {
       is = rw c.in-Branch.is
-          (subst (λ x. IsOrNoMemory c.branch-state.result (on (split s c.in-Branch.wide c.in-Branch.compare c.in-Branch.dst c.in-Branch.source) (λ w. Ok (branched s x w)))) (to_z-of_z fits) c.branch-state.ensures.is);
+          (subst (λ x. IsOrNoMemory c.branch-state.result (on (split s c.in-Branch.wide c.in-Branch.compare c.in-Branch.dst c.in-Branch.source) (λ w. Ok (branched s x w)))) (to_z-of_z fits) (rw c.new.ensures.is at c.branch-state.ensures.is));
     }
 
 pub returns-in-Call : goal.returns-in-Call
 returns-in-Call c =
-    let s = c.args.state.now in
+    let s = c.args.state in
     let fits : SFits w32 c.in-Call.helper = search rules in
     record {
       is = rw c.in-Call.is
