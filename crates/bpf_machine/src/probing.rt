@@ -17,8 +17,11 @@ use bpf_tagged::{Machine, Port, Stepped};
 /// The fault at which the machine stands. No port is asked, and where the machine stands afterwards is left open.
 fn fault_ahead(program: &Program, frame: &[u8], context: &[u8], machine: &mut Machine) -> Option<u8>
     requires paired { IsPaired machine.old }
-    ensures is { MatchOption result ((notes : List ℕ) (number : ℕ) →
-        next (setting_of program.now frame.now context.now) (at machine.old notes) ≢ Fault number) (λ number. (notes : List ℕ) → next (setting_of program.now frame.now context.now) (at machine.old notes) ≡ Fault number) }
+    ensures is { MatchOption result
+        ((notes : List ℕ) (number : ℕ) →
+        next (setting_of program.now frame.now context.now) (at machine.old notes) ≢ Fault number)
+        (λ number. (notes : List ℕ) →
+        next (setting_of program.now frame.now context.now) (at machine.old notes) ≡ Fault number) }
 {
     let mut silent = Silent {
         shapes: program.shapes(),
@@ -40,7 +43,8 @@ pub fn probe<P: Port>(
     limit: u32,
 ) -> Probe
     requires shapes { P.shapes port.old ≡ program.now.shapes }
-    ensures is { Probed P.gives (setting_of program.now frame.now context.now) port.old port.new limit result }
+    ensures is { Probed P.gives (setting_of program.now frame.now context.now)
+        port.old port.new limit result }
     ensures shapes { P.shapes port.new ≡ P.shapes port.old }
 {
     let received = frame.bytes();

@@ -23,7 +23,8 @@ pub fn step<P: Port>(
 ) -> Stepped
     requires shapes { P.shapes port.old ≡ program.now.shapes }
     requires paired { IsPaired machine.old }
-    ensures performs { Performs P.gives program.now.shapes (next (setting_of program.now frame.now context.now))
+    ensures performs { Performs P.gives program.now.shapes
+        (next (setting_of program.now frame.now context.now))
         result port.old port.new machine.old machine.new }
     ensures shapes { P.shapes port.new ≡ P.shapes port.old }
     ensures paired { IsPaired machine.new }
@@ -35,7 +36,8 @@ pub fn step<P: Port>(
 
 /// The first 16 notes are kept.
 pub fn keep_note(notes: &mut ArrayVec<u64, 16>, noted: Option<u64>)
-    ensures is { (all : List ℕ) → notes.old.items ≡ take 16 all → notes.new.items ≡ take 16 (with_note all noted) }
+    ensures is { (all : List ℕ) →
+        notes.old.items ≡ take 16 all → notes.new.items ≡ take 16 (with_note all noted) }
 {
     if let Some(note) = noted {
         if !notes.is_full() {
