@@ -26,7 +26,12 @@ impl Model for PlainPort {
 
     ghost Value = { Plain };
 
-    ghost view = { λ p. record { tables = p.tables.items; clock = p.clock; stations = p.stations; draw = p.draw } };
+    ghost view = { λ p. record {
+      tables = p.tables.items;
+      clock = p.clock;
+      stations = p.stations;
+      draw = p.draw;
+    } };
 
     ghost invariant = { λ p. p.stations ≤ 2007 };
 }
@@ -41,7 +46,13 @@ impl PlainPort {
         draw: u64,
     ) -> Result<Self, AllocError>
         requires few { stations ≤ 2007 }
-        ensures is { IfOk result (λ p. p ≡ record { tables = map zeros shapes.now; clock = clock; stations = stations; draw = draw }) }
+        ensures is { IfOk result
+            (λ p. p ≡ record {
+              tables = map zeros shapes.now;
+              clock = clock;
+              stations = stations;
+              draw = draw;
+            }) }
         ensures shapes { IfOk result (λ p. shapes_of p ≡ shapes.now) }
     {
         let tables = empty_tables(alloc, shapes)?;

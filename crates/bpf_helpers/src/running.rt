@@ -22,7 +22,8 @@ pub fn run_hook(
 ) -> Outcome
     requires shapes { shapes_of view.maps.now ≡ accepted.now.code.shapes }
     requires fitting { IsFitting view.maps.now view.worker state.old.seats }
-    ensures run { Ran (Gives (given_by view.entry)) (setting_of accepted.now.code frame.now context.now)
+    ensures run { Ran (Gives (given_by view.entry))
+        (setting_of accepted.now.code frame.now context.now)
         state.old state.new result }
     ensures within { result.steps ≤ accepted.now.budget }
     ensures fitting { IsFitting view.entry.maps.now view.entry.worker state.new.seats }

@@ -83,7 +83,8 @@ impl WorkerState {
     /// One access to a word of a table by the seat of that number.
     pub(crate) fn access(&mut self, at: usize, table: &MapTable, word: u32, operation: MapOp) -> u64
         requires there { at < length self.old.seats }
-        requires own { (s : Place) → slice_get self.old.seats at ≡ Some s → s.table ≡ table.now.table }
+        requires own { (s : Place) →
+            slice_get self.old.seats at ≡ Some s → s.table ≡ table.now.table }
         requires inside { word < word_count table.now.shape }
         ensures made { AccessedBy table.now self.old.seats at word operation result self.new.seats }
         ensures draw { self.new.draw ≡ self.old.draw }
