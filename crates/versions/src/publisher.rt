@@ -42,7 +42,8 @@ impl Model for Publisher {
 
     ghost view = { λ p. p.known };
 
-    ghost invariant = { λ p. (p.shapes ≡ p.known.shapes) × IsNext p.author p.known × Shows p.writer p.known };
+    ghost invariant = { λ p. (p.shapes ≡ p.known.shapes) ×
+        IsNext p.author p.known × Shows p.writer p.known };
 }
 
 /// The loads so far, for one reader.
@@ -162,7 +163,8 @@ impl Publisher {
         ensures shapes { self.new.shapes ≡ self.old.shapes }
         ensures added { OnOk result (self.new ≡ with_load self.old (load hook (kept program))) }
         ensures refused { OnErr result (self.new ≡ self.old) }
-        ensures others { IsErrOf result OtherShapes ↔ HasOtherShapes self.old.shapes (kept program) }
+        ensures others { IsErrOf result OtherShapes
+            ↔ HasOtherShapes self.old.shapes (kept program) }
         ensures own { OnOk result (IfSome (kept program) (IsFor self.old.shapes hook)) }
     {
         replace_with(
