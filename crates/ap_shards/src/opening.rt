@@ -1,6 +1,6 @@
 //! New shards.
 
-ghost use Rattle.std.specs.Prelude.{◌≡◌, ◌<◌, [], IfOk};
+ghost use Rattle.std.specs.Prelude.{◌≡◌, ◌<◌, [], IfOk, Ok};
 ghost use Rattle.ap_locked.specs.Naming.{IsNamed};
 ghost use Rattle.ap_locked.specs.Tokens.{newcomer};
 
@@ -59,6 +59,31 @@ struct OpenedTwo<B: Ledgers + Journals, const FIRST: usize, const SECOND: usize>
     second: Opened<B, SECOND>,
 }
 
+/// Four shards.
+#[derive(Drop)]
+struct OpenedFour<
+    B: Ledgers + Journals,
+    const FIRST: usize,
+    const SECOND: usize,
+    const THIRD: usize,
+    const FOURTH: usize,
+> {
+    low: OpenedTwo<B, FIRST, SECOND>,
+    high: OpenedTwo<B, THIRD, FOURTH>,
+}
+
+/// What was made, beside what is kept meanwhile. At a refusal that is given up here, by one call, since
+/// what shards are made of has many parts.
+fn beside<K: Drop, M: Drop>(kept: K, made: Result<M, AllocError>) -> Result<(K, M), AllocError>
+    ensures kept { IfOk result (λ r. r.0 ≡ kept) }
+    ensures made { IfOk result (λ r. made ≡ Ok r.1) }
+{
+    match made {
+        Ok(made) => Ok((kept, made)),
+        Err(error) => Err(error),
+    }
+}
+
 /// A shard before any event.
 fn open_one<B: Ledgers + Journals, const SHARD: usize>(
     alloc: Global,
@@ -91,22 +116,9 @@ fn open_two<B: Ledgers + Journals, const FIRST: usize, const SECOND: usize>(
     ensures first { IfOk result (λ r. r.first.mine ≡ newcomer B.shares []) }
     ensures second { IfOk result (λ r. r.second.mine ≡ newcomer B.shares []) }
 {
-    let first = open_one(alloc, config, new.0)?;
-    let second = open_one(alloc, config, new.1)?;
+    let (second, first) = beside(new.1, open_one(alloc, config, new.0))?;
+    let (first, second) = beside(first, open_one(alloc, config, second))?;
     Ok(OpenedTwo { first, second })
-}
-
-/// Four shards.
-#[derive(Drop)]
-struct OpenedFour<
-    B: Ledgers + Journals,
-    const FIRST: usize,
-    const SECOND: usize,
-    const THIRD: usize,
-    const FOURTH: usize,
-> {
-    low: OpenedTwo<B, FIRST, SECOND>,
-    high: OpenedTwo<B, THIRD, FOURTH>,
 }
 
 /// Four shards before any event.
@@ -135,9 +147,61 @@ fn open_four<
     ensures third { IfOk result (λ r. r.high.first.mine ≡ newcomer B.shares []) }
     ensures fourth { IfOk result (λ r. r.high.second.mine ≡ newcomer B.shares []) }
 {
-    let low = open_two(alloc, config, new.0)?;
-    let high = open_two(alloc, config, new.1)?;
+    let (high, low) = beside(new.1, open_two(alloc, config, new.0))?;
+    let (low, high) = beside(low, open_two(alloc, config, high))?;
     Ok(OpenedFour { low, high })
+}
+
+/// Eight shards, and the tokens of all who decide events there.
+fn joined<B: Ledgers + Journals>(
+    low: OpenedFour<B, 0, 1, 2, 3>,
+    high: OpenedFour<B, 4, 5, 6, 7>,
+) -> (Shards<B>, ShardTokens<B>)
+    ensures { result.1 ≡ record {
+      of0 = low.low.first.mine;
+      of1 = low.low.second.mine;
+      of2 = low.high.first.mine;
+      of3 = low.high.second.mine;
+      of4 = high.low.first.mine;
+      of5 = high.low.second.mine;
+      of6 = high.high.first.mine;
+      of7 = high.high.second.mine;
+    } }
+{
+    let OpenedTwo { first, second } = low.low;
+    let OpenedTwo {
+        first: third,
+        second: fourth,
+    } = low.high;
+    let OpenedTwo {
+        first: fifth,
+        second: sixth,
+    } = high.low;
+    let OpenedTwo {
+        first: seventh,
+        second: eighth,
+    } = high.high;
+    let shards = Shards {
+        of0: first.lock,
+        of1: second.lock,
+        of2: third.lock,
+        of3: fourth.lock,
+        of4: fifth.lock,
+        of5: sixth.lock,
+        of6: seventh.lock,
+        of7: eighth.lock,
+    };
+    let tokens = ShardTokens {
+        of0: first.mine,
+        of1: second.mine,
+        of2: third.mine,
+        of3: fourth.mine,
+        of4: fifth.mine,
+        of5: sixth.mine,
+        of6: seventh.mine,
+        of7: eighth.mine,
+    };
+    (shards, tokens)
 }
 
 impl<B: Ledgers + Journals> Shards<B> {
@@ -153,46 +217,19 @@ impl<B: Ledgers + Journals> Shards<B> {
         requires some { 0 < B.shares }
         ensures tokens { IfOk result (λ r. r.1 ≡ whole B.shares) }
     {
-        let low = open_four(alloc, config, ((new.of0, new.of1), (new.of2, new.of3)))?;
-        let high = open_four(alloc, config, ((new.of4, new.of5), (new.of6, new.of7)))?;
-        let OpenedFour {
-            low: OpenedTwo { first, second },
-            high: OpenedTwo {
-                first: third,
-                second: fourth,
-            },
-        } = low;
-        let OpenedFour {
-            low: OpenedTwo {
-                first: fifth,
-                second: sixth,
-            },
-            high: OpenedTwo {
-                first: seventh,
-                second: eighth,
-            },
-        } = high;
-        Ok((
-            Shards {
-                of0: first.lock,
-                of1: second.lock,
-                of2: third.lock,
-                of3: fourth.lock,
-                of4: fifth.lock,
-                of5: sixth.lock,
-                of6: seventh.lock,
-                of7: eighth.lock,
-            },
-            ShardTokens {
-                of0: first.mine,
-                of1: second.mine,
-                of2: third.mine,
-                of3: fourth.mine,
-                of4: fifth.mine,
-                of5: sixth.mine,
-                of6: seventh.mine,
-                of7: eighth.mine,
-            },
-        ))
+        let NewShards {
+            of0,
+            of1,
+            of2,
+            of3,
+            of4,
+            of5,
+            of6,
+            of7,
+        } = new;
+        let last = ((of4, of5), (of6, of7));
+        let (last, low) = beside(last, open_four(alloc, config, ((of0, of1), (of2, of3))))?;
+        let (low, high) = beside(low, open_four(alloc, config, last))?;
+        Ok(joined(low, high))
     }
 }
