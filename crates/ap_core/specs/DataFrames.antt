@@ -23,7 +23,7 @@ packet d = record { frame = d.frame; destination = d.destination; tid = d.tid; n
 
 -- its bytes spell it
 abbrev pub IsSpelled : DataFrame → Type 0
-IsSpelled d = d.bytes.now ≡ spelling d.frame
+IsSpelled d = d.bytes ≡ spelling d.frame
 
 -- its agreement stands there, and this holds of its window and its number
 pub record IsUnder (ks : List Kept) (d : DataFrame) (under : Under) (P : Reading Held → ℕ → Type 0) : Type 0 where

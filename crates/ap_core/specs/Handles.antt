@@ -1,7 +1,7 @@
 -- What an event is to a shard and a judge.
 use Rattle.std.specs.Prelude.{◌≡◌, ℕ, List, [], ◌∷◌, ◌++◌, Option, Some, None}
 use Rattle.assoc.specs.Standings.{standing}
-use Rattle.mac_frame.specs.Spelling.{Frame}
+use Rattle.mac_frame.specs.Spelling.{spelling}
 use Rattle.blockack.specs.Reading.{EndPassesUp, numbers_held}
 use Rattle.hooks.specs.declared.verdicts.DataVerdict.{DataVerdict}
 use Rattle.hooks.specs.declared.verdicts.DataVerdict.TheVariants.{Pass, Discard}
@@ -13,6 +13,7 @@ use Rattle.ap_model.specs.Agreements.{Setup, PassesHeld, ups, setup_answer}
 use Rattle.ap_agreements.specs.Tables.{Kept, agreement_in}
 use Rattle.ap_agreements.specs.Uses.{Opens}
 use Rattle.ap_core.specs.declared.state.State.{State}
+use Rattle.ap_core.specs.declared.state.Came.{Came}
 use Rattle.ap_core.specs.declared.management.Asked.{Asked}
 use Rattle.ap_core.specs.declared.setups.SetupRequest.{SetupRequest}
 
@@ -24,9 +25,17 @@ reading s = record { standing = standing s.link; agreement = agreement_in s.agre
 abbrev pub rules : ℕ → Config → Rules
 rules shard config = record { shard = shard; config = config }
 
--- a request, by its frame and what was read of it
-abbrev pub request : Frame → Asked → Request
-request frame asked = record { frame = frame; capability = asked.capability; listen_interval = asked.listen_interval; again = asked.again }
+-- who sent a frame that came
+abbrev pub sender : Came → List ℕ
+sender came = came.frame.sender
+
+-- its bytes spell it
+abbrev pub IsSpelled : Came → Type 0
+IsSpelled came = came.bytes ≡ spelling came.frame
+
+-- a request, as the model sees it
+abbrev pub request : Asked → Request
+request asked = record { frame = asked.came.now.frame; capability = asked.capability; listen_interval = asked.listen_interval; again = asked.again }
 
 -- all that the agreement held is passed up
 pub record PassesAll (k : Kept) (old new : List Out) : Type 0 where
@@ -44,9 +53,9 @@ abbrev pub held_item : List ℕ → List ℕ → DataVerdict → Option Held
 held_item destination body (Pass mark) = Some (Some (destination, mark, body))
 held_item destination body Discard = None
 
--- an ADDBA request, by its frame and what was read of it
-abbrev pub setup : Frame → SetupRequest → Setup
-setup frame asked = record { frame = frame; token = asked.token; parameters = asked.parameters; timeout = asked.timeout; start = asked.start }
+-- an ADDBA request, as the model sees it
+abbrev pub setup : SetupRequest → Setup
+setup asked = record { frame = asked.came.now.frame; token = asked.token; parameters = asked.parameters; timeout = asked.timeout; start = asked.start }
 
 -- a request that is granted: what comes out, and the agreement
 pub record IsGranted (c : Rules) (r : Readings) (a : List ℕ) (s : Setup) (size : ℕ) (outs : List Out) (r2 : Readings) : Type 0 where

@@ -1,23 +1,22 @@
 //! Authentication and association.
 
 ghost use Rattle.std.specs.Prelude.{◌≡◌, ◌≢◌, ℕ, ◌≤◌, ◌↔◌, ◌⊎◌, IsTrue, IfOk, IfErr, [], ◌∷◌, length, None, Some, IsSome};
-ghost use Rattle.mac_frame.specs.Spelling.{spelling};
 ghost use Rattle.assoc.specs.declared.standing.Known.{Known};
 ghost use Rattle.assoc.specs.Standings.{standing, IsFull};
 ghost use Rattle.ap_model.specs.Changes.{sends};
 ghost use Rattle.ap_model.specs.Associations.{AuthenticationStatus, Authenticates, Associates, Suits, Names, association_answer, association_ask};
 ghost use Rattle.mac_frame.specs.Elements.{rates_text};
 ghost use Rattle.ap_model.specs.Asks.{Handled};
-ghost use Rattle.ap_core.specs.Handles.{reading, rules, request};
+ghost use Rattle.ap_core.specs.Handles.{reading, rules, request, sender, IsSpelled};
 
 use crate::moves::{associate, authenticate};
 use crate::room::Room;
-use crate::state::State;
+use crate::state::{Came, Setting, State};
 use ap_model::{Judge, LinkConfig, Out};
-use bpf_regions::{Context, Frame, Hook};
+use bpf_regions::{Context, Hook};
 use hooks::{Asker, assoc_verdict, association_context};
 use mac_frame::{Address, AidField, Capability, ElementsBuf, MacFrame, Status};
-use std::alloc::{AllocError, Global};
+use std::alloc::AllocError;
 
 /// The status that answers an authentication.
 fn authentication_status(
@@ -47,19 +46,19 @@ fn authentication_status(
 
 /// An authentication.
 pub(crate) fn on_authentication(
-    alloc: Global,
+    setting: Setting<'_>,
     state: &mut State,
-    config: &LinkConfig,
     station: Address,
     algorithm: u16,
     transaction: u16,
 ) -> Result<Vec<Out>, AllocError>
     ensures step { IfOk result
-        (λ outs. Authenticates (rules state.old.link.shard config.now) (reading state.old) station
-        algorithm transaction [] outs.items (reading state.new)) }
+        (λ outs. Authenticates (rules state.old.link.shard setting.entry.config.now)
+        (reading state.old) station algorithm transaction [] outs.items (reading state.new)) }
     ensures shard { state.new.link.shard ≡ state.old.link.shard }
     ensures refused { IfErr result (λ _. state.new ≡ state.old) }
 {
+    let Setting { alloc, config } = setting;
     let room = Room::new(alloc)?;
     let status = authentication_status(state, station, algorithm, transaction);
     let answer = MacFrame::authentication(alloc, station, config.bssid(), algorithm, status);
@@ -70,9 +69,10 @@ pub(crate) fn on_authentication(
     Ok(room.send(&answer))
 }
 
-/// What a request has beside its station and its elements.
+/// An association or reassociation request that came, and what is read of it beside its elements.
 #[derive(Clone, Copy)]
-pub(crate) struct Asked {
+pub(crate) struct Asked<'a, 'b> {
+    pub(crate) came: &'a Came<'b>,
     pub(crate) capability: Capability,
     pub(crate) listen_interval: u16,
     /// Whether it is a reassociation.
@@ -80,19 +80,19 @@ pub(crate) struct Asked {
 }
 
 /// Whether a request asks for an infrastructure network and has rates.
-fn suits(frame: &MacFrame, asked: &Asked) -> bool
-    ensures { IsTrue result ↔ Suits (request frame.now asked.now) }
+fn suits(asked: &Asked<'_, '_>) -> bool
+    ensures { IsTrue result ↔ Suits (request asked.now) }
 {
     let capability = asked.capability;
-    capability.is_ess() && frame.rates().is_some()
+    capability.is_ess() && asked.came.frame.rates().is_some()
 }
 
 /// Whether a request names this network.
-fn names(frame: &MacFrame, asked: &Asked, config: &LinkConfig) -> bool
+fn names(config: &LinkConfig, asked: &Asked<'_, '_>) -> bool
     ensures { (shard : ℕ) → (IsTrue result ↔ Names (rules shard config.now)
-        (request frame.now asked.now)) }
+        (request asked.now)) }
 {
-    match frame.ssid() {
+    match asked.came.frame.ssid() {
         Some(text) => return text == config.ssid(),
         None => return false,
     }
@@ -101,139 +101,116 @@ fn names(frame: &MacFrame, asked: &Asked, config: &LinkConfig) -> bool
 /// The answer to a request.
 fn response(
     config: &LinkConfig,
-    station: Address,
-    again: bool,
+    asked: &Asked<'_, '_>,
     status: Status,
     aid: AidField,
     rates: ElementsBuf,
 ) -> MacFrame
     requires rates { rates ≡ rates_text config.now.rates }
     requires few { length config.now.rates ≤ 8 }
-    ensures is { (shard : ℕ) → sends result
-        ≡ association_answer (rules shard config.now) station again status aid }
+    ensures is { (shard : ℕ) → sends result ≡ association_answer (rules shard config.now)
+        (sender asked.now.came.now) asked.now.again status aid }
     ensures short { length result.tail ≤ 12 }
 {
-    if again {
-        return MacFrame::reassociation_response(station, config.bssid(), status, aid, rates);
+    let station = asked.came.frame.sender();
+    let bssid = config.bssid();
+    if asked.again {
+        return MacFrame::reassociation_response(station, bssid, status, aid, rates);
     }
-    MacFrame::association_response(station, config.bssid(), status, aid, rates)
+    MacFrame::association_response(station, bssid, status, aid, rates)
+}
+
+/// Room for an answer, and the rates that it has.
+#[derive(Drop)]
+struct AnswerRoom {
+    room: Room,
+    rates: ElementsBuf,
 }
 
 /// Refuses a request.
-fn refuse(
-    room: Room,
-    config: &LinkConfig,
-    station: Address,
-    again: bool,
-    status: Status,
-    rates: ElementsBuf,
-) -> Vec<Out>
-    requires rates { rates ≡ rates_text config.now.rates }
+fn refuse(room: AnswerRoom, config: &LinkConfig, asked: &Asked<'_, '_>, status: Status) -> Vec<Out>
+    requires rates { room.rates ≡ rates_text config.now.rates }
     requires few { length config.now.rates ≤ 8 }
-    ensures { (shard : ℕ) → result.items
-        ≡ association_answer (rules shard config.now) station again status 0 ∷ [] }
+    ensures { (shard : ℕ) → result.items ≡ association_answer (rules shard config.now)
+        (sender asked.now.came.now) asked.now.again status 0 ∷ [] }
 {
-    let answer = response(config, station, again, status, AidField::NONE, rates);
-    room.send(&answer)
+    let answer = response(config, asked, status, AidField::NONE, room.rates);
+    room.room.send(&answer)
 }
 
 /// What the hook is told of a request.
-fn context_of(state: &State, frame: &MacFrame, asked: &Asked) -> Context
-    ensures { result ≡ (association_ask (reading state.now) frame.now.sender
-        (request frame.now asked.now)).context }
+fn context_of(state: &State, asked: &Asked<'_, '_>) -> Context
+    ensures { result ≡ (association_ask (reading state.now) (sender asked.now.came.now)
+        (request asked.now)).context }
 {
-    let station = frame.sender();
+    let station = asked.came.frame.sender();
     let asker = Asker {
         station,
         standing: state.link.standing(station),
     };
-    let Asked {
-        capability,
-        listen_interval,
-        again,
-    } = *asked;
-    association_context(asker, capability, listen_interval, again)
+    association_context(asker, asked.capability, asked.listen_interval, asked.again)
 }
 
 /// Answers a request, for which all room is made.
 fn answer_request<J: Judge>(
     state: &mut State,
     config: &LinkConfig,
-    frame: &MacFrame,
-    bytes: &Frame<'_>,
-    asked: &Asked,
-    room: Room,
-    rates: ElementsBuf,
+    asked: &Asked<'_, '_>,
+    room: AnswerRoom,
     judge: &mut J,
 ) -> Vec<Out>
-    requires bytes { bytes.now ≡ spelling frame.now }
-    requires known { IsSome (standing state.old.link frame.now.sender) }
-    requires rates { rates ≡ rates_text config.now.rates }
+    requires bytes { IsSpelled asked.now.came.now }
+    requires known { IsSome (standing state.old.link (sender asked.now.came.now)) }
+    requires rates { room.rates ≡ rates_text config.now.rates }
     requires few { length config.now.rates ≤ 8 }
     ensures step { Handled J.gives (λ asks outs. Associates (rules state.old.link.shard config.now)
-        (reading state.old) frame.now.sender (request frame.now asked.now) asks outs
+        (reading state.old) (sender asked.now.came.now) (request asked.now) asks outs
         (reading state.new)) judge.old result.items judge.new }
     ensures shard { state.new.link.shard ≡ state.old.link.shard }
 {
-    let station = frame.sender();
-    let again = asked.again;
-    if !suits(frame, asked) {
-        let status = Status::REFUSED_CAPABILITIES_MISMATCH;
-        return refuse(room, config, station, again, status, rates);
+    if !suits(asked) {
+        return refuse(room, config, asked, Status::REFUSED_CAPABILITIES_MISMATCH);
     }
-    if !names(frame, asked, config) {
-        return refuse(
-            room,
-            config,
-            station,
-            again,
-            Status::DENIED_OTHER_REASON,
-            rates,
-        );
+    if !names(config, asked) {
+        return refuse(room, config, asked, Status::DENIED_OTHER_REASON);
     }
+    let station = asked.came.frame.sender();
     let Some(granted) = state.link.free_aid(station) else {
-        return refuse(
-            room,
-            config,
-            station,
-            again,
-            Status::DENIED_NO_MORE_STAS,
-            rates,
-        );
+        return refuse(room, config, asked, Status::DENIED_NO_MORE_STAS);
     };
-    let context = context_of(state, frame, asked);
-    let verdict = judge.judge(Hook::Association, bytes, &context);
+    let context = context_of(state, asked);
+    let verdict = judge.judge(Hook::Association, &asked.came.bytes, &context);
     let status = assoc_verdict(verdict);
     if !status.is_success() {
-        return refuse(room, config, station, again, status, rates);
+        return refuse(room, config, asked, status);
     }
     associate(state, station, granted);
     let aid = AidField::granted(granted);
-    let answer = response(config, station, again, status, aid, rates);
-    room.send(&answer)
+    let answer = response(config, asked, status, aid, room.rates);
+    room.room.send(&answer)
 }
 
 /// An association or reassociation request. All growths are made before the verdict is asked.
 pub(crate) fn on_association<J: Judge>(
-    alloc: Global,
+    setting: Setting<'_>,
     state: &mut State,
-    config: &LinkConfig,
-    frame: &MacFrame,
-    bytes: &Frame<'_>,
-    asked: &Asked,
+    asked: &Asked<'_, '_>,
     judge: &mut J,
 ) -> Result<Vec<Out>, AllocError>
-    requires bytes { bytes.now ≡ spelling frame.now }
-    requires known { IsSome (standing state.old.link frame.now.sender) }
+    requires bytes { IsSpelled asked.now.came.now }
+    requires known { IsSome (standing state.old.link (sender asked.now.came.now)) }
     ensures step { IfOk result
-        (λ outs. Handled J.gives (λ asks outs. Associates (rules state.old.link.shard config.now)
-        (reading state.old) frame.now.sender (request frame.now asked.now) asks outs
-        (reading state.new)) judge.old outs.items judge.new) }
+        (λ outs. Handled J.gives (λ asks outs. Associates
+        (rules state.old.link.shard setting.entry.config.now) (reading state.old)
+        (sender asked.now.came.now) (request asked.now) asks outs (reading state.new)) judge.old
+        outs.items judge.new) }
     ensures shard { state.new.link.shard ≡ state.old.link.shard }
     ensures refused { IfErr result (λ _. (state.new ≡ state.old) × (judge.new ≡ judge.old)) }
 {
+    let Setting { alloc, config } = setting;
     let room = Room::new(alloc)?;
     let rates = ElementsBuf::rates(alloc, config.rates())?;
-    let outs = answer_request(state, config, frame, bytes, asked, room, rates, judge);
+    let room = AnswerRoom { room, rates };
+    let outs = answer_request(state, config, asked, room, judge);
     Ok(outs)
 }

@@ -21,16 +21,16 @@ use std::alloc::{AllocError, Global};
 
 /// A data frame that came: its grammar, its bytes, and what is read of it.
 #[derive(Drop)]
-pub(crate) struct DataFrame<'a, 'b> {
+pub(crate) struct DataFrame<'a> {
     pub(crate) frame: MacFrame,
-    pub(crate) bytes: &'a Frame<'b>,
+    pub(crate) bytes: Frame<'a>,
     pub(crate) destination: Address,
     pub(crate) tid: Option<Tid>,
     pub(crate) number: SequenceNumber,
 }
 
 /// What the hook is told of data, whose agreement's window starts so.
-fn context_of(state: &State, came: &DataFrame<'_, '_>, start: Option<SequenceNumber>) -> Context
+fn context_of(state: &State, came: &DataFrame<'_>, start: Option<SequenceNumber>) -> Context
     ensures { result ≡ contexts.data_context came.now.frame.sender
         (standing state.now.link came.now.frame.sender) came.now.tid came.now.number start }
 {
@@ -47,7 +47,7 @@ fn context_of(state: &State, came: &DataFrame<'_, '_>, start: Option<SequenceNum
 fn deliver<J: Judge>(
     alloc: Global,
     state: &State,
-    came: DataFrame<'_, '_>,
+    came: DataFrame<'_>,
     start: Option<SequenceNumber>,
     judge: &mut J,
 ) -> Result<Vec<Out>, AllocError>
@@ -59,7 +59,7 @@ fn deliver<J: Judge>(
     let outs = Vec::with_capacity(alloc, 1)?;
     let source = came.frame.sender();
     let context = context_of(state, &came, start);
-    let verdict = judge.judge(Hook::Data, came.bytes, &context);
+    let verdict = judge.judge(Hook::Data, &came.bytes, &context);
     match data_verdict(verdict) {
         DataVerdict::Pass(mark) => {
             let up = Up {
@@ -80,7 +80,7 @@ fn deliver<J: Judge>(
 pub(crate) fn on_plain_data<J: Judge>(
     alloc: Global,
     state: &State,
-    came: DataFrame<'_, '_>,
+    came: DataFrame<'_>,
     judge: &mut J,
 ) -> Result<Vec<Out>, AllocError>
     requires bytes { IsSpelled came }
@@ -102,11 +102,19 @@ pub(crate) struct Under {
     pub(crate) start: SequenceNumber,
 }
 
+/// Where the agreement stands whose window wants a data frame, and how many frames it then passes
+/// up at most.
+#[derive(Clone, Copy)]
+struct Wanted {
+    under: Under,
+    most: usize,
+}
+
 /// Data that its agreement's window hands up at once, and nothing behind it.
 fn on_data_alone<J: Judge>(
     alloc: Global,
     state: &mut State,
-    came: DataFrame<'_, '_>,
+    came: DataFrame<'_>,
     under: Under,
     judge: &mut J,
 ) -> Result<Vec<Out>, AllocError>
@@ -135,28 +143,28 @@ fn item_of(verdict: u64, destination: Address, body: Octets) -> Option<Held>
     }
 }
 
-/// Data that its agreement's window wants, and that passes up at most so many frames: all growths
-/// are made before the verdict is asked.
+/// Data that its agreement's window wants: all growths are made before the verdict is asked.
 fn on_wanted_data<J: Judge>(
     alloc: Global,
     state: &mut State,
-    came: DataFrame<'_, '_>,
-    under: Under,
-    most: usize,
+    came: DataFrame<'_>,
+    wanted: Wanted,
     judge: &mut J,
 ) -> Result<Vec<Out>, AllocError>
     requires bytes { IsSpelled came }
-    requires under { IsUnder state.old.agreements.kept came under (IsWantedFor most) }
+    requires under { IsUnder state.old.agreements.kept came wanted.under
+        (IsWantedFor wanted.most) }
     ensures step { IfOk result
         (λ outs. HandlesData J.gives state.old came.entry judge.old outs.items state.new
         judge.new) }
     ensures shard { state.new.link.shard ≡ state.old.link.shard }
     ensures refused { IfErr result (λ _. (state.new ≡ state.old) × (judge.new ≡ judge.old)) }
 {
+    let Wanted { under, most } = wanted;
     let mut outs = Vec::with_capacity(alloc, most)?;
     let station = came.frame.sender();
     let context = context_of(state, &came, Some(under.start));
-    let verdict = judge.judge(Hook::Data, came.bytes, &context);
+    let verdict = judge.judge(Hook::Data, &came.bytes, &context);
     let number = came.number;
     let destination = came.destination;
     let body = Octets::new(came.frame.into_tail());
@@ -174,7 +182,7 @@ fn on_wanted_data<J: Judge>(
 pub(crate) fn on_qos_data<J: Judge>(
     alloc: Global,
     state: &mut State,
-    came: DataFrame<'_, '_>,
+    came: DataFrame<'_>,
     tid: Tid,
     judge: &mut J,
 ) -> Result<Vec<Out>, AllocError>
@@ -201,7 +209,8 @@ pub(crate) fn on_qos_data<J: Judge>(
             }
             if entry.wants(came.number) {
                 let most = entry.most_passed(came.number);
-                let outs = on_wanted_data(alloc, state, came, under, most, judge)?;
+                let wanted = Wanted { under, most };
+                let outs = on_wanted_data(alloc, state, came, wanted, judge)?;
                 return Ok(outs);
             }
             let clock = state.clock;

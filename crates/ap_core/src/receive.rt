@@ -5,12 +5,12 @@ ghost use Rattle.ap_model.specs.declared.event.Out.{Out};
 ghost use Rattle.mac_frame.specs.Spelling.{spelling};
 ghost use Rattle.ap_model.specs.Steps.{FrameComes, Checked, check_of};
 ghost use Rattle.ap_model.specs.Asks.{Handled};
-ghost use Rattle.ap_core.specs.Handles.{reading, rules};
+ghost use Rattle.ap_core.specs.Handles.{reading, rules, IsSpelled};
 ghost use Rattle.ap_core.specs.Noted.{IsNoted};
 
 use crate::room::Room;
 use crate::rules::{follow, is_ours};
-use crate::state::State;
+use crate::state::{Came, Setting, State};
 use ap_model::{Judge, LinkConfig, Out};
 use assoc::{ClassAnswer, class_check, class_of};
 use bpf_regions::Frame;
@@ -43,26 +43,26 @@ fn unread(alloc: Global, fault: FrameFault) -> Result<Vec<Out>, AllocError>
 
 /// A frame for this access point.
 fn check<J: Judge>(
-    alloc: Global,
+    setting: Setting<'_>,
     state: &mut State,
-    config: &LinkConfig,
-    frame: MacFrame,
-    bytes: &Frame<'_>,
+    came: Came<'_>,
     judge: &mut J,
 ) -> Result<Vec<Out>, AllocError>
-    requires bytes { bytes.now ≡ spelling frame }
+    requires bytes { IsSpelled came }
     ensures step { IfOk result
-        (λ outs. Handled J.gives (λ asks outs. Checked (rules state.old.link.shard config.now)
-        (reading state.old) frame (check_of (rules state.old.link.shard config.now)
-        (reading state.old) frame) asks outs (reading state.new)) judge.old outs.items
+        (λ outs. Handled J.gives (λ asks outs. Checked
+        (rules state.old.link.shard setting.entry.config.now) (reading state.old)
+        came.entry.frame (check_of (rules state.old.link.shard setting.entry.config.now)
+        (reading state.old) came.entry.frame) asks outs (reading state.new)) judge.old outs.items
         judge.new) }
     ensures shard { state.new.link.shard ≡ state.old.link.shard }
     ensures refused { IfErr result (λ _. (state.new ≡ state.old) × (judge.new ≡ judge.old)) }
 {
-    let station = frame.sender();
-    match class_check(state.link.standing(station), class_of(frame.subtype())) {
+    let Setting { alloc, config } = setting;
+    let station = came.frame.sender();
+    match class_check(state.link.standing(station), class_of(came.frame.subtype())) {
         ClassAnswer::Permitted => {
-            let outs = follow(alloc, state, config, frame, bytes, judge)?;
+            let outs = follow(setting, state, came, judge)?;
             return Ok(outs);
         }
         ClassAnswer::Deauthenticate(reason) => {
@@ -80,31 +80,31 @@ fn check<J: Judge>(
 
 /// A frame of the grammar.
 fn on_frame<J: Judge>(
-    alloc: Global,
+    setting: Setting<'_>,
     state: &mut State,
-    config: &LinkConfig,
     frame: MacFrame,
     bytes: &[u8],
     judge: &mut J,
 ) -> Result<Vec<Out>, AllocError>
     requires bytes { bytes.now ≡ spelling frame }
     ensures step { IfOk result
-        (λ outs. Handled J.gives (λ asks outs. FrameComes (rules state.old.link.shard config.now)
-        (reading state.old) bytes.now asks outs (reading state.new)) judge.old outs.items
-        judge.new) }
+        (λ outs. Handled J.gives (λ asks outs. FrameComes
+        (rules state.old.link.shard setting.entry.config.now) (reading state.old) bytes.now asks outs
+        (reading state.new)) judge.old outs.items judge.new) }
     ensures shard { state.new.link.shard ≡ state.old.link.shard }
     ensures refused { IfErr result (λ _. (state.new ≡ state.old) × (judge.new ≡ judge.old)) }
 {
     frame.known();
-    if !is_ours(config, &frame) {
-        let note = noted(alloc, NOT_OURS)?;
+    if !is_ours(setting.config, &frame) {
+        let note = noted(setting.alloc, NOT_OURS)?;
         return Ok(note);
     }
-    let seen = match Frame::new(bytes) {
-        Some(seen) => seen,
+    let bytes = match Frame::new(bytes) {
+        Some(bytes) => bytes,
         None => unreachable!(),
     };
-    let outs = check(alloc, state, config, frame, &seen, judge)?;
+    let came = Came { frame, bytes };
+    let outs = check(setting, state, came, judge)?;
     Ok(outs)
 }
 
@@ -125,7 +125,8 @@ pub(crate) fn receive<J: Judge>(
 {
     match parse(alloc, bytes) {
         Ok(frame) => {
-            let outs = on_frame(alloc, state, config, frame, bytes, judge)?;
+            let setting = Setting { alloc, config };
+            let outs = on_frame(setting, state, frame, bytes, judge)?;
             return Ok(outs);
         }
         Err(fault) => {

@@ -6,27 +6,27 @@ ghost use Rattle.ap_core.specs.Handles.{reading, rules};
 
 use crate::passing::pass_up;
 use crate::room::FrameRoom;
-use crate::state::State;
+use crate::state::{Setting, State};
 use ap_agreements::Released;
-use ap_model::{LinkConfig, Out};
+use ap_model::Out;
 use mac_frame::{Address, MacFrame, SequenceNumber, Tid};
-use std::alloc::{AllocError, Global};
+use std::alloc::AllocError;
 
 /// A BlockAckReq of a station. Without an agreement it leads to nothing.
 pub(crate) fn on_request(
-    alloc: Global,
+    setting: Setting<'_>,
     state: &mut State,
-    config: &LinkConfig,
     station: Address,
     tid: Tid,
     start: SequenceNumber,
 ) -> Result<Vec<Out>, AllocError>
     ensures step { IfOk result
-        (λ outs. RequestComes (rules state.old.link.shard config.now) (reading state.old) station
-        tid start [] outs.items (reading state.new)) }
+        (λ outs. RequestComes (rules state.old.link.shard setting.entry.config.now) (reading state.old)
+        station tid start [] outs.items (reading state.new)) }
     ensures shard { state.new.link.shard ≡ state.old.link.shard }
     ensures refused { IfErr result (λ _. state.new ≡ state.old) }
 {
+    let Setting { alloc, config } = setting;
     match state.agreements.get_placed(station, tid) {
         None => return Ok(Vec::new(alloc)),
         Some((at, entry)) => {

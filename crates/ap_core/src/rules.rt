@@ -1,15 +1,16 @@
 //! Which rule a frame falls under.
 
 ghost use Rattle.std.specs.Prelude.{◌≡◌, ◌≢◌, ℕ, ◌↔◌, IsTrue, IfOk, IfErr, [], ◌∷◌, None, Some, IsSome};
-ghost use Rattle.mac_frame.specs.Spelling.{spelling, content_subtype, management_subtype};
+ghost use Rattle.mac_frame.specs.Spelling.{content_subtype, management_subtype};
 ghost use Rattle.mac_frame.specs.Spelling.{Frame as SpelledFrame};
 ghost use Rattle.ap_model.specs.Readings.{Rules};
 ghost use Rattle.assoc.specs.Standings.{standing};
 ghost use Rattle.assoc.specs.Classes.{class_of, class_answer};
+ghost use Rattle.assoc.specs.declared.class.Class.{Class};
 ghost use Rattle.assoc.specs.declared.class.ClassAnswer.{ClassAnswer};
 ghost use Rattle.ap_model.specs.Steps.{IsOurs, ManagementComes, DataKindComes, ControlComes, Follows};
 ghost use Rattle.ap_model.specs.Asks.{Handled};
-ghost use Rattle.ap_core.specs.Handles.{reading, rules};
+ghost use Rattle.ap_core.specs.Handles.{reading, rules, sender, IsSpelled};
 
 use crate::ends::on_delba;
 use crate::management::{Asked, on_association, on_authentication};
@@ -17,9 +18,9 @@ use crate::moves::{deauthenticate, disassociate};
 use crate::packets::{DataFrame, on_plain_data, on_qos_data};
 use crate::requests::on_request;
 use crate::setups::{SetupRequest, on_setup};
-use crate::state::State;
+use crate::state::{Came, Setting, State};
 use ap_model::{Judge, LinkConfig, Out};
-use bpf_regions::Frame;
+use assoc::{Class, class_of};
 use mac_frame::{Address, Content, Control, DataKind, MacFrame, Management, SequenceNumber};
 use std::alloc::{AllocError, Global};
 
@@ -35,46 +36,68 @@ pub(crate) fn is_ours(config: &LinkConfig, frame: &MacFrame) -> bool
     frame.receiver() == bssid && named && !frame.sender().is_group()
 }
 
-/// A management frame that its class permits.
-fn on_management<J: Judge>(
-    alloc: Global,
+/// A management frame of class 1: it asks nothing.
+fn on_class_one(
+    setting: Setting<'_>,
     state: &mut State,
-    config: &LinkConfig,
-    frame: &MacFrame,
-    bytes: &Frame<'_>,
+    station: Address,
     body: Management,
-    judge: &mut J,
 ) -> Result<Vec<Out>, AllocError>
-    requires bytes { bytes.now ≡ spelling frame.now }
-    requires permitted { class_answer (standing state.old.link frame.now.sender)
-        (class_of (management_subtype body)) ≡ ClassAnswer.Permitted }
+    requires class { class_of (management_subtype body) ≡ Class.One }
     ensures step { IfOk result
-        (λ outs. Handled J.gives (λ asks outs. ManagementComes
-        (rules state.old.link.shard config.now) (reading state.old) frame.now body asks outs
-        (reading state.new)) judge.old outs.items judge.new) }
+        (λ outs. (f : SpelledFrame) → f.sender ≡ station →
+        ManagementComes (rules state.old.link.shard setting.entry.config.now) (reading state.old) f body
+        [] outs.items (reading state.new)) }
     ensures shard { state.new.link.shard ≡ state.old.link.shard }
-    ensures refused { IfErr result (λ _. (state.new ≡ state.old) × (judge.new ≡ judge.old)) }
+    ensures refused { IfErr result (λ _. state.new ≡ state.old) }
 {
-    let station = frame.sender();
     match body {
         Management::Authentication {
             algorithm,
             transaction,
             status: _,
         } => {
-            let outs = on_authentication(alloc, state, config, station, algorithm, transaction)?;
+            let outs = on_authentication(setting, state, station, algorithm, transaction)?;
             return Ok(outs);
         }
+        Management::Deauthentication { reason: _ } => {
+            deauthenticate(state, station);
+            return Ok(Vec::new(setting.alloc));
+        }
+        _ => unreachable!(),
+    }
+}
+
+/// A management frame of class 2, of a station that is known.
+fn on_class_two<J: Judge>(
+    setting: Setting<'_>,
+    state: &mut State,
+    came: &Came<'_>,
+    body: Management,
+    judge: &mut J,
+) -> Result<Vec<Out>, AllocError>
+    requires bytes { IsSpelled came.now }
+    requires class { class_of (management_subtype body) ≡ Class.Two }
+    requires known { IsSome (standing state.old.link (sender came.now)) }
+    ensures step { IfOk result
+        (λ outs. Handled J.gives (λ asks outs. ManagementComes
+        (rules state.old.link.shard setting.entry.config.now) (reading state.old) came.now.frame body
+        asks outs (reading state.new)) judge.old outs.items judge.new) }
+    ensures shard { state.new.link.shard ≡ state.old.link.shard }
+    ensures refused { IfErr result (λ _. (state.new ≡ state.old) × (judge.new ≡ judge.old)) }
+{
+    match body {
         Management::AssociationRequest {
             capability,
             listen_interval,
         } => {
             let asked = Asked {
+                came,
                 capability,
                 listen_interval,
                 again: false,
             };
-            let outs = on_association(alloc, state, config, frame, bytes, &asked, judge)?;
+            let outs = on_association(setting, state, &asked, judge)?;
             return Ok(outs);
         }
         Management::ReassociationRequest {
@@ -83,22 +106,42 @@ fn on_management<J: Judge>(
             current_ap: _,
         } => {
             let asked = Asked {
+                came,
                 capability,
                 listen_interval,
                 again: true,
             };
-            let outs = on_association(alloc, state, config, frame, bytes, &asked, judge)?;
+            let outs = on_association(setting, state, &asked, judge)?;
             return Ok(outs);
         }
         Management::Disassociation { reason: _ } => {
-            disassociate(state, station);
-            return Ok(Vec::new(alloc));
+            disassociate(state, came.frame.sender());
+            return Ok(Vec::new(setting.alloc));
         }
-        Management::Deauthentication { reason: _ } => {
-            deauthenticate(state, station);
-            let nothing = Vec::new(alloc);
-            return Ok(nothing);
-        }
+        Management::AssociationResponse { .. } => return Ok(Vec::new(setting.alloc)),
+        Management::ReassociationResponse { .. } => return Ok(Vec::new(setting.alloc)),
+        _ => unreachable!(),
+    }
+}
+
+/// A management frame of class 3: what it says of an agreement.
+fn on_class_three<J: Judge>(
+    setting: Setting<'_>,
+    state: &mut State,
+    came: &Came<'_>,
+    body: Management,
+    judge: &mut J,
+) -> Result<Vec<Out>, AllocError>
+    requires bytes { IsSpelled came.now }
+    requires class { class_of (management_subtype body) ≡ Class.Three }
+    ensures step { IfOk result
+        (λ outs. Handled J.gives (λ asks outs. ManagementComes
+        (rules state.old.link.shard setting.entry.config.now) (reading state.old) came.now.frame body
+        asks outs (reading state.new)) judge.old outs.items judge.new) }
+    ensures shard { state.new.link.shard ≡ state.old.link.shard }
+    ensures refused { IfErr result (λ _. (state.new ≡ state.old) × (judge.new ≡ judge.old)) }
+{
+    match body {
         Management::AddbaRequest {
             dialog_token,
             parameters,
@@ -106,12 +149,13 @@ fn on_management<J: Judge>(
             start,
         } => {
             let request = SetupRequest {
+                came,
                 token: dialog_token,
                 parameters,
                 timeout,
                 start,
             };
-            let outs = on_setup(alloc, state, config, frame, bytes, &request, judge)?;
+            let outs = on_setup(setting, state, &request, judge)?;
             return Ok(outs);
         }
         Management::Delba {
@@ -119,61 +163,107 @@ fn on_management<J: Judge>(
             reason: _,
         } => {
             if !parameters.initiator {
-                let no_outs = Vec::new(alloc);
-                return Ok(no_outs);
+                return Ok(Vec::new(setting.alloc));
             }
-            let outs = on_delba(alloc, state, station, parameters.tid)?;
+            let station = came.frame.sender();
+            let outs = on_delba(setting.alloc, state, station, parameters.tid)?;
             return Ok(outs);
         }
-        Management::AssociationResponse { .. } => return Ok(Vec::new(alloc)),
-        Management::ReassociationResponse { .. } => return Ok(Vec::new(alloc)),
-        Management::AddbaResponse { .. } => return Ok(Vec::new(alloc)),
+        Management::AddbaResponse { .. } => return Ok(Vec::new(setting.alloc)),
+        _ => unreachable!(),
+    }
+}
+
+/// A management frame that its class permits.
+fn on_management<J: Judge>(
+    setting: Setting<'_>,
+    state: &mut State,
+    came: &Came<'_>,
+    body: Management,
+    judge: &mut J,
+) -> Result<Vec<Out>, AllocError>
+    requires bytes { IsSpelled came.now }
+    requires permitted { class_answer (standing state.old.link (sender came.now))
+        (class_of (management_subtype body)) ≡ ClassAnswer.Permitted }
+    ensures step { IfOk result
+        (λ outs. Handled J.gives (λ asks outs. ManagementComes
+        (rules state.old.link.shard setting.entry.config.now) (reading state.old) came.now.frame body
+        asks outs (reading state.new)) judge.old outs.items judge.new) }
+    ensures shard { state.new.link.shard ≡ state.old.link.shard }
+    ensures refused { IfErr result (λ _. (state.new ≡ state.old) × (judge.new ≡ judge.old)) }
+{
+    // A copy, as the arms pass the body on.
+    let asked = body;
+    match class_of(asked.subtype()) {
+        Class::One => {
+            let station = came.frame.sender();
+            let outs = on_class_one(setting, state, station, body)?;
+            return Ok(outs);
+        }
+        Class::Two => {
+            let outs = on_class_two(setting, state, came, body, judge)?;
+            return Ok(outs);
+        }
+        Class::Three => {
+            let outs = on_class_three(setting, state, came, body, judge)?;
+            return Ok(outs);
+        }
     }
 }
 
 /// A control frame that its class permits.
 fn on_control(
-    alloc: Global,
+    setting: Setting<'_>,
     state: &mut State,
-    config: &LinkConfig,
     station: Address,
     body: Control,
 ) -> Result<Vec<Out>, AllocError>
     ensures step { IfOk result
         (λ outs. (f : SpelledFrame) → f.sender ≡ station →
-        ControlComes (rules state.old.link.shard config.now) (reading state.old) f body []
+        ControlComes (rules state.old.link.shard setting.entry.config.now) (reading state.old) f body []
         outs.items (reading state.new)) }
     ensures shard { state.new.link.shard ≡ state.old.link.shard }
     ensures refused { IfErr result (λ _. state.new ≡ state.old) }
 {
     match body {
         Control::BlockAckReq { tid, start } => {
-            let outs = on_request(alloc, state, config, station, tid, start)?;
+            let outs = on_request(setting, state, station, tid, start)?;
             return Ok(outs);
         }
-        Control::BlockAck { .. } => return Ok(Vec::new(alloc)),
+        Control::BlockAck { .. } => return Ok(Vec::new(setting.alloc)),
     }
+}
+
+/// What is read of a data frame.
+#[derive(Clone, Copy)]
+struct DataHead {
+    destination: Address,
+    number: SequenceNumber,
+    kind: DataKind,
 }
 
 /// A data frame that its class permits.
 fn on_data_kind<J: Judge>(
     alloc: Global,
     state: &mut State,
-    frame: MacFrame,
-    bytes: &Frame<'_>,
-    destination: Address,
-    number: SequenceNumber,
-    kind: DataKind,
+    came: Came<'_>,
+    head: DataHead,
     judge: &mut J,
 ) -> Result<Vec<Out>, AllocError>
-    requires bytes { bytes.now ≡ spelling frame }
+    requires bytes { IsSpelled came }
     ensures step { IfOk result
         (λ outs. (c : Rules) → Handled J.gives
-        (λ asks outs. DataKindComes c (reading state.old) frame destination number kind asks
-        outs (reading state.new)) judge.old outs.items judge.new) }
+        (λ asks outs. DataKindComes c (reading state.old) came.entry.frame head.destination
+        head.number head.kind asks outs (reading state.new)) judge.old outs.items judge.new) }
     ensures shard { state.new.link.shard ≡ state.old.link.shard }
     ensures refused { IfErr result (λ _. (state.new ≡ state.old) × (judge.new ≡ judge.old)) }
 {
+    let Came { frame, bytes } = came;
+    let DataHead {
+        destination,
+        number,
+        kind,
+    } = head;
     match kind {
         DataKind::Data => {
             let data = DataFrame {
@@ -204,30 +294,29 @@ fn on_data_kind<J: Judge>(
 
 /// A frame that its class permits.
 pub(crate) fn follow<J: Judge>(
-    alloc: Global,
+    setting: Setting<'_>,
     state: &mut State,
-    config: &LinkConfig,
-    frame: MacFrame,
-    bytes: &Frame<'_>,
+    came: Came<'_>,
     judge: &mut J,
 ) -> Result<Vec<Out>, AllocError>
-    requires bytes { bytes.now ≡ spelling frame }
-    requires permitted { class_answer (standing state.old.link frame.sender)
-        (class_of (content_subtype frame.content)) ≡ ClassAnswer.Permitted }
+    requires bytes { IsSpelled came }
+    requires permitted { class_answer (standing state.old.link (sender came))
+        (class_of (content_subtype came.frame.content)) ≡ ClassAnswer.Permitted }
     ensures step { IfOk result
-        (λ outs. Handled J.gives (λ asks outs. Follows (rules state.old.link.shard config.now)
-        (reading state.old) frame frame.content asks outs (reading state.new)) judge.old
+        (λ outs. Handled J.gives (λ asks outs. Follows
+        (rules state.old.link.shard setting.entry.config.now) (reading state.old)
+        came.entry.frame came.entry.frame.content asks outs (reading state.new)) judge.old
         outs.items judge.new) }
     ensures shard { state.new.link.shard ≡ state.old.link.shard }
     ensures refused { IfErr result (λ _. (state.new ≡ state.old) × (judge.new ≡ judge.old)) }
 {
-    match frame.content() {
+    match came.frame.content() {
         Content::Management { body, .. } => {
-            let outs = on_management(alloc, state, config, &frame, bytes, body, judge)?;
+            let outs = on_management(setting, state, &came, body, judge)?;
             return Ok(outs);
         }
         Content::Control { body } => {
-            let outs = on_control(alloc, state, config, frame.sender(), body)?;
+            let outs = on_control(setting, state, came.frame.sender(), body)?;
             return Ok(outs);
         }
         Content::Data {
@@ -235,16 +324,12 @@ pub(crate) fn follow<J: Judge>(
             sequence,
             kind,
         } => {
-            let outs = on_data_kind(
-                alloc,
-                state,
-                frame,
-                bytes,
+            let head = DataHead {
                 destination,
-                sequence,
+                number: sequence,
                 kind,
-                judge,
-            )?;
+            };
+            let outs = on_data_kind(setting.alloc, state, came, head, judge)?;
             return Ok(outs);
         }
     }

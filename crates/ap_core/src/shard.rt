@@ -8,7 +8,7 @@ use crate::ends::{UNKNOWN_STATION, on_close};
 use crate::moves::deauthenticate;
 use crate::receive::receive;
 use crate::room::Room;
-use crate::state::State;
+use crate::state::{Setting, State};
 use crate::ticks::{TickRoom, most_outs, tick, tick_room};
 use ap_agreements::Agreements;
 use ap_model::{Event, Judge, LinkConfig, Out};
@@ -142,7 +142,9 @@ impl Shard {
         ensures len { vec_len outs.new ≤ vec_len outs.old + late_outs self.old.state units }
         ensures capacity { vec_capacity outs.new ≡ vec_capacity outs.old }
     {
-        tick(alloc, &mut self.state, &self.config, units, room, outs);
+        let config = &self.config;
+        let setting = Setting { alloc, config };
+        tick(setting, &mut self.state, units, room, outs);
     }
 
     /// Time passes.

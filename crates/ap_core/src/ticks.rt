@@ -11,7 +11,7 @@ ghost use Rattle.ap_core.specs.Ticking.{clock_after, late_outs, outs_of_ends, Ha
 
 use crate::passing::pass_all;
 use crate::room::FrameRoom;
-use crate::state::State;
+use crate::state::{Setting, State};
 use ap_agreements::Entry;
 use ap_model::{LinkConfig, Out};
 use mac_frame::{MacFrame, Reason};
@@ -103,21 +103,21 @@ fn end_all(
 
 /// Time passes, for which all room is made.
 pub(crate) fn tick(
-    alloc: Global,
+    setting: Setting<'_>,
     state: &mut State,
-    config: &LinkConfig,
     units: u32,
     room: TickRoom,
     outs: &mut Vec<Out>,
 )
     requires room { HasRoom state.old units room }
     requires outs { vec_len outs.old + late_outs state.old units ≤ vec_capacity outs.old }
-    ensures step { TickStep (rules state.old.link.shard config.now) (reading state.old) units
-        outs.old.items outs.new.items (reading state.new) }
+    ensures step { TickStep (rules state.old.link.shard setting.entry.config.now) (reading state.old)
+        units outs.old.items outs.new.items (reading state.new) }
     ensures len { vec_len outs.new ≤ vec_len outs.old + late_outs state.old units }
     ensures capacity { vec_capacity outs.new ≡ vec_capacity outs.old }
     ensures shard { state.new.link.shard ≡ state.old.link.shard }
 {
+    let Setting { alloc, config } = setting;
     let clock = clock_after(state, units);
     let TickRoom { mut ended, frames } = room;
     state.clock = clock;

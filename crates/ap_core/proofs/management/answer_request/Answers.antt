@@ -13,20 +13,20 @@ pub returns-then-not-suits-clause-step : goal.returns-then-not-suits-clause-step
 returns-then-not-suits-clause-step g c =
     silently g.J.Judge.gives _ _ _
     (unsuited (λ s. let t = c.suits.ensures.1 s in let f = c.if-not-suits.true in cc)
-    (settled _ _ _ (c.refuse.ensures c.args.state.now.link.shard ∙ ap (λ t. association_answer (rules c.args.state.now.link.shard c.args.config.now) t c.args.asked.now.again 10 0 ∷ []) c.sender-station.ensures)))
+    (settled _ _ _ (c.refuse.ensures c.args.state.now.link.shard)))
 
 pub returns-then-not-names-clause-step : goal.returns-then-not-names-clause-step
 returns-then-not-names-clause-step g c =
     silently g.J.Judge.gives _ _ _
     (elsewhere (c.suits.ensures.0 c.if-not-suits.false) (λ n. let t = (c.names.ensures c.args.state.now.link.shard).1 n in let f = c.if-not-names.true in cc)
-    (settled _ _ _ (c.refuse-then-not-names.ensures c.args.state.now.link.shard ∙ ap (λ t. association_answer (rules c.args.state.now.link.shard c.args.config.now) t c.args.asked.now.again 12 0 ∷ []) c.sender-station.ensures)))
+    (settled _ _ _ (c.refuse-then-not-names.ensures c.args.state.now.link.shard)))
 
 pub returns-in_default-clause-step : goal.returns-in_default-clause-step
 returns-in_default-clause-step g c =
     silently g.J.Judge.gives _ _ _
     (exhausted (c.suits.ensures.0 c.if-not-suits.false) ((c.names.ensures c.args.state.now.link.shard).0 c.if-not-names.false)
     (subst (λ t. (n : ℕ) → IsFree c.args.state.now.link.shard (standing c.args.state.now.link) t n → ⊥) c.sender-station.ensures c.in_default.ensures)
-    (settled _ _ _ (c.refuse-in_default.ensures c.args.state.now.link.shard ∙ ap (λ t. association_answer (rules c.args.state.now.link.shard c.args.config.now) t c.args.asked.now.again 17 0 ∷ []) c.sender-station.ensures)))
+    (settled _ _ _ (c.refuse-in_default.ensures c.args.state.now.link.shard)))
 
 pub returns-then-not-is_success-clause-step : goal.returns-then-not-is_success-clause-step
 returns-then-not-is_success-clause-step g c =
@@ -34,13 +34,12 @@ returns-then-not-is_success-clause-step g c =
     let f = c.if-not-is_success.true in
     let ne : c.assoc_verdict-status.result ≢ 0 = grind (arith, nat_tests) in
     asking g.J.Judge.gives _ _ _ _ _ c.judge-verdict.result c.judge-verdict.ensures
-    (refused_by (rules c.args.state.now.link.shard c.args.config.now) (reading c.args.state.now) (reading c.args.state.now) c.args.frame.now.sender (request c.args.frame.now c.args.asked.now) _ _ c.judge-verdict.result c.in-Some.granted _
+    (refused_by (rules c.args.state.now.link.shard c.args.config.now) (reading c.args.state.now) (reading c.args.state.now) c.args.asked.now.came.now.frame.sender (request c.args.asked.now) _ _ c.judge-verdict.result c.in-Some.granted _
     (subst (λ t. IsFree c.args.state.now.link.shard (standing c.args.state.now.link) t c.in-Some.granted) c.sender-station.ensures c.in-Some.ensures.free)
     (c.suits.ensures.0 c.if-not-suits.false) ((c.names.ensures c.args.state.now.link.shard).0 c.if-not-names.false)
     c.requires.bytes (c.context_of-context.ensures) (subst (λ s. s ≢ 0) c.assoc_verdict-status.ensures ne)
     (c.refuse-then-not-is_success.ensures c.args.state.now.link.shard
-    ∙ ap (λ t. association_answer (rules c.args.state.now.link.shard c.args.config.now) t c.args.asked.now.again c.assoc_verdict-status.result 0 ∷ []) c.sender-station.ensures
-    ∙ ap (λ s. association_answer (rules c.args.state.now.link.shard c.args.config.now) c.args.frame.now.sender c.args.asked.now.again s 0 ∷ []) c.assoc_verdict-status.ensures))
+    ∙ ap (λ s. association_answer (rules c.args.state.now.link.shard c.args.config.now) c.args.asked.now.came.now.frame.sender c.args.asked.now.again s 0 ∷ []) c.assoc_verdict-status.ensures))
 
 pub returns-clause-step : goal.returns-clause-step
 returns-clause-step g c =
@@ -48,12 +47,11 @@ returns-clause-step g c =
     let f = c.if-not-is_success.false in
     let z : c.assoc_verdict-status.result ≡ 0 = grind (arith, nat_tests) in
     asking g.J.Judge.gives _ _ _ _ _ c.judge-verdict.result c.judge-verdict.ensures
-    (admitted_by (rules c.args.state.now.link.shard c.args.config.now) (reading c.args.state.now) (reading c.associate.new.state) c.args.frame.now.sender (request c.args.frame.now c.args.asked.now) _ _ c.judge-verdict.result c.in-Some.granted _
+    (admitted_by (rules c.args.state.now.link.shard c.args.config.now) (reading c.args.state.now) (reading c.associate.new.state) c.args.asked.now.came.now.frame.sender (request c.args.asked.now) _ _ c.judge-verdict.result c.in-Some.granted _
     (subst (λ t. IsFree c.args.state.now.link.shard (standing c.args.state.now.link) t c.in-Some.granted) c.sender-station.ensures c.in-Some.ensures.free)
     (c.suits.ensures.0 c.if-not-suits.false) ((c.names.ensures c.args.state.now.link.shard).0 c.if-not-names.false)
     c.requires.bytes (c.context_of-context.ensures) (sym c.assoc_verdict-status.ensures ∙ z)
     (c.send.ensures ∙ ap (λ e. e ∷ []) (c.response-answer.ensures.is c.args.state.now.link.shard)
-    ∙ ap (λ t. association_answer (rules c.args.state.now.link.shard c.args.config.now) t c.args.asked.now.again c.assoc_verdict-status.result c.granted-aid.result ∷ []) c.sender-station.ensures
-    ∙ ap (λ s. association_answer (rules c.args.state.now.link.shard c.args.config.now) c.args.frame.now.sender c.args.asked.now.again s c.granted-aid.result ∷ []) z
-    ∙ ap (λ n. association_answer (rules c.args.state.now.link.shard c.args.config.now) c.args.frame.now.sender c.args.asked.now.again 0 n ∷ []) c.granted-aid.ensures)
+    ∙ ap (λ s. association_answer (rules c.args.state.now.link.shard c.args.config.now) c.args.asked.now.came.now.frame.sender c.args.asked.now.again s c.granted-aid.result ∷ []) z
+    ∙ ap (λ n. association_answer (rules c.args.state.now.link.shard c.args.config.now) c.args.asked.now.came.now.frame.sender c.args.asked.now.again 0 n ∷ []) c.granted-aid.ensures)
     (subst (λ t. Moves (reading c.args.state.now) t (Some (Associated c.in-Some.granted)) (reading c.associate.new.state)) c.sender-station.ensures c.associate.ensures.moves))

@@ -29,10 +29,10 @@ returns-clause-step g c =
     let under = c.requires.under in
     asking g.J.Judge.gives _ _ _ _ _ c.judge-verdict.result c.judge-verdict.ensures
     (taken_from (standing c.args.state.now.link) c.args.state.now.agreements.kept c.take.new.self.kept c.args.state.now.clock (packet c.args.came)
-    c.args.came.frame.sender refl c.args.under.tid under.tid c.args.under.start
-    (subst (λ (o : Option Using). IsSomeAnd o (λ u. IsWanted u.window c.args.came.number × (c.args.under.start ≡ u.window.start))) (sym under.stands.agreed) (under.is.wanted, under.starts))
+    c.args.came.frame.sender refl c.args.wanted.under.tid under.tid c.args.wanted.under.start
+    (subst (λ (o : Option Using). IsSomeAnd o (λ u. IsWanted u.window c.args.came.number × (c.args.wanted.under.start ≡ u.window.start))) (sym under.stands.agreed) (under.is.wanted, under.starts))
     _ _ c.judge-verdict.result c.item_of-item.result
     c.new-body.result c.pass_up.new.outs.items c.take.new.out.items c.requires.bytes c.context_of-context.ensures c.item_of-item.ensures (c.new-body.ensures ∙ c.into_tail.ensures)
-    (c.take.ensures.uses c.args.came.frame.sender c.args.under.tid under.stands.place)
-    (c.pass_up.ensures.outs ∙ ap (λ t. t ++ ups c.sender-station.result c.args.under.tid c.take.new.out.items) c.in_ok-outs.ensures.items
-    ∙ ap (λ (a : List ℕ). ups a c.args.under.tid c.take.new.out.items) c.sender-station.ensures))
+    (c.take.ensures.uses c.args.came.frame.sender c.args.wanted.under.tid under.stands.place)
+    (c.pass_up.ensures.outs ∙ ap (λ t. t ++ ups c.sender-station.result c.args.wanted.under.tid c.take.new.out.items) c.in_ok-outs.ensures.items
+    ∙ ap (λ (a : List ℕ). ups a c.args.wanted.under.tid c.take.new.out.items) c.sender-station.ensures))

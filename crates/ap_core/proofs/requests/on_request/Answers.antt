@@ -33,7 +33,7 @@ pub returns-in-Some-clause-step : goal.returns-in-Some-clause-step
 returns-in-Some-clause-step c =
     let board = c.request-first.result in
     let passed = c.request-first.new.out.items in
-    reported_from (rules c.args.state.now.link.shard c.args.config.now) (standing c.args.state.now.link) c.args.state.now.agreements.kept c.request-first.new.self.kept c.args.state.now.clock c.args.station c.args.tid c.args.start
+    reported_from (rules c.args.state.now.link.shard c.args.setting.config.now) (standing c.args.state.now.link) c.args.state.now.agreements.kept c.request-first.new.self.kept c.args.state.now.clock c.args.station c.args.tid c.args.start
     c.in-Some.entry.now.using board c.push_reserved.new.self.items passed c.in-Some.ensures.agreed (c.request-first.ensures.uses c.args.station c.args.tid c.in-Some.ensures.place)
     (c.push_reserved.ensures.items
     ∙ ap (λ (t : List Out). t ++ c.send.result ∷ []) (c.pass_up.ensures.outs ∙ ap (λ (t : List Out). t ++ ups c.args.station c.args.tid passed) c.in_ok-outs-in-Some.ensures.items)

@@ -11,9 +11,9 @@ returns-in-Management-clause-step g c =
 pub returns-in-Control-clause-step : goal.returns-in-Control-clause-step
 returns-in-Control-clause-step g c =
     let e = sym c.content.ensures ∙ c.in-Control.is in
-    rw e (silently g.J.Judge.gives _ _ _ (c.in_ok-outs-in-Control.ensures.step c.args.frame (sym c.sender.ensures)))
+    rw e (silently g.J.Judge.gives _ _ _ (c.in_ok-outs-in-Control.ensures.step c.args.came.frame (sym c.sender.ensures)))
 
 pub returns-in-Data-clause-step : goal.returns-in-Data-clause-step
 returns-in-Data-clause-step g c =
     let e = sym c.content.ensures ∙ c.in-Data.is in
-    rw e (c.in_ok-outs-in-Data.ensures.step (rules c.args.state.now.link.shard c.args.config.now))
+    rw e (c.in_ok-outs-in-Data.ensures.step (rules c.args.state.now.link.shard c.args.setting.config.now))

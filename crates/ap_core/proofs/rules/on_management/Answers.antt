@@ -1,27 +1,15 @@
-use Rattle.ap_core.specs.Handles.{reading}
+use Rattle.std.proofs.Common.{◌≡◌, sym}
+use Rattle.mac_frame.specs.Spelling.{management_subtype}
+use Rattle.assoc.specs.declared.class.Class.TheVariants.{Two}
+use Rattle.assoc.specs.Classes.{class_of}
 use Rattle.ap_core.proofs.Handling.{silently}
-use Rattle.ap_core.proofs.AssociationLaws.{departed}
+use Rattle.ap_core.proofs.AssociationLaws.{known_from_class}
 use Rattle.ap_core.proofs.rules.on_management.Goals as goal
 
-pub returns-in-Authentication-clause-step : goal.returns-in-Authentication-clause-step
-returns-in-Authentication-clause-step g c =
-    rw c.in-Authentication.is (silently g.J.Judge.gives _ _ _ (rw c.sender-station.ensures at c.in_ok-outs-in-Authentication.ensures.step))
+pub on_class_two-requires-clause-known : goal.on_class_two-requires-clause-known
+on_class_two-requires-clause-known g c =
+    let e : class_of (management_subtype c.args.body) ≡ Two = (let a = c.class_of.ensures in let b = c.subtype.ensures in let i = c.in-Two.is in cc) in
+    known_from_class _ (rw e at c.requires.permitted)
 
-pub returns-in-AssociationRequest-clause-step : goal.returns-in-AssociationRequest-clause-step
-returns-in-AssociationRequest-clause-step g c = rw c.in-AssociationRequest.is c.in_ok-outs-in-AssociationRequest.ensures.step
-
-pub returns-in-ReassociationRequest-clause-step : goal.returns-in-ReassociationRequest-clause-step
-returns-in-ReassociationRequest-clause-step g c = rw c.in-ReassociationRequest.is c.in_ok-outs-in-ReassociationRequest.ensures.step
-
-pub returns-in-Disassociation-clause-step : goal.returns-in-Disassociation-clause-step
-returns-in-Disassociation-clause-step g c =
-    rw c.in-Disassociation.is (silently g.J.Judge.gives _ _ _
-    (departed (reading c.args.state.now) (reading c.disassociate.new.state) c.args.frame.now.sender _ c.new.result.items c.new.ensures.items (rw c.sender-station.ensures at c.disassociate.ensures.moves)))
-
-pub returns-in-Deauthentication-clause-step : goal.returns-in-Deauthentication-clause-step
-returns-in-Deauthentication-clause-step g c =
-    rw c.in-Deauthentication.is (silently g.J.Judge.gives _ _ _
-    (departed (reading c.args.state.now) (reading c.deauthenticate.new.state) c.args.frame.now.sender _ c.new-nothing.result.items c.new-nothing.ensures.items (rw c.sender-station.ensures at c.deauthenticate.ensures.moves)))
-
-pub returns-in-AddbaRequest-clause-step : goal.returns-in-AddbaRequest-clause-step
-returns-in-AddbaRequest-clause-step g c = rw c.in-AddbaRequest.is c.in_ok-outs-in-AddbaRequest.ensures.step
+pub returns-in-One-clause-step : goal.returns-in-One-clause-step
+returns-in-One-clause-step g c = silently g.J.Judge.gives _ _ _ (c.in_ok-outs-in-One.ensures.step c.args.came.now.frame (sym c.sender-station.ensures))

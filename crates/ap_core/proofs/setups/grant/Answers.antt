@@ -9,26 +9,26 @@ use Rattle.ap_core.proofs.setups.grant.Goals as goal
 pub pass_replaced-requires : goal.pass_replaced-requires
 pass_replaced-requires c =
     let ks = c.args.state.now.agreements.kept in
-    let key : key_of c.opened-opened.result ≡ (c.args.station, c.args.request.now.parameters.tid) = c.opened-opened.ensures.key ∙ c.requires.key in
-    let held = held_there ks c.args.station c.args.request.now.parameters.tid c.put-replaced.result
+    let key : key_of c.opened-opened.result ≡ (c.args.request.now.came.now.frame.sender, c.args.request.now.parameters.tid) = c.opened-opened.ensures.key ∙ c.requires.key in
+    let held = held_there ks c.args.request.now.came.now.frame.sender c.args.request.now.parameters.tid c.put-replaced.result
     (subst (λ (p : List ℕ × ℕ). MatchOption c.put-replaced.result (agreement_in ks p.0 p.1 ≡ None) (λ k. (agreement_in ks p.0 p.1 ≡ Some k.using) × (key_of k ≡ p))) key
     c.put-replaced.ensures.was) in
-    omega (arith, held, c.requires.outs, ap length c.requires.empty, c.args.outs.ok.0)
+    omega (arith, held, c.requires.outs, ap length c.requires.empty, c.args.room.outs.ok.0)
 
 pub returns-clause-step : goal.returns-clause-step
-returns-clause-step c = λ frame.
+returns-clause-step c =
     let ks = c.args.state.now.agreements.kept in
-    let key : key_of c.opened-opened.result ≡ (c.args.station, c.args.request.now.parameters.tid) = c.opened-opened.ensures.key ∙ c.requires.key in
+    let key : key_of c.opened-opened.result ≡ (c.args.request.now.came.now.frame.sender, c.args.request.now.parameters.tid) = c.opened-opened.ensures.key ∙ c.requires.key in
     record {
       first = c.pass_replaced.new.outs.items;
-      passes = replaced_first ks c.args.station c.args.request.now.parameters.tid c.put-replaced.result c.pass_replaced.new.outs.items
+      passes = replaced_first ks c.args.request.now.came.now.frame.sender c.args.request.now.parameters.tid c.put-replaced.result c.pass_replaced.new.outs.items
           (subst (λ (p : List ℕ × ℕ). MatchOption c.put-replaced.result (agreement_in ks p.0 p.1 ≡ None) (λ k. (agreement_in ks p.0 p.1 ≡ Some k.using) × (key_of k ≡ p))) key
           c.put-replaced.ensures.was)
           (subst (λ (t : List Out). MatchOption c.put-replaced.result (c.pass_replaced.new.outs.items ≡ t) (λ k. PassesAll k t c.pass_replaced.new.outs.items)) c.requires.empty
           c.pass_replaced.ensures.passes);
       is =
           c.push_reserved.ensures.items
-          ∙ ap (λ (x : Out). c.pass_replaced.new.outs.items ++ x ∷ []) (c.send.ensures ∙ c.answer-answer.ensures.is c.args.state.now.link.shard frame);
+          ∙ ap (λ (x : Out). c.pass_replaced.new.outs.items ++ x ∷ []) (c.send.ensures ∙ c.answer-answer.ensures.is c.args.state.now.link.shard);
       using = c.opened-opened.result.using;
       opens = c.opened-opened.ensures.opens;
       agrees = record {

@@ -1,7 +1,7 @@
-use Rattle.std.proofs.Common.{ℕ, List, [], ◌∷◌, ◌++◌, sym, ap, subst, ◌∙◌}
+use Rattle.std.proofs.Common.{List, [], ◌∷◌, ◌++◌, sym, ap, subst, ◌∙◌}
 use Rattle.assoc.specs.Standings.{standing}
 use Rattle.ap_model.specs.declared.event.Out.{Out}
-use Rattle.ap_model.specs.Agreements.{SetsUp, setup_answer}
+use Rattle.ap_model.specs.Agreements.{SetsUp}
 use Rattle.ap_agreements.specs.Tables.{Kept, agreement_in}
 use Rattle.ap_model.specs.Asks.{Handled}
 use Rattle.ap_core.specs.Handles.{IsGranted, reading, rules, setup}
@@ -11,34 +11,28 @@ use Rattle.ap_core.proofs.setups.on_immediate.Goals as goal
 
 pub returns-in-None-clause-step : goal.returns-in-None-clause-step
 returns-in-None-clause-step g c =
-    let own = rules c.args.state.now.link.shard c.args.config.now in
+    let own = rules c.args.state.now.link.shard c.args.setting.config.now in
     subst
     (λ (ks : List Kept).
     Handled g.J.Judge.gives
-    (λ asks outs. SetsUp own (reading c.args.state.now) c.args.frame.now.sender (setup c.args.frame.now c.args.request.now) asks outs
+    (λ asks outs. SetsUp own (reading c.args.state.now) c.args.request.now.came.now.frame.sender (setup c.args.request.now) asks outs
     (record { standing = standing c.args.state.now.link; agreement = agreement_in ks; clock = c.args.state.now.clock }))
     c.args.judge.now c.push_reserved.new.self.items c.judge-verdict.new.self)
     (sym c.in_ok-reserve.ensures.kept)
     (asking g.J.Judge.gives _ _ _ _ _ c.judge-verdict.result c.judge-verdict.ensures
-    (declined_by own (reading c.args.state.now) (reading c.args.state.now) c.args.frame.now.sender (setup c.args.frame.now c.args.request.now) _ _ c.judge-verdict.result _
+    (declined_by own (reading c.args.state.now) (reading c.args.state.now) c.args.request.now.came.now.frame.sender (setup c.args.request.now) _ _ c.judge-verdict.result _
     c.requires.immediate c.requires.bytes c.context_of-context.ensures (sym c.addba_verdict.ensures.is ∙ c.in-None.is)
     (c.push_reserved.ensures.items ∙ ap (λ (t : List Out). t ++ c.send.result ∷ []) c.in_ok-outs.ensures.items
-    ∙ ap (λ (x : Out). x ∷ []) (c.send.ensures ∙ c.answer-answer.ensures.is c.args.state.now.link.shard c.args.frame.now)
-    ∙ ap (λ (a : List ℕ). setup_answer own a (setup c.args.frame.now c.args.request.now) 37 0 ∷ []) c.sender-station.ensures)))
+    ∙ ap (λ (x : Out). x ∷ []) (c.send.ensures ∙ c.answer-answer.ensures.is c.args.state.now.link.shard))))
 
 pub returns-in-Some-clause-step : goal.returns-in-Some-clause-step
 returns-in-Some-clause-step g c =
-    let own = rules c.args.state.now.link.shard c.args.config.now in
+    let own = rules c.args.state.now.link.shard c.args.setting.config.now in
     asking g.J.Judge.gives _ _ _ _ _ c.judge-verdict.result c.judge-verdict.ensures
-    (granted_by own (reading c.args.state.now) (reading c.grant-outs.new.state) c.args.frame.now.sender (setup c.args.frame.now c.args.request.now) _ _ c.judge-verdict.result _
+    (granted_by own (reading c.args.state.now) (reading c.grant-outs.new.state) c.args.request.now.came.now.frame.sender (setup c.args.request.now) _ _ c.judge-verdict.result _
     c.requires.immediate c.requires.bytes c.context_of-context.ensures c.in-Some.size (sym c.addba_verdict.ensures.is ∙ c.in-Some.is)
     (subst
     (λ (ks : List Kept).
-    IsGranted own (record { standing = standing c.args.state.now.link; agreement = agreement_in ks; clock = c.args.state.now.clock }) c.args.frame.now.sender
-    (setup c.args.frame.now c.args.request.now) c.in-Some.size c.grant-outs.result.items (reading c.grant-outs.new.state))
-    c.in_ok-reserve.ensures.kept
-    (subst
-    (λ (a : List ℕ).
-    IsGranted own (record { standing = standing c.args.state.now.link; agreement = agreement_in c.reserve.new.self.kept; clock = c.args.state.now.clock }) a
-    (setup c.args.frame.now c.args.request.now) c.in-Some.size c.grant-outs.result.items (reading c.grant-outs.new.state))
-    c.sender-station.ensures (c.grant-outs.ensures.step c.args.frame.now))))
+    IsGranted own (record { standing = standing c.args.state.now.link; agreement = agreement_in ks; clock = c.args.state.now.clock }) c.args.request.now.came.now.frame.sender
+    (setup c.args.request.now) c.in-Some.size c.grant-outs.result.items (reading c.grant-outs.new.state))
+    c.in_ok-reserve.ensures.kept c.grant-outs.ensures.step))

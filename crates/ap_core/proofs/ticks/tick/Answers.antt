@@ -28,7 +28,7 @@ returns-clause-step c =
     record {
       more = e.more;
       is = e.is;
-      step = ticked (rules c.args.state.now.link.shard c.args.config.now) (standing c.args.state.now.link) c.args.state.now.agreements.kept
+      step = ticked (rules c.args.state.now.link.shard c.args.setting.config.now) (standing c.args.state.now.link) c.args.state.now.agreements.kept
           c.take_late.new.self.kept c.take_late.new.ended.items c.args.state.now.clock c.clock_after-clock.result c.args.units e.more c.take_late.ensures.exact
           c.clock_after-clock.ensures c.take_late.ensures.rising c.take_late.ensures.others e.ends;
     }
