@@ -1,3 +1,4 @@
-pub mod Faults
-pub mod Held
 pub mod Kinds
+pub mod Held
+pub mod Reading
+pub mod Faults

@@ -1,9 +1,10 @@
 //! Where files are read.
 
-ghost use Rattle.std.specs.Prelude.{◌≡◌, ◌≤◌, ℕ, List, Some, None, length, IfOk, IfErr, IfSome};
-ghost use Rattle.apd_inputs.specs.Kinds.{most_of};
-ghost use Rattle.apd_inputs.specs.Held.{IsUnread};
+ghost use Rattle.std.specs.Prelude.{◌≡◌, ◌⊎◌, ◌≤◌, ℕ, List, Some, None, IfOk, IfErr, OnOk, IfSome, length};
 ghost use Rattle.std.specs.declared.option.Option.{Option};
+ghost use Rattle.apd_inputs.specs.Kinds.{most_of};
+ghost use Rattle.apd_inputs.specs.Held.{Holds, IsUnopened, IsUnread};
+ghost use Rattle.apd_inputs.specs.Reading.{Opens, Gives};
 
 use std::alloc::{AllocError, Global};
 use std::fmt::Write;
@@ -33,7 +34,8 @@ pub enum FileFault {
 pub enum FileKind {
     /// A configuration: 1 MiB.
     Configuration,
-    /// Code in hex digits, with white space: 16 MiB, where the longest code takes 256 KiB of digits.
+    /// Code in hex digits, with white space. It is read to its end, since no more of it is kept than can
+    /// matter; 2^62 bytes aren't there to be read.
     Code,
     /// A certificate in hex digits: 256 MiB.
     Certificate,
@@ -52,26 +54,62 @@ impl FileKind {
     {
         match self {
             FileKind::Configuration => 1 << 20,
-            FileKind::Code | FileKind::Text => 1 << 24,
+            FileKind::Code => (1 << 62) - 1,
             FileKind::Certificate => 1 << 28,
+            FileKind::Text => 1 << 24,
             FileKind::Capture | FileKind::Script => 1 << 30,
         }
     }
 }
 
-/// Where files are read.
+/// Where files are read, one at a time and block by block.
 pub trait Files {
     // What is known of the file at a path: nothing, or its bytes, or that there is none to be read.
     ghost held: { Self → List ℕ → Option (Option (List ℕ)) } = { λ _ _. None };
 
-    /// The bytes of the file at the path, which is of this kind; `TooLong` where there are more than its
-    /// kind may have. Of a longer file no more is read than shows that. The files stay as they are.
-    fn read(&mut self, path: &str, kind: FileKind) -> Result<Vec<u8>, FileFault>
-        ensures ok { IfOk result
-            (λ bytes. IfSome (held self.old path.now) (λ file. file ≡ Some bytes.items)) }
-        ensures short { IfOk result (λ bytes. length bytes.items ≤ most_of kind) }
-        ensures unread { IfErr result (λ e. IfSome (held self.old path.now) (IsUnread kind e)) }
+    // What is known of what is still to come of the open file: nothing, or its bytes.
+    ghost left: { Self → Option (List ℕ) } = { λ _. None };
+
+    /// Opens the file at the path, in place of the one that was open. The files stay as they are.
+    fn open(&mut self, path: &str) -> Result<(), FileFault>
+        ensures ok { OnOk result (Opens (held self.old path.now) (left self.new)) }
+        ensures fault { IfErr result (λ e. IfSome (held self.old path.now) (IsUnopened e)) }
         ensures same { held self.new ≡ held self.old };
+
+    /// The next bytes of the open file, some unless it has ended. A file that is known is read without
+    /// a fault but want of memory.
+    fn next_block(&mut self) -> Result<Vec<u8>, FileFault>
+        ensures ok { IfOk result (λ block. Gives block.items (left self.old) (left self.new)) }
+        ensures fault { IfErr result (λ e. (e ≡ FileFault.NoMemory) ⊎ (left self.old ≡ None)) }
+        ensures same { held self.new ≡ held self.old };
+}
+
+/// The bytes of the file at the path, which is of this kind; `TooLong` where there are more than its kind
+/// may have. Of a longer file no more is read than the first block past them. The files stay as they are.
+pub fn read_whole<F: Files>(
+    alloc: Global,
+    path: &str,
+    kind: FileKind,
+    files: &mut F,
+) -> Result<Vec<u8>, FileFault>
+    ensures ok { IfOk result (λ bytes. Holds (F.held files.old) path.now bytes.items) }
+    ensures short { IfOk result (λ bytes. length bytes.items ≤ most_of kind) }
+    ensures unread { IfErr result (λ e. IfSome (F.held files.old path.now) (IsUnread kind e)) }
+    ensures same { F.held files.new ≡ F.held files.old }
+{
+    let most = kind.most();
+    files.open(path)?;
+    let mut bytes = Vec::new(alloc);
+    while bytes.len() as u64 <= most {
+        let block = files.next_block()?;
+        if block.is_empty() {
+            return Ok(bytes);
+        }
+        if bytes.extend_from_slice(block.as_slice()).is_err() {
+            return Err(FileFault::NoMemory);
+        }
+    }
+    Err(FileFault::TooLong(most))
 }
 
 /// A path as it can be repeated in a message: control characters are escaped.

@@ -1,12 +1,14 @@
 //! Files, and the bytes that their hex digits spell.
 //!
-//! Main calls: `Files::read`, `code_in` and `read_code`. It stands on `hex`. Of files a caller may know
-//! what they hold: then what is read is that, and what is refused is at fault. Of a file no more is read
-//! than its kind may have, and one byte. Of the system's own files no contract speaks.
+//! Main calls: `Files`, `read_whole`, `read_code` and `read_certificate`. It stands on `hex`. Files are read
+//! block by block, and no more of them is kept than their kind may have; of code no more than decides what
+//! is said of it. Of files a caller may know what they hold: then what is read is that, and what is refused
+//! is at fault. Of the system's own files no contract speaks.
 #![tactic(auto)]
 
 mod code;
+mod digits;
 mod files;
 
-pub use code::{CodeFault, code_in, read_code};
-pub use files::{FileFault, FileKind, Files, shown};
+pub use code::{CodeFault, DigitFault, read_certificate, read_code};
+pub use files::{FileFault, FileKind, Files, read_whole, shown};

@@ -1,0 +1,4 @@
+pub mod Kept
+pub mod Collected
+pub mod Blocks
+pub mod Spoiled
