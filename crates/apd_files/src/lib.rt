@@ -1,19 +1,35 @@
 //! The files of the system, as `apd` reads them.
 //!
-//! `RealFiles` is what the commands are given by the program. It stands on `apd_inputs`. Of what files
-//! hold no clause says anything: that they are really read is shown by the programs that the gate runs.
+//! `RealFiles` is what the commands are given by the program: it reads in blocks of 64 KiB. It stands on
+//! `apd_inputs`. Of what files hold no clause says anything: that they are really read is shown by the
+//! programs that the gate runs.
 #![tactic(auto)]
 
-use apd_inputs::{FileFault, FileKind, Files};
-use std::io::{self, ErrorKind, Read};
+use apd_inputs::{FileFault, Files};
+use std::alloc::Global;
+use std::io::{Error, ErrorKind, Read};
 use std::{fs, rt};
 
-/// The files of the system, from the working directory. Of what they hold nothing is known.
-#[derive(Drop)]
-pub struct RealFiles<'a, R>(pub &'a R);
+/// How many bytes a block has at most.
+const BLOCK: usize = 1 << 16;
 
-/// Why reading failed.
-fn fault_of(error: &io::Error) -> FileFault {
+/// The files of the system, from the working directory, of which at most one is open. Of what they hold
+/// nothing is known.
+#[derive(Drop)]
+pub struct RealFiles<'a, R: rt::Files + AllocGlobal> {
+    rt: &'a R,
+    open: Option<R::File>,
+}
+
+impl<'a, R: rt::Files + AllocGlobal> RealFiles<'a, R> {
+    /// The files, of which none is open.
+    pub fn new(rt: &'a R) -> Self {
+        RealFiles { rt, open: None }
+    }
+}
+
+/// Why the system didn't read a file.
+fn fault_of(error: &Error) -> FileFault {
     match error.kind() {
         ErrorKind::OutOfMemory => FileFault::NoMemory,
         ErrorKind::NotFound => FileFault::Missing,
@@ -23,25 +39,42 @@ fn fault_of(error: &io::Error) -> FileFault {
     }
 }
 
-/// The first bytes of a file, so many at most.
-fn beginning<R: rt::Files + AllocGlobal>(rt: &R, path: &str, most: u64) -> io::Result<Vec<u8>> {
-    let mut bytes = Vec::new(rt.alloc());
-    let file = fs::open(rt, path)?;
-    file.take(most).read_to_end(&mut bytes)?;
-    Ok(bytes)
+/// The next bytes of a reader, none at its end. A read that was interrupted is tried again.
+fn block_of<F: Read>(alloc: Global, file: &mut F) -> Result<Vec<u8>, FileFault> {
+    let Ok(mut block) = vec![in alloc; 0u8; BLOCK] else {
+        return Err(FileFault::NoMemory);
+    };
+    for _ in 0..u64::MAX {
+        match file.read(block.as_mut_slice()) {
+            Ok(count) => {
+                block.truncate(count);
+                return Ok(block);
+            }
+            Err(error) => {
+                if error.kind() != ErrorKind::Interrupted {
+                    return Err(fault_of(&error));
+                }
+            }
+        }
+    }
+    Err(FileFault::Failed)
 }
 
 impl<R: rt::Files + AllocGlobal> Files for RealFiles<'_, R> {
-    fn read(&mut self, path: &str, kind: FileKind) -> Result<Vec<u8>, FileFault> {
-        let most = kind.most();
-        match beginning(self.0, path, most + 1) {
-            Ok(bytes) => {
-                if bytes.len() as u64 > most {
-                    return Err(FileFault::TooLong(most));
-                }
-                Ok(bytes)
+    fn open(&mut self, path: &str) -> Result<(), FileFault> {
+        match fs::open(self.rt, path) {
+            Ok(file) => {
+                self.open = Some(file);
+                Ok(())
             }
             Err(error) => Err(fault_of(&error)),
+        }
+    }
+
+    fn next_block(&mut self) -> Result<Vec<u8>, FileFault> {
+        match &mut self.open {
+            Some(file) => block_of(self.rt.alloc(), file),
+            None => Err(FileFault::Failed),
         }
     }
 }
