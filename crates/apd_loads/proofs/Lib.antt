@@ -1,1 +1,2 @@
+pub mod KeptCode
 pub mod Putting

@@ -12,6 +12,7 @@ use Rattle.bpf_cert.specs.declared.fault.CertFault.TheVariants as check
 use Rattle.versions.specs.Lists.{Beginning}
 use Rattle.apd_inputs.specs.Held.{Held, HoldsCode}
 use Rattle.apd_inputs.specs.Faults.{IsFaultOf}
+use Rattle.apd_inputs.specs.declared.files.FileKind.TheVariants as kind
 use Rattle.apd_inputs.specs.declared.code.CodeFault.{CodeFault}
 use Rattle.apd_inputs.specs.declared.code.CodeFault.TheVariants as read
 use Rattle.apd_lines.specs.declared.report.Told.{Told}
@@ -42,7 +43,8 @@ pub data AdoptsCode (hook : Hook) (code certificate : List ℕ) (old new : Begin
 pub data AdoptsFiles (files : Held) (hook : Hook) (path shown : List ℕ) (old new : Beginning) : Told → Type 0 where
   Read : (code certificate : List ℕ) (told : Told) → HoldsCode files path code → HoldsCode files shown certificate
       → AdoptsCode hook code certificate old new told → AdoptsFiles files hook path shown old new told
-  CodeNotRead : (fault : CodeFault) → fault ≢ read.NoMemory → IsFaultOf files path fault → new ≡ old → AdoptsFiles files hook path shown old new Unreadable
-  CertificateNotRead : (fault : CodeFault) → fault ≢ read.NoMemory → IsFaultOf files shown fault → new ≡ old
+  CodeNotRead : (fault : CodeFault) → fault ≢ read.NoMemory → IsFaultOf kind.Code files path fault → new ≡ old
+      → AdoptsFiles files hook path shown old new Unreadable
+  CertificateNotRead : (fault : CodeFault) → fault ≢ read.NoMemory → IsFaultOf kind.Certificate files shown fault → new ≡ old
       → AdoptsFiles files hook path shown old new Unreadable
   NoRoomToRead : new ≡ old → AdoptsFiles files hook path shown old new Memory

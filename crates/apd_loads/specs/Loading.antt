@@ -16,6 +16,7 @@ use Rattle.versions.specs.Lists.{Beginning, with_load}
 use Rattle.versions.specs.Sets.{load}
 use Rattle.apd_inputs.specs.Held.{Held, HoldsCode}
 use Rattle.apd_inputs.specs.Faults.{IsFaultOf}
+use Rattle.apd_inputs.specs.declared.files.FileKind.TheVariants as kind
 use Rattle.apd_inputs.specs.declared.code.CodeFault.{CodeFault}
 use Rattle.apd_inputs.specs.declared.code.CodeFault.TheVariants as read
 use Rattle.apd_lines.specs.declared.report.Told.{Told}
@@ -71,6 +72,6 @@ pub data LoadsFile (files : Held) (limit : ℕ) (hook : Hook) (path : List ℕ)
   Read : (code : List ℕ) (told : Told) → HoldsCode files path code →
       LoadsCode limit hook code old new told
       → LoadsFile files limit hook path old new told
-  NotRead : (fault : CodeFault) → fault ≢ read.NoMemory → IsFaultOf files path fault → new ≡ old
+  NotRead : (fault : CodeFault) → fault ≢ read.NoMemory → IsFaultOf kind.Code files path fault → new ≡ old
       → LoadsFile files limit hook path old new Unreadable
   NoRoomToRead : new ≡ old → LoadsFile files limit hook path old new Memory

@@ -4,7 +4,7 @@ ghost use Rattle.std.specs.Prelude.{◌≡◌};
 ghost use Rattle.apd_loads.specs.Adopting.{AdoptsProgram, AdoptsCode, AdoptsFiles};
 
 use crate::loading::Loads;
-use apd_inputs::{CodeFault, Files, read_code};
+use apd_inputs::{CodeFault, Files, read_certificate, read_code};
 use apd_lines::Told;
 use bpf_cert::{CertFault, check};
 use bpf_decode::{DecodeFault, Program, decode};
@@ -25,22 +25,23 @@ impl Loads {
         path: &str,
         certificate: &str,
     ) -> Told
-        ensures adopts { AdoptsFiles (F.held files.old) hook path.now certificate.now self.old self.new result }
+        ensures adopts { AdoptsFiles
+            (F.held files.old) hook path.now certificate.now self.old self.new result }
         ensures same { F.held files.new ≡ F.held files.old }
     {
         let code = match read_code(self.alloc, path, files) {
             Ok(code) => code,
             Err(CodeFault::NoMemory) => return Told::Memory,
-            Err(CodeFault::Unreadable) => return Told::Unreadable,
+            Err(CodeFault::Unreadable(_)) => return Told::Unreadable,
             Err(CodeFault::Digits(_)) => return Told::Unreadable,
         };
-        match read_code(self.alloc, certificate, files) {
+        match read_certificate(self.alloc, certificate, files) {
             Ok(bytes) => {
                 let told = self.adopt_code(rt, hook, code.as_slice(), bytes.as_slice());
                 return told;
             }
             Err(CodeFault::NoMemory) => return Told::Memory,
-            Err(CodeFault::Unreadable) => return Told::Unreadable,
+            Err(CodeFault::Unreadable(_)) => return Told::Unreadable,
             Err(CodeFault::Digits(_)) => return Told::Unreadable,
         }
     }

@@ -68,9 +68,9 @@ impl Loads {
     }
 
     /// Reads a file, whose hex digits spell code, and puts the code's program in force for a hook. The
-    /// verifier examines no more states of it than the limit. The answer is `Unreadable` where the file can't be read or holds no hex digits in pairs; the
-    /// code's fault; the verifier's refusal; `Memory`; or the program's budget. All but the last
-    /// leave what is in force.
+    /// verifier examines no more states of it than the limit. The answer is `Unreadable` where the file
+    /// can't be read or holds no hex digits in pairs; the code's fault; the verifier's refusal; `Memory`;
+    /// or the program's budget. All but the last leave what is in force.
     pub fn load<R: Wait, F: Files>(
         &mut self,
         rt: &R,
@@ -88,7 +88,7 @@ impl Loads {
                 return told;
             }
             Err(CodeFault::NoMemory) => return Told::Memory,
-            Err(CodeFault::Unreadable) => return Told::Unreadable,
+            Err(CodeFault::Unreadable(_)) => return Told::Unreadable,
             Err(CodeFault::Digits(_)) => return Told::Unreadable,
         }
     }
