@@ -1,6 +1,7 @@
 -- What is at fault in files.
 use Rattle.std.proofs.Math.Nat.{lt_of_not-le}
-use Rattle.std.proofs.Common.{◌≡◌, ◌≢◌, ◌⊎◌, ◌∙◌, ◌<◌, ◌≤◌, true, false, length, List, ℕ, Err, Option, inl, inr, refl, subst}
+use Rattle.std.proofs.Common.{◌≡◌, ◌≢◌, ◌⊎◌, ◌∙◌, ◌<◌, ◌≤◌, ◌^◌, true, false, length, List, ℕ, Err, Option, None, Some, inl, inr, refl, subst}
+use Rattle.std.specs.Prelude.{IfSome}
 use Rattle.hex.specs.Hex.{decode_of}
 use Rattle.hex.specs.declared.error.FromHexError.{FromHexError}
 use Rattle.hex.specs.declared.error.FromHexError.TheVariants.{OutOfMemory}
@@ -15,14 +16,31 @@ use Rattle.apd_program.specs.declared.fault.ProgramFault.TheVariants.{NoMemory}
 use Rattle.apd_program.specs.declared.reading.Setup.{Setup}
 use Rattle.apd_inputs.specs.declared.files.FileKind.{FileKind}
 use Rattle.apd_inputs.specs.declared.files.FileKind.TheVariants.{Certificate}
-use Rattle.apd_inputs.specs.Held.{Held, Holds, HoldsCode, code_of}
+use Rattle.apd_inputs.specs.declared.files.FileFault.{FileFault}
+use Rattle.apd_inputs.specs.declared.files.FileFault.TheVariants as unread_fault
+use Rattle.apd_inputs.specs.declared.code.CodeFault.{CodeFault}
+use Rattle.apd_inputs.specs.declared.code.CodeFault.TheVariants as read
+use Rattle.apd_inputs.specs.Faults.{IsFaultOf}
+use Rattle.apd_inputs.specs.Held.{Held, Holds, HoldsCode, HoldsKept, IsNoInput, IsUnread}
 use Rattle.apd_program.specs.Setups.{Configures}
-use Rattle.apd_program.specs.Faults.{HasBadCode, HasBadDigits, NoCode, HasBadConfiguration, NoConfiguration, IsBadConfig, HasBadCapture, NoCapture, IsAtFault, OfConfiguration, OfCode, IsNoFrame, NoDigits, HasNoFrame, OfFiles, OfWord, HasNoCertificate, OfOthers, OfCertificate}
+use Rattle.apd_program.specs.Faults.{HasBadCode, HasBadDigits, NoFile, NoCode, HasBadConfiguration, NoConfiguration, IsBadConfig, HasBadCapture, NoCapture, IsAtFault, OfConfiguration, OfCode, IsNoFrame, NoDigits, HasNoFrame, OfFiles, OfWord, HasNoCertificate, OfOthers, OfCertificate}
 
-pub code_at_fault : (kind : FileKind) (files : Held) (path text slice : List ℕ) (e : FromHexError) (f : ProgramFault) → Holds files path text → slice ≡ text → (e ≡ OutOfMemory) ⊎ (code_of slice ≡ Err e) → (e ≡ OutOfMemory → f ≡ NoMemory)
-    → (f ≡ NoMemory) ⊎ HasBadDigits kind files path
-code_at_fault kind files path text slice e f there same (inl memory) m = inl (m memory)
-code_at_fault kind files path text slice e f there same (inr fault) m = inr (NoCode text e there (rw (← same) fault))
+pub code_at_fault : (kind : FileKind) (files : Held) (path : List ℕ) (e : CodeFault) (f : ProgramFault) → IsFaultOf kind files path e → (e ≡ read.NoMemory → f ≡ NoMemory) → (f ≡ NoMemory) ⊎ HasBadDigits kind files path
+code_at_fault kind files path read.NoMemory f h m = inl (m refl)
+code_at_fault kind files path (read.Unreadable why) f h m = inr (NoFile h)
+code_at_fault kind files path (read.Digits fault) f h m = inr (NoCode h.text h.why h.there h.refused)
+
+unread : (kind : FileKind) (file : Option (List ℕ)) (e : FileFault) (f : ProgramFault) → IsUnread kind e file → (e ≡ unread_fault.NoMemory → f ≡ NoMemory) → (f ≡ NoMemory) ⊎ IsNoInput kind file
+unread kind file unread_fault.NoMemory f h m = inl (m refl)
+unread kind file (unread_fault.TooLong most) f h m = inr (inr h.1)
+unread kind file unread_fault.Missing f h m = inr (inl h)
+unread kind file unread_fault.Directory f h m = inr (inl h)
+unread kind file unread_fault.NotAllowed f h m = inr (inl h)
+unread kind file unread_fault.Failed f h m = inr (inl h)
+
+pub file_at_fault : (kind : FileKind) (file : Option (Option (List ℕ))) (e : FileFault) (f : ProgramFault) → IfSome file (IsUnread kind e) → (e ≡ unread_fault.NoMemory → f ≡ NoMemory) → (f ≡ NoMemory) ⊎ IfSome file (IsNoInput kind)
+file_at_fault kind None e f h m = inr tt
+file_at_fault kind (Some file) e f h m = unread kind file e f h m
 
 known : (e : ConfigFault) → (e ≡ config.NoMemory) ⊎ (e ≢ config.NoMemory)
 known config.NoMemory = inl refl
@@ -80,22 +98,22 @@ pub HasNoFrame-files : (files : Held) (file word : List ℕ) (config : Option (L
 HasNoFrame-files files file word config e (inl memory) = inl memory
 HasNoFrame-files files file word config e (inr fault) = inr (OfFiles fault)
 
-pub HasNoFrame-word : (files later : Held) (file word code : List ℕ) (config : Option (List ℕ)) (setup : Setup) (e : ProgramFault) → later ≡ files → Configures files config setup → HoldsCode later file code → (e ≡ NoMemory) ⊎ IsNoFrame word
-    → (e ≡ NoMemory) ⊎ HasNoFrame files file word config
-HasNoFrame-word files later file word code config setup e same fine held (inl memory) = inl memory
-HasNoFrame-word files later file word code config setup e same fine held (inr bad) =
-    inr (OfWord setup code fine (let P : Held → Type 0 = λ f. HoldsCode f file code in subst P same held) bad)
+pub HasNoFrame-word : (files later : Held) (file word kept : List ℕ) (config : Option (List ℕ)) (setup : Setup) (e : ProgramFault) → later ≡ files → Configures files config setup → HoldsKept (2 ^ 17) later file kept
+    → (e ≡ NoMemory) ⊎ IsNoFrame word → (e ≡ NoMemory) ⊎ HasNoFrame files file word config
+HasNoFrame-word files later file word kept config setup e same fine h (inl memory) = inl memory
+HasNoFrame-word files later file word kept config setup e same fine h (inr bad) =
+    inr (OfWord setup h.code fine (let P : Held → Type 0 = λ f. HoldsCode f file h.code in subst P same h.held) bad)
 
 pub HasNoCertificate-others : (files : Held) (file certificate : List ℕ) (config : Option (List ℕ)) (e : ProgramFault) → (e ≡ NoMemory) ⊎ IsAtFault files file config
     → (e ≡ NoMemory) ⊎ HasNoCertificate files file certificate config
 HasNoCertificate-others files file certificate config e (inl memory) = inl memory
 HasNoCertificate-others files file certificate config e (inr fault) = inr (OfOthers fault)
 
-pub HasNoCertificate-file : (files later last : Held) (file certificate code : List ℕ) (config : Option (List ℕ)) (setup : Setup) (e : ProgramFault) → later ≡ files → last ≡ later → Configures files config setup
-    → HoldsCode later file code → (e ≡ NoMemory) ⊎ HasBadDigits Certificate last certificate → (e ≡ NoMemory) ⊎ HasNoCertificate files file certificate config
-HasNoCertificate-file files later last file certificate code config setup e same still fine held (inl memory) = inl memory
-HasNoCertificate-file files later last file certificate code config setup e same still fine held (inr bad) =
-    inr (OfCertificate setup code fine (let P : Held → Type 0 = λ f. HoldsCode f file code in subst P same held) (let P : Held → Type 0 = λ f. HasBadDigits Certificate f certificate in subst P (still ∙ same) bad))
+pub HasNoCertificate-file : (files later last : Held) (file certificate kept : List ℕ) (config : Option (List ℕ)) (setup : Setup) (e : ProgramFault) → later ≡ files → last ≡ later → Configures files config setup
+    → HoldsKept (2 ^ 17) later file kept → (e ≡ NoMemory) ⊎ HasBadDigits Certificate last certificate → (e ≡ NoMemory) ⊎ HasNoCertificate files file certificate config
+HasNoCertificate-file files later last file certificate kept config setup e same still fine h (inl memory) = inl memory
+HasNoCertificate-file files later last file certificate kept config setup e same still fine h (inr bad) =
+    inr (OfCertificate setup h.code fine (let P : Held → Type 0 = λ f. HoldsCode f file h.code in subst P same h.held) (let P : Held → Type 0 = λ f. HasBadDigits Certificate f certificate in subst P (still ∙ same) bad))
 
 pub frame_at_fault : (word : List ℕ) (e : FromHexError) (f : ProgramFault) → (e ≡ OutOfMemory) ⊎ (decode_of word ≡ Err e) → (e ≡ OutOfMemory → f ≡ NoMemory) → (f ≡ NoMemory) ⊎ IsNoFrame word
 frame_at_fault word e f (inl memory) m = inl (m memory)

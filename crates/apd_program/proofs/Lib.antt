@@ -1,5 +1,6 @@
 pub mod Faulty
 pub mod Kept
+pub mod KeptCode
 pub mod Slots
 pub mod Said
 pub mod Performing

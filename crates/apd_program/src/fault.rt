@@ -4,7 +4,7 @@ ghost use Rattle.std.specs.Prelude.{◌≡◌};
 ghost use Rattle.apd_program.specs.declared.fault.ProgramFault.TheVariants.{NoMemory};
 
 use apd_config::ConfigFault;
-use apd_inputs::{FileFault, shown};
+use apd_inputs::{CodeFault, DigitFault, FileFault, shown};
 use capture::CaptureFault;
 use hex::FromHexError;
 use std::alloc::{AllocError, Global};
@@ -85,35 +85,43 @@ pub(crate) fn of_digits(alloc: Global, name: &str, fault: FromHexError) -> Progr
     }
 }
 
-/// The fault of a file that spells no code: the first character that is no hex digit, if there is
-/// one, or else that a digit is missing.
-pub(crate) fn of_code(alloc: Global, path: &str, text: &[u8], fault: FromHexError) -> ProgramFault
-    ensures memory { fault ≡ FromHexError.OutOfMemory → result ≡ ProgramFault.NoMemory }
+/// The fault of a file that isn't read.
+pub(crate) fn of_file(alloc: Global, path: &str, why: FileFault) -> ProgramFault
+    ensures memory { why ≡ FileFault.NoMemory → result ≡ ProgramFault.NoMemory }
 {
-    if fault == FromHexError::OutOfMemory {
+    let Ok(path) = shown(alloc, path) else {
         return ProgramFault::NoMemory;
-    }
-    match foreign(alloc, text) {
-        Ok(None) => of_digits(alloc, path, fault),
-        Ok(Some((line, found))) => match shown(alloc, path) {
-            Ok(path) => ProgramFault::NoCode { path, line, found },
-            Err(AllocError) => ProgramFault::NoMemory,
-        },
-        Err(AllocError) => ProgramFault::NoMemory,
+    };
+    match why {
+        FileFault::NoMemory => ProgramFault::NoMemory,
+        why => ProgramFault::Unreadable { path, why },
     }
 }
 
-/// The first character that is neither a hex digit nor white space, with its line.
-fn foreign(alloc: Global, text: &[u8]) -> Result<Option<(u64, String)>, AllocError> {
-    let mut line = 1u64;
-    for byte in text {
-        if *byte == b'\n' {
-            line = line.saturating_add(1);
-        } else if !byte.is_ascii_whitespace() && !byte.is_ascii_hexdigit() {
-            return Ok(Some((line, shown_byte(alloc, *byte)?)));
-        }
+/// The fault of a file from which no code was read.
+pub(crate) fn of_no_code(alloc: Global, path: &str, fault: CodeFault) -> ProgramFault
+    ensures memory { fault ≡ CodeFault.NoMemory → result ≡ ProgramFault.NoMemory }
+{
+    match fault {
+        CodeFault::NoMemory => ProgramFault::NoMemory,
+        CodeFault::Unreadable(why) => of_file(alloc, path, why),
+        CodeFault::Digits(fault) => of_code(alloc, path, fault),
     }
-    Ok(None)
+}
+
+/// The fault of a file that spells no code: its first character that is no hex digit, with its line, or
+/// that a digit is missing.
+fn of_code(alloc: Global, path: &str, fault: DigitFault) -> ProgramFault {
+    let Ok(path) = shown(alloc, path) else {
+        return ProgramFault::NoMemory;
+    };
+    match fault {
+        DigitFault::Odd => ProgramFault::OddDigits(path),
+        DigitFault::Foreign { line, byte } => match shown_byte(alloc, byte) {
+            Ok(found) => ProgramFault::NoCode { path, line, found },
+            Err(AllocError) => ProgramFault::NoMemory,
+        },
+    }
 }
 
 /// A byte as it can be read in a message.

@@ -17,7 +17,7 @@ use crate::answer::Answer;
 use crate::explaining::Reason;
 use crate::fault::ProgramFault;
 use crate::printing::{complain, print, print_text, say, say_if_any};
-use crate::reading::{code, frame, read, setup_of};
+use crate::reading::{certificate, code, frame, read, setup_of};
 use crate::verifying::Terms;
 use crate::{certifying, explaining, framing, helping, texts, verifying};
 use apd_inputs::{FileKind, Files};
@@ -141,7 +141,7 @@ fn verify<F: Files>(
     ensures fault { IfErr result (λ e. (e ≡ ProgramFault.NoMemory) ⊎ IsAtFault (F.held files.old) file.now (option_map (λ path. path.now) config.entry)) }
 {
     let setup = setup_of(alloc, config, files)?;
-    let code = code(alloc, file, FileKind::Code, files)?;
+    let code = code(alloc, file, files)?;
     let answer = verifying::verify(alloc, code.as_slice(), setup.shapes, terms, reason);
     reason.points_at(alloc, code.as_slice(), &answer);
     answer
@@ -168,7 +168,7 @@ fn disassemble<F: Files>(
     ensures fault { IfErr result (λ e. (e ≡ ProgramFault.NoMemory) ⊎ IsAtFault (F.held files.old) file.now (option_map (λ path. path.now) config.entry)) }
 {
     let setup = setup_of(alloc, config, files)?;
-    let code = code(alloc, file, FileKind::Code, files)?;
+    let code = code(alloc, file, files)?;
     texts::disassemble(alloc, code.as_slice(), setup.shapes, slots)
 }
 
@@ -186,7 +186,7 @@ fn trace<F: Files>(
     ensures fault { IfErr result (λ e. (e ≡ ProgramFault.NoMemory) ⊎ HasNoFrame (F.held files.old) file.now word.now (option_map (λ path. path.now) config.entry)) }
 {
     let setup = setup_of(alloc, config, files)?;
-    let code = code(alloc, file, FileKind::Code, files)?;
+    let code = code(alloc, file, files)?;
     let bytes = frame(alloc, word)?;
     let Some(frame) = Frame::new(bytes.as_slice()) else {
         return Err(ProgramFault::LongFrame);
@@ -209,7 +209,7 @@ fn certify<F: Files>(
     ensures fault { IfErr result (λ e. (e ≡ ProgramFault.NoMemory) ⊎ IsAtFault (F.held files.old) file.now (option_map (λ path. path.now) config.entry)) }
 {
     let setup = setup_of(alloc, config, files)?;
-    let code = code(alloc, file, FileKind::Code, files)?;
+    let code = code(alloc, file, files)?;
     let answer = certifying::certify(alloc, code.as_slice(), setup.shapes, terms);
     reason.points_at(alloc, code.as_slice(), &answer);
     answer
@@ -220,21 +220,15 @@ fn check<F: Files>(
     alloc: Global,
     hook: Hook,
     file: &str,
-    certificate: &str,
+    shown: &str,
     config: Option<&str>,
     files: &mut F,
 ) -> Result<Answer, ProgramFault>
-    ensures checked { IfOk result (λ a. IsCheckedFile (F.held files.old) hook file.now certificate.now (option_map (λ path. path.now) config.entry) a) }
-    ensures fault { IfErr result (λ e. (e ≡ ProgramFault.NoMemory) ⊎ HasNoCertificate (F.held files.old) file.now certificate.now (option_map (λ path. path.now) config.entry)) }
+    ensures checked { IfOk result (λ a. IsCheckedFile (F.held files.old) hook file.now shown.now (option_map (λ path. path.now) config.entry) a) }
+    ensures fault { IfErr result (λ e. (e ≡ ProgramFault.NoMemory) ⊎ HasNoCertificate (F.held files.old) file.now shown.now (option_map (λ path. path.now) config.entry)) }
 {
     let setup = setup_of(alloc, config, files)?;
-    let bytes = code(alloc, file, FileKind::Code, files)?;
-    let shown = code(alloc, certificate, FileKind::Certificate, files)?;
-    certifying::check(
-        alloc,
-        bytes.as_slice(),
-        setup.shapes,
-        hook,
-        shown.as_slice(),
-    )
+    let code = code(alloc, file, files)?;
+    let bytes = certificate(alloc, shown, files)?;
+    certifying::check(alloc, code.as_slice(), setup.shapes, hook, bytes.as_slice())
 }

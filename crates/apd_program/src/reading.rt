@@ -1,14 +1,14 @@
 //! Configurations and code from files, and frames from words.
 
-ghost use Rattle.std.specs.Prelude.{◌≡◌, ◌⊎◌, Ok, [], IfOk, IfErr, option_map};
+ghost use Rattle.std.specs.Prelude.{◌≡◌, ◌⊎◌, ◌^◌, Ok, [], IfOk, IfErr, option_map};
 ghost use Rattle.hex.specs.Hex.{decode_of};
-ghost use Rattle.apd_inputs.specs.Held.{Holds, Lacks, HoldsCode};
+ghost use Rattle.apd_inputs.specs.Held.{Holds, Lacks, HoldsCode, HoldsKept};
 ghost use Rattle.apd_program.specs.Setups.{HoldsSetup, Configures};
-ghost use Rattle.apd_program.specs.Faults.{HasBadDigits, HasBadConfiguration, IsBadConfig, IsNoFrame};
+ghost use Rattle.apd_program.specs.Faults.{HasBadCode, HasBadDigits, HasBadConfiguration, IsBadConfig, IsNoFrame};
 
-use crate::fault::{ProgramFault, of_code, of_configuration, of_digits};
+use crate::fault::{ProgramFault, of_configuration, of_digits, of_file, of_no_code};
 use apd_config::read_configuration;
-use apd_inputs::{FileFault, FileKind, Files, code_in, shown};
+use apd_inputs::{FileKind, Files, read_certificate, read_code, read_whole};
 use bpf_regions::Shapes;
 use std::alloc::Global;
 
@@ -32,13 +32,9 @@ pub(crate) fn read<F: Files>(
     ensures fault { IfErr result (λ e. (e ≡ ProgramFault.NoMemory) ⊎ Lacks kind (F.held files.old) path.now) }
     ensures same { F.held files.new ≡ F.held files.old }
 {
-    match files.read(path, kind) {
+    match read_whole(alloc, path, kind, files) {
         Ok(bytes) => Ok(bytes),
-        Err(FileFault::NoMemory) => Err(ProgramFault::NoMemory),
-        Err(why) => {
-            let path = shown(alloc, path)?;
-            Err(ProgramFault::Unreadable { path, why })
-        }
+        Err(why) => Err(of_file(alloc, path, why)),
     }
 }
 
@@ -87,22 +83,38 @@ pub(crate) fn setup_of<F: Files>(
     }
 }
 
-/// The code or the certificate that a file spells.
+/// What is kept of the code that a file spells: all that decides what is said of it.
 pub(crate) fn code<F: Files>(
     alloc: Global,
     path: &str,
-    kind: FileKind,
     files: &mut F,
 ) -> Result<Vec<u8>, ProgramFault>
-    ensures code { IfOk result (λ code. HoldsCode (F.held files.old) path.now code.items) }
+    ensures code { IfOk result
+        (λ code. HoldsKept (2 ^ 17) (F.held files.old) path.now code.items) }
     ensures fault { IfErr result
-        (λ e. (e ≡ ProgramFault.NoMemory) ⊎ HasBadDigits kind (F.held files.old) path.now) }
+        (λ e. (e ≡ ProgramFault.NoMemory) ⊎ HasBadCode (F.held files.old) path.now) }
     ensures same { F.held files.new ≡ F.held files.old }
 {
-    let text = read(alloc, path, kind, files)?;
-    match code_in(alloc, text.as_slice()) {
+    match read_code(alloc, path, files) {
         Ok(code) => Ok(code),
-        Err(fault) => Err(of_code(alloc, path, text.as_slice(), fault)),
+        Err(fault) => Err(of_no_code(alloc, path, fault)),
+    }
+}
+
+/// The certificate that a file spells.
+pub(crate) fn certificate<F: Files>(
+    alloc: Global,
+    path: &str,
+    files: &mut F,
+) -> Result<Vec<u8>, ProgramFault>
+    ensures code { IfOk result (λ bytes. HoldsCode (F.held files.old) path.now bytes.items) }
+    ensures fault { IfErr result (λ e. (e ≡ ProgramFault.NoMemory)
+        ⊎ HasBadDigits FileKind.Certificate (F.held files.old) path.now) }
+    ensures same { F.held files.new ≡ F.held files.old }
+{
+    match read_certificate(alloc, path, files) {
+        Ok(bytes) => Ok(bytes),
+        Err(fault) => Err(of_no_code(alloc, path, fault)),
     }
 }
 
