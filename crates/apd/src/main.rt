@@ -38,7 +38,7 @@ where
     for word in &given {
         words.push(word.as_str()).map_err(AllocError::from)?;
     }
-    let mut files = RealFiles(rt);
+    let mut files = RealFiles::new(rt);
     let (_, status) = apd_entry::perform(rt, alloc, words.as_slice(), &mut files, out, messages);
     Ok(status)
 }

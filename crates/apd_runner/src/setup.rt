@@ -6,7 +6,7 @@ use crate::fault::{RunFault, of_configuration, unreadable};
 use ap_model::{LinkConfig, Octets};
 use apd_access::Settings;
 use apd_config::{Configuration, read_configuration};
-use apd_inputs::{FileKind, Files};
+use apd_inputs::{FileKind, Files, read_whole};
 use bpf_regions::Shapes;
 use mac_types::Address;
 use std::alloc::{AllocError, Global};
@@ -18,7 +18,7 @@ pub(crate) fn read<F: Files>(
     kind: FileKind,
     files: &mut F,
 ) -> Result<Vec<u8>, RunFault> {
-    match files.read(path, kind) {
+    match read_whole(alloc, path, kind, files) {
         Ok(bytes) => Ok(bytes),
         Err(why) => Err(unreadable(alloc, path, why)),
     }

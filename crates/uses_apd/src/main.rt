@@ -64,7 +64,7 @@ where
     E: Write,
 {
     let words = words_of(alloc, line)?;
-    let mut files = RealFiles(rt);
+    let mut files = RealFiles::new(rt);
     let (_, status) = apd_entry::perform(rt, alloc, words.as_slice(), &mut files, out, messages);
     Ok(status)
 }

@@ -1,27 +1,43 @@
 //! What `apd` answers for files in memory.
 
 use crate::writing::Narrow;
-use apd_inputs::{FileFault, FileKind, Files};
+use apd_inputs::{FileFault, Files};
 use apd_program::apd_main;
 use std::alloc::Global;
 use std::test::Fail;
 
-/// Files in memory.
+/// Files in memory, by their names, and what is left of the open one, which is read in blocks of 7 bytes.
 #[derive(Drop)]
-struct Folder<'a>(&'a [(&'a str, &'a [u8])], Global);
+struct Folder<'a> {
+    files: &'a [(&'a str, &'a [u8])],
+    left: &'a [u8],
+    alloc: Global,
+}
+
+/// Files in memory, of which none is open.
+fn folder<'a>(files: &'a [(&'a str, &'a [u8])], alloc: Global) -> Folder<'a> {
+    Folder {
+        files,
+        left: b"",
+        alloc,
+    }
+}
 
 impl Files for Folder<'_> {
-    fn read(&mut self, path: &str, kind: FileKind) -> Result<Vec<u8>, FileFault> {
-        let most = kind.most();
-        for (name, bytes) in self.0 {
+    fn open(&mut self, path: &str) -> Result<(), FileFault> {
+        for (name, bytes) in self.files {
             if *name == path {
-                if bytes.len() as u64 > most {
-                    return Err(FileFault::TooLong(most));
-                }
-                return Vec::from_slice(self.1, bytes).map_err(|_| FileFault::NoMemory);
+                self.left = bytes;
+                return Ok(());
             }
         }
         Err(FileFault::Missing)
+    }
+
+    fn next_block(&mut self) -> Result<Vec<u8>, FileFault> {
+        let (block, left) = self.left.split_at(self.left.len().min(7));
+        self.left = left;
+        Vec::from_slice(self.alloc, block).map_err(|_| FileFault::NoMemory)
     }
 }
 
@@ -30,7 +46,11 @@ impl Files for Folder<'_> {
 struct NoRoom;
 
 impl Files for NoRoom {
-    fn read(&mut self, _path: &str, _kind: FileKind) -> Result<Vec<u8>, FileFault> {
+    fn open(&mut self, _path: &str) -> Result<(), FileFault> {
+        Ok(())
+    }
+
+    fn next_block(&mut self) -> Result<Vec<u8>, FileFault> {
         Err(FileFault::NoMemory)
     }
 }
@@ -52,7 +72,7 @@ fn refuses_code_of_16385_slots(rt: HostRuntime) -> Result<(), Fail> {
     let status = apd_main(
         alloc,
         &words,
-        &mut Folder(&files, alloc),
+        &mut folder(&files, alloc),
         &mut out,
         &mut err,
     );
@@ -94,7 +114,7 @@ fn leaves_a_beginning_where_a_write_fails(rt: HostRuntime) {
         };
         let mut err = Vec::new(alloc);
         let words = ["apd", "verify", "data", "one.hex"];
-        let files = &mut Folder(ONE.as_slice(), alloc);
+        let files = &mut folder(ONE.as_slice(), alloc);
         let status = apd_main(alloc, &words, files, &mut out, &mut err);
         assert!(rt;
             status == if room < line.len() { 2 } else { 0 },
@@ -119,7 +139,7 @@ fn traces(alloc: Global, size: usize) -> Result<(u8, Vec<u8>), Fail> {
     let mut out = Vec::new(alloc);
     let mut err = Vec::new(alloc);
     let words = ["apd", "trace", "data", "one.hex", digits.as_str()];
-    let files = &mut Folder(ONE.as_slice(), alloc);
+    let files = &mut folder(ONE.as_slice(), alloc);
     let status = apd_main(alloc, &words, files, &mut out, &mut err);
     Ok((status, err))
 }

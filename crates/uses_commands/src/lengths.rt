@@ -1,6 +1,4 @@
-//! Files at and past the longest that is read, and faults in long files of hex digits.
-
-ghost use Rattle.std.specs.Prelude.{◌≤◌, length, IfOk};
+//! Files at and past the longest that is read, files without an end, and faults in long files of hex digits.
 
 use apd_inputs::{FileFault, FileKind, Files};
 use apd_program::apd_main;
@@ -17,34 +15,66 @@ const TEXT: &str = "mov r0, 1\nexit\n";
 /// A configuration without maps.
 const CONFIG: &str = "bssid = \"020000000001\"\nssid = \"lab\"\nrates = \"82848b96\"\ndraw = 0\n";
 
-/// The file `long`, which ends in white space, and a program and a directory.
+/// How many bytes a block has at most.
+const BLOCK: usize = 1 << 16;
+
+/// The file `long`, which ends in white space, a program and a directory, and how far the open one was read.
 #[derive(Drop)]
 struct Padded {
     alloc: Global,
     long: Vec<u8>,
+    is_long: bool,
+    place: usize,
 }
 
-/// A copy of bytes, if there are no more than so many.
-fn copied(alloc: Global, bytes: &[u8], most: u64) -> Result<Vec<u8>, FileFault>
-    ensures short { IfOk result (λ copy. length copy.items ≤ most) }
-{
-    if bytes.len() as u64 > most {
-        return Err(FileFault::TooLong(most));
-    }
-    match Vec::from_slice(alloc, bytes) {
-        Ok(copy) => Ok(copy),
-        Err(_) => Err(FileFault::NoMemory),
+impl Padded {
+    /// What is still to come of the open file.
+    fn rest(&self) -> &[u8] {
+        let bytes = if self.is_long {
+            self.long.as_slice()
+        } else {
+            ONE.as_bytes()
+        };
+        bytes.get(self.place..).unwrap_or(b"")
     }
 }
 
 impl Files for Padded {
-    fn read(&mut self, path: &str, kind: FileKind) -> Result<Vec<u8>, FileFault> {
-        let most = kind.most();
+    fn open(&mut self, path: &str) -> Result<(), FileFault> {
         match path {
-            "long" => return copied(self.alloc, self.long.as_slice(), most),
-            "one" => return copied(self.alloc, ONE.as_bytes(), most),
+            "long" => self.is_long = true,
+            "one" => self.is_long = false,
             _ => return Err(FileFault::Directory),
         }
+        self.place = 0;
+        Ok(())
+    }
+
+    fn next_block(&mut self) -> Result<Vec<u8>, FileFault> {
+        let rest = self.rest();
+        let (block, _) = rest.split_at(rest.len().min(BLOCK));
+        let block = Vec::from_slice(self.alloc, block).map_err(|_| FileFault::NoMemory)?;
+        self.place = self.place.saturating_add(block.len());
+        Ok(block)
+    }
+}
+
+/// A file of one byte without an end, and how many blocks of it were read.
+#[derive(Drop)]
+struct Endless {
+    alloc: Global,
+    byte: u8,
+    blocks: u32,
+}
+
+impl Files for Endless {
+    fn open(&mut self, _path: &str) -> Result<(), FileFault> {
+        Ok(())
+    }
+
+    fn next_block(&mut self) -> Result<Vec<u8>, FileFault> {
+        self.blocks = self.blocks.saturating_add(1);
+        vec![in self.alloc; self.byte; BLOCK].map_err(|_| FileFault::NoMemory)
     }
 }
 
@@ -52,7 +82,12 @@ impl Files for Padded {
 fn with_spaces(alloc: Global, text: &str, size: usize) -> Result<Padded, AllocError> {
     let mut long = Vec::from_slice(alloc, text.as_bytes())?;
     long.resize(size, b' ')?;
-    Ok(Padded { alloc, long })
+    Ok(Padded {
+        alloc,
+        long,
+        is_long: false,
+        place: 0,
+    })
 }
 
 /// What a command answers: its status, and what it writes to standard output and to standard error.
@@ -91,9 +126,45 @@ fn reads_at_most(
 }
 
 #[test]
-fn reads_code_of_16_mebibytes(rt: HostRuntime) -> Result<(), Fail> {
+fn reads_code_of_any_length(rt: HostRuntime) -> Result<(), Fail> {
     let words = ["apd", "verify", "data", "long"];
-    reads_at_most(&rt, rt.alloc(), &words, ONE, FileKind::Code)
+    let told = answer_to(rt.alloc(), &words, ONE, (1 << 24) + 1)?;
+    assert!(rt; told.status == 0 && told.out.as_slice() == b"accepted budget 2\n".as_slice());
+    Ok(())
+}
+
+/// What a command answers of a file of this byte without an end, and how many blocks of it are read.
+fn answer_without_end(alloc: Global, words: &[&str], byte: u8) -> (Told, u32) {
+    let mut files = Endless {
+        alloc,
+        byte,
+        blocks: 0,
+    };
+    let mut out = Vec::new(alloc);
+    let mut err = Vec::new(alloc);
+    let status = apd_main(alloc, words, &mut files, &mut out, &mut err);
+    (Told { status, out, err }, files.blocks)
+}
+
+#[test]
+fn ends_at_the_first_byte_that_is_no_digit(rt: HostRuntime) {
+    let words = ["apd", "verify", "data", "zero"];
+    let (told, blocks) = answer_without_end(rt.alloc(), &words, 0);
+    assert!(rt; told.status == 2 && told.out.is_empty() && blocks == 1);
+    assert!(rt;
+        told.err
+            .starts_with(b"apd: zero: line 1: `\\x00` is no hex digit".as_slice())
+    );
+}
+
+#[test]
+fn ends_past_the_longest_text(rt: HostRuntime) {
+    let (told, blocks) = answer_without_end(rt.alloc(), &["apd", "asm", "text"], b' ');
+    assert!(rt; told.status == 2 && told.out.is_empty() && blocks == 257);
+    assert!(rt;
+        told.err.as_slice()
+            == b"apd: cannot read text: it has more than 16777216 bytes\n".as_slice()
+    );
 }
 
 #[test]
@@ -127,7 +198,7 @@ fn slots(alloc: Global, count: u32) -> Result<String, AllocError> {
 
 /// What `verify` answers for more code than there may be, and a text behind it.
 fn verifies_long(alloc: Global, rest: &str) -> Result<Told, AllocError> {
-    let mut text = slots(alloc, 16385)?;
+    let mut text = slots(alloc, 20000)?;
     text.push_str(rest)?;
     answer_to(
         alloc,
@@ -152,7 +223,7 @@ fn reads_all_digits_of_too_long_code(rt: HostRuntime) -> Result<(), Fail> {
     assert!(rt;
         foreign
             .err
-            .starts_with(b"apd: long: line 16386: `g` is no hex digit".as_slice())
+            .starts_with(b"apd: long: line 20001: `g` is no hex digit".as_slice())
     );
     Ok(())
 }

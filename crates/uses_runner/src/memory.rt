@@ -1,6 +1,6 @@
 //! Files in memory, and runs over them.
 
-use apd_inputs::{FileFault, FileKind, Files};
+use apd_inputs::{FileFault, Files};
 use apd_progress::Watcher;
 use apd_runner::{OpenGate, RunWords, StateLimit, Supplies, run};
 use std::alloc::Global;
@@ -14,11 +14,12 @@ pub struct File<'a> {
     pub text: &'a str,
 }
 
-/// Files of which no contract knows what they hold.
+/// Files of which no contract knows what they hold, and what is left of the open one.
 #[derive(Drop)]
 pub struct Memory<'a> {
     pub alloc: Global,
     pub files: &'a [File<'a>],
+    pub left: &'a [u8],
 }
 
 /// The text of a file, if it is there.
@@ -32,15 +33,22 @@ fn text_of<'a>(files: &'a [File<'a>], path: &str) -> Option<&'a str> {
 }
 
 impl Files for Memory<'_> {
-    fn read(&mut self, path: &str, kind: FileKind) -> Result<Vec<u8>, FileFault> {
-        let most = kind.most();
+    fn open(&mut self, path: &str) -> Result<(), FileFault> {
         match text_of(self.files, path) {
-            Some(text) if text.len() as u64 > most => return Err(FileFault::TooLong(most)),
-            Some(text) => match Vec::from_slice(self.alloc, text.as_bytes()) {
-                Ok(bytes) => return Ok(bytes),
-                Err(_) => return Err(FileFault::NoMemory),
-            },
+            Some(text) => {
+                self.left = text.as_bytes();
+                return Ok(());
+            }
             None => return Err(FileFault::Missing),
+        }
+    }
+
+    fn next_block(&mut self) -> Result<Vec<u8>, FileFault> {
+        let block = self.left;
+        self.left = b"";
+        match Vec::from_slice(self.alloc, block) {
+            Ok(bytes) => return Ok(bytes),
+            Err(_) => return Err(FileFault::NoMemory),
         }
     }
 }
@@ -67,7 +75,11 @@ pub fn watched<R: Threads + Wait + Sync, G: Watcher + Copy + Send>(
         script: "script",
         workers,
     };
-    let mut memory = Memory { alloc, files };
+    let mut memory = Memory {
+        alloc,
+        files,
+        left: b"",
+    };
     let supplies = Supplies {
         files: &mut memory,
         limit: StateLimit::MOST,
