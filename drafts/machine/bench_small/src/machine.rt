@@ -1,0 +1,292 @@
+//! How long `run` takes for the workloads of `bench/peers`, with `probe` and `Bare::enter` beside: the best of several
+//! rounds, in nanoseconds.
+
+use crate::asked::Size;
+use anyhow::Result;
+use bpf_decode::{Program, decode};
+use bpf_machine::probing::probe;
+use bpf_machine::{Accepted, Bare, ListPort, Probe, run};
+use bpf_regions::{Context, Frame, Hook, Shapes};
+use bpf_verifier::verify;
+use std::alloc::{AllocError, Global};
+use std::io;
+use std::rt::Runtime;
+use std::time::Instant;
+
+const EXIT: u64 = 0x9500000000000000;
+
+/// `mov r0, 1; exit`.
+const SHORTEST: [u64; 2] = [0xb700000001000000, EXIT];
+
+/// `mov r0, 1; mov r1, 7; mov r2, -3`, with which straight workloads begin.
+const BEGINNING: [u64; 3] = [0xb700000001000000, 0xb701000007000000, 0xb7020000fdffffff];
+
+/// What straight workloads do over and over: `add r0, r1; mul r0, 1103515245; xor r0, r2; lsh r1, 1; sub r2, r0;
+/// and r1, 0x7fffffff; rsh r2, 3; or r1, r0`.
+const STRAIGHT: [u64; 8] = [
+    0x0f10000000000000,
+    0x270000006d4ec641,
+    0xaf20000000000000,
+    0x6701000001000000,
+    0x1f02000000000000,
+    0x57010000ffffff7f,
+    0x7702000003000000,
+    0x4f01000000000000,
+];
+
+/// What sets the counter of a loop: `mov r1, TURNS`.
+fn counter(turns: u32) -> u64 {
+    0xb701000000000000 | u64::from(turns.swap_bytes())
+}
+
+/// So many turns of `add r0, 1; sub r1, 1; jne r1, 0, -3`.
+fn loop_of(turns: u32) -> [u64; 6] {
+    [
+        0xb700000000000000,
+        counter(turns),
+        0x0700000001000000,
+        0x1701000001000000,
+        0x5501fdff00000000,
+        EXIT,
+    ]
+}
+
+/// So many turns of `add r0, r1; mul r0, 1103515245; xor r0, r2; add r2, r1; sub r2, r0; rsh r2, 3; sub r1, 1;
+/// jne r1, 0, -8`.
+fn loop_of_eight(turns: u32) -> [u64; 12] {
+    [
+        0xb700000000000000,
+        counter(turns),
+        0xb702000005000000,
+        0x0f10000000000000,
+        0x270000006d4ec641,
+        0xaf20000000000000,
+        0x0f12000000000000,
+        0x1f02000000000000,
+        0x7702000003000000,
+        0x1701000001000000,
+        0x5501f8ff00000000,
+        EXIT,
+    ]
+}
+
+/// R0 is 0 for LLC/SNAP, IPv4 and UDP to port 53, with a test of the frame's end first, and else 1.
+const FILTER: [u64; 28] = [
+    0xbf14000000000000,
+    0x0704000038000000,
+    0x2d24170000000000,
+    0x7112180000000000,
+    0x55021500aa000000,
+    0x7112190000000000,
+    0x55021300aa000000,
+    0x69121e0000000000,
+    0xdc02000010000000,
+    0x5502100000080000,
+    0x7113200000000000,
+    0xbf34000000000000,
+    0x7704000004000000,
+    0x55040c0004000000,
+    0x570300000f000000,
+    0x55030a0005000000,
+    0x7112290000000000,
+    0x5502080011000000,
+    0x6912260000000000,
+    0x57020000ff1f0000,
+    0x5502050000000000,
+    0x6912360000000000,
+    0xdc02000010000000,
+    0x5502020035000000,
+    0xb700000000000000,
+    EXIT,
+    0xb700000001000000,
+    EXIT,
+];
+
+/// What is measured: a whole run, a run on the tagged machine, or the beginning of a run with its first step.
+#[derive(Clone, Copy)]
+enum Work {
+    Run,
+    Probe,
+    Enter,
+}
+
+/// A straight workload of so many instructions.
+fn straight(alloc: Global, count: usize) -> Result<Vec<u64>, AllocError> {
+    let mut slots = Vec::new(alloc);
+    slots.extend_from_slice(&BEGINNING)?;
+    for at in 4..count {
+        slots.push(STRAIGHT[(at - 4) % 8])?;
+    }
+    slots.push(EXIT)?;
+    Ok(slots)
+}
+
+/// The program of these slots, each with its first byte as the highest, for no maps.
+fn program_of(alloc: Global, slots: &[u64]) -> io::Result<Option<Program>> {
+    let mut bytes = Vec::new(alloc);
+    for slot in slots {
+        bytes.extend_from_slice(&slot.to_be_bytes())?;
+    }
+    let Some(shapes) = Shapes::new(Vec::new(alloc)) else {
+        return Ok(None);
+    };
+    Ok(decode(alloc, &bytes, shapes).ok())
+}
+
+/// The admitted program of these slots.
+fn admitted(alloc: Global, slots: &[u64]) -> io::Result<Option<Accepted>> {
+    match program_of(alloc, slots)? {
+        Some(program) => Ok(verify(alloc, program, Hook::Data).ok()),
+        None => Ok(None),
+    }
+}
+
+/// A frame that passes the filter.
+fn datagram() -> [u8; 64] {
+    let mut bytes = [0; 64];
+    bytes[24] = 0xaa;
+    bytes[25] = 0xaa;
+    bytes[26] = 3;
+    bytes[30] = 8;
+    bytes[32] = 0x45;
+    bytes[41] = 17;
+    bytes[55] = 53;
+    bytes
+}
+
+/// R0 and the steps of a whole run.
+#[inline(never)]
+fn ran(accepted: &Accepted, frame: &Frame<'_>, context: &Context) -> (u64, u32) {
+    let mut port = ListPort::new(accepted.program().shapes(), &[]);
+    let outcome = run(accepted, frame, context, &mut port);
+    (outcome.r0, outcome.steps)
+}
+
+/// R0 and the steps of a run on the tagged machine.
+#[inline(never)]
+fn probed(accepted: &Accepted, frame: &Frame<'_>, context: &Context) -> (u64, u32) {
+    let mut port = ListPort::new(accepted.program().shapes(), &[]);
+    let limit = accepted.budget();
+    match probe(accepted.program(), frame, context, &mut port, limit) {
+        Probe::Ended(outcome) => (outcome.r0, outcome.steps),
+        _ => (0, 0),
+    }
+}
+
+/// R0 after the first step of a run that is entered.
+#[inline(never)]
+fn entered(accepted: &Accepted, frame: &Frame<'_>, context: &Context) -> (u64, u32) {
+    let mut port = ListPort::new(accepted.program().shapes(), &[]);
+    let mut bare = Bare::enter(accepted, frame, context);
+    let _goes_on = bare.step(&mut port);
+    (bare.register(0).number, 1)
+}
+
+/// Does a work once, and answers R0 and how many instructions were performed.
+fn once(work: Work, accepted: &Accepted, frame: &Frame<'_>, context: &Context) -> (u64, u32) {
+    match work {
+        Work::Run => ran(accepted, frame, context),
+        Work::Probe => probed(accepted, frame, context),
+        Work::Enter => entered(accepted, frame, context),
+    }
+}
+
+/// How many nanoseconds it takes to do a work so many times, and the sum of R0.
+fn spent<R: Runtime>(
+    rt: &R,
+    work: Work,
+    accepted: &Accepted,
+    frame: &Frame<'_>,
+    times: u32,
+) -> io::Result<(u128, u64)> {
+    let context = Context::new([0; 32]);
+    let mut sum: u64 = 0;
+    let before = Instant::now(rt)?;
+    for _time in 0..times {
+        let (r0, _steps) = once(work, accepted, frame, &context);
+        sum = sum.wrapping_add(r0);
+    }
+    Ok((before.elapsed(rt)?.as_nanos(), sum))
+}
+
+/// Prints the best of many short rounds, so that other work on the machine meets few of them.
+fn print_best<R: Runtime>(
+    rt: &R,
+    name: &str,
+    work: Work,
+    accepted: &Accepted,
+    size: Size,
+) -> io::Result<()> {
+    let bytes = datagram();
+    let Some(frame) = Frame::new(&bytes) else {
+        return Ok(());
+    };
+    let (_r0, steps) = once(work, accepted, &frame, &Context::new([0; 32]));
+    let times = (size.choose(200_000, 20_000) / steps.max(20)).max(1);
+    let (mut best, mut sum) = (u128::MAX, 0);
+    for _round in 0..size.choose(500, 2) {
+        let (nanoseconds, all) = spent(rt, work, accepted, &frame, times)?;
+        best = best.min(nanoseconds);
+        sum = all;
+    }
+    let each = best.wrapping_mul(100) / u128::from(times.max(1));
+    let an_instruction = each / u128::from(steps.max(1));
+    eprintln!(rt;
+        "{name}: {}.{:02} ns, {}.{:02} ns an instruction; {times} times, sum {sum}",
+        each / 100,
+        each % 100,
+        an_instruction / 100,
+        an_instruction % 100
+    )?;
+    Ok(())
+}
+
+/// Measures works of a program, where it is admitted.
+fn measure<R: Runtime>(
+    rt: &R,
+    alloc: Global,
+    works: &[(&str, Work)],
+    slots: &[u64],
+    size: Size,
+) -> io::Result<()> {
+    if let Some(accepted) = admitted(alloc, slots)? {
+        for (name, work) in works {
+            print_best(rt, name, *work, &accepted, size)?;
+        }
+    }
+    Ok(())
+}
+
+/// Prints how long the workloads take.
+pub fn print_times<R: Runtime>(rt: &R, alloc: Global, size: Size) -> Result<()> {
+    let long = straight(alloc, size.choose(4096, 256) as usize)?;
+    let eight = loop_of_eight(size.choose(120_000, 1000));
+    measure(
+        rt,
+        alloc,
+        &[("straight64", Work::Run)],
+        &straight(alloc, 64)?,
+        size,
+    )?;
+    measure(rt, alloc, &[("straight4096", Work::Run)], &long, size)?;
+    measure(
+        rt,
+        alloc,
+        &[("loop", Work::Run), ("probe of it", Work::Probe)],
+        &loop_of(size.choose(300_000, 1000)),
+        size,
+    )?;
+    measure(rt, alloc, &[("loop8", Work::Run)], &eight, size)?;
+    measure(rt, alloc, &[("filter", Work::Run)], &FILTER, size)?;
+    measure(
+        rt,
+        alloc,
+        &[
+            ("mov and exit", Work::Run),
+            ("enter and a step", Work::Enter),
+        ],
+        &SHORTEST,
+        size,
+    )?;
+    Ok(())
+}

@@ -1,0 +1,59 @@
+//! How long it takes to write, verify, run, certify and replace eBPF programs, on standard error. The words of the
+//! command line choose benchmarks, and without any all are measured:
+//!
+//! - `text`: 16384 lines are assembled, decoded and written as text again;
+//! - `verifier`: programs are verified. Behind it come their shapes (`loop`: a loop of three instructions; `joins`: two
+//!   ways that join again, one after another; `spin`: a jump to itself, which is given up after 2^22 states), how many
+//!   turns they have, and how many times they are verified in turn;
+//! - `machine`: `run` on the workloads of `bench/peers` and on `mov` and `exit`, `probe` on one of them, and `enter`;
+//! - `certificates`: `verify`, `certificate` and `check`. Behind it come programs (`loop`, `joins`, as above; `FILE` or
+//!   `FILE+CONFIG`: the program that the hex digits of a file spell, which is named `.hex`, for no maps or those of a
+//!   configuration), and how many times each is measured in turn, of which the least is printed;
+//! - `versions`: readers enter a published set of programs and leave it, by 1, 2 and 4 threads, alone and while a
+//!   publisher publishes about 1000 times a second. Behind it comes how often each thread enters.
+//!
+//! `quick` makes all that has no number of its own small.
+#![tactic(auto)]
+
+mod asked;
+mod machine;
+mod verifier;
+
+use anyhow::Result;
+use asked::{Asked, Benchmark, Size, Task};
+use std::env;
+use std::process::ExitCode;
+use std::rt::Runtime;
+
+/// What an unknown word is told.
+const USAGE: &str =
+    "the benchmarks are text, verifier, machine, certificates and versions; quick makes them small";
+
+/// Prints how long what a task asks for takes.
+fn perform<R: Runtime + AllocGlobal>(
+    rt: &R,
+    task: &Task,
+    size: Size,
+) -> Result<()> {
+    let alloc = rt.alloc();
+    match task.benchmark {
+        Benchmark::Verifier => verifier::print_times(rt, alloc, task, size),
+        Benchmark::Machine => machine::print_times(rt, alloc, size),
+    }
+}
+
+fn main(rt: HostRuntime) -> Result<ExitCode> {
+    let alloc = rt.alloc();
+    let mut asked = Asked::new(alloc);
+    for word in env::args(&rt)?.skip(1) {
+        if let Some(unknown) = asked.take(alloc, word)? {
+            eprintln!(rt; "bench_programs: {unknown}: no such word here; {USAGE}")?;
+            return Ok(ExitCode::from(2));
+        }
+    }
+    let size = asked.size;
+    for task in &asked.finish(alloc)? {
+        perform(&rt, task, size)?;
+    }
+    Ok(ExitCode::SUCCESS)
+}
