@@ -15,7 +15,7 @@ struct Folder<'a> {
 }
 
 /// Files in memory, of which none is open.
-fn folder<'a>(files: &'a [(&'a str, &'a [u8])], alloc: Global) -> Folder<'a> {
+fn folder_of<'a>(files: &'a [(&'a str, &'a [u8])], alloc: Global) -> Folder<'a> {
     Folder {
         files,
         left: b"",
@@ -72,7 +72,7 @@ fn refuses_code_of_16385_slots(rt: HostRuntime) -> Result<(), Fail> {
     let status = apd_main(
         alloc,
         &words,
-        &mut folder(&files, alloc),
+        &mut folder_of(&files, alloc),
         &mut out,
         &mut err,
     );
@@ -114,7 +114,7 @@ fn leaves_a_beginning_where_a_write_fails(rt: HostRuntime) {
         };
         let mut err = Vec::new(alloc);
         let words = ["apd", "verify", "data", "one.hex"];
-        let files = &mut folder(ONE.as_slice(), alloc);
+        let files = &mut folder_of(ONE.as_slice(), alloc);
         let status = apd_main(alloc, &words, files, &mut out, &mut err);
         assert!(rt;
             status == if room < line.len() { 2 } else { 0 },
@@ -139,7 +139,7 @@ fn traces(alloc: Global, size: usize) -> Result<(u8, Vec<u8>), Fail> {
     let mut out = Vec::new(alloc);
     let mut err = Vec::new(alloc);
     let words = ["apd", "trace", "data", "one.hex", digits.as_str()];
-    let files = &mut folder(ONE.as_slice(), alloc);
+    let files = &mut folder_of(ONE.as_slice(), alloc);
     let status = apd_main(alloc, &words, files, &mut out, &mut err);
     Ok((status, err))
 }
