@@ -4,7 +4,7 @@ use Rattle.bpf_absstate.specs.View.{View}
 use Rattle.std.specs.List.{All}
 use Rattle.std.proofs.lemmas.List.Elements.{All-push, All-pop, All-weaker}
 use Rattle.bpf_prune.specs.declared.kept.Entry.{Entry}
-use Rattle.bpf_verifier.specs.declared.exploration.Frame.{Frame}
+use Rattle.bpf_verifier.specs.declared.frame.Frame.{Frame}
 use Rattle.bpf_verifier.specs.Counting.{IsCounted, weight}
 use Rattle.bpf_verifier.specs.Path.{IsKept}
 use Rattle.bpf_verifier.proofs.Paths.{of_any}

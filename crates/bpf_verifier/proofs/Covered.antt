@@ -10,7 +10,7 @@ use Rattle.bpf_absstate.specs.Laws.{InclusionKeeps}
 use Rattle.bpf_absstate.specs.View.{View}
 use Rattle.bpf_prune.specs.declared.kept.Entry.{Entry}
 use Rattle.bpf_prune.specs.Covering.{kept_at, Covers}
-use Rattle.bpf_verifier.specs.declared.exploration.Frame.{Frame}
+use Rattle.bpf_verifier.specs.declared.frame.Frame.{Frame}
 use Rattle.bpf_verifier.specs.Counting.{IsCounted, weight}
 use Rattle.bpf_verifier.specs.Safety.{AllSafe, AreSafe}
 use Rattle.bpf_plain.specs.Paths.{Reaches}

@@ -6,7 +6,7 @@ use Rattle.bpf_model.specs.Run.{IsFine, SafeWithin}
 use Rattle.bpf_model.proofs.Within.{IsFine-weaken, SafeWithin-step, SafeWithin-le}
 use Rattle.bpf_absstate.specs.Contains.{Contains}
 use Rattle.bpf_absstate.specs.View.{View}
-use Rattle.bpf_verifier.specs.declared.exploration.Frame.{Frame}
+use Rattle.bpf_verifier.specs.declared.frame.Frame.{Frame}
 use Rattle.bpf_rules.specs.declared.ways.Ways.TheVariants.{Nowhere, One, Two}
 use Rattle.bpf_verifier.specs.Path.{Linked}
 use Rattle.bpf_rules.specs.Covers.{InWays, Covers}

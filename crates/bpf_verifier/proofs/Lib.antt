@@ -3,5 +3,8 @@ pub mod Counts
 pub mod Covered
 pub mod Explored
 pub mod Paths
+pub mod Reopening
 pub mod Tables
 pub mod Walking
+pub mod Folding
+pub mod Tracing

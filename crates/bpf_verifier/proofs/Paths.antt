@@ -3,7 +3,7 @@ use Rattle.std.proofs.Common.{◌≡◌, ℕ, ◌+◌, List, [], ◌∷◌, ◌+
 use Rattle.std.proofs.lemmas.List.Elements.{All-push, All-pop}
 use Rattle.bpf_insn.specs.declared.insn.Insn.{Insn}
 use Rattle.bpf_absstate.specs.View.{View}
-use Rattle.bpf_verifier.specs.declared.exploration.Frame.{Frame}
+use Rattle.bpf_verifier.specs.declared.frame.Frame.{Frame}
 use Rattle.bpf_verifier.specs.Path.{Leads, Opens, Linked, AreBegun, StandsIn}
 
 -- a frame that is put on top

@@ -3,7 +3,7 @@ use Rattle.std.proofs.Common.{◌≡◌, ℕ, ◌+◌, ◌≤◌, List, [], ◌�
 use Rattle.std.proofs.lemmas.Bool.{cases_lt}
 use Rattle.bpf_insn.specs.declared.insn.Insn.{Insn}
 use Rattle.bpf_absstate.specs.View.{View}
-use Rattle.bpf_verifier.specs.declared.exploration.Frame.{Frame}
+use Rattle.bpf_verifier.specs.declared.frame.Frame.{Frame}
 use Rattle.bpf_verifier.specs.Path.{Linked}
 use Rattle.bpf_plain.specs.Paths.{IsPath, Reaches}
 use Rattle.bpf_verifier.specs.Walked.{LeadsBySlots, IsWalked}

@@ -2,7 +2,7 @@
 use Rattle.std.specs.Prelude.{ℕ, ◌+◌, ◌≤◌, List, [], ◌∷◌}
 use Rattle.std.specs.List.{All}
 use Rattle.bpf_prune.specs.declared.kept.Entry.{Entry}
-use Rattle.bpf_verifier.specs.declared.exploration.Frame.{Frame}
+use Rattle.bpf_verifier.specs.declared.frame.Frame.{Frame}
 use Rattle.bpf_verifier.specs.declared.exploration.Unwound.{Unwound}
 use Rattle.bpf_verifier.specs.declared.exploration.Unwound.TheVariants.{Onward, Over}
 

@@ -1,9 +1,11 @@
 pub mod Clear
 pub mod Counting
+pub mod Folded
 pub mod Found
 pub mod Laws
 pub mod Limits
 pub mod Path
 pub mod Refusals
 pub mod Safety
+pub mod Traced
 pub mod Walked

@@ -7,7 +7,7 @@ use Rattle.bpf_plain.specs.Walks.{IsPlain}
 use Rattle.bpf_absstate.specs.View.{View}
 use Rattle.bpf_prune.specs.Covering.{with_entry}
 use Rattle.bpf_prune.specs.declared.kept.Entry.{Entry}
-use Rattle.bpf_verifier.specs.declared.exploration.Frame.{Frame}
+use Rattle.bpf_verifier.specs.declared.frame.Frame.{Frame}
 use Rattle.bpf_verifier.specs.declared.exploration.Unwound.{Unwound}
 use Rattle.bpf_verifier.specs.declared.exploration.Unwound.TheVariants.{Onward, Over}
 

@@ -4,7 +4,7 @@ use Rattle.std.specs.List.{All}
 use Rattle.bpf_insn.specs.declared.insn.Insn.{Insn}
 use Rattle.bpf_absstate.specs.View.{View}
 use Rattle.bpf_prune.specs.declared.kept.Entry.{Entry}
-use Rattle.bpf_verifier.specs.declared.exploration.Frame.{Frame}
+use Rattle.bpf_verifier.specs.declared.frame.Frame.{Frame}
 use Rattle.bpf_verifier.specs.declared.exploration.Unwound.{Unwound}
 use Rattle.bpf_verifier.specs.declared.exploration.Unwound.TheVariants.{Onward, Over}
 use Rattle.bpf_verifier.specs.Path.{Leads, Linked}

@@ -10,14 +10,16 @@ ghost use Rattle.bpf_plain.specs.Clear.{IsClear};
 ghost use Rattle.bpf_plain.specs.Paths.{Reaches};
 ghost use Rattle.bpf_rules.specs.Covers.{IsSetting};
 ghost use Rattle.bpf_verifier.specs.Counting.{weight};
-ghost use Rattle.bpf_verifier.specs.Found.{IsFresh, IsCountedSoFar, IsPaidSoFar, IsBegunSoFar, IsSafeSoFar, IsSafeAfter, IsWalkedSoFar, IsWalkedAfter, IsClearSoFar, IsClearAfter};
+ghost use Rattle.bpf_verifier.specs.Found.{IsFresh, IsCountedSoFar, IsPaidSoFar, IsBegunSoFar, IsSafeSoFar, IsSafeAfter, IsTracedSoFar, IsTracedAfter, IsWalkedSoFar, IsWalkedAfter, IsClearSoFar, IsClearAfter};
 ghost use Rattle.bpf_verifier.specs.Path.{IsBegun, IsKept, StandsIn};
 ghost use Rattle.bpf_verifier.specs.Safety.{AllSafe};
 ghost use Rattle.bpf_plain.specs.Walks.{IsPlain, HasWalk};
 
+use crate::frame::{Frame, at_target};
 use crate::laws::examination_law;
 use crate::limit::StateLimit;
 use crate::observer::Observer;
+use crate::path::Path;
 use crate::refusal::Refusal;
 use bpf_absstate::AbsState;
 use bpf_absstate::laws::{entry_law, inclusion_law};
@@ -28,19 +30,6 @@ use bpf_plain::laws::{standing_law, walking_law};
 use bpf_prune::{Entry, Finished};
 use bpf_rules::{Fault, Ways};
 use std::alloc::{AllocError, Global};
-
-/// A state some of whose ways are being explored: one that stands at a target slot, or has two ways.
-#[derive(Drop)]
-struct Frame {
-    /// How many states with one way come before it, since the frame below.
-    before: u32,
-    /// The state, where it stands at a target slot.
-    state: Option<AbsState>,
-    /// The way that is still to be explored.
-    pending: Option<AbsState>,
-    /// The greatest budget of the ways that are done.
-    best: u32,
-}
 
 /// Where the exploration stands after a state was done.
 #[derive(Drop)]
@@ -55,24 +44,13 @@ enum Unwound {
 #[derive(Drop)]
 pub(crate) struct Exploration {
     /// The path to the state that is examined next.
-    path: Vec<Frame>,
+    path: Path,
     /// How many states with one way come after the newest frame.
     after: u32,
     finished: Finished,
     /// How many states were examined.
     visits: u32,
     observer: Observer,
-}
-
-/// The state itself, where it stands at a target slot.
-fn at_target(program: &Program, state: AbsState) -> Option<AbsState>
-    ensures there { IsTarget program.now.slots state.pc → result ≡ Some state }
-    ensures elsewhere { IfSome result (λ a. (a ≡ state) × IsTarget program.now.slots a.pc) }
-{
-    if program.is_target(state.pc()) {
-        return Some(state);
-    }
-    None
 }
 
 impl Exploration {
@@ -86,7 +64,7 @@ impl Exploration {
     {
         let finished = Finished::new(alloc, program.len())?;
         Ok(Exploration {
-            path: Vec::new(alloc),
+            path: Path::new(alloc),
             after: 0,
             finished,
             visits: 0,
@@ -108,7 +86,7 @@ impl Exploration {
         best: u32,
     ) -> Result<(), AllocError>
         ensures path { OnOk result
-            (self.new.path.items ≡ self.old.path.items ++
+            (self.new.path ≡ self.old.path ++
             (record { before = before; state = state; pending = pending; best = best }) ∷ []) }
         ensures after { OnOk result (self.new.after ≡ 0) }
         ensures finished { self.new.finished ≡ self.old.finished }
@@ -139,9 +117,11 @@ impl Exploration {
     }
 
     /// The state under exploration is done within a budget: goes back to the newest way that is still to be explored.
-    fn unwind(&mut self, done: u32) -> Result<Unwound, AllocError>
+    fn unwind(&mut self, program: &Program, done: u32) -> Result<Unwound, AllocError>
+        requires traced { (a : View) × IsTracedSoFar program.now a self.old }
         requires counted { IsCountedSoFar self.old }
-        requires paid { done + weight self.old.path.items self.old.after ≤ self.old.visits }
+        requires paid { done + weight self.old.path self.old.after ≤ self.old.visits }
+        ensures traced { IfOk result (IsTracedAfter program.now self.new) }
         ensures visits { IfOk result (λ u. self.new.visits ≡ self.old.visits) }
         ensures counted { IfOk result (λ u. IsCountedSoFar self.new) }
         ensures paid { IfOk result (IsPaidSoFar self.new) }
@@ -159,7 +139,7 @@ impl Exploration {
             (λ u. (c : Code) (n : ℕ) → IsClearSoFar c n self.old → IsClearAfter c n self.new u) }
     {
         let mut done = done;
-        while let Some(frame) = self.path.pop() {
+        while let Some(frame) = self.path.pop(program)? {
             let Frame {
                 before,
                 state,
@@ -186,9 +166,11 @@ impl Exploration {
     /// done.
     fn visit(&mut self, alloc: Global, program: &Program, state: AbsState) -> Result<Unwound, Fault>
         requires room { self.old.visits < 2 ^ 22 }
+        requires traced { IsTracedSoFar program.now state self.old }
         requires counted { IsCountedSoFar self.old }
-        requires paid { weight self.old.path.items self.old.after ≤ self.old.visits }
+        requires paid { weight self.old.path self.old.after ≤ self.old.visits }
         requires stands { StandsIn program.now.slots state }
+        ensures traced { IfOk result (IsTracedAfter program.now self.new) }
         ensures visits { IfOk result (λ u. self.new.visits ≡ self.old.visits + 1) }
         ensures counted { IfOk result (λ u. IsCountedSoFar self.new) }
         ensures paid { IfOk result (IsPaidSoFar self.new) }
@@ -216,14 +198,14 @@ impl Exploration {
         self.observer.examines(&state, self.path.len(), self.after)?;
         self.visits += 1;
         if let Some(budget) = self.finished.covering(&state) {
-            let unwound = self.unwind(budget)?;
+            let unwound = self.unwind(program, budget)?;
             return Ok(unwound);
         }
         match examine(alloc, program, &state)? {
             Ways::Nowhere => {
                 let leaf = at_target(program, state);
                 self.finish(leaf, 1)?;
-                let unwound = self.unwind(1)?;
+                let unwound = self.unwind(program, 1)?;
                 Ok(unwound)
             }
             Ways::One(next) => {

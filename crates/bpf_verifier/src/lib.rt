@@ -7,10 +7,13 @@
 
 pub mod admission;
 mod exploration;
+mod fold;
+mod frame;
 pub mod laws;
 pub mod limit;
 pub mod listing;
 mod observer;
+mod path;
 pub mod refusal;
 
 pub use admission::{verify, verify_within};

@@ -1,20 +1,22 @@
-use Rattle.std.proofs.Common.{IfSome, ◌≡◌, ◌≤◌, ◌-◌, ◌+◌, ◌^◌, [], ℕ, List, refl, sym, subst, arith}
+use Rattle.std.proofs.Common.{IfSome, ◌≡◌, ◌≤◌, ◌-◌, ◌+◌, [], ℕ, List, refl, sym, subst, arith}
 use Rattle.std.specs.List.{All}
 use Rattle.std.proofs.lemmas.List.Elements.{All-nil}
 use Rattle.bpf_model.specs.Run.{setting}
 use Rattle.bpf_model.specs.State.{entry}
 use Rattle.bpf_absstate.specs.View.{entry_view}
 use Rattle.bpf_prune.specs.declared.kept.Entry.{Entry}
-use Rattle.bpf_verifier.specs.declared.exploration.Frame.{Frame}
+use Rattle.bpf_verifier.specs.declared.frame.Frame.{Frame}
 use Rattle.bpf_regions.specs.Maps.{AreShapes}
 use Rattle.bpf_rules.specs.Covers.{IsSetting}
 use Rattle.bpf_plain.specs.Paths.{Reaches}
 use Rattle.bpf_verifier.specs.Path.{StandsIn}
 use Rattle.bpf_verifier.specs.Safety.{LeadsSafely, IsExplored, AllSafe}
+use Rattle.bpf_verifier.specs.Traced.{LeadsExactly, IsOpened}
 use Rattle.bpf_verifier.specs.Walked.{LeadsBySlots, IsWalked}
 use Rattle.bpf_verifier.specs.Counting.{weight}
 use Rattle.bpf_verifier.proofs.Counts.{weight_empty}
 use Rattle.bpf_verifier.proofs.Explored as explored
+use Rattle.bpf_verifier.proofs.Tracing.{leads_none}
 use Rattle.bpf_verifier.proofs.Walking as walking
 use Rattle.bpf_verifier.proofs.Clears.{AreClear-none, clear_some}
 use Rattle.bpf_verifier.proofs.Paths.{Linked-empty}
@@ -23,7 +25,7 @@ use Rattle.bpf_verifier.proofs.exploration.observed_budget.Goals as goal
 
 pub visit-init : goal.visit-init
 visit-init c =
-    let fs : List Frame = c.args.exploration.now.path.items in
+    let fs : List Frame = c.args.exploration.now.path in
     let after : ℕ = c.args.exploration.now.after in
     let visits : ℕ = c.args.exploration.now.visits in
     let table : List (List Entry) = c.args.exploration.now.finished in
@@ -34,6 +36,7 @@ visit-init c =
     record {
       counted = record { frames = subst (All (λ f. f.best + weight fs after ≤ visits)) (sym empty) (All-nil (λ f. f.best + weight fs after ≤ visits)); finished = none (λ e. e.budget + weight fs after ≤ visits) table _ c.requires.fresh.finished };
       paid = let size = weight_empty fs after empty in omega (arith, size, none_after);
+      traced = (entry_view, rw same (Linked-empty (LeadsExactly c.args.program.now) (IsOpened c.args.program.now) fs after entry_view empty none_after (leads_none c.args.program.now entry_view)));
       stands = rw same (c.standing_law.ensures.entry c.args.program.now c.whole.ensures.is, λ plain. refl);
       begun = rw empty (All-nil (λ f. IfSome f.pending (StandsIn slots)));
       path = λ p set. rw same (Linked-empty (LeadsSafely p) (IsExplored p) fs after entry_view empty none_after (explored.stays p entry_view));
@@ -49,6 +52,7 @@ visit-preserved c =
     record {
       counted = c.in-Ok-Onward.ensures.counted;
       paid = rw c.in-Ok-Onward.field-0-is at c.in-Ok-Onward.ensures.paid;
+      traced = rw c.in-Ok-Onward.field-0-is at c.in-Ok-Onward.ensures.traced;
       stands = (rw c.in-Ok-Onward.field-0-is at c.in-Ok-Onward.ensures.begun h.begun).1;
       begun = (c.in-Ok-Onward.ensures.begun h.begun).0;
       path = λ p set. (rw c.in-Ok-Onward.field-0-is at c.in-Ok-Onward.ensures.safe p entry_view set (h.path p set, h.safe p set)).0;

@@ -7,22 +7,24 @@ use Rattle.bpf_verifier.specs.Counting.{IsCounted, weight}
 use Rattle.bpf_verifier.specs.Path.{Linked, AreBegun, StandsIn}
 use Rattle.bpf_rules.specs.Covers.{IsSetting}
 use Rattle.bpf_verifier.specs.Safety.{LeadsSafely, IsExplored, AreSafe}
+use Rattle.bpf_verifier.specs.Traced.{IsTraced}
 use Rattle.bpf_verifier.specs.Walked.{LeadsBySlots, IsWalked, AreWalked}
 use Rattle.bpf_plain.specs.Walks.{IsPlain}
 use Rattle.bpf_verifier.proofs.exploration.observed_budget.Given as goal
 
 abbrev pub invariant-visit : goal.invariant-visit
 invariant-visit l = record {
-  counted : IsCounted l.exploration.path.items l.exploration.after l.exploration.finished l.exploration.visits;
-  paid : weight l.exploration.path.items l.exploration.after ≤ l.exploration.visits;
+  counted : IsCounted l.exploration.path l.exploration.after l.exploration.finished l.exploration.visits;
+  paid : weight l.exploration.path l.exploration.after ≤ l.exploration.visits;
+  traced : IsTraced l.program l.exploration.path l.exploration.after l.current;
   stands : StandsIn l.program.slots l.current;
-  begun : AreBegun l.program.slots l.exploration.path.items;
-  path : (p : Setting) → IsSetting l.program p → Linked (LeadsSafely p) (IsExplored p) l.exploration.path.items l.exploration.after entry_view l.current;
+  begun : AreBegun l.program.slots l.exploration.path;
+  path : (p : Setting) → IsSetting l.program p → Linked (LeadsSafely p) (IsExplored p) l.exploration.path l.exploration.after entry_view l.current;
   safe : (p : Setting) → IsSetting l.program p → AreSafe p l.exploration.finished;
-  walks : IsPlain l.program.slots → Linked (LeadsBySlots l.program.slots) (IsWalked l.program.slots) l.exploration.path.items l.exploration.after entry_view l.current;
+  walks : IsPlain l.program.slots → Linked (LeadsBySlots l.program.slots) (IsWalked l.program.slots) l.exploration.path l.exploration.after entry_view l.current;
   walked : IsPlain l.program.slots → AreWalked l.program.slots l.exploration.finished;
   clear : IsClear l.program entry_view l.fn.limit →
-      (m n : ℕ) × IsClear l.program l.current m × AreClear l.program l.exploration.path.items n × (l.exploration.visits + (m + n) ≤ l.fn.limit);
+      (m n : ℕ) × IsClear l.program l.current m × AreClear l.program l.exploration.path n × (l.exploration.visits + (m + n) ≤ l.fn.limit);
 }
 
 abbrev pub decreases-visit : goal.decreases-visit

@@ -1,6 +1,6 @@
 use Rattle.std.proofs.Common.{rules, ◌≤◌, ◌+◌, ◌++◌, ◌∷◌, [], None, refl, ◌∙◌, arith}
 use Rattle.bpf_verifier.specs.Counting.{weight}
-use Rattle.bpf_verifier.specs.declared.exploration.Frame.{Frame}
+use Rattle.bpf_verifier.specs.declared.frame.Frame.{Frame}
 use Rattle.bpf_verifier.specs.Path.{Linked}
 use Rattle.bpf_verifier.specs.Safety.{AllSafe, LeadsSafely, IsExplored}
 use Rattle.bpf_plain.specs.Paths.{Reaches}
@@ -10,12 +10,13 @@ use Rattle.bpf_verifier.proofs.Counts.{Counted-pop, Counted-over, Counted-best, 
 use Rattle.bpf_verifier.proofs.Paths.{AreBegun-push, AreBegun-pop, Linked-start, of_own, pending-is}
 use Rattle.bpf_verifier.proofs.Tables.{kept}
 use Rattle.bpf_verifier.proofs.Explored as explored
+use Rattle.bpf_verifier.proofs.Tracing as tracing
 use Rattle.bpf_verifier.proofs.Walking as walking
 use Rattle.bpf_verifier.proofs.exploration.Exploration.unwind.Goals as goal
 
 pub overflow_add-done : goal.overflow_add-done
 overflow_add-done c =
-    let k = after_le c.loop-frame.self.path.items c.loop-frame.self.after in
+    let k = after_le c.loop-frame.self.path c.loop-frame.self.after in
     let le : c.loop-frame.done + c.loop-frame.self.after ≤ c.loop-frame.self.visits = let paid = c.loop-frame.invariant.paid in omega (arith, paid, k) in
     search (rules, le)
 
@@ -24,28 +25,28 @@ returns-in-Some-pending-clause-paid c =
     let f : Frame = c.in-Some.frame in
     let g : Frame = record { before = f.before; state = f.state; pending = None; best = c.max-best.result } in
     let h = c.loop-frame.invariant in
-    let best = Counted-best c.loop-frame.self.path.items c.pop.new.self.items f c.loop-frame.self.after c.loop-frame.self.finished c.loop-frame.self.visits c.loop-frame.done c.max-best.result
-    c.in-Some.ensures.items h.counted h.paid c.max-best.ensures in
-    let n = weight_push c.pop.new.self.items g 0 in
+    let best = Counted-best c.loop-frame.self.path c.pop.new.self f c.loop-frame.self.after c.loop-frame.self.finished c.loop-frame.self.visits c.loop-frame.done c.max-best.result
+    (rw c.in-Some.is at c.in_ok-frame.ensures.some) h.counted h.paid c.max-best.ensures in
+    let n = weight_push c.pop.new.self g 0 in
     rw (c.in_ok-push-in-Some-pending.ensures.path, c.in_ok-push-in-Some-pending.ensures.after, c.in_ok-push-in-Some-pending.ensures.visits) (omega (arith, n, best))
 
 pub overflow_add-done-in-None : goal.overflow_add-done-in-None
 overflow_add-done-in-None c =
     let h = c.loop-frame.invariant in
-    let best = Counted-best c.loop-frame.self.path.items c.pop.new.self.items c.in-Some.frame c.loop-frame.self.after c.loop-frame.self.finished c.loop-frame.self.visits c.loop-frame.done c.max-best.result
-    c.in-Some.ensures.items h.counted h.paid c.max-best.ensures in
+    let best = Counted-best c.loop-frame.self.path c.pop.new.self c.in-Some.frame c.loop-frame.self.after c.loop-frame.self.finished c.loop-frame.self.visits c.loop-frame.done c.max-best.result
+    (rw c.in-Some.is at c.in_ok-frame.ensures.some) h.counted h.paid c.max-best.ensures in
     let le : c.max-best.result + 1 ≤ c.loop-frame.self.visits = omega (arith, best) in
     search (rules, le)
 
 pub overflow_add-result : goal.overflow_add-result
 overflow_add-result c =
-    let k = after_le c.loop-frame.self.path.items c.loop-frame.self.after in
+    let k = after_le c.loop-frame.self.path c.loop-frame.self.after in
     let le : c.loop-frame.done + c.loop-frame.self.after ≤ c.loop-frame.self.visits = let paid = c.loop-frame.invariant.paid in omega (arith, paid, k) in
     search (rules, le)
 
 pub returns-clause-paid : goal.returns-clause-paid
 returns-clause-paid c =
-    let k = after_le c.loop-frame.self.path.items c.loop-frame.self.after in
+    let k = after_le c.loop-frame.self.path c.loop-frame.self.after in
     let paid = c.loop-frame.invariant.paid in
     omega (arith, paid, k)
 
@@ -54,26 +55,26 @@ returns-in-Some-pending-clause-counted c =
     let f : Frame = c.in-Some.frame in
     let g : Frame = record { before = f.before; state = f.state; pending = None; best = c.max-best.result } in
     let h = c.loop-frame.invariant in
-    let best = Counted-best c.loop-frame.self.path.items c.pop.new.self.items f c.loop-frame.self.after c.loop-frame.self.finished c.loop-frame.self.visits c.loop-frame.done c.max-best.result
-    c.in-Some.ensures.items h.counted h.paid c.max-best.ensures in
+    let best = Counted-best c.loop-frame.self.path c.pop.new.self f c.loop-frame.self.after c.loop-frame.self.finished c.loop-frame.self.visits c.loop-frame.done c.max-best.result
+    (rw c.in-Some.is at c.in_ok-frame.ensures.some) h.counted h.paid c.max-best.ensures in
     rw (c.in_ok-push-in-Some-pending.ensures.after, c.in_ok-push-in-Some-pending.ensures.finished, c.in_ok-push-in-Some-pending.ensures.visits)
-    (Counted-over c.loop-frame.self.path.items c.pop.new.self.items c.push.new.self.path.items f g c.loop-frame.self.after c.loop-frame.self.finished c.loop-frame.self.visits
-    c.in-Some.ensures.items c.in_ok-push-in-Some-pending.ensures.path refl h.counted best)
+    (Counted-over c.loop-frame.self.path c.pop.new.self c.push.new.self.path f g c.loop-frame.self.after c.loop-frame.self.finished c.loop-frame.self.visits
+    (rw c.in-Some.is at c.in_ok-frame.ensures.some) c.in_ok-push-in-Some-pending.ensures.path refl h.counted best)
 
 pub returns-in-Some-pending-clause-begun : goal.returns-in-Some-pending-clause-begun
 returns-in-Some-pending-clause-begun c = λ slots begun.
     let f : Frame = c.in-Some.frame in
     let g : Frame = record { before = f.before; state = f.state; pending = None; best = c.max-best.result } in
-    let k = AreBegun-pop slots c.loop-frame.self.path.items c.pop.new.self.items f c.in-Some.ensures.items (c.loop-frame.invariant.begun slots begun) in
-    (rw c.in_ok-push-in-Some-pending.ensures.path (AreBegun-push slots c.pop.new.self.items g k.0 tt), pending-is _ f.pending c.in-Some-pending.next c.in-Some-pending.is k.1)
+    let k = AreBegun-pop slots c.loop-frame.self.path c.pop.new.self f (rw c.in-Some.is at c.in_ok-frame.ensures.some) (c.loop-frame.invariant.begun slots begun) in
+    (rw c.in_ok-push-in-Some-pending.ensures.path (AreBegun-push slots c.pop.new.self g k.0 tt), pending-is _ f.pending c.in-Some-pending.next c.in-Some-pending.is k.1)
 
 pub returns-in-Some-pending-clause-safe : goal.returns-in-Some-pending-clause-safe
 returns-in-Some-pending-clause-safe c = λ p start a found safe.
     let f : Frame = c.in-Some.frame in
     let g : Frame = record { before = f.before; state = f.state; pending = None; best = c.max-best.result } in
     let h = c.loop-frame.invariant.safe p start a found safe in
-    let over : Linked (LeadsSafely p) (IsExplored p) (c.pop.new.self.items ++ g ∷ []) 0 start c.in-Some-pending.next =
-    explored.goes_over p c.loop-frame.self.path.items c.pop.new.self.items f g c.loop-frame.self.after start h.0 c.in-Some-pending.next c.loop-frame.done c.in-Some.ensures.items refl refl
+    let over : Linked (LeadsSafely p) (IsExplored p) (c.pop.new.self ++ g ∷ []) 0 start c.in-Some-pending.next =
+    explored.goes_over p c.loop-frame.self.path c.pop.new.self f g c.loop-frame.self.after start h.0 c.in-Some-pending.next c.loop-frame.done (rw c.in-Some.is at c.in_ok-frame.ensures.some) refl refl
     c.in-Some-pending.is refl (omega (arith, c.max-best.ensures)) (omega (arith, c.max-best.ensures)) h.1.0 h.2 in
     (rw (c.in_ok-push-in-Some-pending.ensures.path, c.in_ok-push-in-Some-pending.ensures.after) over, rw c.in_ok-push-in-Some-pending.ensures.finished h.1.1)
 
@@ -82,8 +83,8 @@ returns-in-Some-pending-clause-walked c = λ slots start a found reaches.
     let f : Frame = c.in-Some.frame in
     let g : Frame = record { before = f.before; state = f.state; pending = None; best = c.max-best.result } in
     let h = c.loop-frame.invariant.walked slots start a found reaches in
-    let over : Linked (LeadsBySlots slots) (IsWalked slots) (c.pop.new.self.items ++ g ∷ []) 0 start c.in-Some-pending.next =
-    walking.goes_over slots c.loop-frame.self.path.items c.pop.new.self.items f g c.loop-frame.self.after start h.0 c.in-Some-pending.next c.loop-frame.done c.in-Some.ensures.items refl refl
+    let over : Linked (LeadsBySlots slots) (IsWalked slots) (c.pop.new.self ++ g ∷ []) 0 start c.in-Some-pending.next =
+    walking.goes_over slots c.loop-frame.self.path c.pop.new.self f g c.loop-frame.self.after start h.0 c.in-Some-pending.next c.loop-frame.done (rw c.in-Some.is at c.in_ok-frame.ensures.some) refl refl
     c.in-Some-pending.is refl c.max-best.ensures h.1.0 h.2 in
     (rw (c.in_ok-push-in-Some-pending.ensures.path, c.in_ok-push-in-Some-pending.ensures.after) over, rw c.in_ok-push-in-Some-pending.ensures.finished h.1.1)
 
@@ -92,27 +93,29 @@ returns-in-Some-pending-clause-clear c = λ code n clear.
     let f : Frame = c.in-Some.frame in
     let g : Frame = record { before = f.before; state = f.state; pending = None; best = c.max-best.result } in
     rw c.in_ok-push-in-Some-pending.ensures.path
-    (takes_up code c.loop-frame.self.path.items c.pop.new.self.items f g c.in-Some-pending.next n c.in-Some.ensures.items c.in-Some-pending.is refl (c.loop-frame.invariant.clear code n clear))
+    (takes_up code c.loop-frame.self.path c.pop.new.self f g c.in-Some-pending.next n (rw c.in-Some.is at c.in_ok-frame.ensures.some) c.in-Some-pending.is refl (c.loop-frame.invariant.clear code n clear))
 
 pub loop-frame-preserved : goal.loop-frame-preserved
 loop-frame-preserved c =
     let f : Frame = c.in-Some.frame in
     let h = c.loop-frame.invariant in
-    let best = Counted-best c.loop-frame.self.path.items c.pop.new.self.items f c.loop-frame.self.after c.loop-frame.self.finished c.loop-frame.self.visits c.loop-frame.done c.max-best.result
-    c.in-Some.ensures.items h.counted h.paid c.max-best.ensures in
-    let paid : c.max-best.result + 1 + weight c.pop.new.self.items f.before ≤ c.loop-frame.self.visits = omega (arith, best) in
-    let counted = Counted-kept c.pop.new.self.items f.before c.loop-frame.self.finished c.finish.new.self.finished f.state (c.max-best.result + 1) c.loop-frame.self.visits
+    let best = Counted-best c.loop-frame.self.path c.pop.new.self f c.loop-frame.self.after c.loop-frame.self.finished c.loop-frame.self.visits c.loop-frame.done c.max-best.result
+    (rw c.in-Some.is at c.in_ok-frame.ensures.some) h.counted h.paid c.max-best.ensures in
+    let paid : c.max-best.result + 1 + weight c.pop.new.self f.before ≤ c.loop-frame.self.visits = omega (arith, best) in
+    let counted = Counted-kept c.pop.new.self f.before c.loop-frame.self.finished c.finish.new.self.finished f.state (c.max-best.result + 1) c.loop-frame.self.visits
     c.in_ok-finish-in-None.ensures.finished
-    (Counted-pop c.loop-frame.self.path.items c.pop.new.self.items f c.loop-frame.self.after c.loop-frame.self.finished c.loop-frame.self.visits c.in-Some.ensures.items h.counted).0 paid in
+    (Counted-pop c.loop-frame.self.path c.pop.new.self f c.loop-frame.self.after c.loop-frame.self.finished c.loop-frame.self.visits (rw c.in-Some.is at c.in_ok-frame.ensures.some) h.counted).0 paid in
     record {
       visits = c.in_ok-finish-in-None.ensures.visits ∙ h.visits;
+      traced = rw (c.in_ok-finish-in-None.ensures.path, c.in_ok-finish-in-None.ensures.after)
+          (tracing.goes_back c.args.program.now c.loop-frame.self.path c.pop.new.self f c.loop-frame.self.after h.traced.0 (rw c.in-Some.is at c.in_ok-frame.ensures.some) h.traced.1);
       counted = rw (c.in_ok-finish-in-None.ensures.path, c.in_ok-finish-in-None.ensures.after, c.in_ok-finish-in-None.ensures.visits) counted;
       paid = rw (c.in_ok-finish-in-None.ensures.path, c.in_ok-finish-in-None.ensures.after, c.in_ok-finish-in-None.ensures.visits) paid;
       begun = λ slots begun. rw c.in_ok-finish-in-None.ensures.path
-          (AreBegun-pop slots c.loop-frame.self.path.items c.pop.new.self.items f c.in-Some.ensures.items (h.begun slots begun)).0;
+          (AreBegun-pop slots c.loop-frame.self.path c.pop.new.self f (rw c.in-Some.is at c.in_ok-frame.ensures.some) (h.begun slots begun)).0;
       safe = λ p start a found safe.
           let k = h.safe p start a found safe in
-          let back = explored.goes_back p c.loop-frame.self.path.items c.pop.new.self.items f c.loop-frame.self.after start k.0 c.loop-frame.done c.max-best.result c.in-Some.ensures.items
+          let back = explored.goes_back p c.loop-frame.self.path c.pop.new.self f c.loop-frame.self.after start k.0 c.loop-frame.done c.max-best.result (rw c.in-Some.is at c.in_ok-frame.ensures.some)
           c.in-None.is (omega (arith, c.max-best.ensures)) (omega (arith, c.max-best.ensures)) k.1.0 k.2 in (
             back.0,
             (
@@ -124,7 +127,7 @@ loop-frame-preserved c =
           );
       walked = λ slots start a found reaches.
           let k = h.walked slots start a found reaches in
-          let back = walking.goes_back slots c.loop-frame.self.path.items c.pop.new.self.items f c.loop-frame.self.after start k.0 c.loop-frame.done c.in-Some.ensures.items k.1.0 k.2 in
+          let back = walking.goes_back slots c.loop-frame.self.path c.pop.new.self f c.loop-frame.self.after start k.0 c.loop-frame.done (rw c.in-Some.is at c.in_ok-frame.ensures.some) k.1.0 k.2 in
           let done : Reaches slots back.0.pc (c.max-best.result + 1) = rw c.max-best.ensures back.3 in (
             back.0,
             (
@@ -135,17 +138,25 @@ loop-frame-preserved c =
             done,
           );
       clear = λ code n clear. rw c.in_ok-finish-in-None.ensures.path
-          (drops code c.loop-frame.self.path.items c.pop.new.self.items f n c.in-Some.ensures.items (h.clear code n clear));
+          (drops code c.loop-frame.self.path c.pop.new.self f n (rw c.in-Some.is at c.in_ok-frame.ensures.some) (h.clear code n clear));
     }
 
 pub returns-clause-safe : goal.returns-clause-safe
 returns-clause-safe c = λ p start a found safe.
     let k = c.loop-frame.invariant.safe p start a found safe in
-    let leads = Linked-start (LeadsSafely p) (IsExplored p) c.loop-frame.self.path.items c.loop-frame.self.after start k.0 (search rules) k.1.0 in
+    let leads = Linked-start (LeadsSafely p) (IsExplored p) c.loop-frame.self.path c.loop-frame.self.after start k.0 (search rules) k.1.0 in
     (leads c.loop-frame.done k.2, k.1.1)
 
 pub returns-clause-walked : goal.returns-clause-walked
 returns-clause-walked c = λ slots start a found reaches.
     let k = c.loop-frame.invariant.walked slots start a found reaches in
-    let leads = Linked-start (LeadsBySlots slots) (IsWalked slots) c.loop-frame.self.path.items c.loop-frame.self.after start k.0 (search rules) k.1.0 in
+    let leads = Linked-start (LeadsBySlots slots) (IsWalked slots) c.loop-frame.self.path c.loop-frame.self.after start k.0 (search rules) k.1.0 in
     (leads c.loop-frame.done k.2, k.1.1)
+
+pub returns-in-Some-pending-clause-traced : goal.returns-in-Some-pending-clause-traced
+returns-in-Some-pending-clause-traced c =
+    let f : Frame = c.in-Some.frame in
+    let g : Frame = record { before = f.before; state = f.state; pending = None; best = c.max-best.result } in
+    let t = c.loop-frame.invariant.traced in
+    rw (c.in_ok-push-in-Some-pending.ensures.path, c.in_ok-push-in-Some-pending.ensures.after)
+    (tracing.goes_over c.args.program.now c.loop-frame.self.path c.pop.new.self f g c.loop-frame.self.after t.0 c.in-Some-pending.next (rw c.in-Some.is at c.in_ok-frame.ensures.some) refl refl c.in-Some-pending.is refl t.1)

@@ -1,10 +1,10 @@
-use Rattle.std.proofs.Common.{◌≡◌, ◌≤◌, ◌+◌, ℕ, List, Option, vec_len}
+use Rattle.std.proofs.Common.{◌≡◌, ◌≤◌, ◌+◌, ℕ, List, Option, length}
 use Rattle.bpf_insn.specs.declared.insn.Insn.{Insn}
 use Rattle.bpf_decode.specs.Program.{Code}
 use Rattle.bpf_model.specs.State.{Setting}
 use Rattle.bpf_absstate.specs.View.{View}
 use Rattle.bpf_verifier.specs.Counting.{weight}
-use Rattle.bpf_verifier.specs.Found.{IsCountedSoFar, IsBegunSoFar, IsSafeSoFar, IsWalkedSoFar, IsClearSoFar}
+use Rattle.bpf_verifier.specs.Found.{IsCountedSoFar, IsBegunSoFar, IsTracedSoFar, IsSafeSoFar, IsWalkedSoFar, IsClearSoFar}
 use Rattle.bpf_verifier.specs.Safety.{AllSafe}
 use Rattle.bpf_plain.specs.Paths.{Reaches}
 use Rattle.bpf_verifier.proofs.exploration.Exploration.unwind.Given as goal
@@ -12,8 +12,9 @@ use Rattle.bpf_verifier.proofs.exploration.Exploration.unwind.Given as goal
 abbrev pub invariant-loop-frame : goal.invariant-loop-frame
 invariant-loop-frame l = record {
   visits : l.self.visits ≡ l.initial.self.visits;
+  traced : (a : View) × IsTracedSoFar l.program a l.self;
   counted : IsCountedSoFar l.self;
-  paid : l.done + weight l.self.path.items l.self.after ≤ l.self.visits;
+  paid : l.done + weight l.self.path l.self.after ≤ l.self.visits;
   begun : (slots : List (Option Insn)) → IsBegunSoFar slots l.initial.self → IsBegunSoFar slots l.self;
   safe : (p : Setting) (start a : View) → IsSafeSoFar p start a l.initial.self → AllSafe p l.initial.done a → (now : View) × IsSafeSoFar p start now l.self × AllSafe p l.done now;
   walked : (slots : List (Option Insn)) (start a : View) → IsWalkedSoFar slots start a l.initial.self → Reaches slots a.pc l.initial.done →
@@ -22,4 +23,4 @@ invariant-loop-frame l = record {
 }
 
 abbrev pub decreases-loop-frame : goal.decreases-loop-frame
-decreases-loop-frame l = vec_len l.self.path
+decreases-loop-frame l = length l.self.path

@@ -1,0 +1,65 @@
+use Rattle.std.proofs.Common.{rules, ◌≡◌, ◌∷◌, ◌++◌, [], ◌+◌, List, length, take, drop, refl, sym, ap, subst, ◌∙◌, Some}
+use Rattle.std.specs.Prelude.{slice_get}
+use Rattle.std.proofs.lemmas.Option.{slice_get_read}
+use Rattle.bpf_verifier.specs.declared.fold.Outline.{Outline}
+use Rattle.bpf_verifier.specs.Folded.{IsFolded}
+use Rattle.bpf_verifier.specs.Path.{Linked}
+use Rattle.bpf_verifier.specs.Traced.{LeadsExactly, IsOpened}
+use Rattle.bpf_verifier.proofs.Reopening.{first_of, next_of, some_outline}
+use Rattle.bpf_verifier.proofs.fold.Fold.unfold.Goals as goal
+
+pub reopened-requires : goal.reopened-requires
+reopened-requires c =
+    let os : List Outline = c.self.inside.outlines.items in
+    let folded : IsFolded c.self.inside.first os c.args.self = subst (IsFolded c.self.inside.first os) c.self.view_is c.self.invariant in
+    let at : slice_get os 0 ≡ Some c.index.result.now = slice_get_read os (length os) 0 c.index.result.now refl (some_outline c.args.self c.self.inside.first os folded) c.index.ensures in
+    let r = first_of c.args.program.now c.args.self c.self.inside.first os c.index.result.now c.requires.traced.0 c.requires.traced.1 folded at c.requires.traced.2 in
+    record { opens = (r.frame, r.child, r.opens, r.same) }
+
+pub loop-k-init : goal.loop-k-init
+loop-k-init c =
+    let os : List Outline = c.self.inside.outlines.items in
+    let folded : IsFolded c.self.inside.first os c.args.self = subst (IsFolded c.self.inside.first os) c.self.view_is c.self.invariant in
+    let at : slice_get os 0 ≡ Some c.index.result.now = slice_get_read os (length os) 0 c.index.result.now refl (some_outline c.args.self c.self.inside.first os folded) c.index.ensures in
+    let r = first_of c.args.program.now c.args.self c.self.inside.first os c.index.result.now c.requires.traced.0 c.requires.traced.1 folded at c.requires.traced.2 in
+    let is = c.in_ok-frame.ensures.is r.frame r.child r.opens r.same in
+    record {
+      frames = c.in_ok-push.ensures.items ∙ ap (λ x. x ++ c.in_ok-frame.field-0.frame ∷ []) c.in_ok-frames.ensures.items ∙ ap (λ f. f ∷ []) is.0 ∙ sym r.taken;
+      rest = (c.requires.traced.0, c.requires.traced.1, subst (λ x. Linked (LeadsExactly c.args.program.now) (IsOpened c.args.program.now) (drop 1 c.args.self) c.requires.traced.0 x c.requires.traced.1) (sym (c.child.view_is ∙ is.1)) r.above);
+    }
+
+pub led-requires : goal.led-requires
+led-requires c =
+    let os : List Outline = c.self.inside.outlines.items in
+    let folded : IsFolded c.self.inside.first os c.args.self = subst (IsFolded c.self.inside.first os) c.self.view_is c.self.invariant in
+    let o : Outline = c.index-outline.result.now in
+    let at : slice_get os c.loop-k.k ≡ Some o = slice_get_read os c.len-k-end.result c.loop-k.k o (search rules) c.loop-k-test.true c.index-outline.ensures in
+    let t = c.loop-k.invariant.rest in
+    let r = next_of c.args.program.now c.args.self c.loop-k.k c.loop-k.current os o t.0 t.1 folded.same at t.2 in
+    record { leads = (r.own, r.leads) }
+
+pub reopened-requires-in-loop-k : goal.reopened-requires-in-loop-k
+reopened-requires-in-loop-k c =
+    let os : List Outline = c.self.inside.outlines.items in
+    let folded : IsFolded c.self.inside.first os c.args.self = subst (IsFolded c.self.inside.first os) c.self.view_is c.self.invariant in
+    let o : Outline = c.index-outline.result.now in
+    let at : slice_get os c.loop-k.k ≡ Some o = slice_get_read os c.len-k-end.result c.loop-k.k o (search rules) c.loop-k-test.true c.index-outline.ensures in
+    let t = c.loop-k.invariant.rest in
+    let r = next_of c.args.program.now c.args.self c.loop-k.k c.loop-k.current os o t.0 t.1 folded.same at t.2 in
+    let own : c.in_ok-state.state ≡ r.own = c.in_ok-state.ensures.is r.own r.leads in
+    record { opens = (r.frame, r.child, subst (λ x. IsOpened c.args.program.now r.frame x r.child) (sym own) r.opens, r.same) }
+
+pub loop-k-preserved : goal.loop-k-preserved
+loop-k-preserved c =
+    let os : List Outline = c.self.inside.outlines.items in
+    let folded : IsFolded c.self.inside.first os c.args.self = subst (IsFolded c.self.inside.first os) c.self.view_is c.self.invariant in
+    let o : Outline = c.index-outline.result.now in
+    let at : slice_get os c.loop-k.k ≡ Some o = slice_get_read os c.len-k-end.result c.loop-k.k o (search rules) c.loop-k-test.true c.index-outline.ensures in
+    let t = c.loop-k.invariant.rest in
+    let r = next_of c.args.program.now c.args.self c.loop-k.k c.loop-k.current os o t.0 t.1 folded.same at t.2 in
+    let own : c.in_ok-state.state ≡ r.own = c.in_ok-state.ensures.is r.own r.leads in
+    let is = c.in_ok-frame-2.ensures.is r.frame r.child (subst (λ x. IsOpened c.args.program.now r.frame x r.child) (sym own) r.opens) r.same in
+    record {
+      frames = c.in_ok-push-2.ensures.items ∙ ap (λ x. x ++ c.in_ok-frame-2.field-0.frame ∷ []) c.loop-k.invariant.frames ∙ ap (λ f. take c.loop-k.k c.args.self ++ f ∷ []) is.0 ∙ sym r.taken;
+      rest = (t.0, t.1, subst (λ x. Linked (LeadsExactly c.args.program.now) (IsOpened c.args.program.now) (drop (c.loop-k.k + 1) c.args.self) t.0 x t.1) (sym is.1) r.above);
+    }
