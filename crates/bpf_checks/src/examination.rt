@@ -303,8 +303,8 @@ pub fn examine(alloc: Global, program: &Program, state: &AbsState) -> Result<Way
     examine_moved(alloc, program, copy)
 }
 
-/// The same of a state that nobody else has, which its parts change where it stands.
-fn examine_moved(alloc: Global, program: &Program, state: AbsState) -> Result<Ways, Fault>
+/// The same of a state that is given up: what it shares with no other is changed where it stands, and not copied.
+pub fn examine_moved(alloc: Global, program: &Program, state: AbsState) -> Result<Ways, Fault>
     requires begins { Begins program.now.slots state.pc }
     ensures is { (i : Insn) → Holds program.now.slots state.pc i →
         IsOrNoMemory result (examined program.now.shapes i state) }

@@ -15,7 +15,7 @@ ghost use Rattle.bpf_verifier.specs.Path.{IsBegun, IsKept, StandsIn};
 ghost use Rattle.bpf_verifier.specs.Safety.{AllSafe};
 ghost use Rattle.bpf_plain.specs.Walks.{IsPlain, HasWalk};
 
-use crate::frame::{Frame, at_target};
+use crate::frame::{Frame, Outcome, examine_state};
 use crate::laws::examination_law;
 use crate::limit::StateLimit;
 use crate::observer::Observer;
@@ -23,7 +23,6 @@ use crate::path::Path;
 use crate::refusal::Refusal;
 use bpf_absstate::AbsState;
 use bpf_absstate::laws::{entry_law, inclusion_law};
-use bpf_checks::examine;
 use bpf_decode::Program;
 use bpf_model::laws::within_law;
 use bpf_plain::laws::{standing_law, walking_law};
@@ -201,25 +200,24 @@ impl Exploration {
             let unwound = self.unwind(program, budget)?;
             return Ok(unwound);
         }
-        match examine(alloc, program, &state)? {
+        let Outcome { ways, kept } = examine_state(alloc, program, state)?;
+        match ways {
             Ways::Nowhere => {
-                let leaf = at_target(program, state);
-                self.finish(leaf, 1)?;
+                self.finish(kept, 1)?;
                 let unwound = self.unwind(program, 1)?;
                 Ok(unwound)
             }
             Ways::One(next) => {
-                if !program.is_target(state.pc()) {
+                if kept.is_none() {
                     self.after += 1;
                     return Ok(Unwound::Onward(next));
                 }
                 let before = self.after;
-                self.push(before, Some(state), None, 0)?;
+                self.push(before, kept, None, 0)?;
                 Ok(Unwound::Onward(next))
             }
             Ways::Two(first, second) => {
                 let before = self.after;
-                let kept = at_target(program, state);
                 self.push(before, kept, Some(second), 0)?;
                 Ok(Unwound::Onward(first))
             }

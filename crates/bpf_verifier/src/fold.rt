@@ -7,9 +7,9 @@ ghost use Rattle.bpf_verifier.specs.declared.frame.Frame.{Frame};
 ghost use Rattle.bpf_verifier.specs.Folded.{outline_of};
 ghost use Rattle.bpf_verifier.specs.Traced.{LeadsExactly, AreOpen, IsOpened, OpensWith, IsTraced};
 
-use crate::frame::{Frame, at_target};
+use crate::frame::{Frame, Outcome, examine_state};
 use bpf_absstate::AbsState;
-use bpf_checks::examine;
+use bpf_checks::examine_moved;
 use bpf_decode::Program;
 use bpf_rules::Ways;
 use std::alloc::{AllocError, Global};
@@ -102,7 +102,7 @@ fn led(
 {
     let mut current = state;
     for _step in 0..steps {
-        let Ok(ways) = examine(alloc, program, &current) else {
+        let Ok(ways) = examine_moved(alloc, program, current) else {
             return Err(AllocError);
         };
         current = only(ways);
@@ -142,15 +142,15 @@ fn reopened(
         (λ o. (f : Frame) (child : View) → IsOpened program.now f own child → outline
         ≡ outline_of f → (o.frame ≡ f) × (o.child ≡ child)) }
 {
-    let Ok(ways) = examine(alloc, program, &own) else {
+    let Ok(outcome) = examine_state(alloc, program, own) else {
         return Err(AllocError);
     };
-    let state = at_target(program, own);
+    let Outcome { ways, kept } = outcome;
     let (pending, child) = parted(ways, outline.forks);
     Ok(Opened {
         frame: Frame {
             before: outline.before,
-            state,
+            state: kept,
             pending,
             best: outline.best,
         },

@@ -1,10 +1,16 @@
-//! A state some of whose ways are being explored.
+//! A state some of whose ways are being explored, and the examination that finds its ways.
 
-ghost use Rattle.std.specs.Prelude.{◌≡◌, Some, IfSome};
-ghost use Rattle.bpf_decode.specs.Program.{IsTarget};
+ghost use Rattle.std.specs.Prelude.{◌≡◌, ◌⊎◌, Ok, Err, Some, IfOk, IfErr, IfSome};
+ghost use Rattle.bpf_insn.specs.declared.insn.Insn.{Insn};
+ghost use Rattle.bpf_decode.specs.Program.{Begins, Holds, IsTarget};
+ghost use Rattle.bpf_rules.specs.declared.fault.Fault.TheVariants.{NoMemory};
+ghost use Rattle.bpf_rules.specs.Examined.{examined};
 
 use bpf_absstate::AbsState;
+use bpf_checks::{examine, examine_moved};
 use bpf_decode::Program;
+use bpf_rules::{Fault, Ways};
+use std::alloc::Global;
 
 /// A state some of whose ways are being explored: one that stands at a target slot, or has two ways.
 #[derive(Drop)]
@@ -19,13 +25,38 @@ pub(crate) struct Frame {
     pub(crate) best: u32,
 }
 
-/// The state itself, where it stands at a target slot.
-pub(crate) fn at_target(program: &Program, state: AbsState) -> Option<AbsState>
-    ensures there { IsTarget program.now.slots state.pc → result ≡ Some state }
-    ensures elsewhere { IfSome result (λ a. (a ≡ state) × IsTarget program.now.slots a.pc) }
+/// What the examination of a state came to.
+#[derive(Drop)]
+pub(crate) struct Outcome {
+    pub(crate) ways: Ways,
+    /// The state itself, where it stands at a target slot.
+    pub(crate) kept: Option<AbsState>,
+}
+
+/// Examines a state. One that stands at no target slot is given up: what it shares with no other isn't copied.
+pub(crate) fn examine_state(
+    alloc: Global,
+    program: &Program,
+    state: AbsState,
+) -> Result<Outcome, Fault>
+    requires begins { Begins program.now.slots state.pc }
+    ensures ways { IfOk result
+        (λ o. (i : Insn) → Holds program.now.slots state.pc i →
+        examined program.now.shapes i state ≡ Ok o.ways) }
+    ensures there { IfOk result (λ o. IsTarget program.now.slots state.pc → o.kept ≡ Some state) }
+    ensures elsewhere { IfOk result
+        (λ o. IfSome o.kept (λ a. (a ≡ state) × IsTarget program.now.slots a.pc)) }
+    ensures refuses { IfErr result
+        (λ e. (i : Insn) → Holds program.now.slots state.pc i →
+        (e ≡ NoMemory) ⊎ (examined program.now.shapes i state ≡ Err e)) }
 {
     if program.is_target(state.pc()) {
-        return Some(state);
+        let ways = examine(alloc, program, &state)?;
+        return Ok(Outcome {
+            ways,
+            kept: Some(state),
+        });
     }
-    None
+    let ways = examine_moved(alloc, program, state)?;
+    Ok(Outcome { ways, kept: None })
 }

@@ -4,8 +4,8 @@ use Rattle.bpf_verifier.specs.Traced.{HasWays}
 use Rattle.bpf_verifier.proofs.Tracing.{way_of, led_there, led_on, same_ways}
 use Rattle.bpf_verifier.proofs.fold.led.Goals as goal
 
-pub examine-requires : goal.examine-requires
-examine-requires c =
+pub examine_moved-requires : goal.examine_moved-requires
+examine_moved-requires c =
     let left : ℕ = c.args.steps - (c.loop-step._step + 1) in
     let more : c.args.steps - c.loop-step._step ≡ suc left = omega arith in
     let r = way_of c.args.program.now (c.args.steps - c.loop-step._step) left c.loop-step.current c.requires.leads.0 more (c.loop-step.invariant c.requires.leads.0 c.requires.leads.1) in

@@ -1,7 +1,7 @@
 use Rattle.std.proofs.Common.{refl, sym, subst}
 use Rattle.std.proofs.lemmas.Bool.{false≢true}
 use Rattle.bpf_decode.specs.Program.{IsTarget}
-use Rattle.bpf_verifier.proofs.frame.at_target.Goals as goal
+use Rattle.bpf_verifier.proofs.frame.examine_state.Goals as goal
 
 pub returns-then-is_target-clause-elsewhere : goal.returns-then-is_target-clause-elsewhere
 returns-then-is_target-clause-elsewhere c = (refl, subst (IsTarget c.args.program.now.slots) c.pc.ensures.is (c.if-is_target.ensures.is.0 refl))
