@@ -13,6 +13,7 @@ use Rattle.ap_model.specs.Agreements.{Setup, PassesHeld, ups, setup_answer}
 use Rattle.ap_agreements.specs.Tables.{Kept, agreement_in}
 use Rattle.ap_agreements.specs.Uses.{Opens}
 use Rattle.ap_core.specs.declared.state.State.{State}
+use Rattle.ap_core.specs.declared.state.Setting.{Setting}
 use Rattle.ap_core.specs.declared.state.Came.{Came}
 use Rattle.ap_core.specs.declared.management.Asked.{Asked}
 use Rattle.ap_core.specs.declared.setups.SetupRequest.{SetupRequest}
@@ -24,6 +25,10 @@ reading s = record { standing = standing s.link; agreement = agreement_in s.agre
 -- what a shard is made with: its number and the configuration
 abbrev pub rules : ℕ → Config → Rules
 rules shard config = record { shard = shard; config = config }
+
+-- the same in a setting
+abbrev pub ruled_by : Setting → State → Rules
+ruled_by setting s = rules s.link.shard setting.config.now
 
 -- who sent a frame that came
 abbrev pub sender : Came → List ℕ

@@ -1,4 +1,5 @@
 pub mod AccessPoints
+pub mod Comes
 pub mod DataFrames
 pub mod Handles
 pub mod Noted

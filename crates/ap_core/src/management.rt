@@ -7,7 +7,7 @@ ghost use Rattle.ap_model.specs.Changes.{sends};
 ghost use Rattle.ap_model.specs.Associations.{AuthenticationStatus, Authenticates, Associates, Suits, Names, association_answer, association_ask};
 ghost use Rattle.mac_frame.specs.Elements.{rates_text};
 ghost use Rattle.ap_model.specs.Asks.{Handled};
-ghost use Rattle.ap_core.specs.Handles.{reading, rules, request, sender, IsSpelled};
+ghost use Rattle.ap_core.specs.Handles.{reading, rules, request, sender, IsSpelled, ruled_by};
 
 use crate::moves::{associate, authenticate};
 use crate::room::Room;
@@ -53,7 +53,7 @@ pub(crate) fn on_authentication(
     transaction: u16,
 ) -> Result<Vec<Out>, AllocError>
     ensures step { IfOk result
-        (λ outs. Authenticates (rules state.old.link.shard setting.entry.config.now)
+        (λ outs. Authenticates (ruled_by setting.entry state.old)
         (reading state.old) station algorithm transaction [] outs.items (reading state.new)) }
     ensures shard { state.new.link.shard ≡ state.old.link.shard }
     ensures refused { IfErr result (λ _. state.new ≡ state.old) }
@@ -201,7 +201,7 @@ pub(crate) fn on_association<J: Judge>(
     requires known { IsSome (standing state.old.link (sender asked.now.came.now)) }
     ensures step { IfOk result
         (λ outs. Handled J.gives (λ asks outs. Associates
-        (rules state.old.link.shard setting.entry.config.now) (reading state.old)
+        (ruled_by setting.entry state.old) (reading state.old)
         (sender asked.now.came.now) (request asked.now) asks outs (reading state.new)) judge.old
         outs.items judge.new) }
     ensures shard { state.new.link.shard ≡ state.old.link.shard }

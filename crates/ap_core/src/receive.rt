@@ -5,7 +5,7 @@ ghost use Rattle.ap_model.specs.declared.event.Out.{Out};
 ghost use Rattle.mac_frame.specs.Spelling.{spelling};
 ghost use Rattle.ap_model.specs.Steps.{FrameComes, Checked, check_of};
 ghost use Rattle.ap_model.specs.Asks.{Handled};
-ghost use Rattle.ap_core.specs.Handles.{reading, rules, IsSpelled};
+ghost use Rattle.ap_core.specs.Handles.{reading, rules, IsSpelled, ruled_by};
 ghost use Rattle.ap_core.specs.Noted.{IsNoted};
 
 use crate::room::Room;
@@ -51,8 +51,8 @@ fn check<J: Judge>(
     requires bytes { IsSpelled came }
     ensures step { IfOk result
         (λ outs. Handled J.gives (λ asks outs. Checked
-        (rules state.old.link.shard setting.entry.config.now) (reading state.old)
-        came.entry.frame (check_of (rules state.old.link.shard setting.entry.config.now)
+        (ruled_by setting.entry state.old) (reading state.old)
+        came.entry.frame (check_of (ruled_by setting.entry state.old)
         (reading state.old) came.entry.frame) asks outs (reading state.new)) judge.old outs.items
         judge.new) }
     ensures shard { state.new.link.shard ≡ state.old.link.shard }
@@ -89,7 +89,7 @@ fn on_frame<J: Judge>(
     requires bytes { bytes.now ≡ spelling frame }
     ensures step { IfOk result
         (λ outs. Handled J.gives (λ asks outs. FrameComes
-        (rules state.old.link.shard setting.entry.config.now) (reading state.old) bytes.now asks outs
+        (ruled_by setting.entry state.old) (reading state.old) bytes.now asks outs
         (reading state.new)) judge.old outs.items judge.new) }
     ensures shard { state.new.link.shard ≡ state.old.link.shard }
     ensures refused { IfErr result (λ _. (state.new ≡ state.old) × (judge.new ≡ judge.old)) }

@@ -2,7 +2,7 @@
 
 ghost use Rattle.std.specs.Prelude.{◌≡◌, [], IfOk, IfErr};
 ghost use Rattle.ap_model.specs.Agreements.{RequestComes};
-ghost use Rattle.ap_core.specs.Handles.{reading, rules};
+ghost use Rattle.ap_core.specs.Handles.{reading, ruled_by};
 
 use crate::passing::pass_up;
 use crate::room::FrameRoom;
@@ -21,7 +21,7 @@ pub(crate) fn on_request(
     start: SequenceNumber,
 ) -> Result<Vec<Out>, AllocError>
     ensures step { IfOk result
-        (λ outs. RequestComes (rules state.old.link.shard setting.entry.config.now) (reading state.old)
+        (λ outs. RequestComes (ruled_by setting.entry state.old) (reading state.old)
         station tid start [] outs.items (reading state.new)) }
     ensures shard { state.new.link.shard ≡ state.old.link.shard }
     ensures refused { IfErr result (λ _. state.new ≡ state.old) }

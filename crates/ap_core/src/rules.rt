@@ -10,7 +10,8 @@ ghost use Rattle.assoc.specs.declared.class.Class.{Class};
 ghost use Rattle.assoc.specs.declared.class.ClassAnswer.{ClassAnswer};
 ghost use Rattle.ap_model.specs.Steps.{IsOurs, ManagementComes, DataKindComes, ControlComes, Follows};
 ghost use Rattle.ap_model.specs.Asks.{Handled};
-ghost use Rattle.ap_core.specs.Handles.{reading, rules, sender, IsSpelled};
+ghost use Rattle.ap_core.specs.Comes.{HandlesManagement};
+ghost use Rattle.ap_core.specs.Handles.{reading, rules, sender, IsSpelled, ruled_by};
 
 use crate::ends::on_delba;
 use crate::management::{Asked, on_association, on_authentication};
@@ -46,7 +47,7 @@ fn on_class_one(
     requires class { class_of (management_subtype body) ≡ Class.One }
     ensures step { IfOk result
         (λ outs. (f : SpelledFrame) → f.sender ≡ station →
-        ManagementComes (rules state.old.link.shard setting.entry.config.now) (reading state.old) f body
+        ManagementComes (ruled_by setting.entry state.old) (reading state.old) f body
         [] outs.items (reading state.new)) }
     ensures shard { state.new.link.shard ≡ state.old.link.shard }
     ensures refused { IfErr result (λ _. state.new ≡ state.old) }
@@ -79,10 +80,8 @@ fn on_class_two<J: Judge>(
     requires bytes { IsSpelled came.now }
     requires class { class_of (management_subtype body) ≡ Class.Two }
     requires known { IsSome (standing state.old.link (sender came.now)) }
-    ensures step { IfOk result
-        (λ outs. Handled J.gives (λ asks outs. ManagementComes
-        (rules state.old.link.shard setting.entry.config.now) (reading state.old) came.now.frame body
-        asks outs (reading state.new)) judge.old outs.items judge.new) }
+    ensures step { IfOk result (λ outs. HandlesManagement J.gives setting.entry state.old
+        came.now.frame body judge.old outs.items state.new judge.new) }
     ensures shard { state.new.link.shard ≡ state.old.link.shard }
     ensures refused { IfErr result (λ _. (state.new ≡ state.old) × (judge.new ≡ judge.old)) }
 {
@@ -134,10 +133,8 @@ fn on_class_three<J: Judge>(
 ) -> Result<Vec<Out>, AllocError>
     requires bytes { IsSpelled came.now }
     requires class { class_of (management_subtype body) ≡ Class.Three }
-    ensures step { IfOk result
-        (λ outs. Handled J.gives (λ asks outs. ManagementComes
-        (rules state.old.link.shard setting.entry.config.now) (reading state.old) came.now.frame body
-        asks outs (reading state.new)) judge.old outs.items judge.new) }
+    ensures step { IfOk result (λ outs. HandlesManagement J.gives setting.entry state.old
+        came.now.frame body judge.old outs.items state.new judge.new) }
     ensures shard { state.new.link.shard ≡ state.old.link.shard }
     ensures refused { IfErr result (λ _. (state.new ≡ state.old) × (judge.new ≡ judge.old)) }
 {
@@ -185,10 +182,8 @@ fn on_management<J: Judge>(
     requires bytes { IsSpelled came.now }
     requires permitted { class_answer (standing state.old.link (sender came.now))
         (class_of (management_subtype body)) ≡ ClassAnswer.Permitted }
-    ensures step { IfOk result
-        (λ outs. Handled J.gives (λ asks outs. ManagementComes
-        (rules state.old.link.shard setting.entry.config.now) (reading state.old) came.now.frame body
-        asks outs (reading state.new)) judge.old outs.items judge.new) }
+    ensures step { IfOk result (λ outs. HandlesManagement J.gives setting.entry state.old
+        came.now.frame body judge.old outs.items state.new judge.new) }
     ensures shard { state.new.link.shard ≡ state.old.link.shard }
     ensures refused { IfErr result (λ _. (state.new ≡ state.old) × (judge.new ≡ judge.old)) }
 {
@@ -220,7 +215,7 @@ fn on_control(
 ) -> Result<Vec<Out>, AllocError>
     ensures step { IfOk result
         (λ outs. (f : SpelledFrame) → f.sender ≡ station →
-        ControlComes (rules state.old.link.shard setting.entry.config.now) (reading state.old) f body []
+        ControlComes (ruled_by setting.entry state.old) (reading state.old) f body []
         outs.items (reading state.new)) }
     ensures shard { state.new.link.shard ≡ state.old.link.shard }
     ensures refused { IfErr result (λ _. state.new ≡ state.old) }
@@ -304,7 +299,7 @@ pub(crate) fn follow<J: Judge>(
         (class_of (content_subtype came.frame.content)) ≡ ClassAnswer.Permitted }
     ensures step { IfOk result
         (λ outs. Handled J.gives (λ asks outs. Follows
-        (rules state.old.link.shard setting.entry.config.now) (reading state.old)
+        (ruled_by setting.entry state.old) (reading state.old)
         came.entry.frame came.entry.frame.content asks outs (reading state.new)) judge.old
         outs.items judge.new) }
     ensures shard { state.new.link.shard ≡ state.old.link.shard }

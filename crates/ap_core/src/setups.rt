@@ -3,10 +3,10 @@
 ghost use Rattle.std.specs.Prelude.{◌≡◌, ℕ, ◌+◌, ◌≤◌, ◌<◌, [], ◌∷◌, None, Some, IfOk, IfErr, vec_len, vec_capacity};
 ghost use Rattle.mac_types.specs.declared.fields.BlockAckPolicy.{BlockAckPolicy};
 ghost use Rattle.ap_model.specs.Changes.{sends};
-ghost use Rattle.ap_model.specs.Agreements.{SetsUp, setup_answer, setup_ask};
+ghost use Rattle.ap_model.specs.Agreements.{setup_answer, setup_ask};
 ghost use Rattle.ap_agreements.specs.Tables.{key_of, agreement_in, held_under};
-ghost use Rattle.ap_model.specs.Asks.{Handled};
-ghost use Rattle.ap_core.specs.Handles.{reading, rules, setup, sender, IsSpelled, IsGranted};
+ghost use Rattle.ap_core.specs.Comes.{HandlesSetup};
+ghost use Rattle.ap_core.specs.Handles.{reading, rules, setup, sender, IsSpelled, IsGranted, ruled_by};
 
 use crate::passing::pass_replaced;
 use crate::room::{FrameRoom, Room};
@@ -103,7 +103,7 @@ fn grant(
     requires outs { held_under (agreement_in state.old.agreements.kept (sender request.now.came.now)
         request.now.parameters.tid) + 1 ≤ vec_capacity room.outs }
     requires empty { room.outs.items ≡ [] }
-    ensures step { IsGranted (rules state.old.link.shard setting.entry.config.now) (reading state.old)
+    ensures step { IsGranted (ruled_by setting.entry state.old) (reading state.old)
         (sender request.now.came.now) (setup request.now) size result.items (reading state.new) }
     ensures shard { state.new.link.shard ≡ state.old.link.shard }
 {
@@ -129,11 +129,8 @@ fn on_immediate<J: Judge>(
 ) -> Result<Vec<Out>, AllocError>
     requires bytes { IsSpelled request.now.came.now }
     requires immediate { request.now.parameters.policy ≡ BlockAckPolicy.Immediate }
-    ensures step { IfOk result
-        (λ outs. Handled J.gives (λ asks outs. SetsUp
-        (rules state.old.link.shard setting.entry.config.now) (reading state.old)
-        (sender request.now.came.now) (setup request.now) asks outs (reading state.new)) judge.old
-        outs.items judge.new) }
+    ensures step { IfOk result (λ outs. HandlesSetup J.gives setting.entry state.old
+        request.now judge.old outs.items state.new judge.new) }
     ensures shard { state.new.link.shard ≡ state.old.link.shard }
     ensures refused { IfErr result (λ _. (state.new ≡ state.old) × (judge.new ≡ judge.old)) }
 {
@@ -179,11 +176,8 @@ pub(crate) fn on_setup<J: Judge>(
     judge: &mut J,
 ) -> Result<Vec<Out>, AllocError>
     requires bytes { IsSpelled request.now.came.now }
-    ensures step { IfOk result
-        (λ outs. Handled J.gives (λ asks outs. SetsUp
-        (rules state.old.link.shard setting.entry.config.now) (reading state.old)
-        (sender request.now.came.now) (setup request.now) asks outs (reading state.new)) judge.old
-        outs.items judge.new) }
+    ensures step { IfOk result (λ outs. HandlesSetup J.gives setting.entry state.old
+        request.now judge.old outs.items state.new judge.new) }
     ensures shard { state.new.link.shard ≡ state.old.link.shard }
     ensures refused { IfErr result (λ _. (state.new ≡ state.old) × (judge.new ≡ judge.old)) }
 {

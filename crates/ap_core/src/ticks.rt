@@ -6,7 +6,7 @@ ghost use Rattle.std.specs.Prelude.{◌≡◌, ℕ, ◌+◌, ◌-◌, ◌^◌, m
 ghost use Rattle.ap_model.specs.declared.event.Out.{Out};
 ghost use Rattle.blockack.specs.Reading.{numbers_held};
 ghost use Rattle.ap_model.specs.Steps.{Ticks};
-ghost use Rattle.ap_core.specs.Handles.{reading, rules};
+ghost use Rattle.ap_core.specs.Handles.{reading, rules, ruled_by};
 ghost use Rattle.ap_core.specs.Ticking.{clock_after, late_outs, outs_of_ends, HasRoom, EndsOne, EndsAll, TickStep};
 
 use crate::passing::pass_all;
@@ -111,7 +111,7 @@ pub(crate) fn tick(
 )
     requires room { HasRoom state.old units room }
     requires outs { vec_len outs.old + late_outs state.old units ≤ vec_capacity outs.old }
-    ensures step { TickStep (rules state.old.link.shard setting.entry.config.now) (reading state.old)
+    ensures step { TickStep (ruled_by setting.entry state.old) (reading state.old)
         units outs.old.items outs.new.items (reading state.new) }
     ensures len { vec_len outs.new ≤ vec_len outs.old + late_outs state.old units }
     ensures capacity { vec_capacity outs.new ≡ vec_capacity outs.old }
