@@ -1,6 +1,6 @@
 -- What is at fault in files.
 use Rattle.std.proofs.Math.Nat.{lt_of_not-le}
-use Rattle.std.proofs.Common.{◌≡◌, ◌≢◌, ◌⊎◌, ◌∙◌, ◌<◌, ◌≤◌, ◌^◌, true, false, length, List, ℕ, Err, Option, None, Some, inl, inr, refl, subst}
+use Rattle.std.proofs.Common.{◌≡◌, ◌≢◌, ◌⊎◌, ◌<◌, ◌≤◌, ◌^◌, true, false, length, List, ℕ, Err, Option, None, Some, inl, inr, refl, subst}
 use Rattle.std.specs.Prelude.{IfSome}
 use Rattle.hex.specs.Hex.{decode_of}
 use Rattle.hex.specs.declared.error.FromHexError.{FromHexError}
@@ -13,6 +13,9 @@ use Rattle.capture.specs.declared.fault.CaptureFault.{CaptureFault}
 use Rattle.capture.specs.declared.fault.CaptureFault.TheVariants as capture
 use Rattle.apd_program.specs.declared.fault.ProgramFault.{ProgramFault}
 use Rattle.apd_program.specs.declared.fault.ProgramFault.TheVariants.{NoMemory}
+use Rattle.apd_words.specs.declared.Source.{Source}
+use Rattle.apd_words.specs.Asked.{config_of}
+use Rattle.apd_program.specs.declared.reading.Loaded.{Loaded}
 use Rattle.apd_program.specs.declared.reading.Setup.{Setup}
 use Rattle.apd_inputs.specs.declared.files.FileKind.{FileKind}
 use Rattle.apd_inputs.specs.declared.files.FileKind.TheVariants.{Certificate}
@@ -21,9 +24,9 @@ use Rattle.apd_inputs.specs.declared.files.FileFault.TheVariants as unread_fault
 use Rattle.apd_inputs.specs.declared.code.CodeFault.{CodeFault}
 use Rattle.apd_inputs.specs.declared.code.CodeFault.TheVariants as read
 use Rattle.apd_inputs.specs.Faults.{IsFaultOf}
-use Rattle.apd_inputs.specs.Held.{Held, Holds, HoldsCode, HoldsKept, IsNoInput, IsUnread}
-use Rattle.apd_program.specs.Setups.{Configures}
-use Rattle.apd_program.specs.Faults.{HasBadCode, HasBadDigits, NoFile, NoCode, HasBadConfiguration, NoConfiguration, IsBadConfig, HasBadCapture, NoCapture, IsAtFault, OfConfiguration, OfCode, IsNoFrame, NoDigits, HasNoFrame, OfFiles, OfWord, HasNoCertificate, OfOthers, OfCertificate}
+use Rattle.apd_inputs.specs.Held.{Held, Holds, IsNoInput, IsUnread}
+use Rattle.apd_program.specs.Setups.{Configures, IsLoaded}
+use Rattle.apd_program.specs.Faults.{IsMemoryOr, IsBadSource, HasBadCode, HasBadDigits, NoFile, NoCode, HasBadConfiguration, NoConfiguration, IsBadConfig, HasBadCapture, NoCapture, IsAtFault, OfConfiguration, OfCode, IsNoFrame, NoDigits, HasNoFrame, OfFiles, OfWord, HasNoCertificate, OfOthers, OfCertificate}
 
 pub code_at_fault : (kind : FileKind) (files : Held) (path : List ℕ) (e : CodeFault) (f : ProgramFault) → IsFaultOf kind files path e → (e ≡ read.NoMemory → f ≡ NoMemory) → (f ≡ NoMemory) ⊎ HasBadDigits kind files path
 code_at_fault kind files path read.NoMemory f h m = inl (m refl)
@@ -94,26 +97,24 @@ IsAtFault-code files later file config setup e same fine (inl memory) = inl memo
 IsAtFault-code files later file config setup e same fine (inr bad) =
     inr (OfCode config setup fine (let P : Held → Type 0 = λ f. HasBadCode f file in subst P same bad))
 
-pub HasNoFrame-files : (files : Held) (file word : List ℕ) (config : Option (List ℕ)) (e : ProgramFault) → (e ≡ NoMemory) ⊎ IsAtFault files file config → (e ≡ NoMemory) ⊎ HasNoFrame files file word config
-HasNoFrame-files files file word config e (inl memory) = inl memory
-HasNoFrame-files files file word config e (inr fault) = inr (OfFiles fault)
+module _ (files : Held) (source : Source) where
+  pub HasNoFrame-files : (word : List ℕ) (e : ProgramFault) → IsMemoryOr (IsBadSource files source) e → IsMemoryOr (HasNoFrame files source.file.now word (config_of source)) e
+  HasNoFrame-files word e (inl memory) = inl memory
+  HasNoFrame-files word e (inr fault) = inr (OfFiles fault)
 
-pub HasNoFrame-word : (files later : Held) (file word kept : List ℕ) (config : Option (List ℕ)) (setup : Setup) (e : ProgramFault) → later ≡ files → Configures files config setup → HoldsKept (2 ^ 17) later file kept
-    → (e ≡ NoMemory) ⊎ IsNoFrame word → (e ≡ NoMemory) ⊎ HasNoFrame files file word config
-HasNoFrame-word files later file word kept config setup e same fine h (inl memory) = inl memory
-HasNoFrame-word files later file word kept config setup e same fine h (inr bad) =
-    inr (OfWord setup h.code fine (let P : Held → Type 0 = λ f. HoldsCode f file h.code in subst P same h.held) bad)
+  pub HasNoFrame-word : (word : List ℕ) (loaded : Loaded) (e : ProgramFault) → IsLoaded files source loaded → IsMemoryOr (IsNoFrame word) e → IsMemoryOr (HasNoFrame files source.file.now word (config_of source)) e
+  HasNoFrame-word word loaded e h (inl memory) = inl memory
+  HasNoFrame-word word loaded e h (inr bad) = inr (OfWord loaded.setup h.kept.code h.configured h.kept.held bad)
 
-pub HasNoCertificate-others : (files : Held) (file certificate : List ℕ) (config : Option (List ℕ)) (e : ProgramFault) → (e ≡ NoMemory) ⊎ IsAtFault files file config
-    → (e ≡ NoMemory) ⊎ HasNoCertificate files file certificate config
-HasNoCertificate-others files file certificate config e (inl memory) = inl memory
-HasNoCertificate-others files file certificate config e (inr fault) = inr (OfOthers fault)
+  pub HasNoCertificate-others : (certificate : List ℕ) (e : ProgramFault) → IsMemoryOr (IsBadSource files source) e → IsMemoryOr (HasNoCertificate files source.file.now certificate (config_of source)) e
+  HasNoCertificate-others certificate e (inl memory) = inl memory
+  HasNoCertificate-others certificate e (inr fault) = inr (OfOthers fault)
 
-pub HasNoCertificate-file : (files later last : Held) (file certificate kept : List ℕ) (config : Option (List ℕ)) (setup : Setup) (e : ProgramFault) → later ≡ files → last ≡ later → Configures files config setup
-    → HoldsKept (2 ^ 17) later file kept → (e ≡ NoMemory) ⊎ HasBadDigits Certificate last certificate → (e ≡ NoMemory) ⊎ HasNoCertificate files file certificate config
-HasNoCertificate-file files later last file certificate kept config setup e same still fine h (inl memory) = inl memory
-HasNoCertificate-file files later last file certificate kept config setup e same still fine h (inr bad) =
-    inr (OfCertificate setup h.code fine (let P : Held → Type 0 = λ f. HoldsCode f file h.code in subst P same h.held) (let P : Held → Type 0 = λ f. HasBadDigits Certificate f certificate in subst P (still ∙ same) bad))
+  pub HasNoCertificate-file : (later : Held) (certificate : List ℕ) (loaded : Loaded) (e : ProgramFault) → later ≡ files → IsLoaded files source loaded → IsMemoryOr (HasBadDigits Certificate later certificate) e
+      → IsMemoryOr (HasNoCertificate files source.file.now certificate (config_of source)) e
+  HasNoCertificate-file later certificate loaded e same h (inl memory) = inl memory
+  HasNoCertificate-file later certificate loaded e same h (inr bad) =
+      inr (OfCertificate loaded.setup h.kept.code h.configured h.kept.held (let P : Held → Type 0 = λ f. HasBadDigits Certificate f certificate in subst P same bad))
 
 pub frame_at_fault : (word : List ℕ) (e : FromHexError) (f : ProgramFault) → (e ≡ OutOfMemory) ⊎ (decode_of word ≡ Err e) → (e ≡ OutOfMemory → f ≡ NoMemory) → (f ≡ NoMemory) ⊎ IsNoFrame word
 frame_at_fault word e f (inl memory) m = inl (m memory)

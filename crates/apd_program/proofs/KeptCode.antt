@@ -1,17 +1,19 @@
 -- Code of which a part is kept.
-use Rattle.std.proofs.Common.{◌≡◌, ◌≢◌, ◌⊎◌, ℕ, ◌+◌, ◌*◌, ◌/◌, ◌%◌, ◌^◌, ◌<◌, ◌≤◌, List, length, Result, IfOk, Option, sym, subst, refl, arith}
+use Rattle.std.proofs.Common.{◌≡◌, ◌≢◌, ◌⊎◌, ℕ, ◌+◌, ◌*◌, ◌/◌, ◌%◌, ◌^◌, ◌<◌, ◌≤◌, List, length, Result, IfOk, subst, arith}
 use Rattle.std.proofs.lemmas.Result.{IfOk-weaker}
 use Rattle.bpf_regions.specs.declared.maps.Shape.{Shape}
 use Rattle.bpf_decode.specs.Program.{Code, Spells}
 use Rattle.bpf_decode.specs.Answer.{Refuses}
 use Rattle.bpf_decode.specs.declared.fault.DecodeFault.{DecodeFault}
 use Rattle.bpf_decode.specs.declared.fault.DecodeFault.TheVariants as fault
-use Rattle.apd_inputs.specs.Held.{Held, HoldsCode, HoldsKept, Keeps}
-use Rattle.apd_inputs.specs.Held.{Whole, Part}
+use Rattle.apd_inputs.specs.Held.{Held, Keeps, Whole, Part}
 use Rattle.apd_program.specs.declared.answer.Answer.{Answer}
 use Rattle.apd_program.specs.declared.fault.ProgramFault.{ProgramFault}
+use Rattle.apd_words.specs.declared.Source.{Source}
+use Rattle.apd_words.specs.Asked.{config_of}
+use Rattle.apd_program.specs.declared.reading.Loaded.{Loaded}
 use Rattle.apd_program.specs.declared.reading.Setup.{Setup}
-use Rattle.apd_program.specs.Setups.{Configures}
+use Rattle.apd_program.specs.Setups.{IsLoaded}
 use Rattle.apd_program.specs.Answers.{IsOfCode}
 use Rattle.apd_program.specs.Programs.{IsOfProgram, Undecoded, Decoded}
 
@@ -33,29 +35,13 @@ module _ (says : Code → Answer → Type 0) (shapes : List Shape) where
   IsOfProgram-kept code kept a (Whole same) h = subst (λ c. IsOfProgram says c shapes a) same h
   IsOfProgram-kept code kept a (Part long longer even) h = past code kept a long longer even h
 
-pub IsOfCode-kept : (says : Setup → Code → Answer → Type 0) (files later : Held) (file kept : List ℕ) (config : Option (List ℕ)) (setup : Setup) (r : Result Answer ProgramFault) → later ≡ files → Configures files config setup
-    → HoldsKept (2 ^ 17) later file kept → IfOk r (IsOfProgram (says setup) kept setup.shapes) → IfOk r (IsOfCode says files file config)
-IsOfCode-kept says files later file kept config setup r same configured h said =
-    IfOk-weaker r (IsOfProgram (says setup) kept setup.shapes) (IsOfCode says files file config) (λ a i. record {
-      setup = setup;
-      configured = configured;
-      code = h.code;
-      held = subst (λ f. HoldsCode f file h.code) same h.held;
-      said = IsOfProgram-kept (says setup) setup.shapes h.code kept a h.keeps i;
+pub IsOfCode-loaded : (says : Setup → Code → Answer → Type 0) (files : Held) (source : Source) (loaded : Loaded) (r : Result Answer ProgramFault) → IsLoaded files source loaded
+    → IfOk r (IsOfProgram (says loaded.setup) loaded.code.items loaded.setup.shapes) → IfOk r (IsOfCode says files source.file.now (config_of source))
+IsOfCode-loaded says files source loaded r h said =
+    IfOk-weaker r (IsOfProgram (says loaded.setup) loaded.code.items loaded.setup.shapes) (IsOfCode says files source.file.now (config_of source)) (λ a i. record {
+      setup = loaded.setup;
+      configured = h.configured;
+      code = h.kept.code;
+      held = h.kept.held;
+      said = IsOfProgram-kept (says loaded.setup) loaded.setup.shapes h.kept.code loaded.code.items a h.kept.keeps i;
     }) said
-
-short_by : (most : ℕ) (files : Held) (path code kept : List ℕ) → length kept ≤ most → HoldsCode files path code → Keeps most 8 code kept → HoldsCode files path kept
-short_by most files path code kept short held (Whole same) = subst (λ c. HoldsCode files path c) (sym same) held
-short_by most files path code kept short held (Part long longer even) = absurd (omega (arith, short, longer))
-
--- what is kept of short code is the code
-pub HoldsCode-short : (most : ℕ) (files : Held) (path kept : List ℕ) → length kept ≤ most → HoldsKept most files path kept → HoldsCode files path kept
-HoldsCode-short most files path kept short h = short_by most files path h.code kept short h.held h.keeps
-
-long_by : (most : ℕ) (code kept : List ℕ) → most < length kept → Keeps most 8 code kept → most < length code
-long_by most code kept past (Whole same) = rw (← same) past
-long_by most code kept past (Part long longer even) = long
-
--- more than is kept whole was kept of long code
-pub HoldsKept-long : (most : ℕ) (files : Held) (path kept : List ℕ) → most < length kept → (h : HoldsKept most files path kept) → most < length h.code
-HoldsKept-long most files path kept past h = long_by most h.code kept past h.keeps

@@ -7,7 +7,6 @@ use Rattle.bpf_regions.specs.declared.maps.Shape.{Shape}
 use Rattle.bpf_decode.specs.Program as decoded
 use Rattle.bpf_decode.specs.Answer.{Refuses}
 use Rattle.bpf_decode.specs.declared.fault.DecodeFault.{DecodeFault}
-use Rattle.bpf_decode.specs.declared.fault.DecodeFault.TheVariants as decode_fault
 use Rattle.bpf_machine.specs.Verified.{Verified}
 use Rattle.bpf_text.specs.declared.fault.AsmFault.TheVariants as asm_fault
 use Rattle.bpf_absstate.specs.View.{entry_view}
@@ -16,13 +15,13 @@ use Rattle.bpf_plain.specs.Walks.{IsPlain}
 use Rattle.bpf_verifier.specs.declared.refusal.Refusal.{Refusal}
 use Rattle.bpf_cert.specs.Certified as shown
 use Rattle.bpf_cert.specs.declared.fault.CertFault.{CertFault}
-use Rattle.bpf_cert.specs.declared.fault.CertFault.TheVariants as cert_fault
 use Rattle.bpf_rules.specs.declared.fault.Fault.TheVariants as verify_fault
 use Rattle.apd_trace.specs.Trace.{IsTrace}
 use Rattle.apd_program.specs.declared.answer.Answer.{Answer}
 use Rattle.apd_program.specs.declared.answer.Answer.TheVariants.{Accepted, Code, Instructions, Run, Page, Script, Help, Fault, Refused, LineFault, Certificate, Unaccepted}
 use Rattle.apd_program.specs.declared.fault.ProgramFault.{ProgramFault}
 use Rattle.apd_program.specs.Programs.{IsOfProgram, Undecoded, Decoded}
+use Rattle.apd_program.specs.Refusing.{IsUndecoded, IsRefused, IsUnaccepted}
 use Rattle.apd_program.specs.Verifying.{IsVerdict, NotAdmitted}
 use Rattle.apd_program.specs.Certifying.{IsCertificate, NotMade, IsChecked, NotShown}
 use Rattle.apd_program.specs.Texts.{BreaksOff, broken_off, IsAssembly, Broken}
@@ -31,17 +30,17 @@ module _ (says : decoded.Code → Answer → Type 0) (code : List ℕ) (shapes :
   pub IsOfProgram-decoded : (p : decoded.Code) → decoded.Spells code p → p.shapes ≡ shapes → IfOk r (says p) → IfOk r (IsOfProgram says code shapes)
   IsOfProgram-decoded p spelled same said = IfOk-weaker r (says p) (IsOfProgram says code shapes) (λ a h. Decoded p a spelled same h) said
 
-  pub IsOfProgram-undecoded : (e : DecodeFault) → Refuses code shapes e → IfOk r (λ a. (a ≡ Fault e) × (e ≢ decode_fault.NoMemory)) → IfOk r (IsOfProgram says code shapes)
+  pub IsOfProgram-undecoded : (e : DecodeFault) → Refuses code shapes e → IfOk r (IsUndecoded e) → IfOk r (IsOfProgram says code shapes)
   IsOfProgram-undecoded e refuses told =
       let P : Answer → Type 0 = IsOfProgram says code shapes in
-      IfOk-weaker r (λ a. (a ≡ Fault e) × (e ≢ decode_fault.NoMemory)) P (λ a h. subst P (sym h.0) (Undecoded e h.1 refuses)) told
+      IfOk-weaker r (IsUndecoded e) P (λ a h. subst P (sym h.0) (Undecoded e h.1 refuses)) told
 
 pub IsVerdict-refused : (limit : ℕ) (says : decoded.Code → ℕ → Answer → Type 0) (p : decoded.Code) (r : Result Answer ProgramFault) (e : Refusal) →
     (limit ≡ 2 ^ 22 → IsPlain p.slots → e.fault ≡ verify_fault.NoMemory) → (IsClear p entry_view limit → e.fault ≡ verify_fault.NoMemory) → decoded.Begins p.slots e.pc
-    → IfOk r (λ a. (a ≡ Refused e) × (e.fault ≢ verify_fault.NoMemory)) → IfOk r (IsVerdict limit says p)
+    → IfOk r (IsRefused e) → IfOk r (IsVerdict limit says p)
 IsVerdict-refused limit says p r e plain clear begins told =
     let P : Answer → Type 0 = IsVerdict limit says p in
-    IfOk-weaker r (λ a. (a ≡ Refused e) × (e.fault ≢ verify_fault.NoMemory)) P (λ a h. subst P (sym h.0) (NotAdmitted e h.1 begins (λ most is_plain. h.1 (plain most is_plain)) (λ is_clear. h.1 (clear is_clear)))) told
+    IfOk-weaker r (IsRefused e) P (λ a h. subst P (sym h.0) (NotAdmitted e h.1 begins (λ most is_plain. h.1 (plain most is_plain)) (λ is_clear. h.1 (clear is_clear)))) told
 
 -- a refusal for memory, or at the start
 at_start : (e : Refusal) → e.fault ≢ verify_fault.NoMemory → (e.fault ≡ verify_fault.NoMemory) ⊎ (e.pc ≡ 0) → e.pc ≡ 0
@@ -50,16 +49,16 @@ at_start e other (inr start) = start
 
 pub IsCertificate-refused : (limit : ℕ) (hook : Hook) (p : decoded.Code) (r : Result Answer ProgramFault) (e : Refusal) → decoded.Begins p.slots e.pc
     → (IsClear p entry_view limit → (e.fault ≡ verify_fault.NoMemory) ⊎ (e.pc ≡ 0))
-    → IfOk r (λ a. (a ≡ Refused e) × (e.fault ≢ verify_fault.NoMemory)) → IfOk r (IsCertificate limit hook p)
+    → IfOk r (IsRefused e) → IfOk r (IsCertificate limit hook p)
 IsCertificate-refused limit hook p r e begins clear told =
     let P : Answer → Type 0 = IsCertificate limit hook p in
-    IfOk-weaker r (λ a. (a ≡ Refused e) × (e.fault ≢ verify_fault.NoMemory)) P (λ a h. subst P (sym h.0) (NotMade e h.1 begins (λ is_clear. at_start e h.1 (clear is_clear)))) told
+    IfOk-weaker r (IsRefused e) P (λ a h. subst P (sym h.0) (NotMade e h.1 begins (λ is_clear. at_start e h.1 (clear is_clear)))) told
 
 pub IsChecked-refused : (hook : Hook) (bytes : List ℕ) (p : decoded.Code) (r : Result Answer ProgramFault) (e : CertFault) → shown.Refuses p hook bytes e
-    → IfOk r (λ a. (a ≡ Unaccepted e) × (e ≢ cert_fault.NoMemory)) → IfOk r (IsChecked hook bytes p)
+    → IfOk r (IsUnaccepted e) → IfOk r (IsChecked hook bytes p)
 IsChecked-refused hook bytes p r e refuses told =
     let P : Answer → Type 0 = IsChecked hook bytes p in
-    IfOk-weaker r (λ a. (a ≡ Unaccepted e) × (e ≢ cert_fault.NoMemory)) P (λ a h. subst P (sym h.0) (NotShown e h.1 refuses)) told
+    IfOk-weaker r (IsUnaccepted e) P (λ a h. subst P (sym h.0) (NotShown e h.1 refuses)) told
 
 pub IsTrace-of : (accepted : Verified) (p : decoded.Code) (hook : Hook) (frame : List ℕ) (draw : ℕ) (text : List ℕ) → accepted.code ≡ p → accepted.hook ≡ hook → IsTrace accepted frame draw text
     → IsTrace (record { code = p; hook = hook; budget = accepted.budget }) frame draw text

@@ -6,7 +6,9 @@ use Rattle.bpf_decode.specs.Program.{Code, Begins}
 use Rattle.bpf_model.specs.Run.{Safe}
 use Rattle.bpf_absstate.specs.View.{entry_view}
 use Rattle.bpf_plain.specs.Clear.{IsClear}
+use Rattle.bpf_verifier.specs.Limits.{nearest}
 use Rattle.bpf_verifier.specs.declared.refusal.Refusal.{Refusal}
+use Rattle.apd_words.specs.declared.Terms.{Terms}
 use Rattle.bpf_rules.specs.declared.fault.Fault.TheVariants as fault
 use Rattle.bpf_cert.specs.Certified.{Covered, Refuses}
 use Rattle.bpf_cert.specs.declared.fault.CertFault.{CertFault}
@@ -21,6 +23,10 @@ pub data IsCertificate (limit : ℕ) (hook : Hook) (p : Code) : Answer → Type 
       IsCertificate limit hook p (Certificate bytes)
   NotMade : (e : Refusal) → e.fault ≢ fault.NoMemory → Begins p.slots e.pc →
       (IsClear p entry_view limit → e.pc ≡ 0) → IsCertificate limit hook p (Refused e)
+
+-- the same within the states that are asked for, for the hook
+abbrev pub IsCertificateWithin : Terms → Code → Answer → Type 0
+IsCertificateWithin terms = IsCertificate (nearest terms.states) terms.hook
 
 -- `check` says the budget within which the bytes show that the program is safe, or why they show none
 pub data IsChecked (hook : Hook) (bytes : List ℕ) (p : Code) : Answer → Type 0 where

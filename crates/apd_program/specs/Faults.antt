@@ -1,5 +1,5 @@
 -- What is at fault where there is no answer.
-use Rattle.std.specs.Prelude.{◌≡◌, ◌≢◌, ◌<◌, List, ℕ, length, Option, None, Some, Ok, Err}
+use Rattle.std.specs.Prelude.{◌≡◌, ◌≢◌, ◌<◌, ◌⊎◌, List, ℕ, length, Option, None, Some, Ok, Err}
 use Rattle.hex.specs.Hex.{decode_of}
 use Rattle.hex.specs.declared.error.FromHexError.{FromHexError}
 use Rattle.apd_config.specs.Text.{TellsOfText}
@@ -8,11 +8,19 @@ use Rattle.apd_config.specs.declared.fault.ConfigFault.TheVariants as config
 use Rattle.capture.specs.Captures.{Refuses}
 use Rattle.capture.specs.declared.fault.CaptureFault.{CaptureFault}
 use Rattle.capture.specs.declared.fault.CaptureFault.TheVariants as capture
+use Rattle.apd_words.specs.declared.Source.{Source}
+use Rattle.apd_words.specs.Asked.{config_of}
+use Rattle.apd_program.specs.declared.fault.ProgramFault.{ProgramFault}
+use Rattle.apd_program.specs.declared.fault.ProgramFault.TheVariants as fault
 use Rattle.apd_program.specs.declared.reading.Setup.{Setup}
 use Rattle.apd_inputs.specs.declared.files.FileKind.{FileKind}
 use Rattle.apd_inputs.specs.declared.files.FileKind.TheVariants.{Configuration, Code, Certificate, Capture}
 use Rattle.apd_inputs.specs.Held.{Held, Holds, Lacks, HoldsCode, code_of}
 use Rattle.apd_program.specs.Setups.{Configures}
+
+-- the fault is want of memory, or this is so
+abbrev pub IsMemoryOr : Type 0 → ProgramFault → Type 0
+IsMemoryOr other e = (e ≡ fault.NoMemory) ⊎ other
 
 -- a file of the kind can't be read, or doesn't hold hex digits in pairs
 pub data HasBadDigits (kind : FileKind) (files : Held) (path : List ℕ) : Type 0 where
@@ -43,6 +51,10 @@ IsBadConfig files (Some path) = HasBadConfiguration files path
 pub data IsAtFault (files : Held) (file : List ℕ) : Option (List ℕ) → Type 0 where
   OfConfiguration : (path : Option (List ℕ)) → IsBadConfig files path → IsAtFault files file path
   OfCode : (path : Option (List ℕ)) (setup : Setup) → Configures files path setup → HasBadCode files file → IsAtFault files file path
+
+-- the same for a source
+abbrev pub IsBadSource : Held → Source → Type 0
+IsBadSource files source = IsAtFault files source.file.now (config_of source)
 
 -- the word isn't hex digits in pairs, or they spell more than 2400 bytes
 pub data IsNoFrame (word : List ℕ) : Type 0 where

@@ -3,6 +3,7 @@ pub mod Lines
 pub mod Setups
 pub mod Faults
 pub mod Programs
+pub mod Refusing
 pub mod Verifying
 pub mod Certifying
 pub mod Texts

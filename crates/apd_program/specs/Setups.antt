@@ -1,9 +1,12 @@
 -- The maps and the frames that files and words spell.
-use Rattle.std.specs.Prelude.{◌≡◌, ◌≤◌, ℕ, List, [], length, Option, Some, None, Ok}
+use Rattle.std.specs.Prelude.{◌≡◌, ◌≤◌, ◌^◌, ℕ, List, [], length, Option, Some, None, Ok}
 use Rattle.hex.specs.Hex.{decode_of}
-use Rattle.apd_inputs.specs.Held.{Held, Holds}
+use Rattle.apd_inputs.specs.Held.{Held, Holds, HoldsKept}
 use Rattle.apd_config.specs.Text.{IsTextOf}
 use Rattle.apd_config.specs.declared.configuration.Configuration.{Configuration}
+use Rattle.apd_words.specs.declared.Source.{Source}
+use Rattle.apd_words.specs.Asked.{config_of}
+use Rattle.apd_program.specs.declared.reading.Loaded.{Loaded}
 use Rattle.apd_program.specs.declared.reading.Setup.{Setup}
 
 -- the word's hex digits of either case spell the frame
@@ -24,3 +27,8 @@ pub record HoldsSetup (files : Held) (path : List ℕ) (setup : Setup) : Type 0 
 abbrev pub Configures : Held → Option (List ℕ) → Setup → Type 0
 Configures files None setup = setup ≡ record { shapes = []; draw = 0 }
 Configures files (Some path) setup = HoldsSetup files path setup
+
+-- what is read of a source: its configuration's setup, and what is kept of its code
+pub record IsLoaded (files : Held) (source : Source) (loaded : Loaded) : Type 0 where
+  pub configured : Configures files (config_of source) loaded.setup
+  pub kept : HoldsKept (2 ^ 17) files source.file.now loaded.code.items

@@ -6,9 +6,11 @@ use Rattle.bpf_model.specs.Run.{Safe}
 use Rattle.bpf_absstate.specs.View.{entry_view}
 use Rattle.bpf_plain.specs.Clear.{IsClear}
 use Rattle.bpf_plain.specs.Walks.{IsPlain, HasWalk}
+use Rattle.bpf_verifier.specs.Limits.{nearest}
 use Rattle.bpf_verifier.specs.declared.refusal.Refusal.{Refusal}
 use Rattle.bpf_rules.specs.declared.fault.Fault.TheVariants.{NoMemory}
 use Rattle.apd_trace.specs.Trace.{IsTrace}
+use Rattle.apd_words.specs.declared.Terms.{Terms}
 use Rattle.apd_program.specs.declared.answer.Answer.{Answer}
 use Rattle.apd_program.specs.declared.answer.Answer.TheVariants.{Accepted, Run, Refused}
 
@@ -31,3 +33,11 @@ abbrev pub IsRun : Hook → List ℕ → ℕ → Code → ℕ → Answer → Typ
 IsRun hook frame draw p budget (Run text) =
     IsTrace (record { code = p; hook = hook; budget = budget }) frame draw (string_bytes text)
 IsRun hook frame draw p budget _ = ⊥
+
+-- what `verify` says within the states that are asked for
+abbrev pub IsVerified : Terms → Code → Answer → Type 0
+IsVerified terms = IsVerdict (nearest terms.states) IsBudget
+
+-- what `trace` says within them, for the hook
+abbrev pub IsRunWithin : Terms → List ℕ → ℕ → Code → Answer → Type 0
+IsRunWithin terms frame draw = IsVerdict (nearest terms.states) (IsRun terms.hook frame draw)

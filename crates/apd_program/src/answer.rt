@@ -1,8 +1,8 @@
 //! What a command answers.
 
-ghost use Rattle.std.specs.Prelude.{◌≡◌, ◌≢◌, ◌/◌, ◌++◌, IfOk, IfErr, string_bytes, length};
-ghost use Rattle.hex.specs.Hex.{encode_lower};
-ghost use Rattle.apd_program.specs.Slots.{line_of, slot_lines};
+ghost use Rattle.std.specs.Prelude.{◌≡◌, ◌/◌, ◌++◌, IfOk, IfErr, OnOk, string_bytes, length};
+ghost use Rattle.apd_program.specs.Refusing.{IsUndecoded, IsRefused};
+ghost use Rattle.apd_program.specs.Slots.{digits_line, slot_lines};
 
 use crate::fault::ProgramFault;
 use bpf_cert::CertFault;
@@ -79,7 +79,7 @@ impl Answer {
 
 /// The answer to code that isn't well formed.
 pub(crate) fn undecoded(fault: DecodeFault) -> Result<Answer, ProgramFault>
-    ensures fault { IfOk result (λ a. (a ≡ Answer.Fault fault) × (fault ≢ DecodeFault.NoMemory)) }
+    ensures fault { IfOk result (IsUndecoded fault) }
     ensures memory { IfErr result (λ e. e ≡ ProgramFault.NoMemory) }
 {
     match fault {
@@ -90,7 +90,7 @@ pub(crate) fn undecoded(fault: DecodeFault) -> Result<Answer, ProgramFault>
 
 /// The answer to a program that isn't admitted.
 pub(crate) fn refused(refusal: Refusal) -> Result<Answer, ProgramFault>
-    ensures refusal { IfOk result (λ a. (a ≡ Answer.Refused refusal) × (refusal.fault ≢ Fault.NoMemory)) }
+    ensures refusal { IfOk result (IsRefused refusal) }
     ensures memory { IfErr result (λ e. e ≡ ProgramFault.NoMemory) }
 {
     match refusal.fault {
@@ -101,7 +101,7 @@ pub(crate) fn refused(refusal: Refusal) -> Result<Answer, ProgramFault>
 
 /// A certificate in hex digits, on one line.
 fn certificate_line(alloc: Global, bytes: &[u8]) -> Result<String, AllocError>
-    ensures is { IfOk result (λ text. string_bytes text ≡ line_of (encode_lower bytes.now)) }
+    ensures is { IfOk result (λ text. string_bytes text ≡ digits_line bytes.now) }
 {
     let mut line = hex::encode(alloc, bytes)?;
     line.push('\n')?;
@@ -110,7 +110,8 @@ fn certificate_line(alloc: Global, bytes: &[u8]) -> Result<String, AllocError>
 
 /// Adds the line of a slot.
 fn append_slot(alloc: Global, text: &mut String, slot: &[u8]) -> Result<(), AllocError>
-    ensures ok { IfOk result (λ _. string_bytes text.new ≡ string_bytes text.old ++ line_of (encode_lower slot.now)) }
+    ensures ok { OnOk result
+        (string_bytes text.new ≡ string_bytes text.old ++ digits_line slot.now) }
 {
     let digits = hex::encode(alloc, slot)?;
     text.push_str(digits.as_str())?;
@@ -120,7 +121,8 @@ fn append_slot(alloc: Global, text: &mut String, slot: &[u8]) -> Result<(), Allo
 
 /// Code in hex digits, a line for each slot.
 fn slot_lines(alloc: Global, code: &[u8]) -> Result<String, AllocError>
-    ensures is { IfOk result (λ text. string_bytes text ≡ slot_lines (length code.now / 8) code.now) }
+    ensures is { IfOk result
+        (λ text. string_bytes text ≡ slot_lines (length code.now / 8) code.now) }
 {
     let mut text = String::new(alloc);
     let mut rest = code;

@@ -1,14 +1,14 @@
 //! Certificates, made and checked: the commands `cert` and `check`.
 
-ghost use Rattle.std.specs.Prelude.{◌≡◌, ◌≢◌, IfOk, IfErr};
-ghost use Rattle.bpf_verifier.specs.Limits.{nearest};
-ghost use Rattle.bpf_cert.specs.declared.fault.CertFault.{CertFault};
-ghost use Rattle.apd_program.specs.Certifying.{IsCertificate, IsChecked};
+ghost use Rattle.std.specs.Prelude.{◌≡◌, IfOk, IfErr};
+ghost use Rattle.apd_program.specs.Certifying.{IsCertificateWithin, IsChecked};
 ghost use Rattle.apd_program.specs.Programs.{IsOfProgram};
+ghost use Rattle.apd_program.specs.Refusing.{IsUnaccepted};
 
 use crate::answer::{Answer, refused, undecoded};
 use crate::fault::ProgramFault;
-use crate::verifying::Terms;
+use crate::verifying::limit_of;
+use apd_words::Terms;
 use bpf_cert::{CertFault, certificate_within};
 use bpf_decode::{Program, decode};
 use bpf_regions::{Hook, Shapes};
@@ -17,7 +17,7 @@ use std::alloc::Global;
 
 /// The answer to a certificate that isn't accepted.
 fn unaccepted(fault: CertFault) -> Result<Answer, ProgramFault>
-    ensures fault { IfOk result (λ a. (a ≡ Answer.Unaccepted fault) × (fault ≢ CertFault.NoMemory)) }
+    ensures fault { IfOk result (IsUnaccepted fault) }
     ensures memory { IfErr result (λ e. e ≡ ProgramFault.NoMemory) }
 {
     match fault {
@@ -28,10 +28,10 @@ fn unaccepted(fault: CertFault) -> Result<Answer, ProgramFault>
 
 /// The certificate of a program, or the verifier's refusal.
 fn certified(alloc: Global, program: Program, terms: Terms) -> Result<Answer, ProgramFault>
-    ensures certificate { IfOk result (IsCertificate (nearest terms.states) terms.hook program) }
+    ensures certificate { IfOk result (IsCertificateWithin terms program) }
     ensures memory { IfErr result (λ e. e ≡ ProgramFault.NoMemory) }
 {
-    let limit = terms.limit();
+    let limit = limit_of(terms);
     match verify_within(alloc, program, terms.hook, limit) {
         Ok(accepted) => match certificate_within(alloc, &accepted, limit) {
             Ok(bytes) => Ok(Answer::Certificate(bytes)),
@@ -48,7 +48,7 @@ pub(crate) fn certify(
     shapes: Shapes,
     terms: Terms,
 ) -> Result<Answer, ProgramFault>
-    ensures certificate { IfOk result (IsOfProgram (IsCertificate (nearest terms.states) terms.hook) code.now shapes) }
+    ensures certificate { IfOk result (IsOfProgram (IsCertificateWithin terms) code.now shapes) }
     ensures memory { IfErr result (λ e. e ≡ ProgramFault.NoMemory) }
 {
     match decode(alloc, code, shapes) {

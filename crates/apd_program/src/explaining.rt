@@ -1,15 +1,16 @@
 //! The page on a refusal's number, the command `explain`; and what `verify --explain` tells.
 
-ghost use Rattle.std.specs.Prelude.{◌≡◌, ◌⊎◌, IfOk, IfErr};
+ghost use Rattle.std.specs.Prelude.{IfOk, IfErr};
+ghost use Rattle.apd_program.specs.Faults.{IsMemoryOr};
 ghost use Rattle.apd_program.specs.Pages.{IsPage, HasNoPage};
 
 use crate::answer::Answer;
 use crate::fault::ProgramFault;
-use crate::verifying::Terms;
+use crate::verifying::limit_of;
 use apd_explain::{fault_text, insn_text, reason_text};
 use apd_inputs::shown;
 use apd_refusals::{explain, page_text};
-use apd_words::Request;
+use apd_words::{Request, Terms};
 use bpf_decode::{DecodeFault, Program};
 use bpf_text::AsmFault;
 use bpf_verifier::Refusal;
@@ -18,7 +19,7 @@ use std::alloc::{AllocError, Global};
 /// The page on the number that a word spells.
 pub(crate) fn page(alloc: Global, word: &str) -> Result<Answer, ProgramFault>
     ensures page { IfOk result (IsPage word.now) }
-    ensures fault { IfErr result (λ e. (e ≡ ProgramFault.NoMemory) ⊎ HasNoPage word.now) }
+    ensures fault { IfErr result (IsMemoryOr (HasNoPage word.now)) }
 {
     match page_text(alloc, word) {
         Ok(Some(text)) => Ok(Answer::Page(text)),
@@ -107,7 +108,7 @@ impl Reason {
     /// What the verifier finds of a program.
     pub(crate) fn explain(&mut self, alloc: Global, program: &Program, terms: Terms) {
         if self.wanted {
-            self.text = reason_text(alloc, program, terms.hook, terms.limit()).map(Some);
+            self.text = reason_text(alloc, program, terms.hook, limit_of(terms)).map(Some);
         }
     }
 

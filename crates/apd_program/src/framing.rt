@@ -1,8 +1,8 @@
 //! A capture as a script: the command `frames`.
 
-ghost use Rattle.std.specs.Prelude.{◌≡◌, ◌⊎◌, IfOk, IfErr};
+ghost use Rattle.std.specs.Prelude.{IfOk, IfErr};
 ghost use Rattle.apd_program.specs.Answers.{IsOfText};
-ghost use Rattle.apd_program.specs.Faults.{HasBadCapture};
+ghost use Rattle.apd_program.specs.Faults.{IsMemoryOr, HasBadCapture};
 ghost use Rattle.apd_program.specs.Scripts.{IsScript};
 
 use crate::answer::Answer;
@@ -21,7 +21,7 @@ pub(crate) fn frames<F: Files>(
     files: &mut F,
 ) -> Result<Answer, ProgramFault>
     ensures script { IfOk result (λ a. IsOfText (IsScript ticks) (F.held files.old) path.now a) }
-    ensures fault { IfErr result (λ e. (e ≡ ProgramFault.NoMemory) ⊎ HasBadCapture (F.held files.old) path.now) }
+    ensures fault { IfErr result (IsMemoryOr (HasBadCapture (F.held files.old) path.now)) }
 {
     let file = read(alloc, path, FileKind::Capture, files)?;
     match read_capture(alloc, file.as_slice()) {

@@ -1,6 +1,8 @@
 //! Help by a command of its own: `apd help`, `apd help COMMAND`.
 
-ghost use Rattle.std.specs.Prelude.{◌≡◌, ◌⊎◌, IfOk, IfErr, map, option_map};
+ghost use Rattle.std.specs.Prelude.{IfOk, IfErr};
+ghost use Rattle.apd_words.specs.Asked.{text_of, texts_of};
+ghost use Rattle.apd_program.specs.Faults.{IsMemoryOr};
 ghost use Rattle.apd_program.specs.Pages.{IsHelpText, HasNoHelp, help_words};
 
 use crate::answer::Answer;
@@ -11,8 +13,8 @@ use std::alloc::{AllocError, Global};
 
 /// The help that `--help` prints behind a command, or without one that of the program.
 pub(crate) fn help(alloc: Global, command: Option<&str>) -> Result<Answer, ProgramFault>
-    ensures help { IfOk result (IsHelpText (help_words (option_map (λ word. word.now) command.entry))) }
-    ensures fault { IfErr result (λ e. (e ≡ ProgramFault.NoMemory) ⊎ HasNoHelp (help_words (option_map (λ word. word.now) command.entry))) }
+    ensures help { IfOk result (IsHelpText (help_words (text_of command.entry))) }
+    ensures fault { IfErr result (IsMemoryOr (HasNoHelp (help_words (text_of command.entry)))) }
 {
     match command {
         Some(command) => help_for(alloc, &["apd", command, "--help"], command),
@@ -21,8 +23,8 @@ pub(crate) fn help(alloc: Global, command: Option<&str>) -> Result<Answer, Progr
 }
 
 fn help_for<'a>(alloc: Global, words: &'a [&'a str], command: &str) -> Result<Answer, ProgramFault>
-    ensures help { IfOk result (IsHelpText (map (λ word. word.now) words.entry.now)) }
-    ensures fault { IfErr result (λ e. (e ≡ ProgramFault.NoMemory) ⊎ HasNoHelp (map (λ word. word.now) words.entry.now)) }
+    ensures help { IfOk result (IsHelpText (texts_of words.entry.now)) }
+    ensures fault { IfErr result (IsMemoryOr (HasNoHelp (texts_of words.entry.now))) }
 {
     match read_words(alloc, words) {
         Err(Told::Help(text)) => Ok(Answer::Help(text)),

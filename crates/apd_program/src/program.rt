@@ -1,27 +1,23 @@
 //! The program as a function of its words and files.
 
-ghost use Rattle.std.specs.Prelude.{◌≡◌, ◌≤◌, ◌⊎◌, IfOk, IfErr, map, option_map};
+ghost use Rattle.std.specs.Prelude.{◌≡◌, ◌≤◌, IfOk, IfErr};
 ghost use Rattle.std.specs.Io.KnownBytes.{Keeps};
-ghost use Rattle.apd_words.specs.Asked.{Asked, asked_of};
+ghost use Rattle.apd_words.specs.Asked.{Asked, asked_of, asked_verdict, asked_listing, asked_run, asked_certificate, asked_check, texts_of};
 ghost use Rattle.apd_words.specs.Spells.{Spells};
-ghost use Rattle.bpf_verifier.specs.Limits.{nearest};
 ghost use Rattle.apd_inputs.specs.Held.{Lacks};
-ghost use Rattle.apd_program.specs.Faults.{IsAtFault, HasNoFrame, HasNoCertificate};
-ghost use Rattle.apd_program.specs.Certifying.{IsCertificate};
-ghost use Rattle.apd_program.specs.Verifying.{IsVerdict, IsBudget};
-ghost use Rattle.apd_program.specs.Texts.{IsAssembly, IsListingWith};
-ghost use Rattle.apd_program.specs.Answers.{IsOfCode, IsOfText, IsTraced, IsAnswer, HasNoAnswer, IsCheckedFile};
+ghost use Rattle.apd_program.specs.Faults.{IsMemoryOr};
+ghost use Rattle.apd_program.specs.Texts.{IsAssembly};
+ghost use Rattle.apd_program.specs.Answers.{IsAnswer, IsOfText, HasNoAnswer};
 ghost use Rattle.apd_program.specs.Program.{Performs, Runs};
 
 use crate::answer::Answer;
 use crate::explaining::Reason;
 use crate::fault::ProgramFault;
 use crate::printing::{complain, print, print_text, say, say_if_any};
-use crate::reading::{certificate, code, frame, read, setup_of};
-use crate::verifying::Terms;
+use crate::reading::{Loaded, certificate, frame, load, read};
 use crate::{certifying, explaining, framing, helping, texts, verifying};
 use apd_inputs::{FileKind, Files};
-use apd_words::{Request, Told, read_words};
+use apd_words::{Request, Source, Subject, Told, read_words};
 use bpf_regions::{Frame, Hook};
 use std::alloc::Global;
 use std::io::Write;
@@ -39,8 +35,9 @@ pub fn apd_main<'a, F: Files, O: Write, E: Write>(
 ) -> u8
     ensures status { result ≤ 3 }
     ensures memory { result ≡ 3 → Keeps (O.contents out.old) (O.contents out.new) }
-    ensures runs { Runs (map (λ word. word.now) words.entry.now) (F.held files.old) (O.contents out.old) (O.contents out.new) result }
-    ensures spelled { (a : Asked) → Spells (map (λ word. word.now) words.entry.now) a
+    ensures runs { Runs (texts_of words.entry.now) (F.held files.old)
+        (O.contents out.old) (O.contents out.new) result }
+    ensures spelled { (a : Asked) → Spells (texts_of words.entry.now) a
         → Performs (F.held files.old) a (O.contents out.old) (O.contents out.new) result }
 {
     match read_words(alloc, words) {
@@ -61,7 +58,8 @@ fn perform<F: Files, O: Write, E: Write>(
     out: &mut O,
     err: &mut E,
 ) -> u8
-    ensures is { Performs (F.held files.old) (asked_of request.entry) (O.contents out.old) (O.contents out.new) result }
+    ensures is { Performs (F.held files.old) (asked_of request.entry)
+        (O.contents out.old) (O.contents out.new) result }
 {
     let mut reason = Reason::wanted_by(&request);
     match answer(alloc, request, files, &mut reason) {
@@ -83,66 +81,40 @@ fn answer<F: Files>(
     reason: &mut Reason,
 ) -> Result<Answer, ProgramFault>
     ensures answer { IfOk result (IsAnswer (F.held files.old) (asked_of request.entry)) }
-    ensures fault { IfErr result (λ e. (e ≡ ProgramFault.NoMemory) ⊎ HasNoAnswer (F.held files.old) (asked_of request.entry)) }
+    ensures fault { IfErr result
+        (IsMemoryOr (HasNoAnswer (F.held files.old) (asked_of request.entry))) }
 {
     match request {
-        Request::Verify {
-            hook,
-            file,
-            config,
-            states,
-            ..
-        } => verify(alloc, Terms { hook, states }, file, config, files, reason),
+        Request::Verify { subject, .. } => verify(alloc, subject, files, reason),
         Request::Assemble { file } => assemble(alloc, file, files),
-        Request::Disassemble {
-            file,
-            config,
-            slots,
-        } => disassemble(alloc, file, config, slots, files),
-        Request::Trace {
-            hook,
-            file,
-            frame,
-            config,
-            states,
-        } => {
-            let terms = Terms { hook, states };
-            trace(alloc, terms, file, frame, config, files, reason)
-        }
+        Request::Disassemble { source, slots } => disassemble(alloc, source, slots, files),
+        Request::Trace { subject, frame } => trace(alloc, subject, frame, files, reason),
         Request::Explain { number } => explaining::page(alloc, number),
         Request::Frames { capture, ticks } => framing::frames(alloc, capture, ticks, files),
         Request::Help { command } => helping::help(alloc, command),
         Request::Run { .. } => Err(ProgramFault::NotThere("run")),
-        Request::Certify {
-            hook,
-            file,
-            config,
-            states,
-        } => certify(alloc, Terms { hook, states }, file, config, files, reason),
+        Request::Certify { subject } => certify(alloc, subject, files, reason),
         Request::Check {
             hook,
-            file,
+            source,
             certificate,
-            config,
-        } => check(alloc, hook, file, certificate, config, files),
+        } => check(alloc, hook, source, certificate, files),
     }
 }
 
 /// The verdict on the code of a file, for the maps of a configuration.
 fn verify<F: Files>(
     alloc: Global,
-    terms: Terms,
-    file: &str,
-    config: Option<&str>,
+    subject: Subject<'_>,
     files: &mut F,
     reason: &mut Reason,
 ) -> Result<Answer, ProgramFault>
-    ensures verdict { IfOk result (λ a. IsOfCode (λ setup. IsVerdict (nearest terms.states) IsBudget) (F.held files.old) file.now (option_map (λ path. path.now) config.entry) a) }
-    ensures fault { IfErr result (λ e. (e ≡ ProgramFault.NoMemory) ⊎ IsAtFault (F.held files.old) file.now (option_map (λ path. path.now) config.entry)) }
+    ensures verdict { IfOk result (IsAnswer (F.held files.old) (asked_verdict subject.entry)) }
+    ensures fault { IfErr result
+        (IsMemoryOr (HasNoAnswer (F.held files.old) (asked_verdict subject.entry))) }
 {
-    let setup = setup_of(alloc, config, files)?;
-    let code = code(alloc, file, files)?;
-    let answer = verifying::verify(alloc, code.as_slice(), setup.shapes, terms, reason);
+    let Loaded { code, setup } = load(alloc, subject.source, files)?;
+    let answer = verifying::verify(alloc, code.as_slice(), setup.shapes, subject.terms, reason);
     reason.points_at(alloc, code.as_slice(), &answer);
     answer
 }
@@ -150,7 +122,7 @@ fn verify<F: Files>(
 /// The code of the text of a file.
 fn assemble<F: Files>(alloc: Global, file: &str, files: &mut F) -> Result<Answer, ProgramFault>
     ensures assembly { IfOk result (λ a. IsOfText IsAssembly (F.held files.old) file.now a) }
-    ensures fault { IfErr result (λ e. (e ≡ ProgramFault.NoMemory) ⊎ Lacks FileKind.Text (F.held files.old) file.now) }
+    ensures fault { IfErr result (IsMemoryOr (Lacks FileKind.Text (F.held files.old) file.now)) }
 {
     let text = read(alloc, file, FileKind::Text, files)?;
     texts::assemble(alloc, text.as_slice())
@@ -159,39 +131,37 @@ fn assemble<F: Files>(alloc: Global, file: &str, files: &mut F) -> Result<Answer
 /// The text of the code of a file, for the maps of a configuration.
 fn disassemble<F: Files>(
     alloc: Global,
-    file: &str,
-    config: Option<&str>,
+    source: Source<'_>,
     slots: bool,
     files: &mut F,
 ) -> Result<Answer, ProgramFault>
-    ensures listing { IfOk result (λ a. IsOfCode (λ setup. IsListingWith slots) (F.held files.old) file.now (option_map (λ path. path.now) config.entry) a) }
-    ensures fault { IfErr result (λ e. (e ≡ ProgramFault.NoMemory) ⊎ IsAtFault (F.held files.old) file.now (option_map (λ path. path.now) config.entry)) }
+    ensures listing { IfOk result
+        (IsAnswer (F.held files.old) (asked_listing source.entry slots)) }
+    ensures fault { IfErr result
+        (IsMemoryOr (HasNoAnswer (F.held files.old) (asked_listing source.entry slots))) }
 {
-    let setup = setup_of(alloc, config, files)?;
-    let code = code(alloc, file, files)?;
+    let Loaded { code, setup } = load(alloc, source, files)?;
     texts::disassemble(alloc, code.as_slice(), setup.shapes, slots)
 }
 
 /// The run of the code of a file on the frame that a word spells.
 fn trace<F: Files>(
     alloc: Global,
-    terms: Terms,
-    file: &str,
+    subject: Subject<'_>,
     word: &str,
-    config: Option<&str>,
     files: &mut F,
     reason: &mut Reason,
 ) -> Result<Answer, ProgramFault>
-    ensures run { IfOk result (λ a. IsTraced (F.held files.old) (nearest terms.states) terms.hook file.now word.now (option_map (λ path. path.now) config.entry) a) }
-    ensures fault { IfErr result (λ e. (e ≡ ProgramFault.NoMemory) ⊎ HasNoFrame (F.held files.old) file.now word.now (option_map (λ path. path.now) config.entry)) }
+    ensures run { IfOk result (IsAnswer (F.held files.old) (asked_run subject.entry word.now)) }
+    ensures fault { IfErr result
+        (IsMemoryOr (HasNoAnswer (F.held files.old) (asked_run subject.entry word.now))) }
 {
-    let setup = setup_of(alloc, config, files)?;
-    let code = code(alloc, file, files)?;
+    let Loaded { code, setup } = load(alloc, subject.source, files)?;
     let bytes = frame(alloc, word)?;
     let Some(frame) = Frame::new(bytes.as_slice()) else {
         return Err(ProgramFault::LongFrame);
     };
-    let answer = verifying::trace(alloc, code.as_slice(), setup, terms, &frame);
+    let answer = verifying::trace(alloc, code.as_slice(), setup, subject.terms, &frame);
     reason.points_at(alloc, code.as_slice(), &answer);
     answer
 }
@@ -199,18 +169,17 @@ fn trace<F: Files>(
 /// The certificate of the program in a file, for the maps of a configuration.
 fn certify<F: Files>(
     alloc: Global,
-    terms: Terms,
-    file: &str,
-    config: Option<&str>,
+    subject: Subject<'_>,
     files: &mut F,
     reason: &mut Reason,
 ) -> Result<Answer, ProgramFault>
-    ensures certificate { IfOk result (λ a. IsOfCode (λ setup. IsCertificate (nearest terms.states) terms.hook) (F.held files.old) file.now (option_map (λ path. path.now) config.entry) a) }
-    ensures fault { IfErr result (λ e. (e ≡ ProgramFault.NoMemory) ⊎ IsAtFault (F.held files.old) file.now (option_map (λ path. path.now) config.entry)) }
+    ensures certificate { IfOk result
+        (IsAnswer (F.held files.old) (asked_certificate subject.entry)) }
+    ensures fault { IfErr result
+        (IsMemoryOr (HasNoAnswer (F.held files.old) (asked_certificate subject.entry))) }
 {
-    let setup = setup_of(alloc, config, files)?;
-    let code = code(alloc, file, files)?;
-    let answer = certifying::certify(alloc, code.as_slice(), setup.shapes, terms);
+    let Loaded { code, setup } = load(alloc, subject.source, files)?;
+    let answer = certifying::certify(alloc, code.as_slice(), setup.shapes, subject.terms);
     reason.points_at(alloc, code.as_slice(), &answer);
     answer
 }
@@ -219,16 +188,16 @@ fn certify<F: Files>(
 fn check<F: Files>(
     alloc: Global,
     hook: Hook,
-    file: &str,
+    source: Source<'_>,
     shown: &str,
-    config: Option<&str>,
     files: &mut F,
 ) -> Result<Answer, ProgramFault>
-    ensures checked { IfOk result (λ a. IsCheckedFile (F.held files.old) hook file.now shown.now (option_map (λ path. path.now) config.entry) a) }
-    ensures fault { IfErr result (λ e. (e ≡ ProgramFault.NoMemory) ⊎ HasNoCertificate (F.held files.old) file.now shown.now (option_map (λ path. path.now) config.entry)) }
+    ensures checked { IfOk result
+        (IsAnswer (F.held files.old) (asked_check hook source.entry shown.now)) }
+    ensures fault { IfErr result
+        (IsMemoryOr (HasNoAnswer (F.held files.old) (asked_check hook source.entry shown.now))) }
 {
-    let setup = setup_of(alloc, config, files)?;
-    let code = code(alloc, file, files)?;
+    let Loaded { code, setup } = load(alloc, source, files)?;
     let bytes = certificate(alloc, shown, files)?;
     certifying::check(alloc, code.as_slice(), setup.shapes, hook, bytes.as_slice())
 }

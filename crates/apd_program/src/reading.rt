@@ -1,14 +1,16 @@
 //! Configurations and code from files, and frames from words.
 
-ghost use Rattle.std.specs.Prelude.{◌≡◌, ◌⊎◌, ◌^◌, Ok, [], IfOk, IfErr, option_map};
+ghost use Rattle.std.specs.Prelude.{◌≡◌, ◌^◌, Ok, [], IfOk, IfErr};
 ghost use Rattle.hex.specs.Hex.{decode_of};
 ghost use Rattle.apd_inputs.specs.Held.{Holds, Lacks, HoldsCode, HoldsKept};
-ghost use Rattle.apd_program.specs.Setups.{HoldsSetup, Configures};
-ghost use Rattle.apd_program.specs.Faults.{HasBadCode, HasBadDigits, HasBadConfiguration, IsBadConfig, IsNoFrame};
+ghost use Rattle.apd_words.specs.Asked.{text_of};
+ghost use Rattle.apd_program.specs.Setups.{HoldsSetup, Configures, IsLoaded};
+ghost use Rattle.apd_program.specs.Faults.{IsMemoryOr, HasBadCode, HasBadDigits, HasBadConfiguration, IsBadConfig, IsBadSource, IsNoFrame};
 
 use crate::fault::{ProgramFault, of_configuration, of_digits, of_file, of_no_code};
 use apd_config::read_configuration;
 use apd_inputs::{FileKind, Files, read_certificate, read_code, read_whole};
+use apd_words::Source;
 use bpf_regions::Shapes;
 use std::alloc::Global;
 
@@ -21,6 +23,14 @@ pub(crate) struct Setup {
     pub draw: u64,
 }
 
+/// What is read of a source.
+#[derive(Drop)]
+pub(crate) struct Loaded {
+    /// What is kept of the code: all that decides what is said of it.
+    pub code: Vec<u8>,
+    pub setup: Setup,
+}
+
 /// The bytes of a file of this kind.
 pub(crate) fn read<F: Files>(
     alloc: Global,
@@ -29,7 +39,7 @@ pub(crate) fn read<F: Files>(
     files: &mut F,
 ) -> Result<Vec<u8>, ProgramFault>
     ensures there { IfOk result (λ bytes. Holds (F.held files.old) path.now bytes.items) }
-    ensures fault { IfErr result (λ e. (e ≡ ProgramFault.NoMemory) ⊎ Lacks kind (F.held files.old) path.now) }
+    ensures fault { IfErr result (IsMemoryOr (Lacks kind (F.held files.old) path.now)) }
     ensures same { F.held files.new ≡ F.held files.old }
 {
     match read_whole(alloc, path, kind, files) {
@@ -51,7 +61,7 @@ fn no_shapes(alloc: Global) -> Shapes
 /// The setup of a configuration.
 fn configured<F: Files>(alloc: Global, path: &str, files: &mut F) -> Result<Setup, ProgramFault>
     ensures setup { IfOk result (λ setup. HoldsSetup (F.held files.old) path.now setup) }
-    ensures fault { IfErr result (λ e. (e ≡ ProgramFault.NoMemory) ⊎ HasBadConfiguration (F.held files.old) path.now) }
+    ensures fault { IfErr result (IsMemoryOr (HasBadConfiguration (F.held files.old) path.now)) }
     ensures same { F.held files.new ≡ F.held files.old }
 {
     let text = read(alloc, path, FileKind::Configuration, files)?;
@@ -65,13 +75,14 @@ fn configured<F: Files>(alloc: Global, path: &str, files: &mut F) -> Result<Setu
 }
 
 /// The setup of a configuration. Without one there are no maps, and 0 is drawn first.
-pub(crate) fn setup_of<F: Files>(
+fn setup_of<F: Files>(
     alloc: Global,
     config: Option<&str>,
     files: &mut F,
 ) -> Result<Setup, ProgramFault>
-    ensures setup { IfOk result (λ setup. Configures (F.held files.old) (option_map (λ path. path.now) config.entry) setup) }
-    ensures fault { IfErr result (λ e. (e ≡ ProgramFault.NoMemory) ⊎ IsBadConfig (F.held files.old) (option_map (λ path. path.now) config.entry)) }
+    ensures setup { IfOk result (Configures (F.held files.old) (text_of config.entry)) }
+    ensures fault { IfErr result
+        (IsMemoryOr (IsBadConfig (F.held files.old) (text_of config.entry))) }
     ensures same { F.held files.new ≡ F.held files.old }
 {
     match config {
@@ -84,21 +95,31 @@ pub(crate) fn setup_of<F: Files>(
 }
 
 /// What is kept of the code that a file spells: all that decides what is said of it.
-pub(crate) fn code<F: Files>(
-    alloc: Global,
-    path: &str,
-    files: &mut F,
-) -> Result<Vec<u8>, ProgramFault>
+fn code<F: Files>(alloc: Global, path: &str, files: &mut F) -> Result<Vec<u8>, ProgramFault>
     ensures code { IfOk result
         (λ code. HoldsKept (2 ^ 17) (F.held files.old) path.now code.items) }
-    ensures fault { IfErr result
-        (λ e. (e ≡ ProgramFault.NoMemory) ⊎ HasBadCode (F.held files.old) path.now) }
+    ensures fault { IfErr result (IsMemoryOr (HasBadCode (F.held files.old) path.now)) }
     ensures same { F.held files.new ≡ F.held files.old }
 {
     match read_code(alloc, path, files) {
         Ok(code) => Ok(code),
         Err(fault) => Err(of_no_code(alloc, path, fault)),
     }
+}
+
+/// The code and the setup of a source.
+pub(crate) fn load<F: Files>(
+    alloc: Global,
+    source: Source<'_>,
+    files: &mut F,
+) -> Result<Loaded, ProgramFault>
+    ensures loaded { IfOk result (λ loaded. IsLoaded (F.held files.old) source.entry loaded) }
+    ensures fault { IfErr result (IsMemoryOr (IsBadSource (F.held files.old) source.entry)) }
+    ensures same { F.held files.new ≡ F.held files.old }
+{
+    let setup = setup_of(alloc, source.config, files)?;
+    let code = code(alloc, source.file, files)?;
+    Ok(Loaded { code, setup })
 }
 
 /// The certificate that a file spells.
@@ -108,8 +129,8 @@ pub(crate) fn certificate<F: Files>(
     files: &mut F,
 ) -> Result<Vec<u8>, ProgramFault>
     ensures code { IfOk result (λ bytes. HoldsCode (F.held files.old) path.now bytes.items) }
-    ensures fault { IfErr result (λ e. (e ≡ ProgramFault.NoMemory)
-        ⊎ HasBadDigits FileKind.Certificate (F.held files.old) path.now) }
+    ensures fault { IfErr result
+        (IsMemoryOr (HasBadDigits FileKind.Certificate (F.held files.old) path.now)) }
     ensures same { F.held files.new ≡ F.held files.old }
 {
     match read_certificate(alloc, path, files) {
@@ -121,7 +142,7 @@ pub(crate) fn certificate<F: Files>(
 /// The bytes that the hex digits of a word spell.
 pub(crate) fn frame(alloc: Global, word: &str) -> Result<Vec<u8>, ProgramFault>
     ensures frame { IfOk result (λ bytes. decode_of word.now ≡ Ok bytes.items) }
-    ensures fault { IfErr result (λ e. (e ≡ ProgramFault.NoMemory) ⊎ IsNoFrame word.now) }
+    ensures fault { IfErr result (IsMemoryOr (IsNoFrame word.now)) }
 {
     match hex::decode(alloc, word) {
         Ok(bytes) => Ok(bytes),

@@ -3,32 +3,24 @@
 ghost use Rattle.std.specs.Prelude.{◌≡◌, IfOk, IfErr};
 ghost use Rattle.bpf_verifier.specs.Limits.{nearest};
 ghost use Rattle.apd_program.specs.Programs.{IsOfProgram};
-ghost use Rattle.apd_program.specs.Verifying.{IsVerdict, IsBudget, IsRun};
+ghost use Rattle.apd_program.specs.Verifying.{IsVerified, IsRunWithin};
 
 use crate::answer::{Answer, refused, undecoded};
 use crate::explaining::Reason;
 use crate::fault::ProgramFault;
 use crate::reading::Setup;
 use apd_trace::trace_text;
+use apd_words::Terms;
 use bpf_decode::{Program, decode};
-use bpf_regions::{Frame, Hook, Shapes};
+use bpf_regions::{Frame, Shapes};
 use bpf_verifier::{StateLimit, verify_within};
 use std::alloc::Global;
 
-/// For which hook a program is verified, and how many states are asked for.
-#[derive(Clone, Copy)]
-pub(crate) struct Terms {
-    pub(crate) hook: Hook,
-    pub(crate) states: u32,
-}
-
-impl Terms {
-    /// How many states may be examined.
-    pub(crate) fn limit(&self) -> StateLimit
-        ensures is { result ≡ nearest self.now.states }
-    {
-        StateLimit::nearest(self.states)
-    }
+/// How many states may be examined.
+pub(crate) fn limit_of(terms: Terms) -> StateLimit
+    ensures is { result ≡ nearest terms.states }
+{
+    StateLimit::nearest(terms.states)
 }
 
 /// The verifier's verdict on a program.
@@ -38,11 +30,11 @@ fn admitted(
     terms: Terms,
     reason: &mut Reason,
 ) -> Result<Answer, ProgramFault>
-    ensures verdict { IfOk result (IsVerdict (nearest terms.states) IsBudget program) }
+    ensures verdict { IfOk result (IsVerified terms program) }
     ensures memory { IfErr result (λ e. e ≡ ProgramFault.NoMemory) }
 {
     reason.explain(alloc, &program, terms);
-    let limit = terms.limit();
+    let limit = limit_of(terms);
     match verify_within(alloc, program, terms.hook, limit) {
         Ok(accepted) => Ok(Answer::Accepted {
             budget: accepted.budget(),
@@ -59,7 +51,7 @@ pub(crate) fn verify(
     terms: Terms,
     reason: &mut Reason,
 ) -> Result<Answer, ProgramFault>
-    ensures verdict { IfOk result (IsOfProgram (IsVerdict (nearest terms.states) IsBudget) code.now shapes) }
+    ensures verdict { IfOk result (IsOfProgram (IsVerified terms) code.now shapes) }
     ensures memory { IfErr result (λ e. e ≡ ProgramFault.NoMemory) }
 {
     match decode(alloc, code, shapes) {
@@ -79,10 +71,10 @@ fn run(
     frame: &Frame,
     draw: u64,
 ) -> Result<Answer, ProgramFault>
-    ensures run { IfOk result (IsVerdict (nearest terms.states) (IsRun terms.hook frame.now draw) program) }
+    ensures run { IfOk result (IsRunWithin terms frame.now draw program) }
     ensures memory { IfErr result (λ e. e ≡ ProgramFault.NoMemory) }
 {
-    let limit = terms.limit();
+    let limit = limit_of(terms);
     match verify_within(alloc, program, terms.hook, limit) {
         Ok(accepted) => {
             let text = trace_text(alloc, &accepted, frame, draw)?;
@@ -100,7 +92,8 @@ pub(crate) fn trace(
     terms: Terms,
     frame: &Frame,
 ) -> Result<Answer, ProgramFault>
-    ensures run { IfOk result (IsOfProgram (IsVerdict (nearest terms.states) (IsRun terms.hook frame.now setup.draw)) code.now setup.shapes) }
+    ensures run { IfOk result
+        (IsOfProgram (IsRunWithin terms frame.now setup.draw) code.now setup.shapes) }
     ensures memory { IfErr result (λ e. e ≡ ProgramFault.NoMemory) }
 {
     let Setup { shapes, draw } = setup;

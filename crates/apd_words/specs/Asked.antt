@@ -1,5 +1,6 @@
 -- What words ask for.
-use Rattle.std.specs.Prelude.{ℕ, ◌-◌, ◌&&◌, Bool, false, not, nat_le, List, [], ◌∷◌, codes, Option, Some, None, option_map, option_and_then, if◌then◌else◌}
+use Rattle.std.specs.Borrow.{Bor}
+use Rattle.std.specs.Prelude.{ℕ, ◌-◌, ◌&&◌, Bool, false, not, nat_le, List, [], ◌∷◌, map, codes, Option, Some, None, option_map, option_and_then, if◌then◌else◌}
 use Rattle.std.specs.Option.{option_map_or}
 use Rattle.std.specs.Str.{bytes_eq}
 use Rattle.std.specs.Str.Parse.{digits_value, without_leading_plus}
@@ -9,6 +10,8 @@ use Rattle.bpf_regions.specs.declared.hooks.Hook.{Hook}
 use Rattle.bpf_regions.specs.declared.hooks.Hook.TheVariants.{Association, Addba, Data}
 use Rattle.apd_words.specs.CommandLine.{most_states}
 use Rattle.apd_words.specs.declared.Request.{Request}
+use Rattle.apd_words.specs.declared.Source.{Source}
+use Rattle.apd_words.specs.declared.Subject.{Subject}
 use Rattle.apd_words.specs.declared.Request.TheVariants as request
 
 -- a request, with its words as texts
@@ -24,24 +27,54 @@ pub data Asked : Type 0 where
   Frames : Text → Bool → Asked
   Help : Option Text → Asked
 
+-- the text of a word, if there is one
+abbrev pub text_of : Option (Bor Text) → Option Text
+text_of word = option_map (λ word. word.now) word
+
+-- the texts of words
+abbrev pub texts_of : List (Bor Text) → List Text
+texts_of words = map (λ word. word.now) words
+
+-- the path of a source's configuration, if it has one
+abbrev pub config_of : Source → Option Text
+config_of source = text_of source.config
+
+-- the verdict on a subject
+abbrev pub asked_verdict : Subject → Asked
+asked_verdict subject =
+    Verify subject.terms.hook subject.source.file.now (config_of subject.source) subject.terms.states
+
+-- the text of a source, with slots or without
+abbrev pub asked_listing : Source → Bool → Asked
+asked_listing source slots = Disassemble source.file.now (config_of source) slots
+
+-- the run of a subject on a frame
+abbrev pub asked_run : Subject → Text → Asked
+asked_run subject frame =
+    Trace subject.terms.hook subject.source.file.now frame (config_of subject.source) subject.terms.states
+
+-- the certificate of a subject
+abbrev pub asked_certificate : Subject → Asked
+asked_certificate subject =
+    Certify subject.terms.hook subject.source.file.now (config_of subject.source) subject.terms.states
+
+-- what a certificate shows of a source, for a hook
+abbrev pub asked_check : Hook → Source → Text → Asked
+asked_check hook source certificate = Check hook source.file.now certificate (config_of source)
+
 -- what a request asks for; `--explain` asks for nothing but a text on standard error
 abbrev pub asked_of : Request → Asked
-asked_of (request.Verify hook file config states explain) =
-    Verify hook file.now (option_map (λ s. s.now) config) states
+asked_of (request.Verify subject explain) = asked_verdict subject
 asked_of (request.Assemble file) = Assemble file.now
-asked_of (request.Disassemble file config slots) =
-    Disassemble file.now (option_map (λ s. s.now) config) slots
-asked_of (request.Trace hook file frame config states) =
-    Trace hook file.now frame.now (option_map (λ s. s.now) config) states
+asked_of (request.Disassemble source slots) = asked_listing source slots
+asked_of (request.Trace subject frame) = asked_run subject frame.now
 asked_of (request.Run config script workers states quiet) =
     Run config.now script.now workers states quiet
-asked_of (request.Certify hook file config states) =
-    Certify hook file.now (option_map (λ s. s.now) config) states
-asked_of (request.Check hook file certificate config) =
-    Check hook file.now certificate.now (option_map (λ s. s.now) config)
+asked_of (request.Certify subject) = asked_certificate subject
+asked_of (request.Check hook source certificate) = asked_check hook source certificate.now
 asked_of (request.Explain number) = Explain number.now
 asked_of (request.Frames capture ticks) = Frames capture.now ticks
-asked_of (request.Help command) = Help (option_map (λ s. s.now) command)
+asked_of (request.Help command) = Help (text_of command)
 
 infixl 10 ◌>>=◌
 -- what follows from a part that is there

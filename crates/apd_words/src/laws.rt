@@ -11,7 +11,8 @@ ghost use Rattle.apd_words.specs.Spells.{IsOperand, Spells};
 /// unless a FILE, C or N begins with a hyphen.
 pub fn verify_law()
     ensures plain { (program file : List ℕ) (hook : Hook) → IsOperand file
-        → Spells (program ∷ codes "verify" ∷ name_of hook ∷ file ∷ []) (Verify hook file None most_states) }
+        → Spells (program ∷ codes "verify" ∷ name_of hook ∷ file ∷ [])
+        (Verify hook file None most_states) }
     ensures configured { (program file config : List ℕ) (hook : Hook) →
         IsOperand file → IsOperand config
         → Spells (program ∷ codes "verify" ∷ name_of hook ∷ file ∷ codes "--config" ∷ config ∷ [])

@@ -18,32 +18,46 @@ use bpf_regions::Hook;
 use std::alloc::AllocError;
 pub use words::read_words;
 
-/// What the words ask for. Paths and frames are as they were written.
+/// Where a program is: the file of its code, and the configuration of its maps, if it has one.
+#[derive(Clone, Copy)]
+pub struct Source<'a> {
+    pub file: &'a str,
+    pub config: Option<&'a str>,
+}
+
+/// For which hook a program is verified, and how many states the verifier may examine.
+#[derive(Clone, Copy)]
+pub struct Terms {
+    pub hook: Hook,
+    pub states: u32,
+}
+
+/// A program that is to be verified.
+#[derive(Clone, Copy)]
+pub struct Subject<'a> {
+    pub source: Source<'a>,
+    pub terms: Terms,
+}
+
+/// What the words ask for. Paths and frames are as they were written. The states that the verifier
+/// may examine are 1 to 4194304.
 #[derive(Clone, Copy)]
 pub enum Request<'a> {
-    /// `explain` asks for the reason on standard error. The states that the verifier may examine are
-    /// 1 to 4194304, here and below.
+    /// `explain` asks for the reason on standard error.
     Verify {
-        hook: Hook,
-        file: &'a str,
-        config: Option<&'a str>,
-        states: u32,
+        subject: Subject<'a>,
         explain: bool,
     },
     Assemble {
         file: &'a str,
     },
     Disassemble {
-        file: &'a str,
-        config: Option<&'a str>,
+        source: Source<'a>,
         slots: bool,
     },
     Trace {
-        hook: Hook,
-        file: &'a str,
+        subject: Subject<'a>,
         frame: &'a str,
-        config: Option<&'a str>,
-        states: u32,
     },
     /// The workers are 1 to 8. `quiet` asks for no progress on standard error.
     Run {
@@ -54,16 +68,12 @@ pub enum Request<'a> {
         quiet: bool,
     },
     Certify {
-        hook: Hook,
-        file: &'a str,
-        config: Option<&'a str>,
-        states: u32,
+        subject: Subject<'a>,
     },
     Check {
         hook: Hook,
-        file: &'a str,
+        source: Source<'a>,
         certificate: &'a str,
-        config: Option<&'a str>,
     },
     /// The number is as it was written.
     Explain {

@@ -4,10 +4,10 @@ ghost use Rattle.std.specs.Prelude.{◌≡◌, ◌≤◌, ◌^◌, IfSome, optio
 ghost use Rattle.clap.specs.Matches.{found_of};
 ghost use Rattle.clap.specs.Simple.{subcommand_rows_of};
 ghost use Rattle.clap.specs.Walk.{first_of, rows_of};
-ghost use Rattle.apd_words.specs.Asked.{asked_of, asked_in, hook_named, hook_at, workers_named, states_named, states_at, verify_of, assemble_of, disassemble_of, trace_of, run_of, certify_of, check_of, explain_of, frames_of, help_of, is_set};
+ghost use Rattle.apd_words.specs.Asked.{asked_of, asked_in, asked_verdict, asked_certificate, hook_named, hook_at, workers_named, states_named, states_at, verify_of, assemble_of, disassemble_of, trace_of, run_of, certify_of, check_of, explain_of, frames_of, help_of, is_set};
 
-use crate::Request;
 use crate::command::MOST_STATES;
+use crate::{Request, Source, Subject, Terms};
 use bpf_regions::Hook;
 use clap::ArgMatches;
 
@@ -34,18 +34,9 @@ pub(crate) fn request<'a>(matches: &ArgMatches<'a>) -> Option<Request<'a>>
 fn verify<'a>(matches: &ArgMatches<'a>) -> Option<Request<'a>>
     ensures is { option_map asked_of result ≡ verify_of (rows_of (found_of matches.now)) }
 {
-    let hook = hook(matches)?;
-    let file = value(matches, "FILE")?;
-    let config = value(matches, "config");
-    let states = states(matches)?;
+    let subject = subject(matches)?;
     let explain = flag(matches, "explain");
-    Some(Request::Verify {
-        hook,
-        file,
-        config,
-        states,
-        explain,
-    })
+    Some(Request::Verify { subject, explain })
 }
 
 fn assemble<'a>(matches: &ArgMatches<'a>) -> Option<Request<'a>>
@@ -61,11 +52,8 @@ fn disassemble<'a>(matches: &ArgMatches<'a>) -> Option<Request<'a>>
     let file = value(matches, "FILE")?;
     let config = value(matches, "config");
     let slots = flag(matches, "slots");
-    Some(Request::Disassemble {
-        file,
-        config,
-        slots,
-    })
+    let source = Source { file, config };
+    Some(Request::Disassemble { source, slots })
 }
 
 fn trace<'a>(matches: &ArgMatches<'a>) -> Option<Request<'a>>
@@ -76,13 +64,10 @@ fn trace<'a>(matches: &ArgMatches<'a>) -> Option<Request<'a>>
     let frame = value(matches, "FRAME")?;
     let config = value(matches, "config");
     let states = states(matches)?;
-    Some(Request::Trace {
-        hook,
-        file,
-        frame,
-        config,
-        states,
-    })
+    let source = Source { file, config };
+    let terms = Terms { hook, states };
+    let subject = Subject { source, terms };
+    Some(Request::Trace { subject, frame })
 }
 
 fn run<'a>(matches: &ArgMatches<'a>) -> Option<Request<'a>>
@@ -105,16 +90,8 @@ fn run<'a>(matches: &ArgMatches<'a>) -> Option<Request<'a>>
 fn certify<'a>(matches: &ArgMatches<'a>) -> Option<Request<'a>>
     ensures is { option_map asked_of result ≡ certify_of (rows_of (found_of matches.now)) }
 {
-    let hook = hook(matches)?;
-    let file = value(matches, "FILE")?;
-    let config = value(matches, "config");
-    let states = states(matches)?;
-    Some(Request::Certify {
-        hook,
-        file,
-        config,
-        states,
-    })
+    let subject = subject(matches)?;
+    Some(Request::Certify { subject })
 }
 
 fn check<'a>(matches: &ArgMatches<'a>) -> Option<Request<'a>>
@@ -124,11 +101,11 @@ fn check<'a>(matches: &ArgMatches<'a>) -> Option<Request<'a>>
     let file = value(matches, "FILE")?;
     let certificate = value(matches, "CERT")?;
     let config = value(matches, "config");
+    let source = Source { file, config };
     Some(Request::Check {
         hook,
-        file,
+        source,
         certificate,
-        config,
     })
 }
 
@@ -152,6 +129,21 @@ fn help<'a>(matches: &ArgMatches<'a>) -> Option<Request<'a>>
 {
     let command = value(matches, "COMMAND");
     Some(Request::Help { command })
+}
+
+/// The program that `verify` and `cert` name.
+fn subject<'a>(matches: &ArgMatches<'a>) -> Option<Subject<'a>>
+    ensures verdict { option_map asked_verdict result ≡ verify_of (rows_of (found_of matches.now)) }
+    ensures certificate { option_map asked_certificate result
+        ≡ certify_of (rows_of (found_of matches.now)) }
+{
+    let hook = hook(matches)?;
+    let file = value(matches, "FILE")?;
+    let config = value(matches, "config");
+    let states = states(matches)?;
+    let source = Source { file, config };
+    let terms = Terms { hook, states };
+    Some(Subject { source, terms })
 }
 
 /// Whether a flag was given.

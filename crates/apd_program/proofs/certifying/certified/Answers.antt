@@ -21,13 +21,13 @@ pub returns-in-Ok-clause-certificate : goal.returns-in-Ok-clause-certificate
 returns-in-Ok-clause-certificate c =
     let e = c.in-Err-certificate_within.refusal in
     let OfCode : Code → Type 0 = λ p. Begins p.slots e.pc in
-    let IsTold : Code → Type 0 = λ p. IsClear p entry_view c.limit-limit.result → (e.fault ≡ NoMemory) ⊎ (e.pc ≡ 0) in
-    subst (λ n. IfOk c.refused.result (IsCertificate n c.args.terms.hook c.args.program)) c.limit-limit.ensures.is
-    (IsCertificate-refused c.limit-limit.result c.args.terms.hook c.args.program c.refused.result e (subst OfCode c.in-Ok.ensures.code c.in-Err-certificate_within.ensures.begins)
+    let IsTold : Code → Type 0 = λ p. IsClear p entry_view c.limit_of-limit.result → (e.fault ≡ NoMemory) ⊎ (e.pc ≡ 0) in
+    subst (λ n. IfOk c.refused.result (IsCertificate n c.args.terms.hook c.args.program)) c.limit_of-limit.ensures.is
+    (IsCertificate-refused c.limit_of-limit.result c.args.terms.hook c.args.program c.refused.result e (subst OfCode c.in-Ok.ensures.code c.in-Err-certificate_within.ensures.begins)
     (subst IsTold c.in-Ok.ensures.code c.in-Err-certificate_within.ensures.clear) c.refused.ensures.refusal)
 
 pub returns-clause-certificate : goal.returns-clause-certificate
 returns-clause-certificate c =
-    subst (λ n. IfOk c.refused-in-Err.result (IsCertificate n c.args.terms.hook c.args.program)) c.limit-limit.ensures.is
-    (IsCertificate-refused c.limit-limit.result c.args.terms.hook c.args.program c.refused-in-Err.result c.in-Err.refusal c.in-Err.ensures.begins
+    subst (λ n. IfOk c.refused-in-Err.result (IsCertificate n c.args.terms.hook c.args.program)) c.limit_of-limit.ensures.is
+    (IsCertificate-refused c.limit_of-limit.result c.args.terms.hook c.args.program c.refused-in-Err.result c.in-Err.refusal c.in-Err.ensures.begins
     (λ clear. inl (c.in-Err.ensures.clear clear)) c.refused-in-Err.ensures.refusal)
