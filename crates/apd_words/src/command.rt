@@ -66,8 +66,15 @@ fn with_command<'a>(line: Made<'a>, command: Made<'a>) -> Made<'a>
     ensures is { (a : App) (s : Shape) → IfOk line.entry (IsProgram a)
         → IfOk command.entry (IsCommand s) → IfOk result (IsProgram (with_subcommand a s)) }
 {
-    let line = line?;
-    let command = command?;
+    let Ok(line) = line else {
+        // Given up by a call, since a command has many parts.
+        drop(command);
+        return Err(AllocError);
+    };
+    let Ok(command) = command else {
+        drop(line);
+        return Err(AllocError);
+    };
     line.subcommand(command)
 }
 
