@@ -2,11 +2,13 @@
 
 ghost use Rattle.std.specs.Prelude.{◌≡◌};
 
-use crate::tests::{ASSOCIATION, AUTHENTICATION, DATA, SETUP, shard, spelled};
-use ap_core::{AskLog, Event, Judge, Octets, shard_of};
+use crate::tests::same::{holds, same};
+use crate::tests::{ASSOCIATION, AUTHENTICATION, DATA, SETUP, frame, shard, spelled};
+use ap_core::{AskLog, Event, Judge, Octets, Shard, shard_of};
 use bpf_regions::{Context, Frame, Hook};
 use mac_frame::{Address, Reason};
-use std::test::Fail;
+use std::alloc::Global;
+use std::process::Abort;
 
 /// An ask that is expected, and its answer: the bytes of the context from 6 on, and 0 in all others
 /// but the station's.
@@ -130,53 +132,67 @@ const REQUEST_103: &str = "84000000 020000000001 02000000000a 0400 7006";
 
 const FOREIGN: &str = "08010000 030000000001 02000000000a 0200000000ff 3000 68656c6c6f";
 
+/// A frame that comes to a shard leads to what is expected.
+fn asks(
+    rt: &impl Abort,
+    alloc: Global,
+    shard: &mut Shard,
+    digits: &str,
+    ask: Option<(Hook, [u8; 12], u64)>,
+) {
+    let expected = ask.map(|(hook, context, answer)| Expected {
+        hook,
+        context,
+        answer,
+    });
+    let bytes = spelled(rt, alloc, digits);
+    let octets = Octets::copy(alloc, &bytes).expect(rt, "memory");
+    let event = Event::Frame(octets);
+    let mut judge = Watching {
+        frame: &bytes,
+        expected: expected.as_slice(),
+        alike: true,
+        asked: AskLog::new(),
+    };
+    drop(shard.handle(alloc, &event, &mut judge).expect(rt, "memory"));
+    holds(rt, judge.alike && judge.expected.is_empty(), digits);
+}
+
 #[test]
-fn judges_are_asked_about_each_frame(rt: HostRuntime) -> Result<(), Fail> {
+fn judges_are_asked_about_each_frame(rt: HostRuntime) {
     let alloc = rt.alloc();
-    let mut shard = shard(alloc, 2)?;
-    for (row, (digits, ask)) in ASKED.iter().enumerate() {
-        let expected = ask.map(|(hook, context, answer)| Expected {
-            hook,
-            context,
-            answer,
-        });
-        let bytes = spelled(alloc, digits)?;
-        let event = Event::Frame(Octets::copy(alloc, &bytes)?);
-        let mut judge = Watching {
-            frame: &bytes,
-            expected: expected.as_slice(),
-            alike: true,
-            asked: AskLog::new(),
-        };
-        shard.handle(alloc, &event, &mut judge)?;
-        assert!(rt; judge.alike && judge.expected.is_empty(), "row {row}");
+    let mut shard = shard(&rt, alloc, 2);
+    for (digits, ask) in ASKED.iter() {
+        asks(&rt, alloc, &mut shard, digits, *ask);
     }
-    Ok(())
+    // Given up by a call, since a shard has many parts.
+    drop(shard);
 }
 
 /// Which shard an event concerns: the last octet of its station modulo 8, 0 for bytes that name none,
 /// and all for a tick.
 #[test]
-fn events_concern_shards(rt: HostRuntime) -> Result<(), Fail> {
+fn events_concern_shards(rt: HostRuntime) {
     let alloc = rt.alloc();
     let station = Address::new([2, 0, 0, 0, 0, 15]);
     let reason = Reason::new(1);
-    let frame = Event::Frame(Octets::new(spelled(alloc, DATA)?));
-    let cut = Event::Frame(Octets::new(spelled(alloc, "08010000 020000000001 0200000000")?));
-    assert_eq!(rt; shard_of(&frame), Some(2));
-    assert_eq!(rt; shard_of(&cut), Some(0));
-    assert_eq!(rt; shard_of(&Event::Tick(3)), None);
-    assert_eq!(rt; shard_of(&Event::Kick { station, reason }), Some(7));
-    Ok(())
+    let whole = frame(&rt, alloc, DATA);
+    let cut = frame(&rt, alloc, "08010000 020000000001 0200000000");
+    same(&rt, shard_of(&whole), Some(2), "data");
+    same(&rt, shard_of(&cut), Some(0), "cut data");
+    same(&rt, shard_of(&Event::Tick(3)), None, "a tick");
+    let kick = Event::Kick { station, reason };
+    same(&rt, shard_of(&kick), Some(7), "a command");
 }
 
 fn is_sent<T: Send>(_value: &T) {}
 
 /// A shard may go to another thread.
 #[test]
-fn shards_are_sent(rt: HostRuntime) -> Result<(), Fail> {
-    let shard = shard(rt.alloc(), 0)?;
+fn shards_are_sent(rt: HostRuntime) {
+    let shard = shard(&rt, rt.alloc(), 0);
     is_sent(&shard);
-    assert_eq!(rt; shard.stations(), 0);
-    Ok(())
+    same(&rt, shard.stations(), 0, "stations");
+    // Given up by a call, since a shard has many parts.
+    drop(shard);
 }

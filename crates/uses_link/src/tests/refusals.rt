@@ -1,10 +1,10 @@
 //! Events that are refused for memory and come again.
 
-ghost use Rattle.std.specs.Prelude.{IfOk};
 ghost use Rattle.ap_model.specs.AccessPoint.{InPlace};
 ghost use Rattle.ap_core.specs.AccessPoints.{rules_of};
 
 use crate::tests::Line::{self, Close, Frame, Kick, Notes, PassesUp, Qos, Request, Sends, Tick};
+use crate::tests::same::holds;
 use crate::tests::{
     ASSOCIATED, ASSOCIATION, AUTHENTICATED, AUTHENTICATION, DATA, DEAUTHENTICATED_6,
     DEAUTHENTICATED_7, DISASSOCIATED_7, ENDS_OWN, SET_UP, SETUP, events, is_told, shard, shards,
@@ -12,40 +12,35 @@ use crate::tests::{
 use ap_core::{Event, ListJudge, Out, Shard, handle_all};
 use std::alloc::Global;
 use std::process::Abort;
-use std::test::Fail;
 
 /// What an event leads to. Where it is refused for memory, it comes again.
 fn again(
+    rt: &impl Abort,
     alloc: Global,
     shard: &mut Shard,
     event: &Event,
     judge: &mut ListJudge<'_>,
-) -> Result<Vec<Out>, Fail> {
+) -> Vec<Out> {
     if let Ok(outs) = shard.handle(alloc, event, judge) {
-        return Ok(outs);
+        return outs;
     }
-    let outs = shard.handle(alloc, event, judge)?;
-    Ok(outs)
+    shard.handle(alloc, event, judge).expect(rt, "memory")
 }
 
 /// The events of a transcript lead to what it says at a shard that has handled nothing, where each
 /// that is refused for memory comes again.
-fn leads_again(
-    rt: &impl Abort,
-    alloc: Global,
-    answers: &[u64],
-    transcript: &[Line<'_>],
-) -> Result<(), Fail> {
-    let events = events(alloc, transcript)?;
-    let mut shard = shard(alloc, 2)?;
+fn leads_again(rt: &impl Abort, alloc: Global, answers: &[u64], transcript: &[Line<'_>]) {
+    let events = events(rt, alloc, transcript);
+    let mut shard = shard(rt, alloc, 2);
     let mut judge = ListJudge::new(answers);
     let mut results = Vec::new(alloc);
     for event in &events {
-        let outs = again(alloc, &mut shard, event, &mut judge)?;
-        results.push(Some(outs))?;
+        let outs = again(rt, alloc, &mut shard, event, &mut judge);
+        results.push(Some(outs)).expect(rt, "memory");
     }
-    assert!(rt; is_told(alloc, transcript, &results)?);
-    Ok(())
+    // Given up by a call, since a shard has many parts.
+    drop(shard);
+    holds(rt, is_told(rt, alloc, transcript, &results), "told");
 }
 
 /// For TID 0 and for TID 5, with timeout 10.
@@ -75,226 +70,230 @@ const KICKED: &str = "c0000000 02000000000a 020000000001 020000000001 0000 0300"
 // one allocation of an event refused, the event is handled when it comes again, and so are those
 // after it.
 
+const REFUSED_EXCHANGES_MAY_COME_AGAIN: &[Line<'_>] = &[
+    Frame("b0"),
+    Notes(50),
+    Frame("b0000000 030000000001 02000000000a 020000000001 1000 0000 0100 0000"),
+    Notes(56),
+    Kick(3),
+    Notes(63),
+    Close(0),
+    Notes(63),
+    Frame(DATA),
+    Sends(DEAUTHENTICATED_7),
+    Frame("b0000000 020000000001 02000000000a 020000000001 1000 0100 0100 0000"),
+    Sends("b0000000 02000000000a 020000000001 020000000001 0000 0100 0200 0d00"),
+    Frame(AUTHENTICATION),
+    Sends(AUTHENTICATED),
+    Frame(DATA),
+    Sends(DISASSOCIATED_7),
+    // Another network; a verdict that refuses, and one that admits.
+    Frame(
+        "00000000 020000000001 02000000000a 020000000001 2000 0100 0a00 0003 6c6163 0104 82848b96",
+    ),
+    Sends("10000000 02000000000a 020000000001 020000000001 0000 0100 0c00 0000 0104 82848b96"),
+    Frame(ASSOCIATION),
+    Sends("10000000 02000000000a 020000000001 020000000001 0000 0100 0100 0000 0104 82848b96"),
+    Frame(ASSOCIATION),
+    Sends(ASSOCIATED),
+    Frame(DATA),
+    PassesUp(None, 3, 1, "68656c6c6f"),
+    // It authenticates again, reassociates, disassociates, and deauthenticates.
+    Frame(AUTHENTICATION),
+    Sends(AUTHENTICATED),
+    Frame(ASSOCIATION),
+    Sends(ASSOCIATED),
+    Frame(
+        "20000000 020000000001 02000000000a 020000000001 2000 0100 0a00 020000000001 0003 6c6162 0104 82848b96",
+    ),
+    Sends("30000000 02000000000a 020000000001 020000000001 0000 0100 0000 02c0 0104 82848b96"),
+    Qos(7, "61"),
+    PassesUp(Some(0), 7, 2, "61"),
+    Frame("a0000000 020000000001 02000000000a 020000000001 5000 0800"),
+    Frame(DATA),
+    Sends(DISASSOCIATED_7),
+    Frame("c0000000 020000000001 02000000000a 020000000001 6000 0300"),
+    Frame(ASSOCIATION),
+    Sends(DEAUTHENTICATED_6),
+    // The operator sends it away.
+    Frame(AUTHENTICATION),
+    Sends(AUTHENTICATED),
+    Frame(ASSOCIATION),
+    Sends(ASSOCIATED),
+    Frame(DATA),
+    PassesUp(None, 3, 3, "68656c6c6f"),
+    Kick(3),
+    Sends(KICKED),
+];
+
 #[test]
-fn refused_exchanges_may_come_again(rt: HostRuntime) -> Result<(), Fail> {
+fn refused_exchanges_may_come_again(rt: HostRuntime) {
     leads_again(
         &rt,
         rt.alloc(),
         &[5, 0, 258, 0, 0, 514, 0, 770],
-        &[
-            Frame("b0"),
-            Notes(50),
-            Frame("b0000000 030000000001 02000000000a 020000000001 1000 0000 0100 0000"),
-            Notes(56),
-            Kick(3),
-            Notes(63),
-            Close(0),
-            Notes(63),
-            Frame(DATA),
-            Sends(DEAUTHENTICATED_7),
-            Frame("b0000000 020000000001 02000000000a 020000000001 1000 0100 0100 0000"),
-            Sends("b0000000 02000000000a 020000000001 020000000001 0000 0100 0200 0d00"),
-            Frame(AUTHENTICATION),
-            Sends(AUTHENTICATED),
-            Frame(DATA),
-            Sends(DISASSOCIATED_7),
-            // Another network; a verdict that refuses, and one that admits.
-            Frame(
-                "00000000 020000000001 02000000000a 020000000001 2000 0100 0a00 0003 6c6163 0104 82848b96",
-            ),
-            Sends(
-                "10000000 02000000000a 020000000001 020000000001 0000 0100 0c00 0000 0104 82848b96",
-            ),
-            Frame(ASSOCIATION),
-            Sends(
-                "10000000 02000000000a 020000000001 020000000001 0000 0100 0100 0000 0104 82848b96",
-            ),
-            Frame(ASSOCIATION),
-            Sends(ASSOCIATED),
-            Frame(DATA),
-            PassesUp(None, 3, 1, "68656c6c6f"),
-            // It authenticates again, reassociates, disassociates, and deauthenticates.
-            Frame(AUTHENTICATION),
-            Sends(AUTHENTICATED),
-            Frame(ASSOCIATION),
-            Sends(ASSOCIATED),
-            Frame(
-                "20000000 020000000001 02000000000a 020000000001 2000 0100 0a00 020000000001 0003 6c6162 0104 82848b96",
-            ),
-            Sends(
-                "30000000 02000000000a 020000000001 020000000001 0000 0100 0000 02c0 0104 82848b96",
-            ),
-            Qos(7, "61"),
-            PassesUp(Some(0), 7, 2, "61"),
-            Frame("a0000000 020000000001 02000000000a 020000000001 5000 0800"),
-            Frame(DATA),
-            Sends(DISASSOCIATED_7),
-            Frame("c0000000 020000000001 02000000000a 020000000001 6000 0300"),
-            Frame(ASSOCIATION),
-            Sends(DEAUTHENTICATED_6),
-            // The operator sends it away.
-            Frame(AUTHENTICATION),
-            Sends(AUTHENTICATED),
-            Frame(ASSOCIATION),
-            Sends(ASSOCIATED),
-            Frame(DATA),
-            PassesUp(None, 3, 3, "68656c6c6f"),
-            Kick(3),
-            Sends(KICKED),
-        ],
-    )
+        REFUSED_EXCHANGES_MAY_COME_AGAIN,
+    );
 }
 
+const REFUSED_EVENTS_OF_AGREEMENTS_MAY_COME_AGAIN: &[Line<'_>] = &[
+    Frame(AUTHENTICATION),
+    Sends(AUTHENTICATED),
+    Frame(ASSOCIATION),
+    Sends(ASSOCIATED),
+    // A delayed policy; declined, and then granted.
+    Frame("d0000000 020000000001 02000000000a 020000000001 4000 0300 07 0002 0000 4006"),
+    Sends("d0000000 02000000000a 020000000001 020000000001 0000 0301 07 2500 0200 0000"),
+    Frame(SETUP),
+    Sends("d0000000 02000000000a 020000000001 020000000001 0000 0301 07 2500 0200 0000"),
+    Frame(SETUP),
+    Sends(SET_UP),
+    Qos(101, "61"),
+    Qos(100, "62"),
+    PassesUp(Some(0), 100, 2, "62"),
+    PassesUp(Some(0), 101, 1, "61"),
+    // A request moves the window over 102, and over 103 that is held.
+    Qos(103, "63"),
+    Request(104),
+    PassesUp(Some(0), 103, 3, "63"),
+    Sends("94000000 02000000000a 020000000001 0400 8006 0000000000000000"),
+    // One is dropped and one held, and another agreement replaces this one.
+    Qos(105, "64"),
+    Qos(106, "65"),
+    Frame(SETUP),
+    PassesUp(Some(0), 106, 4, "65"),
+    Sends(SET_UP),
+    // A number beyond the window moves it, and the originator ends the agreement.
+    Qos(102, "66"),
+    Qos(110, "67"),
+    PassesUp(Some(0), 102, 5, "66"),
+    Frame(ENDS_OWN),
+    PassesUp(Some(0), 110, 6, "67"),
+    // The operator ends it.
+    Frame(SETUP),
+    Sends(SET_UP),
+    Qos(102, "68"),
+    Close(0),
+    PassesUp(Some(0), 102, 7, "68"),
+    Sends(CLOSED),
+    // It is discarded with what it holds.
+    Frame(ASSOCIATION),
+    Sends(ASSOCIATED),
+    Frame(SETUP),
+    Sends(SET_UP),
+    Qos(102, "69"),
+    Kick(3),
+    Sends(KICKED),
+];
+
 #[test]
-fn refused_events_of_agreements_may_come_again(rt: HostRuntime) -> Result<(), Fail> {
+fn refused_events_of_agreements_may_come_again(rt: HostRuntime) {
     leads_again(
         &rt,
         rt.alloc(),
         &[
             0, 0, 8, 258, 514, 770, 1, 1026, 8, 1282, 1538, 8, 1794, 0, 8, 2050,
         ],
-        &[
-            Frame(AUTHENTICATION),
-            Sends(AUTHENTICATED),
-            Frame(ASSOCIATION),
-            Sends(ASSOCIATED),
-            // A delayed policy; declined, and then granted.
-            Frame("d0000000 020000000001 02000000000a 020000000001 4000 0300 07 0002 0000 4006"),
-            Sends("d0000000 02000000000a 020000000001 020000000001 0000 0301 07 2500 0200 0000"),
-            Frame(SETUP),
-            Sends("d0000000 02000000000a 020000000001 020000000001 0000 0301 07 2500 0200 0000"),
-            Frame(SETUP),
-            Sends(SET_UP),
-            Qos(101, "61"),
-            Qos(100, "62"),
-            PassesUp(Some(0), 100, 2, "62"),
-            PassesUp(Some(0), 101, 1, "61"),
-            // A request moves the window over 102, and over 103 that is held.
-            Qos(103, "63"),
-            Request(104),
-            PassesUp(Some(0), 103, 3, "63"),
-            Sends("94000000 02000000000a 020000000001 0400 8006 0000000000000000"),
-            // One is dropped and one held, and another agreement replaces this one.
-            Qos(105, "64"),
-            Qos(106, "65"),
-            Frame(SETUP),
-            PassesUp(Some(0), 106, 4, "65"),
-            Sends(SET_UP),
-            // A number beyond the window moves it, and the originator ends the agreement.
-            Qos(102, "66"),
-            Qos(110, "67"),
-            PassesUp(Some(0), 102, 5, "66"),
-            Frame(ENDS_OWN),
-            PassesUp(Some(0), 110, 6, "67"),
-            // The operator ends it.
-            Frame(SETUP),
-            Sends(SET_UP),
-            Qos(102, "68"),
-            Close(0),
-            PassesUp(Some(0), 102, 7, "68"),
-            Sends(CLOSED),
-            // It is discarded with what it holds.
-            Frame(ASSOCIATION),
-            Sends(ASSOCIATED),
-            Frame(SETUP),
-            Sends(SET_UP),
-            Qos(102, "69"),
-            Kick(3),
-            Sends(KICKED),
-        ],
-    )
+        REFUSED_EVENTS_OF_AGREEMENTS_MAY_COME_AGAIN,
+    );
 }
 
+const REFUSED_TICKS_MAY_COME_AGAIN: &[Line<'_>] = &[
+    Frame(AUTHENTICATION),
+    Sends(AUTHENTICATED),
+    Frame(ASSOCIATION),
+    Sends(ASSOCIATED),
+    Frame(SETUP_0),
+    Sends(SET_UP_0),
+    Frame(SETUP_5),
+    Sends(SET_UP_5),
+    Qos(102, "61"),
+    Frame(QOS_5),
+    Tick(9),
+    Tick(1),
+    PassesUp(Some(0), 102, 1, "61"),
+    Sends(TIMED_OUT_0),
+    PassesUp(Some(5), 102, 2, "61"),
+    Sends(TIMED_OUT_5),
+    Tick(10),
+];
+
 #[test]
-fn refused_ticks_may_come_again(rt: HostRuntime) -> Result<(), Fail> {
+fn refused_ticks_may_come_again(rt: HostRuntime) {
     leads_again(
         &rt,
         rt.alloc(),
         &[0, 8, 8, 258, 514],
-        &[
-            Frame(AUTHENTICATION),
-            Sends(AUTHENTICATED),
-            Frame(ASSOCIATION),
-            Sends(ASSOCIATED),
-            Frame(SETUP_0),
-            Sends(SET_UP_0),
-            Frame(SETUP_5),
-            Sends(SET_UP_5),
-            Qos(102, "61"),
-            Frame(QOS_5),
-            Tick(9),
-            Tick(1),
-            PassesUp(Some(0), 102, 1, "61"),
-            Sends(TIMED_OUT_0),
-            PassesUp(Some(5), 102, 2, "61"),
-            Sends(TIMED_OUT_5),
-            Tick(10),
-        ],
-    )
+        REFUSED_TICKS_MAY_COME_AGAIN,
+    );
 }
 
 /// What this one event leads to at all shards. Where it is refused for memory, it comes again.
 fn again_at_all(
+    rt: &impl Abort,
     alloc: Global,
     shards: &mut [Shard; 8],
     event: &[Event],
     judge: &mut ListJudge<'_>,
-) -> Result<Option<Vec<Out>>, Fail>
+) -> Option<Vec<Out>>
     requires { InPlace (rules_of shards.old) }
-    ensures { IfOk result (λ _. InPlace (rules_of shards.new)) }
+    ensures { InPlace (rules_of shards.new) }
 {
     if let Ok(mut results) = handle_all(alloc, shards, event, judge) {
         if let Some(Some(outs)) = results.pop() {
-            return Ok(Some(outs));
+            return Some(outs);
         }
     }
-    let mut results = handle_all(alloc, shards, event, judge)?;
-    Ok(results.pop().unwrap_or(None))
+    let mut results = handle_all(alloc, shards, event, judge).expect(rt, "memory");
+    results.pop().unwrap_or(None)
 }
 
 /// Agreements of two shards time out in one tick.
+const REFUSED_AT_ALL: &[Line<'_>] = &[
+    Frame("b0"),
+    Notes(50),
+    Frame(AUTHENTICATION),
+    Sends(AUTHENTICATED),
+    Frame(ASSOCIATION),
+    Sends(ASSOCIATED),
+    Frame(SETUP_0),
+    Sends(SET_UP_0),
+    Qos(102, "61"),
+    // Another station, of shard 3.
+    Frame("b0000000 020000000001 02000000000b 020000000001 1000 0000 0100 0000"),
+    Sends("b0000000 02000000000b 020000000001 020000000001 0000 0000 0200 0000"),
+    Frame(
+        "00000000 020000000001 02000000000b 020000000001 2000 0100 0a00 0003 6c6162 0104 82848b96",
+    ),
+    Sends("10000000 02000000000b 020000000001 020000000001 0000 0100 0000 03c0 0104 82848b96"),
+    Frame("d0000000 020000000001 02000000000b 020000000001 4000 0300 07 0202 0a00 4006"),
+    Sends("d0000000 02000000000b 020000000001 020000000001 0000 0301 07 0000 0202 0a00"),
+    Tick(10),
+    PassesUp(Some(0), 102, 1, "61"),
+    Sends(TIMED_OUT_0),
+    Sends("d0000000 02000000000b 020000000001 020000000001 0000 0302 0000 2700"),
+    Frame(SETUP),
+    Sends(SET_UP),
+    Qos(103, "62"),
+    Close(0),
+    PassesUp(Some(0), 103, 2, "62"),
+    Sends(CLOSED),
+    Kick(3),
+    Sends(KICKED),
+];
+
 #[test]
-fn refused_events_at_all_shards_may_come_again(rt: HostRuntime) -> Result<(), Fail> {
+fn refused_events_at_all_shards_may_come_again(rt: HostRuntime) {
     let alloc = rt.alloc();
-    let transcript = [
-        Frame("b0"),
-        Notes(50),
-        Frame(AUTHENTICATION),
-        Sends(AUTHENTICATED),
-        Frame(ASSOCIATION),
-        Sends(ASSOCIATED),
-        Frame(SETUP_0),
-        Sends(SET_UP_0),
-        Qos(102, "61"),
-        // Another station, of shard 3.
-        Frame("b0000000 020000000001 02000000000b 020000000001 1000 0000 0100 0000"),
-        Sends("b0000000 02000000000b 020000000001 020000000001 0000 0000 0200 0000"),
-        Frame(
-            "00000000 020000000001 02000000000b 020000000001 2000 0100 0a00 0003 6c6162 0104 82848b96",
-        ),
-        Sends("10000000 02000000000b 020000000001 020000000001 0000 0100 0000 03c0 0104 82848b96"),
-        Frame("d0000000 020000000001 02000000000b 020000000001 4000 0300 07 0202 0a00 4006"),
-        Sends("d0000000 02000000000b 020000000001 020000000001 0000 0301 07 0000 0202 0a00"),
-        Tick(10),
-        PassesUp(Some(0), 102, 1, "61"),
-        Sends(TIMED_OUT_0),
-        Sends("d0000000 02000000000b 020000000001 020000000001 0000 0302 0000 2700"),
-        Frame(SETUP),
-        Sends(SET_UP),
-        Qos(103, "62"),
-        Close(0),
-        PassesUp(Some(0), 103, 2, "62"),
-        Sends(CLOSED),
-        Kick(3),
-        Sends(KICKED),
-    ];
-    let events = events(alloc, &transcript)?;
-    let mut shards = shards(alloc)?;
+    let events = events(&rt, alloc, REFUSED_AT_ALL);
+    let mut shards = shards(&rt, alloc);
     let mut judge = ListJudge::new(&[0, 8, 258, 0, 8, 8, 514]);
     let mut results = Vec::new(alloc);
     for event in events.chunks(1) {
-        results.push(again_at_all(alloc, &mut shards, event, &mut judge)?)?;
+        let outs = again_at_all(&rt, alloc, &mut shards, event, &mut judge);
+        results.push(outs).expect(&rt, "memory");
     }
-    assert!(rt; is_told(alloc, &transcript, &results)?);
-    Ok(())
+    // Given up by a call, since eight shards have many parts.
+    drop(shards);
+    holds(&rt, is_told(&rt, alloc, REFUSED_AT_ALL, &results), "told");
 }
