@@ -168,19 +168,13 @@ fn joined<B: Ledgers + Journals>(
       of7 = high.high.second.mine;
     } }
 {
+    let OpenedTwo { first, second } = low.high;
+    let (third, fourth) = (first, second);
+    let OpenedTwo { first, second } = high.low;
+    let (fifth, sixth) = (first, second);
+    let OpenedTwo { first, second } = high.high;
+    let (seventh, eighth) = (first, second);
     let OpenedTwo { first, second } = low.low;
-    let OpenedTwo {
-        first: third,
-        second: fourth,
-    } = low.high;
-    let OpenedTwo {
-        first: fifth,
-        second: sixth,
-    } = high.low;
-    let OpenedTwo {
-        first: seventh,
-        second: eighth,
-    } = high.high;
     let shards = Shards {
         of0: first.lock,
         of1: second.lock,
