@@ -20,5 +20,5 @@ pub use ap_tagged::{Gate, OpenGate};
 pub use apd_loads::StateLimit;
 pub use naming::Publications;
 pub use operator::LiveOperator;
-pub use running::{Supplies, run_live};
+pub use running::{Opening, Supplies, run_live};
 pub use worker::LiveWorker;

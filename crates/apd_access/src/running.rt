@@ -43,6 +43,28 @@ pub struct Supplies<'a, F, G: Drop> {
     pub gate: G,
 }
 
+/// What an access point is made from, with a copy of the shapes of its maps.
+#[derive(Drop)]
+pub struct Opening {
+    pub settings: Settings,
+    pub shapes: Shapes,
+    pub new: NewShards,
+}
+
+/// An access point whose tokens were not given out yet, with so many workers, and a copy of the shapes
+/// of its maps.
+struct Unused<B: Ledgers + Journals> {
+    opened: Opened<B>,
+    workers: usize,
+    shapes: Shapes,
+}
+
+/// The tokens of an access point as they were given out, and the programs that are put in force there.
+struct Equipment<B: Ledgers + Journals> {
+    hands: Hands<B>,
+    loads: Loads,
+}
+
 /// The end of a run that memory was refused to before it began.
 fn without_memory<P: Write>(writer: P) -> (P, u8)
     ensures runs { Runs (P.contents writer) (P.contents result.0) none result.1 }
@@ -145,8 +167,7 @@ fn run_with<B, L, F, G, R, P>(
     rt: &R,
     alloc: Global,
     ap: &LiveAp<B>,
-    hands: Hands<B>,
-    loads: Loads,
+    equipment: Equipment<B>,
     supplies: Supplies<'_, F, G>,
     commands: &[Numbered<'_>],
     writer: P,
@@ -158,13 +179,15 @@ where
     G: Gate + Copy + Send,
     R: Threads + Wait + Sync,
     P: Write + Drop,
-    requires hands { AreHands ap.now hands.operator hands.workers.items hands.hoard hands.parts }
+    requires hands { let hands = equipment.hands in
+        AreHands ap.now hands.operator hands.workers.items hands.hoard hands.parts }
     requires shares { B.shares ≡ parts_in_all }
     requires list { ap.now.list.list ≡ L.list }
-    requires loads { loads.list ≡ L.list }
+    requires loads { equipment.loads.list ≡ L.list }
     ensures runs { Runs (P.contents writer) (P.contents result.0) none result.1 }
 {
     let Supplies { files, limit, gate } = supplies;
+    let Equipment { hands, loads } = equipment;
     let Hands {
         operator,
         workers,
@@ -187,13 +210,11 @@ where
     ended
 }
 
-/// Runs a script by an access point whose tokens were not given out yet, with so many workers.
+/// Runs a script by an access point whose tokens were not given out yet.
 fn run_opened<B, F, G, R, P>(
     rt: &R,
     alloc: Global,
-    opened: Opened<B>,
-    workers: usize,
-    shapes: Shapes,
+    new: Unused<B>,
     supplies: Supplies<'_, F, G>,
     commands: &[Numbered<'_>],
     writer: P,
@@ -204,12 +225,17 @@ where
     G: Gate + Copy + Send,
     R: Threads + Wait + Sync,
     P: Write + Drop,
-    requires unused { IsUnused workers opened.ap opened.publisher opened.left }
-    requires few { workers ≤ 8 }
-    requires shapes { shapes ≡ opened.publisher.shapes }
+    requires unused { IsUnused new.workers new.opened.ap new.opened.publisher new.opened.left }
+    requires few { new.workers ≤ 8 }
+    requires shapes { new.shapes ≡ new.opened.publisher.shapes }
     requires shares { B.shares ≡ parts_in_all }
     ensures runs { Runs (P.contents writer) (P.contents result.0) none result.1 }
 {
+    let Unused {
+        opened,
+        workers,
+        shapes,
+    } = new;
     let Opened {
         mut ap,
         publisher,
@@ -220,18 +246,17 @@ where
         loads.close(rt);
         return without_memory(writer);
     };
-    run_with::<B, Brand, F, G, R, P>(rt, alloc, &ap, hands, loads, supplies, commands, writer)
+    let equipment = Equipment { hands, loads };
+    run_with::<B, Brand, F, G, R, P>(rt, alloc, &ap, equipment, supplies, commands, writer)
 }
 
-/// Runs a script by a new access point. `shapes` are a copy of those of its maps. The writer is handed
-/// back with the program's status: 0; 3 where a line says `memory`, or memory was refused to the run
-/// itself, which then broke off; 2 where a write failed, which ends the run.
+/// Runs a script by a new access point. The writer is handed back with the program's status: 0; 3 where
+/// a line says `memory`, or memory was refused to the run itself, which then broke off; 2 where a write
+/// failed, which ends the run.
 pub fn run_live<B, F, G, R, P>(
     rt: &R,
     alloc: Global,
-    settings: Settings,
-    shapes: Shapes,
-    new: NewShards,
+    opening: Opening,
     supplies: Supplies<'_, F, G>,
     commands: &[Numbered<'_>],
     writer: P,
@@ -242,18 +267,26 @@ where
     G: Gate + Copy + Send,
     R: Threads + Wait + Sync,
     P: Write + Drop,
-    requires some { 0 < settings.workers }
-    requires few { settings.workers ≤ 8 }
-    requires shapes { shapes ≡ settings.shapes }
-    requires named { AreNamed B.name_of B.shares B.journal_of new }
+    requires some { 0 < opening.settings.workers }
+    requires few { opening.settings.workers ≤ 8 }
+    requires shapes { opening.shapes ≡ opening.settings.shapes }
+    requires named { AreNamed B.name_of B.shares B.journal_of opening.new }
     requires shares { B.shares ≡ parts_in_all }
     ensures runs { Runs (P.contents writer) (P.contents result.0) none result.1 }
 {
+    let Opening {
+        settings,
+        shapes,
+        new,
+    } = opening;
     let workers = settings.workers as usize;
     let Ok(opened) = LiveAp::<B>::open(rt, alloc, settings, new) else {
         return without_memory(writer);
     };
-    run_opened(
-        rt, alloc, opened, workers, shapes, supplies, commands, writer,
-    )
+    let unused = Unused {
+        opened,
+        workers,
+        shapes,
+    };
+    run_opened(rt, alloc, unused, supplies, commands, writer)
 }

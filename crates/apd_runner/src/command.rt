@@ -6,7 +6,7 @@ ghost use Rattle.apd_access.specs.Shows.{Runs};
 
 use crate::fault::{RunFault, complain, of_script, say_why};
 use crate::setup::{configuration, copy_of, read, settings};
-use apd_access::{NewShards, Supplies, run_live};
+use apd_access::{NewShards, Opening, Supplies, run_live};
 use apd_config::Configuration;
 use apd_inputs::{FileKind, Files};
 use apd_progress::Watcher;
@@ -60,9 +60,12 @@ where
         return (writer, 3);
     };
     supplies.gate.start(last_line(commands));
-    let settings = settings(configuration, workers);
-    let new = NewShards::new(PARTS);
-    run_live::<Brand, F, G, R, P>(rt, alloc, settings, shapes, new, supplies, commands, writer)
+    let opening = Opening {
+        settings: settings(configuration, workers),
+        shapes,
+        new: NewShards::new(PARTS),
+    };
+    run_live::<Brand, F, G, R, P>(rt, alloc, opening, supplies, commands, writer)
 }
 
 /// Runs a script. `out` is handed back with the program's status: 0; 2 for a fault of a file, the
