@@ -1,2 +1,1 @@
 mod Newest
-mod Rotated

@@ -7,6 +7,7 @@ ghost use Rattle.bpf_prune.specs.Covering.{newest_covering, with_newest, Covers}
 use bpf_absstate::{AbsState, Difference};
 use std::alloc::{AllocError, Global};
 use std::cell::Cell;
+use std::collections::VecDeque;
 use std::marker::Model;
 
 /// A finished state, and within how many steps each run from its states ends.
@@ -59,7 +60,7 @@ impl Marked {
 /// The newest finished states of a slot, at most 64.
 #[derive(Drop)]
 pub struct Kept {
-    entries: Vec<Marked>,
+    entries: VecDeque<Marked>,
 }
 
 impl Model for Kept {
@@ -79,7 +80,7 @@ impl Kept {
         ensures is { result ≡ [] }
     {
         Kept {
-            entries: Vec::new(alloc),
+            entries: VecDeque::new(alloc),
         }
     }
 
@@ -90,19 +91,16 @@ impl Kept {
         ensures err { OnErr result (self.new ≡ self.old) }
     {
         let differed = Cell::new(self.newest_difference());
-        let marked = Marked { entry, differed };
         if self.entries.len() == 64 {
-            self.entries.rotate_left(1);
-            self.entries[63] = marked;
-            return Ok(());
+            drop(self.entries.pop_front());
         }
-        self.entries.push(marked)?;
+        self.entries.push_back(Marked { entry, differed })?;
         Ok(())
     }
 
     /// Where a state was last found not to lie in the newest.
     fn newest_difference(&self) -> Difference {
-        match self.entries.last() {
+        match self.entries.back() {
             Some(newest) => newest.differed.get(),
             None => Difference::Apart,
         }
