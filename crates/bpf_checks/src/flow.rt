@@ -1,8 +1,8 @@
 //! Arithmetic, jumps, calls and EXIT: the states that come next.
 
-ghost use Rattle.std.specs.Prelude.{◌≡◌, ◌<◌, ◌≤◌, ◌+◌, ℕ, if◌then◌else◌, Ok};
+ghost use Rattle.std.specs.Prelude.{◌≡◌, ◌<◌, ◌≤◌, ◌+◌, ℕ, if◌then◌else◌, Ok, true};
 ghost use Rattle.bpf_absnum.specs.Number.{Num};
-ghost use Rattle.bpf_absstate.specs.View.{register, at_slot, without_label, returned};
+ghost use Rattle.bpf_absstate.specs.View.{register, at_slot, without_arguments, without_label, returned};
 ghost use Rattle.bpf_decode.specs.Flow.{IsJump};
 ghost use Rattle.bpf_rules.specs.Faults.{IsOrNoMemory, on};
 ghost use Rattle.bpf_rules.specs.Operands.{source_value, makes_label};
@@ -141,14 +141,28 @@ pub fn helper_answer(state: &AbsState, helper: u64) -> Result<AbsVal, Fault>
     }
 }
 
-/// The state after a helper's answer.
+/// Whether R1 to R5 are unset.
+#[tactic(auto, using(crate::proofs::Answering::cleared_again))]
+fn has_no_arguments(state: &AbsState) -> bool
+    ensures is { result ≡ true → without_arguments state.now.registers ≡ state.now.registers }
+{
+    matches!(state.register(Reg::new(1)), AbsVal::Unset)
+        && matches!(state.register(Reg::new(2)), AbsVal::Unset)
+        && matches!(state.register(Reg::new(3)), AbsVal::Unset)
+        && matches!(state.register(Reg::new(4)), AbsVal::Unset)
+        && matches!(state.register(Reg::new(5)), AbsVal::Unset)
+}
+
+/// The state after a helper's answer. Registers that are unset already aren't written.
 #[tactic(auto, using(crate::proofs::Answering::answered_last))]
 pub fn after_helper(mut state: AbsState, value: AbsVal) -> Result<Ways, Fault>
     requires inside { state.pc < 16384 }
     ensures is { IsOrNoMemory result (Ok (One (answered state value))) }
 {
     let next = state.pc() + 1;
-    state.clear_arguments()?;
+    if !has_no_arguments(&state) {
+        state.clear_arguments()?;
+    }
     state.set_register(Reg::new(0), value)?;
     state.go_to(next);
     Ok(Ways::One(state))
