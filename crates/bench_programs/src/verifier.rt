@@ -19,14 +19,15 @@ fn turns_of_a_loop(alloc: Global, turns: u64) -> Result<(String, u64), AllocErro
     Ok((text, turns.saturating_mul(3).saturating_add(3)))
 }
 
-/// Two ways that join again, so many times, and the states that they have.
+/// Two ways that join again, so many times, and the states that are examined: what R0 is differs on the two ways, so that
+/// each turn but the first is gone through twice.
 fn joins(alloc: Global, turns: u64) -> Result<(String, u64), AllocError> {
     let mut text = String::new(alloc);
     for _turn in 0..turns {
         text.push_str("call 4\njgt r0, 7, +1\nmov r0, 0\n")?;
     }
     text.push_str("mov r0, 0\nexit\n")?;
-    Ok((text, turns.saturating_mul(4).saturating_add(2)))
+    Ok((text, turns.saturating_mul(8).saturating_sub(1)))
 }
 
 /// A jump to itself.
