@@ -25,17 +25,6 @@ pub(crate) struct Frame {
     pub(crate) best: u32,
 }
 
-impl Frame {
-    /// How many states come with it, each as often as it has call frames.
-    pub(crate) fn size(&self) -> u32 {
-        let depth = match &self.state {
-            Some(state) => state.depth(),
-            None => 1,
-        };
-        self.before.saturating_add(1).saturating_mul(depth as u32)
-    }
-}
-
 /// What the examination of a state came to.
 #[derive(Drop)]
 pub(crate) struct Outcome {

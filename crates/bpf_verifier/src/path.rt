@@ -11,10 +11,9 @@ use std::alloc::{AllocError, Global};
 use std::marker::Model;
 use std::mem::replace;
 
-/// How many states go on the path before frames are folded, each as often as it has call frames: the more of these there
-/// are, the more memory a state may take. Those of eight call frames, too, are more than a program has slots, so that
-/// frames are folded and made again no oftener than as many states are examined.
-const WINDOW: u32 = 262144;
+/// How many states go on the path before frames are folded. It is more than a program has slots, so that frames are
+/// folded and made again no oftener than as many states are examined.
+const WINDOW: u32 = 32768;
 
 /// The frames of an exploration, the oldest first. Those that lie deep are folded.
 #[derive(Drop)]
@@ -30,7 +29,7 @@ pub(crate) struct Path {
     older: Vec<Frame>,
     /// The newest. The first of them has a state.
     newer: Vec<Frame>,
-    /// How many states went on the path since frames were folded, each as often as it has call frames.
+    /// How many states went on the path since frames were folded.
     window: u32,
 }
 
@@ -74,7 +73,7 @@ impl Path {
     pub(crate) fn push(&mut self, frame: Frame) -> Result<(), AllocError>
         ensures ok { OnOk result (self.new ≡ self.old ++ frame ∷ []) }
     {
-        self.window = self.window.saturating_add(frame.size());
+        self.window = self.window.saturating_add(frame.before).saturating_add(1);
         if frame.state.is_some() {
             if self.window > WINDOW {
                 self.fold()?;
