@@ -82,7 +82,8 @@ impl Filled {
         }
     }
 
-    /// One round of a worker: once the queues are filled and all workers are there, it serves what its own holds.
+    /// One round of a worker: once the queues are filled and all workers are there, it serves what its own holds. The time
+    /// is that until all have served; what they answered is given up after it, as whoever reads it would.
     fn serve<B: Ledgers + Journals, R: Wait + Clock>(
         &self,
         rt: &R,
@@ -98,12 +99,12 @@ impl Filled {
         let start = Instant::now(rt);
         let _ = hand.serve(rt, alloc, &OpenGate, list);
         self.served.fetch_add(list.len() as u64, SeqCst);
-        list.clear();
         self.ended.fetch_add(1, SeqCst);
         if hand.number == 0 {
             await_sign(rt, &self.ended, all);
             self.add_time(rt, start.ok());
         }
+        list.clear();
     }
 
     /// Adds the time since then.
