@@ -25,6 +25,19 @@ pub(crate) struct Frame {
     pub(crate) best: u32,
 }
 
+impl Frame {
+    /// How many call frames its states have; one where it has no state.
+    pub(crate) fn depth(&self) -> u32 {
+        if let Some(state) = &self.state {
+            return state.depth() as u32;
+        }
+        if let Some(state) = &self.pending {
+            return state.depth() as u32;
+        }
+        1
+    }
+}
+
 /// What the examination of a state came to.
 #[derive(Drop)]
 pub(crate) struct Outcome {

@@ -11,9 +11,10 @@ use std::alloc::{AllocError, Global};
 use std::marker::Model;
 use std::mem::replace;
 
-/// How many states go on the path before frames are folded. It is more than a program has slots, so that frames are
-/// folded and made again no oftener than as many states are examined.
-const WINDOW: u32 = 32768;
+/// How many frames go on the path before older ones are folded, each counted as often as its states have call frames:
+/// the more of these, the more memory a frame may take. Of frames with eight, too, it is more than a program has slots,
+/// so that frames are folded and made again no oftener than as many states are examined.
+const WINDOW: u32 = 262144;
 
 /// The frames of an exploration, the oldest first. Those that lie deep are folded.
 #[derive(Drop)]
@@ -29,7 +30,8 @@ pub(crate) struct Path {
     older: Vec<Frame>,
     /// The newest. The first of them has a state.
     newer: Vec<Frame>,
-    /// How many states went on the path since frames were folded.
+    /// How many frames went on the path since frames were folded, each counted as often as its states have call
+    /// frames.
     window: u32,
 }
 
@@ -73,7 +75,7 @@ impl Path {
     pub(crate) fn push(&mut self, frame: Frame) -> Result<(), AllocError>
         ensures ok { OnOk result (self.new ≡ self.old ++ frame ∷ []) }
     {
-        self.window = self.window.saturating_add(frame.before).saturating_add(1);
+        self.window = self.window.saturating_add(frame.depth());
         if frame.state.is_some() {
             if self.window > WINDOW {
                 self.fold()?;
