@@ -27,7 +27,7 @@ pub(crate) struct Frame {
 
 impl Frame {
     /// How many call frames its states have; one where it has no state.
-    pub(crate) fn depth(&self) -> u32 {
+    fn depth(&self) -> u32 {
         if let Some(state) = &self.state {
             return state.depth() as u32;
         }
@@ -35,6 +35,12 @@ impl Frame {
             return state.depth() as u32;
         }
         1
+    }
+
+    /// How much memory it may take beside those below, in parts that a state of one call frame may add to it: four, and
+    /// one for each state that comes before it, for each of its call frames.
+    pub(crate) fn weight(&self) -> u32 {
+        self.before.saturating_add(4).saturating_mul(self.depth())
     }
 }
 

@@ -11,10 +11,10 @@ use std::alloc::{AllocError, Global};
 use std::marker::Model;
 use std::mem::replace;
 
-/// How many frames go on the path before older ones are folded, each counted as often as its states have call frames:
-/// the more of these, the more memory a frame may take. Of frames with eight, too, it is more than a program has slots,
-/// so that frames are folded and made again no oftener than as many states are examined.
-const WINDOW: u32 = 262144;
+/// How much weight of frames goes on the path before older ones are folded. A state adds 32 to it at most. So more
+/// states go on the path than a program has slots, and frames are folded and made again no oftener than as many states
+/// are examined.
+const WINDOW: u32 = 1048576;
 
 /// The frames of an exploration, the oldest first. Those that lie deep are folded.
 #[derive(Drop)]
@@ -30,8 +30,7 @@ pub(crate) struct Path {
     older: Vec<Frame>,
     /// The newest. The first of them has a state.
     newer: Vec<Frame>,
-    /// How many frames went on the path since frames were folded, each counted as often as its states have call
-    /// frames.
+    /// The weight of the frames that went on the path since frames were folded.
     window: u32,
 }
 
@@ -75,7 +74,7 @@ impl Path {
     pub(crate) fn push(&mut self, frame: Frame) -> Result<(), AllocError>
         ensures ok { OnOk result (self.new ≡ self.old ++ frame ∷ []) }
     {
-        self.window = self.window.saturating_add(frame.depth());
+        self.window = self.window.saturating_add(frame.weight());
         if frame.state.is_some() {
             if self.window > WINDOW {
                 self.fold()?;
