@@ -1,10 +1,10 @@
 //! How long `parse` takes for a data frame of 1500 bytes and for an association request.
 
 use crate::asked::Size;
-use anyhow::Result;
 use mac_frame::parse;
 use std::alloc::{AllocError, Global};
-use std::rt::Runtime;
+use std::io;
+use std::rt::Clock;
 use std::time::Instant;
 
 /// An association request: SSID `lab` and four rates.
@@ -38,19 +38,28 @@ fn readings(alloc: Global, bytes: &[u8], times: u64) -> u64 {
     found
 }
 
+/// Prints how many readings of a frame found it, and how long one took.
+fn print_found<R: Eprint>(rt: &R, name: &str, found: u64, nanos: u128) -> io::Result<()> {
+    eprintln!(rt; "{name}: {found} read, {nanos} ns each")
+}
+
 /// Reads a frame so many times, and prints how long one reading took.
-fn report<R: Runtime>(rt: &R, alloc: Global, name: &str, bytes: &[u8], times: u64) -> Result<()> {
+fn report<R: Clock + Eprint>(
+    rt: &R,
+    alloc: Global,
+    name: &str,
+    bytes: &[u8],
+    times: u64,
+) -> io::Result<()> {
     let start = Instant::now(rt)?;
     let found = readings(alloc, bytes, times);
-    let spent = start.elapsed(rt)?.as_nanos() / u128::from(times.max(1));
-    eprintln!(rt; "{name}: {found} read, {spent} ns each")?;
-    Ok(())
+    let spent = start.elapsed(rt)?.as_nanos();
+    print_found(rt, name, found, spent / u128::from(times.max(1)))
 }
 
 /// Reads a frame of each kind, a million times or 10000.
-pub fn print_times<R: Runtime>(rt: &R, alloc: Global, size: Size) -> Result<()> {
+pub fn print_times<R: Clock + Eprint>(rt: &R, alloc: Global, size: Size) -> io::Result<()> {
     let times = size.choose(1_000_000, 10_000);
-    let data = data_frame(alloc)?;
-    report(rt, alloc, "data of 1500 bytes", &data, times)?;
+    report(rt, alloc, "data of 1500 bytes", &data_frame(alloc)?, times)?;
     report(rt, alloc, "association request", &REQUEST, times)
 }

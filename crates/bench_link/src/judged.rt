@@ -15,10 +15,10 @@ use bpf_machine::Accepted;
 use bpf_regions::{Context, Frame, Hook};
 use hook_judge::{SetJudge, judging_law};
 use std::alloc::{AllocError, Global};
-use std::fmt;
-use std::rt::Runtime;
+use std::rt::Clock;
 use std::sync::Wait;
 use std::time::Instant;
+use std::{fmt, io};
 
 /// The station that sends.
 const STATION: u16 = 0;
@@ -52,32 +52,35 @@ impl Spent {
     }
 }
 
-/// A shard without stations.
-fn without_stations(alloc: Global) -> Result<Shard> {
-    let config = config(alloc)?;
-    Ok(Shard::new(alloc, 0, &config)?)
-}
+impl Served {
+    /// The shard without the station, and the frame.
+    fn new(alloc: Global) -> Result<Served, AllocError> {
+        let config = config(alloc)?;
+        let sent = datagram(alloc, STATION)?;
+        let shard = Shard::new(alloc, 0, &config)?;
+        Ok(Served { shard, sent })
+    }
 
-/// Handles what a station sends, where it is accepted.
-fn accept(alloc: Global, shard: &mut Shard, sent: Sent) -> Result<(), AllocError> {
-    let mut judge = ListJudge::new(&[]);
-    shard.handle(alloc, &sent.event, &mut judge)?;
-    Ok(())
-}
+    /// Handles what the station sends before.
+    fn accept(&mut self, alloc: Global, sent: &Sent) -> Result<(), AllocError> {
+        let mut judge = ListJudge::new(&[]);
+        let _outs = self.shard.handle(alloc, &sent.event, &mut judge)?;
+        Ok(())
+    }
 
-/// A shard with the station.
-fn joined(alloc: Global) -> Result<Shard> {
-    let mut shard = without_stations(alloc)?;
-    accept(alloc, &mut shard, authentication(alloc, STATION)?)?;
-    accept(alloc, &mut shard, association(alloc, STATION)?)?;
-    Ok(shard)
-}
+    /// Associates the station.
+    fn associate(&mut self, alloc: Global) -> Result<(), AllocError> {
+        self.accept(alloc, &authentication(alloc, STATION)?)?;
+        self.accept(alloc, &association(alloc, STATION)?)
+    }
 
-/// The same shard, and the station's frame.
-fn opened(alloc: Global) -> Result<Served> {
-    let shard = joined(alloc)?;
-    let sent = datagram(alloc, STATION)?;
-    Ok(Served { shard, sent })
+    /// The station's frame.
+    fn frame(&self) -> Option<Frame<'_>> {
+        match &self.sent.event {
+            Event::Frame(octets) => Frame::new(octets.bytes()),
+            _ => None,
+        }
+    }
 }
 
 /// What worker 0 reads of a shard.
@@ -186,8 +189,56 @@ fn run_round(
     sum
 }
 
+/// How many frames of a round in the shard are passed up, and how long it takes.
+fn time_frames<R: Clock>(
+    rt: &R,
+    alloc: Global,
+    served: &mut Served,
+    policies: &Policies<'_, '_>,
+    state: &mut WorkerState,
+) -> io::Result<(u64, u128)>
+    requires seats { IsFitting policies.now.maps.now 0 state.old.seats }
+    ensures seats { IsFitting policies.now.maps.now 0 state.new.seats }
+{
+    let start = Instant::now(rt)?;
+    let passed = handle_round(alloc, served, policies, state)?;
+    Ok((passed, start.elapsed(rt)?.as_nanos()))
+}
+
+/// The sum of a round of verdicts on a frame, and how long it takes.
+fn time_verdicts<R: Clock>(
+    rt: &R,
+    frame: &Frame<'_>,
+    policies: &Policies<'_, '_>,
+    state: &mut WorkerState,
+) -> io::Result<(u64, u128)>
+    requires seats { IsFitting policies.now.maps.now 0 state.old.seats }
+    ensures seats { IsFitting policies.now.maps.now 0 state.new.seats }
+{
+    let start = Instant::now(rt)?;
+    let sum = judge_round(frame, policies, state);
+    Ok((sum, start.elapsed(rt)?.as_nanos()))
+}
+
+/// The sum of R0 in a round of runs on a frame, and how long it takes.
+fn time_runs<R: Clock>(
+    rt: &R,
+    accepted: &Accepted,
+    frame: &Frame<'_>,
+    policies: &Policies<'_, '_>,
+    state: &mut WorkerState,
+) -> io::Result<(u64, u128)>
+    requires shapes { shapes_of policies.now.maps.now ≡ accepted.now.code.shapes }
+    requires seats { IsFitting policies.now.maps.now 0 state.old.seats }
+    ensures seats { IsFitting policies.now.maps.now 0 state.new.seats }
+{
+    let start = Instant::now(rt)?;
+    let sum = run_round(accepted, frame, policies, state);
+    Ok((sum, start.elapsed(rt)?.as_nanos()))
+}
+
 /// How long a round of verdicts on a frame takes, and one of runs, if there is a program.
-fn spent_by_itself<R: Runtime>(
+fn spent_by_itself<R: Clock>(
     rt: &R,
     frame: &Frame<'_>,
     policies: &Policies<'_, '_>,
@@ -196,15 +247,11 @@ fn spent_by_itself<R: Runtime>(
     requires seats { IsFitting policies.now.maps.now 0 state.old.seats }
     ensures seats { IsFitting policies.now.maps.now 0 state.new.seats }
 {
-    let start = Instant::now(rt)?;
-    let judged = judge_round(frame, policies, state);
-    let verdict = start.elapsed(rt)?.as_nanos();
+    let (judged, verdict) = time_verdicts(rt, frame, policies, state)?;
     let Some(accepted) = policies.set.program(Hook::Data) else {
         return Ok((verdict, 0));
     };
-    let start = Instant::now(rt)?;
-    let ended = run_round(accepted, frame, policies, state);
-    let run = start.elapsed(rt)?.as_nanos();
+    let (ended, run) = time_runs(rt, accepted, frame, policies, state)?;
     if judged != ended {
         bail!("a verdict that is not R0");
     }
@@ -212,7 +259,7 @@ fn spent_by_itself<R: Runtime>(
 }
 
 /// How long one round of each takes.
-fn round<R: Runtime>(
+fn round<R: Clock>(
     rt: &R,
     alloc: Global,
     served: &mut Served,
@@ -222,28 +269,21 @@ fn round<R: Runtime>(
     requires seats { IsFitting policies.now.maps.now 0 state.old.seats }
     ensures seats { IsFitting policies.now.maps.now 0 state.new.seats }
 {
-    let start = Instant::now(rt)?;
-    let passed = handle_round(alloc, served, policies, state)?;
-    let spent = start.elapsed(rt)?.as_nanos();
-    if passed != TIMES {
-        bail!("a frame that is not passed up");
-    }
-    let Event::Frame(bytes) = &served.sent.event else {
-        bail!("no frame");
-    };
-    let Some(frame) = Frame::new(bytes.bytes()) else {
-        bail!("no frame");
+    let (passed, in_shard) = time_frames(rt, alloc, served, policies, state)?;
+    let frame = match served.frame() {
+        Some(frame) if passed == TIMES => frame,
+        _ => bail!("a frame that is not passed up"),
     };
     let (verdict, run) = spent_by_itself(rt, &frame, policies, state)?;
     Ok(Spent {
-        frame: spent,
+        frame: in_shard,
         verdict,
         run,
     })
 }
 
 /// The least of each that a round took: the first, or one of so many further ones.
-fn least<R: Runtime>(
+fn least<R: Clock>(
     rt: &R,
     alloc: Global,
     further: u64,
@@ -261,7 +301,7 @@ fn least<R: Runtime>(
 }
 
 /// The same under a program for data, or under none.
-fn least_under<R: Runtime + Wait>(
+fn least_under<R: Clock + Wait>(
     rt: &R,
     alloc: Global,
     further: u64,
@@ -300,7 +340,7 @@ impl Beside {
 }
 
 /// One turn of rounds without a program, then under the filter, and then under the counter.
-fn turn<R: Runtime + Wait>(
+fn turn<R: Clock + Wait>(
     rt: &R,
     alloc: Global,
     further: u64,
@@ -316,15 +356,26 @@ fn turn<R: Runtime + Wait>(
     })
 }
 
-/// The least of each in ten turns of 50 rounds, or in one of two rounds.
-fn in_turn<R: Runtime + Wait>(rt: &R, alloc: Global, size: Size) -> Result<Beside> {
+/// The least of each in ten turns of 50 rounds, or in one of two rounds, once the station is associated.
+fn in_turn<R: Clock + Wait>(
+    rt: &R,
+    alloc: Global,
+    served: &mut Served,
+    size: Size,
+) -> Result<Beside> {
     let further = size.choose(49, 1);
-    let mut served = opened(alloc)?;
-    let mut least = turn(rt, alloc, further, &mut served)?;
+    served.associate(alloc)?;
+    let mut least = turn(rt, alloc, further, served)?;
     for _ in 0..size.choose(9, 0) {
-        least = least.least(turn(rt, alloc, further, &mut served)?);
+        least = least.least(turn(rt, alloc, further, served)?);
     }
     Ok(least)
+}
+
+/// The same, of a new shard.
+fn measured<R: Clock + Wait>(rt: &R, alloc: Global, size: Size) -> Result<Beside> {
+    let mut served = Served::new(alloc)?;
+    in_turn(rt, alloc, &mut served, size)
 }
 
 /// A number with two digits behind its point.
@@ -350,43 +401,41 @@ impl fmt::Display for Hundredths {
 }
 
 /// Prints how long a frame takes in the shard, beside one without a program.
-fn report_frame<R: Runtime>(rt: &R, name: &str, spent: Spent, without: Spent) -> Result<()> {
+fn report_frame<R: Eprint>(rt: &R, name: &str, spent: Spent, without: Spent) -> io::Result<()> {
     let frame = Hundredths::each(spent.frame);
     let times = Hundredths::of(spent.frame, without.frame);
-    eprintln!(rt; "{name}: {frame} ns a frame in the shard, {times} times one without a program")?;
-    Ok(())
+    eprintln!(rt; "{name}: {frame} ns a frame in the shard, {times} times one without a program")
 }
 
 /// Prints how long a verdict takes by itself, and the run by itself.
-fn report_verdict<R: Runtime>(rt: &R, name: &str, spent: Spent) -> Result<()> {
+fn report_verdict<R: Eprint>(rt: &R, name: &str, spent: Spent) -> io::Result<()> {
     let verdict = Hundredths::each(spent.verdict);
     let run = Hundredths::each(spent.run);
-    eprintln!(rt; "{name}: {verdict} ns a verdict by itself, {run} ns a run by itself")?;
-    Ok(())
+    eprintln!(rt; "{name}: {verdict} ns a verdict by itself, {run} ns a run by itself")
 }
 
 /// Prints what the judge adds to the run: in the shard, to a frame without a program, and by itself.
-fn report_added<R: Runtime>(rt: &R, name: &str, spent: Spent, without: Spent) -> Result<()> {
+fn report_added<R: Eprint>(rt: &R, name: &str, spent: Spent, without: Spent) -> io::Result<()> {
     let more = spent.frame.saturating_sub(without.frame);
     let in_shard = Hundredths::each(more.saturating_sub(spent.run));
     let by_itself = Hundredths::each(spent.verdict.saturating_sub(spent.run));
     eprintln!(rt;
         "{name}: the judge adds {in_shard} ns to the run in the shard, {by_itself} ns by itself"
-    )?;
-    Ok(())
+    )
 }
 
 /// Prints all of one program.
-fn report<R: Runtime>(rt: &R, name: &str, spent: Spent, without: Spent) -> Result<()> {
+fn report<R: Eprint>(rt: &R, name: &str, spent: Spent, without: Spent) -> io::Result<()> {
     report_frame(rt, name, spent, without)?;
     report_verdict(rt, name, spent)?;
     report_added(rt, name, spent, without)
 }
 
 /// Prints how long each takes without a program, under the filter, and under the counter.
-pub fn print_times<R: Runtime + Wait>(rt: &R, alloc: Global, size: Size) -> Result<()> {
-    let least = in_turn(rt, alloc, size)?;
+pub fn print_times<R: Clock + Eprint + Wait>(rt: &R, alloc: Global, size: Size) -> Result<()> {
+    let least = measured(rt, alloc, size)?;
     report(rt, "no program", least.without, least.without)?;
     report(rt, "port filter", least.filter, least.without)?;
-    report(rt, "map counter", least.counter, least.without)
+    report(rt, "map counter", least.counter, least.without)?;
+    Ok(())
 }

@@ -2,11 +2,11 @@
 //! 500 stations in agreements in turn, 250 in each of two shards; and how long a copy of the frame takes.
 
 use crate::asked::{Size, Task};
-use anyhow::{Result, bail};
 use ap_core::{Event, LinkConfig, ListJudge, Octets, Out, Shard};
 use mac_frame::Address;
 use std::alloc::{AllocError, Global};
-use std::rt::Runtime;
+use std::io;
+use std::rt::Clock;
 use std::time::Instant;
 
 /// The access point.
@@ -47,14 +47,11 @@ fn frame(alloc: Global, first: [u8; 4], station: u16, rest: &[u8]) -> Result<Sen
     })
 }
 
-/// What an access point of network `lab` is made with.
-pub fn config(alloc: Global) -> Result<LinkConfig> {
+/// What an access point of network `lab` is made with, which is within the limits.
+pub fn config(alloc: Global) -> Result<LinkConfig, AllocError> {
     let ssid = Octets::copy(alloc, b"lab")?;
     let rates = Octets::copy(alloc, &[0x82, 0x84, 0x8b, 0x96])?;
-    match LinkConfig::new(Address::new(BSSID), ssid, rates) {
-        Some(config) => Ok(config),
-        None => bail!("a configuration out of limits"),
-    }
+    LinkConfig::new(Address::new(BSSID), ssid, rates).ok_or(AllocError)
 }
 
 /// Authentication of a station.
@@ -110,23 +107,35 @@ struct Halves {
 
 impl Halves {
     /// Both without stations.
-    fn new(alloc: Global, config: &LinkConfig) -> Result<Halves, AllocError> {
-        let even = Shard::new(alloc, 0, config)?;
-        let odd = Shard::new(alloc, 1, config)?;
+    fn new(alloc: Global) -> Result<Halves, AllocError> {
+        let config = config(alloc)?;
+        let even = Shard::new(alloc, 0, &config)?;
+        let odd = Shard::new(alloc, 1, &config)?;
         Ok(Halves { even, odd })
     }
 
-    /// Handles events, each in the shard of its station, and counts the frames that are passed up.
-    fn handle(&mut self, alloc: Global, events: &[Sent], answers: &[u64]) -> Result<u64> {
+    /// The shard of a station.
+    fn half(&mut self, station: u16) -> &mut Shard {
+        if station & 1 == 0 {
+            &mut self.even
+        } else {
+            &mut self.odd
+        }
+    }
+
+    /// Handles an event in the shard of its station, and counts the frames that are passed up.
+    fn handle(&mut self, alloc: Global, sent: &Sent, answers: &[u64]) -> Result<u64, AllocError> {
         let mut judge = ListJudge::new(answers);
+        let half = self.half(sent.station);
+        let outs = half.handle(alloc, &sent.event, &mut judge)?;
+        Ok(ups(&outs))
+    }
+
+    /// Handles events in turn, and counts the frames that are passed up.
+    fn handle_all(&mut self, alloc: Global, events: &[Sent]) -> Result<u64, AllocError> {
         let mut passed = 0u64;
         for sent in events {
-            let came = if sent.station & 1 == 0 {
-                self.even.handle(alloc, &sent.event, &mut judge)?
-            } else {
-                self.odd.handle(alloc, &sent.event, &mut judge)?
-            };
-            passed = passed.wrapping_add(ups(&came));
+            passed = passed.wrapping_add(self.handle(alloc, sent, &[])?);
         }
         Ok(passed)
     }
@@ -169,57 +178,89 @@ fn copied(alloc: Global, events: &[Sent]) -> Result<u64, AllocError> {
     Ok(bytes)
 }
 
-/// Prints how long a load takes, whose agreements are new, and how long copies of its frames.
-fn report<R: Runtime>(rt: &R, alloc: Global, halves: &mut Halves, load: Load) -> Result<()> {
-    for station in 0..load.stations {
-        halves.handle(alloc, &[setup(alloc, station)?], &[64])?;
-    }
-    let events = data_in_turn(alloc, load)?;
+/// What a load came to: how many nanoseconds its frames took and how many of them were passed up; how many nanoseconds
+/// copies of them took and how many bytes were copied.
+#[derive(Clone, Copy)]
+struct Spent {
+    handling: u128,
+    passed: u64,
+    copying: u128,
+    bytes: u64,
+}
+
+/// Measures the frames of a load.
+fn measure<R: Clock>(
+    rt: &R,
+    alloc: Global,
+    halves: &mut Halves,
+    events: &[Sent],
+) -> io::Result<Spent> {
     let start = Instant::now(rt)?;
-    let passed = halves.handle(alloc, &events, &[])?;
-    let nanos = start.elapsed(rt)?.as_nanos();
+    let passed = halves.handle_all(alloc, events)?;
+    let handling = start.elapsed(rt)?.as_nanos();
     let start = Instant::now(rt)?;
-    let bytes = copied(alloc, &events)?;
+    let bytes = copied(alloc, events)?;
     let copying = start.elapsed(rt)?.as_nanos();
+    Ok(Spent {
+        handling,
+        passed,
+        copying,
+        bytes,
+    })
+}
+
+/// Prints what a load came to.
+fn print_spent<R: Eprint>(rt: &R, load: Load, spent: Spent) -> io::Result<()> {
     let frames = u128::from(load.frames.max(1));
     eprintln!(rt;
-        "stations {}, {} bytes: {} ns a frame, {passed} passed up; {} ns a copy, {bytes} bytes copied",
+        "stations {}, {} bytes: {} ns a frame, {} passed up; {} ns a copy, {} bytes copied",
         load.stations,
         load.size,
-        nanos / frames,
-        copying / frames
-    )?;
+        spent.handling / frames,
+        spent.passed,
+        spent.copying / frames,
+        spent.bytes
+    )
+}
+
+/// The first stations come to new agreements, so many of them.
+fn agree(alloc: Global, halves: &mut Halves, stations: u16) -> Result<(), AllocError> {
+    for station in 0..stations {
+        halves.handle(alloc, &setup(alloc, station)?, &[64])?;
+    }
     Ok(())
+}
+
+/// Prints how long a load takes, whose agreements are new, and how long copies of its frames.
+fn report<R: Clock + Eprint>(
+    rt: &R,
+    alloc: Global,
+    halves: &mut Halves,
+    load: Load,
+) -> io::Result<()> {
+    agree(alloc, halves, load.stations)?;
+    let events = data_in_turn(alloc, load)?;
+    let spent = measure(rt, alloc, halves, &events)?;
+    print_spent(rt, load, spent)
 }
 
 /// Associates all stations.
-fn associate(alloc: Global, halves: &mut Halves) -> Result<()> {
+fn associate(alloc: Global, halves: &mut Halves) -> Result<(), AllocError> {
     for station in 0..STATIONS {
-        let joining = [
-            authentication(alloc, station)?,
-            association(alloc, station)?,
-        ];
-        halves.handle(alloc, &joining, &[])?;
+        halves.handle(alloc, &authentication(alloc, station)?, &[])?;
+        halves.handle(alloc, &association(alloc, station)?, &[])?;
     }
     Ok(())
 }
 
-/// Two shards with all stations.
-fn joined(alloc: Global) -> Result<Halves> {
-    let config = config(alloc)?;
-    let mut halves = Halves::new(alloc, &config)?;
-    associate(alloc, &mut halves)?;
-    Ok(halves)
-}
-
 /// Prints how long frames of one size take, so many of them: of one station, and of all.
-fn report_both<R: Runtime>(
+fn report_both<R: Clock + Eprint>(
     rt: &R,
     alloc: Global,
     halves: &mut Halves,
     frames: u64,
     size: u16,
-) -> Result<()> {
+) -> io::Result<()> {
     for stations in [1, STATIONS] {
         let load = Load {
             stations,
@@ -231,10 +272,26 @@ fn report_both<R: Runtime>(
     Ok(())
 }
 
+/// Associates all stations, and prints how long each load takes, of so many frames.
+fn report_all<R: Clock + Eprint>(
+    rt: &R,
+    alloc: Global,
+    halves: &mut Halves,
+    frames: u64,
+) -> io::Result<()> {
+    associate(alloc, halves)?;
+    report_both(rt, alloc, halves, frames, 100)?;
+    report_both(rt, alloc, halves, frames, 1500)
+}
+
 /// Prints how long each load takes, of as many frames as the task says.
-pub fn print_times<R: Runtime>(rt: &R, alloc: Global, task: &Task, size: Size) -> Result<()> {
+pub fn print_times<R: Clock + Eprint>(
+    rt: &R,
+    alloc: Global,
+    task: &Task,
+    size: Size,
+) -> io::Result<()> {
     let frames = task.number.unwrap_or(size.choose(20_000, 1000));
-    let mut halves = joined(alloc)?;
-    report_both(rt, alloc, &mut halves, frames, 100)?;
-    report_both(rt, alloc, &mut halves, frames, 1500)
+    let mut halves = Halves::new(alloc)?;
+    report_all(rt, alloc, &mut halves, frames)
 }

@@ -23,22 +23,27 @@ mod windows;
 use anyhow::Result;
 use asked::{Asked, Benchmark, Size, Task};
 use std::alloc::Global;
-use std::env;
 use std::process::ExitCode;
-use std::rt::Runtime;
+use std::rt::Clock;
 use std::sync::Wait;
+use std::{env, io};
 
 /// What an unknown word is told.
 const USAGE: &str = "the benchmarks are frames, windows, link and judge; quick makes them small";
 
 /// Prints how long what a task asks for takes.
-fn perform<R: Runtime + Wait>(rt: &R, alloc: Global, task: &Task, size: Size) -> Result<()> {
+fn perform<R: Clock + Eprint + Wait>(rt: &R, alloc: Global, task: &Task, size: Size) -> Result<()> {
     match task.benchmark {
-        Benchmark::Frames => frames::print_times(rt, alloc, size),
-        Benchmark::Windows => windows::print_times(rt, task, size),
-        Benchmark::Link => link::print_times(rt, alloc, task, size),
+        Benchmark::Frames => Ok(frames::print_times(rt, alloc, size)?),
+        Benchmark::Windows => Ok(windows::print_times(rt, task, size)?),
+        Benchmark::Link => Ok(link::print_times(rt, alloc, task, size)?),
         Benchmark::Judge => judged::print_times(rt, alloc, size),
     }
+}
+
+/// Says that a word means nothing here.
+fn refuse<R: Eprint>(rt: &R, unknown: &str) -> io::Result<()> {
+    eprintln!(rt; "bench_link: {unknown}: no such word here; {USAGE}")
 }
 
 fn main(rt: HostRuntime) -> Result<ExitCode> {
@@ -46,7 +51,7 @@ fn main(rt: HostRuntime) -> Result<ExitCode> {
     let mut asked = Asked::new(alloc);
     for word in env::args(&rt)?.skip(1) {
         if let Some(unknown) = asked.take(word)? {
-            eprintln!(rt; "bench_link: {unknown}: no such word here; {USAGE}")?;
+            refuse(&rt, unknown.as_str())?;
             return Ok(ExitCode::from(2));
         }
     }

@@ -15,7 +15,7 @@ use bpf_verifier::verify;
 use std::alloc::Global;
 use std::sync::{Arc, Wait};
 use versions::opening::published;
-use versions::{Entered, ProgramSet, Publisher};
+use versions::{Entered, ProgramSet, Published, Publisher};
 
 /// R0 is 0 for LLC/SNAP, IPv4 and UDP to port 53 in QoS data, with a test of the frame's end first, and else 1.
 pub const FILTER: &str = "mov r4, r1
@@ -135,7 +135,35 @@ fn loaded(alloc: Global, text: Option<&str>, maps: &[MapTables]) -> Result<Optio
     }
 }
 
-/// A set for these maps that a reader holds, and its publisher. Its data program is that of the text, if there is one.
+/// A set for these maps, and its publisher. Its data program is that of the text, if there is one.
+fn opened<R: Wait>(
+    rt: &R,
+    alloc: Global,
+    text: Option<&str>,
+    maps: &[MapTables],
+) -> Result<(Publisher, Published)>
+    ensures shapes { IfOk result (λ t. t.1.shapes ≡ shapes_of maps.now) }
+    ensures list { IfOk result (λ t. t.1.list ≡ t.0.list) }
+{
+    let program = loaded(alloc, text, maps)?;
+    let (mut publisher, sets) = published(rt, alloc, shapes_of(alloc, maps)?, 1)?;
+    if publisher.publish(rt, Hook::Data, program).is_err() {
+        publisher.close(rt);
+        bail!("no set");
+    }
+    Ok((publisher, sets))
+}
+
+/// A reader holds the set, if one is left.
+fn held<R: Wait>(rt: &R, sets: &mut Published, publisher: &mut Publisher) -> Option<Entered>
+    requires list { sets.old.list ≡ publisher.old.list }
+    ensures shapes { IfSome result (λ held. held.shapes ≡ sets.old.shapes) }
+{
+    let reader = sets.reader().ok()?;
+    Some(sets.enter(rt, sets.learn(reader, publisher.tell())))
+}
+
+/// A set for these maps that a reader holds, and its publisher, likewise.
 pub fn entered<R: Wait>(
     rt: &R,
     alloc: Global,
@@ -144,15 +172,10 @@ pub fn entered<R: Wait>(
 ) -> Result<(Publisher, Entered)>
     ensures shapes { IfOk result (λ t. t.1.shapes ≡ shapes_of maps.now) }
 {
-    let program = loaded(alloc, text, maps)?;
-    let (mut publisher, mut sets) = published(rt, alloc, shapes_of(alloc, maps)?, 1)?;
-    let done = publisher.publish(rt, Hook::Data, program);
-    match sets.reader() {
-        Ok(reader) if done.is_ok() => {
-            let held = sets.enter(rt, sets.learn(reader, publisher.tell()));
-            return Ok((publisher, held));
-        }
-        _ => {
+    let (mut publisher, mut sets) = opened(rt, alloc, text, maps)?;
+    match held(rt, &mut sets, &mut publisher) {
+        Some(held) => return Ok((publisher, held)),
+        None => {
             publisher.close(rt);
             bail!("no set");
         }

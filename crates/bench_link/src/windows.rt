@@ -3,10 +3,10 @@
 ghost use Rattle.std.specs.Prelude.{◌<◌};
 
 use crate::asked::{Size, Task};
-use anyhow::Result;
 use arrayvec::ArrayVec;
 use blockack::Agreement;
-use std::rt::Runtime;
+use std::io;
+use std::rt::Clock;
 use std::time::Instant;
 
 type Frames = ArrayVec<(u16, u64), 64>;
@@ -41,30 +41,26 @@ fn pairs(count: u64, swapping: bool) -> u64 {
     handed_up
 }
 
-/// Prints how long a number took, to a tenth of a nanosecond.
-fn report<R: Runtime>(
-    rt: &R,
-    name: &str,
-    start: Instant,
-    count: u64,
-    handed_up: u64,
-) -> Result<()> {
-    let tenths = start.elapsed(rt)?.as_nanos() * 5 / (count as u128 + 1);
+/// Prints how many frames were handed up, and how long a number took in tenths of a nanosecond.
+fn print_tenths<R: Eprint>(rt: &R, name: &str, handed_up: u64, tenths: u128) -> io::Result<()> {
     eprintln!(rt;
         "{name}: {handed_up} handed up, {}.{} ns a number",
         tenths / 10,
         tenths % 10
-    )?;
-    Ok(())
+    )
+}
+
+/// Prints how long a number takes, of so many pairs.
+fn report<R: Clock + Eprint>(rt: &R, name: &str, count: u64, swapping: bool) -> io::Result<()> {
+    let start = Instant::now(rt)?;
+    let handed_up = pairs(count, swapping);
+    let tenths = start.elapsed(rt)?.as_nanos() * 5 / (count as u128 + 1);
+    print_tenths(rt, name, handed_up, tenths)
 }
 
 /// Prints how long a number takes, of as many pairs as the task says.
-pub fn print_times<R: Runtime>(rt: &R, task: &Task, size: Size) -> Result<()> {
+pub fn print_times<R: Clock + Eprint>(rt: &R, task: &Task, size: Size) -> io::Result<()> {
     let count = task.number.unwrap_or(size.choose(1_000_000, 10_000));
-    let start = Instant::now(rt)?;
-    let handed_up = pairs(count, false);
-    report(rt, "in order", start, count, handed_up)?;
-    let start = Instant::now(rt)?;
-    let handed_up = pairs(count, true);
-    report(rt, "every second pair swapped", start, count, handed_up)
+    report(rt, "in order", count, false)?;
+    report(rt, "every second pair swapped", count, true)
 }

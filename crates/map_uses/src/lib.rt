@@ -5,6 +5,8 @@
 
 pub mod live;
 #[cfg(test)]
+mod same;
+#[cfg(test)]
 mod seats;
 #[cfg(test)]
 mod speed;

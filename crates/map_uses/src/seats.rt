@@ -3,6 +3,7 @@
 ghost use Rattle.std.specs.Prelude.{◌≡◌, ◌<◌, OnOk, IfOk};
 ghost use Rattle.bpf_regions.specs.Maps.{word_count, IsShape};
 
+use crate::same::{holds, same};
 use bpf_regions::{MapOp, Scope, Shape, WordWidth};
 use shared_maps::{MapFault, MapSeat, MapTable};
 use std::alloc::{AllocError, Global};
@@ -33,40 +34,37 @@ fn table_of(rt: &impl Abort, alloc: Global, width: WordWidth) -> (MapTable, MapS
 }
 
 /// The answers of a thousand accesses that add 1.
-fn add_a_thousand(
-    alloc: Global,
-    table: &MapTable,
-    mut seat: MapSeat,
-) -> Result<Vec<u64>, AllocError>
+fn add_a_thousand(rt: &impl Abort, alloc: Global, table: &MapTable, mut seat: MapSeat) -> Vec<u64>
     requires own { seat.table ≡ table.now.table }
     requires words { 0 < word_count table.now.shape }
 {
     let mut answers = Vec::new(alloc);
     for _ in 0..1000 {
-        answers.push(table.access(&mut seat, 0, MapOp::Add(1)))?;
+        let answer = table.access(&mut seat, 0, MapOp::Add(1));
+        answers.push(answer).expect(rt, "memory");
     }
-    Ok(answers)
+    answers
 }
 
-fn add_in_two_threads<R: Threads + Sync>(
+/// The answers of two threads that do so, in ascending order.
+fn add_in_two_threads<R: Threads + Sync + Abort>(
     rt: &R,
     alloc: Global,
     table: &MapTable,
     one: MapSeat,
     other: MapSeat,
-) -> Result<Vec<u64>, AllocError>
+) -> Vec<u64>
     requires own { (one.table ≡ table.now.table) × (other.table ≡ table.now.table) }
     requires words { 0 < word_count table.now.shape }
 {
-    let (a, b) = join(
+    let (mut answers, others) = join(
         rt,
-        || add_a_thousand(alloc, table, one),
-        || add_a_thousand(alloc, table, other),
+        || add_a_thousand(rt, alloc, table, one),
+        || add_a_thousand(rt, alloc, table, other),
     );
-    let mut answers = a?;
-    answers.extend_from_slice(b?.as_slice())?;
+    answers.extend_from_slice(&others).expect(rt, "memory");
     answers.sort_unstable();
-    Ok(answers)
+    answers
 }
 
 /// A thousand adds in each of two threads, whose answers are all there once; what a third seat
@@ -80,23 +78,24 @@ fn loaded_after_two_threads<R: Threads + Sync + Abort>(
     let one = table.seat().expect(rt, "a first seat");
     let other = table.seat().expect(rt, "a second seat");
     let mut third = table.seat().expect(rt, "a third seat");
-    let answers = add_in_two_threads(rt, alloc, &table, one, other).expect(rt, "memory");
-    assert_eq!(rt; answers.len(), 2000);
-    assert!(rt; answers.iter().copied().eq(0..2000));
+    let answers = add_in_two_threads(rt, alloc, &table, one, other);
+    same(rt, answers.len(), 2000, "answers");
+    holds(rt, answers.iter().copied().eq(0..2000), "each answer");
     table.access(&mut third, 0, MapOp::Load)
 }
 
 #[test]
 fn adds_of_two_threads_are_each_there_once(rt: HostRuntime) {
     for width in [WordWidth::Four, WordWidth::Eight] {
-        assert_eq!(rt; loaded_after_two_threads(&rt, rt.alloc(), width), 2000);
+        let loaded = loaded_after_two_threads(&rt, rt.alloc(), width);
+        same(&rt, loaded, 2000, "the sum");
     }
 }
 
 /// What a seat answers to a store of 9 in word 0, and then loads.
 fn stored_and_loaded(rt: &impl Abort, alloc: Global) -> (u64, u64) {
     let (table, mut seat, _other) = table_of(rt, alloc, WordWidth::Eight);
-    assert_eq!(rt; seat.number(), 1);
+    same(rt, seat.number(), 1, "the number of a first seat");
     let stored = table.access(&mut seat, 0, MapOp::Store(9));
     (stored, table.access(&mut seat, 0, MapOp::Load))
 }
@@ -122,48 +121,60 @@ fn met(rt: &impl Abort, alloc: Global) -> u64 {
 
 #[test]
 fn seats_read_what_is_stored(rt: HostRuntime) {
-    assert_eq!(rt; stored_and_loaded(&rt, rt.alloc()), (0, 9));
+    let alloc = rt.alloc();
+    same(&rt, stored_and_loaded(&rt, alloc), (0, 9), "a store");
     // a short number does not carry on
-    assert_eq!(rt; carried(&rt, rt.alloc()), (0, 4294967295, 0, 7));
-    assert_eq!(rt; met(&rt, rt.alloc()), 12);
+    let wanted = (0, 4294967295, 0, 7);
+    same(&rt, carried(&rt, alloc), wanted, "a sum that wraps");
+    same(&rt, met(&rt, alloc), 12, "a store of another seat");
+}
+
+/// Operations on a word that is 0, one after the other, and what each answers in a word of eight
+/// bytes. A shorter word answers the low bits.
+const OPERATIONS: &[(MapOp, u64)] = &[
+    (MapOp::Load, 0),
+    (MapOp::Store(u64::MAX), 0),
+    (MapOp::Add(2), u64::MAX),
+    (MapOp::Or(6), 1),
+    (MapOp::And(3), 7),
+    (MapOp::Xor(6), 3),
+    (MapOp::Swap(9), 5),
+    (
+        MapOp::CompareExchange {
+            expected: 9,
+            new: 1,
+        },
+        9,
+    ),
+    (
+        MapOp::CompareExchange {
+            expected: 9,
+            new: 2,
+        },
+        1,
+    ),
+    (MapOp::Load, 1),
+];
+
+/// Each operation is answered in word 1, of so many bits, and word 0 stays as it was.
+fn operate(rt: &impl Abort, alloc: Global, width: WordWidth, bits: u64) {
+    let (table, mut seat, _other) = table_of(rt, alloc, width);
+    for (operation, answer) in OPERATIONS {
+        let found = table.access(&mut seat, 1, *operation);
+        same(
+            rt,
+            (*operation, found),
+            (*operation, answer & bits),
+            "word 1",
+        );
+    }
+    same(rt, table.access(&mut seat, 0, MapOp::Load), 0, "word 0");
 }
 
 #[test]
 fn each_operation_at_each_width(rt: HostRuntime) {
-    for (width, all_ones) in [(WordWidth::Four, 0xffff_ffff), (WordWidth::Eight, u64::MAX)] {
-        let (table, mut seat, _other) = table_of(&rt, rt.alloc(), width);
-        for (operation, answer) in [
-            (MapOp::Load, 0),
-            (MapOp::Store(u64::MAX), 0),
-            (MapOp::Add(2), all_ones),
-            (MapOp::Or(6), 1),
-            (MapOp::And(3), 7),
-            (MapOp::Xor(6), 3),
-            (MapOp::Swap(9), 5),
-            (
-                MapOp::CompareExchange {
-                    expected: 9,
-                    new: 1,
-                },
-                9,
-            ),
-            (
-                MapOp::CompareExchange {
-                    expected: 9,
-                    new: 2,
-                },
-                1,
-            ),
-            (MapOp::Load, 1),
-        ] {
-            assert_eq!(rt;
-                table.access(&mut seat, 1, operation),
-                answer,
-                "{operation:?}"
-            );
-        }
-        assert_eq!(rt; table.access(&mut seat, 0, MapOp::Load), 0);
-    }
+    operate(&rt, rt.alloc(), WordWidth::Four, 0xffff_ffff);
+    operate(&rt, rt.alloc(), WordWidth::Eight, u64::MAX);
 }
 
 const LARGEST: Shape = Shape {
@@ -177,7 +188,7 @@ const LARGEST: Shape = Shape {
 /// and from the word before.
 fn swapped_last(rt: &impl Abort, alloc: Global) -> (u64, u64, u64) {
     let mut table = MapTable::new(alloc, LARGEST, 1).expect(rt, "a table");
-    assert!(rt; table.shape() == LARGEST);
+    holds(rt, table.shape() == LARGEST, "the shape");
     let mut seat = table.seat().expect(rt, "a seat");
     let swapped = table.access(&mut seat, 32767, MapOp::Swap(3));
     let last = table.access(&mut seat, 32767, MapOp::Load);
@@ -186,7 +197,7 @@ fn swapped_last(rt: &impl Abort, alloc: Global) -> (u64, u64, u64) {
 
 #[test]
 fn the_last_word_of_the_largest_map(rt: HostRuntime) {
-    assert_eq!(rt; swapped_last(&rt, rt.alloc()), (0, 3, 0));
+    same(&rt, swapped_last(&rt, rt.alloc()), (0, 3, 0), "last words");
 }
 
 /// The number of a fault, 0 where there is none.
@@ -202,10 +213,17 @@ fn gives(rt: &impl Abort, alloc: Global, seats: u32) {
     let shape = two_words(WordWidth::Eight);
     let mut table = MapTable::new(alloc, shape, seats).expect(rt, "a table");
     for number in 1..=seats {
-        assert_eq!(rt; table.seat().expect(rt, "a seat").number(), number);
+        let seat = table.seat().expect(rt, "a seat");
+        same(rt, seat.number(), number, "the number of a seat");
     }
-    assert_eq!(rt; refused(table.seat()), 62, "one more than {seats} seats");
-    assert_eq!(rt; refused(table.seat()), 62, "two more than {seats} seats");
+    for more in 1..3 {
+        same(
+            rt,
+            (seats, more, refused(table.seat())),
+            (seats, more, 62),
+            "more seats",
+        );
+    }
 }
 
 #[test]
@@ -213,33 +231,34 @@ fn seats_are_limited(rt: HostRuntime) {
     for seats in [0, 17, u32::MAX] {
         let shape = two_words(WordWidth::Eight);
         let number = refused(MapTable::new(rt.alloc(), shape, seats));
-        assert_eq!(rt; number, 62, "{seats} seats");
+        same(
+            &rt,
+            (seats, number),
+            (seats, 62),
+            "a table of so many seats",
+        );
     }
     for seats in [1, 2, 16] {
         gives(&rt, rt.alloc(), seats);
     }
 }
 
+/// The text of a fault.
 fn is_told(rt: &impl Abort, alloc: Global, fault: MapFault, text: &str) {
     let told = fault.to_string(alloc).expect(rt, "memory");
-    assert_eq!(rt; told.as_str(), text);
+    same(rt, told.as_str(), text, "text");
 }
 
 #[test]
 fn faults_have_numbers_and_texts(rt: HostRuntime) {
+    let alloc = rt.alloc();
     let no_memory = MapFault::from(AllocError);
-    assert_eq!(rt; no_memory.number(), 40);
+    same(&rt, no_memory.number(), 40, "the number for no memory");
+    is_told(&rt, alloc, no_memory, "no memory for a table of map words");
     is_told(
         &rt,
-        rt.alloc(),
-        no_memory,
-        "no memory for a table of map words",
-    );
-    let no_seat = MapFault::NoSeat;
-    is_told(
-        &rt,
-        rt.alloc(),
-        no_seat,
+        alloc,
+        MapFault::NoSeat,
         "no seat at the table of map words",
     );
 }

@@ -9,7 +9,6 @@ use shared_maps::{MapSeat, MapTable};
 use std::alloc::Global;
 use std::process::Abort;
 use std::rt::Clock;
-use std::test::Fail;
 use std::thread::{Threads, join};
 use std::time::{Duration, Instant};
 
@@ -78,6 +77,16 @@ fn rate(threads: u32, spent: Duration) -> u128 {
     u128::from(threads) * u128::from(ACCESSES) * 1_000_000 / micros
 }
 
+/// Two seats that are left.
+fn two_seats(rt: &impl Abort, table: &mut MapTable) -> (MapSeat, MapSeat)
+    ensures table { (table.new.table ≡ table.old.table) × (table.new.shape ≡ table.old.shape) }
+    ensures own { (result.0.table ≡ table.old.table) × (result.1.table ≡ table.old.table) }
+{
+    let one = table.seat().expect(rt, "a seat");
+    let other = table.seat().expect(rt, "another seat");
+    (one, other)
+}
+
 /// The rates of 1, 2 and 4 threads on words that lie so far apart.
 fn rates_on_words<R: Threads + Clock + Sync + Abort>(
     rt: &R,
@@ -94,12 +103,9 @@ fn rates_on_words<R: Threads + Clock + Sync + Abort>(
     };
     let mut table = MapTable::new(alloc, shape, 7).expect(rt, "a table");
     let alone = table.seat().expect(rt, "a seat");
-    let one = table.seat().expect(rt, "a seat of two");
-    let other = table.seat().expect(rt, "another seat of two");
-    let first = table.seat().expect(rt, "a first seat of four");
-    let second = table.seat().expect(rt, "a second seat of four");
-    let third = table.seat().expect(rt, "a third seat of four");
-    let fourth = table.seat().expect(rt, "a fourth seat of four");
+    let (one, other) = two_seats(rt, &mut table);
+    let first = two_seats(rt, &mut table);
+    let second = two_seats(rt, &mut table);
     let start = now(rt);
     add_many(&table, 0, alone);
     let by_one = rate(1, spent(rt, start));
@@ -107,7 +113,7 @@ fn rates_on_words<R: Threads + Clock + Sync + Abort>(
     add_by_two(rt, &table, (0, apart), one, other);
     let by_two = rate(2, spent(rt, start));
     let start = now(rt);
-    add_by_four(rt, &table, apart, (first, second), (third, fourth));
+    add_by_four(rt, &table, apart, first, second);
     (by_one, by_two, rate(4, spent(rt, start)))
 }
 
@@ -120,10 +126,11 @@ fn spent<R: Clock + Abort>(rt: &R, start: Instant) -> Duration {
 }
 
 #[test]
-fn accesses_in_a_second(rt: HostRuntime) -> Result<(), Fail> {
+fn accesses_in_a_second(rt: HostRuntime) {
     for apart in [0, 64] {
         let (one, two, four) = rates_on_words(&rt, rt.alloc(), apart);
-        println!(rt; "words {apart} apart: {one} by 1 thread, {two} by 2, {four} by 4")?;
+        println!(rt; "words {apart} apart: {one} by 1 thread, {two} by 2, {four} by 4").expect(
+            &rt, "output",
+        );
     }
-    Ok(())
 }

@@ -4,11 +4,11 @@ ghost use Rattle.std.specs.Prelude.{◌≡◌, ℕ};
 ghost use Rattle.bpf_regions.specs.Maps.{word_count};
 
 use crate::live::{Live, load_both};
+use crate::same::same;
 use bpf_regions::{MapOp, Scope, Shape, WordWidth};
 use shared_maps::{MapSeat, MapTable};
 use std::alloc::Global;
 use std::process::Abort;
-use std::test::Fail;
 
 /// A table of two words, the second of which holds that number, with its two seats.
 fn table_of(
@@ -34,12 +34,11 @@ fn table_of(
 }
 
 #[test]
-fn threads_share_the_tables(rt: HostRuntime) -> Result<(), Fail> {
+fn threads_share_the_tables(rt: HostRuntime) {
     let (table, one, other) = table_of(&rt, rt.alloc(), WordWidth::Eight, 12);
     let live = Live {
-        maps: vec![in rt.alloc(); table]?,
+        maps: vec![in rt.alloc(); table].expect(&rt, "memory"),
     };
     let ((a, _), (b, _)) = load_both(&rt, &live, 0, 1, one, other);
-    assert_eq!(rt; (a, b), (12, 12));
-    Ok(())
+    same(&rt, (a, b), (12, 12), "what is loaded");
 }

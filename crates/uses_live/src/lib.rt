@@ -4,4 +4,6 @@
 #[cfg(test)]
 mod lines;
 #[cfg(test)]
+mod same;
+#[cfg(test)]
 mod tables;

@@ -1,55 +1,55 @@
 //! An operator with the queues of several workers.
 
-ghost use Rattle.std.specs.Prelude.{◌<◌, length};
+ghost use Rattle.std.specs.Prelude.{◌≡◌, ◌<◌, length};
 ghost use Rattle.ap_queue.specs.Passes.{IsWorkerOf};
 ghost use Rattle.ap_lines.specs.Lines.{ArePassesOf, AreLinesOf};
 
+use crate::same::{holds, same};
 use ap_lines::{EventLines, LineFault, LinePasses, OperatorLines, Unserved};
 use ap_model::{Event, Octets};
 use ap_queue::{EventQueue, WorkerPass};
 use std::alloc::Global;
+use std::process::Abort;
 use std::sync::Wait;
-use std::test::Fail;
 
 /// A frame of a sender of shard 1.
-fn frame(alloc: Global) -> Result<Event, Fail> {
-    Ok(Event::Frame(Octets::copy(alloc, &[9; 16])?))
+fn frame(rt: &impl Abort, alloc: Global) -> Event {
+    Event::Frame(Octets::copy(alloc, &[9; 16]).expect(rt, "memory"))
 }
 
 /// Whether so many frames for shard 1 were put, one after the other.
-fn put_frames<R: Wait>(
+fn put_frames<R: Wait + Abort>(
     rt: &R,
     alloc: Global,
     lines: &EventLines,
     operator: &mut OperatorLines,
     count: u64,
-) -> Result<bool, Fail>
+) -> bool
     requires { AreLinesOf lines.now operator.old }
     ensures { AreLinesOf lines.now operator.new }
 {
     let mut right = true;
     for call in 0..count {
-        let event = match frame(alloc) {
-            Ok(event) => event,
-            Err(fail) => return Err(fail),
-        };
+        let event = frame(rt, alloc);
         right = right && lines.submit(rt, operator, call, event).is_ok();
     }
-    Ok(right)
+    right
+}
+
+/// Whether a frame came back, with 61 and this shard.
+fn is_back(answer: Result<(), Unserved>, shard: u16) -> bool {
+    let Some(back) = answer.err() else {
+        return false;
+    };
+    matches!(back.event, Event::Frame(_)) && back.number() == 61 && back.shard == shard
 }
 
 /// Whether a tick of so many units came back, with this shard as the first that was not told of it.
 fn is_left(answer: Result<(), Unserved>, units: u32, shard: u16) -> bool {
-    match answer {
-        Ok(()) => false,
-        Err(left) => {
-            let same = match left.event {
-                Event::Tick(number) => number == units,
-                _ => false,
-            };
-            same && left.shard == shard
-        }
-    }
+    let Some(left) = answer.err() else {
+        return false;
+    };
+    matches!(left.event, Event::Tick(number) if number == units) && left.shard == shard
 }
 
 /// Whether so many items come from the queue, which then is empty.
@@ -84,45 +84,60 @@ fn count_operators(
     (count, last)
 }
 
-#[test]
-fn a_queue_that_nobody_serves_takes_256_events(rt: HostRuntime) -> Result<(), Fail> {
-    let (lines, mut left) = EventLines::open(rt.alloc(), 2)?;
-    let mut operator = lines.operator(rt.alloc(), &mut left)?;
-    assert!(rt; put_frames(&rt, rt.alloc(), &lines, &mut operator, 256)?);
-    match lines.submit(&rt, &mut operator, 256, frame(rt.alloc())?) {
-        Ok(()) => return Err("a 257th event".into()),
-        Err(back) => {
-            assert_eq!(rt; (back.number(), back.shard), (61, 1));
-            assert!(rt; matches!(back.event, Event::Frame(_)));
-        }
-    }
-    Ok(())
+/// The queues of so many workers, and all their passes.
+fn opened(rt: &impl Abort, alloc: Global, workers: usize) -> (EventLines, LinePasses)
+    requires { 0 < workers }
+    ensures workers { length result.0 ≡ workers }
+    ensures own { ArePassesOf result.0 result.1 }
+{
+    EventLines::open(alloc, workers).expect(rt, "queues")
+}
+
+/// The queues of two workers, with the passes of an operator, by whom 256 frames for shard 1 were put.
+fn filled<R: Wait + Abort>(rt: &R, alloc: Global) -> (EventLines, LinePasses, OperatorLines)
+    ensures workers { length result.0 ≡ 2 }
+    ensures left { ArePassesOf result.0 result.1 }
+    ensures operator { AreLinesOf result.0 result.2 }
+{
+    let (lines, mut left) = opened(rt, alloc, 2);
+    let mut operator = lines.operator(alloc, &mut left).expect(rt, "an operator");
+    let is_filled = put_frames(rt, alloc, &lines, &mut operator, 256);
+    holds(rt, is_filled, "256 frames");
+    (lines, left, operator)
 }
 
 #[test]
-fn a_tick_goes_on_where_a_queue_was_full(rt: HostRuntime) -> Result<(), Fail> {
-    let (lines, mut left) = EventLines::open(rt.alloc(), 2)?;
-    let mut operator = lines.operator(rt.alloc(), &mut left)?;
-    let mut even = lines.worker(&mut left, 0)?;
-    let mut odd = lines.worker(&mut left, 1)?;
-    assert!(rt; lines.worker(&mut left, 1).is_err());
-    assert!(rt; put_frames(&rt, rt.alloc(), &lines, &mut operator, 256)?);
+fn a_queue_that_nobody_serves_takes_256_events(rt: HostRuntime) {
+    let (lines, _left, mut operator) = filled(&rt, rt.alloc());
+    let frame = frame(&rt, rt.alloc());
+    let answer = lines.submit(&rt, &mut operator, 256, frame);
+    holds(&rt, is_back(answer, 1), "a 257th frame comes back");
+}
+
+#[test]
+fn a_tick_goes_on_where_a_queue_was_full(rt: HostRuntime) {
+    let (lines, mut passes, mut operator) = filled(&rt, rt.alloc());
+    let mut even = lines.worker(&mut passes, 0).expect(&rt, "a worker");
+    let mut odd = lines.worker(&mut passes, 1).expect(&rt, "a worker");
+    holds(
+        &rt,
+        lines.worker(&mut passes, 1).is_err(),
+        "no third worker",
+    );
     let answer = lines.submit(&rt, &mut operator, 300, Event::Tick(7));
-    assert!(rt; is_left(answer, 7, 1));
-    assert!(rt; has(&rt, lines.queue(1), &mut odd, 256));
+    holds(&rt, is_left(answer, 7, 1), "the tick comes back");
+    holds(&rt, has(&rt, lines.queue(1), &mut odd, 256), "the frames");
     let answer = lines.submit_at(&rt, &mut operator, 300, Event::Tick(7), 1);
-    assert!(rt; answer.is_ok());
-    assert!(rt; has(&rt, lines.queue(0), &mut even, 4));
-    assert!(rt; has(&rt, lines.queue(1), &mut odd, 4));
-    Ok(())
+    holds(&rt, answer.is_ok(), "the rest of the tick");
+    holds(&rt, has(&rt, lines.queue(0), &mut even, 4), "even shards");
+    holds(&rt, has(&rt, lines.queue(1), &mut odd, 4), "odd shards");
 }
 
 #[test]
-fn eight_operators_have_passes(rt: HostRuntime) -> Result<(), Fail> {
-    let (lines, mut left) = EventLines::open(rt.alloc(), 3)?;
-    assert_eq!(rt; lines.workers(), 3);
-    let (count, last) = count_operators(rt.alloc(), &lines, &mut left);
-    assert_eq!(rt; (count, last), (8, Some(LineFault::NoPass)));
-    assert_eq!(rt; LineFault::NoPass.number(), 62);
-    Ok(())
+fn eight_operators_have_passes(rt: HostRuntime) {
+    let (lines, mut left) = opened(&rt, rt.alloc(), 3);
+    same(&rt, lines.workers(), 3, "workers");
+    let operators = count_operators(rt.alloc(), &lines, &mut left);
+    same(&rt, operators, (8, Some(LineFault::NoPass)), "operators");
+    same(&rt, LineFault::NoPass.number(), 62, "number");
 }

@@ -1,35 +1,36 @@
 //! An operator and two workers with the tables of maps.
 
-ghost use Rattle.std.specs.Prelude.{◌≡◌, IfOk};
+ghost use Rattle.std.specs.Prelude.{◌≡◌, ◌<◌};
 ghost use Rattle.bpf_regions.specs.declared.maps.Scope.TheVariants as scopes;
-ghost use Rattle.bpf_helpers.specs.Hooked.{IsFitting};
+ghost use Rattle.bpf_helpers.specs.Hooked.{IsFitting, KeepTables};
 ghost use Rattle.ap_tables.specs.Stocks.{AreOperators, Names};
 
+use crate::same::{holds, same};
 use ap_tables::{ApTables, OperatorSeats};
 use bpf_helpers::{HookPort, WorkerState, WorkerView, tables_law};
 use bpf_regions::{MapOp, Scope, Shape, Shapes, WordWidth};
 use bpf_tagged::Port;
 use std::alloc::Global;
-use std::test::Fail;
+use std::process::Abort;
+
+/// A map of one word of four bytes.
+const fn one_word(scope: Scope) -> Shape {
+    Shape {
+        entries: 1,
+        words: 1,
+        width: WordWidth::Four,
+        scope,
+    }
+}
 
 /// Tables of a shared map and of a worker's map, of one word of four bytes each, for two workers.
-fn two_maps(alloc: Global) -> Result<ApTables, Fail>
-    ensures { IfOk result (λ t. t.workers ≡ 2) }
+fn two_maps(rt: &impl Abort, alloc: Global) -> ApTables
+    ensures { result.workers ≡ 2 }
 {
-    let shape = Shape {
-        entries: 1,
-        words: 1,
-        width: WordWidth::Four,
-        scope: Scope::Shared,
-    };
-    let mine = Shape {
-        entries: 1,
-        words: 1,
-        width: WordWidth::Four,
-        scope: Scope::Worker,
-    };
-    let shapes = Shapes::new(vec![in alloc; shape, mine]?).ok_or("maps")?;
-    Ok(ApTables::new(alloc, &shapes, 2)?)
+    let maps = [one_word(Scope::Shared), one_word(Scope::Worker)];
+    let maps = Vec::from_array(alloc, maps).expect(rt, "memory");
+    let shapes = Shapes::new(maps).expect(rt, "maps within the limits");
+    ApTables::new(alloc, &shapes, 2).expect(rt, "memory")
 }
 
 /// Stores a number in a word of a shared map, and loads it.
@@ -78,25 +79,34 @@ fn summed(
     Some(tables.sum(operator, 1, 0))
 }
 
-#[test]
-fn a_sum_is_taken_in_the_width_of_the_words(rt: HostRuntime) -> Result<(), Fail> {
-    tables_law();
-    let mut tables = two_maps(rt.alloc())?;
-    let mut one = tables.worker(rt.alloc(), 0, 0)?;
-    let mut other = tables.worker(rt.alloc(), 1, 0)?;
-    let mut operator = tables.operator(rt.alloc())?;
-    let sum = summed(&tables, &mut operator, &mut one, &mut other);
-    assert_eq!(rt; sum, Some(1));
-    Ok(())
+/// What a worker of the tables has.
+fn worker(rt: &impl Abort, alloc: Global, tables: &mut ApTables, number: usize) -> WorkerState
+    requires there { number < tables.old.workers }
+    ensures tables { KeepTables tables.old.maps tables.new.maps }
+    ensures workers { tables.new.workers ≡ tables.old.workers }
+    ensures fitting { IsFitting tables.new.maps number result.seats }
+{
+    tables.worker(alloc, number, 0).expect(rt, "a worker")
 }
 
 #[test]
-fn an_operator_reads_what_it_stored(rt: HostRuntime) -> Result<(), Fail> {
-    let mut tables = two_maps(rt.alloc())?;
-    let mut operator = tables.operator(rt.alloc())?;
-    assert_eq!(rt; stored(&tables, &mut operator, 9), Some(9));
-    assert!(rt; !tables.has_word(Scope::Shared, 0, 1));
-    assert!(rt; !tables.has_word(Scope::Shared, 1, 0));
-    assert!(rt; !tables.has_word(Scope::Worker, 2, 0));
-    Ok(())
+fn a_sum_is_taken_in_the_width_of_the_words(rt: HostRuntime) {
+    tables_law();
+    let mut tables = two_maps(&rt, rt.alloc());
+    let mut one = worker(&rt, rt.alloc(), &mut tables, 0);
+    let mut other = worker(&rt, rt.alloc(), &mut tables, 1);
+    let mut operator = tables.operator(rt.alloc()).expect(&rt, "an operator");
+    let sum = summed(&tables, &mut operator, &mut one, &mut other);
+    same(&rt, sum, Some(1), "the sum");
+}
+
+#[test]
+fn an_operator_reads_what_it_stored(rt: HostRuntime) {
+    let mut tables = two_maps(&rt, rt.alloc());
+    let mut operator = tables.operator(rt.alloc()).expect(&rt, "an operator");
+    let read = stored(&tables, &mut operator, 9);
+    same(&rt, read, Some(9), "what it stored");
+    holds(&rt, !tables.has_word(Scope::Shared, 0, 1), "one word");
+    holds(&rt, !tables.has_word(Scope::Shared, 1, 0), "another scope");
+    holds(&rt, !tables.has_word(Scope::Worker, 2, 0), "two maps");
 }

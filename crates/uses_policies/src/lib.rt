@@ -8,6 +8,8 @@ mod policies;
 #[cfg(test)]
 mod rows;
 #[cfg(test)]
+mod same;
+#[cfg(test)]
 mod setting;
 
 pub use eight::{go_on, serve};

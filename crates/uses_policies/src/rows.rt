@@ -1,11 +1,12 @@
 //! What comes of events under programs: rows by `serve`, and by `decide` where something happens between two events.
 
-ghost use Rattle.std.specs.Prelude.{◌≡◌, IfOk};
-ghost use Rattle.bpf_helpers.specs.Hooked.{IsFitting, shapes_of};
+ghost use Rattle.std.specs.Prelude.{◌≡◌};
+ghost use Rattle.bpf_helpers.specs.Hooked.{IsFitting};
 
+use crate::same::{holds, same};
 use crate::setting::{
-    ASSOCIATION, AUTHENTICATION, DATA, NO_TEXTS, SETUP, Seated, Texts, admitted, config, entered,
-    frame, loaded_programs, shapes_of, two_seats,
+    ASSOCIATION, AUTHENTICATION, DATA, NO_TEXTS, SETUP, Seated, Texts, admitted, config, end,
+    entered, frame, two_seats,
 };
 use crate::{Policies, decide, serve};
 use ap_core::{Event, ListJudge, Out, Shard, Up};
@@ -15,55 +16,50 @@ use mac_frame::Address;
 use std::alloc::Global;
 use std::process::Abort;
 use std::sync::Wait;
-use std::test::Fail;
-use versions::ProgramSet;
 
 /// What each event of a list led to, or None where it was refused.
 type Results = Vec<Option<Vec<Out>>>;
 
 /// The station authenticates, associates, sets up an agreement and sends data.
-fn events(alloc: Global) -> Result<[Event; 4], Fail> {
-    Ok([
-        frame(alloc, AUTHENTICATION)?,
-        frame(alloc, ASSOCIATION)?,
-        frame(alloc, SETUP)?,
-        frame(alloc, DATA)?,
-    ])
+fn events(rt: &impl Abort, alloc: Global) -> [Event; 4] {
+    [
+        frame(rt, alloc, AUTHENTICATION),
+        frame(rt, alloc, ASSOCIATION),
+        frame(rt, alloc, SETUP),
+        frame(rt, alloc, DATA),
+    ]
 }
 
-/// What these events lead to under a set.
+/// What these events lead to under a worker's policies.
 fn served(
+    rt: &impl Abort,
     alloc: Global,
-    set: &ProgramSet,
-    maps: &[MapTables],
+    policies: Policies<'_, '_>,
     state: &mut WorkerState,
-) -> Result<Results, Fail>
-    requires set { set.now.shapes ≡ shapes_of maps.now }
-    requires seats { IsFitting maps.now 0 state.old.seats }
+) -> Results
+    requires seats { IsFitting policies.maps.now policies.worker state.old.seats }
 {
-    let config = config(alloc)?;
-    let events = events(alloc)?;
-    let policies = Policies {
-        set,
-        maps,
-        worker: 0,
-    };
-    Ok(serve(alloc, &config, &events, policies, state)?)
+    let config = config(rt, alloc);
+    let events = events(rt, alloc);
+    serve(alloc, &config, &events, policies, state).expect(rt, "memory")
 }
 
 /// What these events lead to under the programs of these texts.
-fn led<R: Wait + Abort>(rt: &R, alloc: Global, texts: Texts<'_>) -> Result<Results, Fail> {
+fn led<R: Wait + Abort>(rt: &R, alloc: Global, texts: Texts<'_>) -> Results {
     let Seated {
-        maps,
+        maps: tables,
         mut state,
         other: _other,
-    } = two_seats(alloc)?;
-    let programs = loaded_programs(alloc, texts, maps.as_slice())?;
-    let shapes = shapes_of(alloc, maps.as_slice())?;
-    let (publisher, held) = entered(rt, alloc, shapes, programs)?;
-    let results = served(alloc, held.set(), maps.as_slice(), &mut state);
-    let _reader = held.leave();
-    publisher.close(rt);
+    } = two_seats(rt, alloc);
+    let maps = tables.as_slice();
+    let (publisher, held) = entered(rt, alloc, texts, maps);
+    let policies = Policies {
+        set: held.set(),
+        maps,
+        worker: 0,
+    };
+    let results = served(rt, alloc, policies, &mut state);
+    end(rt, publisher, held);
     results
 }
 
@@ -91,98 +87,128 @@ fn passed(outs: &[Out]) -> Option<&Up> {
     }
 }
 
-/// The mark of the one frame that is passed up after the event at this place.
+/// The mark of the one frame that is passed up.
+fn mark_of(outs: &[Out]) -> Option<u8> {
+    Some(passed(outs)?.mark)
+}
+
+/// The same, after the event at this place.
 fn mark_at(results: &[Option<Vec<Out>>], place: usize) -> Option<u8> {
-    Some(passed(outs_at(results, place)?)?.mark)
+    mark_of(outs_at(results, place)?)
 }
 
 #[test]
-fn data_is_passed_up_with_its_mark(rt: HostRuntime) -> Result<(), Fail> {
+fn data_is_passed_up_with_its_mark(rt: HostRuntime) {
     let texts = Texts {
         frames: Some("mov r0, 1282\nexit"),
         ..NO_TEXTS
     };
-    let results = led(&rt, rt.alloc(), texts)?;
-    let outs = outs_at(&results, 3).ok_or("a refused event")?;
-    let up = passed(outs).ok_or("no data")?;
-    assert_eq!(rt; up.source, Address::new([2, 0, 0, 0, 0, 10]));
-    assert_eq!(rt; up.destination, Address::new([2, 0, 0, 0, 0, 255]));
-    assert!(rt; up.tid.is_none());
-    assert_eq!(rt; (up.number.number(), up.mark), (3, 5));
-    assert!(rt; up.body.bytes() == b"hello".as_slice());
-    Ok(())
+    let results = led(&rt, rt.alloc(), texts);
+    let outs = outs_at(&results, 3).expect(&rt, "an event that is handled");
+    let up = passed(outs).expect(&rt, "data");
+    let source = Address::new([2, 0, 0, 0, 0, 10]);
+    let destination = Address::new([2, 0, 0, 0, 0, 255]);
+    let addresses = (up.source, up.destination);
+    same(&rt, addresses, (source, destination), "addresses");
+    holds(&rt, up.tid.is_none(), "no TID");
+    let numbers = (up.number.number(), up.mark);
+    same(&rt, numbers, (3, 5), "number and mark");
+    same(&rt, up.body.bytes(), b"hello".as_slice(), "body");
+}
+
+/// What the events lead to: the status of the association; the status and the parameters of the agreement, with the
+/// size from bit 6 on; and the mark of the data.
+#[derive(Clone, Copy)]
+struct Answers {
+    status: Option<u16>,
+    agreement: (Option<u16>, Option<u16>),
+    mark: Option<u8>,
+}
+
+/// What the events lead to under the programs of these texts.
+fn answered<R: Wait + Abort>(rt: &R, alloc: Global, texts: Texts<'_>) -> Answers {
+    let results = led(rt, alloc, texts);
+    Answers {
+        status: field(&results, 1, 26),
+        agreement: (field(&results, 2, 27), field(&results, 2, 29)),
+        mark: mark_at(&results, 3),
+    }
 }
 
 #[test]
-fn without_programs_the_tables_decide(rt: HostRuntime) -> Result<(), Fail> {
-    let results = led(&rt, rt.alloc(), NO_TEXTS)?;
-    assert_eq!(rt; field(&results, 1, 26), Some(0));
-    assert_eq!(rt; field(&results, 2, 27), Some(0));
-    assert_eq!(rt; field(&results, 2, 29), Some(0x0202));
-    assert_eq!(rt; mark_at(&results, 3), Some(0));
-    Ok(())
+fn without_programs_the_tables_decide(rt: HostRuntime) {
+    let found = answered(&rt, rt.alloc(), NO_TEXTS);
+    same(&rt, found.status, Some(0), "status");
+    same(&rt, found.agreement, (Some(0), Some(0x0202)), "agreement");
+    same(&rt, found.mark, Some(0), "mark");
 }
 
+/// Association programs, and the status that each gives.
+const STATUSES: &[(&str, u16)] = &[
+    ("mov r0, 0\nexit", 0),
+    ("mov r0, 1\nexit", 1),
+    ("mov r0, 10\nexit", 10),
+    ("mov r0, 12\nexit", 12),
+    ("mov r0, 17\nexit", 17),
+    ("mov r0, 37\nexit", 37),
+    ("mov r0, 5\nexit", 1),
+];
+
 #[test]
-fn association_programs_give_statuses(rt: HostRuntime) -> Result<(), Fail> {
-    let rows = [
-        ("mov r0, 0\nexit", 0),
-        ("mov r0, 1\nexit", 1),
-        ("mov r0, 10\nexit", 10),
-        ("mov r0, 12\nexit", 12),
-        ("mov r0, 17\nexit", 17),
-        ("mov r0, 37\nexit", 37),
-        ("mov r0, 5\nexit", 1),
-    ];
-    for (text, status) in rows {
+fn association_programs_give_statuses(rt: HostRuntime) {
+    for (text, status) in STATUSES {
         let texts = Texts {
             association: Some(text),
             ..NO_TEXTS
         };
-        let results = led(&rt, rt.alloc(), texts)?;
-        assert_eq!(rt; field(&results, 1, 26), Some(status));
+        let found = answered(&rt, rt.alloc(), texts);
+        same(&rt, found.status, Some(*status), text);
     }
-    Ok(())
 }
 
+/// Agreement programs, and the status and the parameters that each gives.
+const AGREEMENTS: &[(&str, u16, u16)] = &[
+    ("mov r0, 0\nexit", 37, 0x0002),
+    ("mov r0, 3\nexit", 0, 0x00c2),
+    ("mov r0, 200\nexit", 0, 0x0202),
+];
+
 #[test]
-fn addba_programs_give_sizes(rt: HostRuntime) -> Result<(), Fail> {
-    // The status, and the parameters with the size from bit 6 on.
-    let rows = [
-        ("mov r0, 0\nexit", 37, 0x0002),
-        ("mov r0, 3\nexit", 0, 0x00c2),
-        ("mov r0, 200\nexit", 0, 0x0202),
-    ];
-    for (text, status, parameters) in rows {
+fn addba_programs_give_sizes(rt: HostRuntime) {
+    for (text, status, parameters) in AGREEMENTS {
         let texts = Texts {
             addba: Some(text),
             ..NO_TEXTS
         };
-        let results = led(&rt, rt.alloc(), texts)?;
-        assert_eq!(rt; field(&results, 2, 27), Some(status));
-        assert_eq!(rt; field(&results, 2, 29), Some(parameters));
+        let found = answered(&rt, rt.alloc(), texts);
+        same(
+            &rt,
+            found.agreement,
+            (Some(*status), Some(*parameters)),
+            text,
+        );
     }
-    Ok(())
 }
 
+/// Data programs, and the mark that each gives, None where it drops.
+const MARKS: &[(&str, Option<u8>)] = &[
+    ("mov r0, 0\nexit", Some(0)),
+    ("mov r0, 1280\nexit", Some(0)),
+    ("mov r0, 1282\nexit", Some(5)),
+    ("mov r0, 1281\nexit", None),
+    ("mov r0, 1283\nexit", None),
+];
+
 #[test]
-fn data_programs_mark_and_drop(rt: HostRuntime) -> Result<(), Fail> {
-    let rows = [
-        ("mov r0, 0\nexit", Some(0)),
-        ("mov r0, 1280\nexit", Some(0)),
-        ("mov r0, 1282\nexit", Some(5)),
-        ("mov r0, 1281\nexit", None),
-        ("mov r0, 1283\nexit", None),
-    ];
-    for (text, wanted) in rows {
+fn data_programs_mark_and_drop(rt: HostRuntime) {
+    for (text, mark) in MARKS {
         let texts = Texts {
             frames: Some(text),
             ..NO_TEXTS
         };
-        let results = led(&rt, rt.alloc(), texts)?;
-        assert_eq!(rt; mark_at(&results, 3), wanted);
+        let found = answered(&rt, rt.alloc(), texts);
+        same(&rt, found.mark, *mark, text);
     }
-    Ok(())
 }
 
 /// Answers the number in word 0 of map 0.
@@ -191,43 +217,44 @@ const LOAD: &str = "lddw r1, value 0 0\nldxdw r0, [r1+0]\nexit";
 /// Adds 1 to word 0 of map 0.
 const COUNT: &str = "lddw r1, value 0 0\nmov r2, 1\natomic_add [r1+0], r2\nmov r0, 0\nexit";
 
-/// A shard at which the station is associated.
-fn joined(alloc: Global) -> Result<Shard, Fail> {
-    let mut shard = Shard::new(alloc, 2, &config(alloc)?)?;
+/// A frame comes to a shard, which is asked for no verdict but those of the tables.
+fn comes(rt: &impl Abort, alloc: Global, shard: &mut Shard, digits: &str) {
+    let event = frame(rt, alloc, digits);
     let mut judge = ListJudge::new(&[]);
-    shard.handle(alloc, &frame(alloc, AUTHENTICATION)?, &mut judge)?;
-    shard.handle(alloc, &frame(alloc, ASSOCIATION)?, &mut judge)?;
-    Ok(shard)
+    drop(shard.handle(alloc, &event, &mut judge).expect(rt, "memory"));
 }
 
-/// The mark of a data frame that is passed up under a set.
+/// A shard at which the station is associated.
+fn joined(rt: &impl Abort, alloc: Global) -> Shard {
+    let config = config(rt, alloc);
+    let mut shard = Shard::new(alloc, 2, &config).expect(rt, "memory");
+    comes(rt, alloc, &mut shard, AUTHENTICATION);
+    comes(rt, alloc, &mut shard, ASSOCIATION);
+    shard
+}
+
+/// The mark of a data frame that is passed up under a worker's policies.
 fn mark_by(
+    rt: &impl Abort,
     alloc: Global,
     shard: &mut Shard,
-    set: &ProgramSet,
-    maps: &[MapTables],
+    policies: Policies<'_, '_>,
     state: &mut WorkerState,
-) -> Result<Option<u8>, Fail>
-    requires set { set.now.shapes ≡ shapes_of maps.now }
-    requires seats { IsFitting maps.now 0 state.old.seats }
-    ensures seats { IsFitting maps.now 0 state.new.seats }
+) -> Option<u8>
+    requires seats { IsFitting policies.maps.now policies.worker state.old.seats }
+    ensures seats { IsFitting policies.entry.maps.now policies.entry.worker state.new.seats }
 {
-    let data = frame(alloc, DATA)?;
-    let policies = Policies {
-        set,
-        maps,
-        worker: 0,
-    };
-    let outs = decide(alloc, shard, &data, policies, state)?;
-    Ok(passed(&outs).map(|up| up.mark))
+    let data = frame(rt, alloc, DATA);
+    let outs = decide(alloc, shard, &data, policies, state).expect(rt, "memory");
+    mark_of(&outs)
 }
 
 /// Adds 1 to word 0 of map 0.
-fn count(alloc: Global, maps: &[MapTables], state: &mut WorkerState) -> Result<(), Fail>
+fn count(rt: &impl Abort, alloc: Global, maps: &[MapTables], state: &mut WorkerState)
     requires seats { IsFitting maps.now 0 state.old.seats }
 {
-    let count = admitted(alloc, COUNT, Hook::Data, maps)?;
-    let received = Frame::new(&[]).ok_or("a frame")?;
+    let count = admitted(rt, alloc, COUNT, Hook::Data, maps);
+    let received = Frame::new(&[]).expect(rt, "a frame");
     let view = WorkerView {
         maps,
         worker: 0,
@@ -235,86 +262,55 @@ fn count(alloc: Global, maps: &[MapTables], state: &mut WorkerState) -> Result<(
         stations: 0,
     };
     run_hook(&count, &received, &Context::new([0; 32]), view, state);
-    Ok(())
 }
 
-/// The marks of a data frame before another seat added 1 to word 0 of map 0, and after.
-fn marks_beside_a_count(
-    alloc: Global,
-    set: &ProgramSet,
-    maps: &[MapTables],
-    state: &mut WorkerState,
-    other: &mut WorkerState,
-) -> Result<[Option<u8>; 2], Fail>
-    requires set { set.now.shapes ≡ shapes_of maps.now }
-    requires seats { IsFitting maps.now 0 state.old.seats }
-    requires others { IsFitting maps.now 0 other.old.seats }
-{
-    let mut shard = joined(alloc)?;
-    let before = mark_by(alloc, &mut shard, set, maps, state)?;
-    count(alloc, maps, other)?;
-    let after = mark_by(alloc, &mut shard, set, maps, state)?;
-    Ok([before, after])
-}
-
-#[test]
-fn a_store_between_two_events_changes_the_verdict(rt: HostRuntime) -> Result<(), Fail> {
-    let alloc = rt.alloc();
-    let Seated {
-        maps,
-        mut state,
-        mut other,
-    } = two_seats(alloc)?;
-    let texts = Texts {
-        frames: Some(LOAD),
-        ..NO_TEXTS
-    };
-    let programs = loaded_programs(alloc, texts, maps.as_slice())?;
-    let shapes = shapes_of(alloc, maps.as_slice())?;
-    let (publisher, held) = entered(&rt, alloc, shapes, programs)?;
-    let marks = marks_beside_a_count(alloc, held.set(), maps.as_slice(), &mut state, &mut other);
-    let _reader = held.leave();
-    publisher.close(&rt);
-    assert_eq!(rt; marks?, [Some(0), None]);
-    Ok(())
-}
-
-/// Whether the mark of a data frame is this one, under a set of no more than this data program.
-fn has_mark<R: Wait + Abort>(
+/// The mark of a data frame under a set of no more than this data program, and of another one after a second seat added
+/// 1 to word 0 of map 0.
+fn marks<R: Wait + Abort>(
     rt: &R,
     alloc: Global,
     shard: &mut Shard,
     text: Option<&str>,
-    wanted: Option<u8>,
-) -> Result<(), Fail> {
+) -> [Option<u8>; 2] {
     let Seated {
-        maps,
+        maps: tables,
         mut state,
-        other: _other,
-    } = two_seats(alloc)?;
+        mut other,
+    } = two_seats(rt, alloc);
+    let maps = tables.as_slice();
     let texts = Texts {
         frames: text,
         ..NO_TEXTS
     };
-    let programs = loaded_programs(alloc, texts, maps.as_slice())?;
-    let shapes = shapes_of(alloc, maps.as_slice())?;
-    let (publisher, held) = entered(rt, alloc, shapes, programs)?;
-    let mark = mark_by(alloc, shard, held.set(), maps.as_slice(), &mut state);
-    let _reader = held.leave();
-    publisher.close(rt);
-    assert_eq!(rt; mark?, wanted);
-    Ok(())
+    let (publisher, held) = entered(rt, alloc, texts, maps);
+    let policies = Policies {
+        set: held.set(),
+        maps,
+        worker: 0,
+    };
+    let first = mark_by(rt, alloc, shard, policies, &mut state);
+    count(rt, alloc, maps, &mut other);
+    let second = mark_by(rt, alloc, shard, policies, &mut state);
+    end(rt, publisher, held);
+    [first, second]
 }
 
 #[test]
-fn a_shard_goes_on_under_another_set(rt: HostRuntime) -> Result<(), Fail> {
-    let mut shard = joined(rt.alloc())?;
-    has_mark(
-        &rt,
-        rt.alloc(),
-        &mut shard,
-        Some("mov r0, 1282\nexit"),
-        Some(5),
-    )?;
-    has_mark(&rt, rt.alloc(), &mut shard, None, Some(0))
+fn a_store_between_two_events_changes_the_verdict(rt: HostRuntime) {
+    let mut shard = joined(&rt, rt.alloc());
+    let marks = marks(&rt, rt.alloc(), &mut shard, Some(LOAD));
+    same(&rt, marks, [Some(0), None], "marks");
+    // Given up by a call, since a shard has many parts.
+    drop(shard);
+}
+
+#[test]
+fn a_shard_goes_on_under_another_set(rt: HostRuntime) {
+    let mut shard = joined(&rt, rt.alloc());
+    let marked = marks(&rt, rt.alloc(), &mut shard, Some("mov r0, 1282\nexit"));
+    same(&rt, marked, [Some(5); 2], "marked");
+    let plain = marks(&rt, rt.alloc(), &mut shard, None);
+    same(&rt, plain, [Some(0); 2], "without a program");
+    // Given up by a call, since a shard has many parts.
+    drop(shard);
 }

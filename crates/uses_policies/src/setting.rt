@@ -1,11 +1,10 @@
 //! What the tests begin with: frames of station `02000000000a` to the access point `020000000001`, a worker's seat at a
 //! map, and sets of programs for that map.
 
-ghost use Rattle.std.specs.Prelude.{◌≡◌, IfOk, IfSome};
+ghost use Rattle.std.specs.Prelude.{◌≡◌};
 ghost use Rattle.bpf_helpers.specs.Hooked.{HaveTables, IsFitting, shapes_of};
-ghost use Rattle.bpf_regions.specs.declared.hooks.Hook.TheVariants.{Association, Addba, Data};
-ghost use Rattle.versions.specs.Sets.{kept};
 
+use crate::same::holds;
 use ap_core::{Event, LinkConfig, Octets};
 use bpf_decode::decode;
 use bpf_helpers::{MapTables, WorkerState, tables_law};
@@ -17,7 +16,6 @@ use mac_frame::Address;
 use std::alloc::Global;
 use std::process::Abort;
 use std::sync::{Arc, Wait};
-use std::test::Fail;
 use versions::opening::published;
 use versions::{Entered, Publisher};
 
@@ -35,7 +33,7 @@ pub const SETUP: &str =
 pub const DATA: &str = "08010000 020000000001 02000000000a 0200000000ff 3000 68656c6c6f";
 
 /// The bytes that hex digits spell.
-fn spelled(alloc: Global, digits: &str) -> Result<Vec<u8>, Fail> {
+fn spelled(rt: &impl Abort, alloc: Global, digits: &str) -> Vec<u8> {
     let mut bytes = Vec::new(alloc);
     let mut high = None;
     for digit in digits.as_bytes() {
@@ -45,25 +43,25 @@ fn spelled(alloc: Global, digits: &str) -> Result<Vec<u8>, Fail> {
         match high {
             None => high = Some(value),
             Some(first) => {
-                bytes.push(u8::try_from((first << 4) | value).unwrap_or(0))?;
+                let byte = u8::try_from((first << 4) | value).unwrap_or(0);
+                bytes.push(byte).expect(rt, "memory");
                 high = None;
             }
         }
     }
-    Ok(bytes)
+    bytes
 }
 
-pub fn frame(alloc: Global, digits: &str) -> Result<Event, Fail> {
-    Ok(Event::Frame(Octets::new(spelled(alloc, digits)?)))
+pub fn frame(rt: &impl Abort, alloc: Global, digits: &str) -> Event {
+    Event::Frame(Octets::new(spelled(rt, alloc, digits)))
 }
 
 /// Access point `020000000001`, network `lab`.
-pub fn config(alloc: Global) -> Result<LinkConfig, Fail> {
-    let ssid = Octets::copy(alloc, b"lab")?;
-    let rates = Octets::copy(alloc, &[0x82, 0x84, 0x8b, 0x96])?;
+pub fn config(rt: &impl Abort, alloc: Global) -> LinkConfig {
+    let ssid = Octets::copy(alloc, b"lab").expect(rt, "memory");
+    let rates = Octets::copy(alloc, &[0x82, 0x84, 0x8b, 0x96]).expect(rt, "memory");
     let bssid = Address::new([2, 0, 0, 0, 0, 1]);
-    let config = LinkConfig::new(bssid, ssid, rates).ok_or("a configuration")?;
-    Ok(config)
+    LinkConfig::new(bssid, ssid, rates).expect(rt, "a configuration")
 }
 
 /// Maps, and two seats of worker 0 at each of its tables.
@@ -77,8 +75,8 @@ pub struct Seated {
 }
 
 /// One map of one word of eight bytes that all workers share.
-fn one_map(alloc: Global) -> Result<Vec<MapTables>, Fail>
-    ensures tables { IfOk result (λ maps. HaveTables maps.items 0) }
+fn one_map(rt: &impl Abort, alloc: Global) -> Vec<MapTables>
+    ensures tables { HaveTables result.items 0 }
 {
     let shape = Shape {
         entries: 1,
@@ -86,69 +84,54 @@ fn one_map(alloc: Global) -> Result<Vec<MapTables>, Fail>
         width: WordWidth::Eight,
         scope: Scope::Shared,
     };
-    let map = MapTables::new(alloc, shape, 1, 2)?;
-    Ok(vec![in alloc; map]?)
+    let map = MapTables::new(alloc, shape, 1, 2).expect(rt, "tables");
+    vec![in alloc; map].expect(rt, "memory")
 }
 
 /// The next two seats of worker 0 at each of its tables.
-fn seats_at(alloc: Global, maps: &mut [MapTables]) -> Result<(WorkerState, WorkerState), Fail>
+fn seats_at(rt: &impl Abort, alloc: Global, maps: &mut [MapTables]) -> (WorkerState, WorkerState)
     requires there { HaveTables maps.old 0 }
-    ensures one { IfOk result (λ states. IsFitting maps.new 0 states.0.seats) }
-    ensures other { IfOk result (λ states. IsFitting maps.new 0 states.1.seats) }
+    ensures one { IsFitting maps.new 0 result.0.seats }
+    ensures other { IsFitting maps.new 0 result.1.seats }
 {
     tables_law();
-    let one = WorkerState::seated(alloc, maps, 0, 0)?;
-    let other = WorkerState::seated(alloc, maps, 0, 0)?;
-    Ok((one, other))
+    let one = WorkerState::seated(alloc, maps, 0, 0).expect(rt, "seats");
+    let other = WorkerState::seated(alloc, maps, 0, 0).expect(rt, "seats");
+    (one, other)
 }
 
 /// That map, with both its seats.
-pub fn two_seats(alloc: Global) -> Result<Seated, Fail> {
-    let mut maps = one_map(alloc)?;
-    let (state, other) = seats_at(alloc, maps.as_mut_slice())?;
-    Ok(Seated { maps, state, other })
+pub fn two_seats(rt: &impl Abort, alloc: Global) -> Seated {
+    let mut maps = one_map(rt, alloc);
+    let (state, other) = seats_at(rt, alloc, maps.as_mut_slice());
+    Seated { maps, state, other }
 }
 
 /// The shapes of one map.
-pub fn shapes_of(alloc: Global, maps: &[MapTables]) -> Result<Shapes, Fail>
-    ensures is { IfOk result (λ shapes. shapes ≡ shapes_of maps.now) }
+fn shapes_of(rt: &impl Abort, alloc: Global, maps: &[MapTables]) -> Shapes
+    ensures is { result ≡ shapes_of maps.now }
 {
     let [map] = maps else {
-        return Err("another number of maps".into());
+        panic!(rt; "another number of maps");
     };
-    let shapes = vec![in alloc; map.shape()]?;
-    match Shapes::new(shapes) {
-        Some(shapes) => Ok(shapes),
-        None => Err("maps out of limits".into()),
-    }
+    let shapes = vec![in alloc; map.shape()].expect(rt, "memory");
+    Shapes::new(shapes).expect(rt, "maps within the limits")
 }
 
 /// The program of this text, over these maps.
-pub fn admitted(alloc: Global, text: &str, hook: Hook, maps: &[MapTables]) -> Result<Accepted, Fail>
-    ensures hook { IfOk result (λ accepted. accepted.hook ≡ hook) }
-    ensures shapes { IfOk result (λ accepted. shapes_of maps.now ≡ accepted.code.shapes) }
-{
-    let code = assemble(alloc, text)?;
-    let program = decode(alloc, &code, shapes_of(alloc, maps)?)?;
-    Ok(verify(alloc, program, hook)?)
-}
-
-/// The same for a set, if there is a text.
-fn loaded(
+pub fn admitted(
+    rt: &impl Abort,
     alloc: Global,
-    text: Option<&str>,
+    text: &str,
     hook: Hook,
     maps: &[MapTables],
-) -> Result<Option<Arc<Accepted>>, Fail>
-    ensures hook { IfOk result (λ program. IfSome (kept program) (λ p. p.hook ≡ hook)) }
+) -> Accepted
+    ensures hook { result.hook ≡ hook }
+    ensures shapes { shapes_of maps.now ≡ result.code.shapes }
 {
-    match text {
-        None => Ok(None),
-        Some(text) => {
-            let accepted = admitted(alloc, text, hook, maps)?;
-            Ok(Some(Arc::new(alloc, accepted)?))
-        }
-    }
+    let code = assemble(alloc, text).expect(rt, text);
+    let program = decode(alloc, &code, shapes_of(rt, alloc, maps)).expect(rt, text);
+    verify(alloc, program, hook).expect(rt, text)
 }
 
 /// The programs' texts, by their hooks.
@@ -165,58 +148,56 @@ pub const NO_TEXTS: Texts<'static> = Texts {
     frames: None,
 };
 
-/// The programs of texts, by their hooks.
-#[derive(Drop)]
-pub struct Programs {
-    association: Option<Arc<Accepted>>,
-    addba: Option<Arc<Accepted>>,
-    frames: Option<Arc<Accepted>>,
-}
-
-/// The programs of these texts, over these maps.
-pub fn loaded_programs(
+/// Publishes the program of a text for its hook, over these maps, or none where there is no text.
+fn publish<R: Wait + Abort>(
+    rt: &R,
     alloc: Global,
-    texts: Texts<'_>,
+    publisher: &mut Publisher,
+    policy: (Hook, Option<&str>),
     maps: &[MapTables],
-) -> Result<Programs, Fail>
-    ensures association { IfOk result
-        (λ t. IfSome (kept t.association) (λ p. p.hook ≡ Association)) }
-    ensures addba { IfOk result (λ t. IfSome (kept t.addba) (λ p. p.hook ≡ Addba)) }
-    ensures frames { IfOk result (λ t. IfSome (kept t.frames) (λ p. p.hook ≡ Data)) }
+)
+    ensures list { publisher.new.list ≡ publisher.old.list }
+    ensures shapes { publisher.new.shapes ≡ publisher.old.shapes }
 {
-    let association = loaded(alloc, texts.association, Hook::Association, maps)?;
-    let addba = loaded(alloc, texts.addba, Hook::Addba, maps)?;
-    let frames = loaded(alloc, texts.frames, Hook::Data, maps)?;
-    Ok(Programs {
-        association,
-        addba,
-        frames,
-    })
+    let (hook, text) = policy;
+    let program = match text {
+        None => None,
+        Some(text) => {
+            let accepted = admitted(rt, alloc, text, hook, maps);
+            Some(Arc::new(alloc, accepted).expect(rt, "memory"))
+        }
+    };
+    let published = publisher.publish(rt, hook, program);
+    holds(rt, published.is_ok(), "the program is published");
 }
 
-/// A set of these programs that a reader holds, and its publisher.
+/// A set of the programs of these texts, over these maps, that a reader holds, and its publisher.
 pub fn entered<R: Wait + Abort>(
     rt: &R,
     alloc: Global,
-    shapes: Shapes,
-    programs: Programs,
-) -> Result<(Publisher, Entered), Fail>
-    requires association { IfSome (kept programs.association) (λ p. p.hook ≡ Association) }
-    requires addba { IfSome (kept programs.addba) (λ p. p.hook ≡ Addba) }
-    requires frames { IfSome (kept programs.frames) (λ p. p.hook ≡ Data) }
-    ensures shapes { IfOk result (λ t. t.1.shapes ≡ shapes) }
+    texts: Texts<'_>,
+    maps: &[MapTables],
+) -> (Publisher, Entered)
+    ensures shapes { result.1.shapes ≡ shapes_of maps.now }
 {
-    let Programs {
-        association,
-        addba,
-        frames,
-    } = programs;
-    let (mut publisher, mut sets) = published(rt, alloc, shapes, 1)?;
+    let shapes = shapes_of(rt, alloc, maps);
+    let (mut publisher, mut sets) = published(rt, alloc, shapes, 1).expect(rt, "memory");
     let reader = sets.reader().expect(rt, "a reader");
-    let first = publisher.publish(rt, Hook::Association, association);
-    let second = publisher.publish(rt, Hook::Addba, addba);
-    let third = publisher.publish(rt, Hook::Data, frames);
-    assert_eq!(rt; (first, second, third), (Ok(()), Ok(()), Ok(())));
+    publish(
+        rt,
+        alloc,
+        &mut publisher,
+        (Hook::Association, texts.association),
+        maps,
+    );
+    publish(rt, alloc, &mut publisher, (Hook::Addba, texts.addba), maps);
+    publish(rt, alloc, &mut publisher, (Hook::Data, texts.frames), maps);
     let held = sets.enter(rt, sets.learn(reader, publisher.tell()));
-    Ok((publisher, held))
+    (publisher, held)
+}
+
+/// The reader leaves, and then the publisher ends.
+pub fn end<R: Wait>(rt: &R, publisher: Publisher, held: Entered) {
+    drop(held.leave());
+    drop(publisher.close(rt));
 }

@@ -4,4 +4,6 @@
 #[cfg(test)]
 mod interrupted;
 #[cfg(test)]
+mod same;
+#[cfg(test)]
 mod tests;

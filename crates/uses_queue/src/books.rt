@@ -3,10 +3,12 @@
 ghost use Rattle.std.specs.Prelude.{◌≡◌};
 ghost use Rattle.ap_books.specs.Naming.{AreNamed, AreInParts};
 
+use crate::same::same;
 use ap_books::{Blanks, Ledgers, ShardBooks, Totals};
 use ap_model::{Octets, Out};
+use std::alloc::Global;
 use std::marker::Brand;
-use std::test::Fail;
+use std::process::Abort;
 
 /// What the books of shard 3 have counted after one holder counted these outs, and the other the same
 /// with a drop and then an event without outs.
@@ -31,17 +33,24 @@ fn counted_by_two(blanks: Blanks, outs: &[Out]) -> Totals
     counted::<Brand>(blanks, outs)
 }
 
+/// A note, a frame to send, and another note.
+fn outs(rt: &impl Abort, alloc: Global) -> Vec<Out> {
+    let frame = Octets::new(Vec::new(alloc));
+    vec![in alloc; Out::Note(50), Out::Send(frame), Out::Note(56)].expect(rt, "memory")
+}
+
 #[test]
-fn shares_and_books_count_alike(rt: HostRuntime) -> Result<(), Fail> {
-    let alloc = rt.alloc();
-    let mut outs = Vec::new(alloc);
-    outs.push(Out::Note(50))?;
-    outs.push(Out::Send(Octets::new(Vec::new(alloc))))?;
-    outs.push(Out::Note(56))?;
+fn shares_and_books_count_alike(rt: HostRuntime) {
+    let outs = outs(&rt, rt.alloc());
     let totals = counted_by_two(Blanks::new(2), &outs);
-    assert_eq!(rt; (totals.events, totals.sent, totals.up), (3, 2, 0));
-    assert_eq!(rt; (totals.dropped, totals.notes), (1, 4));
+    let wanted = Totals {
+        events: 3,
+        sent: 2,
+        up: 0,
+        dropped: 1,
+        notes: 4,
+    };
+    same(&rt, totals, wanted, "totals");
     let both = totals.and(Totals::new()).and(totals);
-    assert_eq!(rt; (both.events, both.notes), (6, 8));
-    Ok(())
+    same(&rt, (both.events, both.notes), (6, 8), "totals of both");
 }

@@ -5,3 +5,5 @@
 mod books;
 #[cfg(test)]
 mod queue;
+#[cfg(test)]
+mod same;

@@ -2,10 +2,12 @@
 
 ghost use Rattle.ap_queue.specs.Passes.{IsMakerOf, IsOperatorOf, IsWorkerOf};
 
+use crate::same::{holds, same};
 use ap_model::Event;
-use ap_queue::{EventQueue, Item, OperatorPass, PassMaker, WorkerPass};
+use ap_queue::{EventQueue, Item, OperatorPass, PassMaker, Queued, WorkerPass};
+use std::alloc::Global;
+use std::process::Abort;
 use std::sync::Wait;
-use std::test::Fail;
 use std::thread::{Threads, join, yield_now};
 
 /// How many events go from one thread to the other.
@@ -32,6 +34,30 @@ fn put_all<R: Wait>(rt: &R, queue: &EventQueue, operator: &mut OperatorPass, cal
     right
 }
 
+/// The units of a tick.
+fn units_of(event: &Event) -> Option<u32> {
+    match event {
+        Event::Tick(units) => Some(*units),
+        _ => None,
+    }
+}
+
+/// Whether this is the item with this call, of this operator.
+fn is_item(queued: Option<Queued>, operator: u8, call: u64) -> bool {
+    let Some(queued) = queued else {
+        return false;
+    };
+    let Item {
+        call: found,
+        shard,
+        event,
+    } = queued.item;
+    queued.operator == operator
+        && found == call
+        && u64::from(shard) == call % 8
+        && units_of(&event) == Some((call % 1000) as u32)
+}
+
 /// Whether the next item is the one with this call, of this operator.
 fn takes<R: Wait>(
     rt: &R,
@@ -43,19 +69,7 @@ fn takes<R: Wait>(
     requires { IsWorkerOf queue.now worker.old }
     ensures { IsWorkerOf queue.now worker.new }
 {
-    match queue.take(rt, worker) {
-        Some(queued) => {
-            let units = match queued.item.event {
-                Event::Tick(units) => u64::from(units),
-                _ => 1000,
-            };
-            queued.operator == operator
-                && queued.item.call == call
-                && u64::from(queued.item.shard) == call % 8
-                && units == call % 1000
-        }
-        None => false,
-    }
+    is_item(queue.take(rt, worker), operator, call)
 }
 
 /// Whether as many items of the first operator come in their order, from call 1 on.
@@ -84,48 +98,93 @@ fn count_operators(queue: &EventQueue, maker: &mut PassMaker) -> u32
     count
 }
 
-#[test]
-fn a_full_queue_hands_the_item_back(rt: HostRuntime) -> Result<(), Fail> {
-    let (queue, mut maker, mut worker) = EventQueue::open(rt.alloc())?;
-    let mut operator = queue.operator(&mut maker).ok_or("an operator")?;
-    assert!(rt; put_all(&rt, &queue, &mut operator, 256));
-    match queue.put(&rt, &mut operator, item(999)) {
-        Ok(()) => return Err("a 257th item".into()),
-        Err(full) => {
-            assert_eq!(rt;
-                (full.number(), full.item.call, full.item.shard),
-                (61, 999, 7)
-            );
-            assert!(rt; matches!(full.item.event, Event::Tick(999)));
-        }
-    }
-    assert!(rt; takes(&rt, &queue, &mut worker, 0, 0));
-    assert!(rt; queue.put(&rt, &mut operator, item(256)).is_ok());
-    assert!(rt; takes_all(&rt, &queue, &mut worker, 256));
-    assert!(rt; queue.take(&rt, &mut worker).is_none());
-    Ok(())
+/// A queue, what makes its operators, and its worker's pass.
+fn opened(rt: &impl Abort, alloc: Global) -> (EventQueue, PassMaker, WorkerPass)
+    ensures maker { IsMakerOf result.0 result.1 }
+    ensures worker { IsWorkerOf result.0 result.2 }
+{
+    EventQueue::open(alloc).expect(rt, "a queue")
+}
+
+/// The pass of the next operator.
+fn operator(rt: &impl Abort, queue: &EventQueue, maker: &mut PassMaker) -> OperatorPass
+    requires { IsMakerOf queue.now maker.old }
+    ensures maker { IsMakerOf queue.now maker.new }
+    ensures operator { IsOperatorOf queue.now result }
+{
+    queue.operator(maker).expect(rt, "an operator")
+}
+
+/// Puts the item with this call.
+fn put<R: Wait + Abort>(rt: &R, queue: &EventQueue, operator: &mut OperatorPass, call: u64)
+    requires { IsOperatorOf queue.now operator.old }
+    ensures { IsOperatorOf queue.now operator.new }
+{
+    let is_put = queue.put(rt, operator, item(call)).is_ok();
+    holds(rt, is_put, "an item is put");
+}
+
+/// Takes the item with this call, of this operator.
+fn take<R: Wait + Abort>(
+    rt: &R,
+    queue: &EventQueue,
+    worker: &mut WorkerPass,
+    operator: u8,
+    call: u64,
+)
+    requires { IsWorkerOf queue.now worker.old }
+    ensures { IsWorkerOf queue.now worker.new }
+{
+    let is_taken = takes(rt, queue, worker, operator, call);
+    holds(rt, is_taken, "an item is taken");
+}
+
+/// What comes back where an item isn't put: the number of the refusal, the call, the shard and the units.
+fn handed_back<R: Wait>(
+    rt: &R,
+    queue: &EventQueue,
+    operator: &mut OperatorPass,
+    call: u64,
+) -> Option<(u8, u64, u16, Option<u32>)>
+    requires { IsOperatorOf queue.now operator.old }
+    ensures { IsOperatorOf queue.now operator.new }
+{
+    let full = queue.put(rt, operator, item(call)).err()?;
+    let Item { call, shard, event } = &full.item;
+    Some((full.number(), *call, *shard, units_of(event)))
 }
 
 #[test]
-fn operators_keep_their_order(rt: HostRuntime) -> Result<(), Fail> {
-    let (queue, mut maker, mut worker) = EventQueue::open(rt.alloc())?;
-    let mut one = queue.operator(&mut maker).ok_or("one")?;
-    let mut two = queue.operator(&mut maker).ok_or("two")?;
-    assert!(rt; queue.put(&rt, &mut one, item(5)).is_ok());
-    assert!(rt; queue.put(&rt, &mut two, item(9)).is_ok());
-    assert!(rt; queue.put(&rt, &mut one, item(3)).is_ok());
-    assert!(rt; takes(&rt, &queue, &mut worker, 0, 5));
+fn a_full_queue_hands_the_item_back(rt: HostRuntime) {
+    let (queue, mut maker, mut worker) = opened(&rt, rt.alloc());
+    let mut pass = operator(&rt, &queue, &mut maker);
+    holds(&rt, put_all(&rt, &queue, &mut pass, 256), "256 items");
+    let back = handed_back(&rt, &queue, &mut pass, 999);
+    same(&rt, back, Some((61, 999, 7, Some(999))), "one more");
+    take(&rt, &queue, &mut worker, 0, 0);
+    put(&rt, &queue, &mut pass, 256);
+    holds(&rt, takes_all(&rt, &queue, &mut worker, 256), "256 more");
+    holds(&rt, queue.take(&rt, &mut worker).is_none(), "and no other");
+}
+
+#[test]
+fn operators_keep_their_order(rt: HostRuntime) {
+    let (queue, mut maker, mut worker) = opened(&rt, rt.alloc());
+    let mut one = operator(&rt, &queue, &mut maker);
+    let mut two = operator(&rt, &queue, &mut maker);
+    put(&rt, &queue, &mut one, 5);
+    put(&rt, &queue, &mut two, 9);
+    put(&rt, &queue, &mut one, 3);
+    take(&rt, &queue, &mut worker, 0, 5);
     let _one = queue.meet(&mut worker, one);
-    assert!(rt; takes(&rt, &queue, &mut worker, 1, 9));
-    assert!(rt; takes(&rt, &queue, &mut worker, 0, 3));
-    Ok(())
+    take(&rt, &queue, &mut worker, 1, 9);
+    take(&rt, &queue, &mut worker, 0, 3);
 }
 
 #[test]
-fn there_are_eight_operators(rt: HostRuntime) -> Result<(), Fail> {
-    let (queue, mut maker, _worker) = EventQueue::open(rt.alloc())?;
-    assert_eq!(rt; count_operators(&queue, &mut maker), 8);
-    Ok(())
+fn there_are_eight_operators(rt: HostRuntime) {
+    let (queue, mut maker, _worker) = opened(&rt, rt.alloc());
+    same(&rt, count_operators(&queue, &mut maker), 8, "operators");
 }
 
 /// Puts each call in turn, and tries again while the queue is full.
@@ -184,9 +243,9 @@ fn goes_through<R: Threads + Wait + Sync>(
 }
 
 #[test]
-fn threads_hand_events_over(rt: HostRuntime) -> Result<(), Fail> {
-    let (queue, mut maker, mut worker) = EventQueue::open(rt.alloc())?;
-    let mut operator = queue.operator(&mut maker).ok_or("an operator")?;
-    assert!(rt; goes_through(&rt, &queue, &mut operator, &mut worker));
-    Ok(())
+fn threads_hand_events_over(rt: HostRuntime) {
+    let (queue, mut maker, mut worker) = opened(&rt, rt.alloc());
+    let mut pass = operator(&rt, &queue, &mut maker);
+    let is_through = goes_through(&rt, &queue, &mut pass, &mut worker);
+    holds(&rt, is_through, "the order");
 }

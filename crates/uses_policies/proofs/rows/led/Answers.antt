@@ -3,8 +3,8 @@ use Rattle.bpf_helpers.specs.Hooked.{IsFitting}
 use Rattle.bpf_helpers.specs.Tables.{Tables}
 use Rattle.uses_policies.proofs.rows.led.Goals as goal
 
-pub served-results-requires-clause-seats : goal.served-results-requires-clause-seats
-served-results-requires-clause-seats g c =
-    let seated = c.in_ok-maps.field-0 in
-    let same : c.as_slice-3.result.now ≡ c.in_ok-maps.field-0.maps.items = search rules in
-    subst (λ (maps : List Tables). IsFitting maps 0 c.in_ok-maps.field-0.state.seats) (sym same) seated.fits
+pub served-results-requires : goal.served-results-requires
+served-results-requires g c =
+    let seated = c.two_seats-tables.result in
+    let same : c.as_slice-maps.result.now ≡ seated.maps.items = search rules in
+    record { seats = subst (λ (maps : List Tables). IsFitting maps 0 seated.state.seats) (sym same) seated.fits }

@@ -1,6 +1,9 @@
+use Rattle.std.proofs.Common.{rules}
+use Rattle.bpf_helpers.specs.Hooked.{IsFitting}
 use Rattle.uses_policies.proofs.setting.seats_at.Goals as goal
 
 pub returns-clause-one : goal.returns-clause-one
-returns-clause-one c =
-    c.tables_law.ensures.fitting c.seated.new.maps c.seated-2.new.maps 0 c.in_ok-one.one.seats
-    c.seated-2.ensures.tables c.in_ok-one.ensures.fitting
+returns-clause-one g c =
+    let one = c.expect-one.result in
+    let fits : IsFitting c.seated.new.maps 0 one.seats = search rules in
+    c.tables_law.ensures.fitting c.seated.new.maps c.seated-2.new.maps 0 one.seats c.seated-2.ensures.tables fits
