@@ -1,36 +1,57 @@
 //! Captures made by hand.
 
-use capture::{CaptureFault, LeftOut, read_capture};
-use std::alloc::AllocError;
-use std::test::Fail;
+use crate::same::same;
+use capture::{CaptureFault, LeftOut, Packet, read_capture};
+use std::alloc::Global;
+use std::process::Abort;
 
-/// A header with big-endian numbers, nanoseconds and the link type 127.
-const BIG: [u8; 24] = [
-    0xa1, 0xb2, 0x3c, 0x4d, 0, 2, 0, 4, 0, 0, 0, 0, 0, 0, 0, 0, 0, 4, 0, 0, 0, 0, 0, 127,
+/// Parts of a file one after the other.
+fn joined(rt: &impl Abort, alloc: Global, parts: &[&[u8]]) -> Vec<u8> {
+    let mut file = Vec::new(alloc);
+    for part in parts {
+        file.extend_from_slice(part).expect(rt, "memory");
+    }
+    file
+}
+
+/// Fails where a file isn't read as these packets.
+fn reads(rt: &impl Abort, alloc: Global, file: &[u8], wanted: &[Packet<'_>]) {
+    let packets = read_capture(alloc, file).ok().expect(rt, "a capture");
+    same(rt, packets.as_slice(), wanted, "packets");
+}
+
+/// A header with big-endian numbers, nanoseconds and the link type 127, and three packets with radiotap headers.
+const RADIOTAP: &[&[u8]] = &[
+    &[
+        0xa1, 0xb2, 0x3c, 0x4d, 0, 2, 0, 4, 0, 0, 0, 0, 0, 0, 0, 0, 0, 4, 0, 0, 0, 0, 0, 127,
+    ],
+    // The time at 8, the flags at 16, and a frame of one byte before its check sequence.
+    &[0, 0, 0, 1, 0, 0, 0, 9, 0, 0, 0, 22, 0, 0, 0, 22],
+    &[0, 0, 17, 0, 3, 0, 0, 0, 0, 0, 0, 0, 0, 0, 0, 0, 0x10],
+    &[0x48, 1, 2, 3, 4],
+    // No time, two present words, the flags at 12 without a check sequence.
+    &[0, 0, 0, 1, 0, 0, 0, 9, 0, 0, 0, 14, 0, 0, 0, 14],
+    &[0, 0, 13, 0, 2, 0, 0, 0x80, 0, 0, 0, 0, 0, 0x49],
+    // A header that is longer than the packet.
+    &[0, 0, 0, 1, 0, 0, 0, 9, 0, 0, 0, 8, 0, 0, 0, 8],
+    &[0, 0, 9, 0, 0, 0, 0, 0],
 ];
 
+/// A packet as it is read.
+fn packet(time: Option<u64>, frame: Result<&[u8], LeftOut>) -> Packet<'_> {
+    Packet { time, frame }
+}
+
 #[test]
-fn check_sequences_are_taken_off(rt: HostRuntime) -> Result<(), Fail> {
-    let mut file = BIG.to_vec(rt.alloc())?;
-    // The time at 8, the flags at 16, and a frame of one byte before its check sequence.
-    file.extend_from_slice(&[0, 0, 0, 1, 0, 0, 0, 9, 0, 0, 0, 22, 0, 0, 0, 22])?;
-    file.extend_from_slice(&[0, 0, 17, 0, 3, 0, 0, 0, 0, 0, 0, 0, 0, 0, 0, 0, 0x10])?;
-    file.extend_from_slice(&[0x48, 1, 2, 3, 4])?;
-    // No time, two present words, the flags at 12 without a check sequence.
-    file.extend_from_slice(&[0, 0, 0, 1, 0, 0, 0, 9, 0, 0, 0, 14, 0, 0, 0, 14])?;
-    file.extend_from_slice(&[0, 0, 13, 0, 2, 0, 0, 0x80, 0, 0, 0, 0, 0, 0x49])?;
-    // A header that is longer than the packet.
-    file.extend_from_slice(&[0, 0, 0, 1, 0, 0, 0, 9, 0, 0, 0, 8, 0, 0, 0, 8])?;
-    file.extend_from_slice(&[0, 0, 9, 0, 0, 0, 0, 0])?;
-    let Ok(packets) = read_capture(rt.alloc(), &file) else {
-        return Err("refused".into());
-    };
-    assert_eq!(rt; packets.len(), 3);
-    assert_eq!(rt; packets[0].time, Some(1_000_000_009));
-    assert!(rt; packets[0].frame == Ok([0x48].as_slice()));
-    assert!(rt; packets[1].frame == Ok([0x49].as_slice()));
-    assert!(rt; packets[2].frame == Err(LeftOut::Radiotap));
-    Ok(())
+fn check_sequences_are_taken_off(rt: HostRuntime) {
+    let file = joined(&rt, rt.alloc(), RADIOTAP);
+    let time = Some(1_000_000_009);
+    let wanted = [
+        packet(time, Ok(&[0x48])),
+        packet(time, Ok(&[0x49])),
+        packet(time, Err(LeftOut::Radiotap)),
+    ];
+    reads(&rt, rt.alloc(), &file, &wanted);
 }
 
 /// A section header with little-endian numbers, of version 1.0 and no known length.
@@ -67,88 +88,94 @@ const SIMPLE: [u8; 20] = [
 
 /// A section with an interface of this resolution, a block of type 5, which is none that is read, and
 /// two packets.
-fn section(file: &mut Vec<u8>, resolution: u8) -> Result<(), AllocError> {
-    file.extend_from_slice(&LITTLE_SECTION)?;
-    file.extend_from_slice(&interface(resolution))?;
-    file.extend_from_slice(&[5, 0, 0, 0, 12, 0, 0, 0, 12, 0, 0, 0])?;
-    file.extend_from_slice(&ENHANCED)?;
-    file.extend_from_slice(&SIMPLE)?;
-    Ok(())
+fn section(rt: &impl Abort, alloc: Global, resolution: u8) -> Vec<u8> {
+    let interface = interface(resolution);
+    let other = [5, 0, 0, 0, 12, 0, 0, 0, 12, 0, 0, 0];
+    let parts: [&[u8]; 5] = [&LITTLE_SECTION, &interface, &other, &ENHANCED, &SIMPLE];
+    joined(rt, alloc, &parts)
 }
 
-#[test]
-fn sections_are_read(rt: HostRuntime) -> Result<(), Fail> {
-    let mut file = Vec::new(rt.alloc());
-    section(&mut file, 9)?;
-    // An interface of link type 127 in microseconds, and a packet of it whose radiotap header is cut.
-    file.extend_from_slice(&BIG_SECTION)?;
-    file.extend_from_slice(&[
+/// A section with an interface of link type 127 in microseconds, and a packet of it whose radiotap header is cut.
+const CUT_HEADER: &[&[u8]] = &[
+    &BIG_SECTION,
+    &[
         0, 0, 0, 1, 0, 0, 0, 20, 0, 127, 0, 0, 0, 0, 0, 0, 0, 0, 0, 20,
-    ])?;
-    file.extend_from_slice(&[0, 0, 0, 6, 0, 0, 0, 36, 0, 0, 0, 0, 0, 0, 0, 0, 0, 0, 0, 7])?;
-    file.extend_from_slice(&[0, 0, 0, 1, 0, 0, 0, 1, 0, 0, 0, 0, 0, 0, 0, 36])?;
-    let Ok(packets) = read_capture(rt.alloc(), &file) else {
-        return Err("refused".into());
-    };
-    assert_eq!(rt; packets.len(), 3);
-    assert_eq!(rt; packets[0].time, Some(4_294_967_298));
-    assert!(rt; packets[0].frame == Ok([0xaa, 0xbb].as_slice()));
-    assert_eq!(rt; packets[1].time, None);
-    assert!(rt; packets[1].frame == Ok([0xcc, 0xdd, 0xee].as_slice()));
-    assert_eq!(rt; packets[2].time, Some(7_000));
-    assert!(rt; packets[2].frame == Err(LeftOut::Radiotap));
-    Ok(())
+    ],
+    &[0, 0, 0, 6, 0, 0, 0, 36, 0, 0, 0, 0, 0, 0, 0, 0, 0, 0, 0, 7],
+    &[0, 0, 0, 1, 0, 0, 0, 1, 0, 0, 0, 0, 0, 0, 0, 36],
+];
+
+#[test]
+fn sections_are_read(rt: HostRuntime) {
+    let alloc = rt.alloc();
+    let mut file = section(&rt, alloc, 9);
+    let second = joined(&rt, alloc, CUT_HEADER);
+    file.extend_from_slice(&second).expect(&rt, "memory");
+    let wanted = [
+        packet(Some(4_294_967_298), Ok(&[0xaa, 0xbb])),
+        packet(None, Ok(&[0xcc, 0xdd, 0xee])),
+        packet(Some(7_000), Err(LeftOut::Radiotap)),
+    ];
+    reads(&rt, alloc, &file, &wanted);
+}
+
+/// Resolutions, and the time of the first packet in nanoseconds: the units are seconds, 100 ns, tenths of a nanosecond,
+/// 2^-10 s and 2^-63 s.
+const RESOLUTIONS: &[(u8, u64)] = &[
+    (0, 4_294_967_298_000_000_000),
+    (7, 429_496_729_800),
+    (10, 429_496_729),
+    (0x8a, 4_194_304_001_953_125),
+    (0xbf, 0),
+];
+
+/// The fault of a file, None where it is read.
+fn fault_of(alloc: Global, file: &[u8]) -> Option<CaptureFault> {
+    read_capture(alloc, file).err()
 }
 
 #[test]
-fn times_are_of_any_resolution(rt: HostRuntime) -> Result<(), Fail> {
-    // Seconds, 100 ns, tenths of a nanosecond, 2^-10 s and 2^-63 s.
-    for (resolution, time) in [
-        (0, 4_294_967_298_000_000_000),
-        (7, 429_496_729_800),
-        (10, 429_496_729),
-        (0x8a, 4_194_304_001_953_125),
-        (0xbf, 0),
-    ] {
-        let mut file = Vec::new(rt.alloc());
-        section(&mut file, resolution)?;
-        let Ok(packets) = read_capture(rt.alloc(), &file) else {
-            return Err("refused".into());
-        };
-        assert_eq!(rt; packets.len(), 2);
-        assert_eq!(rt; packets[0].time, Some(time));
+fn times_are_of_any_resolution(rt: HostRuntime) {
+    let alloc = rt.alloc();
+    for (resolution, time) in RESOLUTIONS {
+        let file = section(&rt, alloc, *resolution);
+        let wanted = [
+            packet(Some(*time), Ok(&[0xaa, 0xbb])),
+            packet(None, Ok(&[0xcc, 0xdd, 0xee])),
+        ];
+        reads(&rt, alloc, &file, &wanted);
     }
     for resolution in [20, 127, 0xc0, 0xff] {
-        let mut file = Vec::new(rt.alloc());
-        section(&mut file, resolution)?;
-        let fault = read_capture(rt.alloc(), &file).err();
-        assert!(rt; fault == Some(CaptureFault::Resolution(resolution)));
+        let fault = fault_of(alloc, &section(&rt, alloc, resolution));
+        let wanted = CaptureFault::Resolution(resolution);
+        same(&rt, fault, Some(wanted), "the fault");
     }
-    Ok(())
+}
+
+/// Where each block of a section begins, and its end.
+const STARTS: [usize; 6] = [0, 28, 68, 80, 116, 136];
+
+/// The fault of a section that is cut at this length: that of the block in which it is cut, if it is cut in one.
+fn fault_of_cut(len: usize) -> Option<CaptureFault> {
+    let mut last = 0;
+    for start in STARTS {
+        if start <= len {
+            last = start;
+        }
+    }
+    if last == len {
+        None
+    } else {
+        Some(CaptureFault::CutBlock(last as u64))
+    }
 }
 
 #[test]
-fn cut_blocks_are_refused(rt: HostRuntime) -> Result<(), Fail> {
-    let mut file = Vec::new(rt.alloc());
-    section(&mut file, 6)?;
-    // Where each block begins, and the end.
-    let starts: [usize; 6] = [0, 28, 68, 80, 116, 136];
+fn cut_blocks_are_refused(rt: HostRuntime) {
+    let alloc = rt.alloc();
+    let file = section(&rt, alloc, 6);
     for len in 4..file.len() {
-        let fault = read_capture(rt.alloc(), &file[..len]).err();
-        let start = starts
-            .iter()
-            .copied()
-            .filter(|start| *start <= len)
-            .last()
-            .unwrap_or(0);
-        if start == len {
-            assert!(rt; fault.is_none(), "{len}");
-        } else {
-            assert!(rt;
-                fault == Some(CaptureFault::CutBlock(start as u64)),
-                "{len}"
-            );
-        }
+        let fault = fault_of(alloc, &file[..len]);
+        same(&rt, (len, fault), (len, fault_of_cut(len)), "the fault");
     }
-    Ok(())
 }

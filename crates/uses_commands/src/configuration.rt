@@ -1,64 +1,77 @@
 //! Configurations: each key, its limits, and the texts of their faults.
 
-use apd_config::read_configuration;
+use crate::same::same;
+use apd_config::{Configuration, read_configuration};
 use bpf_regions::{Scope, Shape, WordWidth};
 use std::alloc::Global;
 use std::process::Abort;
-use std::test::Fail;
 
 /// A configuration without maps.
 const BASE: &str = "bssid = \"02000000000A\"\nssid = \"lab\"\nrates = \"82848b96\"\ndraw = 0\n";
 
-#[test]
-fn reads_each_key(rt: HostRuntime) -> Result<(), Fail> {
-    let alloc = rt.alloc();
-    let maps =
-        "[[map]]\nentries = 4096\nwords = 8\nwidth = 4\nscope = \"worker\"\n[[map]]\nentries = 1\nwords = 1\nwidth = 8\n";
-    let text = format!(in alloc; "{BASE}{maps}")?;
-    let read = read_configuration(alloc, text.as_bytes())?;
-    assert!(rt; read.bssid == [2, 0, 0, 0, 0, 10]);
-    assert!(rt; read.ssid.as_slice() == b"lab".as_slice());
-    assert!(rt; read.rates.as_slice() == [0x82, 0x84, 0x8b, 0x96].as_slice());
-    assert!(rt; read.draw == 0);
-    let large = Shape {
+/// A configuration that is read.
+fn read(rt: &impl Abort, alloc: Global, text: &str) -> Configuration {
+    read_configuration(alloc, text.as_bytes())
+        .ok()
+        .expect(rt, text)
+}
+
+/// Two maps.
+const MAPS: &str =
+    "[[map]]\nentries = 4096\nwords = 8\nwidth = 4\nscope = \"worker\"\n[[map]]\nentries = 1\nwords = 1\nwidth = 8\n";
+
+/// Their shapes.
+const SHAPES: [Shape; 2] = [
+    Shape {
         entries: 4096,
         words: 8,
         width: WordWidth::Four,
         scope: Scope::Worker,
-    };
-    let small = Shape {
+    },
+    Shape {
         entries: 1,
         words: 1,
         width: WordWidth::Eight,
         scope: Scope::Shared,
-    };
-    assert!(rt; read.maps.as_slice() == [large, small].as_slice());
-    Ok(())
+    },
+];
+
+#[test]
+fn reads_each_key(rt: HostRuntime) {
+    let text = format!(in rt.alloc(); "{BASE}{MAPS}").expect(&rt, "memory");
+    let read = read(&rt, rt.alloc(), text.as_str());
+    let rates = [0x82, 0x84, 0x8b, 0x96];
+    same(&rt, read.bssid, [2, 0, 0, 0, 0, 10], "bssid");
+    same(&rt, read.ssid.as_slice(), b"lab".as_slice(), "ssid");
+    same(&rt, read.rates.as_slice(), rates.as_slice(), "rates");
+    same(&rt, read.draw, 0, "draw");
+    same(&rt, read.maps.as_slice(), SHAPES.as_slice(), "maps");
+}
+
+/// The address and the draw of a configuration, and how many rates, bytes of a name and maps it has.
+fn sizes_of(rt: &impl Abort, alloc: Global, text: &str) -> ([u8; 6], u64, [usize; 3]) {
+    let read = read(rt, alloc, text);
+    let sizes = [read.rates.len(), read.ssid.len(), read.maps.len()];
+    (read.bssid, read.draw, sizes)
 }
 
 #[test]
-fn reads_values_at_their_limits(rt: HostRuntime) -> Result<(), Fail> {
-    let alloc = rt.alloc();
+fn reads_values_at_their_limits(rt: HostRuntime) {
     let text =
         "draw = 9223372036854775807\nrates = \"0102030405060708\"\nssid = \"0123456789abcdef0123456789abcdef\"\nbssid = 'ffFFffFFffFF'\n";
-    let read = read_configuration(alloc, text.as_bytes())?;
-    assert!(rt; read.bssid == [255; 6] && read.draw == 9223372036854775807);
-    assert!(rt; read.rates.len() == 8 && read.ssid.len() == 32 && read.maps.is_empty());
+    let found = sizes_of(&rt, rt.alloc(), text);
+    let largest = ([255; 6], 9223372036854775807, [8, 32, 0]);
+    same(&rt, found, largest, "the largest");
     let text = "bssid = \"000000000000\"\nssid = \"\"\nrates = \"00\"\ndraw = 0\nmap = []\n";
-    let read = read_configuration(alloc, text.as_bytes())?;
-    assert!(rt; read.ssid.is_empty() && read.rates.len() == 1 && read.maps.is_empty());
-    Ok(())
+    let found = sizes_of(&rt, rt.alloc(), text);
+    same(&rt, found, ([0; 6], 0, [1, 0, 0]), "the smallest");
 }
 
-fn faulty(rt: &impl Abort, alloc: Global, text: &[u8], want: &str) -> Result<(), Fail> {
-    match read_configuration(alloc, text) {
-        Ok(_) => panic!(rt; "it was read: {want}"),
-        Err(fault) => {
-            let shown = format!(in alloc; "{fault}")?;
-            assert!(rt; shown.as_str() == want, "{shown}");
-        }
-    }
-    Ok(())
+/// Fails where a text is read, or refused for another reason.
+fn refuses(rt: &impl Abort, alloc: Global, text: &[u8], why: &str) {
+    let fault = read_configuration(alloc, text).err().expect(rt, why);
+    let shown = format!(in alloc; "{fault}").expect(rt, "memory");
+    same(rt, shown.as_str(), why, "the fault");
 }
 
 /// The lines of a configuration without `draw`.
@@ -69,7 +82,7 @@ const LINES: [&str; 3] = [
 ];
 
 /// How many of those lines come first, what comes next, and the text of the fault.
-const AT_THE_TOP: [(usize, &str, &str); 14] = [
+const AT_THE_TOP: &[(usize, &str, &str)] = &[
     (0, "", "`bssid` is missing"),
     (
         0,
@@ -111,20 +124,19 @@ const AT_THE_TOP: [(usize, &str, &str); 14] = [
 ];
 
 #[test]
-fn names_the_key_at_the_top(rt: HostRuntime) -> Result<(), Fail> {
+fn names_the_key_at_the_top(rt: HostRuntime) {
     let alloc = rt.alloc();
-    for (count, next, want) in AT_THE_TOP {
-        let first = LINES[..count].concat(alloc)?;
-        let text = format!(in alloc; "{first}{next}")?;
-        faulty(&rt, alloc, text.as_bytes(), want)?;
+    for (count, next, why) in AT_THE_TOP {
+        let first = LINES[..*count].concat(alloc).expect(&rt, "memory");
+        let text = format!(in alloc; "{first}{next}").expect(&rt, "memory");
+        refuses(&rt, alloc, text.as_bytes(), why);
     }
-    Ok(())
 }
 
 const NO_MAPS: &str = "`map` must be tables `[[map]]`, at most 16";
 
 /// What comes after a configuration without maps, and the text of the fault.
-const IN_A_MAP: [(&str, &str); 14] = [
+const IN_A_MAP: &[(&str, &str)] = &[
     ("name = 1\n", "unknown key `name`"),
     ("[map]\n", NO_MAPS),
     ("map = 1\n", NO_MAPS),
@@ -166,24 +178,31 @@ const IN_A_MAP: [(&str, &str); 14] = [
 ];
 
 #[test]
-fn names_the_key_in_a_map(rt: HostRuntime) -> Result<(), Fail> {
+fn names_the_key_in_a_map(rt: HostRuntime) {
     let alloc = rt.alloc();
-    for (tail, want) in IN_A_MAP {
-        let text = format!(in alloc; "{BASE}{tail}")?;
-        faulty(&rt, alloc, text.as_bytes(), want)?;
+    for (tail, why) in IN_A_MAP {
+        let text = format!(in alloc; "{BASE}{tail}").expect(&rt, "memory");
+        refuses(&rt, alloc, text.as_bytes(), why);
     }
-    faulty(&rt, alloc, b"ssid = \"\xff\"", "not UTF-8")
+    refuses(&rt, alloc, b"ssid = \"\xff\"", "not UTF-8");
+}
+
+/// A configuration with so many maps.
+fn with_maps(rt: &impl Abort, alloc: Global, count: usize) -> String {
+    let mut text = String::from_str(alloc, BASE).expect(rt, "memory");
+    for _ in 0..count {
+        text.push_str("[[map]]\nentries = 1\nwords = 1\nwidth = 4\n")
+            .expect(rt, "memory");
+    }
+    text
 }
 
 #[test]
-fn takes_sixteen_maps_and_no_more(rt: HostRuntime) -> Result<(), Fail> {
+fn takes_sixteen_maps_and_no_more(rt: HostRuntime) {
     let alloc = rt.alloc();
-    let map = "[[map]]\nentries = 1\nwords = 1\nwidth = 4\n";
-    let mut text = String::from_str(alloc, BASE)?;
-    for _ in 0..16 {
-        text.push_str(map)?;
-    }
-    assert!(rt; read_configuration(alloc, text.as_bytes())?.maps.len() == 16);
-    text.push_str(map)?;
-    faulty(&rt, alloc, text.as_bytes(), NO_MAPS)
+    let most = with_maps(&rt, alloc, 16);
+    let read = read(&rt, alloc, most.as_str());
+    same(&rt, read.maps.len(), 16, "maps");
+    let more = with_maps(&rt, alloc, 17);
+    refuses(&rt, alloc, more.as_bytes(), NO_MAPS);
 }

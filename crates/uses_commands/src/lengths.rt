@@ -1,10 +1,10 @@
 //! Files at and past the longest that is read, files without an end, and faults in long files of hex digits.
 
+use crate::same::{holds, same};
+use crate::told::{Told, answer, complains, repeated, tells};
 use apd_inputs::{FileFault, FileKind, Files};
-use apd_program::apd_main;
-use std::alloc::{AllocError, Global};
+use std::alloc::Global;
 use std::process::Abort;
-use std::test::Fail;
 
 /// A program of two steps.
 const ONE: &str = "b700000001000000\n9500000000000000\n";
@@ -79,58 +79,42 @@ impl Files for Endless {
 }
 
 /// A text with so many spaces behind it that it has a length, if it isn't longer.
-fn with_spaces(alloc: Global, text: &str, size: usize) -> Result<Padded, AllocError> {
-    let mut long = Vec::from_slice(alloc, text.as_bytes())?;
-    long.resize(size, b' ')?;
-    Ok(Padded {
+fn with_spaces(rt: &impl Abort, alloc: Global, text: &str, size: usize) -> Padded {
+    let mut long = Vec::from_slice(alloc, text.as_bytes()).expect(rt, "memory");
+    long.resize(size, b' ').expect(rt, "memory");
+    Padded {
         alloc,
         long,
         is_long: false,
         place: 0,
-    })
-}
-
-/// What a command answers: its status, and what it writes to standard output and to standard error.
-#[derive(Drop)]
-struct Told {
-    status: u8,
-    out: Vec<u8>,
-    err: Vec<u8>,
+    }
 }
 
 /// What a command answers, with a file `long` of so many bytes.
-fn answer_to(alloc: Global, words: &[&str], text: &str, size: usize) -> Result<Told, AllocError> {
-    let mut files = with_spaces(alloc, text, size)?;
-    let mut out = Vec::new(alloc);
-    let mut err = Vec::new(alloc);
-    let status = apd_main(alloc, words, &mut files, &mut out, &mut err);
-    Ok(Told { status, out, err })
+fn answer_to(rt: &impl Abort, alloc: Global, words: &[&str], text: &str, size: usize) -> Told {
+    answer(alloc, words, &mut with_spaces(rt, alloc, text, size))
 }
 
 /// The words are done with a file of so many bytes, and not with one of a byte more.
-fn reads_at_most(
-    rt: &impl Abort,
-    alloc: Global,
-    words: &[&str],
-    text: &str,
-    kind: FileKind,
-) -> Result<(), Fail> {
+fn reads_at_most(rt: &impl Abort, alloc: Global, words: &[&str], text: &str, kind: FileKind) {
     let most = kind.most() as usize;
-    let at = answer_to(alloc, words, text, most)?;
-    assert!(rt; at.status == 0 && at.err.is_empty() && !at.out.is_empty());
-    let past = answer_to(alloc, words, text, most.saturating_add(1))?;
-    assert!(rt; past.status == 2 && past.out.is_empty());
-    let why = format!(in alloc; "apd: cannot read long: it has more than {most} bytes\n")?;
-    assert!(rt; past.err.as_slice() == why.as_bytes());
-    Ok(())
+    let at = answer_to(rt, alloc, words, text, most);
+    same(rt, at.status, 0, "status");
+    holds(rt, at.err.is_empty() && !at.out.is_empty(), "done");
+    let past = answer_to(rt, alloc, words, text, most.saturating_add(1));
+    let why = format!(in alloc; "apd: cannot read long: it has more than {most} bytes\n");
+    tells(rt, &past, 2, "", why.expect(rt, "memory").as_str());
 }
 
+/// Verifies the file `long`.
+const VERIFY: [&str; 4] = ["apd", "verify", "data", "long"];
+
 #[test]
-fn reads_code_of_any_length(rt: HostRuntime) -> Result<(), Fail> {
-    let words = ["apd", "verify", "data", "long"];
-    let told = answer_to(rt.alloc(), &words, ONE, (1 << 24) + 1)?;
-    assert!(rt; told.status == 0 && told.out.as_slice() == b"accepted budget 2\n".as_slice());
-    Ok(())
+fn reads_code_of_any_length(rt: HostRuntime) {
+    let told = answer_to(&rt, rt.alloc(), &VERIFY, ONE, (1 << 24) + 1);
+    same(&rt, told.status, 0, "status");
+    let accepted = b"accepted budget 2\n".as_slice();
+    same(&rt, told.out.as_slice(), accepted, "output");
 }
 
 /// What a command answers of a file of this byte without an end, and how many blocks of it are read.
@@ -140,102 +124,74 @@ fn answer_without_end(alloc: Global, words: &[&str], byte: u8) -> (Told, u32) {
         byte,
         blocks: 0,
     };
-    let mut out = Vec::new(alloc);
-    let mut err = Vec::new(alloc);
-    let status = apd_main(alloc, words, &mut files, &mut out, &mut err);
-    (Told { status, out, err }, files.blocks)
+    let told = answer(alloc, words, &mut files);
+    (told, files.blocks)
 }
 
 #[test]
 fn ends_at_the_first_byte_that_is_no_digit(rt: HostRuntime) {
     let words = ["apd", "verify", "data", "zero"];
     let (told, blocks) = answer_without_end(rt.alloc(), &words, 0);
-    assert!(rt; told.status == 2 && told.out.is_empty() && blocks == 1);
-    assert!(rt;
-        told.err
-            .starts_with(b"apd: zero: line 1: `\\x00` is no hex digit".as_slice())
-    );
+    let why = "apd: zero: line 1: `\\x00` is no hex digit";
+    complains(&rt, &told, 2, "", why);
+    same(&rt, blocks, 1, "blocks");
 }
 
 #[test]
 fn ends_past_the_longest_text(rt: HostRuntime) {
     let (told, blocks) = answer_without_end(rt.alloc(), &["apd", "asm", "text"], b' ');
-    assert!(rt; told.status == 2 && told.out.is_empty() && blocks == 257);
-    assert!(rt;
-        told.err.as_slice()
-            == b"apd: cannot read text: it has more than 16777216 bytes\n".as_slice()
-    );
+    let why = "apd: cannot read text: it has more than 16777216 bytes\n";
+    tells(&rt, &told, 2, "", why);
+    same(&rt, blocks, 257, "blocks");
 }
 
 #[test]
-fn reads_texts_of_16_mebibytes(rt: HostRuntime) -> Result<(), Fail> {
+fn reads_texts_of_16_mebibytes(rt: HostRuntime) {
     let words = ["apd", "asm", "long"];
-    reads_at_most(&rt, rt.alloc(), &words, TEXT, FileKind::Text)
+    reads_at_most(&rt, rt.alloc(), &words, TEXT, FileKind::Text);
 }
 
 #[test]
-fn reads_configurations_of_a_mebibyte(rt: HostRuntime) -> Result<(), Fail> {
+fn reads_configurations_of_a_mebibyte(rt: HostRuntime) {
     let words = ["apd", "verify", "data", "one", "--config", "long"];
-    reads_at_most(&rt, rt.alloc(), &words, CONFIG, FileKind::Configuration)
+    reads_at_most(&rt, rt.alloc(), &words, CONFIG, FileKind::Configuration);
 }
 
 #[test]
-fn tells_of_a_directory(rt: HostRuntime) -> Result<(), Fail> {
-    let told = answer_to(rt.alloc(), &["apd", "verify", "data", "folder"], "", 0)?;
-    assert!(rt; told.status == 2 && told.out.is_empty());
-    assert!(rt; told.err.as_slice() == b"apd: cannot read folder: it is a directory\n".as_slice());
-    Ok(())
-}
-
-/// Digits for so many slots.
-fn slots(alloc: Global, count: u32) -> Result<String, AllocError> {
-    let mut text = String::new(alloc);
-    for _ in 0..count {
-        text.push_str("b700000000000000\n")?;
-    }
-    Ok(text)
+fn tells_of_a_directory(rt: HostRuntime) {
+    let words = ["apd", "verify", "data", "folder"];
+    let told = answer_to(&rt, rt.alloc(), &words, "", 0);
+    let why = "apd: cannot read folder: it is a directory\n";
+    tells(&rt, &told, 2, "", why);
 }
 
 /// What `verify` answers for more code than there may be, and a text behind it.
-fn verifies_long(alloc: Global, rest: &str) -> Result<Told, AllocError> {
-    let mut text = slots(alloc, 20000)?;
-    text.push_str(rest)?;
-    answer_to(
-        alloc,
-        &["apd", "verify", "data", "long"],
-        text.as_str(),
-        text.len(),
-    )
+fn verifies_long(rt: &impl Abort, alloc: Global, rest: &str) -> Told {
+    let mut text = repeated(rt, alloc, "b700000000000000\n", 20000);
+    text.push_str(rest).expect(rt, "memory");
+    answer_to(rt, alloc, &VERIFY, text.as_str(), text.len())
+}
+
+/// What stands behind such code, with the status, the output, and what the error begins with.
+const BEHIND: &[(&str, u8, &str, &str)] = &[
+    ("", 1, "fault 3 at 0\n", ""),
+    ("b7", 1, "fault 1 at 0\n", ""),
+    ("b7 g", 2, "", "apd: long: line 20001: `g` is no hex digit"),
+];
+
+#[test]
+fn reads_all_digits_of_too_long_code(rt: HostRuntime) {
+    for (rest, status, out, err) in BEHIND {
+        let told = verifies_long(&rt, rt.alloc(), rest);
+        complains(&rt, &told, *status, out, err);
+    }
+    let odd = verifies_long(&rt, rt.alloc(), "b");
+    let why = "apd: long: an odd number of hex digits\n";
+    tells(&rt, &odd, 2, "", why);
 }
 
 #[test]
-fn reads_all_digits_of_too_long_code(rt: HostRuntime) -> Result<(), Fail> {
-    let alloc = rt.alloc();
-    let whole = verifies_long(alloc, "")?;
-    assert!(rt; whole.status == 1 && whole.out.as_slice() == b"fault 3 at 0\n".as_slice());
-    let cut = verifies_long(alloc, "b7")?;
-    assert!(rt; cut.status == 1 && cut.out.as_slice() == b"fault 1 at 0\n".as_slice());
-    let odd = verifies_long(alloc, "b")?;
-    assert!(rt; odd.status == 2);
-    assert!(rt; odd.err.as_slice() == b"apd: long: an odd number of hex digits\n".as_slice());
-    let foreign = verifies_long(alloc, "b7 g")?;
-    assert!(rt; foreign.status == 2);
-    assert!(rt;
-        foreign
-            .err
-            .starts_with(b"apd: long: line 20001: `g` is no hex digit".as_slice())
-    );
-    Ok(())
-}
-
-#[test]
-fn takes_white_space_for_no_code(rt: HostRuntime) -> Result<(), Fail> {
-    let told = answer_to(
-        rt.alloc(),
-        &["apd", "verify", "data", "long"],
-        "\n\t \r\n",
-        70000,
-    )?;
-    assert!(rt; told.status == 1 && told.out.as_slice() == b"fault 2 at 0\n".as_slice());
-    Ok(())
+fn takes_white_space_for_no_code(rt: HostRuntime) {
+    let told = answer_to(&rt, rt.alloc(), &VERIFY, "\n\t \r\n", 70000);
+    complains(&rt, &told, 1, "fault 2 at 0\n", "");
 }

@@ -12,4 +12,8 @@ mod configuration;
 #[cfg(test)]
 mod lengths;
 #[cfg(test)]
+mod same;
+#[cfg(test)]
+mod told;
+#[cfg(test)]
 mod writing;

@@ -1,8 +1,8 @@
 //! Writers that take little, and what they were given.
 
+use crate::same::{holds, same};
 use apd_output::{Unwritten, write_whole};
 use std::io::{self, Error, ErrorKind, Write};
-use std::test::Fail;
 
 /// Takes `step` bytes a write, and fails from the write that would pass `room`.
 #[derive(Drop)]
@@ -34,7 +34,7 @@ impl Write for Narrow {
 }
 
 #[test]
-fn takes_all_or_a_beginning(rt: HostRuntime) -> Result<(), Fail> {
+fn takes_all_or_a_beginning(rt: HostRuntime) {
     let text = b"accepted budget 2\n";
     for room in 0..20usize {
         let mut writer = Narrow {
@@ -43,15 +43,14 @@ fn takes_all_or_a_beginning(rt: HostRuntime) -> Result<(), Fail> {
             room,
             interrupts: 2,
         };
-        let answer = write_whole(&mut writer, text);
-        let want = if room < 18 {
+        let written = write_whole(&mut writer, text);
+        let wanted = if room < 18 {
             Err(Unwritten(ErrorKind::StorageFull))
         } else {
             Ok(())
         };
-        assert!(rt; answer == want, "room {room}");
-        assert!(rt; text.starts_with(writer.taken.as_slice()), "room {room}");
-        assert!(rt; writer.taken.len() == room.min(18), "room {room}");
+        holds(&rt, written == wanted, "the answer");
+        let begun = text.get(..room.min(18)).unwrap_or(b"");
+        same(&rt, writer.taken.as_slice(), begun, "what is taken");
     }
-    Ok(())
 }

@@ -10,3 +10,5 @@ mod grammar;
 mod lines;
 #[cfg(test)]
 mod running;
+#[cfg(test)]
+mod same;

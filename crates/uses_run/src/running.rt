@@ -1,54 +1,53 @@
 //! Scripts that are run by one and by more workers.
 
-ghost use Rattle.std.specs.Prelude.{◌≡◌, IfOk, vec_len};
+ghost use Rattle.std.specs.Prelude.{◌≡◌, vec_len};
 
 use crate::echo::{Echo, Place, Places};
+use crate::same::same;
 use apd_crew::Ready;
 use apd_run::{Staff, run_script};
 use apd_script::read_script;
 use bpf_regions::Shapes;
-use std::alloc::{AllocError, Global};
+use std::alloc::Global;
+use std::process::Abort;
 use std::sync::{Arc, Mutex, Wait};
-use std::test::Fail;
 use std::thread::Threads;
 
 /// So many workers, and an operator who has a place for each.
-fn staff(alloc: Global, workers: usize) -> Result<Staff<Echo, Places>, AllocError>
-    ensures { IfOk result (λ s. vec_len s.workers ≡ s.operator.workers) }
+fn staff(rt: &impl Abort, alloc: Global, workers: usize) -> Staff<Echo, Places>
+    ensures { vec_len result.workers ≡ result.operator.workers }
 {
     let mut places = Vec::new(alloc);
     let mut hands = Vec::new(alloc);
     for _ in 0..workers {
-        let place: Place = Arc::new(alloc, Mutex::new(None))?;
-        let mine = Arc::try_clone(&place)?;
-        places.push(place)?;
-        hands.push(Ready { worker: Echo(mine) })?;
+        let place: Place = Arc::new(alloc, Mutex::new(None)).expect(rt, "memory");
+        let mine = Arc::try_clone(&place).expect(rt, "one more owner");
+        places.push(place).expect(rt, "memory");
+        hands
+            .push(Ready { worker: Echo(mine) })
+            .expect(rt, "memory");
     }
     let operator = Places {
         places,
         workers: hands.len() as u64,
     };
-    Ok(Staff {
+    Staff {
         operator,
         workers: hands,
-    })
+    }
 }
 
 /// What a script prints with so many workers, and its status.
-fn ran<R: Threads + Wait + Sync>(
+fn ran<R: Threads + Wait + Abort + Sync>(
     rt: &R,
     alloc: Global,
     workers: usize,
     script: &str,
-) -> Result<(Vec<u8>, u8), AllocError> {
-    let Some(shapes) = Shapes::new(Vec::new(alloc)) else {
-        return Err(AllocError);
-    };
-    let Ok(commands) = read_script(alloc, script.as_bytes(), &shapes) else {
-        return Err(AllocError);
-    };
-    let staff = staff(alloc, workers)?;
-    Ok(run_script(rt, alloc, staff, commands.as_slice(), Vec::new(alloc)))
+) -> (Vec<u8>, u8) {
+    let shapes = Shapes::new(Vec::new(alloc)).expect(rt, "no maps");
+    let commands = read_script(alloc, script.as_bytes(), &shapes).expect(rt, "a script");
+    let staff = staff(rt, alloc, workers);
+    run_script(rt, alloc, staff, commands.as_slice(), Vec::new(alloc))
 }
 
 const SCRIPT: &str = "tick 10\ntick 20\ntick 30\nunload data\nwait\ntick 60\nload data absent\n";
@@ -57,11 +56,10 @@ const PRINTED: &str = "1 word 10\n2 word 20\n3 word 30\n4 memory\n6 word 60\n7 u
     total events 0 sent 0 up 0 dropped 0 notes 0\n";
 
 #[test]
-fn any_number_of_workers_prints_the_same(rt: HostRuntime) -> Result<(), Fail> {
+fn any_number_of_workers_prints_the_same(rt: HostRuntime) {
     for workers in [1, 2, 8] {
-        let (text, status) = ran(&rt, rt.alloc(), workers, SCRIPT)?;
-        assert_eq!(rt; text.as_slice(), PRINTED.as_bytes());
-        assert_eq!(rt; status, 3);
+        let (text, status) = ran(&rt, rt.alloc(), workers, SCRIPT);
+        same(&rt, text.as_slice(), PRINTED.as_bytes(), "the text");
+        same(&rt, status, 3, "the status");
     }
-    Ok(())
 }
