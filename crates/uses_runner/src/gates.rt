@@ -2,10 +2,10 @@
 
 use crate::lab::{ASSOCIATION, AUTHENTICATION, LAB, OTHER_AUTHENTICATION, file, joined};
 use crate::memory::watched;
+use crate::same::same;
 use apd_progress::Watcher;
 use apd_runner::Gate;
 use std::sync::atomic::{AtomicU64, Ordering};
-use std::test::Fail;
 use std::thread;
 
 /// Adds up what it is told.
@@ -14,6 +14,17 @@ struct Sums {
     lines: AtomicU64,
     begun: AtomicU64,
     ended: AtomicU64,
+}
+
+impl Sums {
+    /// How many lines there are, and the sums of the calls that were begun and of those that were ended.
+    fn told(&self) -> (u64, u64, u64) {
+        (
+            self.lines.load(Ordering::SeqCst),
+            self.begun.load(Ordering::SeqCst),
+            self.ended.load(Ordering::SeqCst),
+        )
+    }
 }
 
 impl Gate for &Sums {
@@ -32,17 +43,15 @@ impl Watcher for &Sums {
     }
 }
 
+/// The sum of the lines of the events below: those of lines 1, 2 and 5 are each of one shard, and the tick of line 4 is
+/// told of by all eight.
+const CALLS: u64 = 1 + 2 + 8 * 4 + 5;
+
 #[test]
-fn a_watcher_is_told_of_each_event_by_its_line(rt: HostRuntime) -> Result<(), Fail> {
+fn a_watcher_is_told_of_each_event_by_its_line(rt: HostRuntime) {
     let alloc = rt.alloc();
-    let script = joined(
-        alloc,
-        &[
-            AUTHENTICATION,
-            ASSOCIATION,
-            "wait\ntick 1\nkick 02000000000a 1\nunload data\n# end\n",
-        ],
-    )?;
+    let end = "wait\ntick 1\nkick 02000000000a 1\nunload data\n# end\n";
+    let script = joined(&rt, alloc, &[AUTHENTICATION, ASSOCIATION, end]);
     let files = [file("config", LAB), file("script", script.as_str())];
     for workers in [1u8, 2, 8] {
         let sums = Sums {
@@ -51,12 +60,9 @@ fn a_watcher_is_told_of_each_event_by_its_line(rt: HostRuntime) -> Result<(), Fa
             ended: AtomicU64::new(0),
         };
         let ran = watched(&rt, alloc, &files, workers, &sums);
-        assert_eq!(rt; ran.status, 0);
-        assert_eq!(rt; sums.lines.load(Ordering::SeqCst), 6);
-        assert_eq!(rt; sums.begun.load(Ordering::SeqCst), 1 + 2 + 8 * 4 + 5);
-        assert_eq!(rt; sums.ended.load(Ordering::SeqCst), 1 + 2 + 8 * 4 + 5);
+        same(&rt, ran.status, 0, "the status");
+        same(&rt, sums.told(), (6, CALLS, CALLS), "lines and calls");
     }
-    Ok(())
 }
 
 /// How many turns the first call waits for the second.
@@ -93,9 +99,9 @@ impl Gate for &Meeting {
 impl Watcher for &Meeting {}
 
 #[test]
-fn events_of_two_shards_run_beside_each_other(rt: HostRuntime) -> Result<(), Fail> {
+fn events_of_two_shards_run_beside_each_other(rt: HostRuntime) {
     let alloc = rt.alloc();
-    let script = joined(alloc, &[AUTHENTICATION, OTHER_AUTHENTICATION])?;
+    let script = joined(&rt, alloc, &[AUTHENTICATION, OTHER_AUTHENTICATION]);
     let files = [file("config", LAB), file("script", script.as_str())];
     for (workers, met) in [(1u8, 0u64), (2, 1), (8, 1)] {
         let meeting = Meeting {
@@ -103,8 +109,12 @@ fn events_of_two_shards_run_beside_each_other(rt: HostRuntime) -> Result<(), Fai
             met: AtomicU64::new(0),
         };
         let ran = watched(&rt, alloc, &files, workers, &meeting);
-        assert_eq!(rt; ran.status, 0);
-        assert_eq!(rt; meeting.met.load(Ordering::SeqCst), met);
+        same(&rt, ran.status, 0, "the status");
+        same(
+            &rt,
+            meeting.met.load(Ordering::SeqCst),
+            met,
+            "whether they meet",
+        );
     }
-    Ok(())
 }

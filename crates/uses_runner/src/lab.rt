@@ -1,9 +1,10 @@
 //! The configurations and lines of the tests' scripts.
 
 use crate::memory::{File, ran};
+use crate::same::same;
 use std::alloc::Global;
+use std::process::Abort;
 use std::sync::Wait;
-use std::test::Fail;
 use std::thread::Threads;
 
 pub const LAB: &str = "bssid = \"020000000001\"\nssid = \"lab\"\nrates = \"82848b96\"\ndraw = 0\n";
@@ -25,24 +26,21 @@ pub const ANSWERS: &str = "1 send b000000002000000000a02000000000102000000000100
     2 send 1000000002000000000a020000000001020000000001000001000000\
     02c0010482848b96\n";
 
-/// Whether a run of the files prints a text and ends with a status, by one, two and eight workers.
-pub fn prints<R: Threads + Wait + Sync>(
+/// Fails where a run of the files, by one, two or eight workers, doesn't print these texts one after the other, or ends
+/// with another status.
+pub fn prints<R: Threads + Wait + Abort + Sync>(
     rt: &R,
     alloc: Global,
     files: &[File<'_>],
     printed: &[&str],
     status: u8,
-) -> Result<bool, Fail> {
-    let mut wanted = String::new(alloc);
-    for part in printed {
-        wanted.push_str(part)?;
-    }
-    let mut same = true;
+) {
+    let wanted = joined(rt, alloc, printed);
     for workers in [1u8, 2, 8] {
         let ran = ran(rt, alloc, files, workers);
-        same = same && ran.out.as_slice() == wanted.as_bytes() && ran.status == status;
+        same(rt, ran.out.as_slice(), wanted.as_bytes(), "the text");
+        same(rt, ran.status, status, "the status");
     }
-    Ok(same)
 }
 
 /// A file.
@@ -51,10 +49,6 @@ pub fn file<'a>(path: &'a str, text: &'a str) -> File<'a> {
 }
 
 /// Parts of a text one after the other.
-pub fn joined(alloc: Global, parts: &[&str]) -> Result<String, Fail> {
-    let mut text = String::new(alloc);
-    for part in parts {
-        text.push_str(part)?;
-    }
-    Ok(text)
+pub fn joined(rt: &impl Abort, alloc: Global, parts: &[&str]) -> String {
+    parts.concat(alloc).expect(rt, "memory")
 }

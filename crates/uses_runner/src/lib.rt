@@ -10,6 +10,8 @@ mod lab;
 #[cfg(test)]
 mod memory;
 #[cfg(test)]
+mod same;
+#[cfg(test)]
 mod scripts;
 #[cfg(test)]
 mod watching;

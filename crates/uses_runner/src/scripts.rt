@@ -4,16 +4,15 @@ use crate::lab::{
     ANSWERS, ASSOCIATION, AUTHENTICATION, COUNTING, LAB, OTHER_AUTHENTICATION, file, joined, prints,
 };
 use crate::memory::ran;
-use std::test::Fail;
+use crate::same::{holds, same};
 
 #[test]
-fn a_station_is_associated(rt: HostRuntime) -> Result<(), Fail> {
+fn a_station_is_associated(rt: HostRuntime) {
     let alloc = rt.alloc();
-    let script = joined(alloc, &[AUTHENTICATION, ASSOCIATION])?;
+    let script = joined(&rt, alloc, &[AUTHENTICATION, ASSOCIATION]);
     let files = [file("config", LAB), file("script", script.as_str())];
     let totals = "total events 2 sent 2 up 0 dropped 0 notes 0\n";
-    assert!(rt; prints(&rt, alloc, &files, &[ANSWERS, totals], 0)?);
-    Ok(())
+    prints(&rt, alloc, &files, &[ANSWERS, totals], 0);
 }
 
 const LOADED: &str = "4 loaded 2\n";
@@ -25,7 +24,7 @@ const DATA: &str = "frame 0801000002000000000102000000000a0200000000ff300068656c
 const MARK: &str = "b700000002050000 9500000000000000\n";
 
 #[test]
-fn a_policy_that_is_loaded_marks_data(rt: HostRuntime) -> Result<(), Fail> {
+fn a_policy_that_is_loaded_marks_data(rt: HostRuntime) {
     let alloc = rt.alloc();
     let parts = [
         AUTHENTICATION,
@@ -33,15 +32,14 @@ fn a_policy_that_is_loaded_marks_data(rt: HostRuntime) -> Result<(), Fail> {
         "wait\nload data mark.hex\nwait\n",
         DATA,
     ];
-    let script = joined(alloc, &parts)?;
+    let script = joined(&rt, alloc, &parts);
     let files = [
         file("config", LAB),
         file("script", script.as_str()),
         file("mark.hex", MARK),
     ];
     let totals = "total events 3 sent 2 up 1 dropped 0 notes 0\n";
-    assert!(rt; prints(&rt, alloc, &files, &[ANSWERS, LOADED, MARKED, totals], 0)?);
-    Ok(())
+    prints(&rt, alloc, &files, &[ANSWERS, LOADED, MARKED, totals], 0);
 }
 
 const OTHER_ASSOCIATION: &str = "frame 0000000002000000000102000000000b0200000000012000\
@@ -53,7 +51,7 @@ const COUNT: &str = "1861000000000000 0000000000000000 b702000001000000 db210000
     b700000000000000 9500000000000000\n";
 
 #[test]
-fn a_count_of_each_worker_is_summed(rt: HostRuntime) -> Result<(), Fail> {
+fn a_count_of_each_worker_is_summed(rt: HostRuntime) {
     let alloc = rt.alloc();
     let stations = [
         AUTHENTICATION,
@@ -61,7 +59,7 @@ fn a_count_of_each_worker_is_summed(rt: HostRuntime) -> Result<(), Fail> {
         ASSOCIATION,
         OTHER_ASSOCIATION,
     ];
-    let stations = joined(alloc, &stations)?;
+    let stations = joined(&rt, alloc, &stations);
     let load = "load data count.hex\nwait\n";
     let sent = [
         stations.as_str(),
@@ -73,7 +71,7 @@ fn a_count_of_each_worker_is_summed(rt: HostRuntime) -> Result<(), Fail> {
         OTHER_DATA,
         "wait\nsum 0 0 0\n",
     ];
-    let script = joined(alloc, &sent)?;
+    let script = joined(&rt, alloc, &sent);
     let files = [
         file("config", COUNTING),
         file("script", script.as_str()),
@@ -83,33 +81,30 @@ fn a_count_of_each_worker_is_summed(rt: HostRuntime) -> Result<(), Fail> {
         let ran = ran(&rt, alloc, &files, workers);
         let out = ran.out.as_slice();
         let end = b"13 word 5\ntotal events 9 sent 4 up 5 dropped 0 notes 0\n";
-        assert!(rt; out.ends_with(end));
-        assert_eq!(rt; ran.status, 0);
+        holds(&rt, out.ends_with(end), "the sum");
+        same(&rt, ran.status, 0, "the status");
     }
-    Ok(())
 }
 
 #[test]
-fn more_workers_than_eight_are_eight(rt: HostRuntime) -> Result<(), Fail> {
+fn more_workers_than_eight_are_eight(rt: HostRuntime) {
     let alloc = rt.alloc();
-    let script = joined(alloc, &[AUTHENTICATION, ASSOCIATION])?;
+    let script = joined(&rt, alloc, &[AUTHENTICATION, ASSOCIATION]);
     let files = [file("config", LAB), file("script", script.as_str())];
     let eight = ran(&rt, alloc, &files, 8);
     for workers in [0u8, 9, 255] {
         let other = ran(&rt, alloc, &files, workers);
-        assert_eq!(rt; other.out.as_slice(), eight.out.as_slice());
-        assert_eq!(rt; other.status, 0);
+        same(&rt, other.out.as_slice(), eight.out.as_slice(), "the text");
+        same(&rt, other.status, 0, "the status");
     }
-    Ok(())
 }
 
 #[test]
-fn a_script_of_nothing_ends_with_its_total(rt: HostRuntime) -> Result<(), Fail> {
+fn a_script_of_nothing_ends_with_its_total(rt: HostRuntime) {
     let alloc = rt.alloc();
     for script in ["", "wait\n", "# nothing\n\n  \nwait\nwait"] {
         let files = [file("config", LAB), file("script", script)];
         let totals = "total events 0 sent 0 up 0 dropped 0 notes 0\n";
-        assert!(rt; prints(&rt, alloc, &files, &[totals], 0)?);
+        prints(&rt, alloc, &files, &[totals], 0);
     }
-    Ok(())
 }

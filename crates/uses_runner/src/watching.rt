@@ -1,5 +1,6 @@
 //! What is told of a run, by a clock that a test moves.
 
+use crate::same::same;
 use ap_tagged::Gate;
 use apd_progress::{Progress, Watcher};
 use std::fmt::Display;
@@ -35,12 +36,13 @@ impl Eprint for Desk {
     }
 }
 
-/// Tells of so many events.
-fn handle(gate: &impl Gate, events: u64) {
+/// Tells of so many events, and answers how many lines stand then.
+fn lines_after(desk: &Desk, gate: &impl Gate, events: u64) -> u64 {
     for call in 1..=events {
         gate.begin(call);
         gate.end(call);
     }
+    desk.lines.load(Ordering::SeqCst)
 }
 
 #[test]
@@ -52,17 +54,8 @@ fn a_line_a_second_is_told_of_a_long_run(rt: HostRuntime) {
     let progress = Progress::new(&desk);
     let gate = &progress;
     gate.start(1000);
-    handle(&gate, 200);
-    assert_eq!(rt; desk.lines.load(Ordering::SeqCst), 0);
-    desk.milliseconds.store(1400, Ordering::SeqCst);
-    handle(&gate, 200);
-    assert_eq!(rt; desk.lines.load(Ordering::SeqCst), 0);
-    desk.milliseconds.store(1500, Ordering::SeqCst);
-    handle(&gate, 200);
-    assert_eq!(rt; desk.lines.load(Ordering::SeqCst), 1);
-    desk.milliseconds.store(4400, Ordering::SeqCst);
-    handle(&gate, 200);
-    assert_eq!(rt; desk.lines.load(Ordering::SeqCst), 2);
-    handle(&gate, 200);
-    assert_eq!(rt; desk.lines.load(Ordering::SeqCst), 2);
+    for (milliseconds, lines) in [(500, 0), (1400, 0), (1500, 1), (4400, 2), (4400, 2)] {
+        desk.milliseconds.store(milliseconds, Ordering::SeqCst);
+        same(&rt, lines_after(&desk, &gate, 200), lines, "lines");
+    }
 }
