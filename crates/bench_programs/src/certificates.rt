@@ -2,96 +2,155 @@
 
 use crate::asked::{Size, Task};
 use crate::certified::{Code, code_of, program_of};
-use anyhow::Result;
+use crate::programs::accepted;
 use bpf_cert::{certificate, check};
+use bpf_decode::Program;
+use bpf_machine::Accepted;
 use bpf_regions::Hook;
-use bpf_verifier::verify;
 use std::alloc::Global;
-use std::rt::Runtime;
+use std::io;
+use std::rt::{Clock, Runtime};
 use std::time::Instant;
 
-/// How long each took, in nanoseconds.
+/// What was measured of one program: how many nanoseconds each call took, the budget, how many bytes the certificate
+/// has, and the budget that the check answered, or the number of its refusal.
 #[derive(Clone, Copy)]
-struct Times {
+struct Measured {
     verify: u128,
     certificate: u128,
     check: u128,
-}
-
-/// The least of what was measured twice.
-fn least(one: Times, other: Times) -> Times {
-    Times {
-        verify: one.verify.min(other.verify),
-        certificate: one.certificate.min(other.certificate),
-        check: one.check.min(other.check),
-    }
-}
-
-/// What was measured of one program once.
-#[derive(Drop)]
-struct Measured {
-    took: Times,
     budget: u32,
-    certificate: Vec<u8>,
-    /// The budget that the check answered, or the number of its refusal.
+    bytes: usize,
     checked: u32,
 }
 
-/// Verifies a program, makes its certificate and checks that. None where it isn't admitted.
-fn measure<R: Runtime>(rt: &R, alloc: Global, code: &Code) -> Result<Option<Measured>> {
-    let (Some(first), Some(second)) = (program_of(alloc, code)?, program_of(alloc, code)?) else {
-        return Ok(None);
-    };
+impl Measured {
+    /// The same with the least times of both.
+    fn least(self, other: Measured) -> Measured {
+        Measured {
+            verify: self.verify.min(other.verify),
+            certificate: self.certificate.min(other.certificate),
+            check: self.check.min(other.check),
+            ..self
+        }
+    }
+}
+
+/// Verifies a program, and answers how many nanoseconds it took. None where the program isn't admitted.
+fn verified<R: Clock>(
+    rt: &R,
+    alloc: Global,
+    program: Option<Program>,
+) -> io::Result<Option<(Accepted, u128)>> {
     let begun = Instant::now(rt)?;
-    let Ok(accepted) = verify(alloc, first, Hook::Data) else {
-        return Ok(None);
-    };
-    let verified = begun.elapsed(rt)?.as_nanos();
+    let accepted = accepted(alloc, program);
+    let nanos = begun.elapsed(rt)?.as_nanos();
+    Ok(accepted.map(|accepted| (accepted, nanos)))
+}
+
+/// Makes its certificate likewise.
+fn certified<R: Clock>(
+    rt: &R,
+    alloc: Global,
+    accepted: &Accepted,
+) -> io::Result<Option<(Vec<u8>, u128)>> {
     let begun = Instant::now(rt)?;
-    let Ok(certificate) = certificate(alloc, &accepted) else {
-        return Ok(None);
-    };
-    let made = begun.elapsed(rt)?.as_nanos();
-    let begun = Instant::now(rt)?;
-    let checked = match check(alloc, second, Hook::Data, certificate.as_slice()) {
+    let certificate = certificate(alloc, accepted).ok();
+    let nanos = begun.elapsed(rt)?.as_nanos();
+    Ok(certificate.map(|certificate| (certificate, nanos)))
+}
+
+/// The budget that the check of a certificate answers, or the number of its refusal.
+fn budget_or_number(alloc: Global, program: Program, certificate: &[u8]) -> u32 {
+    match check(alloc, program, Hook::Data, certificate) {
         Ok(accepted) => accepted.budget(),
         Err(fault) => u32::from(fault.number()),
+    }
+}
+
+/// Checks a certificate of a code, and answers what the check answered and how many nanoseconds it took.
+fn checked<R: Clock>(
+    rt: &R,
+    alloc: Global,
+    code: &Code,
+    certificate: &[u8],
+) -> io::Result<Option<(u32, u128)>> {
+    let Some(program) = program_of(alloc, code)? else {
+        return Ok(None);
     };
-    let took = Times {
-        verify: verified,
-        certificate: made,
-        check: begun.elapsed(rt)?.as_nanos(),
+    let begun = Instant::now(rt)?;
+    let checked = budget_or_number(alloc, program, certificate);
+    Ok(Some((checked, begun.elapsed(rt)?.as_nanos())))
+}
+
+/// Makes the certificate of a code that was verified in so many nanoseconds, and checks it. None where it has none.
+fn measure_accepted<R: Clock>(
+    rt: &R,
+    alloc: Global,
+    code: &Code,
+    accepted: &Accepted,
+    verify: u128,
+) -> io::Result<Option<Measured>> {
+    let Some((bytes, certificate)) = certified(rt, alloc, accepted)? else {
+        return Ok(None);
+    };
+    let Some((checked, check)) = checked(rt, alloc, code, &bytes)? else {
+        return Ok(None);
     };
     Ok(Some(Measured {
-        took,
-        budget: accepted.budget(),
+        verify,
         certificate,
+        check,
+        budget: accepted.budget(),
+        bytes: bytes.len(),
         checked,
     }))
 }
 
-/// Measures a program so many times, and prints what was found.
-fn report<R: Runtime>(rt: &R, alloc: Global, name: &str, code: &Code, times: u64) -> Result<()> {
-    let Some(first) = measure(rt, alloc, code)? else {
-        eprintln!(rt; "{name}: no program that is admitted")?;
-        return Ok(());
-    };
-    let mut took = first.took;
+/// Verifies the program of a code, makes its certificate and checks that. None where it isn't admitted.
+fn measure<R: Clock>(rt: &R, alloc: Global, code: &Code) -> io::Result<Option<Measured>> {
+    match verified(rt, alloc, program_of(alloc, code)?)? {
+        Some((accepted, nanos)) => measure_accepted(rt, alloc, code, &accepted, nanos),
+        None => Ok(None),
+    }
+}
+
+/// Measures a code so many times.
+fn measure_often<R: Clock>(
+    rt: &R,
+    alloc: Global,
+    code: &Code,
+    times: u64,
+) -> io::Result<Option<Measured>> {
+    let mut least = measure(rt, alloc, code)?;
     for _time in 1..times {
-        if let Some(again) = measure(rt, alloc, code)? {
-            took = least(took, again.took);
+        if let (Some(before), Some(again)) = (least, measure(rt, alloc, code)?) {
+            least = Some(before.least(again));
         }
     }
+    Ok(least)
+}
+
+/// Prints what was found of a program.
+fn print_measured<R: Eprint>(rt: &R, name: &str, found: &Measured) -> io::Result<()> {
     eprintln!(rt;
         "{name}: budget {}, checked {}; {} bytes; verify {} ns, certificate {} ns, check {} ns",
-        first.budget,
-        first.checked,
-        first.certificate.len(),
-        took.verify,
-        took.certificate,
-        took.check
-    )?;
-    Ok(())
+        found.budget, found.checked, found.bytes, found.verify, found.certificate, found.check
+    )
+}
+
+/// Measures a code so many times, and prints what was found.
+fn report<R: Clock + Eprint>(
+    rt: &R,
+    alloc: Global,
+    name: &str,
+    code: &Code,
+    times: u64,
+) -> io::Result<()> {
+    match measure_often(rt, alloc, code, times)? {
+        Some(found) => print_measured(rt, name, &found),
+        None => eprintln!(rt; "{name}: no program that is admitted"),
+    }
 }
 
 /// Measures the program with a name so many times: a loop and joins have so many turns.
@@ -101,12 +160,11 @@ fn report_named<R: Runtime + AllocGlobal>(
     name: &str,
     turns: u32,
     times: u64,
-) -> Result<()> {
+) -> io::Result<()> {
     match code_of(rt, alloc, name, turns)? {
-        Some(code) => report(rt, alloc, name, &code, times)?,
-        None => eprintln!(rt; "{name}: no program")?,
+        Some(code) => report(rt, alloc, name, &code, times),
+        None => eprintln!(rt; "{name}: no program"),
     }
-    Ok(())
 }
 
 /// Measures the programs of a task so many times: a loop and joins, and once, where it doesn't say.
@@ -115,7 +173,7 @@ pub fn print_times<R: Runtime + AllocGlobal>(
     alloc: Global,
     task: &Task,
     size: Size,
-) -> Result<()> {
+) -> io::Result<()> {
     let turns = size.choose(1000, 100);
     let times = task.number_or(0, 1);
     if task.programs.is_empty() {

@@ -2,15 +2,13 @@
 //! rounds, in nanoseconds.
 
 use crate::asked::Size;
-use anyhow::Result;
-use bpf_decode::{Program, decode};
+use crate::programs::{accepted, of_code};
 use bpf_machine::probing::probe;
 use bpf_machine::{Accepted, Bare, ListPort, Probe, run};
-use bpf_regions::{Context, Frame, Hook, Shapes};
-use bpf_verifier::verify;
+use bpf_regions::{Context, Frame};
 use std::alloc::{AllocError, Global};
 use std::io;
-use std::rt::Runtime;
+use std::rt::Clock;
 use std::time::Instant;
 
 const EXIT: u64 = 0x9500000000000000;
@@ -110,10 +108,71 @@ enum Work {
     Enter,
 }
 
+/// The code that a workload has.
+#[derive(Clone, Copy)]
+enum Code {
+    Straight,
+    Loop,
+    LoopOfEight,
+    Filter,
+    Shortest,
+}
+
+/// A workload: the works that are measured of it, its code, and how many instructions or turns it has.
+#[derive(Clone, Copy)]
+struct Workload {
+    works: &'static [(&'static str, Work)],
+    code: Code,
+    full: u32,
+    quick: u32,
+}
+
+/// All workloads.
+const WORKLOADS: [Workload; 6] = [
+    Workload {
+        works: &[("straight64", Work::Run)],
+        code: Code::Straight,
+        full: 64,
+        quick: 64,
+    },
+    Workload {
+        works: &[("straight4096", Work::Run)],
+        code: Code::Straight,
+        full: 4096,
+        quick: 256,
+    },
+    Workload {
+        works: &[("loop", Work::Run), ("probe of it", Work::Probe)],
+        code: Code::Loop,
+        full: 300_000,
+        quick: 1000,
+    },
+    Workload {
+        works: &[("loop8", Work::Run)],
+        code: Code::LoopOfEight,
+        full: 120_000,
+        quick: 1000,
+    },
+    Workload {
+        works: &[("filter", Work::Run)],
+        code: Code::Filter,
+        full: 0,
+        quick: 0,
+    },
+    Workload {
+        works: &[
+            ("mov and exit", Work::Run),
+            ("enter and a step", Work::Enter),
+        ],
+        code: Code::Shortest,
+        full: 0,
+        quick: 0,
+    },
+];
+
 /// A straight workload of so many instructions.
 fn straight(alloc: Global, count: usize) -> Result<Vec<u64>, AllocError> {
-    let mut slots = Vec::new(alloc);
-    slots.extend_from_slice(&BEGINNING)?;
+    let mut slots = Vec::from_slice(alloc, &BEGINNING)?;
     for at in 4..count {
         slots.push(STRAIGHT[(at - 4) % 8])?;
     }
@@ -121,24 +180,31 @@ fn straight(alloc: Global, count: usize) -> Result<Vec<u64>, AllocError> {
     Ok(slots)
 }
 
-/// The program of these slots, each with its first byte as the highest, for no maps.
-fn program_of(alloc: Global, slots: &[u64]) -> io::Result<Option<Program>> {
+/// The slots of a code with so many instructions or turns, each with its first byte as the highest.
+fn slots_of(alloc: Global, code: Code, count: u32) -> Result<Vec<u64>, AllocError> {
+    match code {
+        Code::Straight => straight(alloc, count as usize),
+        Code::Loop => Vec::from_slice(alloc, &loop_of(count)),
+        Code::LoopOfEight => Vec::from_slice(alloc, &loop_of_eight(count)),
+        Code::Filter => Vec::from_slice(alloc, &FILTER),
+        Code::Shortest => Vec::from_slice(alloc, &SHORTEST),
+    }
+}
+
+/// The bytes of slots.
+fn bytes_of(alloc: Global, slots: &[u64]) -> Result<Vec<u8>, AllocError> {
     let mut bytes = Vec::new(alloc);
     for slot in slots {
         bytes.extend_from_slice(&slot.to_be_bytes())?;
     }
-    let Some(shapes) = Shapes::new(Vec::new(alloc)) else {
-        return Ok(None);
-    };
-    Ok(decode(alloc, &bytes, shapes).ok())
+    Ok(bytes)
 }
 
-/// The admitted program of these slots.
-fn admitted(alloc: Global, slots: &[u64]) -> io::Result<Option<Accepted>> {
-    match program_of(alloc, slots)? {
-        Some(program) => Ok(verify(alloc, program, Hook::Data).ok()),
-        None => Ok(None),
-    }
+/// The admitted program of a code with so many instructions or turns.
+fn admitted(alloc: Global, code: Code, count: u32) -> Result<Option<Accepted>, AllocError> {
+    let slots = slots_of(alloc, code, count)?;
+    let bytes = bytes_of(alloc, &slots)?;
+    Ok(accepted(alloc, of_code(alloc, &bytes)))
 }
 
 /// A frame that passes the filter.
@@ -192,7 +258,7 @@ fn once(work: Work, accepted: &Accepted, frame: &Frame<'_>, context: &Context) -
 }
 
 /// How many nanoseconds it takes to do a work so many times, and the sum of R0.
-fn spent<R: Runtime>(
+fn spent<R: Clock>(
     rt: &R,
     work: Work,
     accepted: &Accepted,
@@ -209,8 +275,57 @@ fn spent<R: Runtime>(
     Ok((before.elapsed(rt)?.as_nanos(), sum))
 }
 
-/// Prints the best of many short rounds, so that other work on the machine meets few of them.
-fn print_best<R: Runtime>(
+/// How many nanoseconds the best round took, how often the work was done in it, how many instructions were performed
+/// each time, and the sum of R0.
+#[derive(Clone, Copy)]
+struct Best {
+    nanos: u128,
+    times: u32,
+    steps: u32,
+    sum: u64,
+}
+
+/// The best of many short rounds, so that other work on the machine meets few of them.
+fn best_of<R: Clock>(
+    rt: &R,
+    work: Work,
+    accepted: &Accepted,
+    frame: &Frame<'_>,
+    size: Size,
+) -> io::Result<Best> {
+    let (_r0, steps) = once(work, accepted, frame, &Context::new([0; 32]));
+    let times = (size.choose(200_000, 20_000) / steps.max(20)).max(1);
+    let (mut nanos, mut sum) = (u128::MAX, 0);
+    for _round in 0..size.choose(500, 2) {
+        let (nanoseconds, all) = spent(rt, work, accepted, frame, times)?;
+        nanos = nanos.min(nanoseconds);
+        sum = all;
+    }
+    Ok(Best {
+        nanos,
+        times,
+        steps,
+        sum,
+    })
+}
+
+/// Prints what a work took, in hundredths of a nanosecond, and each of its instructions.
+fn print_best<R: Eprint>(rt: &R, name: &str, best: Best) -> io::Result<()> {
+    let each = best.nanos.wrapping_mul(100) / u128::from(best.times.max(1));
+    let an_instruction = each / u128::from(best.steps.max(1));
+    eprintln!(rt;
+        "{name}: {}.{:02} ns, {}.{:02} ns an instruction; {} times, sum {}",
+        each / 100,
+        each % 100,
+        an_instruction / 100,
+        an_instruction % 100,
+        best.times,
+        best.sum
+    )
+}
+
+/// Measures a work of a program.
+fn measure<R: Clock + Eprint>(
     rt: &R,
     name: &str,
     work: Work,
@@ -221,72 +336,30 @@ fn print_best<R: Runtime>(
     let Some(frame) = Frame::new(&bytes) else {
         return Ok(());
     };
-    let (_r0, steps) = once(work, accepted, &frame, &Context::new([0; 32]));
-    let times = (size.choose(200_000, 20_000) / steps.max(20)).max(1);
-    let (mut best, mut sum) = (u128::MAX, 0);
-    for _round in 0..size.choose(500, 2) {
-        let (nanoseconds, all) = spent(rt, work, accepted, &frame, times)?;
-        best = best.min(nanoseconds);
-        sum = all;
-    }
-    let each = best.wrapping_mul(100) / u128::from(times.max(1));
-    let an_instruction = each / u128::from(steps.max(1));
-    eprintln!(rt;
-        "{name}: {}.{:02} ns, {}.{:02} ns an instruction; {times} times, sum {sum}",
-        each / 100,
-        each % 100,
-        an_instruction / 100,
-        an_instruction % 100
-    )?;
-    Ok(())
+    let best = best_of(rt, work, accepted, &frame, size)?;
+    print_best(rt, name, best)
 }
 
-/// Measures works of a program, where it is admitted.
-fn measure<R: Runtime>(
+/// Measures the works of a workload, where it is admitted.
+fn measure_all<R: Clock + Eprint>(
     rt: &R,
     alloc: Global,
-    works: &[(&str, Work)],
-    slots: &[u64],
+    workload: &Workload,
     size: Size,
 ) -> io::Result<()> {
-    if let Some(accepted) = admitted(alloc, slots)? {
-        for (name, work) in works {
-            print_best(rt, name, *work, &accepted, size)?;
+    let count = size.choose(workload.full, workload.quick);
+    if let Some(accepted) = admitted(alloc, workload.code, count)? {
+        for (name, work) in workload.works {
+            measure(rt, name, *work, &accepted, size)?;
         }
     }
     Ok(())
 }
 
 /// Prints how long the workloads take.
-pub fn print_times<R: Runtime>(rt: &R, alloc: Global, size: Size) -> Result<()> {
-    let long = straight(alloc, size.choose(4096, 256) as usize)?;
-    let eight = loop_of_eight(size.choose(120_000, 1000));
-    measure(
-        rt,
-        alloc,
-        &[("straight64", Work::Run)],
-        &straight(alloc, 64)?,
-        size,
-    )?;
-    measure(rt, alloc, &[("straight4096", Work::Run)], &long, size)?;
-    measure(
-        rt,
-        alloc,
-        &[("loop", Work::Run), ("probe of it", Work::Probe)],
-        &loop_of(size.choose(300_000, 1000)),
-        size,
-    )?;
-    measure(rt, alloc, &[("loop8", Work::Run)], &eight, size)?;
-    measure(rt, alloc, &[("filter", Work::Run)], &FILTER, size)?;
-    measure(
-        rt,
-        alloc,
-        &[
-            ("mov and exit", Work::Run),
-            ("enter and a step", Work::Enter),
-        ],
-        &SHORTEST,
-        size,
-    )?;
+pub fn print_times<R: Clock + Eprint>(rt: &R, alloc: Global, size: Size) -> io::Result<()> {
+    for workload in &WORKLOADS {
+        measure_all(rt, alloc, workload, size)?;
+    }
     Ok(())
 }

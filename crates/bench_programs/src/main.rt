@@ -19,17 +19,19 @@ mod asked;
 mod certificates;
 mod certified;
 mod machine;
+mod programs;
 mod replaced;
 mod text;
 mod verifier;
 
 use anyhow::Result;
 use asked::{Asked, Benchmark, Size, Task};
-use std::env;
+use std::alloc::Global;
 use std::process::ExitCode;
 use std::rt::Runtime;
 use std::sync::Wait;
 use std::thread::Threads;
+use std::{env, io};
 
 /// What an unknown word is told.
 const USAGE: &str =
@@ -38,10 +40,10 @@ const USAGE: &str =
 /// Prints how long what a task asks for takes.
 fn perform<R: Threads + Wait + Runtime + Sync + AllocGlobal>(
     rt: &R,
+    alloc: Global,
     task: &Task,
     size: Size,
-) -> Result<()> {
-    let alloc = rt.alloc();
+) -> io::Result<()> {
     match task.benchmark {
         Benchmark::Text => text::print_times(rt, alloc),
         Benchmark::Verifier => verifier::print_times(rt, alloc, task, size),
@@ -51,18 +53,23 @@ fn perform<R: Threads + Wait + Runtime + Sync + AllocGlobal>(
     }
 }
 
+/// Says that a word means nothing here.
+fn refuse<R: Eprint>(rt: &R, unknown: &str) -> io::Result<()> {
+    eprintln!(rt; "bench_programs: {unknown}: no such word here; {USAGE}")
+}
+
 fn main(rt: HostRuntime) -> Result<ExitCode> {
     let alloc = rt.alloc();
     let mut asked = Asked::new(alloc);
     for word in env::args(&rt)?.skip(1) {
         if let Some(unknown) = asked.take(alloc, word)? {
-            eprintln!(rt; "bench_programs: {unknown}: no such word here; {USAGE}")?;
+            refuse(&rt, unknown.as_str())?;
             return Ok(ExitCode::from(2));
         }
     }
     let size = asked.size;
     for task in &asked.finish(alloc)? {
-        perform(&rt, task, size)?;
+        perform(&rt, alloc, task, size)?;
     }
     Ok(ExitCode::SUCCESS)
 }

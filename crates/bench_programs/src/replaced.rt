@@ -7,14 +7,12 @@ ghost use Rattle.std.specs.Thread.{IsSync};
 ghost use Rattle.bpf_regions.specs.declared.hooks.Hook.TheVariants.{Data};
 
 use crate::asked::{Size, Task};
-use anyhow::{Result, bail};
-use bpf_decode::decode;
+use crate::programs::{accepted, of_text};
 use bpf_machine::Accepted;
 use bpf_regions::{Hook, Shapes};
-use bpf_text::assemble;
-use bpf_verifier::verify;
-use std::alloc::Global;
-use std::rt::{Clock, Runtime};
+use std::alloc::{AllocError, Global};
+use std::io;
+use std::rt::Clock;
 use std::sync::atomic::AtomicU32;
 use std::sync::atomic::Ordering::SeqCst;
 use std::sync::{Arc, Wait};
@@ -23,28 +21,32 @@ use std::time::{Duration, Instant};
 use versions::opening::published;
 use versions::{Entrance, Published, Publisher, Reader};
 
-/// No map.
-fn no_maps(alloc: Global) -> Result<Shapes> {
-    match Shapes::new(Vec::new(alloc)) {
-        Some(shapes) => Ok(shapes),
-        None => bail!("no shapes"),
+/// The program of a text, accepted for data, for threads to share.
+fn shared(alloc: Global, text: &str) -> Result<Arc<Accepted>, AllocError>
+    ensures { IfOk result (λ p. (arc_value p).hook ≡ Data) }
+{
+    match accepted(alloc, of_text(alloc, text)) {
+        Some(accepted) => Ok(Arc::new(alloc, accepted)?),
+        None => Err(AllocError),
     }
 }
 
-/// The program of a text, accepted for data.
-fn accepted(alloc: Global, text: &str) -> Result<Arc<Accepted>>
-    ensures { IfOk result (λ p. (arc_value p).hook ≡ Data) }
-{
-    let Ok(code) = assemble(alloc, text) else {
-        bail!("a text that is no program");
-    };
-    let Ok(program) = decode(alloc, &code, no_maps(alloc)?) else {
-        bail!("a program that is not well formed");
-    };
-    let Ok(accepted) = verify(alloc, program, Hook::Data) else {
-        bail!("a program that is not safe");
-    };
-    Ok(Arc::new(alloc, accepted)?)
+/// Two programs for data.
+#[derive(Drop)]
+struct Pair {
+    one: Arc<Accepted>,
+    other: Arc<Accepted>,
+    ghost one_judges_data: { (arc_value one).hook ≡ Data },
+    ghost other_judges_data: { (arc_value other).hook ≡ Data },
+}
+
+impl Pair {
+    /// R0 of the one is 1, and of the other 0.
+    fn new(alloc: Global) -> Result<Pair, AllocError> {
+        let one = shared(alloc, "mov r0, 1\nexit")?;
+        let other = shared(alloc, "mov r0, 0\nexit")?;
+        Ok(Pair { one, other })
+    }
 }
 
 /// How often each thread enters, and whether threads still do: 1 until the last of them has ended, then 0.
@@ -114,6 +116,33 @@ fn reader_of(sets: &mut Published, entrance: &Entrance) -> Option<Reader>
     sets.reader().ok()
 }
 
+/// Two readers, if they are left.
+fn two_readers(sets: &mut Published, entrance: &Entrance) -> Option<(Reader, Reader)>
+    requires { sets.old.list ≡ entrance.now.list }
+    ensures sets { sets.new.list ≡ entrance.now.list }
+    ensures one { IfSome result (λ readers. readers.0.list ≡ entrance.now.list) }
+    ensures other { IfSome result (λ readers. readers.1.list ≡ entrance.now.list) }
+{
+    let one = reader_of(sets, entrance)?;
+    let other = reader_of(sets, entrance)?;
+    Some((one, other))
+}
+
+/// Four threads enter, if so many readers are left.
+fn enter_by_all<R: Threads + Wait + Sync>(
+    rt: &R,
+    sets: &mut Published,
+    entrance: &Entrance,
+    rounds: &Rounds,
+) -> Option<()>
+    requires { sets.old.list ≡ entrance.now.list }
+{
+    let one = two_readers(sets, entrance)?;
+    let other = two_readers(sets, entrance)?;
+    enter_by_four(rt, entrance, one, other, rounds);
+    Some(())
+}
+
 /// So many threads enter, 1, 2 or 4. Nobody does where not so many readers are left.
 fn enter_by<R: Threads + Wait + Sync>(
     rt: &R,
@@ -121,21 +150,12 @@ fn enter_by<R: Threads + Wait + Sync>(
     threads: u32,
     rounds: &Rounds,
 ) -> Option<()> {
-    let gate = sets.entrance();
-    let entrance = &gate;
-    let first = reader_of(sets, entrance)?;
-    if threads == 1 {
-        enter_many(rt, entrance, first, rounds);
-        return Some(());
+    let entrance = sets.entrance();
+    match threads {
+        1 => enter_many(rt, &entrance, reader_of(sets, &entrance)?, rounds),
+        2 => enter_by_two(rt, &entrance, two_readers(sets, &entrance)?, rounds),
+        _ => enter_by_all(rt, sets, &entrance, rounds)?,
     }
-    let second = reader_of(sets, entrance)?;
-    if threads == 2 {
-        enter_by_two(rt, entrance, (first, second), rounds);
-        return Some(());
-    }
-    let third = reader_of(sets, entrance)?;
-    let fourth = reader_of(sets, entrance)?;
-    enter_by_four(rt, entrance, (first, second), (third, fourth), rounds);
     Some(())
 }
 
@@ -151,35 +171,56 @@ fn enter_to_the_end<R: Threads + Wait + Sync>(
     entered
 }
 
+/// Publishes a program. It answers how many were published.
+fn publish_once<R: Wait>(rt: &R, publisher: &mut Publisher, program: &Arc<Accepted>) -> u64
+    requires { (arc_value program.now).hook ≡ Data }
+{
+    let Ok(another) = Arc::try_clone(program) else {
+        return 0;
+    };
+    u64::from(publisher.publish(rt, Hook::Data, Some(another)).is_ok())
+}
+
 /// Publishes two programs in turn, about 1000 times a second, as long as threads enter. It answers how often.
 fn publish_many<R: Wait + Clock>(
     rt: &R,
     publisher: &mut Publisher,
-    programs: (&Arc<Accepted>, &Arc<Accepted>),
+    programs: &Pair,
     rounds: &Rounds,
-) -> u64
-    requires one { (arc_value programs.0.now).hook ≡ Data }
-    requires other { (arc_value programs.1.now).hook ≡ Data }
-{
+) -> u64 {
     let mut published = 0u64;
     for turn in 0..u32::MAX {
         if rounds.entering.load(SeqCst) == 0 {
             break;
         }
-        let program = if turn % 2 == 0 {
-            programs.0
+        let more = if turn % 2 == 0 {
+            publish_once(rt, publisher, &programs.one)
         } else {
-            programs.1
+            publish_once(rt, publisher, &programs.other)
         };
-        let Ok(another) = Arc::try_clone(program) else {
-            break;
-        };
-        if publisher.publish(rt, Hook::Data, Some(another)).is_ok() {
-            published = published.wrapping_add(1);
-        }
+        published = published.wrapping_add(more);
         sleep(rt, Duration::from_millis(1));
     }
     published
+}
+
+/// So many threads enter, and two programs are published meanwhile, if any are. It answers how often they were.
+fn enter_and_publish<R: Threads + Wait + Clock + Sync>(
+    rt: &R,
+    alloc: Global,
+    threads: u32,
+    programs: &Pair,
+    rounds: &Rounds,
+) -> Option<u64> {
+    let no_maps = Shapes::new(Vec::new(alloc))?;
+    let (mut publisher, mut sets) = published(rt, alloc, no_maps, threads).ok()?;
+    let (loads, _) = join(
+        rt,
+        || publish_many(rt, &mut publisher, programs, rounds),
+        || enter_to_the_end(rt, &mut sets, threads, rounds),
+    );
+    publisher.close(rt);
+    Some(loads)
 }
 
 /// How long so many threads took and how many programs were published meanwhile.
@@ -187,51 +228,52 @@ fn measure<R: Threads + Wait + Clock + Sync>(
     rt: &R,
     alloc: Global,
     threads: u32,
-    each: u64,
-    publishes: bool,
-) -> Result<(Duration, u64)> {
-    let one = accepted(alloc, "mov r0, 1\nexit")?;
-    let other = accepted(alloc, "mov r0, 0\nexit")?;
-    let rounds = Rounds {
-        each,
-        entering: AtomicU32::new(if publishes { 1 } else { 0 }),
-    };
+    rounds: &Rounds,
+) -> io::Result<(Duration, u64)> {
+    let programs = Pair::new(alloc)?;
     let start = Instant::now(rt)?;
-    let (mut publisher, mut sets) = published(rt, alloc, no_maps(alloc)?, threads)?;
-    let (loads, _) = join(
-        rt,
-        || publish_many(rt, &mut publisher, (&one, &other), &rounds),
-        || enter_to_the_end(rt, &mut sets, threads, &rounds),
-    );
-    publisher.close(rt);
-    Ok((start.elapsed(rt)?, loads))
+    let loads = enter_and_publish(rt, alloc, threads, &programs, rounds);
+    let spent = start.elapsed(rt)?;
+    Ok((spent, loads.ok_or(AllocError)?))
 }
 
 /// Prints what one measurement came to.
-fn report<R: Threads + Wait + Clock + Runtime + Sync>(
+fn report<R: Eprint>(rt: &R, threads: u32, nanos: u128, loads: u64) -> io::Result<()> {
+    eprintln!(rt; "{threads} threads: {nanos} ns an entry, {loads} publications")
+}
+
+/// Measures so many threads, each with so many entries, and prints what it came to.
+fn print_time<R: Threads + Wait + Clock + Eprint + Sync>(
     rt: &R,
     alloc: Global,
     threads: u32,
     each: u64,
     publishes: bool,
-) -> Result<()> {
-    let (spent, loads) = measure(rt, alloc, threads, each, publishes)?;
-    let nanos = spent.as_nanos() / u128::from(each.max(1));
-    eprintln!(rt; "{threads} threads: {nanos} ns an entry, {loads} publications")?;
-    Ok(())
+) -> io::Result<()> {
+    let rounds = Rounds {
+        each,
+        entering: AtomicU32::new(u32::from(publishes)),
+    };
+    let (spent, loads) = measure(rt, alloc, threads, &rounds)?;
+    report(
+        rt,
+        threads,
+        spent.as_nanos() / u128::from(each.max(1)),
+        loads,
+    )
 }
 
 /// Prints what each measurement came to: as many entries of each thread as the task says.
-pub fn print_times<R: Threads + Wait + Clock + Runtime + Sync>(
+pub fn print_times<R: Threads + Wait + Clock + Eprint + Sync>(
     rt: &R,
     alloc: Global,
     task: &Task,
     size: Size,
-) -> Result<()> {
+) -> io::Result<()> {
     let each = task.number_or(0, u64::from(size.choose(100_000, 1000)));
     for publishes in [false, true] {
         for threads in [1, 2, 4] {
-            report(rt, alloc, threads, each, publishes)?;
+            print_time(rt, alloc, threads, each, publishes)?;
         }
     }
     Ok(())

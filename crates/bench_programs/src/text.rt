@@ -1,11 +1,11 @@
 //! How long 16384 lines take to be assembled, decoded and written as text again.
 
-use anyhow::Result;
-use bpf_decode::{Program, decode};
-use bpf_regions::Shapes;
+use crate::programs::of_code;
+use bpf_decode::Program;
 use bpf_text::{assemble, disassemble};
 use std::alloc::{AllocError, Global};
-use std::rt::Runtime;
+use std::io;
+use std::rt::Clock;
 use std::time::Instant;
 
 /// Eight lines of as many kinds, a slot each.
@@ -28,40 +28,61 @@ fn text(alloc: Global) -> Result<String, AllocError> {
     Ok(text)
 }
 
-/// The program of a text, without maps. None where there is none.
-fn program(alloc: Global, code: &[u8]) -> Option<Program> {
-    let shapes = Shapes::new(Vec::new(alloc))?;
-    decode(alloc, code, shapes).ok()
+/// Prints how long a step took, in microseconds.
+fn report<R: Clock + Eprint>(rt: &R, name: &str, start: Instant) -> io::Result<()> {
+    let micros = start.elapsed(rt)?.as_micros();
+    eprintln!(rt; "{name}: {micros} us")
 }
 
-/// Prints how long a step took, in microseconds.
-fn report<R: Runtime>(rt: &R, name: &str, start: Instant) -> Result<()> {
-    let micros = start.elapsed(rt)?.as_micros();
-    eprintln!(rt; "{name}: {micros} us")?;
-    Ok(())
+/// Assembles the lines, and prints how long it takes. None where they aren't assembled.
+fn assembled<R: Clock + Eprint>(rt: &R, alloc: Global, text: &str) -> io::Result<Option<Vec<u8>>> {
+    let start = Instant::now(rt)?;
+    let code = assemble(alloc, text).ok();
+    report(rt, "assemble", start)?;
+    Ok(code)
+}
+
+/// Decodes their code, and prints how long it takes. None where it isn't decoded.
+fn decoded<R: Clock + Eprint>(rt: &R, alloc: Global, code: &[u8]) -> io::Result<Option<Program>> {
+    let start = Instant::now(rt)?;
+    let program = of_code(alloc, code);
+    report(rt, "decode", start)?;
+    Ok(program)
+}
+
+/// Writes their program as text, and prints how long it takes.
+fn written<R: Clock + Eprint>(rt: &R, alloc: Global, program: &Program) -> io::Result<String> {
+    let start = Instant::now(rt)?;
+    let text = disassemble(alloc, program)?;
+    report(rt, "disassemble", start)?;
+    Ok(text)
+}
+
+/// Prints how many slots there were, and whether their text is the one that was assembled.
+fn report_text<R: Eprint>(rt: &R, slots: usize, alike: bool) -> io::Result<()> {
+    let outcome = if alike { "again" } else { "differs" };
+    eprintln!(rt; "{slots} slots, the text {outcome}")
+}
+
+/// Prints how long the way back takes, from their code to the text.
+fn print_way_back<R: Clock + Eprint>(
+    rt: &R,
+    alloc: Global,
+    text: &str,
+    code: &[u8],
+) -> io::Result<()> {
+    let Some(program) = decoded(rt, alloc, code)? else {
+        return Ok(());
+    };
+    let again = written(rt, alloc, &program)?;
+    report_text(rt, code.len() / 8, again.as_str() == text)
 }
 
 /// Prints how long each step takes.
-pub fn print_times<R: Runtime>(rt: &R, alloc: Global) -> Result<()> {
+pub fn print_times<R: Clock + Eprint>(rt: &R, alloc: Global) -> io::Result<()> {
     let text = text(alloc)?;
-    let start = Instant::now(rt)?;
-    let Ok(code) = assemble(alloc, text.as_str()) else {
-        return Ok(());
-    };
-    report(rt, "assemble", start)?;
-    let start = Instant::now(rt)?;
-    let Some(program) = program(alloc, &code) else {
-        return Ok(());
-    };
-    report(rt, "decode", start)?;
-    let start = Instant::now(rt)?;
-    let again = disassemble(alloc, &program)?;
-    report(rt, "disassemble", start)?;
-    let alike = again.as_str() == text.as_str();
-    eprintln!(rt;
-        "{} slots, the text {}",
-        code.len() / 8,
-        if alike { "again" } else { "differs" }
-    )?;
-    Ok(())
+    match assembled(rt, alloc, text.as_str())? {
+        Some(code) => print_way_back(rt, alloc, text.as_str(), &code),
+        None => Ok(()),
+    }
 }

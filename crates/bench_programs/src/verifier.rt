@@ -1,90 +1,114 @@
 //! How long programs take to be verified.
 
 use crate::asked::{Size, Task};
-use anyhow::Result;
-use bpf_decode::{Program, decode};
-use bpf_regions::{Hook, Shapes};
-use bpf_text::assemble;
-use bpf_verifier::verify;
+use crate::programs::{joins, of_text};
+use bpf_decode::Program;
+use bpf_regions::Hook;
+use bpf_verifier::{Refusal, verify};
 use std::alloc::{AllocError, Global};
-use std::fmt::Write;
-use std::rt::Runtime;
+use std::io;
+use std::rt::Clock;
 use std::time::Instant;
 
-/// A loop of so many turns, and the states that it has.
-fn turns_of_a_loop(alloc: Global, turns: u64) -> Result<(String, u64), AllocError> {
-    let mut text = String::new(alloc);
-    writeln!(&mut text, "mov r0, 0\nlddw r1, {turns}")?;
-    text.push_str("add r0, 1\nsub r1, 1\njne r1, 0, -3\nexit\n")?;
-    Ok((text, turns.saturating_mul(3).saturating_add(3)))
+/// A loop of so many turns.
+fn turns_of_a_loop(alloc: Global, turns: u64) -> Result<String, AllocError> {
+    format!(in alloc; "mov r0, 0\nlddw r1, {turns}\nadd r0, 1\nsub r1, 1\njne r1, 0, -3\nexit\n")
 }
 
-/// Two ways that join again, so many times, and the states that are examined: what R0 is differs on the two ways, so that
-/// each turn but the first is gone through twice.
-fn joins(alloc: Global, turns: u64) -> Result<(String, u64), AllocError> {
-    let mut text = String::new(alloc);
-    for _turn in 0..turns {
-        text.push_str("call 4\njgt r0, 7, +1\nmov r0, 0\n")?;
+/// The text with a name, of so many turns. `spin` is a jump to itself.
+fn text_of(alloc: Global, name: &str, turns: u64) -> Result<String, AllocError> {
+    match name {
+        "spin" => String::from_str(alloc, "ja -1\nexit\n"),
+        "joins" => joins(alloc, turns),
+        _ => turns_of_a_loop(alloc, turns),
     }
-    text.push_str("mov r0, 0\nexit\n")?;
-    Ok((text, turns.saturating_mul(8).saturating_sub(1)))
 }
 
-/// A jump to itself.
-fn spin(alloc: Global) -> Result<(String, u64), AllocError> {
-    let mut text = String::new(alloc);
-    text.push_str("ja -1\nexit\n")?;
-    Ok((text, 4194304))
+/// How many states of it are examined. What R0 is differs on the two ways that join, so that each turn but the first is
+/// gone through twice.
+fn states_of(name: &str, turns: u64) -> u64 {
+    match name {
+        "spin" => 4194304,
+        "joins" => turns.saturating_mul(8).saturating_sub(1),
+        _ => turns.saturating_mul(3).saturating_add(3),
+    }
 }
 
-/// The program of a text, without maps. None where there is none.
-fn program(alloc: Global, text: &str) -> Option<Program> {
-    let code = assemble(alloc, text).ok()?;
-    let shapes = Shapes::new(Vec::new(alloc))?;
-    decode(alloc, &code, shapes).ok()
+/// The program with a name. None where there is none.
+fn program(alloc: Global, name: &str, turns: u64) -> Result<Option<Program>, AllocError> {
+    let text = text_of(alloc, name, turns)?;
+    Ok(of_text(alloc, text.as_str()))
 }
 
-/// Prints what verification says of a program, and how long it took for each of its states.
-fn report<R: Runtime>(rt: &R, alloc: Global, name: &str, case: (String, u64)) -> Result<()> {
-    let (text, states) = case;
-    let Some(program) = program(alloc, text.as_str()) else {
+/// What verification says of a program: its budget, or why it is refused.
+#[derive(Clone, Copy)]
+enum Answer {
+    Budget(u32),
+    Refused(Refusal),
+}
+
+/// Verifies a program.
+fn answer_of(alloc: Global, program: Program) -> Answer {
+    match verify(alloc, program, Hook::Data) {
+        Ok(accepted) => Answer::Budget(accepted.budget()),
+        Err(refusal) => Answer::Refused(refusal),
+    }
+}
+
+/// Prints what verification says of a program.
+fn print_answer<R: Eprint>(rt: &R, name: &str, answer: Answer) -> io::Result<()> {
+    match answer {
+        Answer::Budget(budget) => eprint!(rt; "{name}: budget {budget}"),
+        Answer::Refused(refusal) => eprint!(rt; "{name}: {refusal}"),
+    }
+}
+
+/// Prints how long it took, and for each of so many states.
+fn print_time<R: Eprint>(rt: &R, nanos: u128, states: u64) -> io::Result<()> {
+    let micros = nanos / 1000;
+    let each = nanos / u128::from(states.max(1));
+    eprintln!(rt; ", {micros} us, {each} ns a state")
+}
+
+/// Verifies the program with a name, and prints how long it takes.
+fn measure<R: Clock + Eprint>(rt: &R, alloc: Global, name: &str, turns: u64) -> io::Result<()> {
+    let Some(program) = program(alloc, name, turns)? else {
         return Ok(());
     };
     let start = Instant::now(rt)?;
-    let answer = verify(alloc, program, Hook::Data);
+    let answer = answer_of(alloc, program);
     let nanos = start.elapsed(rt)?.as_nanos();
-    match answer {
-        Ok(accepted) => eprint!(rt; "{name}: budget {}", accepted.budget())?,
-        Err(refusal) => eprint!(rt; "{name}: {refusal}")?,
+    print_answer(rt, name, answer)?;
+    print_time(rt, nanos, states_of(name, turns))
+}
+
+/// Verifies the programs of a task once: a loop and joins where it names none.
+fn measure_all<R: Clock + Eprint>(
+    rt: &R,
+    alloc: Global,
+    programs: &[String],
+    turns: u64,
+) -> io::Result<()> {
+    if programs.is_empty() {
+        measure(rt, alloc, "loop", turns)?;
+        return measure(rt, alloc, "joins", turns);
     }
-    eprintln!(rt;
-        ", {} us, {} ns a state",
-        nanos / 1000,
-        nanos / u128::from(states.max(1))
-    )?;
+    for name in programs {
+        measure(rt, alloc, name.as_str(), turns)?;
+    }
     Ok(())
 }
 
-/// Verifies a program of a shape with so many turns.
-fn measure<R: Runtime>(rt: &R, alloc: Global, name: &str, turns: u64) -> Result<()> {
-    match name {
-        "spin" => report(rt, alloc, "spin", spin(alloc)?),
-        "joins" => report(rt, alloc, "joins", joins(alloc, turns)?),
-        _ => report(rt, alloc, "loop", turns_of_a_loop(alloc, turns)?),
-    }
-}
-
-/// Verifies the programs of a task so many times: a loop and joins, and once, where it doesn't say.
-pub fn print_times<R: Runtime>(rt: &R, alloc: Global, task: &Task, size: Size) -> Result<()> {
+/// Verifies the programs of a task so many times, and once where it doesn't say.
+pub fn print_times<R: Clock + Eprint>(
+    rt: &R,
+    alloc: Global,
+    task: &Task,
+    size: Size,
+) -> io::Result<()> {
     let turns = task.number_or(0, u64::from(size.choose(5000, 1000)));
     for _time in 0..task.number_or(1, 1) {
-        if task.programs.is_empty() {
-            measure(rt, alloc, "loop", turns)?;
-            measure(rt, alloc, "joins", turns)?;
-        }
-        for name in &task.programs {
-            measure(rt, alloc, name.as_str(), turns)?;
-        }
+        measure_all(rt, alloc, &task.programs, turns)?;
     }
     Ok(())
 }
