@@ -1,17 +1,14 @@
 //! Queues that are filled, and then served by all workers at once, many times over.
 
-use crate::asked::{Size, Task};
-use crate::loads::{Load, WORKERS, nanos_of, print_rate};
-use crate::programs::POLICIES;
+use crate::loads::{Load, nanos_of};
 use crate::stations::{event, join_all};
-use anyhow::{Result, bail};
 use ap_books::Ledgers;
 use ap_locked::Journals;
-use ap_tagged::{OpenGate, Tagged};
+use ap_tagged::OpenGate;
 use bpf_regions::WordWidth;
 use live_scenes::{Chief, Hand, Scene, Story, play, settings};
 use std::alloc::Global;
-use std::rt::{Clock, Runtime};
+use std::rt::Clock;
 use std::sync::Wait;
 use std::sync::atomic::AtomicU64;
 use std::sync::atomic::Ordering::SeqCst;
@@ -82,29 +79,28 @@ impl Filled {
         }
     }
 
-    /// One round of a worker: once the queues are filled and all workers are there, it serves what its own holds. The time
-    /// is that until all have served; what they answered is given up after it, as whoever reads it would.
-    fn serve<B: Ledgers + Journals, R: Wait + Clock>(
-        &self,
-        rt: &R,
-        alloc: Global,
-        hand: &mut Hand<'_, B>,
-        list: &mut Vec<Tagged>,
-        round: u64,
-    ) {
-        let all = self.workers.wrapping_mul(round);
+    /// A worker waits until the queues are filled for a round and all workers are there.
+    fn meet<R: Wait>(&self, rt: &R, round: u64) {
         await_sign(rt, &self.filled, round);
         self.met.fetch_add(1, SeqCst);
-        await_sign(rt, &self.met, all);
-        let start = Instant::now(rt);
-        let _ = hand.serve(rt, alloc, &OpenGate, list);
-        self.served.fetch_add(list.len() as u64, SeqCst);
+        await_sign(rt, &self.met, self.workers.wrapping_mul(round));
+    }
+
+    /// Notes that a worker has served so many events of a round. The first worker adds the time until all have served.
+    fn note<R: Wait + Clock>(
+        &self,
+        rt: &R,
+        worker: u8,
+        events: usize,
+        round: u64,
+        start: Option<Instant>,
+    ) {
+        self.served.fetch_add(events as u64, SeqCst);
         self.ended.fetch_add(1, SeqCst);
-        if hand.number == 0 {
-            await_sign(rt, &self.ended, all);
-            self.add_time(rt, start.ok());
+        if worker == 0 {
+            await_sign(rt, &self.ended, self.workers.wrapping_mul(round));
+            self.add_time(rt, start);
         }
-        list.clear();
     }
 
     /// Adds the time since then.
@@ -116,22 +112,11 @@ impl Filled {
         }
     }
 
-    /// Fills all queues with data of all stations in turn.
-    fn fill<B: Ledgers + Journals, R: Wait>(
-        &self,
-        rt: &R,
-        alloc: Global,
-        chief: &mut Chief<'_, B>,
-        round: u64,
-    ) {
-        let many = self.workers.wrapping_mul(ROOM);
-        let first = many.wrapping_mul(round);
-        for place in 0..many {
-            if let Some(event) = event(alloc, first.wrapping_add(place)) {
-                let _ = chief.submit(rt, place, event);
-            }
-        }
-        self.filled.fetch_add(1, SeqCst);
+    /// Says that all queues are filled for another round, and waits until all workers have served it.
+    fn end_round<R: Wait + Clock>(&self, rt: &R) {
+        let filled = self.filled.fetch_add(1, SeqCst);
+        let all = self.workers.wrapping_mul(filled.wrapping_add(1));
+        await_asleep(rt, &self.ended, all);
     }
 }
 
@@ -148,51 +133,43 @@ impl<R: Wait + Clock> Story<R> for Filled {
         }
     }
 
+    /// In each round it serves what its own queue holds. What is answered is given up after the time is taken, as
+    /// whoever reads it would.
     fn work<B: Ledgers + Journals>(&self, rt: &R, alloc: Global, hand: &mut Hand<'_, B>) {
         let mut list = Vec::new(alloc);
-        for round in 0..self.load.size {
-            self.serve(rt, alloc, hand, &mut list, round.wrapping_add(1));
+        for round in 1..self.load.size.saturating_add(1) {
+            self.meet(rt, round);
+            let start = Instant::now(rt).ok();
+            let _ = hand.serve(rt, alloc, &OpenGate, &mut list);
+            self.note(rt, hand.number, list.len(), round, start);
+            list.clear();
         }
     }
 
+    /// Fills all queues with data of all stations in turn, again and again.
     fn operate<B: Ledgers + Journals>(&self, rt: &R, alloc: Global, chief: &mut Chief<'_, B>) {
-        for round in 0..self.load.size {
-            self.fill(rt, alloc, chief, round);
-            let all = self.workers.wrapping_mul(round.wrapping_add(1));
-            await_asleep(rt, &self.ended, all);
+        let many = self.workers.wrapping_mul(ROOM).max(1);
+        for index in 0..self.load.size.saturating_mul(many) {
+            let place = index % many;
+            if let Some(event) = event(alloc, index) {
+                let _ = chief.submit(rt, place, event);
+            }
+            if place.wrapping_add(1) == many {
+                self.end_round(rt);
+            }
         }
     }
 }
 
-/// Measures a load with so many workers, and prints what it came to.
-fn measure<R: Threads + Wait + Runtime + Sync>(
+/// Measures a load with so many workers.
+pub fn measured<R: Threads + Wait + Clock + Sync>(
     rt: &R,
     alloc: Global,
     workers: u32,
     load: Load,
-) -> Result<()> {
-    let Some(settings) = settings(alloc, workers, WordWidth::Eight) else {
-        bail!("no memory");
-    };
+) -> Option<Load> {
+    let settings = settings(alloc, workers, WordWidth::Eight)?;
     let mut filled = Filled::new(load, workers);
-    if play(rt, alloc, settings, 1, &mut filled).is_none() {
-        bail!("no totals");
-    }
-    print_rate(rt, workers, "filled", &filled.measured())
-}
-
-/// Prints what each measurement came to: as many rounds as the task says.
-pub fn print_rates<R: Threads + Wait + Runtime + Sync>(
-    rt: &R,
-    alloc: Global,
-    task: &Task,
-    size: Size,
-) -> Result<()> {
-    let rounds = task.number_or(size, 1000, 2);
-    for policy in POLICIES {
-        for workers in WORKERS {
-            measure(rt, alloc, workers, Load::new(policy, rounds))?;
-        }
-    }
-    Ok(())
+    play(rt, alloc, settings, 1, &mut filled)?;
+    Some(filled.measured())
 }

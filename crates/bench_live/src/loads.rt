@@ -1,12 +1,7 @@
 //! What is measured, and what comes of it.
 
 use crate::programs::Policy;
-use anyhow::Result;
-use std::rt::Runtime;
 use std::time::Duration;
-
-/// How many workers there are in each measurement.
-pub const WORKERS: [u32; 3] = [1, 2, 4];
 
 /// A measurement: a policy, and how many rounds or events. What it came to: how many events were served, and in how
 /// many nanoseconds.
@@ -30,7 +25,7 @@ impl Load {
     }
 
     /// How many events a second.
-    fn rate(&self) -> u64 {
+    pub fn rate(self) -> u64 {
         let events = u128::from(self.served).wrapping_mul(1_000_000_000);
         u64::try_from(events / u128::from(self.nanos.max(1))).unwrap_or(0)
     }
@@ -39,15 +34,4 @@ impl Load {
 /// How long something took, in nanoseconds.
 pub fn nanos_of(time: Duration) -> u64 {
     u64::try_from(time.as_nanos()).unwrap_or(u64::MAX)
-}
-
-/// Prints what a load came to.
-pub fn print_rate<R: Runtime>(rt: &R, workers: u32, kind: &str, load: &Load) -> Result<()> {
-    eprintln!(rt;
-        "workers {workers}, {}, {kind}: {} events a second, of {}",
-        load.policy.name,
-        load.rate(),
-        load.served
-    )?;
-    Ok(())
 }

@@ -16,33 +16,48 @@ mod asked;
 mod filled;
 mod loads;
 mod programs;
+mod rates;
 mod soak;
 mod stations;
 mod submitted;
 
 use anyhow::Result;
 use asked::{Asked, Benchmark, Size, Task};
-use std::env;
+use rates::{Kind, print_rates};
+use std::alloc::Global;
 use std::process::ExitCode;
-use std::rt::Runtime;
+use std::rt::Clock;
 use std::sync::Wait;
 use std::thread::Threads;
+use std::{env, io};
 
 /// What an unknown word is told.
 const USAGE: &str = "the benchmarks are filled, submitted and soak; quick makes them small";
 
 /// Prints what a task asks for.
-fn perform<R: Threads + Wait + Runtime + Sync + AllocGlobal>(
+fn perform<R: Threads + Wait + Clock + Eprint + Sync>(
     rt: &R,
+    alloc: Global,
     task: &Task,
     size: Size,
 ) -> Result<()> {
-    let alloc = rt.alloc();
     match task.benchmark {
-        Benchmark::Filled => filled::print_rates(rt, alloc, task, size),
-        Benchmark::Submitted => submitted::print_rates(rt, alloc, task, size),
-        Benchmark::Soak => soak::print_found(rt, alloc, task, size),
+        Benchmark::Filled => print_rates(rt, alloc, Kind::Filled, task.number_or(size, 1000, 2)),
+        Benchmark::Submitted => {
+            print_rates(
+                rt,
+                alloc,
+                Kind::Submitted,
+                task.number_or(size, 200_000, 2000),
+            )
+        }
+        Benchmark::Soak => soak::print_found(rt, alloc, task.number_or(size, 1_000_000, 10_000)),
     }
+}
+
+/// Says that a word means nothing here.
+fn refuse<R: Eprint>(rt: &R, unknown: &str) -> io::Result<()> {
+    eprintln!(rt; "bench_live: {unknown}: no such word here; {USAGE}")
 }
 
 fn main(rt: HostRuntime) -> Result<ExitCode> {
@@ -50,13 +65,13 @@ fn main(rt: HostRuntime) -> Result<ExitCode> {
     let mut asked = Asked::new(alloc);
     for word in env::args(&rt)?.skip(1) {
         if let Some(unknown) = asked.take(word)? {
-            eprintln!(rt; "bench_live: {unknown}: no such word here; {USAGE}")?;
+            refuse(&rt, unknown.as_str())?;
             return Ok(ExitCode::from(2));
         }
     }
     let size = asked.size;
     for task in &asked.finish()? {
-        perform(&rt, task, size)?;
+        perform(&rt, alloc, task, size)?;
     }
     Ok(ExitCode::SUCCESS)
 }

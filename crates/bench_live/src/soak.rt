@@ -1,64 +1,52 @@
 //! The soak of `live_scenes`, as long as the task says.
 
-use crate::asked::{Size, Task};
 use anyhow::{Result, bail};
 use ap_books::Totals;
 use bpf_regions::WordWidth;
 use live_scenes::{Found, Soak, play, settings};
 use std::alloc::Global;
-use std::rt::Runtime;
+use std::io;
+use std::rt::Clock;
 use std::sync::Wait;
 use std::thread::Threads;
 use std::time::Instant;
 
-/// What a soak came to, the totals after it, and how many milliseconds it took.
-#[derive(Clone, Copy)]
-struct Outcome {
-    found: Found,
-    totals: Totals,
-    millis: u128,
-}
-
-/// Runs the soak with so much data.
-fn run_soak<R: Threads + Wait + Runtime + Sync>(
+/// Runs the soak with so much data. What it found, and the totals after it; None for want of memory.
+fn run_soak<R: Threads + Wait + Clock + Sync>(
     rt: &R,
     alloc: Global,
     events: u64,
-) -> Result<Outcome> {
+) -> Option<(Found, Totals)> {
+    let settings = settings(alloc, 4, WordWidth::Eight)?;
     let mut soak = Soak::new(events / 4);
-    let start = Instant::now(rt)?;
-    let Some(settings) = settings(alloc, 4, WordWidth::Eight) else {
-        bail!("no memory");
-    };
-    let Some(totals) = play(rt, alloc, settings, 4, &mut soak) else {
-        bail!("no totals");
-    };
-    Ok(Outcome {
-        found: soak.found(rt),
-        totals,
-        millis: start.elapsed(rt)?.as_millis(),
-    })
+    let totals = play(rt, alloc, settings, 4, &mut soak)?;
+    Some((soak.found(rt), totals))
 }
 
-/// Runs the soak, and prints what it found.
-pub fn print_found<R: Threads + Wait + Runtime + Sync>(
-    rt: &R,
-    alloc: Global,
-    task: &Task,
-    size: Size,
-) -> Result<()> {
-    let soaked = run_soak(rt, alloc, task.number_or(size, 1_000_000, 10_000))?;
-    let found = soaked.found;
+/// Prints what a soak found in so many milliseconds.
+fn report<R: Eprint>(rt: &R, found: &Found, millis: u128) -> io::Result<()> {
     eprintln!(rt;
-        "soak: {} events, {} commands, {} publications, {} passed up, {} dropped, {} ms",
+        "soak: {} events, {} commands, {} publications, {} passed up, {} dropped, {millis} ms",
         found.served.events,
         found.acted.events,
         found.published,
         found.served.up,
-        found.served.dropped,
-        soaked.millis
-    )?;
-    match found.fault(soaked.totals) {
+        found.served.dropped
+    )
+}
+
+/// Runs the soak with so much data, and prints what it found.
+pub fn print_found<R: Threads + Wait + Clock + Eprint + Sync>(
+    rt: &R,
+    alloc: Global,
+    events: u64,
+) -> Result<()> {
+    let start = Instant::now(rt)?;
+    let Some((found, totals)) = run_soak(rt, alloc, events) else {
+        bail!("no memory");
+    };
+    report(rt, &found, start.elapsed(rt)?.as_millis())?;
+    match found.fault(totals) {
         Some(fault) => bail!("the soak: {fault}"),
         None => Ok(()),
     }

@@ -1,18 +1,15 @@
 //! One submitter beside the workers.
 
-use crate::asked::{Size, Task};
-use crate::loads::{Load, WORKERS, nanos_of, print_rate};
-use crate::programs::POLICIES;
+use crate::loads::{Load, nanos_of};
 use crate::stations::{event, join_all};
-use anyhow::{Result, bail};
 use ap_books::Ledgers;
 use ap_locked::Journals;
 use ap_model::Event;
-use ap_tagged::{OpenGate, Tagged};
+use ap_tagged::OpenGate;
 use bpf_regions::WordWidth;
 use live_scenes::{Chief, Hand, Scene, Story, play, settings};
 use std::alloc::Global;
-use std::rt::{Clock, Runtime};
+use std::rt::Clock;
 use std::sync::atomic::AtomicU64;
 use std::sync::atomic::Ordering::SeqCst;
 use std::sync::{Mutex, Wait};
@@ -46,21 +43,6 @@ fn events_of(alloc: Global, count: u64) -> Option<Vec<Event>> {
     Some(events)
 }
 
-/// Submits all, the last first.
-fn submit_all<B: Ledgers + Journals, R: Wait>(
-    rt: &R,
-    chief: &mut Chief<'_, B>,
-    events: Vec<Event>,
-) {
-    let mut events = events;
-    for _ in 0..u32::MAX {
-        let Some(event) = events.pop() else {
-            break;
-        };
-        chief.put(rt, 1, event);
-    }
-}
-
 impl Submitted {
     /// The load, which is not measured yet.
     fn new(alloc: Global, load: Load) -> Submitted {
@@ -83,23 +65,19 @@ impl Submitted {
         }
     }
 
-    /// Serves what the queue holds. True where nothing more comes.
-    fn turn<B: Ledgers + Journals, R: Wait>(
-        &self,
-        rt: &R,
-        alloc: Global,
-        hand: &mut Hand<'_, B>,
-        list: &mut Vec<Tagged>,
-    ) -> bool {
-        let over = self.submitting.load(SeqCst) == 0;
-        let refused = hand.serve(rt, alloc, &OpenGate, list).is_err();
-        let none = list.is_empty();
-        self.served.fetch_add(list.len() as u64, SeqCst);
-        list.clear();
-        if none && !over {
+    /// Notes how many events a worker has served. Lets others work where there was none and more comes.
+    fn note(&self, events: usize, over: bool) {
+        self.served.fetch_add(events as u64, SeqCst);
+        if events == 0 && !over {
             thread::yield_now();
         }
-        refused || (over && none)
+    }
+
+    /// Takes what is to be submitted, and notes that the submitter begins.
+    fn begin<R: Wait + Clock>(&self, rt: &R, alloc: Global) -> Vec<Event> {
+        let events = mem::replace(&mut *self.events.lock(rt), Vec::new(alloc));
+        *self.start.lock(rt) = Instant::now(rt).ok();
+        events
     }
 
     /// Notes that a worker has served all.
@@ -131,53 +109,44 @@ impl<R: Wait + Clock> Story<R> for Submitted {
         }
     }
 
+    /// Serves what the queue holds, until nothing more comes.
     fn work<B: Ledgers + Journals>(&self, rt: &R, alloc: Global, hand: &mut Hand<'_, B>) {
         let mut list = Vec::new(alloc);
         for _ in rt.forever() {
-            if self.turn(rt, alloc, hand, &mut list) {
+            let over = self.submitting.load(SeqCst) == 0;
+            let refused = hand.serve(rt, alloc, &OpenGate, &mut list).is_err();
+            let events = list.len();
+            self.note(events, over);
+            list.clear();
+            if refused || (over && events == 0) {
                 break;
             }
         }
         self.note_end(rt);
     }
 
+    /// Submits all, the last first.
     fn operate<B: Ledgers + Journals>(&self, rt: &R, alloc: Global, chief: &mut Chief<'_, B>) {
-        let events = mem::replace(&mut *self.events.lock(rt), Vec::new(alloc));
-        *self.start.lock(rt) = Instant::now(rt).ok();
-        submit_all(rt, chief, events);
+        let mut events = self.begin(rt, alloc);
+        for _ in 0..u32::MAX {
+            let Some(event) = events.pop() else {
+                break;
+            };
+            chief.put(rt, 1, event);
+        }
         self.submitting.store(0, SeqCst);
     }
 }
 
-/// Measures a load with so many workers, and prints what it came to.
-fn measure<R: Threads + Wait + Runtime + Sync>(
+/// Measures a load with so many workers.
+pub fn measured<R: Threads + Wait + Clock + Sync>(
     rt: &R,
     alloc: Global,
     workers: u32,
     load: Load,
-) -> Result<()> {
-    let Some(settings) = settings(alloc, workers, WordWidth::Eight) else {
-        bail!("no memory");
-    };
+) -> Option<Load> {
+    let settings = settings(alloc, workers, WordWidth::Eight)?;
     let mut submitted = Submitted::new(alloc, load);
-    if play(rt, alloc, settings, 1, &mut submitted).is_none() {
-        bail!("no totals");
-    }
-    print_rate(rt, workers, "submitted", &submitted.measured(rt))
-}
-
-/// Prints what each measurement came to: as many events as the task says.
-pub fn print_rates<R: Threads + Wait + Runtime + Sync>(
-    rt: &R,
-    alloc: Global,
-    task: &Task,
-    size: Size,
-) -> Result<()> {
-    let events = task.number_or(size, 200_000, 2000);
-    for policy in POLICIES {
-        for workers in WORKERS {
-            measure(rt, alloc, workers, Load::new(policy, events))?;
-        }
-    }
-    Ok(())
+    play(rt, alloc, settings, 1, &mut submitted)?;
+    Some(submitted.measured(rt))
 }

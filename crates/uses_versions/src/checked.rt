@@ -2,8 +2,8 @@
 
 ghost use Rattle.std.specs.Prelude.{◌≡◌};
 
-use crate::programs::{answers_of, program_of, shapes_of};
-use crate::rows::enter_after;
+use crate::programs::program_of;
+use crate::rows::{opened, shows};
 use crate::same::same;
 use bpf_cert::certificate;
 use bpf_decode::Program;
@@ -12,9 +12,7 @@ use bpf_verifier::verify;
 use std::alloc::Global;
 use std::process::Abort;
 use std::sync::Wait;
-use std::test::Fail;
-use versions::opening::published;
-use versions::{Published, Publisher, Reader};
+use versions::Publisher;
 use versions_checked::{Offer, publish_checked};
 
 /// R0 is 1.
@@ -34,16 +32,12 @@ const MAP: Shape = Shape {
     scope: Scope::Shared,
 };
 
-/// The program of a text, for this map or for none.
-fn program(alloc: Global, text: &str, map: Option<Shape>) -> Result<Program, Fail> {
-    program_of(alloc, text, shapes_of(alloc, map)?)
-}
-
 /// The certificate for data of the program of a text, and the budget that it is verified with.
-fn certified(alloc: Global, text: &str, map: Option<Shape>) -> Result<(u32, Vec<u8>), Fail> {
-    let accepted = verify(alloc, program(alloc, text, map)?, Hook::Data)?;
-    let bytes = certificate(alloc, &accepted)?;
-    Ok((accepted.budget(), bytes))
+fn certified(rt: &impl Abort, alloc: Global, text: &str, maps: &[Shape]) -> (u32, Vec<u8>) {
+    let program = program_of(rt, alloc, text, maps);
+    let accepted = verify(alloc, program, Hook::Data).ok().expect(rt, text);
+    let bytes = certificate(alloc, &accepted).ok().expect(rt, text);
+    (accepted.budget(), bytes)
 }
 
 /// The budget of a program that is published for data by a certificate, or the number of the refusal.
@@ -67,85 +61,63 @@ fn offered<R: Wait>(
     }
 }
 
-/// R0 of the data program that a reader has after all loads so far, where that is the only program. It ends the publisher.
-fn end<R: Wait + Abort>(rt: &R, publisher: Publisher, sets: &Published, reader: Reader, wanted: u64)
-    requires reader { reader.list ≡ sets.now.list }
-    requires publisher { publisher.list ≡ sets.now.list }
-{
-    let mut publisher = publisher;
-    let held = enter_after(rt, &mut publisher, sets, reader);
-    let answers = answers_of(held.set());
-    let _reader = held.leave();
-    publisher.close(rt);
-    same(rt, answers, [None, None, Some(wanted)], "answers");
-}
-
 /// A program is published by its certificate, with the budget that it is verified with.
-fn is_published<R: Wait + Abort>(
-    rt: &R,
-    alloc: Global,
-    text: &str,
-    answer: u64,
-) -> Result<(), Fail> {
-    let (budget, bytes) = certified(alloc, text, None)?;
-    let program = program(alloc, text, None)?;
-    let (mut publisher, mut sets) = published(rt, alloc, shapes_of(alloc, None)?, 1)?;
+fn is_published<R: Wait + Abort>(rt: &R, alloc: Global, text: &str, answer: u64) {
+    let (budget, bytes) = certified(rt, alloc, text, &[]);
+    let program = program_of(rt, alloc, text, &[]);
+    let (mut publisher, mut sets) = opened(rt, alloc, &[], 1);
     let reader = sets.reader().expect(rt, "a reader");
     let found = offered(rt, alloc, &mut publisher, program, &bytes);
     same(rt, found, Ok(budget), text);
-    end(rt, publisher, &sets, reader, answer);
-    Ok(())
+    let wanted = [None, None, Some(answer)];
+    let _reader = shows(rt, &mut publisher, &sets, reader, wanted);
+    publisher.close(rt);
 }
 
 #[test]
-fn a_certificate_publishes_its_program(rt: HostRuntime) -> Result<(), Fail> {
-    is_published(&rt, rt.alloc(), ONE, 1)?;
-    is_published(&rt, rt.alloc(), SEVEN, 7)
+fn a_certificate_publishes_its_program(rt: HostRuntime) {
+    is_published(&rt, rt.alloc(), ONE, 1);
+    is_published(&rt, rt.alloc(), SEVEN, 7);
 }
 
 /// Once a program was published by its certificate, another with these bytes is refused with this number, and the first
 /// one stays.
-fn is_refused<R: Wait + Abort>(
-    rt: &R,
-    alloc: Global,
-    other: Program,
-    bytes: &[u8],
-    number: u8,
-) -> Result<(), Fail> {
-    let (_budget, own) = certified(alloc, ONE, None)?;
-    let first = program(alloc, ONE, None)?;
-    let (mut publisher, mut sets) = published(rt, alloc, shapes_of(alloc, None)?, 1)?;
+fn is_refused<R: Wait + Abort>(rt: &R, alloc: Global, other: Program, bytes: &[u8], number: u8) {
+    let (_budget, own) = certified(rt, alloc, ONE, &[]);
+    let first = program_of(rt, alloc, ONE, &[]);
+    let (mut publisher, mut sets) = opened(rt, alloc, &[], 1);
     let reader = sets.reader().expect(rt, "a reader");
     let first = offered(rt, alloc, &mut publisher, first, &own);
     let second = offered(rt, alloc, &mut publisher, other, bytes);
     same(rt, (first, second), (Ok(2), Err(number)), "answers");
-    end(rt, publisher, &sets, reader, 1);
-    Ok(())
+    let wanted = [None, None, Some(1)];
+    let _reader = shows(rt, &mut publisher, &sets, reader, wanted);
+    publisher.close(rt);
 }
 
 #[test]
-fn a_damaged_certificate_is_refused(rt: HostRuntime) -> Result<(), Fail> {
+fn a_damaged_certificate_is_refused(rt: HostRuntime) {
     let alloc = rt.alloc();
-    let (_budget, mut bytes) = certified(alloc, TWO, None)?;
+    let (_budget, mut bytes) = certified(&rt, alloc, TWO, &[]);
     let cut = &bytes[..bytes.len().saturating_sub(1)];
-    is_refused(&rt, alloc, program(alloc, TWO, None)?, cut, 70)?;
+    is_refused(&rt, alloc, program_of(&rt, alloc, TWO, &[]), cut, 70);
     // The lowest byte of the budget of its only entry: 1 where 2 instructions are run.
     if let Some(budget) = bytes.get_mut(29) {
         *budget = 1;
     }
-    is_refused(&rt, alloc, program(alloc, TWO, None)?, &bytes, 72)
+    is_refused(&rt, alloc, program_of(&rt, alloc, TWO, &[]), &bytes, 72);
 }
 
 #[test]
-fn a_certificate_of_another_program_is_refused(rt: HostRuntime) -> Result<(), Fail> {
+fn a_certificate_of_another_program_is_refused(rt: HostRuntime) {
     let alloc = rt.alloc();
-    let (_budget, bytes) = certified(alloc, ONE, None)?;
-    is_refused(&rt, alloc, program(alloc, TWO, None)?, &bytes, 71)
+    let (_budget, bytes) = certified(&rt, alloc, ONE, &[]);
+    is_refused(&rt, alloc, program_of(&rt, alloc, TWO, &[]), &bytes, 71);
 }
 
 #[test]
-fn a_certified_program_for_other_maps_is_refused(rt: HostRuntime) -> Result<(), Fail> {
+fn a_certified_program_for_other_maps_is_refused(rt: HostRuntime) {
     let alloc = rt.alloc();
-    let (_budget, bytes) = certified(alloc, TWO, Some(MAP))?;
-    is_refused(&rt, alloc, program(alloc, TWO, Some(MAP))?, &bytes, 60)
+    let (_budget, bytes) = certified(&rt, alloc, TWO, &[MAP]);
+    is_refused(&rt, alloc, program_of(&rt, alloc, TWO, &[MAP]), &bytes, 60);
 }

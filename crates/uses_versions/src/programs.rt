@@ -1,6 +1,6 @@
 //! Programs for the tests, and runs by the programs of a set.
 
-ghost use Rattle.std.specs.Prelude.{◌≡◌, IfOk};
+ghost use Rattle.std.specs.Prelude.{◌≡◌};
 ghost use Rattle.std.specs.Arc.{arc_value};
 
 use bpf_decode::{Program, decode};
@@ -9,40 +9,36 @@ use bpf_regions::{Context, Frame, Hook, Shape, Shapes};
 use bpf_text::assemble;
 use bpf_verifier::verify;
 use std::alloc::Global;
+use std::process::Abort;
 use std::sync::Arc;
-use std::test::Fail;
 use versions::ProgramSet;
 
-/// The shapes of one map, or of none.
-pub fn shapes_of(alloc: Global, map: Option<Shape>) -> Result<Shapes, Fail> {
-    let mut shapes = Vec::new(alloc);
-    if let Some(shape) = map {
-        shapes.push(shape)?;
-    }
-    match Shapes::new(shapes) {
-        Some(shapes) => Ok(shapes),
-        None => Err("a map out of limits".into()),
-    }
+/// Maps of these shapes.
+pub fn shapes_of(rt: &impl Abort, alloc: Global, maps: &[Shape]) -> Shapes {
+    let shapes = Vec::from_slice(alloc, maps).expect(rt, "memory");
+    Shapes::new(shapes).expect(rt, "maps within the limits")
 }
 
-/// The program of a text, for maps of these shapes.
-pub fn program_of(alloc: Global, text: &str, shapes: Shapes) -> Result<Program, Fail> {
-    let code = assemble(alloc, text)?;
-    Ok(decode(alloc, &code, shapes)?)
+/// The program of a text, over these maps.
+pub fn program_of(rt: &impl Abort, alloc: Global, text: &str, maps: &[Shape]) -> Program {
+    let code = assemble(alloc, text).expect(rt, text);
+    let shapes = shapes_of(rt, alloc, maps);
+    decode(alloc, &code, shapes).expect(rt, text)
 }
 
-/// The program of a text, accepted for a hook and maps of these shapes.
+/// That program, accepted for a hook.
 pub fn accepted(
+    rt: &impl Abort,
     alloc: Global,
     text: &str,
     hook: Hook,
-    shapes: Shapes,
-) -> Result<Arc<Accepted>, Fail>
-    ensures { IfOk result (λ p. (arc_value p).hook ≡ hook) }
+    maps: &[Shape],
+) -> Arc<Accepted>
+    ensures { (arc_value result).hook ≡ hook }
 {
-    let program = program_of(alloc, text, shapes)?;
-    let accepted = verify(alloc, program, hook)?;
-    Ok(Arc::new(alloc, accepted)?)
+    let program = program_of(rt, alloc, text, maps);
+    let accepted = verify(alloc, program, hook).expect(rt, text);
+    Arc::new(alloc, accepted).expect(rt, "memory")
 }
 
 /// What a run of a hook's program on an empty frame comes to; None where the hook has no program.

@@ -1,14 +1,16 @@
 //! One publisher and its readers on one thread.
 
 ghost use Rattle.std.specs.Prelude.{◌≡◌};
+ghost use Rattle.std.specs.Arc.{arc_value};
 ghost use Rattle.versions.specs.Lists.{Begins};
 
 use crate::programs::{accepted, answers_of, shapes_of};
+use crate::same::{holds, same};
+use bpf_machine::Accepted;
 use bpf_regions::{Hook, Scope, Shape, WordWidth};
 use std::alloc::Global;
 use std::process::Abort;
-use std::sync::Wait;
-use std::test::Fail;
+use std::sync::{Arc, Wait};
 use versions::opening::published;
 use versions::{Entered, NoReader, PublishFault, Published, Publisher, Reader};
 
@@ -33,113 +35,162 @@ pub fn enter_after<R: Wait>(
     sets.enter(rt, reader)
 }
 
+/// A publisher of no program yet, and the way to its sets for so many readers.
+pub fn opened<R: Wait + Abort>(
+    rt: &R,
+    alloc: Global,
+    maps: &[Shape],
+    readers: u32,
+) -> (Publisher, Published)
+    ensures { result.1.list ≡ result.0.list }
+{
+    let shapes = shapes_of(rt, alloc, maps);
+    published(rt, alloc, shapes, readers).expect(rt, "memory")
+}
+
+/// Publishes a program for its hook.
+fn load<R: Wait + Abort>(rt: &R, publisher: &mut Publisher, hook: Hook, program: Arc<Accepted>)
+    requires { (arc_value program).hook ≡ hook }
+    ensures { publisher.new.list ≡ publisher.old.list }
+{
+    publisher
+        .publish(rt, hook, Some(program))
+        .expect(rt, "a publication");
+}
+
+/// The R0 of each hook's program in the set that a reader has. It gives the set back.
+pub fn answers_for<R: Wait>(rt: &R, sets: &Published, reader: Reader) -> ([Option<u64>; 3], Reader)
+    requires { reader.list ≡ sets.now.list }
+    ensures { result.1.list ≡ sets.now.list }
+{
+    let held = sets.enter(rt, reader);
+    let answers = answers_of(held.set());
+    (answers, held.leave())
+}
+
+/// The programs of the set that a reader has after it learned all loads so far have this R0.
+pub fn shows<R: Wait + Abort>(
+    rt: &R,
+    publisher: &mut Publisher,
+    sets: &Published,
+    reader: Reader,
+    wanted: [Option<u64>; 3],
+) -> Reader
+    requires reader { reader.list ≡ sets.now.list }
+    requires publisher { publisher.old.list ≡ sets.now.list }
+    ensures same { publisher.new ≡ publisher.old }
+    ensures reader { result.list ≡ sets.now.list }
+{
+    let reader = sets.learn(reader, publisher.tell());
+    let (answers, reader) = answers_for(rt, sets, reader);
+    same(rt, answers, wanted, "R0 of each hook");
+    reader
+}
+
 #[test]
-fn a_set_that_is_held_stays(rt: HostRuntime) -> Result<(), Fail> {
+fn a_set_that_is_held_stays(rt: HostRuntime) {
     let alloc = rt.alloc();
-    let one = accepted(alloc, ONE, Hook::Data, shapes_of(alloc, None)?)?;
-    let zero = accepted(alloc, ZERO, Hook::Data, shapes_of(alloc, None)?)?;
-    let (mut publisher, mut sets) = published(&rt, alloc, shapes_of(alloc, None)?, 1)?;
+    let one = accepted(&rt, alloc, ONE, Hook::Data, &[]);
+    let zero = accepted(&rt, alloc, ZERO, Hook::Data, &[]);
+    let (mut publisher, mut sets) = opened(&rt, alloc, &[], 1);
     let reader = sets.reader().expect(&rt, "a reader");
-    let first = publisher.publish(&rt, Hook::Data, Some(one));
+    load(&rt, &mut publisher, Hook::Data, one);
     let held = enter_after(&rt, &mut publisher, &sets, reader);
-    let second = publisher.publish(&rt, Hook::Data, Some(zero));
-    assert_eq!(rt; (first, second), (Ok(()), Ok(())));
-    assert_eq!(rt; answers_of(held.set()), [None, None, Some(1)]);
-    let held = enter_after(&rt, &mut publisher, &sets, held.leave());
-    assert_eq!(rt; answers_of(held.set()), [None, None, Some(0)]);
-    let reader = held.leave();
+    load(&rt, &mut publisher, Hook::Data, zero);
+    let answers = answers_of(held.set());
+    same(&rt, answers, [None, None, Some(1)], "the set that is held");
+    let wanted = [None, None, Some(0)];
+    let reader = shows(&rt, &mut publisher, &sets, held.leave(), wanted);
     publisher.beginning_law(&reader);
     publisher.close(&rt);
-    Ok(())
 }
 
 #[test]
-fn each_hook_has_a_program_of_its_own(rt: HostRuntime) -> Result<(), Fail> {
+fn each_hook_has_a_program_of_its_own(rt: HostRuntime) {
     let alloc = rt.alloc();
-    let one = accepted(alloc, ONE, Hook::Association, shapes_of(alloc, None)?)?;
-    let zero = accepted(alloc, ZERO, Hook::Addba, shapes_of(alloc, None)?)?;
-    let (mut publisher, mut sets) = published(&rt, alloc, shapes_of(alloc, None)?, 1)?;
+    let one = accepted(&rt, alloc, ONE, Hook::Association, &[]);
+    let zero = accepted(&rt, alloc, ZERO, Hook::Addba, &[]);
+    let (mut publisher, mut sets) = opened(&rt, alloc, &[], 1);
     let reader = sets.reader().expect(&rt, "a reader");
-    let first = publisher.publish(&rt, Hook::Association, Some(one));
-    let held = enter_after(&rt, &mut publisher, &sets, reader);
-    assert_eq!(rt; answers_of(held.set()), [Some(1), None, None]);
-    let reader = held.leave();
-    let second = publisher.publish(&rt, Hook::Addba, Some(zero));
-    let held = enter_after(&rt, &mut publisher, &sets, reader);
-    assert_eq!(rt; answers_of(held.set()), [Some(1), Some(0), None]);
-    let reader = held.leave();
-    let third = publisher.publish(&rt, Hook::Association, None);
-    let held = enter_after(&rt, &mut publisher, &sets, reader);
-    assert_eq!(rt; answers_of(held.set()), [None, Some(0), None]);
-    let _reader = held.leave();
-    assert_eq!(rt; (first, second, third), (Ok(()), Ok(()), Ok(())));
+    load(&rt, &mut publisher, Hook::Association, one);
+    let wanted = [Some(1), None, None];
+    let reader = shows(&rt, &mut publisher, &sets, reader, wanted);
+    load(&rt, &mut publisher, Hook::Addba, zero);
+    let wanted = [Some(1), Some(0), None];
+    let reader = shows(&rt, &mut publisher, &sets, reader, wanted);
+    publisher
+        .publish(&rt, Hook::Association, None)
+        .expect(&rt, "a removal");
+    let wanted = [None, Some(0), None];
+    let _reader = shows(&rt, &mut publisher, &sets, reader, wanted);
     publisher.close(&rt);
-    Ok(())
 }
 
-/// A program for a map of this shape is refused by a publisher for a map of four entries of two words of eight
-/// bytes that all workers share, and the program of before stays.
-fn check_refused<R: Wait + Abort>(rt: &R, alloc: Global, other: Shape) -> Result<(), Fail> {
-    let own = Some(Shape {
-        entries: 4,
-        words: 2,
-        width: WordWidth::Eight,
-        scope: Scope::Shared,
-    });
-    let one = accepted(alloc, ONE, Hook::Data, shapes_of(alloc, own)?)?;
-    let zero = accepted(alloc, ZERO, Hook::Data, shapes_of(alloc, Some(other))?)?;
-    let (mut publisher, mut sets) = published(rt, alloc, shapes_of(alloc, own)?, 1)?;
-    let reader = sets.reader().expect(rt, "a reader");
-    let first = publisher.publish(rt, Hook::Data, Some(one));
-    let second = publisher.publish(rt, Hook::Data, Some(zero));
-    let held = enter_after(rt, &mut publisher, &sets, reader);
-    assert_eq!(rt; answers_of(held.set()), [None, None, Some(1)]);
-    let _reader = held.leave();
-    assert_eq!(rt; (first, second), (Ok(()), Err(PublishFault::OtherShapes)));
-    publisher.close(rt);
-    Ok(())
-}
+/// A map of four entries of two words of eight bytes, which all workers share.
+const OWN: Shape = Shape {
+    entries: 4,
+    words: 2,
+    width: WordWidth::Eight,
+    scope: Scope::Shared,
+};
 
-/// A shape that differs in what is not said here.
-fn other_shape(entries: u32, words: u32, width: WordWidth, scope: Scope) -> Shape {
+/// Maps that differ from it in one thing each.
+const OTHERS: [Shape; 4] = [
+    Shape { entries: 5, ..OWN },
+    Shape { words: 1, ..OWN },
     Shape {
-        entries,
-        words,
-        width,
-        scope,
-    }
+        width: WordWidth::Four,
+        ..OWN
+    },
+    Shape {
+        scope: Scope::Worker,
+        ..OWN
+    },
+];
+
+/// A program for another map is refused by a publisher for the own one, and the program of before stays.
+fn check_refused<R: Wait + Abort>(rt: &R, alloc: Global, other: Shape) {
+    let one = accepted(rt, alloc, ONE, Hook::Data, &[OWN]);
+    let zero = accepted(rt, alloc, ZERO, Hook::Data, &[other]);
+    let (mut publisher, mut sets) = opened(rt, alloc, &[OWN], 1);
+    let reader = sets.reader().expect(rt, "a reader");
+    load(rt, &mut publisher, Hook::Data, one);
+    let refused = publisher.publish(rt, Hook::Data, Some(zero));
+    same(rt, refused, Err(PublishFault::OtherShapes), "other shapes");
+    let wanted = [None, None, Some(1)];
+    let _reader = shows(rt, &mut publisher, &sets, reader, wanted);
+    publisher.close(rt);
 }
 
 #[test]
-fn other_shapes_are_refused(rt: HostRuntime) -> Result<(), Fail> {
-    let alloc = rt.alloc();
-    let (eight, shared) = (WordWidth::Eight, Scope::Shared);
-    check_refused(&rt, alloc, other_shape(5, 2, eight, shared))?;
-    check_refused(&rt, alloc, other_shape(4, 1, eight, shared))?;
-    check_refused(&rt, alloc, other_shape(4, 2, WordWidth::Four, shared))?;
-    check_refused(&rt, alloc, other_shape(4, 2, eight, Scope::Worker))?;
-    assert_eq!(rt; PublishFault::OtherShapes.number(), 60);
-    assert_eq!(rt; PublishFault::NoMemory.number(), 40);
-    Ok(())
+fn other_shapes_are_refused(rt: HostRuntime) {
+    for other in OTHERS {
+        check_refused(&rt, rt.alloc(), other);
+    }
+    same(&rt, PublishFault::OtherShapes.number(), 60, "other shapes");
+    same(&rt, PublishFault::NoMemory.number(), 40, "no memory");
+}
+
+/// Whether one more reader is given.
+fn gives(sets: &mut Published) -> bool {
+    sets.reader().is_ok()
 }
 
 /// With so many readers, so many are given, and no more.
-fn check_readers<R: Wait + Abort>(rt: &R, alloc: Global, count: u32) -> Result<(), Fail> {
-    let (publisher, mut sets) = published(rt, alloc, shapes_of(alloc, None)?, count)?;
+fn check_readers<R: Wait + Abort>(rt: &R, alloc: Global, count: u32) {
+    let (publisher, mut sets) = opened(rt, alloc, &[], count);
     for _ in 0..count {
-        assert!(rt; sets.reader().is_ok());
+        holds(rt, gives(&mut sets), "a reader");
     }
-    assert!(rt; sets.reader().is_err());
-    assert!(rt; sets.reader().is_err());
+    holds(rt, !gives(&mut sets), "no other");
+    holds(rt, !gives(&mut sets), "nor after that");
     publisher.close(rt);
-    Ok(())
 }
 
 #[test]
-fn readers_are_given_once(rt: HostRuntime) -> Result<(), Fail> {
+fn readers_are_given_once(rt: HostRuntime) {
     for count in [0, 1, 4] {
-        check_readers(&rt, rt.alloc(), count)?;
+        check_readers(&rt, rt.alloc(), count);
     }
-    assert_eq!(rt; NoReader.number(), 62);
-    Ok(())
+    same(&rt, NoReader.number(), 62, "no reader");
 }

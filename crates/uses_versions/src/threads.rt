@@ -1,24 +1,26 @@
 //! A publisher and its readers on threads of their own.
 
-ghost use Rattle.std.specs.Prelude.{◌≡◌, IfSome};
+ghost use Rattle.std.specs.Prelude.{◌≡◌};
 ghost use Rattle.std.specs.Arc.{arc_value};
 ghost use Rattle.std.specs.Thread.{IsSync};
 ghost use Rattle.bpf_regions.specs.declared.hooks.Hook.TheVariants.{Association, Addba, Data};
 
-use crate::programs::{accepted, answers_of, notes_of, shapes_of};
+use crate::programs::{accepted, answers_of, notes_of};
+use crate::rows::{answers_for, enter_after, opened};
+use crate::same::same;
 use bpf_machine::Accepted;
 use bpf_regions::Hook;
 use std::alloc::Global;
+use std::process::Abort;
 use std::sync::atomic::AtomicU32;
 use std::sync::atomic::Ordering::SeqCst;
 use std::sync::{Arc, Wait};
-use std::test::Fail;
 use std::thread::{Threads, join};
-use versions::opening::published;
 use versions::{Entrance, News, ProgramSet, Published, Publisher, Reader};
 
 /// How often each reader enters, runs and leaves.
 const ROUNDS: u32 = 100_000;
+
 /// A program for each hook.
 #[derive(Drop)]
 struct Side {
@@ -31,15 +33,12 @@ struct Side {
 }
 
 /// A program for each hook, of one text.
-fn side_of(alloc: Global, text: &str) -> Result<Side, Fail> {
-    let association = accepted(alloc, text, Hook::Association, shapes_of(alloc, None)?)?;
-    let addba = accepted(alloc, text, Hook::Addba, shapes_of(alloc, None)?)?;
-    let frames = accepted(alloc, text, Hook::Data, shapes_of(alloc, None)?)?;
-    Ok(Side {
-        association,
-        addba,
-        frames,
-    })
+fn side_of(rt: &impl Abort, alloc: Global, text: &str) -> Side {
+    Side {
+        association: accepted(rt, alloc, text, Hook::Association, &[]),
+        addba: accepted(rt, alloc, text, Hook::Addba, &[]),
+        frames: accepted(rt, alloc, text, Hook::Data, &[]),
+    }
 }
 
 /// Whether the program was published.
@@ -144,38 +143,39 @@ fn read_by_four<R: Threads + Wait + Sync>(
     first && second
 }
 
-/// A reader that learned all loads so far, if one is left.
+/// A reader that learned all loads so far.
 fn told_reader(
+    rt: &impl Abort,
     publisher: &mut Publisher,
     sets: &mut Published,
     entrance: &Entrance,
-) -> Option<Reader>
+) -> Reader
     requires publisher { publisher.old.list ≡ entrance.now.list }
     requires sets { sets.old.list ≡ entrance.now.list }
     ensures publisher { publisher.new ≡ publisher.old }
     ensures sets { sets.new.list ≡ entrance.now.list }
-    ensures own { IfSome result (λ reader. reader.list ≡ entrance.now.list) }
+    ensures own { result.list ≡ entrance.now.list }
 {
-    let reader = sets.reader().ok()?;
-    Some(entrance.learn(reader, publisher.tell()))
+    let reader = sets.reader().expect(rt, "a reader");
+    entrance.learn(reader, publisher.tell())
 }
 
 /// Two such readers.
 fn two_readers(
+    rt: &impl Abort,
     publisher: &mut Publisher,
     sets: &mut Published,
     entrance: &Entrance,
-) -> Option<(Reader, Reader)>
+) -> (Reader, Reader)
     requires publisher { publisher.old.list ≡ entrance.now.list }
     requires sets { sets.old.list ≡ entrance.now.list }
     ensures publisher { publisher.new ≡ publisher.old }
     ensures sets { sets.new.list ≡ entrance.now.list }
-    ensures own { IfSome result
-        (λ pair. (pair.0.list ≡ entrance.now.list) × (pair.1.list ≡ entrance.now.list)) }
+    ensures own { (result.0.list ≡ entrance.now.list) × (result.1.list ≡ entrance.now.list) }
 {
-    let one = told_reader(publisher, sets, entrance)?;
-    let other = told_reader(publisher, sets, entrance)?;
-    Some((one, other))
+    let one = told_reader(rt, publisher, sets, entrance);
+    let other = told_reader(rt, publisher, sets, entrance);
+    (one, other)
 }
 
 /// Four threads read while this one publishes.
@@ -238,15 +238,15 @@ fn publish_beside<R: Threads + Wait + Sync>(
 }
 
 #[test]
-fn no_set_is_mixed(rt: HostRuntime) -> Result<(), Fail> {
+fn no_set_is_mixed(rt: HostRuntime) {
     let alloc = rt.alloc();
-    let one = side_of(alloc, "mov r1, 1\ncall 5\nmov r0, 0\nexit")?;
-    let two = side_of(alloc, "mov r1, 2\ncall 5\nmov r0, 0\nexit")?;
-    let (mut publisher, mut sets) = published(&rt, alloc, shapes_of(alloc, None)?, 4)?;
+    let one = side_of(&rt, alloc, "mov r1, 1\ncall 5\nmov r0, 0\nexit");
+    let two = side_of(&rt, alloc, "mov r1, 2\ncall 5\nmov r0, 0\nexit");
+    let (mut publisher, mut sets) = opened(&rt, alloc, &[], 4);
     let began = load_all(&rt, &mut publisher, &one);
     let entrance = sets.entrance();
-    let first = two_readers(&mut publisher, &mut sets, &entrance).expect(&rt, "two readers");
-    let second = two_readers(&mut publisher, &mut sets, &entrance).expect(&rt, "two more");
+    let first = two_readers(&rt, &mut publisher, &mut sets, &entrance);
+    let second = two_readers(&rt, &mut publisher, &mut sets, &entrance);
     let (read, changed) = read_beside(
         &rt,
         &entrance,
@@ -255,37 +255,28 @@ fn no_set_is_mixed(rt: HostRuntime) -> Result<(), Fail> {
         (&one, &two),
     );
     publisher.close(&rt);
-    assert_eq!(rt; (began, read, changed), (true, true, true));
-    Ok(())
+    same(
+        &rt,
+        (began, read, changed),
+        (true, true, true),
+        "all is right",
+    );
 }
 
 #[test]
-fn a_run_beside_a_publication(rt: HostRuntime) -> Result<(), Fail> {
+fn a_run_beside_a_publication(rt: HostRuntime) {
     let alloc = rt.alloc();
-    let one = accepted(
-        alloc,
-        "mov r0, 1\nexit",
-        Hook::Data,
-        shapes_of(alloc, None)?,
-    )?;
-    let zero = accepted(
-        alloc,
-        "mov r0, 0\nexit",
-        Hook::Data,
-        shapes_of(alloc, None)?,
-    )?;
-    let (mut publisher, mut sets) = published(&rt, alloc, shapes_of(alloc, None)?, 1)?;
+    let one = accepted(&rt, alloc, "mov r0, 1\nexit", Hook::Data, &[]);
+    let zero = accepted(&rt, alloc, "mov r0, 0\nexit", Hook::Data, &[]);
+    let (mut publisher, mut sets) = opened(&rt, alloc, &[], 1);
     let reader = sets.reader().expect(&rt, "a reader");
     let began = load(&rt, &mut publisher, Hook::Data, &one);
-    let held = sets.enter(&rt, sets.learn(reader, publisher.tell()));
+    let held = enter_after(&rt, &mut publisher, &sets, reader);
     let (answers, changed, news) = publish_beside(&rt, &mut publisher, &zero, held.set());
     let reader = sets.learn(held.leave(), news);
-    let held = sets.enter(&rt, reader);
-    let after = answers_of(held.set());
-    let _reader = held.leave();
+    let (after, _reader) = answers_for(&rt, &sets, reader);
     publisher.close(&rt);
-    assert_eq!(rt; (began, changed), (true, true));
-    assert_eq!(rt; answers, [None, None, Some(1)]);
-    assert_eq!(rt; after, [None, None, Some(0)]);
-    Ok(())
+    same(&rt, (began, changed), (true, true), "publications");
+    same(&rt, answers, [None, None, Some(1)], "beside the second");
+    same(&rt, after, [None, None, Some(0)], "after it");
 }
