@@ -1,6 +1,6 @@
 //! What two seats answer, in one thread and in two.
 
-ghost use Rattle.std.specs.Prelude.{◌≡◌, ◌<◌, OnOk, IfOk};
+ghost use Rattle.std.specs.Prelude.{◌≡◌, ◌<◌};
 ghost use Rattle.bpf_regions.specs.Maps.{word_count, IsShape};
 
 use crate::same::{holds, same};

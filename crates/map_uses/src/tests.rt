@@ -1,6 +1,6 @@
 //! Shared tables.
 
-ghost use Rattle.std.specs.Prelude.{◌≡◌, ℕ};
+ghost use Rattle.std.specs.Prelude.{◌≡◌};
 ghost use Rattle.bpf_regions.specs.Maps.{word_count};
 
 use crate::live::{Live, load_both};

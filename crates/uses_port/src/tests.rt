@@ -1,4 +1,4 @@
-ghost use Rattle.std.specs.Prelude.{◌≡◌, ◌<◌, ◌≤◌, ℕ, List, [], ◌∷◌, length, slice_get};
+ghost use Rattle.std.specs.Prelude.{◌≡◌, ◌<◌, ◌≤◌, ℕ, [], ◌∷◌, length, slice_get};
 ghost use Rattle.bpf_regions.specs.Maps.{word_count, IsShape};
 ghost use Rattle.bpf_regions.specs.declared.maps.Scope.TheVariants.{Worker};
 ghost use Rattle.bpf_model.specs.Run.{words_in};
