@@ -124,3 +124,22 @@ fn programs_are_certified(rt: HostRuntime) {
         is_certified(&rt, rt.alloc(), text, *map, *budget);
     }
 }
+
+/// Calls whose answers are cut to at most 7: each time both ways come to one state.
+const TURN: &str = "call 4\njgt r0, 7, +1\nmov r0, 0\n";
+
+/// The program of so many such calls.
+fn calls(rt: &impl Abort, alloc: Global, count: usize) -> String {
+    let mut text = String::new(alloc);
+    for _ in 0..count {
+        text.push_str(TURN).expect(rt, "memory");
+    }
+    text.push_str("mov r0, 0\nexit").expect(rt, "memory");
+    text
+}
+
+#[test]
+fn states_that_join_are_certified_once(rt: HostRuntime) {
+    let text = calls(&rt, rt.alloc(), 24);
+    is_certified(&rt, rt.alloc(), &text, None, 74);
+}
