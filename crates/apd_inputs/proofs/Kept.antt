@@ -10,7 +10,7 @@ use Rattle.hex.proofs.HexLemmas.{decode_of-ok, decode_of-digits}
 use Rattle.apd_inputs.specs.Kinds.{most_of}
 use Rattle.apd_inputs.specs.Held.{Held, Keeps, HoldsCode, HoldsKept, digits_of, code_of}
 use Rattle.apd_inputs.specs.Held.{Whole, Part}
-use Rattle.apd_inputs.specs.Reading.{Collects, HasCollected, HasDecoded}
+use Rattle.apd_inputs.specs.Reading.{Collects, HasCollected, HasDecoded, IsShort}
 use Rattle.apd_inputs.specs.declared.files.FileKind.{FileKind}
 use Rattle.apd_inputs.specs.declared.files.FileKind.TheVariants.{Certificate}
 
@@ -63,6 +63,9 @@ HoldsKept-decoded kind most files path kept h = record {
   held = record { text = h.text; there = h.there; spelled = h.spelled };
   keeps = h.keeps;
 }
+
+pub IsShort-decoded : (kind : FileKind) (most : ℕ) (files : Held) (path kept : List ℕ) → HasDecoded kind most files path kept → IsShort kind files path
+IsShort-decoded kind most files path kept h = record { text = h.text; there = h.there; short = h.short }
 
 -- the code of a text has no more than half as many bytes
 halved : (text code : List ℕ) → code_of text ≡ Ok code → 2 * length code ≤ length text

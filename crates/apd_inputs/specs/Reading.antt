@@ -91,3 +91,9 @@ pub record HasDecoded
   pub code : List ℕ
   pub spelled : code_of text ≡ Ok code
   pub keeps : Keeps most 8 code kept
+
+-- the file has a text that is no longer than one of its kind may be
+pub record IsShort (kind : FileKind) (files : Held) (path : List ℕ) : Type 0 where
+  pub text : List ℕ
+  pub there : Holds files path text
+  pub short : length text ≤ most_of kind

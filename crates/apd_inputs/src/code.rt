@@ -2,7 +2,7 @@
 
 ghost use Rattle.std.specs.Prelude.{◌≡◌, ◌≤◌, ◌^◌, IfOk, IfErr};
 ghost use Rattle.apd_inputs.specs.Held.{HoldsCode, HoldsKept};
-ghost use Rattle.apd_inputs.specs.Reading.{IsWithin, HasCollected, HasDecoded};
+ghost use Rattle.apd_inputs.specs.Reading.{IsWithin, HasCollected, HasDecoded, IsShort};
 ghost use Rattle.apd_inputs.specs.Faults.{IsFaultOf, IsTold, Tells};
 
 use crate::digits::{BlockFault, add_block};
@@ -130,10 +130,12 @@ fn bytes<F: Files>(
 /// What is kept of the code that a file spells in hex digits of either case, with white space between any
 /// two: all of it, or of more bytes than the longest code has (16384 slots of 8) some more than that, with
 /// the same length but for whole slots. Nothing is read past the block of the first byte that is neither
-/// digit nor white space.
+/// digit nor white space, nor past the block in which the text becomes longer than its kind may be, which
+/// is a fault.
 pub fn read_code<F: Files>(alloc: Global, path: &str, files: &mut F) -> Result<Vec<u8>, CodeFault>
     ensures code { IfOk result
         (λ code. HoldsKept (2 ^ 17) (F.held files.old) path.now code.items) }
+    ensures short { IfOk result (λ _. IsShort FileKind.Code (F.held files.old) path.now) }
     ensures fault { IfErr result (IsFaultOf FileKind.Code (F.held files.old) path.now) }
     ensures same { F.held files.new ≡ F.held files.old }
 {

@@ -34,8 +34,7 @@ pub enum FileFault {
 pub enum FileKind {
     /// A configuration: 1 MiB.
     Configuration,
-    /// Code in hex digits, with white space. It is read to its end, since no more of it is kept than can
-    /// matter; 2^62 bytes aren't there to be read.
+    /// Code in hex digits, with white space: 1 GiB, of which no more is kept than can matter.
     Code,
     /// A certificate in hex digits: 256 MiB.
     Certificate,
@@ -54,10 +53,9 @@ impl FileKind {
     {
         match self {
             FileKind::Configuration => 1 << 20,
-            FileKind::Code => (1 << 62) - 1,
             FileKind::Certificate => 1 << 28,
             FileKind::Text => 1 << 24,
-            FileKind::Capture | FileKind::Script => 1 << 30,
+            FileKind::Code | FileKind::Capture | FileKind::Script => 1 << 30,
         }
     }
 }
