@@ -1,6 +1,7 @@
 -- A capture as a script: `frame HEX` for each frame, `tick N` for the time that passes before it in
--- units of 1024 microseconds, and a comment for each packet that is left out.
-use Rattle.std.specs.Prelude.{ℕ, ◌+◌, ◌-◌, ◌/◌, ◌==◌, ◌&&◌, Bool, nat_lt, min, max, List, [], ◌∷◌, ◌++◌, length, codes, decimal, Option, Some, None, Result, Ok, Err, if◌then◌else◌}
+-- units of 1024 microseconds, and a comment for each packet that is left out; `wait` behind each 1000th
+-- packet, so that a run prints what it has and keeps no more.
+use Rattle.std.specs.Prelude.{ℕ, ◌+◌, ◌-◌, ◌/◌, ◌%◌, ◌==◌, ◌&&◌, Bool, nat_lt, min, max, List, [], ◌∷◌, ◌++◌, length, codes, decimal, Option, Some, None, Result, Ok, Err, if◌then◌else◌}
 use Rattle.hex.specs.Hex.{encode_lower}
 use Rattle.capture.specs.declared.fault.LeftOut.{LeftOut}
 use Rattle.capture.specs.declared.fault.LeftOut.TheVariants.{Cut, Radiotap, CheckSequence}
@@ -42,6 +43,10 @@ abbrev pub time_lines : Bool → ℕ → ℕ → List ℕ
 time_lines ticks clock now =
     (if ticks && nat_lt clock now then tick_line (min (now - clock) 4294967295) else [])
 
+-- `wait`, behind each 1000th packet
+abbrev pub wait_lines : ℕ → List ℕ
+wait_lines number = (if number % 1000 == 0 then codes "wait" ++ 10 ∷ [] else [])
+
 -- in which unit after the start a time in nanoseconds lies; in unit 0 where it is earlier, or isn't
 -- known, so that no time passes before the packet
 abbrev pub unit_of : ℕ → Option ℕ → ℕ
@@ -52,8 +57,8 @@ unit_of start (Some time) = (time - start) / 1024000
 abbrev pub lines_from : Bool → ℕ → ℕ → ℕ → List Seen → List ℕ
 lines_from ticks start number clock [] = []
 lines_from ticks start number clock (packet ∷ packets) =
-    time_lines ticks clock (unit_of start packet.time) ++ (packet_lines number packet.frame
-    ++ lines_from ticks start (number + 1) (max clock (unit_of start packet.time)) packets)
+    time_lines ticks clock (unit_of start packet.time) ++ (packet_lines number packet.frame ++ (wait_lines number
+    ++ lines_from ticks start (number + 1) (max clock (unit_of start packet.time)) packets))
 
 -- a packet's time, or the first one behind it
 abbrev pub time_or : Option ℕ → ℕ → ℕ

@@ -3,7 +3,7 @@
 ghost use Rattle.std.specs.Prelude.{◌≡◌, ◌++◌, ◌<◌, IfOk, codes};
 ghost use Rattle.std.specs.String.{string_bytes};
 ghost use Rattle.capture.specs.Radiotap.{bytes_in};
-ghost use Rattle.apd_frames.specs.Script.{reason_of, left_out_line, frame_line, frame_lines, packet_lines, tick_line, time_lines};
+ghost use Rattle.apd_frames.specs.Script.{reason_of, left_out_line, frame_line, frame_lines, packet_lines, tick_line, time_lines, wait_lines};
 
 use capture::LeftOut;
 use std::alloc::{AllocError, Global};
@@ -92,6 +92,17 @@ pub(crate) fn append_time(
 {
     if ticks && clock < now {
         append_tick(text, (now - clock).min(4_294_967_295))?;
+    }
+    Ok(())
+}
+
+/// The line that waits, behind each 1000th packet.
+pub(crate) fn append_wait(text: &mut String, number: u64) -> Result<(), AllocError>
+    ensures ok { IfOk result
+        (λ _. string_bytes text.new ≡ string_bytes text.old ++ wait_lines number) }
+{
+    if number % 1000 == 0 {
+        writeln!(text, "wait")?;
     }
     Ok(())
 }

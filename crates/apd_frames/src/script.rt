@@ -5,7 +5,7 @@ ghost use Rattle.std.specs.String.{string_bytes};
 ghost use Rattle.capture.specs.Packets.{seen_of};
 ghost use Rattle.apd_frames.specs.Script.{start_of, unit_of, script_of};
 
-use crate::lines::{append_packet, append_time};
+use crate::lines::{append_packet, append_time, append_wait};
 use capture::Packet;
 use std::alloc::{AllocError, Global};
 
@@ -33,8 +33,9 @@ fn unit(start: u64, time: Option<u64>) -> u64
 }
 
 /// The packets of a capture as a script: a line `frame HEX` for each frame, where `ticks` says so
-/// with `tick N` before it for the units of 1024 microseconds that have passed, and a comment for
-/// each packet that is left out. Before a packet of no known time none passes.
+/// with `tick N` before it for the units of 1024 microseconds that have passed, a comment for each
+/// packet that is left out, and a line `wait` behind each 1000th packet. Before a packet of no known
+/// time none passes.
 pub fn script_text(alloc: Global, packets: &[Packet<'_>], ticks: bool) -> Result<String, AllocError>
     ensures is { IfOk result
         (λ text. string_bytes text ≡ script_of ticks (map seen_of packets.now)) }
@@ -47,6 +48,7 @@ pub fn script_text(alloc: Global, packets: &[Packet<'_>], ticks: bool) -> Result
         let now = unit(start, packet.time);
         append_time(&mut text, ticks, clock, now)?;
         append_packet(alloc, &mut text, number, packet.frame)?;
+        append_wait(&mut text, number)?;
         clock = clock.max(now);
         number += 1;
     }
