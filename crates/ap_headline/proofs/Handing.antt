@@ -11,7 +11,7 @@ use Rattle.ap_model.specs.Runs.{Entry}
 use Rattle.ap_laws.specs.Headline.{RunsHold}
 use Rattle.ap_locked.specs.Kept.{entry_of}
 use Rattle.ap_locked.specs.Tokens.{Token}
-use Rattle.ap_queue.specs.declared.item.Queued.{Queued}
+use Rattle.ap_queues.specs.declared.item.Queued.{Queued}
 use Rattle.ap_shards.specs.Fates.{Acts, ChangesIf, Comes}
 use Rattle.ap_shards.specs.Judged.{JudgedBy, AnyVerdicts}
 use Rattle.ap_shards.specs.Tokens.{Eight}

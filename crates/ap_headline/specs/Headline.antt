@@ -7,8 +7,8 @@ use Rattle.ap_model.specs.declared.event.Out.{Out}
 use Rattle.ap_model.specs.Runs.{Entry}
 use Rattle.ap_books.specs.Counts.{counts_of, plus}
 use Rattle.ap_locked.specs.Tokens.{Token}
-use Rattle.ap_queue.specs.declared.item.Queued.{Queued}
-use Rattle.ap_queue.specs.Passes.{taken_by}
+use Rattle.ap_queues.specs.declared.item.Queued.{Queued}
+use Rattle.ap_queues.specs.Passes.{taken_by}
 use Rattle.ap_tagged.specs.declared.tagged.Fate.{Fate}
 use Rattle.ap_tagged.specs.declared.tagged.Fate.TheVariants.{Decided, Refused, NotHandled}
 use Rattle.ap_tagged.specs.declared.tagged.Tagged.{Tagged}

@@ -7,8 +7,8 @@ use Rattle.ap_locked.specs.Tokens.{Token}
 use Rattle.ap_model.specs.Asks.{Ask}
 use Rattle.ap_model.specs.Readings.{Readings}
 use Rattle.ap_model.specs.declared.event.Event.{Event}
-use Rattle.ap_queue.specs.declared.item.Queued.{Queued}
-use Rattle.ap_queue.specs.Passes.{taken_by}
+use Rattle.ap_queues.specs.declared.item.Queued.{Queued}
+use Rattle.ap_queues.specs.Passes.{taken_by}
 use Rattle.ap_shards.specs.Fates.{ChangesIf, Comes, ComesAt}
 use Rattle.ap_shards.specs.Judged.{JudgedBy}
 use Rattle.ap_shards.specs.Tokens.{Eight, holding_of}

@@ -2,9 +2,9 @@
 use Rattle.std.proofs.Common.{◌≡◌, ◌<◌, ℕ, List, length, slice_get, Some, sym, ap, ◌∙◌, subst}
 use Rattle.bpf_helpers.specs.Hooked.{KeepTables, shapes_of}
 use Rattle.bpf_helpers.proofs.Keeping.{fitting_kept, shapes_kept}
-use Rattle.ap_queue.specs.declared.queue.EventQueue.{EventQueue}
-use Rattle.ap_queue.specs.Passes.{IsWorkerOf}
-use Rattle.ap_lines.specs.Lines.{AreLinesOf, ArePassesOf}
+use Rattle.ap_queues.specs.declared.queue.EventQueue.{EventQueue}
+use Rattle.ap_queues.specs.Passes.{IsWorkerOf}
+use Rattle.ap_queues.specs.Lines.{AreLinesOf, ArePassesOf}
 use Rattle.ap_tables.proofs.Sitting.{operators_kept}
 use Rattle.ap_live.specs.Lives.{IsLive, KeepsLive, Live}
 use Rattle.ap_live.specs.Tokens.{AreLeft, IsOperator, IsWorker, Left, Operator, Worker}

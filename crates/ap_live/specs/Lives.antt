@@ -2,7 +2,7 @@
 use Rattle.std.specs.Prelude.{◌≡◌, ◌<◌, ℕ, List, length}
 use Rattle.bpf_helpers.specs.Hooked.{KeepTables, shapes_of}
 use Rattle.versions.specs.Lists.{Beginning}
-use Rattle.ap_queue.specs.declared.queue.EventQueue.{EventQueue}
+use Rattle.ap_queues.specs.declared.queue.EventQueue.{EventQueue}
 use Rattle.ap_tables.specs.Stocks.{Stock}
 
 -- the queue of each worker, the tables of all maps, the list of published loads, and the first word that each worker

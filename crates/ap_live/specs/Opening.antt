@@ -3,9 +3,9 @@ use Rattle.std.specs.Prelude.{◌≡◌, ◌+◌, ℕ, List, [], length}
 use Rattle.bpf_regions.specs.declared.maps.Shape.{Shape}
 use Rattle.bpf_helpers.specs.Hooked.{shapes_of}
 use Rattle.versions.specs.Lists.{Beginning}
-use Rattle.ap_queue.specs.declared.queue.EventQueue.{EventQueue}
-use Rattle.ap_lines.specs.Lines.{ArePassesOf}
-use Rattle.ap_lines.specs.declared.passes.LinePasses.{LinePasses}
+use Rattle.ap_queues.specs.declared.queue.EventQueue.{EventQueue}
+use Rattle.ap_queues.specs.Lines.{ArePassesOf}
+use Rattle.ap_queues.specs.declared.lines.passes.LinePasses.{LinePasses}
 use Rattle.ap_tables.specs.Stocks.{Stock}
 use Rattle.ap_shards.specs.Opening.{whole}
 use Rattle.ap_shards.specs.Tokens.{HasGivenOne}

@@ -8,8 +8,8 @@ use Rattle.ap_model.specs.declared.event.Event.{Event}
 use Rattle.ap_model.specs.declared.event.Event.TheVariants as event
 use Rattle.ap_model.specs.declared.event.Out.{Out}
 use Rattle.ap_books.specs.Counts.{counts_of, plus}
-use Rattle.ap_queue.specs.declared.item.Queued.{Queued}
-use Rattle.ap_queue.specs.Passes.{taken_by}
+use Rattle.ap_queues.specs.declared.item.Queued.{Queued}
+use Rattle.ap_queues.specs.Passes.{taken_by}
 use Rattle.ap_shards.specs.Fates.{ActsAt, ComesAt}
 use Rattle.ap_shards.specs.Judged.{HoldsOn, JudgedBy}
 use Rattle.ap_shards.specs.Tokens.{Eight, holding_of}

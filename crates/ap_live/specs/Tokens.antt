@@ -3,12 +3,12 @@ use Rattle.std.specs.Prelude.{◌≡◌, ◌<◌, ℕ, List, length, slice_get, 
 use Rattle.shared_maps.specs.Tables.{Place}
 use Rattle.bpf_helpers.specs.Hooked.{Held, IsFitting}
 use Rattle.versions.specs.Lists.{Beginning, Readers}
-use Rattle.ap_queue.specs.declared.queue.EventQueue.{EventQueue}
-use Rattle.ap_queue.specs.declared.queue.WorkerPass.{WorkerPass}
-use Rattle.ap_queue.specs.Passes.{IsWorkerOf}
-use Rattle.ap_lines.specs.declared.passes.LinePasses.{LinePasses}
-use Rattle.ap_lines.specs.declared.passes.OperatorLines.{OperatorLines}
-use Rattle.ap_lines.specs.Lines.{ArePassesOf, AreLinesOf}
+use Rattle.ap_queues.specs.declared.queue.EventQueue.{EventQueue}
+use Rattle.ap_queues.specs.declared.queue.WorkerPass.{WorkerPass}
+use Rattle.ap_queues.specs.Passes.{IsWorkerOf}
+use Rattle.ap_queues.specs.declared.lines.passes.LinePasses.{LinePasses}
+use Rattle.ap_queues.specs.declared.lines.passes.OperatorLines.{OperatorLines}
+use Rattle.ap_queues.specs.Lines.{ArePassesOf, AreLinesOf}
 use Rattle.ap_tables.specs.Stocks.{AreOperators}
 use Rattle.ap_shards.specs.Tokens.{Eight}
 use Rattle.ap_live.specs.Lives.{Live}

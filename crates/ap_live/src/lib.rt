@@ -4,7 +4,7 @@
 //! Main calls: `LiveAp::submit`, which puts an event into its shard's worker's queue; `LiveAp::serve`,
 //! by which a worker decides what its queue holds, each event under its shard's lock and by the programs
 //! of one whole published set; `LiveAp::act`, by which an operator decides a command at once;
-//! `LiveAp::gather`, which reads the totals. It stands on `ap_shards`, `ap_lines`, `ap_tables` and
+//! `LiveAp::gather`, which reads the totals. It stands on `ap_shards`, `ap_queues`, `ap_tables` and
 //! `versions`. Promised: `serve` hands on one `Tagged` for each event that it took, in order, and the
 //! worker's shares grow by exactly what these count; with all shares the totals are the sum of the
 //! books.

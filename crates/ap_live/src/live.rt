@@ -8,9 +8,9 @@ ghost use Rattle.ap_live.specs.Tokens.{IsWorker};
 
 use crate::tokens::WorkerToken;
 use ap_books::{Ledgers, Portions, Totals};
-use ap_lines::EventLines;
 use ap_locked::Journals;
 use ap_model::LinkConfig;
+use ap_queues::EventLines;
 use ap_shards::Shards;
 use ap_tables::ApTables;
 use bpf_regions::Shapes;

@@ -9,7 +9,7 @@ use crate::tokens::WorkerToken;
 use ap_books::Ledgers;
 use ap_locked::Journals;
 use ap_model::Event;
-use ap_queue::Item;
+use ap_queues::Item;
 use ap_shards::Desk;
 use ap_tagged::{Fate, Gate, Tagged};
 use core::mem::replace_with;

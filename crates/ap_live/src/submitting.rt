@@ -1,17 +1,17 @@
 //! What an operator puts.
 
 ghost use Rattle.std.specs.Prelude.{◌≡◌, ◌<◌, ◌-◌, IfErr, OnOk};
-ghost use Rattle.ap_lines.specs.Lines.{puts_of};
-ghost use Rattle.ap_lines.specs.Putting.{IsTick, first_shard, shard_count, served};
-ghost use Rattle.ap_lines.specs.Refusing.{StopsAt};
+ghost use Rattle.ap_queues.specs.Lines.{puts_of};
+ghost use Rattle.ap_queues.specs.Putting.{IsTick, first_shard, shard_count, served};
+ghost use Rattle.ap_queues.specs.Refusing.{StopsAt};
 ghost use Rattle.ap_live.specs.Tokens.{IsOperator};
 
 use crate::live::LiveAp;
 use crate::tokens::OperatorToken;
 use ap_books::Ledgers;
-use ap_lines::Unserved;
 use ap_locked::Journals;
 use ap_model::Event;
+use ap_queues::Unserved;
 use std::sync::Wait;
 
 impl<B: Ledgers + Journals> LiveAp<B> {

@@ -1,9 +1,8 @@
 //! What one who uses an access point has of it.
 
 use ap_books::{Ledgers, Portions};
-use ap_lines::{LinePasses, OperatorLines};
 use ap_locked::Journals;
-use ap_queue::WorkerPass;
+use ap_queues::{LinePasses, OperatorLines, WorkerPass};
 use ap_shards::ShardTokens;
 use ap_tables::OperatorSeats;
 use bpf_helpers::WorkerState;

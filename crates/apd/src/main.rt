@@ -1,8 +1,8 @@
 //! The program `apd`: a programmable access point that runs scripts, and programs of its hooks, from the command line.
 #![tactic(auto)]
 
-use apd_entry::Messages;
 use apd_files::RealFiles;
+use apd_program::Messages;
 use std::alloc::{AllocError, Global};
 use std::env::FillError;
 use std::io::{ErrorKind, IsTerminal, Write};
@@ -39,7 +39,7 @@ where
         words.push(word.as_str()).map_err(AllocError::from)?;
     }
     let mut files = RealFiles::new(rt);
-    let (_, status) = apd_entry::perform(rt, alloc, words.as_slice(), &mut files, out, messages);
+    let (_, status) = apd_program::perform(rt, alloc, words.as_slice(), &mut files, out, messages);
     Ok(status)
 }
 

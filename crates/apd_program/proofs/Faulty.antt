@@ -17,14 +17,14 @@ use Rattle.apd_words.specs.declared.Source.{Source}
 use Rattle.apd_words.specs.Asked.{config_of}
 use Rattle.apd_program.specs.declared.reading.Loaded.{Loaded}
 use Rattle.apd_program.specs.declared.reading.Setup.{Setup}
-use Rattle.apd_inputs.specs.declared.files.FileKind.{FileKind}
-use Rattle.apd_inputs.specs.declared.files.FileKind.TheVariants.{Certificate}
-use Rattle.apd_inputs.specs.declared.files.FileFault.{FileFault}
-use Rattle.apd_inputs.specs.declared.files.FileFault.TheVariants as unread_fault
-use Rattle.apd_inputs.specs.declared.code.CodeFault.{CodeFault}
-use Rattle.apd_inputs.specs.declared.code.CodeFault.TheVariants as read
-use Rattle.apd_inputs.specs.Faults.{IsFaultOf}
-use Rattle.apd_inputs.specs.Held.{Held, Holds, IsNoInput, IsUnread}
+use Rattle.apd_files.specs.declared.inputs.files.FileKind.{FileKind}
+use Rattle.apd_files.specs.declared.inputs.files.FileKind.TheVariants.{Certificate}
+use Rattle.apd_files.specs.declared.inputs.files.FileFault.{FileFault}
+use Rattle.apd_files.specs.declared.inputs.files.FileFault.TheVariants as unread_fault
+use Rattle.apd_files.specs.declared.inputs.code.CodeFault.{CodeFault}
+use Rattle.apd_files.specs.declared.inputs.code.CodeFault.TheVariants as read
+use Rattle.apd_files.specs.Faults.{IsFaultOf}
+use Rattle.apd_files.specs.Held.{Held, Holds, IsNoInput, IsUnread}
 use Rattle.apd_program.specs.Setups.{Configures, IsLoaded}
 use Rattle.apd_program.specs.Faults.{IsMemoryOr, IsBadSource, HasBadCode, HasBadDigits, NoFile, NoCode, HasBadConfiguration, NoConfiguration, IsBadConfig, HasBadCapture, NoCapture, IsAtFault, OfConfiguration, OfCode, IsNoFrame, NoDigits, HasNoFrame, OfFiles, OfWord, HasNoCertificate, OfOthers, OfCertificate}
 

@@ -6,7 +6,7 @@ use Rattle.bpf_decode.specs.Program.{Code, Spells}
 use Rattle.bpf_decode.specs.Answer.{Refuses}
 use Rattle.bpf_decode.specs.declared.fault.DecodeFault.{DecodeFault}
 use Rattle.bpf_decode.specs.declared.fault.DecodeFault.TheVariants as fault
-use Rattle.apd_inputs.specs.Held.{Held, Keeps, Whole, Part}
+use Rattle.apd_files.specs.Held.{Held, Keeps, Whole, Part}
 use Rattle.apd_program.specs.declared.answer.Answer.{Answer}
 use Rattle.apd_program.specs.declared.fault.ProgramFault.{ProgramFault}
 use Rattle.apd_words.specs.declared.Source.{Source}

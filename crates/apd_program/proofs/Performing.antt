@@ -9,7 +9,7 @@ use Rattle.apd_program.specs.declared.answer.Answer.TheVariants.{Accepted, Code,
 use Rattle.apd_program.specs.declared.fault.ProgramFault.{ProgramFault}
 use Rattle.apd_program.specs.declared.fault.ProgramFault.TheVariants as fault
 use Rattle.apd_program.specs.Lines.{status_of}
-use Rattle.apd_inputs.specs.Held.{Held}
+use Rattle.apd_files.specs.Held.{Held}
 use Rattle.apd_program.specs.Answers.{IsAnswer, HasNoAnswer}
 use Rattle.apd_program.specs.Printed.{Prints, Whole, Beginning, Nothing, PrintsText, WholeText, BeginningOfText, fault_status}
 use Rattle.apd_program.specs.Program.{Performs, Wrote, Stopped, Refrained, Exhausted, Does, Helped, StoppedHelp}

@@ -6,8 +6,8 @@ use Rattle.bpf_verifier.specs.Limits.{nearest}
 use Rattle.apd_words.specs.Asked.{Asked, Verify, Assemble, Disassemble, Trace, Explain, Frames, Help, Certify, Check}
 use Rattle.apd_program.specs.declared.answer.Answer.{Answer}
 use Rattle.apd_program.specs.declared.reading.Setup.{Setup}
-use Rattle.apd_inputs.specs.declared.files.FileKind.TheVariants as kind
-use Rattle.apd_inputs.specs.Held.{Held, Holds, Lacks, HoldsCode}
+use Rattle.apd_files.specs.declared.inputs.files.FileKind.TheVariants as kind
+use Rattle.apd_files.specs.Held.{Held, Holds, Lacks, HoldsCode}
 use Rattle.apd_program.specs.Setups.{IsFrame, Configures}
 use Rattle.apd_program.specs.Faults.{IsAtFault, HasNoFrame, HasBadCapture, HasNoCertificate}
 use Rattle.apd_program.specs.Pages.{IsPage, HasNoPage, IsHelpText, HasNoHelp, help_words}

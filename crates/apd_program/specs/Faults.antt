@@ -13,9 +13,9 @@ use Rattle.apd_words.specs.Asked.{config_of}
 use Rattle.apd_program.specs.declared.fault.ProgramFault.{ProgramFault}
 use Rattle.apd_program.specs.declared.fault.ProgramFault.TheVariants as fault
 use Rattle.apd_program.specs.declared.reading.Setup.{Setup}
-use Rattle.apd_inputs.specs.declared.files.FileKind.{FileKind}
-use Rattle.apd_inputs.specs.declared.files.FileKind.TheVariants.{Configuration, Code, Certificate, Capture}
-use Rattle.apd_inputs.specs.Held.{Held, Holds, Lacks, HoldsCode, code_of}
+use Rattle.apd_files.specs.declared.inputs.files.FileKind.{FileKind}
+use Rattle.apd_files.specs.declared.inputs.files.FileKind.TheVariants.{Configuration, Code, Certificate, Capture}
+use Rattle.apd_files.specs.Held.{Held, Holds, Lacks, HoldsCode, code_of}
 use Rattle.apd_program.specs.Setups.{Configures}
 
 -- the fault is want of memory, or this is so

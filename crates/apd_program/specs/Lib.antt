@@ -12,3 +12,5 @@ pub mod Scripts
 pub mod Answers
 pub mod Printed
 pub mod Program
+pub mod Script
+pub mod Asking

@@ -1,7 +1,7 @@
 -- What is written for an answer or a text, and the status.
 use Rattle.std.specs.Prelude.{ℕ, List, Option}
 use Rattle.std.specs.Io.KnownBytes.{Appends, Keeps}
-use Rattle.apd_output.specs.Beginning.{AppendsBeginning}
+use Rattle.apd_files.specs.Beginning.{AppendsBeginning}
 use Rattle.apd_program.specs.declared.answer.Answer.{Answer}
 use Rattle.apd_program.specs.declared.fault.ProgramFault.{ProgramFault}
 use Rattle.apd_program.specs.declared.fault.ProgramFault.TheVariants.{NoMemory}

@@ -2,12 +2,12 @@
 use Rattle.std.specs.Prelude.{ℕ, List, Option}
 use Rattle.std.specs.Io.KnownBytes.{Appends, Keeps}
 use Rattle.clap.specs.declared.builder.value_parser.ValueParser.{ValueParser}
-use Rattle.apd_output.specs.Beginning.{AppendsBeginning}
+use Rattle.apd_files.specs.Beginning.{AppendsBeginning}
 use Rattle.apd_words.specs.Asked.{Asked}
 use Rattle.apd_words.specs.CommandLine.{TakesNames, hook_names, worker_names}
 use Rattle.apd_words.specs.Reads.{AsksFor, IsHelp}
 use Rattle.apd_program.specs.declared.answer.Answer.{Answer}
-use Rattle.apd_inputs.specs.Held.{Held}
+use Rattle.apd_files.specs.Held.{Held}
 use Rattle.apd_program.specs.Lines.{printed, status_of}
 use Rattle.apd_program.specs.Answers.{IsAnswer, HasNoAnswer}
 

@@ -1,7 +1,7 @@
 -- The maps and the frames that files and words spell.
 use Rattle.std.specs.Prelude.{◌≡◌, ◌≤◌, ◌^◌, ℕ, List, [], length, Option, Some, None, Ok}
 use Rattle.hex.specs.Hex.{decode_of}
-use Rattle.apd_inputs.specs.Held.{Held, Holds, HoldsKept}
+use Rattle.apd_files.specs.Held.{Held, Holds, HoldsKept}
 use Rattle.apd_config.specs.Text.{IsTextOf}
 use Rattle.apd_config.specs.declared.configuration.Configuration.{Configuration}
 use Rattle.apd_words.specs.declared.Source.{Source}

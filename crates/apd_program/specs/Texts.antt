@@ -3,7 +3,7 @@ use Rattle.std.specs.Prelude.{◌≡◌, ◌≢◌, ◌+◌, ◌==◌, Bool, tru
 use Rattle.std.specs.Str.Lossy.{utf8_valid_len}
 use Rattle.std.specs.declared.alloc.Global.{Global}
 use Rattle.bpf_decode.specs.Program as decoded
-use Rattle.apd_listing.specs.Listing as listing
+use Rattle.apd_text.specs.Listing as listing
 use Rattle.bpf_text.specs.Texts.{lines_of, assembled, disassembled}
 use Rattle.bpf_text.specs.Refusals.{Refuses}
 use Rattle.bpf_text.specs.declared.fault.AsmFault.{AsmFault}

@@ -9,7 +9,7 @@ use Rattle.bpf_plain.specs.Walks.{IsPlain, HasWalk}
 use Rattle.bpf_verifier.specs.Limits.{nearest}
 use Rattle.bpf_verifier.specs.declared.refusal.Refusal.{Refusal}
 use Rattle.bpf_rules.specs.declared.fault.Fault.TheVariants.{NoMemory}
-use Rattle.apd_trace.specs.Trace.{IsTrace}
+use Rattle.apd_text.specs.Trace.{IsTrace}
 use Rattle.apd_words.specs.declared.Terms.{Terms}
 use Rattle.apd_program.specs.declared.answer.Answer.{Answer}
 use Rattle.apd_program.specs.declared.answer.Answer.TheVariants.{Accepted, Run, Refused}

@@ -4,7 +4,7 @@ ghost use Rattle.std.specs.Prelude.{◌≡◌};
 ghost use Rattle.apd_program.specs.declared.fault.ProgramFault.TheVariants.{NoMemory};
 
 use apd_config::ConfigFault;
-use apd_inputs::{CodeFault, DigitFault, FileFault, shown};
+use apd_files::{CodeFault, DigitFault, FileFault, shown};
 use capture::CaptureFault;
 use hex::FromHexError;
 use std::alloc::{AllocError, Global};

@@ -7,9 +7,9 @@ ghost use Rattle.apd_program.specs.Scripts.{IsScript};
 
 use crate::answer::Answer;
 use crate::fault::{ProgramFault, of_capture};
+use crate::frames::script_text;
 use crate::reading::read;
-use apd_frames::script_text;
-use apd_inputs::{FileKind, Files};
+use apd_files::{FileKind, Files};
 use capture::read_capture;
 use std::alloc::Global;
 

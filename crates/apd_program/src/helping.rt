@@ -7,7 +7,7 @@ ghost use Rattle.apd_program.specs.Pages.{IsHelpText, HasNoHelp, help_words};
 
 use crate::answer::Answer;
 use crate::fault::ProgramFault;
-use apd_inputs::shown;
+use apd_files::shown;
 use apd_words::{Told, read_words};
 use std::alloc::{AllocError, Global};
 

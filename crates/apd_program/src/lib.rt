@@ -1,17 +1,15 @@
-//! The program `apd` as a function of its words, its files and two writers.
+//! The commands of `apd`: what it does with its words.
 //!
-//! Main call: `apd_main`, generic over `apd_inputs::Files` and writers. It stands on `bpf_verifier`,
-//! `bpf_cert`, `bpf_text`, `apd_trace`, `apd_words`, `apd_config`,
-//! `apd_inputs` and `apd_output`. The status is
-//! 0 to 3. For `verify`, `asm`, `disasm`, `trace`, `cert` and `check` the whole text of the answer
-//! is written, or a beginning of it where a write fails; status 3 leaves the output as it was. Of
-//! the system's own files no contract speaks.
+//! Main calls: `apd_main`, for all commands but `run`, and `perform`, for all. Words that ask for a run, in their usual order,
+//! lead to a run, by threads; all other words lead to what `apd_main` says of them.
 #![tactic(auto)]
 
 mod answer;
 mod certifying;
+mod entry;
 mod explaining;
 mod fault;
+mod frames;
 mod framing;
 mod helping;
 mod printing;
@@ -21,4 +19,5 @@ mod texts;
 mod verifying;
 
 pub use answer::Answer;
+pub use entry::{Messages, perform};
 pub use program::apd_main;

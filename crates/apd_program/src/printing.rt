@@ -5,7 +5,7 @@ ghost use Rattle.apd_program.specs.Printed.{Prints, PrintsText, fault_status};
 
 use crate::answer::Answer;
 use crate::fault::ProgramFault;
-use apd_output::{Unwritten, write_whole};
+use apd_files::{Unwritten, write_whole};
 use std::alloc::{AllocError, Global};
 use std::io::{ErrorKind, Write};
 

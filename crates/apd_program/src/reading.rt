@@ -2,14 +2,14 @@
 
 ghost use Rattle.std.specs.Prelude.{◌≡◌, ◌^◌, Ok, [], IfOk, IfErr};
 ghost use Rattle.hex.specs.Hex.{decode_of};
-ghost use Rattle.apd_inputs.specs.Held.{Holds, Lacks, HoldsCode, HoldsKept};
+ghost use Rattle.apd_files.specs.Held.{Holds, Lacks, HoldsCode, HoldsKept};
 ghost use Rattle.apd_words.specs.Asked.{text_of};
 ghost use Rattle.apd_program.specs.Setups.{HoldsSetup, Configures, IsLoaded};
 ghost use Rattle.apd_program.specs.Faults.{IsMemoryOr, HasBadCode, HasBadDigits, HasBadConfiguration, IsBadConfig, IsBadSource, IsNoFrame};
 
 use crate::fault::{ProgramFault, of_configuration, of_digits, of_file, of_no_code};
 use apd_config::read_configuration;
-use apd_inputs::{FileKind, Files, read_certificate, read_code, read_whole};
+use apd_files::{FileKind, Files, read_certificate, read_code, read_whole};
 use apd_words::Source;
 use bpf_regions::Shapes;
 use std::alloc::Global;

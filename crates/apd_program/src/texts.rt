@@ -6,7 +6,7 @@ ghost use Rattle.apd_program.specs.Texts.{BreaksOff, IsAssembly, IsListing, IsLi
 
 use crate::answer::{Answer, undecoded};
 use crate::fault::ProgramFault;
-use apd_listing::listing_text;
+use apd_text::listing_text;
 use bpf_decode::{Program, decode};
 use bpf_regions::Shapes;
 use bpf_text::AsmFault;

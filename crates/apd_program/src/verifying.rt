@@ -9,7 +9,7 @@ use crate::answer::{Answer, refused, undecoded};
 use crate::explaining::Reason;
 use crate::fault::ProgramFault;
 use crate::reading::Setup;
-use apd_trace::trace_text;
+use apd_text::trace_text;
 use apd_words::Terms;
 use bpf_decode::{Program, decode};
 use bpf_regions::{Frame, Shapes};

@@ -1,3 +1,11 @@
 pub mod Tallying
 pub mod Waits
 pub mod Broken
+pub mod KeptCode
+pub mod Putting
+pub mod Sums
+pub mod Served
+pub mod Keeping
+pub mod Loading
+pub mod OneByOne
+pub mod Ending

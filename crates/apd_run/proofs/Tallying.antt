@@ -3,8 +3,8 @@ use Rattle.std.proofs.Common.{◌≡◌, ℕ, ◌+◌, List, [], ◌∷◌, ◌+
 use Rattle.std.specs.List.{sum_by}
 use Rattle.std.proofs.lemmas.List.Sums.{sum_by-append}
 use Rattle.ap_books.specs.Counts.{Counts, none, plus}
-use Rattle.apd_lines.specs.declared.report.Report.{Report}
-use Rattle.apd_crew.specs.Tallies.{told_counts, report_counts, tallied}
+use Rattle.apd_text.specs.declared.reports.report.Report.{Report}
+use Rattle.apd_run.specs.Tallies.{told_counts, report_counts, tallied}
 use Rattle.apd_run.specs.Crews.{Crew, gains, Collects}
 use Rattle.apd_run.specs.Tells.{Tells}
 

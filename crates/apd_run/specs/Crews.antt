@@ -1,8 +1,8 @@
 -- What an operator has of its crew.
 use Rattle.std.specs.Prelude.{◌≡◌, ℕ, ◌+◌, List, ◌++◌}
 use Rattle.ap_books.specs.Counts.{Counts, plus}
-use Rattle.apd_lines.specs.declared.report.Report.{Report}
-use Rattle.apd_crew.specs.Tallies.{tallied}
+use Rattle.apd_text.specs.declared.reports.report.Report.{Report}
+use Rattle.apd_run.specs.Tallies.{tallied}
 
 -- how many workers have rights, and what those who came back have counted
 pub record Crew : Type 0 where

@@ -4,4 +4,12 @@ pub mod Crews
 pub mod Shows
 pub mod Tells
 pub mod Reports
-pub use Rattle.apd_crew.specs.Tallies
+pub mod Tallies
+pub mod Loading
+pub mod Adopting
+pub mod Telling
+pub mod Hands
+pub mod Dealing
+pub mod Statuses
+pub use Rattle.ap_books.specs.Counts
+pub use Rattle.ap_shards.specs.Opening

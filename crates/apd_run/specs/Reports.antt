@@ -1,5 +1,5 @@
--- What a worker reports of a line, as `apd_lines` has it.
+-- What a worker reports of a line, as `apd_text` has it.
 
-pub use Rattle.apd_lines.specs.declared.report.Report.{Report}
-pub use Rattle.apd_lines.specs.declared.report.Told.{Told}
-pub use Rattle.apd_lines.specs.declared.report.Told.TheVariants.{Handled, Memory}
+pub use Rattle.apd_text.specs.declared.reports.report.Report.{Report}
+pub use Rattle.apd_text.specs.declared.reports.report.Told.{Told}
+pub use Rattle.apd_text.specs.declared.reports.report.Told.TheVariants.{Handled, Memory}

@@ -5,13 +5,13 @@ use Rattle.std.specs.Io.KnownBytes.{Appends}
 use Rattle.ap_books.specs.Counts.{Counts, plus}
 use Rattle.ap_books.specs.Reading.{Reads}
 use Rattle.ap_books.specs.declared.totals.Totals.{Totals}
-use Rattle.apd_output.specs.Beginning.{AppendsBeginning}
-use Rattle.apd_lines.specs.Lines.{reports_text, totals_text}
-use Rattle.apd_lines.specs.Order.{IsOrdered}
-use Rattle.apd_lines.specs.declared.report.Report.{Report}
-use Rattle.apd_lines.specs.declared.report.Told.{Told}
-use Rattle.apd_lines.specs.declared.report.Told.TheVariants.{Memory}
-use Rattle.apd_crew.specs.Tallies.{tallied}
+use Rattle.apd_files.specs.Beginning.{AppendsBeginning}
+use Rattle.apd_text.specs.Lines.{reports_text, totals_text}
+use Rattle.apd_text.specs.Order.{IsOrdered}
+use Rattle.apd_text.specs.declared.reports.report.Report.{Report}
+use Rattle.apd_text.specs.declared.reports.report.Told.{Told}
+use Rattle.apd_text.specs.declared.reports.report.Told.TheVariants.{Memory}
+use Rattle.apd_run.specs.Tallies.{tallied}
 
 -- the answer says that memory was refused
 abbrev pub is_memory : Told → Bool

@@ -1,8 +1,8 @@
 -- What the operator adds to a list of reports.
 use Rattle.std.specs.Prelude.{◌≡◌, List, ◌++◌}
 use Rattle.ap_books.specs.Counts.{none}
-use Rattle.apd_lines.specs.declared.report.Report.{Report}
-use Rattle.apd_crew.specs.Tallies.{tallied}
+use Rattle.apd_text.specs.declared.reports.report.Report.{Report}
+use Rattle.apd_run.specs.Tallies.{tallied}
 
 -- reports were added that count nothing
 pub record Tells (list list2 : List Report) : Type 0 where

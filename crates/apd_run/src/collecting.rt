@@ -1,13 +1,13 @@
 //! Workers that go out, and come back with what they did.
 
 ghost use Rattle.std.specs.Prelude.{◌≡◌, ◌+◌, ◌++◌, length, OnOk, vec_len};
-ghost use Rattle.apd_crew.specs.Tallies.{tallied};
+ghost use Rattle.apd_run.specs.Tallies.{tallied};
 ghost use Rattle.apd_run.specs.Crews.{gains, Collects};
 
+use crate::crew::{Desk, Done, Order, Ready, Serving};
 use crate::operating::Operating;
 use crate::setting::{Setting, Staff};
-use apd_crew::{Desk, Done, Order, Ready, Serving};
-use apd_lines::Report;
+use apd_text::Report;
 use std::alloc::AllocError;
 use std::sync::Wait;
 

@@ -4,13 +4,13 @@ ghost use Rattle.std.specs.Prelude.{◌≡◌, ◌<◌, length, drop, IfOk, OnOk
 ghost use Rattle.apd_run.specs.Tells.{Tells};
 ghost use Rattle.apd_run.specs.Intervals.{is_wait, after_wait};
 
+use crate::crew::{Serving, Signs};
 use crate::events::event_of;
 use crate::operating::Operating;
 use crate::setting::Setting;
 use ap_model::Event;
-use apd_crew::{Serving, Signs};
-use apd_lines::{Report, Told};
 use apd_script::{Command, Numbered};
+use apd_text::{Report, Told};
 use std::alloc::AllocError;
 use std::sync::Wait;
 use std::sync::atomic::Ordering;

@@ -5,12 +5,12 @@ ghost use Rattle.apd_run.specs.Intervals.{after_wait};
 ghost use Rattle.apd_run.specs.Shows.{is_memory, any_memory, Prints, BreaksOff, ShowsOne, Shows, Breaks};
 
 use crate::collecting::{collect, send_out};
+use crate::crew::Serving;
 use crate::feeding::feed;
 use crate::operating::Operating;
 use crate::setting::{Setting, Staff};
-use apd_crew::Serving;
-use apd_lines::{PrintFault, Report, Told, print_reports, put_in_order};
 use apd_script::Numbered;
+use apd_text::{PrintFault, Report, Told, print_reports, put_in_order};
 use std::alloc::Global;
 use std::io::Write;
 use std::sync::Wait;

@@ -1,23 +1,29 @@
-//! The run of a script by an access point with its workers.
+//! Scripts that are run: the commands of a script, its intervals from one `wait` to the next, the access point with its
+//! worker threads, and what is told of a run.
 //!
-//! Main call: `run_script`, generic over the operator's side of the access point, its workers and a
-//! writer. It stands on `apd_script`, `apd_lines` and `apd_crew`. Between two `wait` lines the
-//! operator's lines and the workers go side by side; at a `wait` all that was handed over is printed in
-//! the order of lines, shards and events. The last line reads what all have counted, which is what was
-//! printed. The status is 0, 2 for a write that failed, 3 where memory was refused.
+//! Main calls: `run`, of the command `apd run`, and `run_script`, of any access point. What is printed is, interval by
+//! interval, reports ordered by line and shard, and then a line of the totals, which are what the reports count; or a
+//! beginning of that.
 #![tactic(auto)]
 
+mod access;
 mod collecting;
+mod crew;
 mod events;
 mod feeding;
 mod interval;
+mod loads;
 mod operating;
+mod progress;
+mod runner;
 mod running;
 mod script;
 mod setting;
 
-pub use apd_crew::{Ready, Serving};
-pub use apd_lines::{Report, Told};
+pub use crate::crew::{Ready, Serving};
+pub use apd_text::{Report, Told};
 pub use operating::{Operating, Waiting};
+pub use progress::{Progress, Watcher};
+pub use runner::{Gate, OpenGate, RunWords, StateLimit, Supplies, run};
 pub use script::run_script;
 pub use setting::Staff;

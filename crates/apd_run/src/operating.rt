@@ -3,13 +3,13 @@
 ghost use Rattle.std.specs.Prelude.{◌≡◌, ◌<◌, IfSome};
 ghost use Rattle.ap_books.specs.Counts.{Counts, none};
 ghost use Rattle.ap_books.specs.Reading.{Reads};
-ghost use Rattle.apd_crew.specs.Tallies.{told_counts};
+ghost use Rattle.apd_run.specs.Tallies.{told_counts};
 ghost use Rattle.apd_run.specs.Crews.{Crew, gains, with_one_more};
 
 use ap_books::Totals;
 use ap_model::Event;
-use apd_lines::Told;
 use apd_script::Command;
+use apd_text::Told;
 use std::sync::Wait;
 
 /// The queue of a shard was full: the event, and the first shard whose worker wasn't given it.

@@ -3,12 +3,12 @@
 ghost use Rattle.std.specs.Prelude.{◌≡◌, length, vec_len, IfOk, OnOk, OnErr};
 ghost use Rattle.apd_run.specs.Shows.{Shows, Breaks};
 
+use crate::crew::{Desk, Serving, Signs, Task, start_all, work};
 use crate::interval::intervals;
 use crate::operating::Operating;
 use crate::setting::{Setting, Staff};
-use apd_crew::{Desk, Serving, Signs, Task, start_all, work};
-use apd_lines::PrintFault;
 use apd_script::Numbered;
+use apd_text::PrintFault;
 use std::alloc::Global;
 use std::io::Write;
 use std::sync::Wait;

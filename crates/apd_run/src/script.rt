@@ -3,12 +3,12 @@
 ghost use Rattle.std.specs.Prelude.{◌≡◌, vec_len, IfOk, OnOk, OnErr};
 ghost use Rattle.apd_run.specs.Shows.{Shows, Breaks, IsBroken, status_of, Finishes, Runs};
 
+use crate::crew::{Desk, Ready, Serving, Signs};
 use crate::operating::Operating;
 use crate::running::{Ran, Work, run_threads};
 use crate::setting::{Setting, Staff};
-use apd_crew::{Desk, Ready, Serving, Signs};
-use apd_lines::{PrintFault, print_totals};
 use apd_script::Numbered;
+use apd_text::{PrintFault, print_totals};
 use std::alloc::{AllocError, Global};
 use std::io::Write;
 use std::sync::Wait;

@@ -2,8 +2,8 @@
 
 ghost use Rattle.std.specs.Prelude.{◌≡◌};
 
+use crate::crew::{Desk, Ready, Serving, Signs};
 use crate::operating::Operating;
-use apd_crew::{Desk, Ready, Serving, Signs};
 use std::alloc::Global;
 
 /// What the operator shares with the workers' threads.

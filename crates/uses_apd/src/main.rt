@@ -5,8 +5,8 @@
 //! each line, and then the status, if it is not 0.
 #![tactic(auto)]
 
-use apd_entry::Messages;
 use apd_files::RealFiles;
+use apd_program::Messages;
 use std::alloc::{AllocError, Global};
 use std::io;
 use std::io::Write;
@@ -65,7 +65,7 @@ where
 {
     let words = words_of(alloc, line)?;
     let mut files = RealFiles::new(rt);
-    let (_, status) = apd_entry::perform(rt, alloc, words.as_slice(), &mut files, out, messages);
+    let (_, status) = apd_program::perform(rt, alloc, words.as_slice(), &mut files, out, messages);
     Ok(status)
 }
 

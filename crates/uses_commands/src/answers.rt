@@ -3,7 +3,7 @@
 use crate::same::{holds, same};
 use crate::told::{Told, answer, complains, repeated, tells};
 use crate::writing::Narrow;
-use apd_inputs::{FileFault, Files};
+use apd_files::{FileFault, Files};
 use apd_program::apd_main;
 use std::alloc::Global;
 use std::process::Abort;

@@ -2,7 +2,7 @@
 
 use crate::same::{holds, same};
 use crate::told::{Told, answer, complains, repeated, tells};
-use apd_inputs::{FileFault, FileKind, Files};
+use apd_files::{FileFault, FileKind, Files};
 use std::alloc::Global;
 use std::process::Abort;
 

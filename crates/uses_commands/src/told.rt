@@ -1,7 +1,7 @@
 //! What `apd` answers, and the long texts that it is given.
 
 use crate::same::{holds, same};
-use apd_inputs::Files;
+use apd_files::Files;
 use apd_program::apd_main;
 use std::alloc::Global;
 use std::process::Abort;

@@ -1,7 +1,7 @@
 //! Writers that take little, and what they were given.
 
 use crate::same::{holds, same};
-use apd_output::{Unwritten, write_whole};
+use apd_files::{Unwritten, write_whole};
 use std::io::{self, Error, ErrorKind, Write};
 
 /// Takes `step` bytes a write, and fails from the write that would pass `room`.

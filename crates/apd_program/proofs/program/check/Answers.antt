@@ -1,8 +1,8 @@
 use Rattle.std.proofs.Common.{rules, subst}
 use Rattle.std.specs.Result.{IfErr}
 use Rattle.std.proofs.lemmas.Result.{IfErr-weaker, IfOk-weaker}
-use Rattle.apd_inputs.specs.declared.files.FileKind.TheVariants.{Certificate}
-use Rattle.apd_inputs.specs.Held.{Held, HoldsCode}
+use Rattle.apd_files.specs.declared.inputs.files.FileKind.TheVariants.{Certificate}
+use Rattle.apd_files.specs.Held.{Held, HoldsCode}
 use Rattle.apd_program.specs.Certifying.{IsChecked}
 use Rattle.apd_program.specs.Faults.{IsMemoryOr, IsBadSource, HasBadDigits}
 use Rattle.apd_program.proofs.Faulty.{HasNoCertificate-others, HasNoCertificate-file}

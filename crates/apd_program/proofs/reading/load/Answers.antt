@@ -1,7 +1,7 @@
 use Rattle.std.proofs.Common.{rules, ◌^◌, ◌∙◌, subst}
 use Rattle.std.specs.Result.{IfErr}
 use Rattle.std.proofs.lemmas.Result.{IfErr-weaker}
-use Rattle.apd_inputs.specs.Held.{Held, HoldsKept}
+use Rattle.apd_files.specs.Held.{Held, HoldsKept}
 use Rattle.apd_words.specs.Asked.{config_of}
 use Rattle.apd_program.specs.Faults.{IsMemoryOr, IsBadConfig, HasBadCode}
 use Rattle.apd_program.proofs.Faulty.{IsAtFault-configuration, IsAtFault-code}

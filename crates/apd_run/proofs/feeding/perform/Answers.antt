@@ -1,4 +1,4 @@
-use Rattle.apd_lines.specs.declared.report.Report.{Report}
+use Rattle.apd_text.specs.declared.reports.report.Report.{Report}
 use Rattle.apd_run.proofs.Tallying.{tells_one}
 use Rattle.apd_run.proofs.feeding.perform.Goals as goal
 

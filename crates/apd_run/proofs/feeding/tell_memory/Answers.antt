@@ -1,6 +1,6 @@
 use Rattle.std.proofs.Common.{refl}
-use Rattle.apd_lines.specs.declared.report.Told.TheVariants.{Memory}
-use Rattle.apd_lines.specs.declared.report.Report.{Report}
+use Rattle.apd_text.specs.declared.reports.report.Told.TheVariants.{Memory}
+use Rattle.apd_text.specs.declared.reports.report.Report.{Report}
 use Rattle.apd_run.proofs.Tallying.{tells_one}
 use Rattle.apd_run.proofs.feeding.tell_memory.Goals as goal
 

@@ -1,6 +1,6 @@
 use Rattle.std.proofs.Common.{ap, refl, subst, ◌∙◌}
-use Rattle.ap_queue.specs.declared.item.Queued.{Queued}
-use Rattle.ap_queue.specs.Passes.{taken_by}
+use Rattle.ap_queues.specs.declared.item.Queued.{Queued}
+use Rattle.ap_queues.specs.Passes.{taken_by}
 use Rattle.ap_tagged.specs.declared.tagged.Tagged.{Tagged}
 use Rattle.ap_live.specs.Serving.{ServedOne, Serves, progress_of}
 use Rattle.ap_live.specs.Tokens.{Worker}

@@ -1,0 +1,13 @@
+use Rattle.std.proofs.Common.{◌≡◌, length, vec_capacity}
+use Rattle.ap_queues.specs.Passes.{IsOperatorOf}
+use Rattle.ap_rows.specs.Rows.{Stand}
+use Rattle.ap_queues.specs.Lines.{ArePassesOf}
+use Rattle.ap_queues.proofs.lines.lines.EventLines.operator.Given as goal
+
+abbrev pub invariant-loop-worker : goal.invariant-loop-worker
+invariant-loop-worker l = record {
+  left : ArePassesOf l.self l.left;
+  count : length l.passes.items ≡ l.worker;
+  room : vec_capacity l.passes ≡ length l.self;
+  own : Stand IsOperatorOf l.self l.passes.items;
+}

@@ -1,0 +1,105 @@
+//! The queues of all workers.
+
+ghost use Rattle.std.specs.Prelude.{◌≡◌, ◌<◌, length, slice_get, Some, IfOk};
+ghost use Rattle.ap_queues.specs.Passes.{IsWorkerOf};
+ghost use Rattle.ap_queues.specs.declared.queue.EventQueue.{EventQueue};
+ghost use Rattle.ap_queues.specs.Lines.{ArePassesOf, AreLinesOf};
+
+use crate::lines::fault::{LineFault, Unserved};
+use crate::lines::passes::{LinePasses, OperatorLines};
+use crate::{EventQueue, WorkerPass};
+use std::alloc::{AllocError, Global};
+use std::marker::Model;
+
+/// The queue of each worker, by the workers' numbers. Threads share it by reference.
+#[derive(Drop)]
+pub struct EventLines {
+    pub(crate) queues: Vec<EventQueue>,
+}
+
+impl Model for EventLines {
+    ghost use Rattle.std.specs.Prelude.{List, ◌<◌, length};
+    ghost use Rattle.ap_queues.specs.declared.queue.EventQueue.{EventQueue};
+
+    ghost Value = { List EventQueue };
+
+    ghost view = { λ l. l.queues.items };
+
+    ghost invariant = { λ l. 0 < length l.queues.items };
+}
+
+impl EventLines {
+    /// An empty queue for each of so many workers, and what gives their passes.
+    pub fn open(alloc: Global, workers: usize) -> Result<(EventLines, LinePasses), AllocError>
+        requires some { 0 < workers }
+        ensures workers { IfOk result (λ r. length r.0 ≡ workers) }
+        ensures own { IfOk result (λ r. ArePassesOf r.0 r.1) }
+    {
+        let mut queues = Vec::with_capacity(alloc, workers)?;
+        let mut makers = Vec::with_capacity(alloc, workers)?;
+        let mut passes = Vec::with_capacity(alloc, workers)?;
+        for _ in 0..workers {
+            let (queue, maker, pass) = EventQueue::open(alloc)?;
+            queues.push_reserved(queue);
+            makers.push_reserved(maker);
+            passes.push_reserved(Some(pass));
+        }
+        let lines = EventLines { queues };
+        Ok((
+            lines,
+            LinePasses {
+                makers,
+                workers: passes,
+            },
+        ))
+    }
+
+    /// How many workers there are.
+    pub fn workers(&self) -> usize
+        ensures is { result ≡ length self.now }
+        ensures some { 0 < result }
+    {
+        self.queues.len()
+    }
+
+    /// The queue of a worker.
+    pub fn queue(&self, worker: usize) -> &EventQueue
+        requires there { worker < length self.now }
+        ensures is { slice_get self.now worker ≡ Some result.now }
+    {
+        &self.queues[worker]
+    }
+
+    /// The passes of the next operator. Fault 62 comes where all are given out, fault 40 only for want
+    /// of memory. Nothing is said of passes that are left: only tests show that 8 operators are given
+    /// them.
+    pub fn operator(&self, alloc: Global, left: &mut LinePasses) -> Result<OperatorLines, LineFault>
+        requires { ArePassesOf self.now left.old }
+        ensures left { ArePassesOf self.now left.new }
+        ensures own { IfOk result (AreLinesOf self.now) }
+    {
+        let mut passes = Vec::with_capacity(alloc, self.queues.len())?;
+        for worker in 0..self.queues.len() {
+            let maker = &mut left.makers[worker];
+            let Some(pass) = self.queues[worker].operator(maker) else {
+                return Err(LineFault::NoPass);
+            };
+            passes.push_reserved(pass);
+        }
+        Ok(OperatorLines { passes })
+    }
+
+    /// The pass of a worker, once. Then the fault is 62. Only tests show that it is given.
+    pub fn worker(&self, left: &mut LinePasses, worker: usize) -> Result<WorkerPass, LineFault>
+        requires own { ArePassesOf self.now left.old }
+        requires there { worker < length self.now }
+        ensures left { ArePassesOf self.now left.new }
+        ensures own { IfOk result
+            (λ p. (q : EventQueue) → slice_get self.now worker ≡ Some q → IsWorkerOf q p) }
+    {
+        match left.workers[worker].take() {
+            Some(pass) => Ok(pass),
+            None => Err(LineFault::NoPass),
+        }
+    }
+}

@@ -1,0 +1,173 @@
+//! The queue and its passes.
+
+ghost use Rattle.std.specs.Prelude.{◌≡◌, ◌+◌, ◌<◌, ◌≤◌, ◌++◌, ◌∷◌, [], true, IfOk, IfErr, OnOk, OnErr, IfSome, IfNone};
+ghost use Rattle.crossbeam_queue.specs.Passes.{view, ruled_capacity};
+
+use crate::item::{Item, Queued, View};
+use crate::rule::{Founding, Hiring, Meeting, OneQueue, Parting, Puts, Takes, Whole};
+use crossbeam_queue::{Pass, RuledArrayQueue};
+use std::alloc::{AllocError, Global};
+use std::fmt;
+use std::sync::Wait;
+
+/// The most events that the queue holds.
+const ROOM: usize = 256;
+
+/// The most operators of a queue.
+const MOST_OPERATORS: u8 = 8;
+
+/// The events that wait for one worker, at most 256, from the oldest on. Threads share it by reference.
+#[derive(Drop)]
+pub struct EventQueue {
+    queue: RuledArrayQueue<Queued, View, OneQueue>,
+    ghost room: { ruled_capacity queue ≡ 256 },
+}
+
+/// Makes the operators of a queue, 8 at most.
+#[derive(Drop)]
+pub struct PassMaker {
+    made: u8,
+    pass: Pass<Queued, View>,
+    ghost makes: { (view pass).makes ≡ true },
+    ghost count: { (view pass).made ≡ made },
+}
+
+/// The right to put events, as the operator of a number of 0 to 7. It is in one hand at a time.
+#[derive(Drop)]
+pub struct OperatorPass {
+    number: u8,
+    pass: Pass<Queued, View>,
+    ghost puts: { (view pass).puts ≡ true },
+    ghost own: { (view pass).operator ≡ number },
+}
+
+/// The right to take events. A queue has one.
+#[derive(Drop)]
+pub struct WorkerPass {
+    pass: Pass<Queued, View>,
+    ghost takes: { (view pass).takes ≡ true },
+}
+
+/// 61: the queue was full. The item is handed back.
+#[derive(Drop)]
+pub struct QueueFull {
+    pub item: Item,
+}
+
+impl EventQueue {
+    ghost use Rattle.std.specs.Prelude.{◌≡◌, ◌+◌, ◌<◌, ◌≤◌, ◌++◌, ◌∷◌, [], IfOk, IfErr, OnOk, OnErr, IfSome, IfNone, MatchOption};
+    ghost use Rattle.ap_queues.specs.Passes.{IsMakerOf, IsOperatorOf, IsWorkerOf, number_of, put_by, taken_by, WasFull, AreTaken};
+
+    /// An empty queue, what makes its operators, and the pass of its worker.
+    pub fn open(alloc: Global) -> Result<(EventQueue, PassMaker, WorkerPass), AllocError>
+        ensures maker { IfOk result (λ r. IsMakerOf r.0 r.1) }
+        ensures worker { IfOk result (λ r. IsWorkerOf r.0 r.2) }
+        ensures unmade { IfOk result (λ r. r.1.made ≡ 0) }
+        ensures untaken { IfOk result (λ r. taken_by r.2 ≡ []) }
+    {
+        let (queue, mut pass) = RuledArrayQueue::ruled(alloc, ROOM)?;
+        let worker = queue.another::<Founding>(&mut pass);
+        Ok((
+            EventQueue { queue },
+            PassMaker { made: 0, pass },
+            WorkerPass { pass: worker },
+        ))
+    }
+
+    /// The pass of the next operator, or None where all 8 are given out.
+    pub fn operator(&self, maker: &mut PassMaker) -> Option<OperatorPass>
+        requires { IsMakerOf self.now maker.old }
+        ensures maker { IsMakerOf self.now maker.new }
+        ensures operator { IfSome result (λ p. IsOperatorOf self.now p) }
+        ensures number { IfSome result (λ p. number_of p ≡ maker.old.made) }
+        ensures unput { IfSome result (λ p. put_by p ≡ []) }
+        ensures made { IfSome result (λ _. maker.new.made ≡ maker.old.made + 1) }
+        ensures none { IfNone result (8 ≤ maker.old.made) }
+    {
+        if maker.made >= MOST_OPERATORS {
+            return None;
+        }
+        let PassMaker { made, pass } = maker;
+        let number = *made;
+        let pass = self.queue.another::<Hiring>(pass);
+        *made = number + 1;
+        Some(OperatorPass { number, pass })
+    }
+
+    /// Puts an item, which is then the last one of what the operator put. It comes back where the
+    /// queue held 256 items at a moment of the call.
+    pub fn put<R: Wait>(
+        &self,
+        rt: &R,
+        operator: &mut OperatorPass,
+        item: Item,
+    ) -> Result<(), QueueFull>
+        requires { IsOperatorOf self.now operator.old }
+        ensures operator { IsOperatorOf self.now operator.new }
+        ensures number { number_of operator.new ≡ number_of operator.old }
+        ensures put { OnOk result (put_by operator.new ≡ put_by operator.old ++ item ∷ []) }
+        ensures refused { OnErr result (put_by operator.new ≡ put_by operator.old) }
+        ensures back { IfErr result (λ full. full.item ≡ item) }
+        ensures full { OnErr result (WasFull operator.old) }
+    {
+        let queued = Queued {
+            operator: operator.number,
+            item,
+        };
+        match self
+            .queue
+            .push_as::<Puts, R>(rt, &mut operator.pass, queued)
+        {
+            Ok(()) => Ok(()),
+            Err(back) => {
+                let Queued { item, .. } = back;
+                Err(QueueFull { item })
+            }
+        }
+    }
+
+    /// Takes the oldest item, or None where there is none.
+    pub fn take<R: Wait>(&self, rt: &R, worker: &mut WorkerPass) -> Option<Queued>
+        requires { IsWorkerOf self.now worker.old }
+        ensures worker { IsWorkerOf self.now worker.new }
+        ensures taken { IfSome result (λ q. taken_by worker.new ≡ taken_by worker.old ++ q ∷ []) }
+        ensures none { IfNone result (taken_by worker.new ≡ taken_by worker.old) }
+    {
+        self.queue.pop_as::<Takes, R>(rt, &mut worker.pass)
+    }
+
+    /// Brings a worker and an operator together: what was taken of this operator is a beginning of
+    /// what it put, in its order, each once. Nothing happens.
+    pub fn meet(&self, worker: &mut WorkerPass, operator: OperatorPass) -> OperatorPass
+        requires worker { IsWorkerOf self.now worker.old }
+        requires operator { IsOperatorOf self.now operator }
+        ensures worker { IsWorkerOf self.now worker.new }
+        ensures operator { IsOperatorOf self.now result }
+        ensures taken { taken_by worker.new ≡ taken_by worker.old }
+        ensures number { number_of result ≡ number_of operator }
+        ensures put { put_by result ≡ put_by operator }
+        ensures order { AreTaken operator worker.old }
+    {
+        let OperatorPass { number, pass } = operator;
+        let mine = &mut worker.pass;
+        self.queue.absorb::<Meeting>(mine, pass);
+        self.queue.learn_as::<Whole>(mine);
+        let pass = self.queue.another::<Parting>(mine);
+        OperatorPass { number, pass }
+    }
+}
+
+impl QueueFull {
+    /// 61.
+    pub fn number(&self) -> u8
+        ensures is { result ≡ 61 }
+    {
+        61
+    }
+}
+
+impl fmt::Display for QueueFull {
+    fn fmt<W: fmt::Write>(&self, f: &mut fmt::Formatter<W>) -> fmt::Result {
+        f.write_str("the queue of the worker is full")
+    }
+}

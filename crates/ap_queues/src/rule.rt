@@ -1,0 +1,98 @@
+//! The rule of the queue, and what its steps tell.
+
+use crate::item::{Queued, View};
+use crossbeam_queue::protocol::{Join, Lesson, Outcome, Protocol, Split};
+
+/// What was put is what was taken and then what the queue holds, and each operator knows what it put.
+pub struct OneQueue;
+
+impl Protocol<Queued, View> for OneQueue {
+    ghost use Rattle.ap_queues.specs.Queues.{OneQueue, founder};
+
+    ghost holds = { OneQueue };
+
+    ghost first = { founder };
+}
+
+/// An operator puts. Where there is no room, it learns what the queue holds of it.
+pub(crate) struct Puts;
+
+impl Outcome<Queued, View> for Puts {
+    ghost use Rattle.std.specs.Prelude.{◌≡◌, ◌++◌, ◌∷◌, []};
+
+    ghost then = { λ v x w. w ≡ record v { put = v.put ++ x.item ∷ [] } };
+}
+
+impl Lesson<Queued, View> for Puts {
+    ghost use Rattle.ap_queues.specs.Queues.{EndsIn};
+
+    ghost fact = { λ v items. EndsIn v items };
+}
+
+/// The worker takes.
+pub(crate) struct Takes;
+
+impl Outcome<Queued, View> for Takes {
+    ghost use Rattle.std.specs.Prelude.{◌≡◌, ◌++◌, ◌∷◌, []};
+
+    ghost then = { λ v x w. w ≡ record v { taken = v.taken ++ x ∷ [] } };
+}
+
+impl Lesson<Queued, View> for Takes {
+    ghost fact = { λ v items. Unit {0} };
+}
+
+/// Who takes and has an operator's place knows what became of what that operator put.
+pub(crate) struct Whole;
+
+impl Lesson<Queued, View> for Whole {
+    ghost use Rattle.std.specs.Prelude.{◌≡◌, ◌++◌};
+    ghost use Rattle.ap_queues.specs.Queues.{of};
+
+    ghost fact = { λ v items. v.put ≡ of v.operator v.taken ++ of v.operator items };
+}
+
+/// The first pass gives away the right to take.
+pub(crate) struct Founding;
+
+impl Split<View> for Founding {
+    ghost use Rattle.ap_queues.specs.Queues.{maker, worker};
+
+    ghost left = { λ v. maker v.made };
+
+    ghost right = { λ v. worker v.taken };
+}
+
+/// A new operator.
+pub(crate) struct Hiring;
+
+impl Split<View> for Hiring {
+    ghost use Rattle.std.specs.Prelude.{◌+◌, []};
+    ghost use Rattle.ap_queues.specs.Queues.{maker, operator};
+
+    ghost left = { λ v. maker (v.made + 1) };
+
+    ghost right = { λ v. operator v.made [] };
+}
+
+/// The worker takes an operator's place in.
+pub(crate) struct Meeting;
+
+impl Join<View> for Meeting {
+    ghost use Rattle.ap_queues.specs.Queues.{both, nobody};
+
+    ghost both = { λ v w. both v.taken w.operator w.put };
+
+    ghost spent = { nobody };
+}
+
+/// The worker gives the operator's place back.
+pub(crate) struct Parting;
+
+impl Split<View> for Parting {
+    ghost use Rattle.ap_queues.specs.Queues.{worker, operator};
+
+    ghost left = { λ v. worker v.taken };
+
+    ghost right = { λ v. operator v.operator v.put };
+}

@@ -1,0 +1,75 @@
+-- Files, and the code that they spell.
+use Rattle.std.specs.Prelude.{◌≡◌, ◌<◌, ◌%◌, ◌⊎◌, ℕ, List, length, Option, Some, None, Result, Ok, IfSome, not, filter}
+use Rattle.std.specs.Char.{is_ascii_whitespace}
+use Rattle.hex.specs.Hex.{decode_of}
+use Rattle.hex.specs.declared.error.FromHexError.{FromHexError}
+use Rattle.apd_files.specs.Kinds.{most_of}
+use Rattle.apd_files.specs.declared.inputs.files.FileFault.{FileFault}
+use Rattle.apd_files.specs.declared.inputs.files.FileFault.TheVariants as fault
+use Rattle.apd_files.specs.declared.inputs.files.FileKind.{FileKind}
+
+-- What is known of files, by their paths: nothing, or the file's bytes, or that there is none to be read.
+abbrev pub Held : Type 0
+Held = List ℕ → Option (Option (List ℕ))
+
+-- the file's bytes, as far as is known
+abbrev pub Holds : Held → List ℕ → List ℕ → Type 0
+Holds files path bytes = IfSome (files path) (λ file. file ≡ Some bytes)
+
+-- the file has more bytes than so many
+abbrev pub IsLonger : ℕ → Option (List ℕ) → Type 0
+IsLonger most file = (bytes : List ℕ) × (file ≡ Some bytes) × (most < length bytes)
+
+-- there is no file, or it has more bytes than are read of one of its kind
+abbrev pub IsNoInput : FileKind → Option (List ℕ) → Type 0
+IsNoInput kind file = (file ≡ None) ⊎ IsLonger (most_of kind) file
+
+-- why a file isn't opened: there is none; of memory nothing is said
+abbrev pub IsUnopened : FileFault → Option (List ℕ) → Type 0
+IsUnopened fault.NoMemory file = Unit {0}
+IsUnopened (fault.TooLong most) file = ⊥
+IsUnopened fault.Missing file = file ≡ None
+IsUnopened fault.Directory file = file ≡ None
+IsUnopened fault.NotAllowed file = file ≡ None
+IsUnopened fault.Failed file = file ≡ None
+
+-- why a file of the kind isn't read: it is too long, or there is none; of memory nothing is said
+abbrev pub IsUnread : FileKind → FileFault → Option (List ℕ) → Type 0
+IsUnread kind fault.NoMemory file = Unit {0}
+IsUnread kind (fault.TooLong most) file = (most ≡ most_of kind) × IsLonger (most_of kind) file
+IsUnread kind fault.Missing file = file ≡ None
+IsUnread kind fault.Directory file = file ≡ None
+IsUnread kind fault.NotAllowed file = file ≡ None
+IsUnread kind fault.Failed file = file ≡ None
+
+-- no file of the kind can be read there, as far as is known
+abbrev pub Lacks : FileKind → Held → List ℕ → Type 0
+Lacks kind files path = IfSome (files path) (IsNoInput kind)
+
+-- the hex digits of a text: all but its white space
+abbrev pub digits_of : List ℕ → List ℕ
+digits_of text = filter (λ byte. not (is_ascii_whitespace byte)) text
+
+-- the code that hex digits of either case spell, with white space between any two
+abbrev pub code_of : List ℕ → Result (List ℕ) FromHexError
+code_of text = decode_of (digits_of text)
+
+-- the file spells the code
+pub record HoldsCode (files : Held) (path code : List ℕ) : Type 0 where
+  pub text : List ℕ
+  pub there : Holds files path text
+  pub spelled : code_of text ≡ Ok code
+
+-- what is kept of a list: all of it, or where it is longer than `most` something that is, too, and whose
+-- length leaves the same remainder
+pub data Keeps (most unit : ℕ) (whole kept : List ℕ) : Type 0 where
+  Whole : kept ≡ whole → Keeps most unit whole kept
+  Part : most < length whole → most < length kept → length kept % unit ≡ length whole % unit →
+      Keeps most unit whole kept
+
+-- the file spells code of which this is kept: all, or where it has more than `most` bytes some more than
+-- that, with the same length but for whole slots of 8 bytes
+pub record HoldsKept (most : ℕ) (files : Held) (path kept : List ℕ) : Type 0 where
+  pub code : List ℕ
+  pub held : HoldsCode files path code
+  pub keeps : Keeps most 8 code kept

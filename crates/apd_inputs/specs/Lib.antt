@@ -1,4 +1,0 @@
-pub mod Kinds
-pub mod Held
-pub mod Reading
-pub mod Faults

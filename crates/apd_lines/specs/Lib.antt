@@ -1,4 +1,0 @@
-pub mod Words
-pub mod Lines
-pub mod Order
-pub mod Moving

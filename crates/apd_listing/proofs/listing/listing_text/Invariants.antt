@@ -1,7 +1,0 @@
--- The lines so far are those of the slots before.
-use Rattle.std.specs.String.{string_bytes}
-use Rattle.apd_listing.specs.Listing.{IsListed}
-use Rattle.apd_listing.proofs.listing.listing_text.Given as goal
-
-abbrev pub invariant-loop-slot : goal.invariant-loop-slot
-invariant-loop-slot l = IsListed l.program.slots l.slot (string_bytes l.text)

@@ -1,2 +1,0 @@
-pub mod KeptCode
-pub mod Putting

@@ -1,0 +1,58 @@
+-- What changes of tokens and of loads keep.
+use Rattle.std.proofs.Common.{◌≡◌, ℕ, sym, ap, subst, ◌∙◌}
+use Rattle.ap_books.specs.Holdings.{Holding, HasParts}
+use Rattle.ap_shards.specs.Tokens.{Eight, holding_of}
+use Rattle.ap_live.specs.Counting.{counted_by}
+use Rattle.ap_live.specs.Tokens.{Operator, IsOperator, Worker, IsWorker}
+use Rattle.logbook.specs.Pages.{Book}
+use Rattle.versions.specs.Lists.{Beginning}
+use Rattle.apd_run.specs.Hands.{RunOperator, IsRunOperator, RunWorker, IsRunWorker}
+
+-- an operator whose token has the same parts of the ledgers
+pub other_token : (shares : ℕ) (list : Book) (o : RunOperator) (t : Operator) → IsOperator o.ap t → t.shards ≡ o.token.shards → IsRunOperator shares list o
+    → IsRunOperator shares list (record o { token = t })
+other_token shares list o t own same h =
+    record {
+      own = own;
+      mine = subst (λ (e : Eight). HasParts 1 (holding_of e)) (sym same) h.mine;
+      nothing = ap counted_by same ∙ h.nothing;
+      parts = h.parts;
+      all = h.all;
+      shares_are = h.shares_are;
+      some = h.some;
+      list_is = h.list_is;
+    }
+
+-- an operator whose loads are of the same list
+pub other_loads : (shares : ℕ) (list : Book) (o : RunOperator) (b : Beginning) → b.list ≡ o.loads.list → IsRunOperator shares list o
+    → IsRunOperator shares list (record o { loads = b })
+other_loads shares list o b same h =
+    record {
+      own = h.own;
+      mine = h.mine;
+      nothing = h.nothing;
+      parts = h.parts;
+      all = h.all;
+      shares_are = h.shares_are;
+      some = h.some;
+      list_is = same ∙ h.list_is;
+    }
+
+-- a worker whose token has other parts of the ledgers, one of each
+pub other_parts : (list : Book) (w : RunWorker) (t : Worker) (fresh : Holding) → t ≡ record w.token { shards = t.shards } → holding_of t.shards ≡ fresh → HasParts 1 fresh
+    → IsRunWorker list w → IsRunWorker list (record w { token = t })
+other_parts list w t fresh same taken one h =
+    record {
+      own = subst (IsWorker w.ap) (sym same) (record { number = h.own.number; pass = h.own.pass; list = h.own.list; fitting = h.own.fitting });
+      list_is = h.list_is;
+      parts = subst (HasParts 1) (sym taken) one;
+    }
+
+-- a worker whose token has the same parts of the ledgers
+pub same_parts : (list : Book) (w : RunWorker) (t : Worker) → IsWorker w.ap t → t.shards ≡ w.token.shards → IsRunWorker list w → IsRunWorker list (record w { token = t })
+same_parts list w t own same h =
+    record {
+      own = own;
+      list_is = h.list_is;
+      parts = subst (λ (e : Eight). HasParts 1 (holding_of e)) (sym same) h.parts;
+    }

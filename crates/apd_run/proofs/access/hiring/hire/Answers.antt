@@ -1,0 +1,28 @@
+use Rattle.std.proofs.Common.{◌∙◌, arith}
+use Rattle.ap_live.specs.Tokens.{IsWorker}
+use Rattle.apd_run.specs.Dealing.{IsNewWorker}
+use Rattle.apd_run.proofs.OneByOne.{all_and_one}
+use Rattle.apd_run.proofs.Sums.{given_none}
+use Rattle.apd_run.proofs.access.hiring.hire.Goals as goal
+
+pub loop-number-preserved : goal.loop-number-preserved
+loop-number-preserved g c =
+    let a = c.loop-number.ap in
+    let b = c.worker.new.self in
+    let old = c.loop-number.tokens.items in
+    let new = c.push.new.self.items in
+    let token = c.in-Ok.token in
+    let given = c.in-Ok.ensures.given in
+    let stock = c.loop-number.left.shards in
+    record {
+      left = c.worker.ensures.left;
+      all = c.worker.ensures.keeps.workers ∙ c.loop-number.invariant.all;
+      own = all_and_one (IsWorker a) (IsWorker b) old new token (λ w. c.tokens_law.ensures.workers a b w c.worker.ensures.keeps) c.loop-number.invariant.own c.in-Ok.ensures.own c.in_ok-push.ensures.items;
+      new_workers = all_and_one IsNewWorker IsNewWorker old new token (λ w h. h) c.loop-number.invariant.new_workers
+          (record { parts = c.newcomers_law.ensures.parts stock token.shards c.in-Ok.ensures.new; nothing = c.newcomers_law.ensures.nothing stock token.shards c.in-Ok.ensures.new })
+          c.in_ok-push.ensures.items;
+      many = omega (arith, c.in_ok-push.ensures.len, c.loop-number.invariant.many);
+      parts = omega (arith, c.in_ok-push.ensures.len, given.parts, c.loop-number.invariant.parts);
+      counted = given_none stock c.worker.new.left.shards given.shards ∙ c.loop-number.invariant.counted;
+      list = c.worker.ensures.keeps.list ∙ c.loop-number.invariant.list;
+    }

@@ -1,0 +1,19 @@
+use Rattle.std.proofs.Common.{◌≡◌, ◌+◌, vec_len}
+use Rattle.std.specs.List.{All}
+use Rattle.ap_live.specs.Counting.{counted_by}
+use Rattle.ap_live.specs.Tokens.{AreLeft, IsWorker}
+use Rattle.apd_run.specs.Dealing.{IsNewWorker}
+use Rattle.apd_run.proofs.access.hiring.hire.Given as goal
+
+abbrev pub invariant-loop-number : goal.invariant-loop-number
+invariant-loop-number g l =
+    record {
+      left : AreLeft l.ap l.left;
+      all : l.ap.stock.workers ≡ l.count;
+      own : All (IsWorker l.ap) l.tokens.items;
+      new_workers : All IsNewWorker l.tokens.items;
+      many : vec_len l.tokens ≡ l.number;
+      parts : l.left.parts + vec_len l.tokens ≡ l.initial.left.parts;
+      counted : counted_by l.left.shards ≡ counted_by l.initial.left.shards;
+      list : l.ap.list ≡ l.initial.ap.list;
+    }

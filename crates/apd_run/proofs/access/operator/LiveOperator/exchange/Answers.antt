@@ -1,0 +1,49 @@
+use Rattle.std.proofs.Common.{◌≡◌, ap, sym, subst, ◌∙◌}
+use Rattle.ap_books.specs.Counts.{Counts, plus}
+use Rattle.ap_books.specs.Holdings.{Holding, HasParts, sum_of}
+use Rattle.ap_live.specs.Counting.{counted_by}
+use Rattle.apd_run.specs.Crews.{Crew, gains}
+use Rattle.apd_run.specs.Hands.{RunOperator, RunWorker, crew_of}
+use Rattle.apd_run.proofs.Keeping.{other_parts}
+use Rattle.apd_run.proofs.Sums.{exchanged_parts, fresh, merged_sum, more_than_one}
+use Rattle.apd_run.proofs.access.operator.LiveOperator.exchange.Goals as goal
+
+pub split_off-fresh-requires-clause-more : goal.split_off-fresh-requires-clause-more
+split_off-fresh-requires-clause-more g c = more_than_one c.self.inside.parts c.self.inside.hoard c.self.invariant.some c.self.invariant.parts
+
+pub renew-counted-requires : goal.renew-counted-requires
+renew-counted-requires g c = fresh c.split_off-fresh.result c.split_off-fresh.ensures.parts c.split_off-fresh.ensures.none
+
+pub returns-clause-worker : goal.returns-clause-worker
+returns-clause-worker g c = ap sum_of c.renew-counted.ensures.taken ∙ c.split_off-fresh.ensures.none
+
+pub invariant_of-self : goal.invariant_of-self
+invariant_of-self g c =
+    let i = c.self.invariant in
+    let given : HasParts 1 c.renew-counted.result = subst (HasParts 1) (sym c.renew-counted.ensures.given) c.worker.invariant.parts in
+    record {
+      own = i.own;
+      mine = i.mine;
+      nothing = i.nothing;
+      parts = exchanged_parts c.self.inside.parts c.self.inside.hoard c.split_off-fresh.new.self c.renew-counted.result c.merge.new.self i.parts c.split_off-fresh.ensures.left given c.merge.ensures;
+      all = i.all;
+      shares_are = i.shares_are;
+      some = i.some;
+      list_is = i.list_is;
+    }
+
+pub invariant_of-worker : goal.invariant_of-worker
+invariant_of-worker g c =
+    other_parts _ _ _ c.split_off-fresh.result c.renew-counted.ensures.same c.renew-counted.ensures.taken c.split_off-fresh.ensures.parts c.worker.invariant
+
+pub returns-clause-crew : goal.returns-clause-crew
+returns-clause-crew g c =
+    let hoard = c.self.inside.hoard in
+    let shards = c.worker.inside.token.shards in
+    let counted : sum_of c.merge.new.self ≡ plus (sum_of hoard) (counted_by shards) =
+    merged_sum c.split_off-fresh.new.self c.renew-counted.result c.merge.new.self c.merge.ensures
+    ∙ (ap (λ (x : Counts). plus x (sum_of c.renew-counted.result)) c.split_off-fresh.ensures.counts ∙ ap (λ (h : Holding). plus (sum_of hoard) (sum_of h)) c.renew-counted.ensures.given) in
+    let before : Crew = record { workers = c.self.inside.workers; counted = sum_of hoard } in
+    let after : Crew = record { workers = c.self.inside.workers; counted = sum_of c.merge.new.self } in
+    let crew : after ≡ gains before (counted_by shards) = λ i. record { workers = c.self.inside.workers; counted = counted i } in
+    crew ∙ (ap (λ (o : RunOperator). gains (crew_of o) (counted_by shards)) c.self.view_is ∙ ap (λ (w : RunWorker). gains (crew_of c.args.self.now) (counted_by w.token.shards)) c.worker.view_is)

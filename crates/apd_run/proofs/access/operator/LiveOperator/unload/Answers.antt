@@ -1,0 +1,14 @@
+use Rattle.std.proofs.Common.{ap}
+use Rattle.versions.specs.Lists.{Beginning}
+use Rattle.apd_run.specs.Hands.{crew_of}
+use Rattle.apd_run.proofs.Keeping.{other_loads}
+use Rattle.apd_run.proofs.access.operator.LiveOperator.unload.Goals as goal
+
+pub invariant_of-self-in-Err : goal.invariant_of-self-in-Err
+invariant_of-self-in-Err g c = other_loads _ _ _ _ (ap (λ (b : Beginning). b.list) c.in-Err.ensures.refused) c.self.invariant
+
+pub returns-in-Ok-clause-same : goal.returns-in-Ok-clause-same
+returns-in-Ok-clause-same g c = ap crew_of c.self.view_is
+
+pub returns-in-Err-clause-same : goal.returns-in-Err-clause-same
+returns-in-Err-clause-same g c = ap crew_of c.self.view_is

@@ -1,0 +1,20 @@
+use Rattle.std.proofs.Common.{rules, refl}
+use Rattle.apd_run.specs.Loading.{NotAdmitted, NoRoomToLoad}
+use Rattle.apd_run.proofs.Putting.{loaded}
+use Rattle.apd_run.proofs.loads.loading.Loads.load_program.Goals as goal
+
+pub returns-in-NoMemory : goal.returns-in-NoMemory
+returns-in-NoMemory g c = NoRoomToLoad refl
+
+pub returns-in_default : goal.returns-in_default
+returns-in_default g c =
+    NotAdmitted c.in-Err.refusal (record {
+      reason = c.in_default.not-NoMemory;
+      place = c.in-Err.ensures.begins;
+      not_plain = λ most plain. c.in_default.not-NoMemory (c.in-Err.ensures.plain most plain);
+      not_clear = λ clear. c.in_default.not-NoMemory (c.in-Err.ensures.clear clear);
+      unchanged = refl;
+    })
+
+pub returns-in-Ok : goal.returns-in-Ok
+returns-in-Ok g c = loaded _ _ c.in-Ok.accepted _ _ _ _ c.in-Ok.ensures.code c.in-Ok.ensures.small c.put_in_force-told.ensures

@@ -1,0 +1,50 @@
+-- What an adoption does, and what it answers.
+use Rattle.std.specs.Prelude.{◌≡◌, ◌≢◌, ℕ, List}
+use Rattle.bpf_regions.specs.declared.hooks.Hook.{Hook}
+use Rattle.bpf_decode.specs.Program.{Code, Spells}
+use Rattle.bpf_decode.specs.Answer as decoding
+use Rattle.bpf_decode.specs.declared.fault.DecodeFault.{DecodeFault}
+use Rattle.bpf_decode.specs.declared.fault.DecodeFault.TheVariants as decode
+use Rattle.bpf_cert.specs.Certified.{Covered, Refuses}
+use Rattle.bpf_cert.specs.Faults.{number_of}
+use Rattle.bpf_cert.specs.declared.fault.CertFault.{CertFault}
+use Rattle.bpf_cert.specs.declared.fault.CertFault.TheVariants as check
+use Rattle.versions.specs.Lists.{Beginning}
+use Rattle.apd_files.specs.Held.{Held, HoldsCode}
+use Rattle.apd_files.specs.Faults.{IsFaultOf}
+use Rattle.apd_files.specs.declared.inputs.files.FileKind.TheVariants as kind
+use Rattle.apd_files.specs.declared.inputs.code.CodeFault.{CodeFault}
+use Rattle.apd_files.specs.declared.inputs.code.CodeFault.TheVariants as read
+use Rattle.apd_text.specs.declared.reports.report.Told.{Told}
+use Rattle.apd_text.specs.declared.reports.report.Told.TheVariants.{Memory, Loaded, Fault, Certificate, Unreadable}
+use Rattle.apd_run.specs.Loading.{IsInForce}
+
+-- the program is in force for the hook from now on, and safe within the budget that the certificate shows
+pub record IsAdopted (hook : Hook) (program : Code) (certificate : List ℕ) (old new : Beginning) (budget : ℕ) : Type 0 where
+  pub force : IsInForce hook program old new budget
+  pub covered : Covered program hook certificate budget
+
+-- what is done with a program and a certificate, and what is told of it
+pub data AdoptsProgram (hook : Hook) (program : Code) (certificate : List ℕ) (old new : Beginning) : Told → Type 0 where
+  Certified : (budget : ℕ) → IsAdopted hook program certificate old new budget → AdoptsProgram hook program certificate old new (Loaded budget)
+  NotCertified : (fault : CertFault) → fault ≢ check.NoMemory → Refuses program hook certificate fault → new ≡ old
+      → AdoptsProgram hook program certificate old new (Certificate (number_of fault))
+  NoRoomToAdopt : new ≡ old → AdoptsProgram hook program certificate old new Memory
+
+-- the same of code, which spells one program for the maps in use, or has a fault
+pub data AdoptsCode (hook : Hook) (code certificate : List ℕ) (old new : Beginning) : Told → Type 0 where
+  Decoded : (program : Code) (told : Told) → Spells code program → program.shapes ≡ old.shapes
+      → AdoptsProgram hook program certificate old new told → AdoptsCode hook code certificate old new told
+  NotDecoded : (fault : DecodeFault) → fault ≢ decode.NoMemory → decoding.Refuses code old.shapes fault → new ≡ old
+      → AdoptsCode hook code certificate old new (Fault fault)
+  NoRoomToDecode : new ≡ old → AdoptsCode hook code certificate old new Memory
+
+-- the same of two files, as far as is known what they hold
+pub data AdoptsFiles (files : Held) (hook : Hook) (path shown : List ℕ) (old new : Beginning) : Told → Type 0 where
+  Read : (code certificate : List ℕ) (told : Told) → HoldsCode files path code → HoldsCode files shown certificate
+      → AdoptsCode hook code certificate old new told → AdoptsFiles files hook path shown old new told
+  CodeNotRead : (fault : CodeFault) → fault ≢ read.NoMemory → IsFaultOf kind.Code files path fault → new ≡ old
+      → AdoptsFiles files hook path shown old new Unreadable
+  CertificateNotRead : (fault : CodeFault) → fault ≢ read.NoMemory → IsFaultOf kind.Certificate files shown fault → new ≡ old
+      → AdoptsFiles files hook path shown old new Unreadable
+  NoRoomToRead : new ≡ old → AdoptsFiles files hook path shown old new Memory

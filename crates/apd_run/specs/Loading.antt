@@ -1,0 +1,77 @@
+-- What a load does, and what it answers.
+use Rattle.std.specs.Prelude.{◌≡◌, ◌≢◌, ◌≤◌, ◌^◌, ℕ, List, Some}
+use Rattle.bpf_regions.specs.declared.hooks.Hook.{Hook}
+use Rattle.bpf_decode.specs.Program.{Code, Spells, Begins}
+use Rattle.bpf_decode.specs.Answer.{Refuses}
+use Rattle.bpf_decode.specs.declared.fault.DecodeFault.{DecodeFault}
+use Rattle.bpf_decode.specs.declared.fault.DecodeFault.TheVariants as decode
+use Rattle.bpf_model.specs.Run.{Safe}
+use Rattle.bpf_machine.specs.Verified.{Verified}
+use Rattle.bpf_absstate.specs.View.{entry_view}
+use Rattle.bpf_plain.specs.Clear.{IsClear}
+use Rattle.bpf_plain.specs.Walks.{IsPlain}
+use Rattle.bpf_rules.specs.declared.fault.Fault.TheVariants as verify
+use Rattle.bpf_verifier.specs.declared.refusal.Refusal.{Refusal}
+use Rattle.versions.specs.Lists.{Beginning, with_load}
+use Rattle.versions.specs.Sets.{load}
+use Rattle.apd_files.specs.Held.{Held, HoldsCode}
+use Rattle.apd_files.specs.Faults.{IsFaultOf}
+use Rattle.apd_files.specs.declared.inputs.files.FileKind.TheVariants as kind
+use Rattle.apd_files.specs.declared.inputs.code.CodeFault.{CodeFault}
+use Rattle.apd_files.specs.declared.inputs.code.CodeFault.TheVariants as read
+use Rattle.apd_text.specs.declared.reports.report.Told.{Told}
+use Rattle.apd_text.specs.declared.reports.report.Told.TheVariants.{Memory, Loaded, Fault, Refused, Unreadable}
+
+-- the program is in force for the hook from now on, and safe within its budget
+pub record IsInForce
+    (hook : Hook) (program : Code) (old new : Beginning) (budget : ℕ) : Type 0 where
+  pub accepted : Verified
+  pub code_is : accepted.code ≡ program
+  pub hook_is : accepted.hook ≡ hook
+  pub budget_is : accepted.budget ≡ budget
+  pub safe : Safe program.slots program.shapes budget
+  pub loaded : new ≡ with_load old (load hook (Some accepted))
+
+-- it is, or memory was refused
+pub data PutsInForce (hook : Hook) (a : Verified) (old new : Beginning) : Told → Type 0 where
+  InForce : IsInForce hook a.code old new a.budget → PutsInForce hook a old new (Loaded a.budget)
+  NoRoomToPut : new ≡ old → PutsInForce hook a old new Memory
+
+-- the verifier doesn't admit the program within the limit of states, within which it isn't clear then, nor plain where
+-- the limit is the greatest, and nothing changes
+pub record IsRefused
+    (limit : ℕ) (program : Code) (old new : Beginning) (refusal : Refusal) : Type 0 where
+  pub reason : refusal.fault ≢ verify.NoMemory
+  pub place : Begins program.slots refusal.pc
+  pub not_plain : limit ≡ 2 ^ 22 → IsPlain program.slots → ⊥
+  pub not_clear : IsClear program entry_view limit → ⊥
+  pub unchanged : new ≡ old
+
+-- what is done with a program, and what is told of it
+pub data LoadsProgram
+    (limit : ℕ) (hook : Hook) (program : Code) (old new : Beginning) : Told → Type 0 where
+  Admitted : (budget : ℕ) → IsInForce hook program old new budget → budget ≤ limit →
+      LoadsProgram limit hook program old new (Loaded budget)
+  NotAdmitted : (refusal : Refusal) → IsRefused limit program old new refusal →
+      LoadsProgram limit hook program old new (Refused refusal)
+  NoRoomToLoad : new ≡ old → LoadsProgram limit hook program old new Memory
+
+-- the same of code, which spells one program for the maps in use, or has a fault
+pub data LoadsCode
+    (limit : ℕ) (hook : Hook) (code : List ℕ) (old new : Beginning) : Told → Type 0 where
+  Decoded : (program : Code) (told : Told) → Spells code program → program.shapes ≡ old.shapes
+      → LoadsProgram limit hook program old new told → LoadsCode limit hook code old new told
+  NotDecoded : (fault : DecodeFault) → fault ≢ decode.NoMemory →
+      Refuses code old.shapes fault → new ≡ old
+      → LoadsCode limit hook code old new (Fault fault)
+  NoRoomToDecode : new ≡ old → LoadsCode limit hook code old new Memory
+
+-- the same of a file, as far as is known what it holds
+pub data LoadsFile (files : Held) (limit : ℕ) (hook : Hook) (path : List ℕ)
+    (old new : Beginning) : Told → Type 0 where
+  Read : (code : List ℕ) (told : Told) → HoldsCode files path code →
+      LoadsCode limit hook code old new told
+      → LoadsFile files limit hook path old new told
+  NotRead : (fault : CodeFault) → fault ≢ read.NoMemory → IsFaultOf kind.Code files path fault → new ≡ old
+      → LoadsFile files limit hook path old new Unreadable
+  NoRoomToRead : new ≡ old → LoadsFile files limit hook path old new Memory

@@ -1,0 +1,32 @@
+-- What reports count.
+use Rattle.std.specs.Prelude.{◌≡◌, List, ◌++◌, sum_by}
+use Rattle.ap_books.specs.Counts.{Counts, none, plus, counts_of}
+use Rattle.apd_text.specs.declared.reports.report.Report.{Report}
+use Rattle.apd_text.specs.declared.reports.report.Told.{Told}
+use Rattle.apd_text.specs.declared.reports.report.Told.TheVariants.{Handled}
+
+-- an event that was handled counts by its outs; all else counts nothing
+abbrev pub told_counts : Told → Counts
+told_counts (Handled outs dropped) = counts_of outs.items dropped
+told_counts _ = none
+
+-- what a report counts
+unfoldable pub report_counts : Report → Counts
+report_counts r = told_counts r.told
+
+-- what reports count together
+abbrev pub tallied : List Report → Counts
+tallied rs =
+    record {
+      events = sum_by (λ r. (report_counts r).events) rs;
+      sent = sum_by (λ r. (report_counts r).sent) rs;
+      up = sum_by (λ r. (report_counts r).up) rs;
+      dropped = sum_by (λ r. (report_counts r).dropped) rs;
+      notes = sum_by (λ r. (report_counts r).notes) rs;
+    }
+
+-- reports were added to the list, and what they count was counted
+pub record Serves (counted counted2 : Counts) (list list2 : List Report) : Type 0 where
+  pub reports : List Report
+  pub listed : list2 ≡ list ++ reports
+  pub counts : counted2 ≡ plus counted (tallied reports)

@@ -1,0 +1,94 @@
+//! The tokens of a run, as they are given out.
+
+ghost use Rattle.std.specs.Prelude.{◌≡◌, ◌+◌, ◌≤◌, vec_len, IfOk};
+ghost use Rattle.std.specs.List.{All};
+ghost use Rattle.ap_books.specs.Counts.{none};
+ghost use Rattle.ap_live.specs.Counting.{counted_by};
+ghost use Rattle.ap_live.specs.Opening.{parts_in_all};
+ghost use Rattle.ap_live.specs.Tokens.{AreLeft, IsWorker};
+ghost use Rattle.apd_run.specs.Dealing.{AreHands, IsNewOperator, IsNewWorker};
+
+use crate::access::hiring::hire;
+use ap_books::{Ledgers, Portions};
+use ap_live::{LeftTokens, LiveAp, OperatorToken, WorkerToken, newcomers_law, tokens_law};
+use ap_locked::Journals;
+use std::alloc::{AllocError, Global};
+
+/// The tokens of the operator and of the workers, and the parts of the ledgers that are left: so many of
+/// each.
+#[derive(Drop)]
+pub(crate) struct Hands<B: Ledgers + Journals> {
+    pub operator: OperatorToken<B>,
+    pub workers: Vec<WorkerToken<B>>,
+    pub hoard: Portions<B>,
+    pub parts: u64,
+}
+
+/// The tokens of those who use an access point.
+#[derive(Drop)]
+struct Rights<B: Ledgers + Journals> {
+    operator: OperatorToken<B>,
+    workers: Vec<WorkerToken<B>>,
+}
+
+/// A token for each of so many workers, which are all, and one for the operator.
+fn give_rights<B: Ledgers + Journals>(
+    ap: &mut LiveAp<B>,
+    alloc: Global,
+    left: &mut LeftTokens<B>,
+    count: usize,
+) -> Result<Rights<B>, AllocError>
+    requires left { AreLeft ap.old left.old }
+    requires all { ap.old.stock.workers ≡ count }
+    ensures operator { IfOk result (λ r. IsNewOperator ap.new r.operator) }
+    ensures own { IfOk result (λ r. All (IsWorker ap.new) r.workers.items) }
+    ensures new { IfOk result (λ r. All IsNewWorker r.workers.items) }
+    ensures many { IfOk result (λ r. vec_len r.workers ≡ count) }
+    ensures parts { IfOk result (λ _. left.new.parts + count + 1 ≡ left.old.parts) }
+    ensures counted { IfOk result (λ _. counted_by left.new.shards ≡ counted_by left.old.shards) }
+    ensures list { ap.new.list ≡ ap.old.list }
+{
+    newcomers_law();
+    tokens_law();
+    let workers = hire(ap, alloc, left, count)?;
+    let Ok(operator) = ap.operator(alloc, left) else {
+        return Err(AllocError);
+    };
+    Ok(Rights { operator, workers })
+}
+
+/// A token for the operator and one for each of so many workers, which are all. Nothing was given out
+/// before.
+pub(crate) fn deal<B: Ledgers + Journals>(
+    ap: &mut LiveAp<B>,
+    alloc: Global,
+    left: LeftTokens<B>,
+    count: usize,
+) -> Result<Hands<B>, AllocError>
+    requires left { AreLeft ap.old left }
+    requires all { ap.old.stock.workers ≡ count }
+    requires few { count ≤ 8 }
+    requires nothing { counted_by left.shards ≡ none }
+    requires parts { left.parts ≡ parts_in_all }
+    ensures hands { IfOk result (λ h. AreHands ap.new h.operator h.workers.items h.hoard h.parts) }
+    ensures list { ap.new.list ≡ ap.old.list }
+{
+    let mut left = left;
+    let rights = match give_rights(ap, alloc, &mut left, count) {
+        Ok(rights) => rights,
+        Err(error) => {
+            // Given up by a call, since its parts are many.
+            drop(left);
+            return Err(error);
+        }
+    };
+    let Rights { operator, workers } = rights;
+    let parts = 16 - workers.len() as u64;
+    let hoard = left.into_shares();
+    Ok(Hands {
+        operator,
+        workers,
+        hoard,
+        parts,
+    })
+}

@@ -1,0 +1,269 @@
+//! The operator of a run.
+
+ghost use Rattle.std.specs.Prelude.{◌≡◌, ◌<◌, IfSome};
+ghost use Rattle.ap_books.specs.Counts.{none};
+ghost use Rattle.ap_books.specs.Reading.{Reads};
+ghost use Rattle.ap_live.specs.Counting.{counted_by};
+ghost use Rattle.apd_run.specs.Hands.{crew_of};
+ghost use Rattle.apd_run.specs.Tallies.{told_counts};
+ghost use Rattle.apd_run.specs.Crews.{gains, with_one_more};
+
+use crate::access::naming::Publications;
+use crate::access::worker::LiveWorker;
+use crate::loads::{Loads, StateLimit};
+use crate::{Operating, Told, Waiting};
+use ap_books::{Ledgers, Portions, Totals};
+use ap_live::{LiveAp, OperatorToken};
+use ap_locked::Journals;
+use ap_model::Event;
+use ap_queues::Unserved;
+use apd_files::Files;
+use apd_script::{Command, MapWord};
+use bpf_regions::{Hook, Scope};
+use std::marker::{Model, PhantomData};
+use std::sync::Wait;
+
+/// Where programs come from: files, and how many states of each the verifier may examine.
+#[derive(Drop)]
+pub(crate) struct Sources<'a, F> {
+    pub(crate) files: &'a mut F,
+    pub(crate) limit: StateLimit,
+}
+
+/// The operator of a run: its token, the parts of the ledgers that no worker has, the programs that are
+/// put in force, and where they come from. Contracts see all but the last.
+#[derive(Drop)]
+pub struct LiveOperator<'a, B: Ledgers + Journals, L: Publications, F> {
+    pub(crate) ap: &'a LiveAp<B>,
+    pub(crate) token: OperatorToken<B>,
+    pub(crate) hoard: Portions<B>,
+    pub(crate) parts: u64,
+    pub(crate) workers: u64,
+    pub(crate) loads: &'a mut Loads,
+    pub(crate) sources: Sources<'a, F>,
+    pub(crate) list: PhantomData<L>,
+}
+
+impl<'a, B: Ledgers + Journals, L: Publications, F> Model for LiveOperator<'a, B, L, F> {
+    ghost use Rattle.apd_run.specs.Hands.{RunOperator, IsRunOperator};
+
+    ghost Value = { RunOperator };
+
+    ghost view = { λ o. record {
+      ap = o.ap.now;
+      token = o.token;
+      hoard = o.hoard;
+      parts = o.parts;
+      workers = o.workers;
+      loads = o.loads.now;
+    } };
+
+    ghost invariant = { λ o. IsRunOperator B.shares L.list (record {
+      ap = o.ap.now;
+      token = o.token;
+      hoard = o.hoard;
+      parts = o.parts;
+      workers = o.workers;
+      loads = o.loads.now;
+    }) };
+}
+
+impl<'a, B: Ledgers + Journals, L: Publications, F: Files> LiveOperator<'a, B, L, F> {
+    /// Loads a program for a hook.
+    fn load<R: Wait>(&mut self, rt: &R, hook: Hook, path: &str) -> Told
+        ensures same { crew_of self.new ≡ crew_of self.old }
+        ensures nothing { told_counts result ≡ none }
+    {
+        let limit = self.sources.limit;
+        let files = &mut *self.sources.files;
+        self.loads.load(rt, files, hook, path, limit)
+    }
+
+    /// Adopts a program for a hook, with its certificate.
+    fn adopt<R: Wait>(&mut self, rt: &R, hook: Hook, path: &str, certificate: &str) -> Told
+        ensures same { crew_of self.new ≡ crew_of self.old }
+        ensures nothing { told_counts result ≡ none }
+    {
+        let files = &mut *self.sources.files;
+        self.loads.adopt(rt, files, hook, path, certificate)
+    }
+
+    /// Leaves a hook without a program.
+    fn unload<R: Wait>(&mut self, rt: &R, hook: Hook) -> Option<Told>
+        ensures same { crew_of self.new ≡ crew_of self.old }
+        ensures nothing { IfSome result (λ told. told_counts told ≡ none) }
+    {
+        match self.loads.unload(rt, hook) {
+            Ok(()) => return None,
+            Err(_) => return Some(Told::Memory),
+        }
+    }
+
+    /// A load, an adoption or an unload; nothing is told of any other command.
+    fn publish<R: Wait>(&mut self, rt: &R, command: &Command<'_>) -> Option<Told>
+        ensures same { crew_of self.new ≡ crew_of self.old }
+        ensures nothing { IfSome result (λ told. told_counts told ≡ none) }
+    {
+        match *command {
+            Command::Load { hook, path } => return Some(self.load(rt, hook, path)),
+            Command::Adopt {
+                hook,
+                path,
+                certificate,
+            } => return Some(self.adopt(rt, hook, path, certificate)),
+            Command::Unload(hook) => return self.unload(rt, hook),
+            _ => return None,
+        }
+    }
+
+    /// Stores a number in a word of a shared map, if there is such a word.
+    fn store(&mut self, at: MapWord, value: u64)
+        ensures same { crew_of self.new ≡ crew_of self.old }
+    {
+        let map = at.map as usize;
+        if self.ap.has_word(Scope::Shared, map, at.word) {
+            self.ap.store(&mut self.token, map, at.word, value);
+        }
+    }
+
+    /// The number in a word of a shared map, if there is such a word.
+    fn read(&mut self, at: MapWord) -> Option<Told>
+        ensures same { crew_of self.new ≡ crew_of self.old }
+        ensures nothing { IfSome result (λ told. told_counts told ≡ none) }
+    {
+        let map = at.map as usize;
+        if !self.ap.has_word(Scope::Shared, map, at.word) {
+            return None;
+        }
+        let value = self.ap.read(&mut self.token, map, at.word);
+        Some(Told::Word { value })
+    }
+
+    /// The sum of a word of a worker map over all workers, if there is such a word.
+    fn sum(&mut self, at: MapWord) -> Option<Told>
+        ensures same { crew_of self.new ≡ crew_of self.old }
+        ensures nothing { IfSome result (λ told. told_counts told ≡ none) }
+    {
+        let map = at.map as usize;
+        if !self.ap.has_word(Scope::Worker, map, at.word) {
+            return None;
+        }
+        let value = self.ap.sum(&mut self.token, map, at.word);
+        Some(Told::Word { value })
+    }
+}
+
+impl<'a, B: Ledgers + Journals, L: Publications, F> LiveOperator<'a, B, L, F> {
+    /// Takes in what a worker has counted, and gives it fresh parts of the ledgers.
+    fn exchange<G: Drop>(&mut self, worker: &mut LiveWorker<'a, B, L, G>)
+        ensures crew { crew_of self.new ≡
+            gains (crew_of self.old) (counted_by worker.old.token.shards) }
+        ensures worker { counted_by worker.new.token.shards ≡ none }
+    {
+        let fresh = self.hoard.split_off(1);
+        let counted = worker.token.renew(fresh);
+        self.hoard.merge(counted);
+    }
+
+    /// Tells a worker of the loads so far.
+    fn tell<G: Drop>(&mut self, worker: &mut LiveWorker<'a, B, L, G>)
+        ensures same { crew_of self.new ≡ crew_of self.old }
+        ensures worker { worker.new.token.shards ≡ worker.old.token.shards }
+    {
+        let news = self.loads.tell();
+        worker.ap.learn(&mut worker.token, news);
+    }
+
+    /// Takes a worker's parts of the ledgers back, which have counted nothing.
+    fn take_back<G: Drop>(&mut self, worker: LiveWorker<'a, B, L, G>)
+        requires some { 0 < self.old.workers }
+        requires nothing { counted_by worker.token.shards ≡ none }
+        ensures crew { crew_of self.old ≡ with_one_more (crew_of self.new) }
+    {
+        let LiveWorker { token, .. } = worker;
+        self.hoard.merge(token.into_shares());
+        self.parts += 1;
+        self.workers -= 1;
+    }
+
+    /// With all parts of the ledgers: what has been counted.
+    fn read_totals<R: Wait>(self, rt: &R) -> Totals
+        requires all { self.workers ≡ 0 }
+        ensures reads { Reads result (crew_of self.entry).counted }
+    {
+        let LiveOperator {
+            ap,
+            token,
+            mut hoard,
+            ..
+        } = self;
+        hoard.merge(token.into_shares());
+        ap.gather(rt, &mut hoard)
+    }
+}
+
+/// What is left to put of an event.
+fn waiting_for(unserved: Unserved) -> Waiting {
+    let Unserved { event, shard } = unserved;
+    Waiting { event, shard }
+}
+
+impl<'a, B: Ledgers + Journals, L: Publications, F: Files, G: Drop> Operating<
+    LiveWorker<'a, B, L, G>,
+> for LiveOperator<'a, B, L, F> {
+    ghost use Rattle.ap_live.specs.Counting.{counted_by};
+    ghost use Rattle.apd_run.specs.Hands.{crew_of};
+
+    ghost crew = { crew_of };
+
+    ghost taken = { λ w. counted_by w.token.shards };
+
+    fn submit<R: Wait>(&mut self, rt: &R, line: u64, event: Event) -> Result<(), Waiting> {
+        match self.ap.submit(rt, &mut self.token, line, event) {
+            Ok(()) => return Ok(()),
+            Err(unserved) => return Err(waiting_for(unserved)),
+        }
+    }
+
+    fn go_on<R: Wait>(&mut self, rt: &R, line: u64, waiting: Waiting) -> Result<(), Waiting> {
+        let Waiting { event, shard } = waiting;
+        match event {
+            Event::Tick(units) if shard < 8 => {
+                let event = Event::Tick(units);
+                match self.ap.submit_at(rt, &mut self.token, line, event, shard) {
+                    Ok(()) => return Ok(()),
+                    Err(unserved) => return Err(waiting_for(unserved)),
+                }
+            }
+            event => match self.ap.submit(rt, &mut self.token, line, event) {
+                Ok(()) => return Ok(()),
+                Err(unserved) => return Err(waiting_for(unserved)),
+            },
+        }
+    }
+
+    fn perform<R: Wait>(&mut self, rt: &R, command: &Command<'_>) -> Option<Told> {
+        match *command {
+            Command::Store { word, value } => {
+                self.store(word, value);
+                return None;
+            }
+            Command::Read(word) => return self.read(word),
+            Command::Sum(word) => return self.sum(word),
+            _ => return self.publish(rt, command),
+        }
+    }
+
+    fn settle(&mut self, worker: &mut LiveWorker<'a, B, L, G>) {
+        self.exchange(worker);
+        self.tell(worker);
+    }
+
+    fn dismiss(&mut self, worker: LiveWorker<'a, B, L, G>) {
+        self.take_back(worker);
+    }
+
+    fn gather<R: Wait>(self, rt: &R) -> Totals {
+        self.read_totals(rt)
+    }
+}

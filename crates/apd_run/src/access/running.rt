@@ -1,0 +1,292 @@
+//! A run from its settings and its script.
+
+ghost use Rattle.std.specs.Prelude.{◌≡◌, ◌+◌, ◌<◌, ◌≤◌, vec_len, IfOk};
+ghost use Rattle.std.specs.List.{All};
+ghost use Rattle.ap_books.specs.Counts.{none};
+ghost use Rattle.ap_books.specs.Holdings.{HasParts, sum_of};
+ghost use Rattle.ap_live.specs.Opening.{parts_in_all};
+ghost use Rattle.ap_live.specs.Tokens.{IsWorker};
+ghost use Rattle.ap_shards.specs.Opening.{AreNamed};
+ghost use Rattle.apd_run.specs.Dealing.{AreHands, IsNewOperator, IsNewWorker, IsUnused};
+ghost use Rattle.apd_run.specs.Hands.{crew_of};
+ghost use Rattle.apd_run.specs.Shows.{Runs};
+
+use crate::access::hands::{Hands, deal};
+use crate::access::naming::Publications;
+use crate::access::operator::{LiveOperator, Sources};
+use crate::access::worker::LiveWorker;
+use crate::loads::{Loads, StateLimit};
+use crate::{Ready, Staff, run_script};
+use ap_books::{Ledgers, Portions};
+use ap_live::{LiveAp, Opened, OperatorToken, Settings, WorkerToken};
+use ap_locked::Journals;
+use ap_shards::NewShards;
+use ap_tagged::Gate;
+use apd_files::Files;
+use apd_script::Numbered;
+use bpf_regions::Shapes;
+use std::alloc::{AllocError, Global};
+use std::io::Write;
+use std::marker::{Brand, PhantomData};
+use std::sync::Wait;
+use std::thread::Threads;
+
+/// The status of a run that memory was refused to.
+const NO_MEMORY: u8 = 3;
+
+/// What a run uses besides its access point: the files of its loads, how many states of each program the
+/// verifier may examine, and who is told of each event.
+#[derive(Drop)]
+pub struct Supplies<'a, F, G: Drop> {
+    pub files: &'a mut F,
+    pub limit: StateLimit,
+    pub gate: G,
+}
+
+/// What an access point is made from, with a copy of the shapes of its maps.
+#[derive(Drop)]
+pub struct Opening {
+    pub settings: Settings,
+    pub shapes: Shapes,
+    pub new: NewShards,
+}
+
+/// An access point whose tokens were not given out yet, with so many workers, and a copy of the shapes
+/// of its maps.
+struct Unused<B: Ledgers + Journals> {
+    opened: Opened<B>,
+    workers: usize,
+    shapes: Shapes,
+}
+
+/// The tokens of an access point as they were given out, and the programs that are put in force there.
+struct Equipment<B: Ledgers + Journals> {
+    hands: Hands<B>,
+    loads: Loads,
+}
+
+/// The end of a run that memory was refused to before it began.
+fn without_memory<P: Write>(writer: P) -> (P, u8)
+    ensures runs { Runs (P.contents writer) (P.contents result.0) none result.1 }
+{
+    (writer, NO_MEMORY)
+}
+
+/// Workers that are at rest.
+fn ready_workers<'a, B, L, G>(
+    alloc: Global,
+    ap: &'a LiveAp<B>,
+    gate: G,
+    tokens: Vec<WorkerToken<B>>,
+) -> Result<Vec<Ready<LiveWorker<'a, B, L, G>>>, AllocError>
+where
+    B: Ledgers + Journals,
+    L: Publications,
+    G: Gate + Copy,
+    requires own { All (IsWorker ap.now) tokens.items }
+    requires new { All IsNewWorker tokens.items }
+    requires list { ap.now.list.list ≡ L.list }
+    ensures many { IfOk result (λ ready. vec_len ready ≡ vec_len tokens) }
+{
+    let mut tokens = tokens;
+    let mut ready = Vec::with_capacity(alloc, tokens.len())?;
+    'tokens: while let Some(token) = tokens.pop() {
+        ready.push_reserved(Ready {
+            worker: LiveWorker {
+                ap,
+                alloc,
+                gate,
+                token,
+                list: PhantomData,
+            },
+        });
+    }
+    Ok(ready)
+}
+
+/// An operator that keeps so many parts of the ledgers, beside so many workers.
+fn new_operator<'a, B, L, F>(
+    ap: &'a LiveAp<B>,
+    token: OperatorToken<B>,
+    kept: (Portions<B>, u64),
+    workers: u64,
+    loads: &'a mut Loads,
+    sources: Sources<'a, F>,
+) -> LiveOperator<'a, B, L, F>
+where
+    B: Ledgers + Journals,
+    L: Publications,
+    requires new { IsNewOperator ap.now token }
+    requires kept { HasParts kept.1 kept.0 }
+    requires some { 1 < kept.1 }
+    requires all { kept.1 + workers + 1 ≡ parts_in_all }
+    requires shares { B.shares ≡ parts_in_all }
+    requires list { loads.old.list ≡ L.list }
+    ensures workers { (crew_of result).workers ≡ workers }
+    ensures counted { (crew_of result).counted ≡ sum_of kept.0 }
+{
+    let (hoard, parts) = kept;
+    LiveOperator {
+        ap,
+        token,
+        hoard,
+        parts,
+        workers,
+        loads,
+        sources,
+        list: PhantomData,
+    }
+}
+
+/// Runs a script by an operator and its workers, of which none has counted anything.
+fn run_staffed<B, L, F, G, R, P>(
+    rt: &R,
+    alloc: Global,
+    operator: LiveOperator<'_, B, L, F>,
+    workers: Vec<Ready<LiveWorker<'_, B, L, G>>>,
+    commands: &[Numbered<'_>],
+    writer: P,
+) -> (P, u8)
+where
+    B: Ledgers + Journals + Send + Sync,
+    L: Publications + Send,
+    F: Files,
+    G: Gate + Copy + Send,
+    R: Threads + Wait + Sync,
+    P: Write + Drop,
+    requires all { vec_len workers ≡ operator.workers }
+    requires nothing { sum_of operator.hoard ≡ none }
+    ensures runs { Runs (P.contents writer) (P.contents result.0) none result.1 }
+{
+    let staff = Staff { operator, workers };
+    run_script(rt, alloc, staff, commands, writer)
+}
+
+/// Runs a script by an access point whose tokens were given out.
+fn run_with<B, L, F, G, R, P>(
+    rt: &R,
+    alloc: Global,
+    ap: &LiveAp<B>,
+    equipment: Equipment<B>,
+    supplies: Supplies<'_, F, G>,
+    commands: &[Numbered<'_>],
+    writer: P,
+) -> (P, u8)
+where
+    B: Ledgers + Journals + Send + Sync,
+    L: Publications + Send,
+    F: Files,
+    G: Gate + Copy + Send,
+    R: Threads + Wait + Sync,
+    P: Write + Drop,
+    requires hands { let hands = equipment.hands in
+        AreHands ap.now hands.operator hands.workers.items hands.hoard hands.parts }
+    requires shares { B.shares ≡ parts_in_all }
+    requires list { ap.now.list.list ≡ L.list }
+    requires loads { equipment.loads.list ≡ L.list }
+    ensures runs { Runs (P.contents writer) (P.contents result.0) none result.1 }
+{
+    let Supplies { files, limit, gate } = supplies;
+    let Equipment { hands, loads } = equipment;
+    let Hands {
+        operator,
+        workers,
+        hoard,
+        parts,
+    } = hands;
+    let mut loads = loads;
+    let Ok(ready) = ready_workers::<B, L, G>(alloc, ap, gate, workers) else {
+        // Given up by calls, since they have many parts.
+        drop(operator);
+        drop(hoard);
+        loads.close(rt);
+        return without_memory(writer);
+    };
+    let many = ready.len() as u64;
+    let sources = Sources { files, limit };
+    let operator = new_operator::<B, L, F>(ap, operator, (hoard, parts), many, &mut loads, sources);
+    let ended = run_staffed(rt, alloc, operator, ready, commands, writer);
+    loads.close(rt);
+    ended
+}
+
+/// Runs a script by an access point whose tokens were not given out yet.
+fn run_opened<B, F, G, R, P>(
+    rt: &R,
+    alloc: Global,
+    new: Unused<B>,
+    supplies: Supplies<'_, F, G>,
+    commands: &[Numbered<'_>],
+    writer: P,
+) -> (P, u8)
+where
+    B: Ledgers + Journals + Send + Sync,
+    F: Files,
+    G: Gate + Copy + Send,
+    R: Threads + Wait + Sync,
+    P: Write + Drop,
+    requires unused { IsUnused new.workers new.opened.ap new.opened.publisher new.opened.left }
+    requires few { new.workers ≤ 8 }
+    requires shapes { new.shapes ≡ new.opened.publisher.shapes }
+    requires shares { B.shares ≡ parts_in_all }
+    ensures runs { Runs (P.contents writer) (P.contents result.0) none result.1 }
+{
+    let Unused {
+        opened,
+        workers,
+        shapes,
+    } = new;
+    let Opened {
+        mut ap,
+        publisher,
+        left,
+    } = opened;
+    let loads = Loads::new(alloc, publisher, shapes);
+    let Ok(hands) = deal(&mut ap, alloc, left, workers) else {
+        loads.close(rt);
+        return without_memory(writer);
+    };
+    let equipment = Equipment { hands, loads };
+    run_with::<B, Brand, F, G, R, P>(rt, alloc, &ap, equipment, supplies, commands, writer)
+}
+
+/// Runs a script by a new access point. The writer is handed back with the program's status: 0; 3 where
+/// a line says `memory`, or memory was refused to the run itself, which then broke off; 2 where a write
+/// failed, which ends the run.
+pub fn run_live<B, F, G, R, P>(
+    rt: &R,
+    alloc: Global,
+    opening: Opening,
+    supplies: Supplies<'_, F, G>,
+    commands: &[Numbered<'_>],
+    writer: P,
+) -> (P, u8)
+where
+    B: Ledgers + Journals + Send + Sync,
+    F: Files,
+    G: Gate + Copy + Send,
+    R: Threads + Wait + Sync,
+    P: Write + Drop,
+    requires some { 0 < opening.settings.workers }
+    requires few { opening.settings.workers ≤ 8 }
+    requires shapes { opening.shapes ≡ opening.settings.shapes }
+    requires named { AreNamed B.name_of B.shares B.journal_of opening.new }
+    requires shares { B.shares ≡ parts_in_all }
+    ensures runs { Runs (P.contents writer) (P.contents result.0) none result.1 }
+{
+    let Opening {
+        settings,
+        shapes,
+        new,
+    } = opening;
+    let workers = settings.workers as usize;
+    let Ok(opened) = LiveAp::<B>::open(rt, alloc, settings, new) else {
+        return without_memory(writer);
+    };
+    let unused = Unused {
+        opened,
+        workers,
+        shapes,
+    };
+    run_opened(rt, alloc, unused, supplies, commands, writer)
+}

@@ -1,0 +1,60 @@
+//! A worker's thread.
+
+use crate::crew::desk::{Desk, Order, Signs};
+use crate::crew::hand::{Done, Ready};
+use crate::crew::serving::Serving;
+use std::alloc::Global;
+use std::sync::Wait;
+use std::sync::atomic::Ordering;
+use std::thread;
+
+/// Serves what the queue holds. True where the interval is over: it was closed before, or memory
+/// was refused.
+fn turn<W: Serving + Drop, R: Wait>(
+    rt: &R,
+    signs: &Signs,
+    done: &mut Done<W>,
+    interval: u64,
+) -> bool {
+    let closed = signs.closed.load(Ordering::SeqCst) >= interval;
+    let before = done.list.len();
+    done.serve(rt);
+    if done.refused {
+        signs.trouble.store(1, Ordering::SeqCst);
+        return true;
+    }
+    if !closed && done.list.len() == before {
+        thread::yield_now();
+    }
+    closed
+}
+
+/// Serves for one interval: until it is closed and the queue is found empty after that, or memory
+/// is refused.
+fn serve_interval<W: Serving + Drop, R: Wait>(
+    rt: &R,
+    alloc: Global,
+    signs: &Signs,
+    order: Order<W>,
+) -> Done<W> {
+    let Order { ready, interval } = order;
+    let mut done = ready.begin(alloc);
+    for _ in rt.forever() {
+        if turn(rt, signs, &mut done, interval) {
+            return done;
+        }
+    }
+    unreachable!()
+}
+
+/// A worker's thread: an interval for each order, until the last.
+pub fn work<W: Serving + Drop, R: Wait>(rt: &R, alloc: Global, desk: &Desk<W>, signs: &Signs) {
+    for _ in rt.forever() {
+        let Some(order) = desk.orders.take(rt) else {
+            return;
+        };
+        let done = serve_interval(rt, alloc, signs, order);
+        desk.reports.put(rt, done);
+    }
+    unreachable!()
+}

@@ -1,0 +1,92 @@
+//! Programs that come with a certificate.
+
+ghost use Rattle.std.specs.Prelude.{◌≡◌};
+ghost use Rattle.apd_run.specs.Adopting.{AdoptsProgram, AdoptsCode, AdoptsFiles};
+
+use crate::loads::loading::Loads;
+use apd_files::{CodeFault, Files, read_certificate, read_code};
+use apd_text::Told;
+use bpf_cert::{CertFault, check};
+use bpf_decode::{DecodeFault, Program, decode};
+use bpf_regions::Hook;
+use std::sync::Wait;
+
+impl Loads {
+    /// Reads two files, whose hex digits spell code and a certificate, and puts the code's program in
+    /// force for a hook where the certificate shows that it is safe. The answer is `Unreadable` where a
+    /// file can't be read or holds no hex digits in pairs; the code's fault; the number of the
+    /// certificate's fault; `Memory`; or the budget that is shown. All but the last leave what is in
+    /// force.
+    pub fn adopt<R: Wait, F: Files>(
+        &mut self,
+        rt: &R,
+        files: &mut F,
+        hook: Hook,
+        path: &str,
+        certificate: &str,
+    ) -> Told
+        ensures adopts { AdoptsFiles
+            (F.held files.old) hook path.now certificate.now self.old self.new result }
+        ensures same { F.held files.new ≡ F.held files.old }
+    {
+        let code = match read_code(self.alloc, path, files) {
+            Ok(code) => code,
+            Err(CodeFault::NoMemory) => return Told::Memory,
+            Err(CodeFault::Unreadable(_)) => return Told::Unreadable,
+            Err(CodeFault::Digits(_)) => return Told::Unreadable,
+        };
+        match read_certificate(self.alloc, certificate, files) {
+            Ok(bytes) => {
+                let told = self.adopt_code(rt, hook, code.as_slice(), bytes.as_slice());
+                return told;
+            }
+            Err(CodeFault::NoMemory) => return Told::Memory,
+            Err(CodeFault::Unreadable(_)) => return Told::Unreadable,
+            Err(CodeFault::Digits(_)) => return Told::Unreadable,
+        }
+    }
+
+    fn adopt_code<R: Wait>(&mut self, rt: &R, hook: Hook, code: &[u8], certificate: &[u8]) -> Told
+        ensures { AdoptsCode hook code.now certificate.now self.old self.new result }
+    {
+        let Ok(shapes) = self.shapes() else {
+            return Told::Memory;
+        };
+        match decode(self.alloc, code, shapes) {
+            Ok(program) => {
+                let told = self.adopt_program(rt, hook, program, certificate);
+                return told;
+            }
+            Err(fault) => match fault {
+                DecodeFault::NoMemory => return Told::Memory,
+                _ => return Told::Fault(fault),
+            },
+        }
+    }
+
+    fn adopt_program<R: Wait>(
+        &mut self,
+        rt: &R,
+        hook: Hook,
+        program: Program,
+        certificate: &[u8],
+    ) -> Told
+        requires { program.shapes ≡ self.old.shapes }
+        ensures { AdoptsProgram hook program certificate.now self.old self.new result }
+    {
+        match check(self.alloc, program, hook, certificate) {
+            Ok(accepted) => {
+                let told = self.put_in_force(rt, hook, accepted);
+                return told;
+            }
+            Err(fault) => match fault {
+                CertFault::NoMemory => return Told::Memory,
+                _ => {
+                    return Told::Certificate {
+                        fault: fault.number(),
+                    };
+                }
+            },
+        }
+    }
+}

@@ -1,0 +1,174 @@
+//! Loads and unloads.
+
+ghost use Rattle.std.specs.Prelude.{◌≡◌, IfOk, None, OnOk, OnErr};
+ghost use Rattle.versions.specs.Lists.{with_load};
+ghost use Rattle.versions.specs.Sets.{load};
+ghost use Rattle.apd_run.specs.Loading.{PutsInForce, LoadsProgram, LoadsCode, LoadsFile};
+
+use apd_files::{CodeFault, Files, read_code};
+use apd_text::Told;
+use bpf_decode::{DecodeFault, Program, decode};
+use bpf_machine::Accepted;
+use bpf_regions::{Hook, Shapes};
+use bpf_rules::Fault;
+use bpf_verifier::{StateLimit, verify_within};
+use std::alloc::{AllocError, Global};
+use std::marker::Model;
+use std::sync::{Arc, Wait};
+use versions::{News, PublishFault, Publisher};
+
+/// Puts programs in force for the maps of a run. Contracts see the list of all that was published.
+/// It is not `Drop`: end it by `close`.
+pub struct Loads {
+    pub(crate) alloc: Global,
+    publisher: Publisher,
+    shapes: Shapes,
+}
+
+impl Model for Loads {
+    ghost use Rattle.std.specs.Prelude.{◌≡◌};
+    ghost use Rattle.versions.specs.Lists.{Beginning};
+
+    ghost Value = { Beginning };
+
+    ghost view = { λ l. l.publisher };
+
+    ghost invariant = { λ l. l.shapes ≡ l.publisher.shapes };
+}
+
+impl Loads {
+    /// Loads by a publisher, with the shapes of its maps.
+    pub fn new(alloc: Global, publisher: Publisher, shapes: Shapes) -> Loads
+        requires { shapes ≡ publisher.shapes }
+        ensures { result ≡ publisher }
+    {
+        Loads {
+            alloc,
+            publisher,
+            shapes,
+        }
+    }
+
+    /// The loads so far, for one reader, which then learns them.
+    pub fn tell(&mut self) -> News
+        ensures same { self.new ≡ self.old }
+        ensures told { result ≡ self.old }
+    {
+        self.publisher.tell()
+    }
+
+    /// Waits for the readers, and ends. From then on a reader that enters waits for ever.
+    pub fn close<R: Wait>(self, rt: &R) {
+        let Loads {
+            alloc: _,
+            publisher,
+            shapes: _,
+        } = self;
+        publisher.close(rt);
+    }
+
+    /// Reads a file, whose hex digits spell code, and puts the code's program in force for a hook. The
+    /// verifier examines no more states of it than the limit. The answer is `Unreadable` where the file
+    /// can't be read or holds no hex digits in pairs; the code's fault; the verifier's refusal; `Memory`;
+    /// or the program's budget. All but the last leave what is in force.
+    pub fn load<R: Wait, F: Files>(
+        &mut self,
+        rt: &R,
+        files: &mut F,
+        hook: Hook,
+        path: &str,
+        limit: StateLimit,
+    ) -> Told
+        ensures loads { LoadsFile (F.held files.old) limit hook path.now self.old self.new result }
+        ensures same { F.held files.new ≡ F.held files.old }
+    {
+        match read_code(self.alloc, path, files) {
+            Ok(code) => {
+                let told = self.load_code(rt, hook, code.as_slice(), limit);
+                return told;
+            }
+            Err(CodeFault::NoMemory) => return Told::Memory,
+            Err(CodeFault::Unreadable(_)) => return Told::Unreadable,
+            Err(CodeFault::Digits(_)) => return Told::Unreadable,
+        }
+    }
+
+    /// Leaves a hook without a program. Err: want of memory, and what is in force stays.
+    pub fn unload<R: Wait>(&mut self, rt: &R, hook: Hook) -> Result<(), AllocError>
+        ensures unloaded { OnOk result (self.new ≡ with_load self.old (load hook None)) }
+        ensures refused { OnErr result (self.new ≡ self.old) }
+    {
+        match self.publisher.publish(rt, hook, None) {
+            Ok(()) => Ok(()),
+            Err(_) => Err(AllocError),
+        }
+    }
+
+    /// A copy of the shapes of the maps in use.
+    pub(crate) fn shapes(&self) -> Result<Shapes, AllocError>
+        ensures is { IfOk result (λ shapes. shapes ≡ self.now.shapes) }
+    {
+        self.shapes.whole();
+        let shapes = Vec::from_slice(self.alloc, self.shapes.as_slice())?;
+        match Shapes::new(shapes) {
+            Some(shapes) => return Ok(shapes),
+            None => unreachable!(),
+        }
+    }
+
+    fn load_code<R: Wait>(&mut self, rt: &R, hook: Hook, code: &[u8], limit: StateLimit) -> Told
+        ensures { LoadsCode limit hook code.now self.old self.new result }
+    {
+        let Ok(shapes) = self.shapes() else {
+            return Told::Memory;
+        };
+        match decode(self.alloc, code, shapes) {
+            Ok(program) => {
+                let told = self.load_program(rt, hook, program, limit);
+                return told;
+            }
+            Err(fault) => match fault {
+                DecodeFault::NoMemory => return Told::Memory,
+                _ => return Told::Fault(fault),
+            },
+        }
+    }
+
+    fn load_program<R: Wait>(
+        &mut self,
+        rt: &R,
+        hook: Hook,
+        program: Program,
+        limit: StateLimit,
+    ) -> Told
+        requires { program.shapes ≡ self.old.shapes }
+        ensures { LoadsProgram limit hook program self.old self.new result }
+    {
+        match verify_within(self.alloc, program, hook, limit) {
+            Ok(accepted) => {
+                let told = self.put_in_force(rt, hook, accepted);
+                return told;
+            }
+            Err(refusal) => match refusal.fault {
+                Fault::NoMemory => return Told::Memory,
+                _ => return Told::Refused(refusal),
+            },
+        }
+    }
+
+    pub(crate) fn put_in_force<R: Wait>(&mut self, rt: &R, hook: Hook, accepted: Accepted) -> Told
+        requires hook_is { accepted.hook ≡ hook }
+        requires shapes_are { accepted.code.shapes ≡ self.old.shapes }
+        ensures { PutsInForce hook accepted self.old self.new result }
+    {
+        let budget = accepted.budget();
+        let Ok(shared) = Arc::new(self.alloc, accepted) else {
+            return Told::Memory;
+        };
+        match self.publisher.publish(rt, hook, Some(shared)) {
+            Ok(()) => return Told::Loaded { budget },
+            Err(PublishFault::NoMemory) => return Told::Memory,
+            Err(PublishFault::OtherShapes) => unreachable!(),
+        }
+    }
+}

@@ -1,0 +1,114 @@
+//! Why nothing is run.
+
+ghost use Rattle.std.specs.Prelude.{◌≡◌};
+ghost use Rattle.apd_run.specs.Shows.{IsBroken};
+ghost use Rattle.apd_run.specs.declared.runner.fault.RunFault.TheVariants.{NoMemory};
+ghost use Rattle.apd_run.specs.Statuses.{fault_status};
+
+use apd_config::ConfigFault;
+use apd_files::{FileFault, shown, write_whole};
+use apd_script::ScriptFault;
+use std::alloc::{AllocError, Global};
+use std::io::Write;
+use thiserror::Error;
+
+/// Why nothing is run. Its text is told on standard error.
+#[derive(Debug, Drop, Error)]
+pub(crate) enum RunFault {
+    #[error("apd: cannot read {path}: {why}")]
+    Unreadable { path: String, why: FileFault },
+    #[error("apd: {path}: {fault}")]
+    Config { path: String, fault: ConfigFault },
+    #[error("apd: {path}: {fault}")]
+    Script { path: String, fault: ScriptFault },
+    #[error("apd: out of memory")]
+    NoMemory,
+}
+
+impl From<AllocError> for RunFault {
+    ghost from_gives = { λ _ fault. fault ≡ NoMemory };
+
+    fn from(_error: AllocError) -> RunFault {
+        RunFault::NoMemory
+    }
+}
+
+/// The fault of a file that cannot be read.
+pub(crate) fn unreadable(alloc: Global, path: &str, why: FileFault) -> RunFault
+    ensures memory { why ≡ FileFault.NoMemory → result ≡ RunFault.NoMemory }
+{
+    let Ok(path) = shown(alloc, path) else {
+        return RunFault::NoMemory;
+    };
+    match why {
+        FileFault::NoMemory => RunFault::NoMemory,
+        why => RunFault::Unreadable { path, why },
+    }
+}
+
+/// The fault of a file that is no configuration.
+pub(crate) fn of_configuration(alloc: Global, path: &str, fault: ConfigFault) -> RunFault
+    ensures memory { fault ≡ ConfigFault.NoMemory → result ≡ RunFault.NoMemory }
+{
+    let Ok(path) = shown(alloc, path) else {
+        return RunFault::NoMemory;
+    };
+    match fault {
+        ConfigFault::NoMemory => RunFault::NoMemory,
+        fault => RunFault::Config { path, fault },
+    }
+}
+
+/// The fault of a file that is no script.
+pub(crate) fn of_script(alloc: Global, path: &str, fault: ScriptFault) -> RunFault
+    ensures memory { fault ≡ ScriptFault.NoMemory → result ≡ RunFault.NoMemory }
+{
+    let Ok(path) = shown(alloc, path) else {
+        return RunFault::NoMemory;
+    };
+    match fault {
+        ScriptFault::NoMemory => RunFault::NoMemory,
+        fault => RunFault::Script { path, fault },
+    }
+}
+
+/// Writes a text, as far as it is taken.
+fn say<W: Write>(text: &str, writer: &mut W) {
+    let _ = write_whole(writer, text.as_bytes());
+}
+
+/// The status of a run that hasn't begun: 3 where memory ran out, else 2.
+fn status_of(fault: &RunFault) -> u8
+    ensures is { result ≡ fault_status fault.now }
+    ensures broken { IsBroken result }
+{
+    match fault {
+        RunFault::NoMemory => 3,
+        _ => 2,
+    }
+}
+
+/// Tells a fault, and answers its status. What is written of its text doesn't change the status.
+pub(crate) fn complain<W: Write>(alloc: Global, fault: &RunFault, err: &mut W) -> u8
+    ensures is { result ≡ fault_status fault.now }
+    ensures broken { IsBroken result }
+{
+    match fault {
+        RunFault::NoMemory => say("apd: out of memory\n", err),
+        fault => {
+            if let Ok(text) = format!(in alloc; "{fault}\n") {
+                say(text.as_str(), err);
+            }
+        }
+    }
+    status_of(fault)
+}
+
+/// Tells what the status of a run that has begun means, where it isn't 0.
+pub(crate) fn say_why<W: Write>(status: u8, err: &mut W) {
+    match status {
+        0 => {}
+        2 => say("apd: cannot write\n", err),
+        _ => say("apd: out of memory\n", err),
+    }
+}

@@ -1,0 +1,74 @@
+//! What an access point is made with, from a configuration.
+
+ghost use Rattle.std.specs.Prelude.{◌≡◌, ◌<◌, ◌≤◌, IfOk};
+
+use crate::access::Settings;
+use crate::runner::fault::{RunFault, of_configuration, unreadable};
+use ap_model::{LinkConfig, Octets};
+use apd_config::{Configuration, read_configuration};
+use apd_files::{FileKind, Files, read_whole};
+use bpf_regions::Shapes;
+use mac_types::Address;
+use std::alloc::{AllocError, Global};
+
+/// The bytes of a file of this kind.
+pub(crate) fn read<F: Files>(
+    alloc: Global,
+    path: &str,
+    kind: FileKind,
+    files: &mut F,
+) -> Result<Vec<u8>, RunFault> {
+    match read_whole(alloc, path, kind, files) {
+        Ok(bytes) => Ok(bytes),
+        Err(why) => Err(unreadable(alloc, path, why)),
+    }
+}
+
+/// The configuration in a file.
+pub(crate) fn configuration<F: Files>(
+    alloc: Global,
+    path: &str,
+    files: &mut F,
+) -> Result<Configuration, RunFault> {
+    let text = read(alloc, path, FileKind::Configuration, files)?;
+    match read_configuration(alloc, text.as_slice()) {
+        Ok(configuration) => Ok(configuration),
+        Err(fault) => Err(of_configuration(alloc, path, fault)),
+    }
+}
+
+/// A copy of the shapes of maps.
+pub(crate) fn copy_of(alloc: Global, shapes: &Shapes) -> Result<Shapes, AllocError>
+    ensures is { IfOk result (λ copy. copy ≡ shapes.now) }
+{
+    shapes.whole();
+    let copy = Vec::from_slice(alloc, shapes.as_slice())?;
+    match Shapes::new(copy) {
+        Some(copy) => return Ok(copy),
+        None => unreachable!(),
+    }
+}
+
+/// What an access point with so many workers is made with.
+pub(crate) fn settings(configuration: Configuration, workers: u8) -> Settings
+    ensures workers { result.workers ≡ workers }
+    ensures shapes { result.shapes ≡ configuration.maps }
+{
+    let Configuration {
+        bssid,
+        ssid,
+        rates,
+        draw,
+        maps,
+    } = configuration;
+    let link = LinkConfig::new(Address::new(bssid), Octets::new(ssid), Octets::new(rates));
+    match link {
+        Some(link) => Settings {
+            link,
+            shapes: maps,
+            draw,
+            workers: u32::from(workers),
+        },
+        None => unreachable!(),
+    }
+}

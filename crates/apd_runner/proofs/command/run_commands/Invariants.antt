@@ -1,9 +1,0 @@
-use Rattle.apd_access.specs.Opening.{names_of, journals_of}
-use Rattle.apd_runner.proofs.command.run_commands.Given as goal
-
--- the ledgers and the journals of the shards that are new
-abbrev pub ghosts-run_live-B-Ledgers : goal.ghosts-run_live-B-Ledgers
-ghosts-run_live-B-Ledgers g a = record { name_of = names_of a.opening.new; shares = 17 }
-
-abbrev pub ghosts-run_live-B-Journals : goal.ghosts-run_live-B-Journals
-ghosts-run_live-B-Journals g a = record { journal_of = journals_of a.opening.new }

@@ -1,3 +1,0 @@
-pub mod Statuses
-pub use Rattle.apd_access.specs.Shows
-pub use Rattle.apd_access.specs.Counts

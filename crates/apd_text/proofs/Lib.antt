@@ -1,0 +1,3 @@
+pub mod Moves
+pub mod Listed
+pub mod Standing

@@ -1,0 +1,15 @@
+//! All that `apd` prints: the lines of a run and their order, listings, traces, explanations of what was refused, and the
+//! pages on refusals.
+#![tactic(auto)]
+
+mod listing;
+mod reasons;
+mod refusals;
+mod reports;
+mod trace;
+
+pub use reports::{PrintFault, Report, Told, print_reports, print_totals, put_in_order};
+pub use refusals::{Example, Explanation, explain, page_text};
+pub use listing::{listing_text};
+pub use reasons::{fault_text, insn_text, reason_text};
+pub use trace::{trace_text};

@@ -1,0 +1,17 @@
+//! The order of what is printed.
+
+ghost use Rattle.std.specs.Prelude.{◌≡◌, OnOk, OnErr};
+ghost use Rattle.apd_text.specs.Order.{IsOrdered};
+
+use crate::reports::report::Report;
+use std::alloc::AllocError;
+
+/// Puts reports in the order of their lines, and those of one line in the order of their shards.
+/// Those of one shard and line keep their order.
+pub fn put_in_order(reports: &mut Vec<Report>) -> Result<(), AllocError>
+    ensures ordered { OnOk result (IsOrdered reports.old.items reports.new.items) }
+    ensures refused { OnErr result (reports.new.items ≡ reports.old.items) }
+{
+    reports.sort_by_key(|report| -> (u64, u16) { (report.line, report.shard) })?;
+    Ok(())
+}

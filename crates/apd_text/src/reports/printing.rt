@@ -1,0 +1,116 @@
+//! Lines that are written to a writer.
+
+ghost use Rattle.std.specs.Prelude.{◌≡◌, ◌++◌, [], OnOk, string_bytes};
+ghost use Rattle.std.specs.Io.KnownBytes.{Appends};
+ghost use Rattle.apd_files.specs.Beginning.{AppendsBeginning};
+ghost use Rattle.apd_text.specs.Lines.{report_text, reports_text, totals_text};
+ghost use Rattle.apd_text.specs.Moving.{MovesOn};
+
+use crate::reports::lines::{append_report, totals_line};
+use crate::reports::report::Report;
+use ap_books::Totals;
+use apd_files::{Unwritten, write_whole};
+use std::alloc::{AllocError, Global};
+use std::io::Write;
+
+/// Why a text wasn't written whole.
+#[derive(Clone, Copy, Debug, PartialEq, Eq)]
+pub enum PrintFault {
+    /// A write failed.
+    Unwritten,
+    /// Memory was refused.
+    NoMemory,
+}
+
+impl From<AllocError> for PrintFault {
+    ghost use Rattle.std.specs.Prelude.{◌≡◌};
+    ghost use Rattle.apd_text.specs.declared.reports.printing.PrintFault.TheVariants.{NoMemory};
+
+    ghost from_gives = { λ _ fault. fault ≡ NoMemory };
+
+    fn from(_error: AllocError) -> PrintFault {
+        PrintFault::NoMemory
+    }
+}
+
+impl From<Unwritten> for PrintFault {
+    ghost use Rattle.std.specs.Prelude.{◌≡◌};
+    ghost use Rattle.apd_text.specs.declared.reports.printing.PrintFault.TheVariants as faults;
+
+    ghost from_gives = { λ _ fault. fault ≡ faults.Unwritten };
+
+    fn from(_error: Unwritten) -> PrintFault {
+        PrintFault::Unwritten
+    }
+}
+
+/// How long a text grows before it is written.
+const ENOUGH: usize = 1 << 15;
+
+/// Writes what the text holds, and empties it.
+fn flush<W: Write>(text: &mut String, writer: &mut W) -> Result<(), Unwritten>
+    ensures whole { OnOk result
+        (Appends (W.contents writer.old) (W.contents writer.new) (string_bytes text.old)) }
+    ensures beginning { AppendsBeginning
+        (W.contents writer.old) (W.contents writer.new) (string_bytes text.old) }
+    ensures empty { OnOk result (string_bytes text.new ≡ []) }
+{
+    write_whole(writer, text.as_bytes())?;
+    text.clear();
+    Ok(())
+}
+
+/// Adds the lines of a report to the text, and writes it where it is long.
+fn print_report<W: Write>(
+    alloc: Global,
+    text: &mut String,
+    writer: &mut W,
+    report: &Report,
+) -> Result<(), PrintFault>
+    ensures moved { OnOk result (MovesOn (W.contents writer.old) (W.contents writer.new)
+        (string_bytes text.old ++ report_text report.now) (string_bytes text.new)) }
+    ensures beginning { AppendsBeginning (W.contents writer.old) (W.contents writer.new)
+        (string_bytes text.old ++ report_text report.now) }
+{
+    append_report(alloc, text, report)?;
+    if text.len() >= ENOUGH {
+        flush(text, writer)?;
+    }
+    Ok(())
+}
+
+/// Prints reports as they stand, one after the other. Where a write fails or memory is refused, a
+/// beginning of their text was written.
+pub fn print_reports<W: Write>(
+    alloc: Global,
+    writer: &mut W,
+    reports: &[Report],
+) -> Result<(), PrintFault>
+    ensures whole { OnOk result
+        (Appends (W.contents writer.old) (W.contents writer.new) (reports_text reports.now)) }
+    ensures beginning { AppendsBeginning
+        (W.contents writer.old) (W.contents writer.new) (reports_text reports.now) }
+{
+    let mut text = String::new(alloc);
+    for report in reports {
+        print_report(alloc, &mut text, writer, report)?;
+    }
+    flush(&mut text, writer)?;
+    Ok(())
+}
+
+/// Prints the last line of a run.
+pub fn print_totals<W: Write>(
+    alloc: Global,
+    writer: &mut W,
+    totals: &Totals,
+) -> Result<(), PrintFault>
+    ensures whole { OnOk result
+        (Appends (W.contents writer.old) (W.contents writer.new) (totals_text totals.now)) }
+    ensures beginning { AppendsBeginning
+        (W.contents writer.old) (W.contents writer.new) (totals_text totals.now) }
+{
+    let text = totals_line(alloc, totals)?;
+    write_whole(writer, text.as_bytes())?;
+    Ok(())
+}

@@ -1,0 +1,146 @@
+//! An access point that tells of each event only how long it lasts: what `run_script` asks of one.
+
+ghost use Rattle.apd_run.specs.Tells.{Tells};
+
+use ap_books::Totals;
+use ap_model::Event;
+use apd_run::{Operating, Serving, Waiting};
+use apd_script::Command;
+use apd_text::{Report, Told};
+use std::alloc::AllocError;
+use std::sync::{Arc, Mutex, Wait};
+
+/// A tick that waits: its line and its units.
+#[derive(Clone, Copy)]
+pub struct Tick {
+    pub line: u64,
+    pub units: u32,
+}
+
+/// A place for one tick, which a worker empties.
+pub type Place = Arc<Mutex<Option<Tick>>>;
+
+/// Serves one place.
+#[derive(Drop)]
+pub struct Echo(pub Place);
+
+/// Takes the tick of a place, if there is one.
+fn taken<R: Wait>(rt: &R, place: &Place) -> Option<Tick> {
+    let mut place = place.lock(rt);
+    let tick = *place;
+    *place = None;
+    tick
+}
+
+/// Lists the tick of a place, if there is one. True where there was none.
+fn list_tick<R: Wait>(rt: &R, place: &Place, list: &mut Vec<Report>) -> Result<bool, AllocError>
+    ensures { Tells list.old.items list.new.items }
+{
+    list.reserve(1)?;
+    match taken(rt, place) {
+        None => Ok(true),
+        Some(Tick { line, units }) => {
+            list.push_reserved(Report {
+                line,
+                shard: 0,
+                told: Told::Word {
+                    value: u64::from(units),
+                },
+            });
+            Ok(false)
+        }
+    }
+}
+
+/// Lists ticks until there is none.
+fn list_ticks<R: Wait>(rt: &R, place: &Place, list: &mut Vec<Report>) -> Result<(), AllocError>
+    ensures { Tells list.old.items list.new.items }
+{
+    for _ in rt.forever() {
+        if list_tick(rt, place, list)? {
+            return Ok(());
+        }
+    }
+    unreachable!()
+}
+
+impl Serving for Echo {
+    ghost use Rattle.ap_books.specs.Counts.{none};
+
+    ghost counted = { λ _. none };
+
+    fn serve<R: Wait>(&mut self, rt: &R, list: &mut Vec<Report>) -> Result<(), AllocError> {
+        list_ticks(rt, &self.0, list)
+    }
+}
+
+/// A place for each worker, and how many workers have their rights.
+#[derive(Drop)]
+pub struct Places {
+    pub places: Vec<Place>,
+    pub workers: u64,
+}
+
+/// Puts a tick into the place of its line. False where another waits there.
+fn put<R: Wait>(rt: &R, places: &[Place], tick: Tick) -> bool {
+    if places.is_empty() {
+        return true;
+    }
+    let mut place = places[tick.line as usize % places.len()].lock(rt);
+    if place.is_some() {
+        return false;
+    }
+    *place = Some(tick);
+    true
+}
+
+/// A tick is put; all else is forgotten.
+fn put_event<R: Wait>(rt: &R, places: &[Place], line: u64, event: Event) -> Result<(), Waiting> {
+    match event {
+        Event::Tick(units) => {
+            if put(rt, places, Tick { line, units }) {
+                return Ok(());
+            }
+            return Err(Waiting {
+                event: Event::Tick(units),
+                shard: 0,
+            });
+        }
+        _ => return Ok(()),
+    }
+}
+
+impl Operating<Echo> for Places {
+    ghost use Rattle.ap_books.specs.Counts.{none};
+
+    ghost crew = { λ o. record { workers = o.workers; counted = none } };
+
+    ghost taken = { λ _. none };
+
+    fn submit<R: Wait>(&mut self, rt: &R, line: u64, event: Event) -> Result<(), Waiting> {
+        put_event(rt, self.places.as_slice(), line, event)
+    }
+
+    fn go_on<R: Wait>(&mut self, rt: &R, line: u64, waiting: Waiting) -> Result<(), Waiting> {
+        let Waiting { event, shard: _ } = waiting;
+        put_event(rt, self.places.as_slice(), line, event)
+    }
+
+    fn perform<R: Wait>(&mut self, _rt: &R, command: &Command<'_>) -> Option<Told> {
+        match *command {
+            Command::Load { .. } => return Some(Told::Unreadable),
+            Command::Unload(_) => return Some(Told::Memory),
+            _ => return None,
+        }
+    }
+
+    fn settle(&mut self, _worker: &mut Echo) {}
+
+    fn dismiss(&mut self, _worker: Echo) {
+        self.workers -= 1;
+    }
+
+    fn gather<R: Wait>(self, _rt: &R) -> Totals {
+        Totals::new()
+    }
+}

@@ -1,0 +1,100 @@
+//! Files in memory, and runs over them.
+
+use apd_files::{FileFault, Files};
+use apd_run::{OpenGate, RunWords, StateLimit, Supplies, Watcher, run};
+use std::alloc::Global;
+use std::sync::Wait;
+use std::thread::Threads;
+
+/// A file by its path.
+#[derive(Clone, Copy)]
+pub struct File<'a> {
+    pub path: &'a str,
+    pub text: &'a str,
+}
+
+/// Files of which no contract knows what they hold, and what is left of the open one.
+#[derive(Drop)]
+pub struct Memory<'a> {
+    pub alloc: Global,
+    pub files: &'a [File<'a>],
+    pub left: &'a [u8],
+}
+
+/// The text of a file, if it is there.
+fn text_of<'a>(files: &'a [File<'a>], path: &str) -> Option<&'a str> {
+    for file in files {
+        if file.path == path {
+            return Some(file.text);
+        }
+    }
+    None
+}
+
+impl Files for Memory<'_> {
+    fn open(&mut self, path: &str) -> Result<(), FileFault> {
+        match text_of(self.files, path) {
+            Some(text) => {
+                self.left = text.as_bytes();
+                return Ok(());
+            }
+            None => return Err(FileFault::Missing),
+        }
+    }
+
+    fn next_block(&mut self) -> Result<Vec<u8>, FileFault> {
+        let block = self.left;
+        self.left = b"";
+        match Vec::from_slice(self.alloc, block) {
+            Ok(bytes) => return Ok(bytes),
+            Err(_) => return Err(FileFault::NoMemory),
+        }
+    }
+}
+
+/// What a run writes to standard output and to standard error, and its status.
+#[derive(Drop)]
+pub struct Outcome {
+    pub out: Vec<u8>,
+    pub err: Vec<u8>,
+    pub status: u8,
+}
+
+/// Runs the file `script` with the configuration `config` by so many workers. The watcher is told of each
+/// event.
+pub fn watched<R: Threads + Wait + Sync, G: Watcher + Copy + Send>(
+    rt: &R,
+    alloc: Global,
+    files: &[File<'_>],
+    workers: u8,
+    gate: G,
+) -> Outcome {
+    let words = RunWords {
+        config: "config",
+        script: "script",
+        workers,
+    };
+    let mut memory = Memory {
+        alloc,
+        files,
+        left: b"",
+    };
+    let supplies = Supplies {
+        files: &mut memory,
+        limit: StateLimit::MOST,
+        gate,
+    };
+    let mut err = Vec::new(alloc);
+    let (out, status) = run(rt, alloc, words, supplies, Vec::new(alloc), &mut err);
+    Outcome { out, err, status }
+}
+
+/// Runs the file `script` with the configuration `config` by so many workers.
+pub fn ran<R: Threads + Wait + Sync>(
+    rt: &R,
+    alloc: Global,
+    files: &[File<'_>],
+    workers: u8,
+) -> Outcome {
+    watched(rt, alloc, files, workers, OpenGate)
+}

@@ -1,0 +1,13 @@
+//! The queues of all workers, the tables of their maps and the books of a shard in use, shown by tests.
+#![tactic(auto)]
+
+#[cfg(test)]
+mod books;
+#[cfg(test)]
+mod lines;
+#[cfg(test)]
+mod queue;
+#[cfg(test)]
+mod same;
+#[cfg(test)]
+mod tables;
