@@ -1,28 +1,53 @@
 # Made by docs/manual-page of what apd prints.
 _apd() {
-    local word=${COMP_WORDS[COMP_CWORD]} options='' first=''
+    local word=${COMP_WORDS[COMP_CWORD]} before=${COMP_WORDS[COMP_CWORD - 1]}
+    local options='' kinds=() kind='' place=0 at ending
+    [ "$word" = = ] && word=''
+    [ "$before" = = ] && before=${COMP_WORDS[COMP_CWORD - 2]}
+    for ((at = 2; at < COMP_CWORD; at++)); do
+        case ${COMP_WORDS[at]} in
+            --config | --states | --workers)
+                at=$((at + 1))
+                [ "${COMP_WORDS[at]}" = = ] && at=$((at + 1))
+                ;;
+            -*) ;;
+            *) place=$((place + 1)) ;;
+        esac
+    done
     case ${COMP_WORDS[1]} in
-        verify) options='--config --states --explain --help' first='assoc addba data' ;;
-        asm) options='--help' first='' ;;
-        disasm) options='--config --slots --help' first='' ;;
-        trace) options='--config --states --help' first='assoc addba data' ;;
-        run) options='--workers --states --quiet --help' first='' ;;
-        cert) options='--config --states --help' first='assoc addba data' ;;
-        check) options='--config --help' first='assoc addba data' ;;
-        explain) options='--help' first='' ;;
-        frames) options='--no-ticks --help' first='' ;;
-        help) options='--help' first='verify asm disasm trace run cert check explain frames help' ;;
+        verify) options='--config --states --explain --help' kinds=('assoc addba data/' '/hex') ;;
+        asm) options='--help' kinds=('/s') ;;
+        disasm) options='--config --slots --help' kinds=('/hex') ;;
+        trace) options='--config --states --help' kinds=('assoc addba data/' '/hex' '/') ;;
+        run) options='--workers --states --quiet --help' kinds=('/toml' '/script') ;;
+        cert) options='--config --states --help' kinds=('assoc addba data/' '/hex') ;;
+        check) options='--config --help' kinds=('assoc addba data/' '/hex' '/cert') ;;
+        explain) options='--help' kinds=('NUMBERS/') ;;
+        frames) options='--no-ticks --help' kinds=('/pcap pcapng') ;;
+        help) options='--help' kinds=('COMMANDS/') ;;
+    esac
+    kind=${kinds[place]-}
+    case $before in
+        --config) kind='/toml' ;;
+        --states) kind='/' ;;
+        --workers) kind='1 2 3 4 5 6 7 8/' ;;
     esac
     if [ "$COMP_CWORD" -eq 1 ]; then
-        first='verify asm disasm trace run cert check explain frames help' options='--help --version'
+        kind='COMMANDS/' options='--help --version'
     fi
+    kind=${kind/COMMANDS/verify asm disasm trace run cert check explain frames help}
+    kind=${kind/NUMBERS/1 2 3 10 11 12 13 14 15 16 17 18 19 20 21 22 30 31 32 33 34 35 36 37 38 40 50 51 52 53 54 55 56 60 61 62 63 70 71 72}
+    COMPREPLY=()
     case $word in
         -*) mapfile -t COMPREPLY < <(compgen -W "$options" -- "$word") ;;
         *)
-            if [ "$COMP_CWORD" -le 2 ] && [ -n "$first" ]; then
-                mapfile -t COMPREPLY < <(compgen -W "$first" -- "$word")
-            else
-                mapfile -t COMPREPLY < <(compgen -f -- "$word")
+            mapfile -t COMPREPLY < <(compgen -W "${kind%/*}" -- "$word")
+            for ending in ${kind##*/}; do
+                mapfile -t -O ${#COMPREPLY[@]} COMPREPLY < <(compgen -f -X "!*.$ending" -- "$word")
+            done
+            if [ -n "${kind##*/}" ]; then
+                [ ${#COMPREPLY[@]} -gt 0 ] || mapfile -t COMPREPLY < <(compgen -f -- "$word")
+                mapfile -t -O ${#COMPREPLY[@]} COMPREPLY < <(compgen -d -- "$word")
             fi
             ;;
     esac
