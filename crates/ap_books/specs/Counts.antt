@@ -1,14 +1,9 @@
 -- How much entries count.
-use Rattle.std.specs.Prelude.{ℕ, ◌+◌, Bool, true, false, List, [], ◌∷◌, ◌||◌, sum_by, count_by, if◌then◌else◌}
-use Rattle.bpf_regions.specs.declared.hooks.Hook.{Hook}
-use Rattle.bpf_regions.specs.declared.hooks.Hook.TheVariants.{Association, Addba, Data}
-use Rattle.hooks.specs.Verdicts.{data_verdict}
-use Rattle.hooks.specs.declared.verdicts.DataVerdict.{DataVerdict}
-use Rattle.hooks.specs.declared.verdicts.DataVerdict.TheVariants.{Pass, Discard}
+use Rattle.std.specs.Prelude.{ℕ, ◌+◌, Bool, true, false, List, sum_by, count_by, if◌then◌else◌}
 use Rattle.ap_model.specs.declared.event.Out.{Out}
 use Rattle.ap_model.specs.declared.event.Out.TheVariants.{Send, Up, Note}
-use Rattle.ap_model.specs.Asks.{Ask}
 use Rattle.ap_model.specs.Runs.{Entry}
+pub use Rattle.ap_model.specs.Drops.{drops}
 
 -- events that were handled, frames sent, data passed up, data verdicts that dropped, and notes given
 pub record Counts : Type 0 where
@@ -59,22 +54,6 @@ abbrev pub is_note : Out → Bool
 is_note (Send b) = false
 is_note (Up u) = false
 is_note (Note n) = true
-
--- a verdict on data that doesn't let it through
-abbrev pub discards : DataVerdict → Bool
-discards (Pass mark) = false
-discards Discard = true
-
--- an answer to the ask of a hook by which data is dropped
-abbrev pub drops_by : Hook → ℕ → Bool
-drops_by Association r = false
-drops_by Addba r = false
-drops_by Data r = discards (data_verdict r)
-
--- one of the asks was answered by a verdict that drops data
-abbrev pub drops : List (Ask × ℕ) → Bool
-drops [] = false
-drops (x ∷ xs) = drops_by x.0.hook x.1 || drops xs
 
 -- what one event counts, by its outs and whether a data verdict dropped
 abbrev pub counts_of : List Out → Bool → Counts

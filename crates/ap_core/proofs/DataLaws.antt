@@ -1,6 +1,6 @@
 -- Data, by its agreement and its verdict.
-use Rattle.std.proofs.Common.{◌≡◌, ℕ, true, false, Option, Some, None, List, [], ◌∷◌, refl, sym, ap, subst, ◌∙◌}
-use Rattle.std.specs.Prelude.{IsSomeAnd}
+use Rattle.std.proofs.Common.{◌≡◌, ℕ, Bool, true, false, Option, Some, None, List, [], ◌∷◌, refl, sym, ap, subst, ◌∙◌}
+use Rattle.std.specs.Prelude.{IsSomeAnd, is_some, not}
 use Rattle.bpf_regions.specs.declared.hooks.Hook.TheVariants as hook
 use Rattle.mac_frame.specs.Spelling.{spelling}
 use Rattle.assoc.specs.Standings.{Standings}
@@ -12,6 +12,7 @@ use Rattle.hooks.specs.declared.verdicts.DataVerdict.TheVariants.{Pass, Discard}
 use Rattle.hooks.specs.Verdicts.{data_verdict}
 use Rattle.ap_model.specs.declared.event.Out.{Out}
 use Rattle.ap_model.specs.Asks.{Ask}
+use Rattle.ap_model.specs.Drops.{discards, drops_by}
 use Rattle.ap_model.specs.Readings.{Readings, Using, Held}
 use Rattle.ap_model.specs.Changes.{Agrees}
 use Rattle.ap_model.specs.Agreements.{Packet, agreement_for, data_ask, let_through, item, ups, DataComes, up, plain, taken, left}
@@ -40,6 +41,17 @@ pub judged : (st : Standings) (p : Packet) (start : Option ℕ) (bytes context :
     context ≡ contexts.data_context p.frame.sender (st p.frame.sender) p.tid p.number start → outs ≡ let_through p.frame.sender p (data_verdict verdict) →
     IsJudged st p start ((record { hook = hook.Data; frame = bytes; context = context }, verdict) ∷ []) outs
 judged st p start bytes context verdict outs e1 e2 e3 = record { verdict = verdict; asks = rw (e1, e2) refl; is = e3 }
+
+-- a place that holds nothing is that of a frame that is dropped
+pub held_nothing : (destination body : List ℕ) (verdict : ℕ) (o : Option Held) (dropped : Bool) →
+    o ≡ held_item destination body (data_verdict verdict) → is_some o ≡ not dropped → dropped ≡ drops_by hook.Data verdict
+held_nothing destination body verdict o dropped e none = by_verdict (data_verdict verdict) dropped (sym (ap is_some e) ∙ none)
+  where
+    by_verdict : (v : DataVerdict) (b : Bool) → is_some (held_item destination body v) ≡ not b → b ≡ discards v
+    by_verdict (Pass mark) false e = refl
+    by_verdict (Pass mark) true e = absurd cc
+    by_verdict Discard false e = absurd cc
+    by_verdict Discard true e = refl
 
 -- data without an agreement, by its verdict
 pub delivered : (r : Readings) (p : Packet) (asked : List (Ask × ℕ)) (outs : List Out) → agreement_for r p.frame.sender p.tid ≡ None →

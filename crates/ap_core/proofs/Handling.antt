@@ -1,12 +1,19 @@
 -- A rule that asks nothing, and a rule that asks once.
-use Rattle.std.proofs.Common.{◌≡◌, ℕ, List, [], ◌∷◌, refl}
+use Rattle.std.proofs.Common.{◌≡◌, ℕ, Bool, true, false, ◌||◌, List, [], ◌∷◌, refl, ◌∙◌}
 use Rattle.ap_model.specs.declared.event.Out.{Out}
 use Rattle.ap_model.specs.Asks.{Ask, Handled}
+use Rattle.ap_model.specs.Drops.{drops_by, drops}
 use Rattle.ap_model.specs.Readings.{Readings, Using}
 use Rattle.ap_model.specs.Changes.{Stays, Answers, Nothing}
+use Rattle.ap_core.specs.Telling.{Tells}
 
 pub unchanged : (r : Readings) → Stays r r
 unchanged r = record { standing = λ q. refl; agreement = λ q t. refl; clock = refl }
+
+-- a flag or nothing
+or_none : (a : Bool) → a ≡ (a || false)
+or_none true = refl
+or_none false = refl
 
 module _ {S : Type 0} (R : S → Ask → ℕ → S → Type 0) (step : List (Ask × ℕ) → List Out → Type 0) (j : S) (outs : List Out) where
   pub silently : step [] outs → Handled R step j outs j
@@ -14,6 +21,18 @@ module _ {S : Type 0} (R : S → Ask → ℕ → S → Type 0) (step : List (Ask
 
   pub asking : (j2 : S) (q : Ask) (v : ℕ) → R j q v j2 → step ((q, v) ∷ []) outs → Handled R step j outs j2
   asking j2 q v given h = record { asked = (q, v) ∷ []; listed = (j2, given, refl); does = h }
+
+  -- what asks nothing drops nothing
+  pub silently_told : step [] outs → Tells R step j outs false j
+  silently_told h = record { asked = []; listed = refl; does = h; flag = refl }
+
+  -- one answer says whether data is dropped
+  pub asking_told : (j2 : S) (q : Ask) (v : ℕ) (dropped : Bool) → R j q v j2 → step ((q, v) ∷ []) outs → dropped ≡ drops_by q.hook v → Tells R step j outs dropped j2
+  asking_told j2 q v dropped given h e = record { asked = (q, v) ∷ []; listed = (j2, given, refl); does = h; flag = e ∙ or_none (drops_by q.hook v) }
+
+  -- a rule of which no ask drops data
+  pub told_undropped : (j2 : S) → ((asked : List (Ask × ℕ)) → step asked outs → false ≡ drops asked) → Handled R step j outs j2 → Tells R step j outs false j2
+  told_undropped j2 none h = record { asked = h.asked; listed = h.listed; does = h.does; flag = none h.asked h.does }
 
 pub settled : (effect : Out) (outs : List Out) (r : Readings) → outs ≡ effect ∷ [] → Answers effect r [] outs r
 settled effect outs r e = record { settles = record { silent = refl; is = e }; stays = unchanged r }
@@ -26,6 +45,6 @@ pub using_is : (v : Using) (timeout clock : ℕ) → v.timeout ≡ timeout → v
 using_is v timeout clock e f = λ i. record { window = v.window; timeout = e i; last_use = f i }
 
 -- what a rule says of its asks may be said in other words
-pub handled_by : {S : Type 0} {R : S → Ask → ℕ → S → Type 0} {step step2 : List (Ask × ℕ) → List Out → Type 0} {j j2 : S} {outs : List Out} →
-    ((asked : List (Ask × ℕ)) → step asked outs → step2 asked outs) → Handled R step j outs j2 → Handled R step2 j outs j2
-handled_by also h = record { asked = h.asked; listed = h.listed; does = also h.asked h.does }
+pub told_by : {S : Type 0} {R : S → Ask → ℕ → S → Type 0} {step step2 : List (Ask × ℕ) → List Out → Type 0} {j j2 : S} {outs : List Out} {dropped : Bool} →
+    ((asked : List (Ask × ℕ)) → step asked outs → step2 asked outs) → Tells R step j outs dropped j2 → Tells R step2 j outs dropped j2
+told_by also h = record { asked = h.asked; listed = h.listed; does = also h.asked h.does; flag = h.flag }

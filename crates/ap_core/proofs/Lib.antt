@@ -6,6 +6,7 @@ pub mod DataLaws
 pub mod RequestLaws
 pub mod EndLaws
 pub mod SetupLaws
+pub mod DropLaws
 pub mod FrameLaws
 pub mod TickLaws
 pub mod AccessLaws

@@ -1,7 +1,6 @@
 -- A shard's history, as it begins and goes on.
 use Rattle.std.proofs.Common.{◌≡◌, ℕ, List, [], ◌∷◌, ◌++◌, Result, Ok, Err, refl, sym, ap, subst}
 use Rattle.std.specs.Prelude.{IfOk, IfErr}
-use Rattle.std.specs.Global.{Vec}
 use Rattle.std.proofs.Math.Logic.{∥∥₁_map}
 use Rattle.ap_model.specs.declared.event.Event.{Event}
 use Rattle.ap_model.specs.declared.event.Out.{Out}
@@ -42,8 +41,8 @@ module _ (s s2 : State) (config : Config) (shard : s2.link.shard ≡ s.link.shar
   stayed e = same (rules s.link.shard config) (rules s2.link.shard config) (reading s) (reading s2) (ap (λ n. rules n config) shard) (ap reading e) past
 
   -- it was a step where it was not refused, and else nothing changed
-  pub either : {E : Type 0} {H : Vec Out → Type 0} {G : E → Type 0} (event : Event) (o : Result (Vec Out) E) →
-      ((outs : Vec Out) → H outs → (asked : List (Ask × ℕ)) × Step (rules s.link.shard config) (reading s) event asked outs.items (reading s2)) →
+  pub either : {T E : Type 0} {H : T → Type 0} {G : E → Type 0} (outs_of : T → List Out) (event : Event) (o : Result T E) →
+      ((came : T) → H came → (asked : List (Ask × ℕ)) × Step (rules s.link.shard config) (reading s) event asked (outs_of came) (reading s2)) →
       ((e : E) → G e → s2 ≡ s) → IfOk o H → IfErr o G → ∥ History (rules s2.link.shard config) (reading s2) ∥₁
-  either event (Ok outs) step refused h g = let x = step outs h in went_on event x.0 outs.items x.1
-  either event (Err e) step refused h g = stayed (refused e g)
+  either outs_of event (Ok came) step refused h g = let x = step came h in went_on event x.0 (outs_of came) x.1
+  either outs_of event (Err e) step refused h g = stayed (refused e g)

@@ -1,5 +1,5 @@
 -- A data frame that came, and what is made of it.
-use Rattle.std.specs.Prelude.{◌≡◌, ◌≤◌, ℕ, Option, Some, List}
+use Rattle.std.specs.Prelude.{◌≡◌, ◌≤◌, ℕ, Bool, Option, Some, List}
 use Rattle.bpf_regions.specs.declared.hooks.Hook.TheVariants as hook
 use Rattle.mac_frame.specs.Spelling.{spelling}
 use Rattle.assoc.specs.Standings.{Standings, standing}
@@ -7,7 +7,7 @@ use Rattle.blockack.specs.Reading.{Reading, IsWanted, most_passed}
 use Rattle.hooks.specs.Contexts as contexts
 use Rattle.hooks.specs.Verdicts.{data_verdict}
 use Rattle.ap_model.specs.declared.event.Out.{Out}
-use Rattle.ap_model.specs.Asks.{Ask, Handled}
+use Rattle.ap_model.specs.Asks.{Ask}
 use Rattle.ap_model.specs.Readings.{Held}
 use Rattle.ap_model.specs.Changes.{Asks}
 use Rattle.ap_model.specs.Agreements.{Packet, DataComes, let_through}
@@ -16,6 +16,7 @@ use Rattle.ap_core.specs.declared.state.State.{State}
 use Rattle.ap_core.specs.declared.packets.DataFrame.{DataFrame}
 use Rattle.ap_core.specs.declared.packets.Under.{Under}
 use Rattle.ap_core.specs.Handles.{reading}
+use Rattle.ap_core.specs.Telling.{Tells}
 
 -- a data frame, as the model sees it
 abbrev pub packet : DataFrame → Packet
@@ -45,9 +46,9 @@ pub record IsJudged (st : Standings) (p : Packet) (start : Option ℕ) (asked : 
   pub is : outs ≡ let_through p.frame.sender p (data_verdict verdict)
 
 -- so, by the judge
-abbrev pub JudgesData : {S : Type 0} → (S → Ask → ℕ → S → Type 0) → State → DataFrame → Option ℕ → S → List Out → S → Type 0
-JudgesData R s d start j outs j2 = Handled R (IsJudged (standing s.link) (packet d) start) j outs j2
+abbrev pub JudgesData : {S : Type 0} → (S → Ask → ℕ → S → Type 0) → State → DataFrame → Option ℕ → S → List Out → Bool → S → Type 0
+JudgesData R s d start j outs dropped j2 = Tells R (IsJudged (standing s.link) (packet d) start) j outs dropped j2
 
 -- data came, by the judge's verdict
-abbrev pub HandlesData : {S : Type 0} → (S → Ask → ℕ → S → Type 0) → State → DataFrame → S → List Out → State → S → Type 0
-HandlesData R s d j outs s2 j2 = Handled R (λ asked outs. DataComes (reading s) d.frame.sender (packet d) asked outs (reading s2)) j outs j2
+abbrev pub HandlesData : {S : Type 0} → (S → Ask → ℕ → S → Type 0) → State → DataFrame → S → List Out → Bool → State → S → Type 0
+HandlesData R s d j outs dropped s2 j2 = Tells R (λ asked outs. DataComes (reading s) d.frame.sender (packet d) asked outs (reading s2)) j outs dropped j2

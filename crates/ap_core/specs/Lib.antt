@@ -4,4 +4,5 @@ pub mod DataFrames
 pub mod Handles
 pub mod Noted
 pub mod Shards
+pub mod Telling
 pub mod Ticking

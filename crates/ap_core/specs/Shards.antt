@@ -1,5 +1,5 @@
 -- What a shard is to its callers.
-use Rattle.std.specs.Prelude.{ℕ, List}
+use Rattle.std.specs.Prelude.{ℕ, Bool, List}
 use Rattle.ap_model.specs.declared.event.Event.{Event}
 use Rattle.ap_model.specs.declared.event.Out.{Out}
 use Rattle.ap_model.specs.Asks.{Ask, Handled}
@@ -7,6 +7,7 @@ use Rattle.ap_model.specs.Readings.{Readings, Rules}
 use Rattle.ap_model.specs.Steps.{Step}
 use Rattle.ap_core.specs.declared.shard.Shard.{Shard}
 use Rattle.ap_core.specs.Handles.{reading, rules}
+use Rattle.ap_core.specs.Telling.{Tells}
 
 -- what its later steps read of its history
 abbrev pub reads : Shard → Readings
@@ -19,3 +20,7 @@ ruled s = rules s.state.link.shard s.config
 -- the event is one step of the shard, whose verdicts are the judge's
 abbrev pub Handles : {S : Type 0} → (S → Ask → ℕ → S → Type 0) → Shard → Event → S → List Out → Shard → S → Type 0
 Handles R s event j outs s2 j2 = Handled R (λ asked outs. Step (ruled s) (reads s) event asked outs (reads s2)) j outs j2
+
+-- so, and the flag tells whether one of the verdicts dropped data
+abbrev pub Decides : {S : Type 0} → (S → Ask → ℕ → S → Type 0) → Shard → Event → S → List Out → Bool → Shard → S → Type 0
+Decides R s event j outs dropped s2 j2 = Tells R (λ asked outs. Step (ruled s) (reads s) event asked outs (reads s2)) j outs dropped j2

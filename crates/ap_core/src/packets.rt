@@ -9,6 +9,7 @@ ghost use Rattle.ap_model.specs.Agreements.{agreement_for};
 ghost use Rattle.ap_core.specs.Handles.{reading, held_item};
 ghost use Rattle.ap_core.specs.DataFrames.{IsSpelled, IsUnder, IsWantedFor, HandlesData, JudgesData};
 
+use crate::outcome::Outcome;
 use crate::passing::pass_up;
 use crate::room::with_out;
 use crate::state::State;
@@ -50,10 +51,11 @@ fn deliver<J: Judge>(
     came: DataFrame<'_>,
     start: Option<SequenceNumber>,
     judge: &mut J,
-) -> Result<Vec<Out>, AllocError>
+) -> Result<Outcome, AllocError>
     requires bytes { IsSpelled came }
     ensures step { IfOk result
-        (λ outs. JudgesData J.gives state.now came.entry start judge.old outs.items judge.new) }
+        (λ o. JudgesData J.gives state.now came.entry start judge.old o.outs.items o.dropped
+        judge.new) }
     ensures refused { IfErr result (λ _. judge.new ≡ judge.old) }
 {
     let outs = Vec::with_capacity(alloc, 1)?;
@@ -70,9 +72,17 @@ fn deliver<J: Judge>(
                 mark,
                 body: Octets::new(came.frame.into_tail()),
             };
-            return Ok(with_out(outs, Out::Up(up)));
+            return Ok(Outcome {
+                outs: with_out(outs, Out::Up(up)),
+                dropped: false,
+            });
         }
-        DataVerdict::Discard => return Ok(outs),
+        DataVerdict::Discard => {
+            return Ok(Outcome {
+                outs,
+                dropped: true,
+            });
+        }
     }
 }
 
@@ -82,16 +92,16 @@ pub(crate) fn on_plain_data<J: Judge>(
     state: &State,
     came: DataFrame<'_>,
     judge: &mut J,
-) -> Result<Vec<Out>, AllocError>
+) -> Result<Outcome, AllocError>
     requires bytes { IsSpelled came }
     requires plain { agreement_for (reading state.now) came.frame.sender came.tid ≡ None }
     ensures step { IfOk result
-        (λ outs. HandlesData J.gives state.now came.entry judge.old outs.items state.now
-        judge.new) }
+        (λ o. HandlesData J.gives state.now came.entry judge.old o.outs.items o.dropped
+        state.now judge.new) }
     ensures refused { IfErr result (λ _. judge.new ≡ judge.old) }
 {
-    let outs = deliver(alloc, state, came, None, judge)?;
-    Ok(outs)
+    let outcome = deliver(alloc, state, came, None, judge)?;
+    Ok(outcome)
 }
 
 /// Where the agreement of a data frame stands: its place, its TID and its window's first number.
@@ -117,20 +127,20 @@ fn on_data_alone<J: Judge>(
     came: DataFrame<'_>,
     under: Under,
     judge: &mut J,
-) -> Result<Vec<Out>, AllocError>
+) -> Result<Outcome, AllocError>
     requires bytes { IsSpelled came }
     requires under { IsUnder state.old.agreements.kept came under IsAlone }
     ensures step { IfOk result
-        (λ outs. HandlesData J.gives state.old came.entry judge.old outs.items state.new
-        judge.new) }
+        (λ o. HandlesData J.gives state.old came.entry judge.old o.outs.items o.dropped
+        state.new judge.new) }
     ensures shard { state.new.link.shard ≡ state.old.link.shard }
     ensures refused { IfErr result (λ _. (state.new ≡ state.old) × (judge.new ≡ judge.old)) }
 {
     let number = came.number;
     let clock = state.clock;
-    let outs = deliver(alloc, state, came, Some(under.start), judge)?;
+    let outcome = deliver(alloc, state, came, Some(under.start), judge)?;
     state.agreements.pass_alone(under.at, number, clock);
-    Ok(outs)
+    Ok(outcome)
 }
 
 /// What a window takes in place of the frame: nothing where it is dropped.
@@ -150,13 +160,13 @@ fn on_wanted_data<J: Judge>(
     came: DataFrame<'_>,
     wanted: Wanted,
     judge: &mut J,
-) -> Result<Vec<Out>, AllocError>
+) -> Result<Outcome, AllocError>
     requires bytes { IsSpelled came }
     requires under { IsUnder state.old.agreements.kept came wanted.under
         (IsWantedFor wanted.most) }
     ensures step { IfOk result
-        (λ outs. HandlesData J.gives state.old came.entry judge.old outs.items state.new
-        judge.new) }
+        (λ o. HandlesData J.gives state.old came.entry judge.old o.outs.items o.dropped
+        state.new judge.new) }
     ensures shard { state.new.link.shard ≡ state.old.link.shard }
     ensures refused { IfErr result (λ _. (state.new ≡ state.old) × (judge.new ≡ judge.old)) }
 {
@@ -169,13 +179,14 @@ fn on_wanted_data<J: Judge>(
     let destination = came.destination;
     let body = Octets::new(came.frame.into_tail());
     let item = item_of(verdict, destination, body);
+    let dropped = item.is_none();
     let clock = state.clock;
     let mut passed = Released::new();
     state
         .agreements
         .take(under.at, number, item, clock, &mut passed);
     pass_up(station, under.tid, passed, &mut outs);
-    Ok(outs)
+    Ok(Outcome { outs, dropped })
 }
 
 /// QoS data.
@@ -185,37 +196,40 @@ pub(crate) fn on_qos_data<J: Judge>(
     came: DataFrame<'_>,
     tid: Tid,
     judge: &mut J,
-) -> Result<Vec<Out>, AllocError>
+) -> Result<Outcome, AllocError>
     requires bytes { IsSpelled came }
     requires tid { came.tid ≡ Some tid }
     ensures step { IfOk result
-        (λ outs. HandlesData J.gives state.old came.entry judge.old outs.items state.new
-        judge.new) }
+        (λ o. HandlesData J.gives state.old came.entry judge.old o.outs.items o.dropped
+        state.new judge.new) }
     ensures shard { state.new.link.shard ≡ state.old.link.shard }
     ensures refused { IfErr result (λ _. (state.new ≡ state.old) × (judge.new ≡ judge.old)) }
 {
     let station = came.frame.sender();
     match state.agreements.get_placed(station, tid) {
         None => {
-            let outs = on_plain_data(alloc, state, came, judge)?;
-            return Ok(outs);
+            let outcome = on_plain_data(alloc, state, came, judge)?;
+            return Ok(outcome);
         }
         Some((at, entry)) => {
             let start = entry.start();
             let under = Under { at, tid, start };
             if entry.passes_alone(came.number) {
-                let outs = on_data_alone(alloc, state, came, under, judge)?;
-                return Ok(outs);
+                let outcome = on_data_alone(alloc, state, came, under, judge)?;
+                return Ok(outcome);
             }
             if entry.wants(came.number) {
                 let most = entry.most_passed(came.number);
                 let wanted = Wanted { under, most };
-                let outs = on_wanted_data(alloc, state, came, wanted, judge)?;
-                return Ok(outs);
+                let outcome = on_wanted_data(alloc, state, came, wanted, judge)?;
+                return Ok(outcome);
             }
             let clock = state.clock;
             state.agreements.leave(at, came.number, clock);
-            return Ok(Vec::new(alloc));
+            return Ok(Outcome {
+                outs: Vec::new(alloc),
+                dropped: false,
+            });
         }
     }
 }

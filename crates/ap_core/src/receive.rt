@@ -4,10 +4,11 @@ ghost use Rattle.std.specs.Prelude.{◌≡◌, ℕ, [], ◌∷◌, IfOk, IfErr};
 ghost use Rattle.ap_model.specs.declared.event.Out.{Out};
 ghost use Rattle.mac_frame.specs.Spelling.{spelling};
 ghost use Rattle.ap_model.specs.Steps.{FrameComes, Checked, check_of};
-ghost use Rattle.ap_model.specs.Asks.{Handled};
 ghost use Rattle.ap_core.specs.Handles.{reading, rules, IsSpelled, ruled_by};
 ghost use Rattle.ap_core.specs.Noted.{IsNoted};
+ghost use Rattle.ap_core.specs.Telling.{Tells};
 
+use crate::outcome::Outcome;
 use crate::room::Room;
 use crate::rules::{follow, is_ours};
 use crate::state::{Came, Setting, State};
@@ -47,14 +48,14 @@ fn check<J: Judge>(
     state: &mut State,
     came: Came<'_>,
     judge: &mut J,
-) -> Result<Vec<Out>, AllocError>
+) -> Result<Outcome, AllocError>
     requires bytes { IsSpelled came }
     ensures step { IfOk result
-        (λ outs. Handled J.gives (λ asks outs. Checked
+        (λ o. Tells J.gives (λ asks outs. Checked
         (ruled_by setting.entry state.old) (reading state.old)
         came.entry.frame (check_of (ruled_by setting.entry state.old)
-        (reading state.old) came.entry.frame) asks outs (reading state.new)) judge.old outs.items
-        judge.new) }
+        (reading state.old) came.entry.frame) asks outs (reading state.new)) judge.old
+        o.outs.items o.dropped judge.new) }
     ensures shard { state.new.link.shard ≡ state.old.link.shard }
     ensures refused { IfErr result (λ _. (state.new ≡ state.old) × (judge.new ≡ judge.old)) }
 {
@@ -62,18 +63,24 @@ fn check<J: Judge>(
     let station = came.frame.sender();
     match class_check(state.link.standing(station), class_of(came.frame.subtype())) {
         ClassAnswer::Permitted => {
-            let outs = follow(setting, state, came, judge)?;
-            return Ok(outs);
+            let outcome = follow(setting, state, came, judge)?;
+            return Ok(outcome);
         }
         ClassAnswer::Deauthenticate(reason) => {
             let room = Room::new(alloc)?;
             let answer = MacFrame::deauthentication(alloc, station, config.bssid(), reason);
-            return Ok(room.send(&answer));
+            return Ok(Outcome {
+                outs: room.send(&answer),
+                dropped: false,
+            });
         }
         ClassAnswer::Disassociate(reason) => {
             let room = Room::new(alloc)?;
             let answer = MacFrame::disassociation(alloc, station, config.bssid(), reason);
-            return Ok(room.send(&answer));
+            return Ok(Outcome {
+                outs: room.send(&answer),
+                dropped: false,
+            });
         }
     }
 }
@@ -85,27 +92,30 @@ fn on_frame<J: Judge>(
     frame: MacFrame,
     bytes: &[u8],
     judge: &mut J,
-) -> Result<Vec<Out>, AllocError>
+) -> Result<Outcome, AllocError>
     requires bytes { bytes.now ≡ spelling frame }
     ensures step { IfOk result
-        (λ outs. Handled J.gives (λ asks outs. FrameComes
+        (λ o. Tells J.gives (λ asks outs. FrameComes
         (ruled_by setting.entry state.old) (reading state.old) bytes.now asks outs
-        (reading state.new)) judge.old outs.items judge.new) }
+        (reading state.new)) judge.old o.outs.items o.dropped judge.new) }
     ensures shard { state.new.link.shard ≡ state.old.link.shard }
     ensures refused { IfErr result (λ _. (state.new ≡ state.old) × (judge.new ≡ judge.old)) }
 {
     frame.known();
     if !is_ours(setting.config, &frame) {
-        let note = noted(setting.alloc, NOT_OURS)?;
-        return Ok(note);
+        let outs = noted(setting.alloc, NOT_OURS)?;
+        return Ok(Outcome {
+            outs,
+            dropped: false,
+        });
     }
     let bytes = match Frame::new(bytes) {
         Some(bytes) => bytes,
         None => unreachable!(),
     };
     let came = Came { frame, bytes };
-    let outs = check(setting, state, came, judge)?;
-    Ok(outs)
+    let outcome = check(setting, state, came, judge)?;
+    Ok(outcome)
 }
 
 /// Bytes that came.
@@ -115,23 +125,26 @@ pub(crate) fn receive<J: Judge>(
     config: &LinkConfig,
     bytes: &[u8],
     judge: &mut J,
-) -> Result<Vec<Out>, AllocError>
+) -> Result<Outcome, AllocError>
     ensures step { IfOk result
-        (λ outs. Handled J.gives (λ asks outs. FrameComes (rules state.old.link.shard config.now)
-        (reading state.old) bytes.now asks outs (reading state.new)) judge.old outs.items
-        judge.new) }
+        (λ o. Tells J.gives (λ asks outs. FrameComes (rules state.old.link.shard config.now)
+        (reading state.old) bytes.now asks outs (reading state.new)) judge.old o.outs.items
+        o.dropped judge.new) }
     ensures shard { state.new.link.shard ≡ state.old.link.shard }
     ensures refused { IfErr result (λ _. (state.new ≡ state.old) × (judge.new ≡ judge.old)) }
 {
     match parse(alloc, bytes) {
         Ok(frame) => {
             let setting = Setting { alloc, config };
-            let outs = on_frame(setting, state, frame, bytes, judge)?;
-            return Ok(outs);
+            let outcome = on_frame(setting, state, frame, bytes, judge)?;
+            return Ok(outcome);
         }
         Err(fault) => {
-            let note = unread(alloc, fault)?;
-            return Ok(note);
+            let outs = unread(alloc, fault)?;
+            return Ok(Outcome {
+                outs,
+                dropped: false,
+            });
         }
     }
 }

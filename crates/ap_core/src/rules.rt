@@ -9,13 +9,14 @@ ghost use Rattle.assoc.specs.Classes.{class_of, class_answer};
 ghost use Rattle.assoc.specs.declared.class.Class.{Class};
 ghost use Rattle.assoc.specs.declared.class.ClassAnswer.{ClassAnswer};
 ghost use Rattle.ap_model.specs.Steps.{IsOurs, ManagementComes, DataKindComes, ControlComes, Follows};
-ghost use Rattle.ap_model.specs.Asks.{Handled};
 ghost use Rattle.ap_core.specs.Comes.{HandlesManagement};
 ghost use Rattle.ap_core.specs.Handles.{reading, rules, sender, IsSpelled, ruled_by};
+ghost use Rattle.ap_core.specs.Telling.{Tells};
 
 use crate::ends::on_delba;
 use crate::management::{Asked, on_association, on_authentication};
 use crate::moves::{deauthenticate, disassociate};
+use crate::outcome::Outcome;
 use crate::packets::{DataFrame, on_plain_data, on_qos_data};
 use crate::requests::on_request;
 use crate::setups::{SetupRequest, on_setup};
@@ -244,12 +245,13 @@ fn on_data_kind<J: Judge>(
     came: Came<'_>,
     head: DataHead,
     judge: &mut J,
-) -> Result<Vec<Out>, AllocError>
+) -> Result<Outcome, AllocError>
     requires bytes { IsSpelled came }
     ensures step { IfOk result
-        (λ outs. (c : Rules) → Handled J.gives
+        (λ o. (c : Rules) → Tells J.gives
         (λ asks outs. DataKindComes c (reading state.old) came.entry.frame head.destination
-        head.number head.kind asks outs (reading state.new)) judge.old outs.items judge.new) }
+        head.number head.kind asks outs (reading state.new)) judge.old o.outs.items o.dropped
+        judge.new) }
     ensures shard { state.new.link.shard ≡ state.old.link.shard }
     ensures refused { IfErr result (λ _. (state.new ≡ state.old) × (judge.new ≡ judge.old)) }
 {
@@ -268,8 +270,8 @@ fn on_data_kind<J: Judge>(
                 tid: None,
                 number,
             };
-            let outs = on_plain_data(alloc, state, data, judge)?;
-            return Ok(outs);
+            let outcome = on_plain_data(alloc, state, data, judge)?;
+            return Ok(outcome);
         }
         DataKind::QosData { qos } => {
             let data = DataFrame {
@@ -279,11 +281,21 @@ fn on_data_kind<J: Judge>(
                 tid: Some(qos.tid),
                 number,
             };
-            let outs = on_qos_data(alloc, state, data, qos.tid, judge)?;
-            return Ok(outs);
+            let outcome = on_qos_data(alloc, state, data, qos.tid, judge)?;
+            return Ok(outcome);
         }
-        DataKind::Null => return Ok(Vec::new(alloc)),
-        DataKind::QosNull { .. } => return Ok(Vec::new(alloc)),
+        DataKind::Null => {
+            return Ok(Outcome {
+                outs: Vec::new(alloc),
+                dropped: false,
+            });
+        }
+        DataKind::QosNull { .. } => {
+            return Ok(Outcome {
+                outs: Vec::new(alloc),
+                dropped: false,
+            });
+        }
     }
 }
 
@@ -293,26 +305,32 @@ pub(crate) fn follow<J: Judge>(
     state: &mut State,
     came: Came<'_>,
     judge: &mut J,
-) -> Result<Vec<Out>, AllocError>
+) -> Result<Outcome, AllocError>
     requires bytes { IsSpelled came }
     requires permitted { class_answer (standing state.old.link (sender came))
         (class_of (content_subtype came.frame.content)) ≡ ClassAnswer.Permitted }
     ensures step { IfOk result
-        (λ outs. Handled J.gives (λ asks outs. Follows
+        (λ o. Tells J.gives (λ asks outs. Follows
         (ruled_by setting.entry state.old) (reading state.old)
         came.entry.frame came.entry.frame.content asks outs (reading state.new)) judge.old
-        outs.items judge.new) }
+        o.outs.items o.dropped judge.new) }
     ensures shard { state.new.link.shard ≡ state.old.link.shard }
     ensures refused { IfErr result (λ _. (state.new ≡ state.old) × (judge.new ≡ judge.old)) }
 {
     match came.frame.content() {
         Content::Management { body, .. } => {
             let outs = on_management(setting, state, &came, body, judge)?;
-            return Ok(outs);
+            return Ok(Outcome {
+                outs,
+                dropped: false,
+            });
         }
         Content::Control { body } => {
             let outs = on_control(setting, state, came.frame.sender(), body)?;
-            return Ok(outs);
+            return Ok(Outcome {
+                outs,
+                dropped: false,
+            });
         }
         Content::Data {
             destination,
@@ -324,8 +342,8 @@ pub(crate) fn follow<J: Judge>(
                 number: sequence,
                 kind,
             };
-            let outs = on_data_kind(setting.alloc, state, came, head, judge)?;
-            return Ok(outs);
+            let outcome = on_data_kind(setting.alloc, state, came, head, judge)?;
+            return Ok(outcome);
         }
     }
 }

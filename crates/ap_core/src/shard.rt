@@ -6,6 +6,7 @@ ghost use Rattle.ap_core.specs.Handles.{reading, rules};
 
 use crate::ends::{UNKNOWN_STATION, on_close};
 use crate::moves::deauthenticate;
+use crate::outcome::Outcome;
 use crate::receive::receive;
 use crate::room::Room;
 use crate::state::{Setting, State};
@@ -45,7 +46,7 @@ impl Shard {
     ghost use Rattle.ap_model.specs.Stations.{AreAssociated};
     ghost use Rattle.ap_model.specs.Steps.{Step};
     ghost use Rattle.ap_core.specs.Handles.{rules};
-    ghost use Rattle.ap_core.specs.Shards.{reads, ruled, Handles};
+    ghost use Rattle.ap_core.specs.Shards.{reads, ruled, Handles, Decides};
     ghost use Rattle.ap_core.specs.Ticking.{late_outs, HasRoom, TickStep};
 
     /// A shard that has handled nothing, with a copy of the configuration.
@@ -97,23 +98,49 @@ impl Shard {
         ensures rules { ruled self.new ≡ ruled self.old }
         ensures refused { IfErr result (λ _. (self.new ≡ self.old) × (judge.new ≡ judge.old)) }
     {
+        let outcome = self.handle_with_drop(alloc, event, judge)?;
+        let Outcome { outs, dropped: _ } = outcome;
+        Ok(outs)
+    }
+
+    /// Handles an event as `handle` does, and tells beside its outs whether a verdict dropped data.
+    pub fn handle_with_drop<J: Judge>(
+        &mut self,
+        alloc: Global,
+        event: &Event,
+        judge: &mut J,
+    ) -> Result<Outcome, AllocError>
+        ensures step { IfOk result (λ o. Decides J.gives self.old event.now judge.old o.outs.items
+            o.dropped self.new judge.new) }
+        ensures rules { ruled self.new ≡ ruled self.old }
+        ensures refused { IfErr result (λ _. (self.new ≡ self.old) × (judge.new ≡ judge.old)) }
+    {
         match event {
             Event::Frame(bytes) => {
                 let bytes = bytes.bytes();
-                let outs = receive(alloc, &mut self.state, &self.config, bytes, judge)?;
-                return Ok(outs);
+                let outcome = receive(alloc, &mut self.state, &self.config, bytes, judge)?;
+                return Ok(outcome);
             }
             Event::Tick(units) => {
                 let outs = self.on_tick(alloc, *units)?;
-                return Ok(outs);
+                return Ok(Outcome {
+                    outs,
+                    dropped: false,
+                });
             }
             Event::Kick { station, reason } => {
                 let outs = self.on_kick(alloc, *station, *reason)?;
-                return Ok(outs);
+                return Ok(Outcome {
+                    outs,
+                    dropped: false,
+                });
             }
             Event::Close { station, tid } => {
                 let outs = on_close(alloc, &mut self.state, &self.config, *station, *tid)?;
-                return Ok(outs);
+                return Ok(Outcome {
+                    outs,
+                    dropped: false,
+                });
             }
         }
     }

@@ -4,12 +4,13 @@ use mathlib.Core.List.{IsPrefix}
 use Rattle.ap_model.specs.declared.event.Event.{Event}
 use Rattle.ap_model.specs.declared.event.Out.{Out}
 use Rattle.ap_model.specs.Asks.{Ask, Answered}
+use Rattle.ap_model.specs.Drops.{drops}
 use Rattle.ap_model.specs.Readings.{Readings, Rules}
 use Rattle.ap_model.specs.Runs.{Entry, Run, opening}
 use Rattle.ap_model.specs.Steps.{Step}
 use Rattle.ap_core.specs.declared.shard.Shard.{Shard}
 use Rattle.ap_core.specs.Shards.{reads, ruled}
-use Rattle.ap_books.specs.Counts.{Counts, plus, gains, counts_of, counts_in, drops}
+use Rattle.ap_books.specs.Counts.{Counts, plus, gains, counts_of, counts_in}
 use Rattle.ap_locked.specs.Tokens.{Token}
 
 -- the shard, the entries of its journal, and what its books have counted

@@ -8,9 +8,9 @@ use crate::locked::Locked;
 use crate::naming::Journals;
 use crate::token::ShardToken;
 use ap_books::Ledgers;
+use ap_core::Outcome;
 use ap_laws::asks_law;
 use ap_model::{Event, Judge, Out};
-use ap_watch::decide;
 use std::alloc::{AllocError, Global};
 use std::snapshot::Snapshot;
 
@@ -39,7 +39,8 @@ impl<B: Ledgers + Journals, const SHARD: usize> Locked<B, SHARD> {
         }
         self.author.look(&self.journal, &mine.seen);
         let before = Snapshot::of(&*judge);
-        let (outs, dropped) = decide(&mut self.shard, alloc, event, judge)?;
+        let outcome = self.shard.handle_with_drop(alloc, event, judge)?;
+        let Outcome { outs, dropped } = outcome;
         let deed = Deed {
             event,
             outs: outs.as_slice(),

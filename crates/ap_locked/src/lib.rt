@@ -1,6 +1,6 @@
 //! A shard of the link as it lies under its lock: with its journal, which proofs alone have, and its
 //! books. `Locked::new` makes one, with the `ShardToken` of all who may decide events there;
-//! `Locked::decide` decides one. It stands on `ap_watch`, `ap_journal` and `ap_books`.
+//! `Locked::decide` decides one. It stands on `ap_core`, `ap_journal` and `ap_books`.
 //! Promised of a `Locked`, whoever had it before: its state is what the entries of its journal lead
 //! to from nobody on, each a step of the link, and its books hold the counts of those entries. Of a
 //! `ShardToken`: what it has seen is a beginning of the journal, in which its own entries stand in

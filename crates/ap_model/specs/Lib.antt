@@ -1,4 +1,5 @@
 pub mod Asks
+pub mod Drops
 pub mod Noting
 pub mod Readings
 pub mod Stations

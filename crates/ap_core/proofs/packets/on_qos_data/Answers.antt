@@ -7,7 +7,7 @@ use Rattle.ap_model.specs.Agreements.{agreement_for}
 use Rattle.ap_agreements.specs.Tables.{agreement_in, Stands}
 use Rattle.ap_core.specs.Handles.{reading}
 use Rattle.ap_core.specs.DataFrames.{packet}
-use Rattle.ap_core.proofs.Handling.{silently}
+use Rattle.ap_core.proofs.Handling.{silently_told}
 use Rattle.ap_core.proofs.DataLaws.{left_from}
 use Rattle.ap_core.proofs.packets.on_qos_data.Goals as goal
 
@@ -44,7 +44,7 @@ leave-requires-clause-unwanted g c = λ d w. let v = rw (c.in-Some.ensures.is d)
 
 pub returns-in-Some-clause-step : goal.returns-in-Some-clause-step
 returns-in-Some-clause-step g c =
-    silently g.J.Judge.gives _ _ _
+    silently_told g.J.Judge.gives _ _ _
     (left_from (standing c.args.state.now.link) c.args.state.now.agreements.kept c.leave.new.self.kept c.args.state.now.clock (packet c.args.came)
     c.sender-station.result c.sender-station.ensures c.args.tid c.requires.tid
     (subst (λ (o : Option Using). IsSomeAnd o (λ u. IsWanted u.window c.args.came.number → ⊥)) (sym c.in-Some.ensures.agreed)

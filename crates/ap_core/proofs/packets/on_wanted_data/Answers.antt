@@ -7,8 +7,8 @@ use Rattle.ap_agreements.specs.Tables.{Kept}
 use Rattle.ap_model.specs.Readings.{Using}
 use Rattle.ap_model.specs.Agreements.{ups}
 use Rattle.ap_core.specs.DataFrames.{packet}
-use Rattle.ap_core.proofs.Handling.{asking}
-use Rattle.ap_core.proofs.DataLaws.{taken_from}
+use Rattle.ap_core.proofs.Handling.{asking_told}
+use Rattle.ap_core.proofs.DataLaws.{taken_from, held_nothing}
 use Rattle.ap_core.proofs.packets.on_wanted_data.Goals as goal
 
 pub take-requires-clause-inside : goal.take-requires-clause-inside
@@ -27,7 +27,7 @@ pass_up-requires-clause-room g c =
 pub returns-clause-step : goal.returns-clause-step
 returns-clause-step g c =
     let under = c.requires.under in
-    asking g.J.Judge.gives _ _ _ _ _ c.judge-verdict.result c.judge-verdict.ensures
+    asking_told g.J.Judge.gives _ _ _ _ _ c.judge-verdict.result c.is_none-dropped.result c.judge-verdict.ensures
     (taken_from (standing c.args.state.now.link) c.args.state.now.agreements.kept c.take.new.self.kept c.args.state.now.clock (packet c.args.came)
     c.args.came.frame.sender refl c.args.wanted.under.tid under.tid c.args.wanted.under.start
     (subst (λ (o : Option Using). IsSomeAnd o (λ u. IsWanted u.window c.args.came.number × (c.args.wanted.under.start ≡ u.window.start))) (sym under.stands.agreed) (under.is.wanted, under.starts))
@@ -36,3 +36,4 @@ returns-clause-step g c =
     (c.take.ensures.uses c.args.came.frame.sender c.args.wanted.under.tid under.stands.place)
     (c.pass_up.ensures.outs ∙ ap (λ t. t ++ ups c.sender-station.result c.args.wanted.under.tid c.take.new.out.items) c.in_ok-outs.ensures.items
     ∙ ap (λ (a : List ℕ). ups a c.args.wanted.under.tid c.take.new.out.items) c.sender-station.ensures))
+    (held_nothing c.args.came.destination c.new-body.result c.judge-verdict.result c.item_of-item.result c.is_none-dropped.result c.item_of-item.ensures c.is_none-dropped.ensures)

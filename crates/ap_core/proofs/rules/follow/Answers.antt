@@ -1,19 +1,20 @@
 use Rattle.std.proofs.Common.{sym, ◌∙◌}
-use Rattle.ap_core.specs.Handles.{rules}
-use Rattle.ap_core.proofs.Handling.{silently}
+use Rattle.ap_core.specs.Handles.{rules, reading}
+use Rattle.ap_core.proofs.Handling.{silently_told}
+use Rattle.ap_core.proofs.DropLaws.{management_told}
 use Rattle.ap_core.proofs.rules.follow.Goals as goal
 
 pub returns-in-Management-clause-step : goal.returns-in-Management-clause-step
 returns-in-Management-clause-step g c =
     let e = sym c.content.ensures ∙ c.in-Management.is in
-    rw e c.in_ok-outs-in-Management.ensures.step
+    rw e (management_told g.J.Judge.gives (rules c.args.state.now.link.shard c.args.setting.config.now) (reading c.args.state.now) _ c.args.came.frame c.in-Management.body _ _ _ c.in_ok-outs-in-Management.ensures.step)
 
 pub returns-in-Control-clause-step : goal.returns-in-Control-clause-step
 returns-in-Control-clause-step g c =
     let e = sym c.content.ensures ∙ c.in-Control.is in
-    rw e (silently g.J.Judge.gives _ _ _ (c.in_ok-outs-in-Control.ensures.step c.args.came.frame (sym c.sender.ensures)))
+    rw e (silently_told g.J.Judge.gives _ _ _ (c.in_ok-outs-in-Control.ensures.step c.args.came.frame (sym c.sender.ensures)))
 
 pub returns-in-Data-clause-step : goal.returns-in-Data-clause-step
 returns-in-Data-clause-step g c =
     let e = sym c.content.ensures ∙ c.in-Data.is in
-    rw e (c.in_ok-outs-in-Data.ensures.step (rules c.args.state.now.link.shard c.args.setting.config.now))
+    rw e (c.in_ok-outcome-in-Data.ensures.step (rules c.args.state.now.link.shard c.args.setting.config.now))

@@ -1,7 +1,7 @@
 use Rattle.ap_core.proofs.rules.on_data_kind.Goals as goal
 
 pub returns-in-Data-clause-step : goal.returns-in-Data-clause-step
-returns-in-Data-clause-step g c = λ r. rw c.in-Data.is c.in_ok-outs-in-Data.ensures.step
+returns-in-Data-clause-step g c = λ r. rw c.in-Data.is c.in_ok-outcome-in-Data.ensures.step
 
 pub returns-in-QosData-clause-step : goal.returns-in-QosData-clause-step
-returns-in-QosData-clause-step g c = λ r. rw c.in-QosData.is c.in_ok-outs-in-QosData.ensures.step
+returns-in-QosData-clause-step g c = λ r. rw c.in-QosData.is c.in_ok-outcome-in-QosData.ensures.step

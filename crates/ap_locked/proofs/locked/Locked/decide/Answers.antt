@@ -9,25 +9,25 @@ use Rattle.ap_locked.proofs.locked.Locked.decide.Goals as goal
 
 pub invariant_of-self-2 : goal.invariant_of-self-2
 invariant_of-self-2 g c =
-    let d = c.in_ok-outs.ensures.entry in
-    let e : Entry = entry_of c.args.event.now d.asked c.in_ok-outs.outs.items in
-    let asked = asked_since g.J.Judge.asks g.J.Judge.gives c.asks_law.ensures.listed c.of-before.result.value c.args.judge.now c.decide.new.judge d.asked c.of-before.ensures d.listed in
+    let d = c.in_ok-outcome.ensures.step in
+    let e : Entry = entry_of c.args.event.now d.asked c.in_ok-outcome.outcome.outs.items in
+    let asked = asked_since g.J.Judge.asks g.J.Judge.gives c.asks_law.ensures.listed c.of-before.result.value c.args.judge.now c.handle_with_drop.new.judge d.asked c.of-before.ensures d.listed in
     let grown : c.add.new.known ≡ with_entry c.self.inside.journal e =
     c.add.ensures.added ∙ (λ i. with_entry c.self.inside.journal (entry_of c.args.event.now (asked i) (c.as_slice.ensures.value i))) in
     let counts : c.count.new.self ≡ plus c.self.inside.books (entry_counts e) =
     c.count.ensures.books ∙ (λ i. plus c.self.inside.books (counts_of (c.as_slice-2.ensures.value i) (d.flag i))) in
     let was : Kept = record { shard = c.self.inside.shard; journal = c.self.inside.journal.entries; counts = c.self.inside.books } in
-    let holds : Holds g.row.SHARD (kept_with was c.decide.new.shard e) = holds_with g.row.SHARD was c.decide.new.shard e c.self.invariant.2 d.step c.in_ok-outs.ensures.rules in (
+    let holds : Holds g.row.SHARD (kept_with was c.handle_with_drop.new.self e) = holds_with g.row.SHARD was c.handle_with_drop.new.self e c.self.invariant.2 d.does c.in_ok-outcome.ensures.rules in (
       ap (λ k. k.journal) grown ∙ c.self.invariant.0,
       c.add.ensures.author,
-      subst (Holds g.row.SHARD) (λ i. record { shard = c.decide.new.shard; journal = (sym grown i).entries; counts = sym counts i }) holds,
+      subst (Holds g.row.SHARD) (λ i. record { shard = c.handle_with_drop.new.self; journal = (sym grown i).entries; counts = sym counts i }) holds,
     )
 
 pub invariant_of-mine : goal.invariant_of-mine
 invariant_of-mine g c =
-    let d = c.in_ok-outs.ensures.entry in
-    let e : Entry = entry_of c.args.event.now d.asked c.in_ok-outs.outs.items in
-    let asked = asked_since g.J.Judge.asks g.J.Judge.gives c.asks_law.ensures.listed c.of-before.result.value c.args.judge.now c.decide.new.judge d.asked c.of-before.ensures d.listed in
+    let d = c.in_ok-outcome.ensures.step in
+    let e : Entry = entry_of c.args.event.now d.asked c.in_ok-outcome.outcome.outs.items in
+    let asked = asked_since g.J.Judge.asks g.J.Judge.gives c.asks_law.ensures.listed c.of-before.result.value c.args.judge.now c.handle_with_drop.new.judge d.asked c.of-before.ensures d.listed in
     let grown : c.again.result ≡ with_entry c.self.inside.journal e =
     c.again.ensures ∙ (c.add.ensures.added ∙ (λ i. with_entry c.self.inside.journal (entry_of c.args.event.now (asked i) (c.as_slice.ensures.value i)))) in
     let own : c.add-2.new.self ≡ c.mine.inside.own ++ e ∷ [] =
@@ -42,25 +42,25 @@ invariant_of-mine g c =
 
 pub returns-clause-entry : goal.returns-clause-entry
 returns-clause-entry g c =
-    let d = c.in_ok-outs.ensures.entry in
-    let asked = asked_since g.J.Judge.asks g.J.Judge.gives c.asks_law.ensures.listed c.of-before.result.value c.args.judge.now c.decide.new.judge d.asked c.of-before.ensures d.listed in
+    let d = c.in_ok-outcome.ensures.step in
+    let asked = asked_since g.J.Judge.asks g.J.Judge.gives c.asks_law.ensures.listed c.of-before.result.value c.args.judge.now c.handle_with_drop.new.judge d.asked c.of-before.ensures d.listed in
     let was : Kept = record { shard = c.self.inside.shard; journal = c.self.inside.journal.entries; counts = c.self.inside.books } in
     let had : Token = record { portion = c.mine.inside.shares; seen = c.mine.inside.seen.entries; own = c.mine.inside.own } in
-    let is : Kept = record { shard = c.decide.new.shard; journal = c.add.new.known.entries; counts = c.count.new.self } in
+    let is : Kept = record { shard = c.handle_with_drop.new.self; journal = c.add.new.known.entries; counts = c.count.new.self } in
     let has : Token = record { portion = c.count.new.mine; seen = c.again.result.entries; own = c.add-2.new.self } in
-    let decided : Decided g.J.Judge.gives was had c.args.event.now c.args.judge.now c.in_ok-outs.outs.items c.in_ok-outs.dropped is has c.decide.new.judge =
+    let decided : Decided g.J.Judge.gives was had c.args.event.now c.args.judge.now c.in_ok-outcome.outcome.outs.items c.in_ok-outcome.outcome.dropped is has c.handle_with_drop.new.judge =
     record {
       asked = d.asked;
       listed = d.listed;
       flag = d.flag;
-      step = d.step;
-      rules = c.in_ok-outs.ensures.rules;
+      step = d.does;
+      rules = c.in_ok-outcome.ensures.rules;
       journal = ap (λ k. k.entries) c.add.ensures.added ∙ (λ i. c.self.inside.journal.entries ++ entry_of c.args.event.now (asked i) (c.as_slice.ensures.value i) ∷ []);
-      counts = c.count.ensures.books ∙ (λ i. plus c.self.inside.books (counts_of (c.as_slice-2.ensures.value i) c.in_ok-outs.dropped));
+      counts = c.count.ensures.books ∙ (λ i. plus c.self.inside.books (counts_of (c.as_slice-2.ensures.value i) c.in_ok-outcome.outcome.dropped));
       had_seen = c.look.ensures.has_all.has_all;
       seen = ap (λ k. k.entries) c.again.ensures;
       own = c.add-2.ensures ∙ (λ i. c.mine.inside.own ++ entry_of c.args.event.now (asked i) (c.as_slice.ensures.value i) ∷ []);
-      portion = c.count.ensures.shares ∙ (λ i. gains c.mine.inside.shares (counts_of (c.as_slice-2.ensures.value i) c.in_ok-outs.dropped));
+      portion = c.count.ensures.shares ∙ (λ i. gains c.mine.inside.shares (counts_of (c.as_slice-2.ensures.value i) c.in_ok-outcome.outcome.dropped));
     } in
-    subst (λ (z : Kept × Token). Decided g.J.Judge.gives z.0 z.1 c.args.event.now c.args.judge.now c.in_ok-outs.outs.items c.in_ok-outs.dropped is has c.decide.new.judge)
+    subst (λ (z : Kept × Token). Decided g.J.Judge.gives z.0 z.1 c.args.event.now c.args.judge.now c.in_ok-outcome.outcome.outs.items c.in_ok-outcome.outcome.dropped is has c.handle_with_drop.new.judge)
     (λ i. (c.self.view_is i, c.mine.view_is i)) decided
