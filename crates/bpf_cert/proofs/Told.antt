@@ -1,5 +1,5 @@
 -- Answers that tell whether something holds.
-use Rattle.std.proofs.Common.{◌≡◌, ℕ, suc, ◌+◌, ◌≤◌, inl, inr, Bool, true, false, List, sym, ◌∙◌, ap, subst, arith, Result, Ok, Err}
+use Rattle.std.proofs.Common.{◌≡◌, ℕ, suc, ◌+◌, ◌≤◌, ◌<◌, inl, inr, Bool, true, false, List, sym, ◌∙◌, ap, subst, arith, Result, Ok, Err}
 use Rattle.std.specs.Prelude.{IfOk}
 use Rattle.std.specs.declared.alloc.AllocError.{AllocError}
 use Rattle.std.proofs.lemmas.Bool.{true≢false}
@@ -18,7 +18,7 @@ use Rattle.bpf_cert.specs.declared.claim.Claim.{Claim}
 use Rattle.bpf_cert.specs.declared.coverage.Step.{Step}
 use Rattle.bpf_cert.specs.declared.coverage.Step.TheVariants.{Decided, Onward}
 use Rattle.bpf_cert.specs.Covered.{Includes, IsIncluded, LeadsWithin}
-use Rattle.bpf_cert.specs.Steps.{Tells, Arrives, IsSame, Goes}
+use Rattle.bpf_cert.specs.Steps.{Tells, Serves, Arrives, IsSame, Goes}
 
 pub open_includes : (e : Claim) (a : View) (r : Bool) → e.is_open ≡ true → r ≡ state_included a e.state → Tells r (Includes e a)
 open_includes e a true o h = record { included = sym h; is_open = o }
@@ -104,3 +104,11 @@ not_begun c es n a out h =
     let more : n + 1 ≡ suc n = omega arith in
     let leads : LeadsWithin c es (suc n) a = subst (λ (m : ℕ). LeadsWithin c es m a) more h in
     out (leads.0, leads.2)
+
+-- a claim whose budget serves
+pub serves_within : (e : Claim) (a : View) (n : ℕ) (r : Bool) → e.budget ≤ n → Tells r (Includes e a) → Tells r (Serves e a n)
+serves_within e a n r le h = tells_same r (Includes e a) (Serves e a n) (λ i. (i, le)) (λ s. s.0) h
+
+-- one whose budget doesn't
+pub serves_not : (e : Claim) (a : View) (n : ℕ) → n < e.budget → Serves e a n → ⊥
+serves_not e a n lt s = let le = s.1 in absurd (omega (arith, lt, le))

@@ -5,3 +5,4 @@ pub mod Steps
 pub mod Built
 pub mod Faults
 pub mod Certified
+pub mod Held

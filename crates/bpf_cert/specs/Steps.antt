@@ -14,6 +14,10 @@ use Rattle.bpf_cert.specs.Covered.{Includes, IsIncluded, LeadsWithin}
 abbrev pub Tells : Bool → Type 0 → Type 0
 Tells told P = MatchBool told P (P → ⊥)
 
+-- the claim includes the state, with a budget of at most n
+abbrev pub Serves : Claim → View → ℕ → Type 0
+Serves e a n = Includes e a × (e.budget ≤ n)
+
 -- a way on leads to this state: a claim includes it, or its own ways lead on
 abbrev pub Arrives : Code → List Claim → ℕ → View → Type 0
 Arrives c es n x = (IsTarget c.slots x.pc × IsIncluded es x n) ⊎ ((IsTarget c.slots x.pc → ⊥) × LeadsWithin c es n x)

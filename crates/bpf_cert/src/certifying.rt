@@ -42,7 +42,7 @@ fn entries_of(
 ) -> Result<Vec<Entry>, AllocError> {
     let claims = widened(alloc, program, finished)?;
     let mut entries = Vec::new(alloc);
-    for mut of_slot in sifted(alloc, program, claims.as_slice())? {
+    for mut of_slot in sifted(alloc, program, &claims)? {
         of_slot.sort_by_key(|one| one.budget)?;
         describe(alloc, &mut entries, of_slot.as_slice())?;
     }

@@ -1,12 +1,13 @@
 //! Certificates checked: a program that was verified elsewhere is admitted.
 
-ghost use Rattle.std.specs.Prelude.{◌≡◌, ◌≤◌, ◌^◌, ℕ, ℤ, Some, IfOk, IfErr, IfSome, length, map, drop};
+ghost use Rattle.std.specs.Prelude.{◌≡◌, ◌≤◌, ◌^◌, ◌++◌, [], ◌∷◌, ℕ, ℤ, Some, IfOk, IfErr, IfSome, OnOk, length, map, drop};
 ghost use Rattle.std.specs.List.{All};
 ghost use Rattle.bpf_insn.specs.declared.insn.Insn.TheVariants.{CallLocal};
 ghost use Rattle.bpf_decode.specs.Program.{Begins};
 ghost use Rattle.bpf_model.specs.Run.{Safe};
 ghost use Rattle.bpf_absstate.specs.WellFormed.{IsView};
 ghost use Rattle.bpf_cert_format.specs.Fits.{FitsEntry};
+ghost use Rattle.bpf_cert.specs.Built.{blank_view};
 ghost use Rattle.bpf_cert.specs.Steps.{Tells};
 ghost use Rattle.bpf_cert.specs.States.{claim_of};
 ghost use Rattle.bpf_cert.specs.Certified.{IsFor, FollowsCall, AllFollow, StandsWell, Shows, Finds};
@@ -17,8 +18,10 @@ use crate::claiming::claim;
 use crate::claims::Claims;
 use crate::coverage::{begins, covered_budget};
 use crate::fault::{CertFault, unread};
+use crate::held::claim_of_unread;
 use crate::laws::covered_law;
-use bpf_cert_format::{Certificate, Entry, Frame, read};
+use bpf_absstate::AbsState;
+use bpf_cert_format::{Entry, Frame, Kind, Leaf, Outline, outlined};
 use bpf_decode::{Program, encode, spelling_law};
 use bpf_insn::Insn;
 use bpf_machine::Accepted;
@@ -33,7 +36,7 @@ fn is_for(
     alloc: Global,
     program: &Program,
     hook: Hook,
-    certificate: &Certificate,
+    certificate: &Outline,
 ) -> Result<bool, AllocError>
     ensures is { IfOk result (λ told. Tells told (IsFor program.now hook certificate.now)) }
 {
@@ -94,20 +97,66 @@ fn stands(program: &Program, entry: &Entry) -> bool
     begins(program, entry.pc() as usize) && returns_well(program, entry.frames())
 }
 
-/// Whether each of these entries does.
-fn all_stand(program: &Program, entries: &[Entry]) -> bool
-    ensures is { Tells result (All (StandsWell program.now) entries.now) }
+/// The same of an entry that may have to be read for it.
+fn leaf_stands(alloc: Global, program: &Program, leaf: &Leaf) -> Result<bool, AllocError>
+    ensures is { IfOk result (λ told. Tells told (StandsWell program.now leaf.now)) }
 {
-    for entry in entries {
-        if !stands(program, entry) {
-            return false;
+    match leaf.kind() {
+        Kind::Read(entry) => {
+            return Ok(stands(program, entry));
+        }
+        Kind::Spelled(spelled) => {
+            let entry = spelled.entry(alloc)?;
+            return Ok(stands(program, &entry));
         }
     }
-    true
+}
+
+/// Whether each of these entries does.
+fn all_stand(alloc: Global, program: &Program, entries: &[Leaf]) -> Result<bool, AllocError>
+    ensures is { IfOk result (λ told. Tells told (All (StandsWell program.now) entries.now)) }
+{
+    for leaf in entries {
+        let told = leaf_stands(alloc, program, leaf)?;
+        if !told {
+            return Ok(false);
+        }
+    }
+    Ok(true)
+}
+
+/// Adds what an entry claims. Of one that was not kept as a value the claim isn't either.
+fn add_claim(
+    alloc: Global,
+    maps: usize,
+    blank: &AbsState,
+    leaf: &Leaf,
+    claims: &mut Claims,
+) -> Result<(), AllocError>
+    requires blank { blank.now ≡ blank_view }
+    requires fits { FitsEntry maps leaf.now }
+    ensures is { OnOk result (claims.new ≡ claims.old ++ claim_of leaf.now ∷ []) }
+    ensures whole { OnOk result (IsView (claim_of leaf.now).state) }
+{
+    match leaf.kind() {
+        Kind::Read(entry) => {
+            let claim = claim(alloc, maps, blank, entry)?;
+            claim.state.whole();
+            claims.push(claim)?;
+            return Ok(());
+        }
+        Kind::Spelled(spelled) => {
+            let claim = claim_of_unread(alloc, spelled)?;
+            claim.state.whole();
+            let spelled = spelled.clone()?;
+            claims.push_unread(spelled, claim.state.pc(), claim.budget)?;
+            return Ok(());
+        }
+    }
 }
 
 /// What entries claim.
-fn claims_of(alloc: Global, program: &Program, entries: &[Entry]) -> Result<Claims, AllocError>
+fn claims_of(alloc: Global, program: &Program, entries: &[Leaf]) -> Result<Claims, AllocError>
     requires fit { All (FitsEntry (length program.now.shapes)) entries.now }
     ensures is { IfOk result (λ claims. claims ≡ map claim_of entries.now) }
     ensures whole { IfOk result (All (λ e. IsView e.state)) }
@@ -115,10 +164,8 @@ fn claims_of(alloc: Global, program: &Program, entries: &[Entry]) -> Result<Clai
     let maps = program.shapes().len();
     let blank = blank(alloc)?;
     let mut claims = Claims::new(alloc, program.len())?;
-    for entry in entries {
-        let claim = claim(alloc, maps, &blank, entry)?;
-        claim.state.whole();
-        claims.push(claim)?;
+    for leaf in entries {
+        add_claim(alloc, maps, &blank, leaf, &mut claims)?;
     }
     Ok(claims)
 }
@@ -137,13 +184,14 @@ fn small(budget: Option<u32>) -> Option<u32>
 fn shown_budget(
     alloc: Global,
     program: &Program,
-    entries: &[Entry],
+    entries: &[Leaf],
 ) -> Result<Option<u32>, AllocError>
     requires fit { All (FitsEntry (length program.now.shapes)) entries.now }
     ensures is { IfOk result (λ o. Finds o (Shows program.now entries.now)) }
     ensures safe { IfOk result (λ o. IfSome o (Safe program.now.slots program.now.shapes)) }
 {
-    if !all_stand(program, entries) {
+    let stand = all_stand(alloc, program, entries)?;
+    if !stand {
         return Ok(None);
     }
     let claims = claims_of(alloc, program, entries)?;
@@ -177,7 +225,7 @@ pub(crate) fn certified_budget(
     ensures only { (b : ℕ) → Covered program.now hook bytes.now b → Answers result b }
     ensures err { IfErr result (Refuses program.now hook bytes.now) }
 {
-    match read(alloc, program.shapes(), bytes) {
+    match outlined(alloc, program.shapes(), bytes) {
         Err(fault) => Err(unread(fault)),
         Ok(certificate) => {
             if !is_for(alloc, program, hook, &certificate)? {

@@ -1,20 +1,41 @@
 //! Claims in a list, and where in it those of each slot stand.
 
-ghost use Rattle.std.specs.Prelude.{◌≡◌, ◌≤◌, ◌++◌, [], ◌∷◌, IfOk, OnOk, IsTrue, length};
-ghost use Rattle.bpf_cert.specs.Covered.{Includes, IsIncluded};
+ghost use Rattle.std.specs.Prelude.{◌≡◌, ◌<◌, ◌≤◌, ◌++◌, [], ◌∷◌, IfOk, OnOk, OnSome, IsTrue, Some, length, slice_get};
+ghost use Rattle.bpf_cert_format.specs.Unread.{entry_from};
+ghost use Rattle.bpf_cert.specs.Covered.{IsIncluded};
+ghost use Rattle.bpf_cert.specs.States.{claim_of};
 ghost use Rattle.bpf_cert.specs.Steps.{Tells};
 
 use crate::claim::Claim;
-use bpf_absstate::AbsState;
+use crate::held::Held;
+use bpf_absstate::{AbsState, Difference};
+use bpf_cert_format::Unread;
 use std::alloc::{AllocError, Global};
+use std::cell::Cell;
 use std::marker::Model;
+
+/// Where a claim stands in the list, and its budget.
+#[derive(Clone, Copy)]
+struct Spot {
+    place: usize,
+    budget: u32,
+}
+
+/// The claims of a slot. They only say where to look first.
+#[derive(Drop)]
+struct Row {
+    spots: Vec<Spot>,
+    /// The place of the claim that served last.
+    served: Cell<usize>,
+}
 
 /// Claims in the order in which they came. Contracts see the list.
 #[derive(Drop)]
 pub struct Claims {
-    list: Vec<Claim>,
-    /// For each slot the places of its claims in the list. It only says where to look first.
-    places: Vec<Vec<usize>>,
+    list: Vec<Held>,
+    rows: Vec<Row>,
+    /// Where a state was last found not to lie in a claim.
+    recent: Cell<Difference>,
 }
 
 impl Model for Claims {
@@ -26,58 +47,16 @@ impl Model for Claims {
     ghost view = { λ a. a.list.items };
 }
 
-/// Whether a claim includes a state.
-pub(crate) fn includes(claim: &Claim, state: &AbsState) -> bool
-    ensures is { Tells result (Includes claim.now state.now) }
-{
-    claim.is_open && state.is_included(&claim.state)
-}
-
-/// Whether some claim includes a state, with a budget of at most what is left.
-fn some_includes(claims: &[Claim], state: &AbsState, left: u32) -> bool
-    ensures is { Tells result (IsIncluded claims.now state.now left) }
-{
-    for claim in claims {
-        if claim.budget <= left && includes(claim, state) {
-            return true;
-        }
-    }
-    false
-}
-
-/// Whether the claim at a place includes a state, with a budget of at most what is left.
-fn serves(claims: &[Claim], place: usize, state: &AbsState, left: u32) -> bool
-    ensures is { IsTrue result → IsIncluded claims.now state.now left }
-{
-    if place >= claims.len() {
-        return false;
-    }
-    let claim = &claims[place];
-    claim.budget <= left && includes(claim, state)
-}
-
-/// Whether a claim at one of these places does, from the last on.
-fn one_serves(claims: &[Claim], places: &[usize], state: &AbsState, left: u32) -> bool
-    ensures is { IsTrue result → IsIncluded claims.now state.now left }
-{
-    for place in places.iter().rev() {
-        if serves(claims, *place, state, left) {
-            return true;
-        }
-    }
-    false
-}
-
-/// How many of these places come before the first claim with a budget of more than what is left, where budgets don't fall;
-/// else any number of them.
-fn count_within(claims: &[Claim], places: &[usize], left: u32) -> usize
-    ensures inside { result ≤ length places.now }
+/// How many of these come before the first claim with a budget of more than what is left, where budgets don't fall; else
+/// any number of them.
+fn count_within(spots: &[Spot], left: u32) -> usize
+    ensures inside { result ≤ length spots.now }
 {
     let mut low = 0;
-    let mut high = places.len();
+    let mut high = spots.len();
     while low < high {
         let middle = low + (high - low) / 2;
-        if has_budget(claims, places[middle], left) {
+        if spots[middle].budget <= left {
             low = middle + 1;
         } else {
             high = middle;
@@ -86,12 +65,23 @@ fn count_within(claims: &[Claim], places: &[usize], left: u32) -> usize
     low
 }
 
-/// Whether the claim at a place has a budget of at most what is left.
-fn has_budget(claims: &[Claim], place: usize, left: u32) -> bool {
-    match claims.get(place) {
-        Some(claim) => claim.budget <= left,
-        None => false,
+/// Whether some claim includes a state, with a budget of at most what is left: all are looked at.
+fn some_includes(
+    alloc: Global,
+    list: &[Held],
+    state: &AbsState,
+    left: u32,
+    recent: &Cell<Difference>,
+) -> Result<bool, AllocError>
+    ensures is { IfOk result (λ told. Tells told (IsIncluded list.now state.now left)) }
+{
+    for held in list {
+        let told = held.serves(alloc, state, left, recent)?;
+        if told {
+            return Ok(true);
+        }
     }
+    Ok(false)
 }
 
 impl Claims {
@@ -99,64 +89,154 @@ impl Claims {
     pub fn new(alloc: Global, slots: usize) -> Result<Claims, AllocError>
         ensures is { IfOk result (λ claims. claims ≡ []) }
     {
-        let mut places = Vec::with_capacity(alloc, slots)?;
+        let mut rows = Vec::with_capacity(alloc, slots)?;
         for _slot in 0..slots {
-            places.push(Vec::new(alloc))?;
+            rows.push(Row {
+                spots: Vec::new(alloc),
+                served: Cell::new(usize::MAX),
+            })?;
         }
         Ok(Claims {
             list: Vec::new(alloc),
-            places,
+            rows,
+            recent: Cell::new(Difference::Apart),
         })
     }
 
-    /// All of them.
-    pub fn as_slice(&self) -> &[Claim]
-        ensures is { result.now ≡ self.now }
+    /// How many there are.
+    pub fn len(&self) -> usize
+        ensures is { result ≡ length self.now }
     {
-        self.list.as_slice()
+        self.list.len()
+    }
+
+    /// Whether there are none.
+    pub fn is_empty(&self) -> bool
+        ensures is { IsTrue result → self.now ≡ [] }
+    {
+        self.list.is_empty()
+    }
+
+    /// A copy of one of them.
+    pub fn claim(&self, alloc: Global, place: usize) -> Result<Claim, AllocError>
+        requires { place < length self.now }
+        ensures is { IfOk result (λ claim. slice_get self.now place ≡ Some claim) }
+    {
+        let held = &self.list[place];
+        let claim = held.claim(alloc)?;
+        Ok(claim)
+    }
+
+    /// Notes where the next claim comes to stand.
+    fn note(&mut self, pc: usize, budget: u32) -> Result<(), AllocError>
+        ensures same { self.new ≡ self.old }
+    {
+        if pc < self.rows.len() {
+            let place = self.list.len();
+            self.rows[pc].spots.push(Spot { place, budget })?;
+        }
+        Ok(())
     }
 
     /// Adds a claim.
     pub fn push(&mut self, claim: Claim) -> Result<(), AllocError>
         ensures is { OnOk result (self.new ≡ self.old ++ claim ∷ []) }
     {
-        let pc = claim.state.pc();
-        if pc < self.places.len() {
-            let place = self.list.len();
-            self.places[pc].push(place)?;
-        }
-        self.list.push(claim)?;
+        self.note(claim.state.pc(), claim.budget)?;
+        self.list.push(Held::built(claim))?;
         Ok(())
     }
 
-    /// The places of the claims at a slot.
-    fn places_at(&self, pc: usize) -> &[usize] {
-        if pc < self.places.len() {
-            return self.places[pc].as_slice();
-        }
-        &[]
+    /// Adds what an entry claims that is read when it is looked at. Its slot and its budget only say where to look first.
+    pub(crate) fn push_unread(
+        &mut self,
+        unread: Unread,
+        pc: usize,
+        budget: u32,
+    ) -> Result<(), AllocError>
+        ensures is { OnOk result (self.new ≡ self.old ++ claim_of (entry_from unread) ∷ []) }
+    {
+        self.note(pc, budget)?;
+        self.list.push(Held::unread(unread))?;
+        Ok(())
     }
 
-    /// Whether one of the claims at a state's slot includes it, with a budget of at most what is left: of those whose
-    /// budgets serve, so many from the greatest on.
-    pub(crate) fn soon_include(&self, state: &AbsState, left: u32, most: usize) -> bool
-        ensures is { IsTrue result → IsIncluded self.now state.now left }
+    /// Whether the claim at a place includes a state, with a budget of at most what is left.
+    fn serves(
+        &self,
+        alloc: Global,
+        place: usize,
+        state: &AbsState,
+        left: u32,
+    ) -> Result<bool, AllocError>
+        ensures is { IfOk result (λ told. IsTrue told → IsIncluded self.now state.now left) }
     {
-        let claims = self.list.as_slice();
-        let places = self.places_at(state.pc());
-        let end = count_within(claims, places, left);
+        if place >= self.list.len() {
+            return Ok(false);
+        }
+        let held = &self.list[place];
+        let told = held.serves(alloc, state, left, &self.recent)?;
+        Ok(told)
+    }
+
+    /// The place of one of these claims that does, from the last on.
+    fn one_serving(
+        &self,
+        alloc: Global,
+        spots: &[Spot],
+        state: &AbsState,
+        left: u32,
+    ) -> Result<Option<usize>, AllocError>
+        ensures is { IfOk result (λ place. OnSome place (IsIncluded self.now state.now left)) }
+    {
+        for spot in spots.iter().rev() {
+            if self.serves(alloc, spot.place, state, left)? {
+                return Ok(Some(spot.place));
+            }
+        }
+        Ok(None)
+    }
+
+    /// Whether one of the claims at a state's slot includes it, with a budget of at most what is left: that which served
+    /// last, and of those whose budgets serve so many from the greatest on.
+    pub(crate) fn soon_include(
+        &self,
+        alloc: Global,
+        state: &AbsState,
+        left: u32,
+        most: usize,
+    ) -> Result<bool, AllocError>
+        ensures is { IfOk result (λ told. IsTrue told → IsIncluded self.now state.now left) }
+    {
+        let pc = state.pc();
+        if pc >= self.rows.len() {
+            return Ok(false);
+        }
+        let row = &self.rows[pc];
+        if self.serves(alloc, row.served.get(), state, left)? {
+            return Ok(true);
+        }
+        let end = count_within(row.spots.as_slice(), left);
         let first = end.saturating_sub(most);
-        one_serves(claims, &places[first..end], state, left)
+        match self.one_serving(alloc, &row.spots[first..end], state, left)? {
+            None => Ok(false),
+            Some(place) => {
+                row.served.set(place);
+                Ok(true)
+            }
+        }
     }
 
-    /// Whether some claim includes a state, with a budget of at most what is left. Where claims come by rising budgets, it
-    /// looks from the greatest budget that can serve downwards. All are looked through before the answer is no.
-    pub fn include(&self, state: &AbsState, left: u32) -> bool
-        ensures is { Tells result (IsIncluded self.now state.now left) }
+    /// Whether some claim includes a state, with a budget of at most what is left. That which served last at the slot is
+    /// looked at first. Where claims come by rising budgets, it goes on from the greatest budget that can serve downwards.
+    /// All are looked through before the answer is no.
+    pub fn include(&self, alloc: Global, state: &AbsState, left: u32) -> Result<bool, AllocError>
+        ensures is { IfOk result (λ told. Tells told (IsIncluded self.now state.now left)) }
     {
-        if self.soon_include(state, left, usize::MAX) {
-            return true;
+        if self.soon_include(alloc, state, left, usize::MAX)? {
+            return Ok(true);
         }
-        some_includes(self.list.as_slice(), state, left)
+        let told = some_includes(alloc, self.list.as_slice(), state, left, &self.recent)?;
+        Ok(told)
     }
 }

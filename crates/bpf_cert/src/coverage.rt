@@ -14,7 +14,8 @@ ghost use Rattle.bpf_cert.specs.Covered.{Includes, IsIncluded, LeadsWithin, AreK
 ghost use Rattle.bpf_cert.specs.Steps.{Tells, Arrives, Goes, SecondIsTarget};
 
 use crate::claim::Claim;
-use crate::claims::{Claims, includes};
+use crate::claims::Claims;
+use crate::held::includes;
 use bpf_absstate::AbsState;
 use bpf_checks::examine;
 use bpf_decode::Program;
@@ -41,30 +42,48 @@ pub(crate) fn begins(program: &Program, slot: usize) -> bool
 }
 
 /// A way on to a state.
-fn arrive(program: &Program, claims: &Claims, state: AbsState, left: u32) -> Step
-    ensures is { Goes program.now claims.now left (Arrives program.now claims.now left state)
-        result }
+fn arrive(
+    alloc: Global,
+    program: &Program,
+    claims: &Claims,
+    state: AbsState,
+    left: u32,
+) -> Result<Step, AllocError>
+    ensures is { IfOk result
+        (Goes program.now claims.now left (Arrives program.now claims.now left state)) }
 {
     if program.is_target(state.pc()) {
-        return Step::Decided(claims.include(&state, left));
+        let told = claims.include(alloc, &state, left)?;
+        return Ok(Step::Decided(told));
     }
-    Step::Onward(state)
+    Ok(Step::Onward(state))
 }
 
 /// The ways on from a state.
-fn follow(program: &Program, claims: &Claims, ways: Ways, left: u32) -> Step
+fn follow(
+    alloc: Global,
+    program: &Program,
+    claims: &Claims,
+    ways: Ways,
+    left: u32,
+) -> Result<Step, AllocError>
     requires target { SecondIsTarget program.now ways }
-    ensures is { Goes program.now claims.now left
-        (EachWay ways (Arrives program.now claims.now left)) result }
+    ensures is { IfOk result
+        (Goes program.now claims.now left (EachWay ways (Arrives program.now claims.now left))) }
 {
     match ways {
-        Ways::Nowhere => Step::Decided(true),
-        Ways::One(next) => arrive(program, claims, next, left),
+        Ways::Nowhere => Ok(Step::Decided(true)),
+        Ways::One(next) => {
+            let step = arrive(alloc, program, claims, next, left)?;
+            return Ok(step);
+        }
         Ways::Two(next, target) => {
-            if !claims.include(&target, left) {
-                return Step::Decided(false);
+            let told = claims.include(alloc, &target, left)?;
+            if !told {
+                return Ok(Step::Decided(false));
             }
-            arrive(program, claims, next, left)
+            let step = arrive(alloc, program, claims, next, left)?;
+            return Ok(step);
         }
     }
 }
@@ -96,8 +115,11 @@ fn advance(
         return Ok(Step::Decided(false));
     }
     match examine(alloc, program, state) {
-        Ok(ways) => Ok(follow(program, claims, ways, left)),
-        Err(fault) => refused(fault),
+        Ok(ways) => {
+            let step = follow(alloc, program, claims, ways, left)?;
+            return Ok(step);
+        }
+        Err(fault) => return refused(fault),
     }
 }
 
@@ -127,8 +149,9 @@ pub(crate) fn leads(
 fn are_kept(alloc: Global, program: &Program, claims: &Claims) -> Result<bool, AllocError>
     ensures is { IfOk result (λ told. Tells told (AreKept program.now claims.now)) }
 {
-    for claim in claims.as_slice() {
-        if !leads(alloc, program, claims, claim)? {
+    for place in 0..claims.len() {
+        let claim = claims.claim(alloc, place)?;
+        if !leads(alloc, program, claims, &claim)? {
             return Ok(false);
         }
     }
@@ -146,18 +169,20 @@ fn lesser(best: Option<u32>, budget: u32) -> u32
 }
 
 /// The least budget of the claims that include the start.
-fn start_budget(claims: &[Claim], start: &AbsState) -> Option<u32>
+fn start_budget(alloc: Global, claims: &Claims, start: &AbsState) -> Result<Option<u32>, AllocError>
     requires start { start.now ≡ entry_view }
-    ensures is { MatchOption result (All (λ e. Includes e entry_view → ⊥) claims.now)
-        (BeginsWithin claims.now) }
+    ensures is { IfOk result
+        (λ o. MatchOption o (All (λ e. Includes e entry_view → ⊥) claims.now)
+        (BeginsWithin claims.now)) }
 {
     let mut best = None;
-    for claim in claims {
-        if includes(claim, start) {
+    for place in 0..claims.len() {
+        let claim = claims.claim(alloc, place)?;
+        if includes(&claim, start) {
             best = Some(lesser(best, claim.budget));
         }
     }
-    best
+    Ok(best)
 }
 
 /// The budget within which claims show that a program ends, if they do.
@@ -174,5 +199,6 @@ pub fn covered_budget(
     if !are_kept(alloc, program, claims)? {
         return Ok(None);
     }
-    Ok(start_budget(claims.as_slice(), &start))
+    let budget = start_budget(alloc, claims, &start)?;
+    Ok(budget)
 }

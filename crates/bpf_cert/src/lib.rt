@@ -14,6 +14,7 @@ pub mod claims;
 pub mod coverage;
 mod describing;
 pub mod fault;
+pub mod held;
 pub mod laws;
 mod sifting;
 mod widening;

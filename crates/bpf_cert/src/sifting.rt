@@ -2,7 +2,7 @@
 
 ghost use Rattle.std.specs.Prelude.{◌≤◌};
 
-use crate::claim::Claim;
+use crate::claims::Claims;
 use bpf_decode::Program;
 use bpf_prune::Entry;
 use std::alloc::{AllocError, Global};
@@ -54,14 +54,15 @@ fn empty_table(alloc: Global, slots: usize) -> Result<Vec<Vec<Entry>>, AllocErro
 pub(crate) fn sifted(
     alloc: Global,
     program: &Program,
-    claims: &[Claim],
+    claims: &Claims,
 ) -> Result<Vec<Vec<Entry>>, AllocError> {
     let mut table = empty_table(alloc, program.len())?;
-    for claim in claims {
+    for place in 0..claims.len() {
+        let claim = claims.claim(alloc, place)?;
         let pc = claim.state.pc();
         if pc < table.len() {
             let entry = Entry {
-                state: claim.state.clone()?,
+                state: claim.state,
                 budget: claim.budget,
             };
             add(&mut table[pc], entry)?;

@@ -257,7 +257,7 @@ pub(crate) fn widened(
     let mut cuts = vec![in alloc; WHOLE; program.len()]?;
     for one in finished {
         let pc = one.state.pc();
-        if pc >= cuts.len() || claims.soon_include(&one.state, one.budget, NEWEST) {
+        if pc >= cuts.len() || claims.soon_include(alloc, &one.state, one.budget, NEWEST)? {
             continue;
         }
         let trial = Trial {

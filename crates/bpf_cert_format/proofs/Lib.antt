@@ -6,3 +6,5 @@ pub mod Regions
 pub mod Whole
 pub mod Again
 pub mod Refusals
+pub mod Zeros
+pub mod Places

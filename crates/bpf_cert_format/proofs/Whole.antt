@@ -340,7 +340,7 @@ entry_back maps e fits =
       refl,
     )
 
-entry_format : PlaceTwice → (maps : ℕ) → IsFormat EntryView entry (FitsEntry maps) (entry_at maps)
+pub entry_format : PlaceTwice → (maps : ℕ) → IsFormat EntryView entry (FitsEntry maps) (entry_at maps)
 unfolding entry_at
 entry_format twice maps =
     read_as_format Parts EntryView spelled_parts (FitsParts maps) (chained (word_at w16) (λ _. chained (word_at w32) (λ _. chained (word_at w16) (λ _. chained rooms_at (λ _. frames_at maps))))) entry (FitsEntry maps) entry_of

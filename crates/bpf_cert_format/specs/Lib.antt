@@ -3,3 +3,5 @@ pub mod Spelling
 pub mod Fits
 pub mod Reading
 pub mod Answers
+pub mod Unread
+pub mod Leaves

@@ -1,6 +1,6 @@
 //! Call frames, rooms and entries.
 
-ghost use Rattle.std.specs.Prelude.{◌≡◌, ◌<◌, ◌≤◌, OnOk, slice_index_or, slice_set};
+ghost use Rattle.std.specs.Prelude.{◌≡◌, ◌<◌, ◌≤◌, ◌++◌, OnOk, IsTrue, length, drop, replicate, slice_index_or, slice_set};
 ghost use Rattle.bpf_absval.specs.declared.slot.AbsSlot.TheVariants.{Unset};
 ghost use Rattle.bpf_cert_format.specs.Answers.{Gives};
 ghost use Rattle.bpf_cert_format.specs.Reading.{many, value_at as reads_value, cell_at as reads_cell, frame_at as reads_frame, frames_at as reads_frames, is_main_first as begins_with_main, room_at as reads_room, rooms_at as reads_rooms, entry_at as reads_entry, are_rising as rise};
@@ -72,6 +72,40 @@ fn stack_at(
     Ok((stack, rest))
 }
 
+/// Whether 64 bytes of 0 come first: a stack of which nothing is known.
+fn begins_unset(bytes: &[u8]) -> bool
+    requires whole { 64 ≤ length bytes.now }
+    ensures is { IsTrue result → bytes.now ≡ replicate 64 0 ++ drop 64 bytes.now }
+{
+    for index in 0..64 {
+        if bytes[index] != 0 {
+            return false;
+        }
+    }
+    true
+}
+
+/// The same. A stack of which nothing is known is told at once.
+fn any_stack_at(
+    alloc: Global,
+    maps: usize,
+    frames: usize,
+    bytes: &[u8],
+) -> Result<(Stack, &[u8]), ReadFault>
+    requires few_maps { maps ≤ 16 }
+    requires few_frames { frames ≤ 8 }
+    ensures is { Gives (λ x. (x.0, x.1.now)) result (many (reads_cell maps frames) 64 bytes.now) }
+{
+    if bytes.len() >= 64 && begins_unset(bytes) {
+        let (_, rest) = bytes.split_at(64);
+        return Ok((Stack::unset(alloc), rest));
+    }
+    match stack_at(alloc, maps, frames, bytes) {
+        Err(fault) => Err(fault),
+        Ok((stack, rest)) => Ok((stack, rest)),
+    }
+}
+
 /// A call frame of so many.
 #[tactic(auto, unfolding(crate::specs::Reading::frame_at))]
 fn frame_at(
@@ -87,7 +121,7 @@ fn frame_at(
     let (return_slot, rest) = u16_at(bytes)?;
     match registers_at(maps, frames, rest) {
         Err(fault) => Err(fault),
-        Ok((registers, rest)) => match stack_at(alloc, maps, frames, rest) {
+        Ok((registers, rest)) => match any_stack_at(alloc, maps, frames, rest) {
             Err(fault) => Err(fault),
             Ok((stack, rest)) => {
                 let frame = Frame {
@@ -113,7 +147,7 @@ fn frame_list_at(
     ensures is { Gives (λ x. (x.0.items, x.1.now)) result
         (many (reads_frame maps frames) frames bytes.now) }
 {
-    let mut list = Vec::new(alloc);
+    let mut list = Vec::with_capacity(alloc, frames)?;
     let mut rest = bytes;
     for _ in 0..frames {
         match frame_at(alloc, maps, frames, rest) {
@@ -211,7 +245,11 @@ fn rooms_at(alloc: Global, bytes: &[u8]) -> Result<(Vec<Room>, &[u8]), ReadFault
 
 /// An entry.
 #[tactic(auto, unfolding(crate::specs::Reading::entry_at))]
-fn entry_at(alloc: Global, maps: usize, bytes: &[u8]) -> Result<(Entry, &[u8]), ReadFault>
+pub(crate) fn entry_at(
+    alloc: Global,
+    maps: usize,
+    bytes: &[u8],
+) -> Result<(Entry, &[u8]), ReadFault>
     requires few_maps { maps ≤ 16 }
     ensures is { Gives (λ x. (x.0, x.1.now)) result (reads_entry maps bytes.now) }
 {

@@ -19,7 +19,7 @@ const MAGIC: u32 = 843272257;
 
 /// The first four bytes.
 #[tactic(auto, unfolding(crate::specs::Reading::magic_at))]
-fn magic_at(bytes: &[u8]) -> Result<(u32, &[u8]), ReadFault>
+pub(crate) fn magic_at(bytes: &[u8]) -> Result<(u32, &[u8]), ReadFault>
     ensures is { Gives (λ x. (x.0, x.1.now)) result (reads_magic bytes.now) }
 {
     let (magic, rest) = u32_at(bytes)?;
@@ -43,7 +43,7 @@ fn hook_named(number: u8) -> Option<Hook>
 
 /// A hook.
 #[tactic(auto, unfolding(crate::specs::Reading::hook_at))]
-fn hook_at(bytes: &[u8]) -> Result<(Hook, &[u8]), ReadFault>
+pub(crate) fn hook_at(bytes: &[u8]) -> Result<(Hook, &[u8]), ReadFault>
     ensures is { Gives (λ x. (x.0, x.1.now)) result (reads_hook bytes.now) }
 {
     let (number, rest) = byte_at(bytes)?;
@@ -55,7 +55,7 @@ fn hook_at(bytes: &[u8]) -> Result<(Hook, &[u8]), ReadFault>
 
 /// The bytes of the code.
 #[tactic(auto, unfolding(crate::specs::Reading::code_at))]
-fn code_at(bytes: &[u8]) -> Result<(&[u8], &[u8]), ReadFault>
+pub(crate) fn code_at(bytes: &[u8]) -> Result<(&[u8], &[u8]), ReadFault>
     ensures is { Gives (λ x. (x.0.now, x.1.now)) result (reads_code bytes.now) }
 {
     let (slots, rest) = u16_at(bytes)?;

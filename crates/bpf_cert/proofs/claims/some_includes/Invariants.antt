@@ -1,7 +1,7 @@
-use Rattle.std.proofs.Common.{◌≤◌, ◌<◌, ℕ, get_or}
+use Rattle.std.proofs.Common.{◌<◌, ℕ, get_or}
 use Rattle.bpf_cert.specs.declared.claim.Claim.{Claim}
-use Rattle.bpf_cert.specs.Covered.{Includes}
+use Rattle.bpf_cert.specs.Steps.{Serves}
 use Rattle.bpf_cert.proofs.claims.some_includes.Given as goal
 
-abbrev pub invariant-loop-claim : goal.invariant-loop-claim
-invariant-loop-claim l = (k : ℕ) (d : Claim) → k < l.claim-index → Includes (get_or l.claims k d) l.state → (get_or l.claims k d).budget ≤ l.left → ⊥
+abbrev pub invariant-loop-held : goal.invariant-loop-held
+invariant-loop-held l = (k : ℕ) (d : Claim) → k < l.held-index → Serves (get_or l.list k d) l.state l.left → ⊥

@@ -20,7 +20,7 @@ follow-requires c =
 pub returns-in-Ok : goal.returns-in-Ok
 returns-in-Ok c =
     let b = subst (Begins c.args.program.now.slots) c.pc.ensures.is c.if-not-begins.ensures.is in
-    record { is = examined_goes c.args.program.now c.args.claims.now c.args.left c.args.state.now b.0 c.in-Ok.ways c.follow.result b.1 (c.in-Ok.ensures.is b.0 b.1) c.follow.ensures.is }
+    record { is = examined_goes c.args.program.now c.args.claims.now c.args.left c.args.state.now b.0 c.in-Ok.ways c.in_ok-step-in-Ok.step b.1 (c.in-Ok.ensures.is b.0 b.1) c.in_ok-step-in-Ok.ensures.is }
 
 pub returns-in-Err : goal.returns-in-Err
 returns-in-Err c =

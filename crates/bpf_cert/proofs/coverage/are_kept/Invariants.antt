@@ -3,5 +3,5 @@ use Rattle.bpf_cert.specs.declared.claim.Claim.{Claim}
 use Rattle.bpf_cert.specs.Covered.{LeadsWithin}
 use Rattle.bpf_cert.proofs.coverage.are_kept.Given as goal
 
-abbrev pub invariant-loop-claim : goal.invariant-loop-claim
-invariant-loop-claim l = (k : ℕ) (d : Claim) → k < l.claim-index → LeadsWithin l.program l.claims (get_or l.claims k d).budget (get_or l.claims k d).state
+abbrev pub invariant-loop-place : goal.invariant-loop-place
+invariant-loop-place l = (k : ℕ) (d : Claim) → k < l.place → LeadsWithin l.program l.claims (get_or l.claims k d).budget (get_or l.claims k d).state

@@ -1,18 +1,21 @@
-use Rattle.bpf_cert.proofs.Told.{second_in, second_out}
+use Rattle.bpf_cert.specs.Covered.{IsIncluded}
+use Rattle.bpf_cert.proofs.Told.{second_in, second_out, told_true, told_false}
 use Rattle.bpf_cert.proofs.coverage.follow.Goals as goal
 
-pub returns-then-not-include : goal.returns-then-not-include
-returns-then-not-include c =
+pub returns-then-not-told : goal.returns-then-not-told
+returns-then-not-told c =
     let t = rw c.in-Two.is at c.requires.target in
     let code = c.args.program.now in
     let es = c.args.claims.now in
     let n = c.args.left in
-    rw c.in-Two.is (record { is = second_out code es n c.in-Two.next c.in-Two.target t c.if-not-include.ensures.is })
+    let out = told_false c.in_ok-told-in-Two.told (IsIncluded es c.in-Two.target n) c.if-not-told.true c.in_ok-told-in-Two.ensures.is in
+    rw c.in-Two.is (record { is = second_out code es n c.in-Two.next c.in-Two.target t out })
 
-pub returns-else-not-include : goal.returns-else-not-include
-returns-else-not-include c =
+pub returns-in-Two : goal.returns-in-Two
+returns-in-Two c =
     let t = rw c.in-Two.is at c.requires.target in
     let code = c.args.program.now in
     let es = c.args.claims.now in
     let n = c.args.left in
-    rw c.in-Two.is (record { is = second_in code es n c.in-Two.next c.in-Two.target c.arrive-in-Two.result t c.if-not-include.ensures.is c.arrive-in-Two.ensures.is })
+    let in_one = told_true c.in_ok-told-in-Two.told (IsIncluded es c.in-Two.target n) c.if-not-told.false c.in_ok-told-in-Two.ensures.is in
+    rw c.in-Two.is (record { is = second_in code es n c.in-Two.next c.in-Two.target c.in_ok-step-in-Two.step t in_one c.in_ok-step-in-Two.ensures.is })
