@@ -6,13 +6,12 @@
 //! that were answered with Ok, in its order, each once. A full queue (61) hands the event back.
 #![tactic(auto)]
 
-mod lines;
 mod item;
+mod lines;
 mod queue;
 mod rule;
 
-pub use lines::{EventLines, LineFault, LinePasses, OperatorLines, Unserved};
-
 pub use item::{Item, Queued, View};
+pub use lines::{EventLines, LineFault, LinePasses, OperatorLines, Unserved};
 pub use queue::{EventQueue, OperatorPass, PassMaker, QueueFull, WorkerPass};
 pub use rule::OneQueue;

@@ -8,8 +8,8 @@ mod refusals;
 mod reports;
 mod trace;
 
-pub use reports::{PrintFault, Report, Told, print_reports, print_totals, put_in_order};
-pub use refusals::{Example, Explanation, explain, page_text};
-pub use listing::{listing_text};
+pub use listing::listing_text;
 pub use reasons::{fault_text, insn_text, reason_text};
-pub use trace::{trace_text};
+pub use refusals::{Example, Explanation, explain, page_text};
+pub use reports::{PrintFault, Report, Told, print_reports, print_totals, put_in_order};
+pub use trace::trace_text;

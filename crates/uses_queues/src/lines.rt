@@ -5,9 +5,10 @@ ghost use Rattle.ap_queues.specs.Passes.{IsWorkerOf};
 ghost use Rattle.ap_queues.specs.Lines.{ArePassesOf, AreLinesOf};
 
 use crate::same::{holds, same};
-use ap_queues::{EventLines, LineFault, LinePasses, OperatorLines, Unserved};
 use ap_model::{Event, Octets};
-use ap_queues::{EventQueue, WorkerPass};
+use ap_queues::{
+    EventLines, EventQueue, LineFault, LinePasses, OperatorLines, Unserved, WorkerPass,
+};
 use std::alloc::Global;
 use std::process::Abort;
 use std::sync::Wait;

@@ -5,12 +5,12 @@ ghost use Rattle.ap_queues.specs.Lines.{AreLinesOf, puts_of, WasFullAt};
 ghost use Rattle.ap_queues.specs.Putting.{IsTick, first_shard, shard_count, served, with_item};
 ghost use Rattle.ap_queues.specs.Refusing.{StopsAt};
 
+use crate::Item;
 use crate::lines::fault::Unserved;
 use crate::lines::lines::EventLines;
 use crate::lines::passes::OperatorLines;
 use ap_core::shard_of;
 use ap_model::Event;
-use crate::Item;
 use std::sync::Wait;
 
 impl EventLines {
