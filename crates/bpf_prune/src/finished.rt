@@ -4,14 +4,17 @@ ghost use Rattle.std.specs.Prelude.{◌≡◌, [], replicate, OnOk, OnErr, IfOk,
 ghost use Rattle.bpf_prune.specs.Covering.{newest_covering, with_entry, Covers, kept_at};
 
 use crate::kept::{Entry, Kept};
-use bpf_absstate::AbsState;
+use bpf_absstate::{AbsState, Difference};
 use std::alloc::{AllocError, Global};
+use std::cell::Cell;
 use std::marker::Model;
 
 /// For each slot of a code its newest finished states.
 #[derive(Drop)]
 pub struct Finished {
     slots: Vec<Kept>,
+    /// Where the last look found its state not to lie in the kept ones, by their age. It only says where to look first.
+    before: Vec<Cell<Difference>>,
 }
 
 impl Model for Finished {
@@ -23,6 +26,15 @@ impl Model for Finished {
     ghost view = { λ a. a.slots.items };
 }
 
+/// Unknown places for the 64 newest states of a slot.
+fn unknown(alloc: Global) -> Result<Vec<Cell<Difference>>, AllocError> {
+    let mut places = Vec::with_capacity(alloc, 64)?;
+    for _age in 0..64 {
+        places.push(Cell::new(Difference::Apart))?;
+    }
+    Ok(places)
+}
+
 impl Finished {
     /// Nothing is finished, in a code of so many slots.
     pub fn new(alloc: Global, slots: usize) -> Result<Finished, AllocError>
@@ -32,7 +44,10 @@ impl Finished {
         for _slot in 0..slots {
             table.push(Kept::none(alloc))?;
         }
-        Ok(Finished { slots: table })
+        Ok(Finished {
+            slots: table,
+            before: unknown(alloc)?,
+        })
     }
 
     /// Keeps a state at its slot; of 64 there the oldest is given up. Where memory is wanting nothing changes, nor
@@ -57,7 +72,7 @@ impl Finished {
         let pc = state.pc();
         if pc < self.slots.len() {
             let kept = &self.slots[pc];
-            return kept.covering(state);
+            return kept.covering(state, self.before.as_slice());
         }
         None
     }

@@ -1,6 +1,6 @@
 //! The newest 64 finished states of one slot, the oldest first.
 
-ghost use Rattle.std.specs.Prelude.{◌≡◌, [], OnOk, OnErr, IfSome};
+ghost use Rattle.std.specs.Prelude.{◌≡◌, [], OnOk, OnErr, OnSome, IfSome, IfNone, true, false};
 ghost use Rattle.bpf_absstate.specs.Inclusion.{state_included};
 ghost use Rattle.bpf_prune.specs.Covering.{newest_covering, with_newest, Covers};
 
@@ -17,11 +17,58 @@ pub struct Entry {
     pub budget: u32,
 }
 
-/// An entry, and where a state was last found not to lie in its own.
+/// The four places at which states were last found not to lie in another one, the newest first.
+#[derive(Clone, Copy)]
+struct Places {
+    first: Difference,
+    second: Difference,
+    third: Difference,
+    fourth: Difference,
+}
+
+impl Places {
+    /// One place; the others cost nothing to look at.
+    fn new(place: Difference) -> Places {
+        Places {
+            first: place,
+            second: Difference::Apart,
+            third: Difference::Apart,
+            fourth: Difference::Apart,
+        }
+    }
+
+    /// Those with a newer one, without the oldest.
+    fn with(self, newest: Difference) -> Places {
+        Places {
+            first: newest,
+            second: self.first,
+            third: self.second,
+            fourth: self.third,
+        }
+    }
+
+    /// One of the older places at which a state does not lie in another one, if there is one; then it is not included.
+    fn outside(self, state: &AbsState, other: &AbsState) -> Option<Difference>
+        ensures outside { OnSome result (state_included state.now other.now ≡ false) }
+    {
+        if state.differs_at(other, self.second) {
+            return Some(self.second);
+        }
+        if state.differs_at(other, self.third) {
+            return Some(self.third);
+        }
+        if state.differs_at(other, self.fourth) {
+            return Some(self.fourth);
+        }
+        None
+    }
+}
+
+/// An entry, and where states were last found not to lie in its own.
 #[derive(Drop)]
 struct Marked {
     entry: Entry,
-    differed: Cell<Difference>,
+    differed: Cell<Places>,
 }
 
 impl Model for Marked {
@@ -32,29 +79,82 @@ impl Model for Marked {
     ghost view = { λ a. a.entry };
 }
 
+/// Where else to look first: where this look last found its state not to lie in an entry's, and where the last look did so
+/// in the entry that was as old among those of its slot.
+#[derive(Clone, Copy)]
+struct Hints {
+    recent: Difference,
+    before: Difference,
+}
+
 impl Marked {
-    /// Whether a state lies in the entry's. The places at which states differed before, here and from others, are compared
-    /// first.
-    fn covers(&self, state: &AbsState, recent: &mut Difference) -> bool
-        ensures is { result ≡ state_included state.now self.now.state }
+    /// A place to look at first at which a state does not lie in the entry's, if there is one; then it is not included.
+    fn outside_soon(&self, state: &AbsState, hints: Hints) -> Option<Difference>
+        ensures outside { OnSome result (state_included state.now self.now.state ≡ false) }
     {
         let kept = &self.entry.state;
-        if state.differs_at(kept, self.differed.get()) {
-            return false;
+        if state.differs_at(kept, hints.recent) {
+            return Some(hints.recent);
         }
-        if state.differs_at(kept, *recent) {
-            self.differed.set(*recent);
-            return false;
+        if state.differs_at(kept, hints.before) {
+            return Some(hints.before);
+        }
+        self.differed.get().outside(state, kept)
+    }
+
+    /// Where a state does not lie in the entry's, if it does not. The places at which states differed before are compared
+    /// first, that at which the last one did before all.
+    fn outside(&self, state: &AbsState, hints: Hints) -> Option<Difference>
+        ensures none { IfNone result (state_included state.now self.now.state ≡ true) }
+        ensures some { OnSome result (state_included state.now self.now.state ≡ false) }
+    {
+        let places = self.differed.get();
+        let kept = &self.entry.state;
+        if state.differs_at(kept, places.first) {
+            return Some(places.first);
+        }
+        if let Some(place) = self.outside_soon(state, hints) {
+            self.differed.set(places.with(place));
+            return Some(place);
         }
         match state.difference(kept) {
+            None => None,
+            Some(place) => {
+                self.differed.set(places.with(place));
+                Some(place)
+            }
+        }
+    }
+
+    /// Whether a state lies in the entry's. Where it does not is noted.
+    fn covers(&self, state: &AbsState, recent: &mut Difference, before: &Cell<Difference>) -> bool
+        ensures is { result ≡ state_included state.now self.now.state }
+    {
+        let hints = Hints {
+            recent: *recent,
+            before: before.get(),
+        };
+        match self.outside(state, hints) {
             None => true,
-            Some(difference) => {
-                self.differed.set(difference);
-                *recent = difference;
+            Some(place) => {
+                *recent = place;
+                before.set(place);
                 false
             }
         }
     }
+}
+
+/// The place for the entry of an age, from 1 on; that which stands for unknown ones where there is none.
+fn place_of<'a>(
+    before: &'a [Cell<Difference>],
+    age: usize,
+    unknown: &'a Cell<Difference>,
+) -> &'a Cell<Difference> {
+    if age > 0 && age <= before.len() {
+        return &before[age - 1];
+    }
+    unknown
 }
 
 /// The newest finished states of a slot, at most 64.
@@ -90,7 +190,7 @@ impl Kept {
         ensures ok { OnOk result (self.new ≡ with_newest self.old entry) }
         ensures err { OnErr result (self.new ≡ self.old) }
     {
-        let differed = Cell::new(self.newest_difference());
+        let differed = Cell::new(Places::new(self.newest_difference()));
         if self.entries.len() == 64 {
             drop(self.entries.pop_front());
         }
@@ -101,22 +201,25 @@ impl Kept {
     /// Where a state was last found not to lie in the newest.
     fn newest_difference(&self) -> Difference {
         match self.entries.back() {
-            Some(newest) => newest.differed.get(),
+            Some(newest) => newest.differed.get().first,
             None => Difference::Apart,
         }
     }
 
-    /// The budget of the newest state in which this one lies.
-    pub fn covering(&self, state: &AbsState) -> Option<u32>
+    /// The budget of the newest state in which this one lies. Where the last look found its state not to lie in one is looked
+    /// at first: a place for each entry by its age, the newest first.
+    pub fn covering(&self, state: &AbsState, before: &[Cell<Difference>]) -> Option<u32>
         ensures is { result ≡ newest_covering self.now state.now }
         ensures covers { IfSome result (Covers self.now state.now) }
     {
+        let unknown = Cell::new(Difference::Apart);
         let mut recent = Difference::Apart;
         let mut k = self.entries.len();
         while k > 0 {
             k -= 1;
             let marked = &self.entries[k];
-            if marked.covers(state, &mut recent) {
+            let hint = place_of(before, self.entries.len() - k, &unknown);
+            if marked.covers(state, &mut recent, hint) {
                 marked.entry.state.whole();
                 return Some(marked.entry.budget);
             }
