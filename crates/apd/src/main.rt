@@ -26,6 +26,34 @@ fn main(rt: HostRuntime) -> ExitCode {
     }
 }
 
+/// Half of how far down the main thread's stack is touched, in bytes.
+const HALF: usize = 1 << 18;
+
+/// Touches the main thread's stack further down than the program uses it, so that it doesn't grow later: a stack that finds
+/// no memory to grow ends the program by a signal. Err: there is no memory for so much of it.
+fn reach_down(rt: &impl Env, alloc: Global) -> Result<(), AllocError> {
+    // What is asked for here and given back is what the stack takes next.
+    let room: Vec<u8> = Vec::with_capacity(alloc, 2 * HALF)?;
+    drop(room);
+    touch(rt);
+    Ok(())
+}
+
+/// Goes down by a frame of half the depth, and by another below it, and writes the first letter of the program's name to
+/// the lowest byte of each.
+#[inline(never)]
+fn touch(rt: &impl Env) {
+    let mut frame = [0; HALF];
+    touch_lower(rt);
+    let _ = rt.arg(0, &mut frame);
+}
+
+#[inline(never)]
+fn touch_lower(rt: &impl Env) {
+    let mut frame = [0; HALF];
+    let _ = rt.arg(0, &mut frame);
+}
+
 /// Runs the program on its words, and answers its status.
 fn run<R, O, E>(rt: &R, alloc: Global, out: O, messages: Messages<'_, E>) -> io::Result<u8>
 where
@@ -33,6 +61,7 @@ where
     O: Write + Drop,
     E: Write,
 {
+    reach_down(rt, alloc)?;
     let given = given_words(rt)?;
     let mut words = Vec::new(alloc);
     for word in &given {
