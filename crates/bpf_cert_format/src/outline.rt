@@ -20,8 +20,8 @@ use std::alloc::{AllocError, Global};
 use std::marker::Model;
 use std::rc::Rc;
 
-/// So many bytes of entries are kept as values, and one in 32 of all.
-const KEPT: usize = 131072;
+/// Entries are kept as values within so many bytes, and then one byte in 32; the others are read again at each look.
+const KEPT: usize = 1 << 24;
 
 /// A certificate, of whose entries the value is at hand or the place.
 #[derive(Drop)]
