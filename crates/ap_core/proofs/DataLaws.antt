@@ -19,7 +19,8 @@ use Rattle.ap_model.specs.Agreements.{Packet, agreement_for, data_ask, let_throu
 use Rattle.ap_agreements.specs.Uses.{DataUse}
 use Rattle.ap_agreements.specs.Tables.{Kept, agreement_in, Sets, UsesData, UsesAlone}
 use Rattle.ap_core.specs.Handles.{held_item}
-use Rattle.ap_core.specs.DataFrames.{IsJudged}
+use Rattle.ap_core.specs.declared.packets.DataFrame.{DataFrame}
+use Rattle.ap_core.specs.DataFrames.{IsJudged, IsRead}
 use Rattle.ap_core.proofs.Handling.{using_is, unchanged}
 
 pub some_and : {P : Using → Type 0} (o : Option Using) → IsSomeAnd o P → (u : Using) × (o ≡ Some u) × P u
@@ -35,6 +36,11 @@ pub asked_with : (r : Readings) (a : List ℕ) (p : Packet) (o : Option Using) (
     (let ask : Ask = record { hook = hook.Data; frame = bytes; context = context } in ask) ≡ data_ask r a p
 asked_with r a p None bytes context e1 e2 e3 = rw (e1, e2, e3) refl
 asked_with r a p (Some u) bytes context e1 e2 e3 = rw (e1, e2, e3) refl
+
+-- what the hook is told of it
+pub told : (d : DataFrame) (start : Option ℕ) (st : Standings) → IsRead st d →
+    contexts.data_context d.frame.sender d.standing d.tid d.number start ≡ contexts.data_context d.frame.sender (st d.frame.sender) d.tid d.number start
+told d start st read = ap (λ s. contexts.data_context d.frame.sender s d.tid d.number start) read.standing
 
 -- data whose verdict was asked so
 pub judged : (st : Standings) (p : Packet) (start : Option ℕ) (bytes context : List ℕ) (verdict : ℕ) (outs : List Out) → bytes ≡ spelling p.frame →

@@ -22,9 +22,10 @@ use Rattle.ap_core.specs.Telling.{Tells}
 abbrev pub packet : DataFrame → Packet
 packet d = record { frame = d.frame; destination = d.destination; tid = d.tid; number = d.number }
 
--- its bytes spell it
-abbrev pub IsSpelled : DataFrame → Type 0
-IsSpelled d = d.bytes ≡ spelling d.frame
+-- its bytes spell it, and its sender stands so
+pub record IsRead (st : Standings) (d : DataFrame) : Type 0 where
+  pub spelled : d.bytes ≡ spelling d.frame
+  pub standing : d.standing ≡ st d.frame.sender
 
 -- its agreement stands there, and this holds of its window and its number
 pub record IsUnder (ks : List Kept) (d : DataFrame) (under : Under) (P : Reading Held → ℕ → Type 0) : Type 0 where

@@ -1,7 +1,8 @@
 -- What an event is to a shard and a judge.
 use Rattle.std.specs.Prelude.{◌≡◌, ℕ, List, [], ◌∷◌, ◌++◌, Option, Some, None}
-use Rattle.assoc.specs.Standings.{standing}
-use Rattle.mac_frame.specs.Spelling.{spelling}
+use Rattle.assoc.specs.Standings.{Linked, standing}
+use Rattle.assoc.specs.Classes.{class_of}
+use Rattle.mac_frame.specs.Spelling.{spelling, content_subtype}
 use Rattle.blockack.specs.Reading.{EndPassesUp, numbers_held}
 use Rattle.hooks.specs.declared.verdicts.DataVerdict.{DataVerdict}
 use Rattle.hooks.specs.declared.verdicts.DataVerdict.TheVariants.{Pass, Discard}
@@ -34,9 +35,11 @@ ruled_by setting s = rules s.link.shard setting.config.now
 abbrev pub sender : Came → List ℕ
 sender came = came.frame.sender
 
--- its bytes spell it
-abbrev pub IsSpelled : Came → Type 0
-IsSpelled came = came.bytes ≡ spelling came.frame
+-- its bytes spell it, and this is its class and where its sender stands
+pub record IsRead (link : Linked) (came : Came) : Type 0 where
+  pub spelled : came.bytes ≡ spelling came.frame
+  pub class : came.class ≡ class_of (content_subtype came.frame.content)
+  pub standing : came.standing ≡ standing link (sender came)
 
 -- a request, as the model sees it
 abbrev pub request : Asked → Request

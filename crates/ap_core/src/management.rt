@@ -4,10 +4,11 @@ ghost use Rattle.std.specs.Prelude.{◌≡◌, ◌≢◌, ℕ, ◌≤◌, ◌↔
 ghost use Rattle.assoc.specs.declared.standing.Known.{Known};
 ghost use Rattle.assoc.specs.Standings.{standing, IsFull};
 ghost use Rattle.ap_model.specs.Changes.{sends};
-ghost use Rattle.ap_model.specs.Associations.{AuthenticationStatus, Authenticates, Associates, Suits, Names, association_answer, association_ask};
+ghost use Rattle.ap_model.specs.Associations.{AuthenticationStatus, Authenticates, Associates, Suits, Names, association_answer};
 ghost use Rattle.mac_frame.specs.Elements.{rates_text};
+ghost use Rattle.hooks.specs.Contexts as contexts;
 ghost use Rattle.ap_model.specs.Asks.{Handled};
-ghost use Rattle.ap_core.specs.Handles.{reading, rules, request, sender, IsSpelled, ruled_by};
+ghost use Rattle.ap_core.specs.Handles.{reading, rules, request, sender, IsRead, ruled_by};
 
 use crate::moves::{associate, authenticate};
 use crate::room::Room;
@@ -15,17 +16,13 @@ use crate::state::{Came, Setting, State};
 use ap_model::{Judge, LinkConfig, Out};
 use bpf_regions::{Context, Hook};
 use hooks::{Asker, assoc_verdict, association_context};
-use mac_frame::{Address, AidField, Capability, ElementsBuf, MacFrame, Status};
+use mac_frame::{AidField, Capability, ElementsBuf, MacFrame, Status};
 use std::alloc::AllocError;
 
 /// The status that answers an authentication.
-fn authentication_status(
-    state: &State,
-    station: Address,
-    algorithm: u16,
-    transaction: u16,
-) -> Status
-    ensures { AuthenticationStatus (reading state.now) station algorithm transaction result }
+fn authentication_status(state: &State, asker: Asker, algorithm: u16, transaction: u16) -> Status
+    requires { asker.standing ≡ standing state.now.link asker.station }
+    ensures { AuthenticationStatus (reading state.now) asker.station algorithm transaction result }
 {
     if algorithm != 0 {
         return Status::UNSUPPORTED_AUTH_ALGORITHM;
@@ -33,7 +30,7 @@ fn authentication_status(
     if transaction != 1 {
         return Status::TRANSACTION_SEQUENCE_ERROR;
     }
-    match state.link.standing(station) {
+    match asker.standing {
         Some(_) => return Status::SUCCESS,
         None => {
             if state.link.is_full() {
@@ -48,19 +45,22 @@ fn authentication_status(
 pub(crate) fn on_authentication(
     setting: Setting<'_>,
     state: &mut State,
-    station: Address,
+    asker: Asker,
     algorithm: u16,
     transaction: u16,
 ) -> Result<Vec<Out>, AllocError>
+    requires { asker.standing ≡ standing state.old.link asker.station }
     ensures step { IfOk result
         (λ outs. Authenticates (ruled_by setting.entry state.old)
-        (reading state.old) station algorithm transaction [] outs.items (reading state.new)) }
+        (reading state.old) asker.station algorithm transaction [] outs.items
+        (reading state.new)) }
     ensures shard { state.new.link.shard ≡ state.old.link.shard }
     ensures refused { IfErr result (λ _. state.new ≡ state.old) }
 {
     let Setting { alloc, config } = setting;
     let room = Room::new(alloc)?;
-    let status = authentication_status(state, station, algorithm, transaction);
+    let station = asker.station;
+    let status = authentication_status(state, asker, algorithm, transaction);
     let answer = MacFrame::authentication(alloc, station, config.bssid(), algorithm, status);
     if !status.is_success() {
         return Ok(room.send(&answer));
@@ -139,14 +139,14 @@ fn refuse(room: AnswerRoom, config: &LinkConfig, asked: &Asked<'_, '_>, status: 
 }
 
 /// What the hook is told of a request.
-fn context_of(state: &State, asked: &Asked<'_, '_>) -> Context
-    ensures { result ≡ (association_ask (reading state.now) (sender asked.now.came.now)
-        (request asked.now)).context }
+fn context_of(asked: &Asked<'_, '_>) -> Context
+    ensures { result ≡ contexts.association_context (sender asked.now.came.now)
+        asked.now.came.now.standing asked.now.capability asked.now.listen_interval
+        asked.now.again }
 {
-    let station = asked.came.frame.sender();
     let asker = Asker {
-        station,
-        standing: state.link.standing(station),
+        station: asked.came.frame.sender(),
+        standing: asked.came.standing,
     };
     association_context(asker, asked.capability, asked.listen_interval, asked.again)
 }
@@ -159,7 +159,7 @@ fn answer_request<J: Judge>(
     room: AnswerRoom,
     judge: &mut J,
 ) -> Vec<Out>
-    requires bytes { IsSpelled asked.now.came.now }
+    requires came { IsRead state.old.link asked.now.came.now }
     requires known { IsSome (standing state.old.link (sender asked.now.came.now)) }
     requires rates { room.rates ≡ rates_text config.now.rates }
     requires few { length config.now.rates ≤ 8 }
@@ -178,7 +178,7 @@ fn answer_request<J: Judge>(
     let Some(granted) = state.link.free_aid(station) else {
         return refuse(room, config, asked, Status::DENIED_NO_MORE_STAS);
     };
-    let context = context_of(state, asked);
+    let context = context_of(asked);
     let verdict = judge.judge(Hook::Association, &asked.came.bytes, &context);
     let status = assoc_verdict(verdict);
     if !status.is_success() {
@@ -197,7 +197,7 @@ pub(crate) fn on_association<J: Judge>(
     asked: &Asked<'_, '_>,
     judge: &mut J,
 ) -> Result<Vec<Out>, AllocError>
-    requires bytes { IsSpelled asked.now.came.now }
+    requires came { IsRead state.old.link asked.now.came.now }
     requires known { IsSome (standing state.old.link (sender asked.now.came.now)) }
     ensures step { IfOk result
         (λ outs. Handled J.gives (λ asks outs. Associates

@@ -7,7 +7,7 @@ ghost use Rattle.hooks.specs.Contexts as contexts;
 ghost use Rattle.hooks.specs.Verdicts.{data_verdict};
 ghost use Rattle.ap_model.specs.Agreements.{agreement_for};
 ghost use Rattle.ap_core.specs.Handles.{reading, held_item};
-ghost use Rattle.ap_core.specs.DataFrames.{IsSpelled, IsUnder, IsWantedFor, HandlesData, JudgesData};
+ghost use Rattle.ap_core.specs.DataFrames.{IsRead, IsUnder, IsWantedFor, HandlesData, JudgesData};
 
 use crate::outcome::Outcome;
 use crate::passing::pass_up;
@@ -15,12 +15,13 @@ use crate::room::with_out;
 use crate::state::State;
 use ap_agreements::Released;
 use ap_model::{Held, Judge, Octets, Out, Up};
+use assoc::Standing;
 use bpf_regions::{Context, Frame, Hook};
 use hooks::{Asker, DataVerdict, data_context, data_verdict};
 use mac_frame::{Address, MacFrame, SequenceNumber, Tid};
 use std::alloc::{AllocError, Global};
 
-/// A data frame that came: its grammar, its bytes, and what is read of it.
+/// A data frame that came: its grammar, its bytes, what is read of it, and where its sender stands.
 #[derive(Drop)]
 pub(crate) struct DataFrame<'a> {
     pub(crate) frame: MacFrame,
@@ -28,17 +29,17 @@ pub(crate) struct DataFrame<'a> {
     pub(crate) destination: Address,
     pub(crate) tid: Option<Tid>,
     pub(crate) number: SequenceNumber,
+    pub(crate) standing: Standing,
 }
 
 /// What the hook is told of data, whose agreement's window starts so.
-fn context_of(state: &State, came: &DataFrame<'_>, start: Option<SequenceNumber>) -> Context
-    ensures { result ≡ contexts.data_context came.now.frame.sender
-        (standing state.now.link came.now.frame.sender) came.now.tid came.now.number start }
+fn context_of(came: &DataFrame<'_>, start: Option<SequenceNumber>) -> Context
+    ensures { result ≡ contexts.data_context came.now.frame.sender came.now.standing came.now.tid
+        came.now.number start }
 {
-    let station = came.frame.sender();
     let asker = Asker {
-        station,
-        standing: state.link.standing(station),
+        station: came.frame.sender(),
+        standing: came.standing,
     };
     data_context(asker, came.tid, came.number, start)
 }
@@ -52,7 +53,7 @@ fn deliver<J: Judge>(
     start: Option<SequenceNumber>,
     judge: &mut J,
 ) -> Result<Outcome, AllocError>
-    requires bytes { IsSpelled came }
+    requires came { IsRead (standing state.now.link) came }
     ensures step { IfOk result
         (λ o. JudgesData J.gives state.now came.entry start judge.old o.outs.items o.dropped
         judge.new) }
@@ -60,7 +61,7 @@ fn deliver<J: Judge>(
 {
     let outs = Vec::with_capacity(alloc, 1)?;
     let source = came.frame.sender();
-    let context = context_of(state, &came, start);
+    let context = context_of(&came, start);
     let verdict = judge.judge(Hook::Data, &came.bytes, &context);
     match data_verdict(verdict) {
         DataVerdict::Pass(mark) => {
@@ -93,7 +94,7 @@ pub(crate) fn on_plain_data<J: Judge>(
     came: DataFrame<'_>,
     judge: &mut J,
 ) -> Result<Outcome, AllocError>
-    requires bytes { IsSpelled came }
+    requires came { IsRead (standing state.now.link) came }
     requires plain { agreement_for (reading state.now) came.frame.sender came.tid ≡ None }
     ensures step { IfOk result
         (λ o. HandlesData J.gives state.now came.entry judge.old o.outs.items o.dropped
@@ -128,7 +129,7 @@ fn on_data_alone<J: Judge>(
     under: Under,
     judge: &mut J,
 ) -> Result<Outcome, AllocError>
-    requires bytes { IsSpelled came }
+    requires came { IsRead (standing state.old.link) came }
     requires under { IsUnder state.old.agreements.kept came under IsAlone }
     ensures step { IfOk result
         (λ o. HandlesData J.gives state.old came.entry judge.old o.outs.items o.dropped
@@ -161,7 +162,7 @@ fn on_wanted_data<J: Judge>(
     wanted: Wanted,
     judge: &mut J,
 ) -> Result<Outcome, AllocError>
-    requires bytes { IsSpelled came }
+    requires came { IsRead (standing state.old.link) came }
     requires under { IsUnder state.old.agreements.kept came wanted.under
         (IsWantedFor wanted.most) }
     ensures step { IfOk result
@@ -173,7 +174,7 @@ fn on_wanted_data<J: Judge>(
     let Wanted { under, most } = wanted;
     let mut outs = Vec::with_capacity(alloc, most)?;
     let station = came.frame.sender();
-    let context = context_of(state, &came, Some(under.start));
+    let context = context_of(&came, Some(under.start));
     let verdict = judge.judge(Hook::Data, &came.bytes, &context);
     let number = came.number;
     let destination = came.destination;
@@ -197,7 +198,7 @@ pub(crate) fn on_qos_data<J: Judge>(
     tid: Tid,
     judge: &mut J,
 ) -> Result<Outcome, AllocError>
-    requires bytes { IsSpelled came }
+    requires came { IsRead (standing state.old.link) came }
     requires tid { came.tid ≡ Some tid }
     ensures step { IfOk result
         (λ o. HandlesData J.gives state.old came.entry judge.old o.outs.items o.dropped

@@ -4,7 +4,7 @@ ghost use Rattle.std.specs.Prelude.{◌≡◌, ℕ, [], ◌∷◌, IfOk, IfErr};
 ghost use Rattle.ap_model.specs.declared.event.Out.{Out};
 ghost use Rattle.mac_frame.specs.Spelling.{spelling};
 ghost use Rattle.ap_model.specs.Steps.{FrameComes, Checked, check_of};
-ghost use Rattle.ap_core.specs.Handles.{reading, rules, IsSpelled, ruled_by};
+ghost use Rattle.ap_core.specs.Handles.{reading, rules, IsRead, ruled_by};
 ghost use Rattle.ap_core.specs.Noted.{IsNoted};
 ghost use Rattle.ap_core.specs.Telling.{Tells};
 
@@ -49,7 +49,7 @@ fn check<J: Judge>(
     came: Came<'_>,
     judge: &mut J,
 ) -> Result<Outcome, AllocError>
-    requires bytes { IsSpelled came }
+    requires came { IsRead state.old.link came }
     ensures step { IfOk result
         (λ o. Tells J.gives (λ asks outs. Checked
         (ruled_by setting.entry state.old) (reading state.old)
@@ -61,7 +61,7 @@ fn check<J: Judge>(
 {
     let Setting { alloc, config } = setting;
     let station = came.frame.sender();
-    match class_check(state.link.standing(station), class_of(came.frame.subtype())) {
+    match class_check(came.standing, came.class) {
         ClassAnswer::Permitted => {
             let outcome = follow(setting, state, came, judge)?;
             return Ok(outcome);
@@ -113,7 +113,14 @@ fn on_frame<J: Judge>(
         Some(bytes) => bytes,
         None => unreachable!(),
     };
-    let came = Came { frame, bytes };
+    let class = class_of(frame.subtype());
+    let standing = state.link.standing(frame.sender());
+    let came = Came {
+        frame,
+        bytes,
+        class,
+        standing,
+    };
     let outcome = check(setting, state, came, judge)?;
     Ok(outcome)
 }

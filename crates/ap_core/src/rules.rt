@@ -1,7 +1,7 @@
 //! Which rule a frame falls under.
 
 ghost use Rattle.std.specs.Prelude.{◌≡◌, ◌≢◌, ℕ, ◌↔◌, IsTrue, IfOk, IfErr, [], ◌∷◌, None, Some, IsSome};
-ghost use Rattle.mac_frame.specs.Spelling.{content_subtype, management_subtype};
+ghost use Rattle.mac_frame.specs.Spelling.{management_subtype};
 ghost use Rattle.mac_frame.specs.Spelling.{Frame as SpelledFrame};
 ghost use Rattle.ap_model.specs.Readings.{Rules};
 ghost use Rattle.assoc.specs.Standings.{standing};
@@ -10,7 +10,7 @@ ghost use Rattle.assoc.specs.declared.class.Class.{Class};
 ghost use Rattle.assoc.specs.declared.class.ClassAnswer.{ClassAnswer};
 ghost use Rattle.ap_model.specs.Steps.{IsOurs, ManagementComes, DataKindComes, ControlComes, Follows};
 ghost use Rattle.ap_core.specs.Comes.{HandlesManagement};
-ghost use Rattle.ap_core.specs.Handles.{reading, rules, sender, IsSpelled, ruled_by};
+ghost use Rattle.ap_core.specs.Handles.{reading, rules, sender, IsRead, ruled_by};
 ghost use Rattle.ap_core.specs.Telling.{Tells};
 
 use crate::ends::on_delba;
@@ -22,7 +22,8 @@ use crate::requests::on_request;
 use crate::setups::{SetupRequest, on_setup};
 use crate::state::{Came, Setting, State};
 use ap_model::{Judge, LinkConfig, Out};
-use assoc::{Class, class_of};
+use assoc::Class;
+use hooks::Asker;
 use mac_frame::{Address, Content, Control, DataKind, MacFrame, Management, SequenceNumber};
 use std::alloc::{AllocError, Global};
 
@@ -42,12 +43,13 @@ pub(crate) fn is_ours(config: &LinkConfig, frame: &MacFrame) -> bool
 fn on_class_one(
     setting: Setting<'_>,
     state: &mut State,
-    station: Address,
+    asker: Asker,
     body: Management,
 ) -> Result<Vec<Out>, AllocError>
+    requires stands { asker.standing ≡ standing state.old.link asker.station }
     requires class { class_of (management_subtype body) ≡ Class.One }
     ensures step { IfOk result
-        (λ outs. (f : SpelledFrame) → f.sender ≡ station →
+        (λ outs. (f : SpelledFrame) → f.sender ≡ asker.station →
         ManagementComes (ruled_by setting.entry state.old) (reading state.old) f body
         [] outs.items (reading state.new)) }
     ensures shard { state.new.link.shard ≡ state.old.link.shard }
@@ -59,11 +61,11 @@ fn on_class_one(
             transaction,
             status: _,
         } => {
-            let outs = on_authentication(setting, state, station, algorithm, transaction)?;
+            let outs = on_authentication(setting, state, asker, algorithm, transaction)?;
             return Ok(outs);
         }
         Management::Deauthentication { reason: _ } => {
-            deauthenticate(state, station);
+            deauthenticate(state, asker.station);
             return Ok(Vec::new(setting.alloc));
         }
         _ => unreachable!(),
@@ -78,7 +80,7 @@ fn on_class_two<J: Judge>(
     body: Management,
     judge: &mut J,
 ) -> Result<Vec<Out>, AllocError>
-    requires bytes { IsSpelled came.now }
+    requires came { IsRead state.old.link came.now }
     requires class { class_of (management_subtype body) ≡ Class.Two }
     requires known { IsSome (standing state.old.link (sender came.now)) }
     ensures step { IfOk result (λ outs. HandlesManagement J.gives setting.entry state.old
@@ -132,7 +134,7 @@ fn on_class_three<J: Judge>(
     body: Management,
     judge: &mut J,
 ) -> Result<Vec<Out>, AllocError>
-    requires bytes { IsSpelled came.now }
+    requires came { IsRead state.old.link came.now }
     requires class { class_of (management_subtype body) ≡ Class.Three }
     ensures step { IfOk result (λ outs. HandlesManagement J.gives setting.entry state.old
         came.now.frame body judge.old outs.items state.new judge.new) }
@@ -180,20 +182,21 @@ fn on_management<J: Judge>(
     body: Management,
     judge: &mut J,
 ) -> Result<Vec<Out>, AllocError>
-    requires bytes { IsSpelled came.now }
-    requires permitted { class_answer (standing state.old.link (sender came.now))
-        (class_of (management_subtype body)) ≡ ClassAnswer.Permitted }
+    requires came { IsRead state.old.link came.now }
+    requires class { came.now.class ≡ class_of (management_subtype body) }
+    requires permitted { class_answer came.now.standing came.now.class ≡ ClassAnswer.Permitted }
     ensures step { IfOk result (λ outs. HandlesManagement J.gives setting.entry state.old
         came.now.frame body judge.old outs.items state.new judge.new) }
     ensures shard { state.new.link.shard ≡ state.old.link.shard }
     ensures refused { IfErr result (λ _. (state.new ≡ state.old) × (judge.new ≡ judge.old)) }
 {
-    // A copy, as the arms pass the body on.
-    let asked = body;
-    match class_of(asked.subtype()) {
+    match came.class {
         Class::One => {
-            let station = came.frame.sender();
-            let outs = on_class_one(setting, state, station, body)?;
+            let asker = Asker {
+                station: came.frame.sender(),
+                standing: came.standing,
+            };
+            let outs = on_class_one(setting, state, asker, body)?;
             return Ok(outs);
         }
         Class::Two => {
@@ -246,7 +249,7 @@ fn on_data_kind<J: Judge>(
     head: DataHead,
     judge: &mut J,
 ) -> Result<Outcome, AllocError>
-    requires bytes { IsSpelled came }
+    requires came { IsRead state.old.link came }
     ensures step { IfOk result
         (λ o. (c : Rules) → Tells J.gives
         (λ asks outs. DataKindComes c (reading state.old) came.entry.frame head.destination
@@ -255,7 +258,12 @@ fn on_data_kind<J: Judge>(
     ensures shard { state.new.link.shard ≡ state.old.link.shard }
     ensures refused { IfErr result (λ _. (state.new ≡ state.old) × (judge.new ≡ judge.old)) }
 {
-    let Came { frame, bytes } = came;
+    let Came {
+        frame,
+        bytes,
+        class: _,
+        standing,
+    } = came;
     let DataHead {
         destination,
         number,
@@ -269,6 +277,7 @@ fn on_data_kind<J: Judge>(
                 destination,
                 tid: None,
                 number,
+                standing,
             };
             let outcome = on_plain_data(alloc, state, data, judge)?;
             return Ok(outcome);
@@ -280,6 +289,7 @@ fn on_data_kind<J: Judge>(
                 destination,
                 tid: Some(qos.tid),
                 number,
+                standing,
             };
             let outcome = on_qos_data(alloc, state, data, qos.tid, judge)?;
             return Ok(outcome);
@@ -306,9 +316,8 @@ pub(crate) fn follow<J: Judge>(
     came: Came<'_>,
     judge: &mut J,
 ) -> Result<Outcome, AllocError>
-    requires bytes { IsSpelled came }
-    requires permitted { class_answer (standing state.old.link (sender came))
-        (class_of (content_subtype came.frame.content)) ≡ ClassAnswer.Permitted }
+    requires came { IsRead state.old.link came }
+    requires permitted { class_answer came.standing came.class ≡ ClassAnswer.Permitted }
     ensures step { IfOk result
         (λ o. Tells J.gives (λ asks outs. Follows
         (ruled_by setting.entry state.old) (reading state.old)

@@ -2,11 +2,12 @@
 
 ghost use Rattle.std.specs.Prelude.{◌≡◌, ℕ, ◌+◌, ◌≤◌, ◌<◌, [], ◌∷◌, None, Some, IfOk, IfErr, vec_len, vec_capacity};
 ghost use Rattle.mac_types.specs.declared.fields.BlockAckPolicy.{BlockAckPolicy};
+ghost use Rattle.hooks.specs.Contexts as contexts;
 ghost use Rattle.ap_model.specs.Changes.{sends};
-ghost use Rattle.ap_model.specs.Agreements.{setup_answer, setup_ask};
+ghost use Rattle.ap_model.specs.Agreements.{setup_answer};
 ghost use Rattle.ap_agreements.specs.Tables.{key_of, agreement_in, held_under};
 ghost use Rattle.ap_core.specs.Comes.{HandlesSetup};
-ghost use Rattle.ap_core.specs.Handles.{reading, rules, setup, sender, IsSpelled, IsGranted, ruled_by};
+ghost use Rattle.ap_core.specs.Handles.{reading, rules, setup, sender, IsRead, IsGranted, ruled_by};
 
 use crate::passing::pass_replaced;
 use crate::room::{FrameRoom, Room};
@@ -68,14 +69,14 @@ fn answer(
 }
 
 /// What the hook is told of a request.
-fn context_of(state: &State, request: &SetupRequest<'_, '_>) -> Context
-    ensures { result ≡ (setup_ask (reading state.now) (sender request.now.came.now)
-        (setup request.now)).context }
+fn context_of(request: &SetupRequest<'_, '_>) -> Context
+    ensures { result ≡ contexts.addba_context (sender request.now.came.now)
+        request.now.came.now.standing request.now.parameters.tid
+        request.now.parameters.buffer_size request.now.timeout request.now.start }
 {
-    let station = request.came.frame.sender();
     let asker = Asker {
-        station,
-        standing: state.link.standing(station),
+        station: request.came.frame.sender(),
+        standing: request.came.standing,
     };
     let parameters = request.parameters;
     addba_context(
@@ -127,7 +128,7 @@ fn on_immediate<J: Judge>(
     request: &SetupRequest<'_, '_>,
     judge: &mut J,
 ) -> Result<Vec<Out>, AllocError>
-    requires bytes { IsSpelled request.now.came.now }
+    requires came { IsRead state.old.link request.now.came.now }
     requires immediate { request.now.parameters.policy ≡ BlockAckPolicy.Immediate }
     ensures step { IfOk result (λ outs. HandlesSetup J.gives setting.entry state.old
         request.now judge.old outs.items state.new judge.new) }
@@ -141,7 +142,7 @@ fn on_immediate<J: Judge>(
     let frame = FrameRoom::new(setting.alloc)?;
     let entry = Entry::new(setting.alloc, station, tid)?;
     state.agreements.reserve()?;
-    let context = context_of(state, request);
+    let context = context_of(request);
     let verdict = judge.judge(Hook::Addba, &request.came.bytes, &context);
     match addba_verdict(verdict, request.parameters.buffer_size) {
         None => {
@@ -175,7 +176,7 @@ pub(crate) fn on_setup<J: Judge>(
     request: &SetupRequest<'_, '_>,
     judge: &mut J,
 ) -> Result<Vec<Out>, AllocError>
-    requires bytes { IsSpelled request.now.came.now }
+    requires came { IsRead state.old.link request.now.came.now }
     ensures step { IfOk result (λ outs. HandlesSetup J.gives setting.entry state.old
         request.now judge.old outs.items state.new judge.new) }
     ensures shard { state.new.link.shard ≡ state.old.link.shard }

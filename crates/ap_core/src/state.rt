@@ -2,7 +2,7 @@
 
 use ap_agreements::Agreements;
 use ap_model::LinkConfig;
-use assoc::Link;
+use assoc::{Class, Link, Standing};
 use bpf_regions::Frame;
 use mac_frame::MacFrame;
 use std::alloc::Global;
@@ -22,9 +22,11 @@ pub(crate) struct Setting<'a> {
     pub(crate) config: &'a LinkConfig,
 }
 
-/// A frame that came: what its grammar reads, and its bytes.
+/// A frame that came: what its grammar reads, its bytes, its class, and where its sender stands.
 #[derive(Drop)]
 pub(crate) struct Came<'a> {
     pub(crate) frame: MacFrame,
     pub(crate) bytes: Frame<'a>,
+    pub(crate) class: Class,
+    pub(crate) standing: Standing,
 }

@@ -8,6 +8,15 @@ use Rattle.ap_core.specs.Handles.{rules, reading, request}
 use Rattle.ap_core.proofs.Handling.{silently, asking, settled}
 use Rattle.ap_core.proofs.AssociationLaws.{admitted_by, refused_by}
 use Rattle.ap_core.proofs.management.answer_request.Goals as goal
+use Rattle.hooks.specs.Contexts.{association_context}
+use Rattle.assoc.specs.Standings.{Linked}
+use Rattle.ap_core.specs.declared.management.Asked.{Asked}
+use Rattle.ap_core.specs.Handles.{IsRead}
+
+-- what the hook is told
+told : (a : Asked) (link : Linked) → IsRead link a.came.now → association_context a.came.now.frame.sender a.came.now.standing a.capability a.listen_interval a.again
+    ≡ association_context a.came.now.frame.sender (standing link a.came.now.frame.sender) a.capability a.listen_interval a.again
+told a link read = ap (λ s. association_context a.came.now.frame.sender s a.capability a.listen_interval a.again) read.standing
 
 pub returns-then-not-suits-clause-step : goal.returns-then-not-suits-clause-step
 returns-then-not-suits-clause-step g c =
@@ -37,7 +46,7 @@ returns-then-not-is_success-clause-step g c =
     (refused_by (rules c.args.state.now.link.shard c.args.config.now) (reading c.args.state.now) (reading c.args.state.now) c.args.asked.now.came.now.frame.sender (request c.args.asked.now) _ _ c.judge-verdict.result c.in-Some.granted _
     (subst (λ t. IsFree c.args.state.now.link.shard (standing c.args.state.now.link) t c.in-Some.granted) c.sender-station.ensures c.in-Some.ensures.free)
     (c.suits.ensures.0 c.if-not-suits.false) ((c.names.ensures c.args.state.now.link.shard).0 c.if-not-names.false)
-    c.requires.bytes (c.context_of-context.ensures) (subst (λ s. s ≢ 0) c.assoc_verdict-status.ensures ne)
+    c.requires.came.spelled (c.context_of-context.ensures ∙ told c.args.asked.now c.args.state.now.link c.requires.came) (subst (λ s. s ≢ 0) c.assoc_verdict-status.ensures ne)
     (c.refuse-then-not-is_success.ensures c.args.state.now.link.shard
     ∙ ap (λ s. association_answer (rules c.args.state.now.link.shard c.args.config.now) c.args.asked.now.came.now.frame.sender c.args.asked.now.again s 0 ∷ []) c.assoc_verdict-status.ensures))
 
@@ -50,7 +59,7 @@ returns-clause-step g c =
     (admitted_by (rules c.args.state.now.link.shard c.args.config.now) (reading c.args.state.now) (reading c.associate.new.state) c.args.asked.now.came.now.frame.sender (request c.args.asked.now) _ _ c.judge-verdict.result c.in-Some.granted _
     (subst (λ t. IsFree c.args.state.now.link.shard (standing c.args.state.now.link) t c.in-Some.granted) c.sender-station.ensures c.in-Some.ensures.free)
     (c.suits.ensures.0 c.if-not-suits.false) ((c.names.ensures c.args.state.now.link.shard).0 c.if-not-names.false)
-    c.requires.bytes (c.context_of-context.ensures) (sym c.assoc_verdict-status.ensures ∙ z)
+    c.requires.came.spelled (c.context_of-context.ensures ∙ told c.args.asked.now c.args.state.now.link c.requires.came) (sym c.assoc_verdict-status.ensures ∙ z)
     (c.send.ensures ∙ ap (λ e. e ∷ []) (c.response-answer.ensures.is c.args.state.now.link.shard)
     ∙ ap (λ s. association_answer (rules c.args.state.now.link.shard c.args.config.now) c.args.asked.now.came.now.frame.sender c.args.asked.now.again s c.granted-aid.result ∷ []) z
     ∙ ap (λ n. association_answer (rules c.args.state.now.link.shard c.args.config.now) c.args.asked.now.came.now.frame.sender c.args.asked.now.again 0 n ∷ []) c.granted-aid.ensures)

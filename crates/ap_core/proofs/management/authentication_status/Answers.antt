@@ -10,10 +10,10 @@ pub returns-then-transaction-ne1 : goal.returns-then-transaction-ne1
 returns-then-transaction-ne1 c = other_transaction c.if-algorithm-ne0.false c.if-transaction-ne1.true
 
 pub returns-in-Some : goal.returns-in-Some
-returns-in-Some c = accepted c.if-algorithm-ne0.false c.if-transaction-ne1.false (inl (ap is_some (sym c.standing.ensures ∙ c.in-Some.is)))
+returns-in-Some c = accepted c.if-algorithm-ne0.false c.if-transaction-ne1.false (inl (ap is_some (sym c.requires ∙ c.in-Some.is)))
 
 pub returns-then-is_full : goal.returns-then-is_full
-returns-then-is_full c = no_room c.if-algorithm-ne0.false c.if-transaction-ne1.false (sym c.standing.ensures ∙ c.in-None.is) (c.is_full.ensures.0 c.if-is_full.true)
+returns-then-is_full c = no_room c.if-algorithm-ne0.false c.if-transaction-ne1.false (sym c.requires ∙ c.in-None.is) (c.is_full.ensures.0 c.if-is_full.true)
 
 pub returns-in-None : goal.returns-in-None
 returns-in-None c = accepted c.if-algorithm-ne0.false c.if-transaction-ne1.false (inr (λ full. let t = c.is_full.ensures.1 full in let f = c.if-is_full.false in cc))

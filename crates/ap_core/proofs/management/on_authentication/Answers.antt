@@ -14,7 +14,7 @@ returns-then-not-is_success-clause-step c =
     let f = c.if-not-is_success.true in
     let ne : c.authentication_status-status.result ≢ 0 = grind (arith, nat_tests) in
     refuses c.authentication_status-status.result ne c.authentication_status-status.ensures
-    (settled _ _ _ (c.send.ensures ∙ ap (λ m. sends m ∷ []) c.authentication-answer.ensures ∙ ap (λ b. sends (sent_management c.args.station b (management.Authentication c.args.algorithm 2 c.authentication_status-status.result) []) ∷ []) c.bssid.ensures))
+    (settled _ _ _ (c.send.ensures ∙ ap (λ m. sends m ∷ []) c.authentication-answer.ensures ∙ ap (λ b. sends (sent_management c.args.asker.station b (management.Authentication c.args.algorithm 2 c.authentication_status-status.result) []) ∷ []) c.bssid.ensures))
 
 pub authenticate-requires : goal.authenticate-requires
 authenticate-requires c =

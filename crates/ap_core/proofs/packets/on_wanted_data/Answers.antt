@@ -1,4 +1,4 @@
-use Rattle.std.proofs.Common.{◌≡◌, ◌≤◌, ◌++◌, ◌∙◌, ap, refl, sym, subst, Option, ℕ, List, arith}
+use Rattle.std.proofs.Common.{◌≡◌, ◌≤◌, ◌++◌, ◌∙◌, ap, refl, sym, subst, Option, Some, ℕ, List, arith}
 use Rattle.std.specs.Prelude.{IsSomeAnd}
 use Rattle.assoc.specs.Standings.{standing}
 use Rattle.arrayvec.specs.ArrayVec.{array_vec_len}
@@ -8,7 +8,7 @@ use Rattle.ap_model.specs.Readings.{Using}
 use Rattle.ap_model.specs.Agreements.{ups}
 use Rattle.ap_core.specs.DataFrames.{packet}
 use Rattle.ap_core.proofs.Handling.{asking_told}
-use Rattle.ap_core.proofs.DataLaws.{taken_from, held_nothing}
+use Rattle.ap_core.proofs.DataLaws.{taken_from, held_nothing, told}
 use Rattle.ap_core.proofs.packets.on_wanted_data.Goals as goal
 
 pub take-requires-clause-inside : goal.take-requires-clause-inside
@@ -32,7 +32,7 @@ returns-clause-step g c =
     c.args.came.frame.sender refl c.args.wanted.under.tid under.tid c.args.wanted.under.start
     (subst (λ (o : Option Using). IsSomeAnd o (λ u. IsWanted u.window c.args.came.number × (c.args.wanted.under.start ≡ u.window.start))) (sym under.stands.agreed) (under.is.wanted, under.starts))
     _ _ c.judge-verdict.result c.item_of-item.result
-    c.new-body.result c.pass_up.new.outs.items c.take.new.out.items c.requires.bytes c.context_of-context.ensures c.item_of-item.ensures (c.new-body.ensures ∙ c.into_tail.ensures)
+    c.new-body.result c.pass_up.new.outs.items c.take.new.out.items c.requires.came.spelled (c.context_of-context.ensures ∙ told c.args.came (Some c.args.wanted.under.start) (standing c.args.state.now.link) c.requires.came) c.item_of-item.ensures (c.new-body.ensures ∙ c.into_tail.ensures)
     (c.take.ensures.uses c.args.came.frame.sender c.args.wanted.under.tid under.stands.place)
     (c.pass_up.ensures.outs ∙ ap (λ t. t ++ ups c.sender-station.result c.args.wanted.under.tid c.take.new.out.items) c.in_ok-outs.ensures.items
     ∙ ap (λ (a : List ℕ). ups a c.args.wanted.under.tid c.take.new.out.items) c.sender-station.ensures))

@@ -15,13 +15,13 @@ use Rattle.ap_core.proofs.receive.check.Goals as goal
 pub returns-in-Permitted-clause-step : goal.returns-in-Permitted-clause-step
 returns-in-Permitted-clause-step g c =
     let e : class_answer (standing c.args.state.now.link c.args.came.frame.sender) (class_of (content_subtype c.args.came.frame.content)) ≡ Permitted =
-    (let a = c.class_check.ensures in let b = c.standing.ensures in let d = c.class_of.ensures in let f = c.subtype.ensures in let s = c.sender-station.ensures in let i = c.in-Permitted.is in cc) in
+    (let a = c.class_check.ensures in let b = c.requires.came.standing in let d = c.requires.came.class in let i = c.in-Permitted.is in cc) in
     told_checked g.J.Judge.gives (rules c.args.state.now.link.shard c.args.setting.config.now) (reading c.args.state.now) _ c.args.came.frame _ _ _ _ Permitted e c.in_ok-outcome-in-Permitted.ensures.step
 
 pub returns-in-Deauthenticate-clause-step : goal.returns-in-Deauthenticate-clause-step
 returns-in-Deauthenticate-clause-step g c =
     let e : class_answer (standing c.args.state.now.link c.args.came.frame.sender) (class_of (content_subtype c.args.came.frame.content)) ≡ Deauthenticate c.in-Deauthenticate.reason =
-    (let a = c.class_check.ensures in let b = c.standing.ensures in let d = c.class_of.ensures in let f = c.subtype.ensures in let s = c.sender-station.ensures in let i = c.in-Deauthenticate.is in cc) in
+    (let a = c.class_check.ensures in let b = c.requires.came.standing in let d = c.requires.came.class in let i = c.in-Deauthenticate.is in cc) in
     told_checked g.J.Judge.gives (rules c.args.state.now.link.shard c.args.setting.config.now) (reading c.args.state.now) _ c.args.came.frame _ _ _ _ (Deauthenticate c.in-Deauthenticate.reason) e
     (silently_told g.J.Judge.gives _ _ _ (settled (deauthentication (rules c.args.state.now.link.shard c.args.setting.config.now) c.args.came.frame.sender c.in-Deauthenticate.reason) _ _
     (c.send.ensures ∙ ap (λ m. sends m ∷ []) c.deauthentication-answer.ensures
@@ -31,7 +31,7 @@ returns-in-Deauthenticate-clause-step g c =
 pub returns-in-Disassociate-clause-step : goal.returns-in-Disassociate-clause-step
 returns-in-Disassociate-clause-step g c =
     let e : class_answer (standing c.args.state.now.link c.args.came.frame.sender) (class_of (content_subtype c.args.came.frame.content)) ≡ Disassociate c.in-Disassociate.reason =
-    (let a = c.class_check.ensures in let b = c.standing.ensures in let d = c.class_of.ensures in let f = c.subtype.ensures in let s = c.sender-station.ensures in let i = c.in-Disassociate.is in cc) in
+    (let a = c.class_check.ensures in let b = c.requires.came.standing in let d = c.requires.came.class in let i = c.in-Disassociate.is in cc) in
     told_checked g.J.Judge.gives (rules c.args.state.now.link.shard c.args.setting.config.now) (reading c.args.state.now) _ c.args.came.frame _ _ _ _ (Disassociate c.in-Disassociate.reason) e
     (silently_told g.J.Judge.gives _ _ _ (settled (disassociation (rules c.args.state.now.link.shard c.args.setting.config.now) c.args.came.frame.sender c.in-Disassociate.reason) _ _
     (c.send-in-Disassociate.ensures ∙ ap (λ m. sends m ∷ []) c.disassociation-answer.ensures

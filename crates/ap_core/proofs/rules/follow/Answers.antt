@@ -1,4 +1,6 @@
-use Rattle.std.proofs.Common.{sym, ◌∙◌}
+use Rattle.std.proofs.Common.{sym, ap, ◌∙◌}
+use Rattle.mac_frame.specs.Spelling.{content_subtype}
+use Rattle.assoc.specs.Classes.{class_of}
 use Rattle.ap_core.specs.Handles.{rules, reading}
 use Rattle.ap_core.proofs.Handling.{silently_told}
 use Rattle.ap_core.proofs.DropLaws.{management_told}
@@ -18,3 +20,6 @@ pub returns-in-Data-clause-step : goal.returns-in-Data-clause-step
 returns-in-Data-clause-step g c =
     let e = sym c.content.ensures ∙ c.in-Data.is in
     rw e (c.in_ok-outcome-in-Data.ensures.step (rules c.args.state.now.link.shard c.args.setting.config.now))
+
+pub on_management-requires-clause-class : goal.on_management-requires-clause-class
+on_management-requires-clause-class g c = c.requires.came.class ∙ ap (λ t. class_of (content_subtype t)) (sym c.content.ensures ∙ c.in-Management.is)
