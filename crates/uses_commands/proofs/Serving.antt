@@ -1,10 +1,33 @@
--- Reports that count nothing.
-use Rattle.std.proofs.Common.{List, sym, ap, refl, ◌∙◌}
-use Rattle.ap_books.specs.Counts.{none, plus}
-use Rattle.apd_text.specs.declared.reports.report.Report.{Report}
+-- What is handed on and counts nothing.
+use Rattle.std.proofs.Common.{◌≡◌, List, [], ◌∷◌, ◌++◌, refl, sym, ap, ◌∙◌, append_assoc, append-nil}
+use Rattle.ap_books.specs.Counts.{Counts, none, plus}
+use Rattle.ap_live.specs.Counting.{fate_counts, tally}
+use Rattle.ap_tagged.specs.declared.tagged.Tagged.{Tagged}
 use Rattle.apd_run.specs.Tallies.{Serves}
-use Rattle.apd_run.specs.Tells.{Tells}
+use Rattle.apd_run.proofs.Served.{tally_two}
+use Rattle.apd_run.proofs.Sums.{plus_three}
 
--- who lists what counts nothing has counted nothing
-pub serves_nothing : (xs ys : List Report) → Tells xs ys → Serves none none xs ys
-serves_nothing xs ys t = record { reports = t.reports; listed = t.listed; counts = ap (plus none) (sym t.nothing) }
+-- nothing was
+pub serves_still : (xs ys : List Tagged) → ys ≡ xs → Serves none none xs ys
+unfolding tally
+serves_still xs ys is = record { tags = []; listed = is ∙ sym (append-nil xs); counts = refl }
+
+-- one thing was
+pub serves_one : (xs mid ys : List Tagged) (t : Tagged) → fate_counts t.fate ≡ none → mid ≡ xs → ys ≡ mid ++ t ∷ [] → Serves none none xs ys
+unfolding tally
+serves_one xs mid ys t is before after =
+    record {
+      tags = t ∷ [];
+      listed = after ∙ ap (λ (l : List Tagged). l ++ t ∷ []) before;
+      counts = ap (λ (c : Counts). plus none (plus c none)) (sym is);
+    }
+
+-- and then more was
+pub serves_more : (xs ys zs : List Tagged) → Serves none none xs ys → Serves none none ys zs → Serves none none xs zs
+serves_more xs ys zs h k =
+    record {
+      tags = h.tags ++ k.tags;
+      listed = k.listed ∙ (ap (λ (l : List Tagged). l ++ k.tags) h.listed ∙ append_assoc xs h.tags k.tags);
+      counts = k.counts ∙ (ap (λ (c : Counts). plus c (tally k.tags)) h.counts
+          ∙ (plus_three none (tally h.tags) (tally k.tags) ∙ ap (λ (c : Counts). plus none c) (sym (tally_two h.tags k.tags))));
+    }

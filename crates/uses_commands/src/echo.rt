@@ -1,12 +1,17 @@
-//! An access point that tells of each event only how long it lasts: what `run_script` asks of one.
+//! An access point that hands each tick on: as refused, or, if it has no units, as not handled. It is what `run_script`
+//! asks of one.
 
-ghost use Rattle.apd_run.specs.Tells.{Tells};
+ghost use Rattle.std.specs.Prelude.{◌≡◌};
+ghost use Rattle.ap_books.specs.Counts.{none};
+ghost use Rattle.ap_live.specs.Counting.{fate_counts};
+ghost use Rattle.apd_run.specs.Tallies.{Serves};
 
 use ap_books::Totals;
 use ap_model::Event;
+use ap_tagged::{Fate, Tagged};
 use apd_run::{Operating, Serving, Waiting};
 use apd_script::Command;
-use apd_text::{Report, Told};
+use apd_text::Told;
 use std::alloc::AllocError;
 use std::sync::{Arc, Mutex, Wait};
 
@@ -32,29 +37,38 @@ fn taken<R: Wait>(rt: &R, place: &Place) -> Option<Tick> {
     tick
 }
 
-/// Lists the tick of a place, if there is one. True where there was none.
-fn list_tick<R: Wait>(rt: &R, place: &Place, list: &mut Vec<Report>) -> Result<bool, AllocError>
-    ensures { Tells list.old.items list.new.items }
+/// What becomes of a tick.
+fn fate_of(units: u32) -> Fate
+    ensures nothing { fate_counts result ≡ none }
+{
+    if units == 0 {
+        Fate::NotHandled
+    } else {
+        Fate::Refused
+    }
+}
+
+/// Hands on the tick of a place, if there is one. True where there was none.
+fn list_tick<R: Wait>(rt: &R, place: &Place, list: &mut Vec<Tagged>) -> Result<bool, AllocError>
+    ensures { Serves none none list.old.items list.new.items }
 {
     list.reserve(1)?;
     match taken(rt, place) {
         None => Ok(true),
         Some(Tick { line, units }) => {
-            list.push_reserved(Report {
-                line,
+            list.push_reserved(Tagged {
+                call: line,
                 shard: 0,
-                told: Told::Word {
-                    value: u64::from(units),
-                },
+                fate: fate_of(units),
             });
             Ok(false)
         }
     }
 }
 
-/// Lists ticks until there is none.
-fn list_ticks<R: Wait>(rt: &R, place: &Place, list: &mut Vec<Report>) -> Result<(), AllocError>
-    ensures { Tells list.old.items list.new.items }
+/// Hands on ticks until there is none.
+fn list_ticks<R: Wait>(rt: &R, place: &Place, list: &mut Vec<Tagged>) -> Result<(), AllocError>
+    ensures { Serves none none list.old.items list.new.items }
 {
     for _ in rt.forever() {
         if list_tick(rt, place, list)? {
@@ -69,7 +83,7 @@ impl Serving for Echo {
 
     ghost counted = { λ _. none };
 
-    fn serve<R: Wait>(&mut self, rt: &R, list: &mut Vec<Report>) -> Result<(), AllocError> {
+    fn serve<R: Wait>(&mut self, rt: &R, list: &mut Vec<Tagged>) -> Result<(), AllocError> {
         list_ticks(rt, &self.0, list)
     }
 }

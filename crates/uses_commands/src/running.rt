@@ -49,9 +49,9 @@ fn ran<R: Threads + Wait + Abort + Sync>(
     run_script(rt, alloc, staff, commands.as_slice(), Vec::new(alloc))
 }
 
-const SCRIPT: &str = "tick 10\ntick 20\ntick 30\nunload data\nwait\ntick 60\nload data absent\n";
+const SCRIPT: &str = "tick 10\ntick 0\ntick 30\nunload data\nwait\ntick 60\nload data absent\n";
 
-const PRINTED: &str = "1 word 10\n2 word 20\n3 word 30\n4 memory\n6 word 60\n7 unreadable\n\
+const PRINTED: &str = "1 memory\n3 memory\n4 memory\n6 memory\n7 unreadable\n\
     total events 0 sent 0 up 0 dropped 0 notes 0\n";
 
 #[test]
