@@ -19,22 +19,31 @@ fn is_start(rt: &impl Abort, entry: &Entry) {
     same(rt, entry.least(), 0, "least");
     same(rt, entry.rooms().len(), 0, "rooms");
     counts(rt, entry.frames().len(), 1, "frames");
-    let registers = entry.frames()[0].registers.as_slice();
-    holds(rt, registers[0] == AbsVal::Unset, "registers");
+    let frame = entry.frames().first().expect(rt, "a frame");
+    let registers = frame.registers.as_slice();
     holds(
         rt,
-        matches!(registers[1], AbsVal::Frame { label: None, .. }),
+        matches!(registers.get(0), Some(AbsVal::Unset)),
         "registers",
     );
-    holds(rt, registers[2] == AbsVal::FrameEnd, "registers");
+    holds(
+        rt,
+        matches!(registers.get(1), Some(AbsVal::Frame { label: None, .. })),
+        "registers",
+    );
+    holds(
+        rt,
+        matches!(registers.get(2), Some(AbsVal::FrameEnd)),
+        "registers",
+    );
     holds(
         rt,
         matches!(
-            registers[3],
-            AbsVal::Pointer {
+            registers.get(3),
+            Some(AbsVal::Pointer {
                 region: AbsRegion::Context,
                 ..
-            }
+            })
         ),
         "registers",
     );
