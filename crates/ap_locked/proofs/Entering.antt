@@ -12,7 +12,7 @@ use Rattle.ap_core.specs.Shards.{reads, ruled}
 use Rattle.ap_books.specs.Counts.{plus, gains, entry_counts}
 use Rattle.ap_books.proofs.Entries.{counts_in-one}
 use Rattle.ap_locked.specs.Kept.{Kept, Holds, rules_of, readings_of}
-use Rattle.ap_locked.specs.Tokens.{Token, IsToken}
+use Rattle.ap_locked.specs.Tokens.{AreHandled, IsToken, Token}
 use Rattle.ap_locked.proofs.Among.{among_prefix, among_one}
 
 -- what lies under the lock after an entry
@@ -32,10 +32,15 @@ holds_with n k s2 e h step same =
       counted = ap (λ c. plus c (entry_counts e)) h.counted ∙ sym (counts_in-one k.journal e);
     }
 
-pub is_token_with : (t : Token) (journal : List Entry) (e : Entry) → IsToken t → IsPrefix t.seen journal → IsToken (token_with t journal e)
-is_token_with t journal e is had_seen =
+-- the shard handled what its journal has
+pub journal_handled : (n : ℕ) (k : Kept) → Holds n k → AreHandled n k.journal
+journal_handled n k h = record { rules = rules_of k; number = h.number; readings = readings_of k; run = h.run }
+
+pub is_token_with : (n : ℕ) (t : Token) (journal : List Entry) (e : Entry) → IsToken n t → IsPrefix t.seen journal → AreHandled n (journal ++ e ∷ []) → IsToken n (token_with t journal e)
+is_token_with n t journal e is had_seen handled =
     record {
       some = is.some;
+      handled = handled;
       among = among_one e (among_prefix had_seen is.among);
       counted = ap (λ c. plus c (entry_counts e)) is.counted ∙ sym (counts_in-one t.own e);
     }

@@ -1,7 +1,8 @@
 -- What one who decides events has of a shard.
 use Rattle.std.specs.Prelude.{◌≡◌, ◌<◌, ℕ, List, [], ◌∷◌}
 use mathlib.Core.List.{IsPrefix}
-use Rattle.ap_model.specs.Runs.{Entry}
+use Rattle.ap_model.specs.Readings.{Readings, Rules}
+use Rattle.ap_model.specs.Runs.{Entry, Run, opening}
 use Rattle.ap_books.specs.Counts.{Portion, counts_in, none}
 
 -- the entries of the first list stand in the second, in their order, each at a place of its own
@@ -16,9 +17,18 @@ pub record Token : Type 0 where
   pub seen : List Entry
   pub own : List Entry
 
--- what is so of each token: it has a part, its own entries stand among those seen, and its parts have counted them
-pub record IsToken (t : Token) : Type 0 where
+-- the shard of this number handled these entries from nobody on, each a step of the link
+pub record AreHandled (shard : ℕ) (entries : List Entry) : Type 0 where
+  pub rules : Rules
+  pub number : rules.shard ≡ shard
+  pub readings : Readings
+  pub run : Run rules opening entries readings
+
+-- what is so of each token of the shard of this number: it has a part, the shard handled the entries that were seen, its
+-- own stand among them, and its parts have counted them
+pub record IsToken (shard : ℕ) (t : Token) : Type 0 where
   pub some : 0 < t.portion.parts
+  pub handled : AreHandled shard t.seen
   pub among : IsAmong t.own t.seen
   pub counted : t.portion.counts ≡ counts_in t.own
 

@@ -3,8 +3,8 @@
 //! `Locked::decide` decides one. It stands on `ap_core`, `ap_journal` and `ap_books`.
 //! Promised of a `Locked`, whoever had it before: its state is what the entries of its journal lead
 //! to from nobody on, each a step of the link, and its books hold the counts of those entries. Of a
-//! `ShardToken`: what it has seen is a beginning of the journal, in which its own entries stand in
-//! their order, and its shares hold their counts.
+//! `ShardToken`: what it has seen is a beginning of the journal, which the shard handled from nobody on;
+//! its own entries stand there in their order, and its shares hold their counts.
 #![tactic(auto)]
 
 mod deciding;

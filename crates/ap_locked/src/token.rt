@@ -28,13 +28,13 @@ impl<B: Ledgers + Journals, const SHARD: usize> Model for ShardToken<B, SHARD> {
 
     ghost view = { λ t. record { portion = t.shares; seen = t.seen.entries; own = t.own } };
 
-    ghost invariant = { λ t. (t.seen.journal ≡ B.journal_of SHARD) × IsToken (record { portion = t.shares; seen = t.seen.entries; own = t.own }) };
+    ghost invariant = { λ t. (t.seen.journal ≡ B.journal_of SHARD) × IsToken SHARD (record { portion = t.shares; seen = t.seen.entries; own = t.own }) };
 }
 
 impl<B: Ledgers + Journals, const SHARD: usize> ShardToken<B, SHARD> {
     /// Tells a proof what is so of each token, and does nothing.
     pub fn known(&self)
-        ensures { IsToken self.now }
+        ensures { IsToken SHARD self.now }
     {
         let _shares = &self.shares;
     }
@@ -57,7 +57,7 @@ impl<B: Ledgers + Journals, const SHARD: usize> ShardToken<B, SHARD> {
         }
     }
 
-    /// Both have then seen all that one of them has.
+    /// Both have then seen the longer of the two beginnings. Each keeps its own entries.
     pub fn meet(&mut self, other: &mut ShardToken<B, SHARD>)
         ensures this { KeepsOwn self.old self.new }
         ensures that { KeepsOwn other.old other.new }

@@ -4,7 +4,7 @@ use Rattle.std.proofs.lemmas.List.{map-set, get_or-map, length-map}
 use Rattle.std.proofs.Math.Seq.{map-set_same}
 use Rattle.crossbeam_queue.specs.Passes.{view}
 use Rattle.ap_model.specs.declared.event.Event.{Event}
-use Rattle.ap_queues.specs.declared.item.Item.{Item}
+use Rattle.ap_queues.specs.Items.{Item}
 use Rattle.ap_queues.specs.declared.queue.OperatorPass.{OperatorPass}
 use Rattle.ap_queues.specs.Queues.{of}
 use Rattle.ap_queues.specs.Passes.{put_by, number_of, WasFull}

@@ -1,3 +1,4 @@
+pub mod Items
 pub mod Queues
 pub mod Passes
 pub mod Faults

@@ -1,6 +1,6 @@
 -- What the passes of all queues are to their callers.
 use Rattle.std.specs.Prelude.{◌≡◌, ℕ, List, map, slice_get, Some, IfSome, Option}
-use Rattle.ap_queues.specs.declared.item.Item.{Item}
+use Rattle.ap_queues.specs.Items.{Item}
 use Rattle.ap_queues.specs.declared.queue.EventQueue.{EventQueue}
 use Rattle.ap_queues.specs.declared.queue.OperatorPass.{OperatorPass}
 use Rattle.ap_queues.specs.declared.queue.WorkerPass.{WorkerPass}

@@ -2,7 +2,7 @@
 use Rattle.std.specs.Prelude.{◌≡◌, ℕ, List, ◌++◌}
 use Rattle.crossbeam_queue.specs.Passes.{view, IsPassOf}
 use Rattle.crossbeam_queue.specs.Fifo.{Held}
-use Rattle.ap_queues.specs.declared.item.Item.{Item}
+use Rattle.ap_queues.specs.Items.{Item}
 use Rattle.ap_queues.specs.declared.item.Queued.{Queued}
 use Rattle.ap_queues.specs.declared.queue.EventQueue.{EventQueue}
 use Rattle.ap_queues.specs.declared.queue.PassMaker.{PassMaker}

@@ -4,7 +4,7 @@ use Rattle.std.specs.Option.{unwrap_or}
 use Rattle.ap_model.specs.declared.event.Event.{Event}
 use Rattle.ap_model.specs.declared.event.Event.TheVariants as event
 use Rattle.ap_model.specs.AccessPoint.{shard_of}
-use Rattle.ap_queues.specs.declared.item.Item.{Item}
+use Rattle.ap_queues.specs.Items.{Item}
 
 -- time that passes, of which each shard is told
 abbrev pub IsTick : Event → Type 0

@@ -3,7 +3,7 @@
 use Rattle.std.specs.Prelude.{◌≡◌, ◌==◌, ◌<◌, ◌≤◌, ℕ, true, false, List, [], ◌∷◌, ◌++◌, if◌then◌else◌}
 use mathlib.Core.Option.{some}
 use lib.ListN.{get_elem?}
-use Rattle.ap_queues.specs.declared.item.Item.{Item}
+use Rattle.ap_queues.specs.Items.{Item}
 use Rattle.ap_queues.specs.declared.item.Queued.{Queued}
 use Rattle.ap_queues.specs.declared.item.View.{View}
 

@@ -1,6 +1,7 @@
 //! What an operator puts.
 
 ghost use Rattle.std.specs.Prelude.{◌≡◌, ◌<◌, ◌%◌, ◌-◌, length, IfErr, OnOk, OnErr};
+ghost use Rattle.ap_queues.specs.Items.{IsTold};
 ghost use Rattle.ap_queues.specs.Lines.{AreLinesOf, puts_of, WasFullAt};
 ghost use Rattle.ap_queues.specs.Putting.{IsTick, first_shard, shard_count, served, with_item};
 ghost use Rattle.ap_queues.specs.Refusing.{StopsAt};
@@ -93,7 +94,7 @@ impl EventLines {
         Ok(())
     }
 
-    /// Puts an event of one shard.
+    /// Puts an event for one shard that is told of it.
     fn submit_one<R: Wait>(
         &self,
         rt: &R,
@@ -103,6 +104,7 @@ impl EventLines {
         shard: u16,
     ) -> Result<(), Unserved>
         requires own { AreLinesOf self.now operator.old }
+        requires told { IsTold event shard }
         ensures own { AreLinesOf self.now operator.new }
         ensures put { OnOk result
             (puts_of operator.new ≡ served (puts_of operator.old) call event shard 1) }

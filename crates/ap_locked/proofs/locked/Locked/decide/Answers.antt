@@ -4,7 +4,7 @@ use Rattle.ap_journal.specs.Beginnings.{with_entry}
 use Rattle.ap_books.specs.Counts.{counts_of, entry_counts, plus, gains}
 use Rattle.ap_locked.specs.Kept.{Kept, Holds, Decided, entry_of}
 use Rattle.ap_locked.specs.Tokens.{Token, IsToken}
-use Rattle.ap_locked.proofs.Entering.{kept_with, token_with, holds_with, is_token_with, asked_since}
+use Rattle.ap_locked.proofs.Entering.{kept_with, token_with, holds_with, is_token_with, journal_handled, asked_since}
 use Rattle.ap_locked.proofs.locked.Locked.decide.Goals as goal
 
 pub invariant_of-self-2 : goal.invariant_of-self-2
@@ -35,9 +35,13 @@ invariant_of-mine g c =
     let portion : c.count.new.mine ≡ gains c.mine.inside.shares (entry_counts e) =
     c.count.ensures.shares ∙ (λ i. gains c.mine.inside.shares (counts_of (c.as_slice-2.ensures.value i) (d.flag i))) in
     let had : Token = record { portion = c.mine.inside.shares; seen = c.mine.inside.seen.entries; own = c.mine.inside.own } in
-    let is : IsToken (token_with had c.self.inside.journal.entries e) = is_token_with had c.self.inside.journal.entries e c.mine.invariant.1 c.look.ensures.has_all.has_all in (
+    let was : Kept = record { shard = c.self.inside.shard; journal = c.self.inside.journal.entries; counts = c.self.inside.books } in
+    let after : Kept = kept_with was c.handle_with_drop.new.self e in
+    let holds : Holds g.row.SHARD after = holds_with g.row.SHARD was c.handle_with_drop.new.self e c.self.invariant.2 d.does c.in_ok-outcome.ensures.rules in
+    let is : IsToken g.row.SHARD (token_with had c.self.inside.journal.entries e) =
+    is_token_with g.row.SHARD had c.self.inside.journal.entries e c.mine.invariant.1 c.look.ensures.has_all.has_all (journal_handled g.row.SHARD after holds) in (
       ap (λ k. k.journal) grown ∙ c.self.invariant.0,
-      subst IsToken (λ i. record { portion = sym portion i; seen = (sym grown i).entries; own = sym own i }) is,
+      subst (IsToken g.row.SHARD) (λ i. record { portion = sym portion i; seen = (sym grown i).entries; own = sym own i }) is,
     )
 
 pub returns-clause-entry : goal.returns-clause-entry

@@ -3,8 +3,9 @@ use Rattle.ap_model.specs.Readings.{Readings}
 use Rattle.ap_model.specs.Runs.{Entry, Run, rests, opening}
 use Rattle.ap_core.specs.Shards.{reads, ruled}
 use Rattle.ap_books.specs.Counts.{Portion, counts_in}
-use Rattle.ap_locked.specs.Tokens.{IsAmong}
+use Rattle.ap_locked.specs.Tokens.{AreHandled, IsAmong}
 use Rattle.ap_locked.proofs.Among.{none_among}
+use Rattle.ap_locked.proofs.Handled.{none_handled}
 use Rattle.ap_locked.proofs.locked.Locked.new.Goals as goal
 
 pub invariant_of-locked : goal.invariant_of-locked
@@ -26,6 +27,7 @@ invariant_of-token g c =
       ap (λ k. k.journal) again ∙ (c.into_parts-author.ensures.journal ∙ c.requires.named.journal_is),
       record {
         some = subst (λ (p : Portion). 0 < p.parts) (sym c.open-books.ensures.whole) c.requires.some;
+        handled = subst (AreHandled g.row.SHARD) (sym (ap (λ k. k.entries) again ∙ c.into_parts-author.ensures.empty)) (none_handled g.row.SHARD);
         among = subst (λ (own : List Entry). IsAmong own c.again.result.entries) (sym c.new-2.ensures) (none_among c.again.result.entries);
         counted = ap (λ p. p.counts) c.open-books.ensures.whole ∙ ap counts_in (sym c.new-2.ensures);
       },

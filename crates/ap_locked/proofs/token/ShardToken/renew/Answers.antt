@@ -10,6 +10,7 @@ invariant_of-self g c = (
   c.self.invariant.0,
   record {
     some = subst (λ (p : Portion). 0 < p.parts) (sym c.replace.ensures.after) c.requires.some;
+    handled = c.self.invariant.1.handled;
     among = subst (λ (own : List Entry). IsAmong own c.self.inside.seen.entries) (sym c.new.ensures) (none_among c.self.inside.seen.entries);
     counted = ap (λ (p : Portion). p.counts) c.replace.ensures.after ∙ (c.requires.nothing ∙ ap counts_in (sym c.new.ensures));
   },

@@ -1,7 +1,7 @@
 use Rattle.std.proofs.Common.{◌≡◌, ◌≤◌, ◌-◌, ◌%◌, ℕ, List, length, sym, ap, ◌∙◌, subst, arith}
 use Rattle.ap_model.specs.declared.event.Event.{Event}
 use Rattle.ap_model.specs.declared.event.Event.TheVariants.{Tick}
-use Rattle.ap_queues.specs.declared.item.Item.{Item}
+use Rattle.ap_queues.specs.Items.{Item}
 use Rattle.ap_queues.specs.Lines.{puts_of, WasFullAt}
 use Rattle.ap_queues.specs.Putting.{item, served, with_item}
 use Rattle.ap_queues.proofs.Steps.{served_next}
@@ -36,9 +36,10 @@ pub returns-in-Err-clause-refused : goal.returns-in-Err-clause-refused
 returns-in-Err-clause-refused g c =
     let next : ℕ = c.loop-next.next in
     let low : c.args.shard ≤ next = c.loop-next.auto.next in
-    let shard_is : c.in-Err.item.shard ≡ next = ap (λ (x : Item). x.shard) c.in-Err.ensures.back in
+    let is = c.item.view_is ∙ c.in-Err.ensures.back in
+    let shard_is : c.item.inside.shard ≡ next = ap (λ (x : Item). x.shard) is in
     record {
-      event = ap (λ (x : Item). x.event) c.in-Err.ensures.back ∙ sym c.in-Tick.is;
+      event = ap (λ (x : Item). x.event) is ∙ sym c.in-Tick.is;
       first_is = omega arith;
       within = omega arith;
       before = c.in-Err.ensures.refused ∙ (c.loop-next.invariant.put ∙ ap (λ (n : ℕ). served (puts_of c.args.operator.now) c.args.call c.args.event c.args.shard (n - c.args.shard)) (sym shard_is));
