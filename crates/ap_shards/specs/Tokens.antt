@@ -1,7 +1,7 @@
 -- What a token has of all shards.
 use Rattle.std.specs.Prelude.{◌≡◌, ◌+◌, ◌<◌}
 use Rattle.ap_books.specs.Holdings.{Holding}
-use Rattle.ap_locked.specs.Tokens.{Token, IsToken, newcomer}
+use Rattle.ap_locked.specs.Tokens.{Token, IsToken, KeepsOwn, newcomer}
 
 -- a token of each shard
 pub record Eight : Type 0 where
@@ -53,6 +53,16 @@ pub record GaveOne (t u : Token) : Type 0 where
 abbrev pub HasGivenOne : Eight → Eight → Type 0
 HasGivenOne a b = EachOf GaveOne a b
 
--- what is so of each token, of each of them
+-- what is so of each token, of that of each shard
 abbrev pub AreTokens : Eight → Type 0
-AreTokens e = EachOf (λ t u. IsToken t) e e
+AreTokens e =
+    IsToken 0 e.of0 × IsToken 1 e.of1 × IsToken 2 e.of2 × IsToken 3 e.of3
+    × IsToken 4 e.of4 × IsToken 5 e.of5 × IsToken 6 e.of6 × IsToken 7 e.of7
+
+-- they have seen more, and nothing else has changed
+abbrev pub KeepOwn : Eight → Eight → Type 0
+KeepOwn a b = EachOf KeepsOwn a b
+
+-- of each journal both have seen the same
+abbrev pub HaveSeenAlike : Eight → Eight → Type 0
+HaveSeenAlike a b = EachOf (λ t u. t.seen ≡ u.seen) a b

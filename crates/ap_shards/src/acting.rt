@@ -66,7 +66,8 @@ impl<B: Ledgers + Journals> Shards<B> {
             4 => act_under(rt, alloc, &self.of4, &mut mine.of4, event),
             5 => act_under(rt, alloc, &self.of5, &mut mine.of5, event),
             6 => act_under(rt, alloc, &self.of6, &mut mine.of6, event),
-            _ => act_under(rt, alloc, &self.of7, &mut mine.of7, event),
+            7 => act_under(rt, alloc, &self.of7, &mut mine.of7, event),
+            _ => unreachable!(),
         }
     }
 }

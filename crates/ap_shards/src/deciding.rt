@@ -96,7 +96,8 @@ impl<B: Ledgers + Journals> Shards<B> {
             4 => decide_under(rt, &self.of4, &mut mine.of4, desk, state, event),
             5 => decide_under(rt, &self.of5, &mut mine.of5, desk, state, event),
             6 => decide_under(rt, &self.of6, &mut mine.of6, desk, state, event),
-            _ => decide_under(rt, &self.of7, &mut mine.of7, desk, state, event),
+            7 => decide_under(rt, &self.of7, &mut mine.of7, desk, state, event),
+            _ => unreachable!(),
         }
     }
 }

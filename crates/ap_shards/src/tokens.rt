@@ -27,7 +27,7 @@ impl<B: Ledgers + Journals> Model for ShardTokens<B> {
 
 impl<B: Ledgers + Journals> ShardTokens<B> {
     ghost use Rattle.std.specs.Prelude.{◌≡◌};
-    ghost use Rattle.ap_shards.specs.Tokens.{AreTokens, HasMoreThanOne, IsNewcomer, HasGivenOne, holding_of};
+    ghost use Rattle.ap_shards.specs.Tokens.{AreTokens, HasGivenOne, HasMoreThanOne, HaveSeenAlike, IsNewcomer, KeepOwn, holding_of};
 
     /// Tells a proof what is so of each token, and does nothing.
     pub fn known(&self)
@@ -59,6 +59,22 @@ impl<B: Ledgers + Journals> ShardTokens<B> {
             of6: self.of6.split_off(1),
             of7: self.of7.split_off(1),
         }
+    }
+
+    /// Of each journal both have then seen the longer of the two beginnings. Each keeps its own entries.
+    pub fn meet(&mut self, other: &mut ShardTokens<B>)
+        ensures this { KeepOwn self.old self.new }
+        ensures that { KeepOwn other.old other.new }
+        ensures seen { HaveSeenAlike self.new other.new }
+    {
+        self.of0.meet(&mut other.of0);
+        self.of1.meet(&mut other.of1);
+        self.of2.meet(&mut other.of2);
+        self.of3.meet(&mut other.of3);
+        self.of4.meet(&mut other.of4);
+        self.of5.meet(&mut other.of5);
+        self.of6.meet(&mut other.of6);
+        self.of7.meet(&mut other.of7);
     }
 
     /// The parts of the ledgers, with what they have counted.
