@@ -72,23 +72,6 @@ not_handled_stays V s e a =
       of7 = stays_if V s e (s == 7) a.of7;
     }
 
-refused_if : (V : Readings → List (Ask × ℕ) → Type 0) (s : ℕ) (e : Event) (here : Bool) (t : Token) → ChangesIf here (λ t u. Comes V s t e Refused u) t t
-refused_if V s e true t = refl
-refused_if V s e false t = refl
-
-pub refused_stays : (V : Readings → List (Ask × ℕ) → Type 0) (s : ℕ) (e : Event) (a : Eight) → ComesAt V s a e Refused a
-refused_stays V s e a =
-    record {
-      of0 = refused_if V s e (s == 0) a.of0;
-      of1 = refused_if V s e (s == 1) a.of1;
-      of2 = refused_if V s e (s == 2) a.of2;
-      of3 = refused_if V s e (s == 3) a.of3;
-      of4 = refused_if V s e (s == 4) a.of4;
-      of5 = refused_if V s e (s == 5) a.of5;
-      of6 = refused_if V s e (s == 6) a.of6;
-      of7 = refused_if V s e (s == 7) a.of7;
-    }
-
 -- at a shard of 0 to 7
 pub is_inside : (f : Fate) (s : ℕ) → s < 8 → IsInside f s
 is_inside (Decided outs dropped) s low = low
@@ -101,15 +84,6 @@ left_alone a n p e s =
     record {
       begins = begins_same p.seen;
       came = not_handled_stays (JudgedBy a.stock.maps n (set_of p.seen.loads) p.held p.held) s e p.shards;
-      held = refl;
-      inside = tt;
-    }
-
-pub refused_outside : (a : Live) (n : ℕ) (p : Progress) (e : Event) (s : ℕ) → Becomes a n p e s Refused p
-refused_outside a n p e s =
-    record {
-      begins = begins_same p.seen;
-      came = refused_stays (JudgedBy a.stock.maps n (set_of p.seen.loads) p.held p.held) s e p.shards;
       held = refl;
       inside = tt;
     }

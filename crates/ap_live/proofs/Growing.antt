@@ -1,20 +1,21 @@
 -- How a token's parts of the ledgers grow.
-use Rattle.std.proofs.Common.{if◌then◌else◌, ◌≡◌, ◌==◌, ◌<◌, ℕ, zero, suc, Bool, true, false, List, [], ◌∷◌, ◌++◌, refl, sym, ap, ◌∙◌, subst, arith}
+use Rattle.std.proofs.Common.{if◌then◌else◌, ◌≡◌, ◌==◌, ◌<◌, ℕ, zero, suc, Bool, true, false, Some, List, refl, sym, ap, ◌∙◌, arith}
+use Rattle.ap_model.specs.AccessPoint.{shard_of}
 use Rattle.ap_model.specs.declared.event.Event.{Event}
 use Rattle.ap_model.specs.declared.event.Out.{Out}
 use Rattle.ap_model.specs.Asks.{Ask}
 use Rattle.ap_model.specs.Readings.{Readings}
-use Rattle.ap_books.specs.Counts.{Counts, Portion, counts_of, gains, none, plus}
+use Rattle.ap_books.specs.Counts.{Counts, Portion, counts_of, gains, plus}
 use Rattle.ap_books.specs.Holdings.{Holding, sum_of}
 use Rattle.ap_locked.specs.Tokens.{Token}
-use Rattle.ap_shards.specs.Fates.{ActsAt, Acts, ChangesIf, Comes, ComesAt}
+use Rattle.ap_shards.specs.Fates.{ActsAt, ChangesIf, Comes, ComesAt}
 use Rattle.ap_shards.specs.Tokens.{Eight, holding_of}
-use Rattle.ap_tagged.specs.Growth.{grown, grown_at, grown_by, grown_if}
+use Rattle.ap_tagged.specs.Growth.{grown_at, grown_if}
 use Rattle.ap_tagged.specs.declared.tagged.Fate.{Fate}
 use Rattle.ap_tagged.specs.declared.tagged.Fate.TheVariants.{Decided, Refused, NotHandled}
-use Rattle.ap_tagged.specs.declared.tagged.Tagged.{Tagged}
-use Rattle.ap_live.specs.Counting.{KeepParts, counted_by, fate_counts, tally}
-use Rattle.ap_live.specs.Serving.{IsInside}
+use Rattle.ap_live.specs.Counting.{KeepParts, fate_counts}
+use Rattle.ap_live.specs.Serving.{Acted, IsInside}
+use Rattle.ap_live.specs.Tokens.{Operator}
 use Rattle.ap_live.proofs.Sums.{grown_first, grown_second, plus_none}
 
 -- what holds of 0 to 7 holds of each number below 8
@@ -257,3 +258,16 @@ act_parts s c a b is = (
   ap (λ (h : Holding). h.of6.parts) is ∙ gains_parts (s == 6) a.of6.portion c,
   ap (λ (h : Holding). h.of7.parts) is ∙ gains_parts (s == 7) a.of7.portion c,
 )
+
+-- a command that was decided
+pub acted_at : (o o2 : Operator) (e : Event) (outs : List Out) (s : ℕ) → shard_of e ≡ Some s → s < 8 → ActsAt s o.shards e outs o2.shards → Acted o e outs o2
+acted_at o o2 e outs s is low acts =
+    let g = act_gains e outs o.shards o2.shards s low acts in
+    record {
+      shard = s;
+      shard_is = is;
+      acted = acts;
+      dropped = g.0;
+      counted = ap sum_of g.1 ∙ sum_gains (holding_of o.shards) (counts_of outs g.0) s low;
+      parts = act_parts s (counts_of outs g.0) o.shards o2.shards g.1;
+    }

@@ -1,13 +1,11 @@
 -- Tokens of an access point that gave others.
-use Rattle.std.proofs.Common.{◌≡◌, ◌<◌, ℕ, List, length, slice_get, Some, sym, ap, ◌∙◌, subst}
-use Rattle.bpf_helpers.specs.Hooked.{KeepTables, shapes_of}
+use Rattle.std.proofs.Common.{◌≡◌, ◌<◌, List, length, slice_get, Some, sym, ap, ◌∙◌, subst}
 use Rattle.bpf_helpers.proofs.Keeping.{fitting_kept, shapes_kept}
 use Rattle.ap_queues.specs.declared.queue.EventQueue.{EventQueue}
-use Rattle.ap_queues.specs.Passes.{IsWorkerOf}
-use Rattle.ap_queues.specs.Lines.{AreLinesOf, ArePassesOf}
+use Rattle.ap_queues.specs.Lines.{AreLinesOf}
 use Rattle.ap_tables.proofs.Sitting.{operators_kept}
 use Rattle.ap_live.specs.Lives.{IsLive, KeepsLive, Live}
-use Rattle.ap_live.specs.Tokens.{AreLeft, IsOperator, IsWorker, Left, Operator, Worker}
+use Rattle.ap_live.specs.Tokens.{IsOperator, IsWorker, Operator, Worker}
 
 pub operator_kept : (a b : Live) (o : Operator) → KeepsLive a b → IsOperator a o → IsOperator b o
 operator_kept a b o keep own =

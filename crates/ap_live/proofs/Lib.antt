@@ -2,3 +2,6 @@ pub mod Sums
 pub mod Growing
 pub mod Going
 pub mod Keeping
+pub mod AtShards
+pub mod Handing
+pub mod Upheld

@@ -1,5 +1,5 @@
 -- Sums of counts.
-use Rattle.std.proofs.Common.{◌≡◌, ◌+◌, ℕ, refl, sym, ap, ◌∙◌, arith}
+use Rattle.std.proofs.Common.{◌≡◌, ◌+◌, ℕ, sym, ap, ◌∙◌, arith}
 use Rattle.ap_books.specs.Counts.{Counts, none, plus}
 
 -- counts that are equal one by one

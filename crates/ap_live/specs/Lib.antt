@@ -3,3 +3,7 @@ pub mod Tokens
 pub mod Counting
 pub mod Opening
 pub mod Serving
+pub mod Upholding
+pub mod Verdicts
+pub mod Events
+pub mod Headline

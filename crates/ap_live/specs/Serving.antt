@@ -9,6 +9,7 @@ use Rattle.ap_model.specs.declared.event.Event.TheVariants as event
 use Rattle.ap_model.specs.declared.event.Out.{Out}
 use Rattle.ap_books.specs.Counts.{counts_of, plus}
 use Rattle.ap_queues.specs.declared.item.Queued.{Queued}
+use Rattle.ap_queues.specs.Items.{IsTold}
 use Rattle.ap_queues.specs.Passes.{taken_by}
 use Rattle.ap_shards.specs.Fates.{ActsAt, ComesAt}
 use Rattle.ap_shards.specs.Judged.{HoldsOn, JudgedBy}
@@ -46,11 +47,12 @@ pub record Becomes (a : Live) (worker : ℕ) (p : Progress) (e : Event) (shard :
   pub held : HoldsOn f p.held q.held
   pub inside : IsInside f shard
 
--- the worker took this item, and handed on what became of its event
+-- the worker took this item, and handed on what became of its event at its shard, which is one that is told of it
 pub record Serves (a : Live) (worker : ℕ) (p : Progress) (x : Queued) (t : Tagged) (q : Progress) : Type 0 where
   pub took : q.taken ≡ p.taken ++ x ∷ []
   pub call : t.call ≡ x.item.call
   pub shard : t.shard ≡ x.item.shard
+  pub told : IsTold x.item.event t.shard
   pub became : Becomes a worker p x.item.event t.shard t.fate q
 
 -- one was handed on for each item, in order

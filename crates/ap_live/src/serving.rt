@@ -1,23 +1,21 @@
 //! What a worker does.
 
-ghost use Rattle.std.specs.Prelude.{◌≡◌, ◌<◌, IfNone, IfSome};
+ghost use Rattle.std.specs.Prelude.{◌≡◌, IfNone, IfSome};
+ghost use Rattle.ap_live.specs.Headline.{WorkerHeadline};
 ghost use Rattle.ap_live.specs.Serving.{Becomes, Served, ServedOne, progress_of};
 ghost use Rattle.ap_live.specs.Tokens.{IsWorker};
 
 use crate::live::LiveAp;
 use crate::tokens::WorkerToken;
 use ap_books::Ledgers;
+use ap_laws::run_law;
 use ap_locked::Journals;
-use ap_model::Event;
 use ap_queues::Item;
 use ap_shards::Desk;
 use ap_tagged::{Fate, Gate, Tagged};
 use core::mem::replace_with;
 use std::alloc::{AllocError, Global};
 use std::sync::Wait;
-
-/// How many shards there are.
-const SHARDS: u16 = 8;
 
 /// An item that a worker took, and the gate that is told of it.
 struct Taken<'a, G: Gate> {
@@ -27,7 +25,8 @@ struct Taken<'a, G: Gate> {
 
 impl<B: Ledgers + Journals> LiveAp<B> {
     /// Serves what the worker's queue holds, until it is found empty or the gate says stop. Each event
-    /// that was taken is handed on, in order. At a refusal the list holds what was served.
+    /// that was taken is handed on, in order. At a refusal the list holds what was served. The whole
+    /// headline holds of what is handed on, whatever other workers and operators do meanwhile.
     pub fn serve<R: Wait, G: Gate>(
         &self,
         rt: &R,
@@ -40,7 +39,10 @@ impl<B: Ledgers + Journals> LiveAp<B> {
         ensures own { IsWorker self.now worker.new }
         ensures number { worker.new.number ≡ worker.old.number }
         ensures served { Served self.now worker.old worker.new list.old.items list.new.items }
+        ensures headline { WorkerHeadline self.now worker.old worker.new list.old.items
+            list.new.items }
     {
+        run_law();
         for _ in rt.forever() {
             if list.reserve(1).is_err() {
                 return Err(AllocError);
@@ -60,7 +62,7 @@ impl<B: Ledgers + Journals> LiveAp<B> {
     /// Serves the oldest event of the worker's queue, and hands it on, or None where there is none. It
     /// is decided under its shard's lock, by the programs of one whole published set, unless the gate
     /// says stop: then it is handed on as one that was not handled.
-    pub fn serve_one<R: Wait, G: Gate>(
+    fn serve_one<R: Wait, G: Gate>(
         &self,
         rt: &R,
         alloc: Global,
@@ -104,15 +106,11 @@ impl<B: Ledgers + Journals> LiveAp<B> {
         if gate.stop(item.call) {
             return Fate::NotHandled;
         }
-        if item.shard >= SHARDS {
-            return Fate::Refused;
-        }
         gate.begin(item.call);
-        let at = (item.shard, &item.event);
         let fate = replace_with(
             worker,
-            (self, rt, alloc, at),
-            |worker, (ap, rt, alloc, at)| { ap.decided(rt, alloc, worker, at) },
+            (self, rt, alloc, item),
+            |worker, (ap, rt, alloc, item)| { ap.decided(rt, alloc, worker, item) },
         );
         gate.end(item.call);
         fate
@@ -124,15 +122,14 @@ impl<B: Ledgers + Journals> LiveAp<B> {
         rt: &R,
         alloc: Global,
         worker: WorkerToken<B>,
-        at: (u16, &Event),
+        item: &Item,
     ) -> (WorkerToken<B>, Fate)
-        requires own { IsWorker self.now worker }
-        requires inside { at.0 < 8 }
+        requires { IsWorker self.now worker }
         ensures own { IsWorker self.now result.0 }
         ensures number { result.0.number ≡ worker.number }
         ensures pass { result.0.pass ≡ worker.pass }
-        ensures became { Becomes self.now worker.number (progress_of worker) at.entry.1.now
-            at.entry.0 result.1 (progress_of result.0) }
+        ensures became { Becomes self.now worker.number (progress_of worker) item.now.event
+            item.now.shard result.1 (progress_of result.0) }
     {
         let WorkerToken {
             number,
@@ -148,6 +145,7 @@ impl<B: Ledgers + Journals> LiveAp<B> {
             maps: self.tables.maps(),
             worker: number,
         };
+        let at = (item.shard, &item.event);
         let fate = self.shards.decide(rt, &mut shards, desk, &mut state, at);
         let worker = WorkerToken {
             number,

@@ -1,6 +1,7 @@
-use Rattle.std.proofs.Common.{◌≡◌, List, ℕ, ap, sym, subst, ◌∙◌}
+use Rattle.std.proofs.Common.{List, ap, sym, subst, ◌∙◌}
 use Rattle.bpf_helpers.specs.Hooked.{IsFitting}
 use Rattle.bpf_helpers.specs.Tables.{Tables}
+use Rattle.ap_queues.specs.Items.{Item}
 use Rattle.versions.specs.Lists.{Beginning, Begins}
 use Rattle.versions.specs.Sets.{set_of}
 use Rattle.ap_shards.specs.Fates.{ComesAt}
@@ -13,7 +14,7 @@ use Rattle.ap_live.proofs.live.LiveAp.decided.Goals as goal
 
 pub returns-clause-own : goal.returns-clause-own
 returns-clause-own g c =
-    let own = subst (λ (w : Worker). IsWorker c.args.self.now w) (sym c.worker.view_is) c.requires.own in
+    let own = subst (λ (w : Worker). IsWorker c.args.self.now w) (sym c.worker.view_is) c.requires in
     let maps_are = c.maps.ensures.is ∙ ap (λ (a : Live). a.stock.maps) c.self.view_is in
     record {
       number = own.number;
@@ -25,19 +26,21 @@ returns-clause-own g c =
 pub returns-clause-became : goal.returns-clause-became
 returns-clause-became g c =
     let before = c.worker.inside in
+    let item = c.item.inside in
     let held = c.decide-fate.new.state in
     let shards = c.decide-fate.new.mine in
     let seen : Beginning = c.leave.result in
-    let event = c.args.at.1.now in
     let fate = c.decide-fate.result in
     let maps_are = c.maps.ensures.is ∙ ap (λ (a : Live). a.stock.maps) c.self.view_is in
+    let old : Worker = record { number = before.number; pass = before.pass; seen = before.reader; held = before.state; shards = before.shards } in
     let new : Worker = record { number = before.number; pass = before.pass; seen = seen; held = held; shards = shards } in
-    let by_set = subst (λ (b : Beginning). ComesAt (JudgedBy c.maps.result.now before.number (set_of b.loads) before.state held) c.args.at.0 before.shards event fate shards)
+    let by_set = subst (λ (b : Beginning). ComesAt (JudgedBy c.maps.result.now before.number (set_of b.loads) before.state held) item.shard before.shards item.event fate shards)
     (c.set.ensures.is ∙ sym c.leave.ensures.seen) c.decide-fate.ensures.fate in
-    subst (λ (w : Worker). Becomes c.args.self.now w.number (progress_of w) event c.args.at.0 fate (progress_of new)) c.worker.view_is
-    (record {
+    let became : Becomes c.args.self.now old.number (progress_of old) item.event item.shard fate (progress_of new) = record {
       begins = subst (λ (b : Beginning). Begins before.reader b) (sym c.leave.ensures.seen) c.enter-entered.ensures.seen;
-      came = subst (λ (ms : List Tables). ComesAt (JudgedBy ms before.number (set_of seen.loads) before.state held) c.args.at.0 before.shards event fate shards) maps_are by_set;
+      came = subst (λ (ms : List Tables). ComesAt (JudgedBy ms before.number (set_of seen.loads) before.state held) item.shard before.shards item.event fate shards) maps_are by_set;
       held = c.decide-fate.ensures.holds;
-      inside = is_inside fate c.args.at.0 c.requires.inside;
-    })
+      inside = is_inside fate item.shard c.item.invariant.below;
+    } in
+    subst (λ (w : Worker). Becomes c.args.self.now w.number (progress_of w) c.args.item.now.event c.args.item.now.shard fate (progress_of new)) c.worker.view_is
+    (subst (λ (i : Item). Becomes c.args.self.now old.number (progress_of old) i.event i.shard fate (progress_of new)) c.item.view_is became)

@@ -16,8 +16,8 @@ use Rattle.ap_tagged.specs.declared.tagged.Fate.TheVariants.{Decided, Refused, N
 use Rattle.versions.specs.Sets.{set_of}
 use Rattle.ap_live.specs.Lives.{Live}
 use Rattle.ap_live.specs.Serving.{Progress}
-use Rattle.ap_headline.specs.Tokens.{token_at}
-use Rattle.ap_headline.specs.Verdicts.{AreJudged}
+use Rattle.ap_live.specs.Upholding.{token_at}
+use Rattle.ap_live.specs.Verdicts.{AreJudged}
 
 -- At the shard of this number the event was decided after all that had been decided there, of which the token had seen
 -- a beginning, with these verdicts and these outs. The headline of the link holds of the whole journal with this entry

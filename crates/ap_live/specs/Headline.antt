@@ -16,8 +16,8 @@ use Rattle.ap_live.specs.Counting.{counted_by, tally}
 use Rattle.ap_live.specs.Lives.{Live}
 use Rattle.ap_live.specs.Serving.{Progress, Serves, progress_of}
 use Rattle.ap_live.specs.Tokens.{Operator, Worker}
-use Rattle.ap_headline.specs.Events.{EntryHolds, FateHolds}
-use Rattle.ap_headline.specs.Tokens.{token_at}
+use Rattle.ap_live.specs.Events.{EntryHolds, FateHolds}
+use Rattle.ap_live.specs.Upholding.{token_at}
 
 -- for each item that was taken one was handed on, in order, and the headline holds of each
 abbrev pub HoldsOfEach : Live → ℕ → Progress → List Queued → List Tagged → Progress → Type 0

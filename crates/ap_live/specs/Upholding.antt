@@ -1,4 +1,4 @@
--- What one who decides events knows of the shards, by the tokens alone.
+-- What tokens uphold: what one who decides events knows of the shards, by its token alone.
 use Rattle.std.specs.Prelude.{◌≡◌, ◌==◌, ◌<◌, ℕ, if◌then◌else◌}
 use Rattle.ap_model.specs.Readings.{Readings, Rules}
 use Rattle.ap_laws.specs.Headline.{LinkHolds}

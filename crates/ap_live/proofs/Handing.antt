@@ -1,5 +1,5 @@
 -- What is handed on, event by event.
-use Rattle.std.proofs.Common.{◌≡◌, ◌<◌, ℕ, Bool, true, false, Option, Some, None, List, [], ◌∷◌, ◌++◌, map, inl, inr, refl, sym, ap, subst, ◌∙◌, append_assoc, append-nil}
+use Rattle.std.proofs.Common.{◌≡◌, ◌<◌, ℕ, Bool, true, false, Option, Some, None, List, [], ◌∷◌, ◌++◌, inl, inr, refl, sym, ap, subst, ◌∙◌, append_assoc, append-nil}
 use Rattle.std.specs.Prelude.{◌==◌}
 use Rattle.std.proofs.lemmas.List.Elements.{All-nil, All-cons}
 use mathlib.Core.List.{IsPrefix}
@@ -7,14 +7,14 @@ use Rattle.ap_model.specs.declared.event.Event.{Event}
 use Rattle.ap_model.specs.declared.event.Out.{Out}
 use Rattle.ap_model.specs.Asks.{Ask, Answered}
 use Rattle.ap_model.specs.Readings.{Readings}
-use Rattle.ap_model.specs.Runs.{Entry}
-use Rattle.ap_laws.specs.Headline.{RunsHold}
+use Rattle.ap_model.specs.Runs.{Entry, rests, goes_on}
+use Rattle.ap_model.proofs.Appending.{run_append}
+use Rattle.ap_laws.specs.Headline.{LinkHolds, RunsHold}
 use Rattle.ap_locked.specs.Kept.{entry_of}
 use Rattle.ap_locked.specs.Tokens.{Token}
 use Rattle.ap_queues.specs.declared.item.Queued.{Queued}
-use Rattle.ap_shards.specs.Fates.{Acts, ChangesIf, Comes}
+use Rattle.ap_shards.specs.Fates.{Acts, Adds, ChangesIf, Comes}
 use Rattle.ap_shards.specs.Judged.{JudgedBy, AnyVerdicts}
-use Rattle.ap_shards.specs.Tokens.{Eight}
 use Rattle.ap_tagged.specs.declared.tagged.Fate.{Fate}
 use Rattle.ap_tagged.specs.declared.tagged.Fate.TheVariants.{Decided, Refused, NotHandled}
 use Rattle.ap_tagged.specs.declared.tagged.Tagged.{Tagged}
@@ -25,13 +25,12 @@ use Rattle.versions.specs.Sets.{Programs, program_at, set_of}
 use Rattle.ap_live.specs.Lives.{Live}
 use Rattle.ap_live.specs.Serving.{Acted, Becomes, Progress, Served, ServesAll, progress_of}
 use Rattle.ap_live.specs.Tokens.{Operator, Worker}
-use Rattle.ap_headline.specs.Events.{EventHolds, FateHolds}
-use Rattle.ap_headline.specs.Headline.{HandsOn, HoldsOfEach, OperatorHeadline, WorkerHeadline, outs_at, with_outs}
-use Rattle.ap_headline.specs.Tokens.{UpholdAll, Upholds, token_at}
-use Rattle.ap_headline.specs.Verdicts.{AreJudged, IsJudged}
-use Rattle.ap_headline.proofs.Entries.{prefix_more}
-use Rattle.ap_headline.proofs.Shards.{at_shard, by_shard, kept_all, left_still, refused_still, shard_below}
-use Rattle.ap_headline.proofs.Upholding.{entry_holds, link_after, upholds_added, upholds_come}
+use Rattle.ap_live.specs.Events.{EntryHolds, FateHolds}
+use Rattle.ap_live.specs.Headline.{HandsOn, HoldsOfEach, OperatorHeadline, WorkerHeadline, outs_at, with_outs}
+use Rattle.ap_live.specs.Upholding.{token_at}
+use Rattle.ap_live.specs.Verdicts.{AreJudged, IsJudged}
+use Rattle.ap_live.proofs.AtShards.{at_shard, left_still, refused_still, shard_below}
+use Rattle.ap_live.proofs.Growing.{by_shard}
 
 -- ---- verdicts
 
@@ -60,6 +59,29 @@ are_judged g programs h h' (x ∷ asked) v =
 
 -- ---- one event
 
+module _ (law : RunsHold) (V : Readings → List (Ask × ℕ) → Type 0) where
+  -- the link's half of the headline, of the journal with its entry
+  link_after : (s : ℕ) (t : Token) (e : Event) (outs : List Out) (dropped : Bool) (u : Token) (x : Adds V s t e outs dropped u)
+      → LinkHolds x.rules (x.before ++ entry_of e x.asked outs ∷ []) x.after
+  link_after s t e outs dropped u x =
+      let entry : Entry = entry_of e x.asked outs in
+      law x.rules x.after (x.before ++ entry ∷ []) (run_append x.rules x.run (goes_on x.readings x.after x.after entry [] x.step (rests x.after)))
+
+  entry_holds : (s : ℕ) → s < 8 → (t : Token) (e : Event) (outs : List Out) (dropped : Bool) (u : Token) → Adds V s t e outs dropped u → EntryHolds s t e outs u
+  entry_holds s low t e outs dropped u x =
+      record {
+        inside = low;
+        before = x.before;
+        had_seen = x.had_seen;
+        asked = x.asked;
+        seen = x.seen;
+        own = x.own;
+        rules = x.rules;
+        number = x.number;
+        readings = x.after;
+        holds = link_after s t e outs dropped u x;
+      }
+
 module _ (law : RunsHold) (a : Live) (worker : ℕ) where
   fate_holds : (p : Progress) (e : Event) (s : ℕ) (f : Fate) (q : Progress) → Becomes a worker p e s f q → FateHolds a worker p e s f q
   fate_holds p e s (Decided outs dropped) q b =
@@ -86,11 +108,6 @@ module _ (law : RunsHold) (a : Live) (worker : ℕ) where
   fate_holds p e s Refused q b = refused_still (JudgedBy a.stock.maps worker (set_of q.seen.loads) p.held q.held) s e p.shards q.shards b.came
   fate_holds p e s NotHandled q b = left_still (JudgedBy a.stock.maps worker (set_of q.seen.loads) p.held q.held) s e p.shards q.shards b.came
 
-  upholds_after : (p : Progress) (e : Event) (s : ℕ) (f : Fate) (q : Progress) → Becomes a worker p e s f q → UpholdAll p.shards → UpholdAll q.shards
-  upholds_after p e s f q b h =
-      let V : Readings → List (Ask × ℕ) → Type 0 = JudgedBy a.stock.maps worker (set_of q.seen.loads) p.held q.held in
-      kept_all Upholds (λ t u. Comes V s t e f u) s p.shards q.shards b.came (upholds_come law V s e f) h
-
   -- ---- one after the other
 
   holds_each : (p : Progress) (items : List Queued) (tags : List Tagged) (q : Progress) → ServesAll a worker p items tags q → HoldsOfEach a worker p items tags q
@@ -100,13 +117,11 @@ module _ (law : RunsHold) (a : Live) (worker : ℕ) where
   holds_each p [] (t ∷ ts) q r = absurd r
   holds_each p (x ∷ xs) [] q r = absurd r
 
-  upholds_all : (p : Progress) (items : List Queued) (tags : List Tagged) (q : Progress) → ServesAll a worker p items tags q → UpholdAll p.shards → UpholdAll q.shards
-  upholds_all p [] [] q is h = subst (λ (z : Progress). UpholdAll z.shards) (sym is) h
-  upholds_all p (x ∷ xs) (t ∷ ts) q r h = upholds_all r.0 xs ts q r.2 (upholds_after p x.item.event t.shard t.fate r.0 r.1.became h)
-  upholds_all p [] (t ∷ ts) q r h = absurd r
-  upholds_all p (x ∷ xs) [] q r h = absurd r
-
 -- ---- of one shard
+
+-- what goes on from what goes on
+prefix_more : (a b : List Entry) {c : List Entry} → IsPrefix a b → IsPrefix b c → IsPrefix a c
+prefix_more a b p q = (p.0 ++ q.0, sym (append_assoc a p.0 q.0) ∙ (ap (λ (w : List Entry). w ++ q.0) p.1 ∙ q.1))
 
 hands_none : (t u : Token) → u ≡ t → HandsOn t [] u
 hands_none t u is =
@@ -155,30 +170,26 @@ module _ (a : Live) (worker : ℕ) where
 
 -- ---- the whole
 
-pub served_holds : RunsHold → (a : Live) (w w2 : Worker) (l l2 : List Tagged) → UpholdAll w.shards → Served a w w2 l l2 → WorkerHeadline a w w2 l l2 × UpholdAll w2.shards
-served_holds law a w w2 l l2 h s = (
-  record {
-    items = s.items;
-    tags = s.tags;
-    took = s.took;
-    listed = s.listed;
-    events = holds_each law a w.number (progress_of w) s.items s.tags (progress_of w2) s.served;
-    shards = λ n low. hands_all a w.number n low (progress_of w) s.items s.tags (progress_of w2) s.served;
-    counted = s.counted;
-  },
-  upholds_all law a w.number (progress_of w) s.items s.tags (progress_of w2) s.served h,
-)
+pub served_holds : RunsHold → (a : Live) (w w2 : Worker) (l l2 : List Tagged) → Served a w w2 l l2 → WorkerHeadline a w w2 l l2
+served_holds law a w w2 l l2 s =
+    record {
+      items = s.items;
+      tags = s.tags;
+      took = s.took;
+      listed = s.listed;
+      events = holds_each law a w.number (progress_of w) s.items s.tags (progress_of w2) s.served;
+      shards = λ n low. hands_all a w.number n low (progress_of w) s.items s.tags (progress_of w2) s.served;
+      counted = s.counted;
+    }
 
-pub acted_holds : RunsHold → (o o2 : Operator) (e : Event) (outs : List Out) → UpholdAll o.shards → Acted o e outs o2 → OperatorHeadline o e outs o2 × UpholdAll o2.shards
-acted_holds law o o2 e outs h s =
+pub acted_holds : RunsHold → (o o2 : Operator) (e : Event) (outs : List Out) → Acted o e outs o2 → OperatorHeadline o e outs o2
+acted_holds law o o2 e outs s =
     let low : s.shard < 8 = shard_below e s.shard s.shard_is in
-    let x = at_shard (λ t u. Acts s.shard t e outs u) o.shards o2.shards s.shard low s.acted in (
-      record {
-        shard = s.shard;
-        shard_is = s.shard_is;
-        entry = entry_holds law AnyVerdicts s.shard low (token_at s.shard o.shards) e outs x.0 (token_at s.shard o2.shards) x.1;
-        dropped = s.dropped;
-        counted = s.counted;
-      },
-      kept_all Upholds (λ t u. Acts s.shard t e outs u) s.shard o.shards o2.shards s.acted (λ t u y g. upholds_added law AnyVerdicts s.shard t e outs y.0 u y.1 g) h,
-    )
+    let x = at_shard (λ t u. Acts s.shard t e outs u) o.shards o2.shards s.shard low s.acted in
+    record {
+      shard = s.shard;
+      shard_is = s.shard_is;
+      entry = entry_holds law AnyVerdicts s.shard low (token_at s.shard o.shards) e outs x.0 (token_at s.shard o2.shards) x.1;
+      dropped = s.dropped;
+      counted = s.counted;
+    }

@@ -1,7 +1,6 @@
 -- What changes at one shard of eight.
-use Rattle.std.proofs.Common.{◌≡◌, ◌<◌, ◌%◌, ℕ, zero, suc, Bool, true, false, Option, Some, None, List, refl, sym, ap, subst, ◌∙◌, arith}
+use Rattle.std.proofs.Common.{◌≡◌, ◌<◌, ◌%◌, ℕ, Bool, true, false, Option, Some, None, List, refl, arith}
 use Rattle.std.specs.Prelude.{◌==◌}
-use Rattle.std.proofs.lemmas.Bool.Decides.{nat_tests}
 use Rattle.ap_model.specs.AccessPoint.{shard_of, shard_of_address, shard_of_bytes}
 use Rattle.ap_model.specs.Asks.{Ask}
 use Rattle.ap_model.specs.Readings.{Readings}
@@ -10,48 +9,14 @@ use Rattle.ap_model.specs.declared.event.Event.TheVariants as event
 use Rattle.ap_locked.specs.Tokens.{Token}
 use Rattle.ap_shards.specs.Fates.{ChangesAt, ChangesIf, Comes, ComesAt}
 use Rattle.ap_shards.specs.Tokens.{Eight}
-use Rattle.ap_tagged.specs.declared.tagged.Fate.TheVariants.{Decided, Refused, NotHandled}
-use Rattle.ap_headline.specs.Tokens.{token_at}
-
--- what holds of 0 to 7 holds of each number below 8
-pub by_shard : (P : ℕ → Type 0) → P 0 → P 1 → P 2 → P 3 → P 4 → P 5 → P 6 → P 7 → (s : ℕ) → s < 8 → P s
-by_shard P p0 p1 p2 p3 p4 p5 p6 p7 zero low = p0
-by_shard P p0 p1 p2 p3 p4 p5 p6 p7 (suc zero) low = p1
-by_shard P p0 p1 p2 p3 p4 p5 p6 p7 (suc (suc zero)) low = p2
-by_shard P p0 p1 p2 p3 p4 p5 p6 p7 (suc (suc (suc zero))) low = p3
-by_shard P p0 p1 p2 p3 p4 p5 p6 p7 (suc (suc (suc (suc zero)))) low = p4
-by_shard P p0 p1 p2 p3 p4 p5 p6 p7 (suc (suc (suc (suc (suc zero))))) low = p5
-by_shard P p0 p1 p2 p3 p4 p5 p6 p7 (suc (suc (suc (suc (suc (suc zero)))))) low = p6
-by_shard P p0 p1 p2 p3 p4 p5 p6 p7 (suc (suc (suc (suc (suc (suc (suc zero))))))) low = p7
-by_shard P p0 p1 p2 p3 p4 p5 p6 p7 (suc (suc (suc (suc (suc (suc (suc (suc n)))))))) low = absurd (omega arith)
+use Rattle.ap_tagged.specs.declared.tagged.Fate.TheVariants.{Refused, NotHandled}
+use Rattle.ap_live.specs.Upholding.{token_at}
+use Rattle.ap_live.proofs.Growing.{by_shard}
 
 -- the token of the shard where something was done
 pub at_shard : (P : Token → Token → Type 0) (a b : Eight) (s : ℕ) → s < 8 → ChangesAt s P a b → P (token_at s a) (token_at s b)
 at_shard P a b =
     by_shard (λ s. ChangesAt s P a b → P (token_at s a) (token_at s b)) (λ c. c.of0) (λ c. c.of1) (λ c. c.of2) (λ c. c.of3) (λ c. c.of4) (λ c. c.of5) (λ c. c.of6) (λ c. c.of7)
-
--- what is so of a token, at this shard, when something was done at some shard
-kept_if : (Q : ℕ → Token → Type 0) (P : Token → Token → Type 0) (s r : ℕ) (here : Bool) → (s == r) ≡ here → (t u : Token) → ChangesIf here P t u
-    → (P t u → Q s t → Q s u) → Q r t → Q r u
-kept_if Q P s r true is t u c f h =
-    let same : s ≡ r = grind (arith, nat_tests) in
-    subst (λ (n : ℕ). Q n t → Q n u) same (f c) h
-kept_if Q P s r false is t u c f h = subst (Q r) (sym c) h
-
--- what is done at one shard keeps what is so of the tokens of all
-pub kept_all : (Q : ℕ → Token → Type 0) (P : Token → Token → Type 0) (s : ℕ) (a b : Eight) → ChangesAt s P a b
-    → ((t u : Token) → P t u → Q s t → Q s u) → ((r : ℕ) → r < 8 → Q r (token_at r a)) → (r : ℕ) → r < 8 → Q r (token_at r b)
-kept_all Q P s a b c f h r low =
-    by_shard (λ r. Q r (token_at r a) → Q r (token_at r b))
-    (kept_if Q P s 0 (s == 0) refl a.of0 b.of0 c.of0 (f a.of0 b.of0))
-    (kept_if Q P s 1 (s == 1) refl a.of1 b.of1 c.of1 (f a.of1 b.of1))
-    (kept_if Q P s 2 (s == 2) refl a.of2 b.of2 c.of2 (f a.of2 b.of2))
-    (kept_if Q P s 3 (s == 3) refl a.of3 b.of3 c.of3 (f a.of3 b.of3))
-    (kept_if Q P s 4 (s == 4) refl a.of4 b.of4 c.of4 (f a.of4 b.of4))
-    (kept_if Q P s 5 (s == 5) refl a.of5 b.of5 c.of5 (f a.of5 b.of5))
-    (kept_if Q P s 6 (s == 6) refl a.of6 b.of6 c.of6 (f a.of6 b.of6))
-    (kept_if Q P s 7 (s == 7) refl a.of7 b.of7 c.of7 (f a.of7 b.of7))
-    r low (h r low)
 
 -- ---- events that were not decided
 

@@ -1,4 +1,0 @@
-pub mod Entries
-pub mod Shards
-pub mod Upholding
-pub mod Handing

@@ -1,4 +1,0 @@
-pub mod Tokens
-pub mod Verdicts
-pub mod Events
-pub mod Headline

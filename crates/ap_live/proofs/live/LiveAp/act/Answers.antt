@@ -1,0 +1,16 @@
+use Rattle.std.proofs.Common.{sym, subst}
+use Rattle.ap_live.specs.Headline.{OperatorHeadline}
+use Rattle.ap_live.specs.Tokens.{Operator}
+use Rattle.ap_live.proofs.Growing.{acted_at}
+use Rattle.ap_live.proofs.Handing.{acted_holds}
+use Rattle.ap_live.proofs.live.LiveAp.act.Goals as goal
+
+pub returns-clause-headline : goal.returns-clause-headline
+returns-clause-headline g c =
+    let before = c.operator.inside in
+    let old : Operator = record { lines = before.lines; seats = before.seats; shards = before.shards } in
+    let new : Operator = record { lines = before.lines; seats = before.seats; shards = c.act.new.mine } in
+    let outs = c.in_ok-outs.outs.items in
+    subst (λ (o : Operator). OperatorHeadline o c.args.event.now outs new) c.operator.view_is
+    (acted_holds c.run_law.ensures old new c.args.event.now outs
+    (acted_at old new c.args.event.now outs c.in-Some.shard (sym c.in-Some.ensures.is) c.in-Some.ensures.fits c.in_ok-outs.ensures.acted))
