@@ -6,7 +6,7 @@ use Rattle.apd_program.specs.declared.entry.asking.Asking.TheVariants as asking
 
 -- a script is to be run
 abbrev pub is_run : Asked → Bool
-is_run (Run config script workers states quiet) = true
+is_run (Run config script workers states quiet strict verbose) = true
 is_run _ = false
 
 -- it is told apart whether a script is to be run; want of memory says nothing

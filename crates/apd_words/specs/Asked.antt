@@ -20,7 +20,7 @@ pub data Asked : Type 0 where
   Assemble : Text → Asked
   Disassemble : Text → Option Text → Bool → Asked
   Trace : Hook → Text → Text → Option Text → ℕ → Asked
-  Run : Text → Text → ℕ → ℕ → Bool → Asked
+  Run : Text → Text → ℕ → ℕ → Bool → Bool → Bool → Asked
   Certify : Hook → Text → Option Text → ℕ → Asked
   Check : Hook → Text → Text → Option Text → Asked
   Explain : Text → Asked
@@ -68,8 +68,8 @@ asked_of (request.Verify subject explain) = asked_verdict subject
 asked_of (request.Assemble file) = Assemble file.now
 asked_of (request.Disassemble source slots) = asked_listing source slots
 asked_of (request.Trace subject frame) = asked_run subject frame.now
-asked_of (request.Run config script workers states quiet) =
-    Run config.now script.now workers states quiet
+asked_of (request.Run config script workers states quiet strict verbose) =
+    Run config.now script.now workers states quiet strict verbose
 asked_of (request.Certify subject) = asked_certificate subject
 asked_of (request.Check hook source certificate) = asked_check hook source certificate.now
 asked_of (request.Explain number) = Explain number.now
@@ -143,14 +143,15 @@ trace_of rows = do
   states ← states_at rows
   Some (Trace hook file frame (first_of (codes "config") rows) states)
 
--- `run C SCRIPT [--workers N] [--states N] [--quiet]`
+-- `run C SCRIPT [--workers N] [--states N] [--quiet] [--strict] [--verbose]`
 abbrev pub run_of : List Row → Option Asked
 run_of rows = do
   config ← first_of (codes "C") rows
   script ← first_of (codes "SCRIPT") rows
   workers ← option_and_then workers_named (first_of (codes "workers") rows)
   states ← states_at rows
-  Some (Run config script workers states (is_set (codes "quiet") rows))
+  Some (Run config script workers states (is_set (codes "quiet") rows)
+      (is_set (codes "strict") rows) (is_set (codes "verbose") rows))
 
 -- `cert HOOK FILE [--config C] [--states N]`
 abbrev pub certify_of : List Row → Option Asked

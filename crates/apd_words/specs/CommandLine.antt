@@ -93,11 +93,12 @@ abbrev pub trace : ValueParser → Shape
 trace hooks =
     hook_command (codes "trace") hooks (required (codes "FRAME") ∷ config ∷ states ∷ [])
 
--- `run C SCRIPT [--workers N] [--states N] [--quiet]`
+-- `run C SCRIPT [--workers N] [--states N] [--quiet] [--strict] [--verbose]`
 abbrev pub run : ValueParser → Shape
 run numbers =
     command (codes "run") (required (codes "C") ∷ required (codes "SCRIPT")
-    ∷ workers numbers ∷ states ∷ flag (codes "quiet") ∷ [])
+    ∷ workers numbers ∷ states ∷ flag (codes "quiet") ∷ flag (codes "strict")
+    ∷ flag (codes "verbose") ∷ [])
 
 -- `cert HOOK FILE [--config C] [--states N]`
 abbrev pub certify : ValueParser → Shape

@@ -200,10 +200,12 @@ fn run<'a>(alloc: Global, numbers: &'a [&'a str]) -> Made<'a>
     let command = with_arg(command, required(alloc, "SCRIPT", "The script"));
     let command = with_arg(command, workers(alloc, numbers));
     let command = with_arg(command, states(alloc));
-    with_arg(
-        command,
-        flag(alloc, "quiet", "Tell no progress on standard error"),
-    )
+    let quiet = "Tell no progress on standard error";
+    let command = with_arg(command, flag(alloc, "quiet", quiet));
+    let strict = "End after the first refused line, with status 1";
+    let command = with_arg(command, flag(alloc, "strict", strict));
+    let verbose = "Tell on standard error what becomes of each load";
+    with_arg(command, flag(alloc, "verbose", verbose))
 }
 
 fn certify<'a>(alloc: Global, hooks: &'a [&'a str]) -> Made<'a>

@@ -59,13 +59,17 @@ pub enum Request<'a> {
         subject: Subject<'a>,
         frame: &'a str,
     },
-    /// The workers are 1 to 8. `quiet` asks for no progress on standard error.
+    /// The workers are 1 to 8. `quiet` asks for no progress on standard error, `strict` for an end after
+    /// the first interval in which a line was refused, and `verbose` for what becomes of each load, on
+    /// standard error.
     Run {
         config: &'a str,
         script: &'a str,
         workers: u8,
         states: u32,
         quiet: bool,
+        strict: bool,
+        verbose: bool,
     },
     Certify {
         subject: Subject<'a>,

@@ -78,12 +78,16 @@ fn run<'a>(matches: &ArgMatches<'a>) -> Option<Request<'a>>
     let workers = workers_named(value(matches, "workers")?)?;
     let states = states(matches)?;
     let quiet = flag(matches, "quiet");
+    let strict = flag(matches, "strict");
+    let verbose = flag(matches, "verbose");
     Some(Request::Run {
         config,
         script,
         workers,
         states,
         quiet,
+        strict,
+        verbose,
     })
 }
 

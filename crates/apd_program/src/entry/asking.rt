@@ -37,6 +37,7 @@ fn of_request<'a>(request: Request<'a>) -> Asking<'a>
             workers,
             states,
             quiet,
+            ..
         } => {
             let words = RunWords {
                 config,

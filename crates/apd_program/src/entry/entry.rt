@@ -85,8 +85,9 @@ where
     F: Files,
     O: Write + Drop,
     E: Write,
-    ensures run { (config script : List ℕ) (workers states : ℕ) (quiet : Bool)
-        → Spells (map (λ word. word.now) words.entry.now) (Run config script workers states quiet)
+    ensures run { (config script : List ℕ) (workers states : ℕ) (quiet strict verbose : Bool)
+        → Spells (map (λ word. word.now) words.entry.now)
+        (Run config script workers states quiet strict verbose)
         → Runs (O.contents out) (O.contents result.0) none result.1 }
     ensures other { (a : Asked)
         → Spells (map (λ word. word.now) words.entry.now) a → is_run a ≡ false
