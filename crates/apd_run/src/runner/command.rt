@@ -6,7 +6,7 @@ ghost use Rattle.apd_run.specs.Shows.{Runs};
 
 use crate::access::{NewShards, Opening, Supplies, run_live};
 use crate::progress::Watcher;
-use crate::runner::fault::{RunFault, complain, of_script, say_why};
+use crate::runner::fault::{RunFault, complain, of_script, say_if_group, say_why};
 use crate::runner::setup::{configuration, copy_of, read, settings};
 use apd_config::Configuration;
 use apd_files::{FileKind, Files};
@@ -93,6 +93,7 @@ where
         Ok(configuration) => configuration,
         Err(fault) => return (out, complain(alloc, &fault, err)),
     };
+    say_if_group(alloc, words.config, &configuration, err);
     let text = match read(alloc, words.script, FileKind::Script, files) {
         Ok(text) => text,
         Err(fault) => return (out, complain(alloc, &fault, err)),
@@ -100,7 +101,8 @@ where
     let commands = match read_script(alloc, text.as_slice(), &configuration.maps) {
         Ok(commands) => commands,
         Err(fault) => {
-            let fault = of_script(alloc, words.script, fault);
+            let shapes = &configuration.maps;
+            let fault = of_script(alloc, words.script, text.as_slice(), shapes, fault);
             return (out, complain(alloc, &fault, err));
         }
     };
