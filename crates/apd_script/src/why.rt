@@ -453,7 +453,7 @@ fn write_operand<W: fmt::Write>(
 impl fmt::Display for LineFault<'_> {
     fn fmt<W: fmt::Write>(&self, f: &mut fmt::Formatter<W>) -> fmt::Result {
         match *self {
-            LineFault::Capture => f.write_str("a capture: see `apd help frames`"),
+            LineFault::Capture => f.write_str("a capture: see `apd frames`"),
             LineFault::ObjectFile => f.write_str("an object file, and no text"),
             LineFault::ByteOrderMark => f.write_str("a byte order mark"),
             LineFault::Tab => f.write_str("a tab"),
