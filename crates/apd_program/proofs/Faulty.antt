@@ -40,6 +40,7 @@ unread kind file unread_fault.Missing f h m = inr (inl h)
 unread kind file unread_fault.Directory f h m = inr (inl h)
 unread kind file unread_fault.NotAllowed f h m = inr (inl h)
 unread kind file unread_fault.Failed f h m = inr (inl h)
+unread kind file unread_fault.Taken f h m = inr (inl h)
 
 pub file_at_fault : (kind : FileKind) (file : Option (Option (List ℕ))) (e : FileFault) (f : ProgramFault) → IfSome file (IsUnread kind e) → (e ≡ unread_fault.NoMemory → f ≡ NoMemory) → (f ≡ NoMemory) ⊎ IfSome file (IsNoInput kind)
 file_at_fault kind None e f h m = inr tt

@@ -39,10 +39,30 @@ pub struct Subject<'a> {
     pub terms: Terms,
 }
 
-/// What the words ask for. Paths and frames are as they were written. The states that the verifier
+/// What a traced program is told, beside its frame: as it was written, and whether the frame's own fields count.
+#[derive(Clone, Copy)]
+pub struct Given<'a> {
+    pub context: Option<&'a str>,
+    pub from_frame: bool,
+}
+
+/// A script that is to be run, by 1 to 8 workers. `quiet` asks for no progress on standard error, `strict` for an end after
+/// the first interval in which a line was refused, and `verbose` for what becomes of each load, on standard error.
+#[derive(Clone, Copy)]
+pub struct ScriptRun<'a> {
+    pub config: &'a str,
+    pub script: &'a str,
+    pub workers: u8,
+    pub states: u32,
+    pub quiet: bool,
+    pub strict: bool,
+    pub verbose: bool,
+}
+
+/// What is asked for that runs no script. Paths, frames and numbers are as they were written. The states that the verifier
 /// may examine are 1 to 4194304.
 #[derive(Clone, Copy)]
-pub enum Request<'a> {
+pub enum Question<'a> {
     /// `explain` asks for the reason on standard error.
     Verify {
         subject: Subject<'a>,
@@ -51,25 +71,17 @@ pub enum Request<'a> {
     Assemble {
         file: &'a str,
     },
+    /// `raw` asks for all slots, also those that are no instructions.
     Disassemble {
         source: Source<'a>,
         slots: bool,
+        raw: bool,
     },
     Trace {
         subject: Subject<'a>,
         frame: &'a str,
-    },
-    /// The workers are 1 to 8. `quiet` asks for no progress on standard error, `strict` for an end after
-    /// the first interval in which a line was refused, and `verbose` for what becomes of each load, on
-    /// standard error.
-    Run {
-        config: &'a str,
-        script: &'a str,
-        workers: u8,
-        states: u32,
-        quiet: bool,
-        strict: bool,
-        verbose: bool,
+        given: Given<'a>,
+        explain: bool,
     },
     Certify {
         subject: Subject<'a>,
@@ -79,9 +91,9 @@ pub enum Request<'a> {
         source: Source<'a>,
         certificate: &'a str,
     },
-    /// The number is as it was written.
+    /// Without a number the list of all is asked for.
     Explain {
-        number: &'a str,
+        number: Option<&'a str>,
     },
     Frames {
         capture: &'a str,
@@ -91,6 +103,20 @@ pub enum Request<'a> {
     Help {
         command: Option<&'a str>,
     },
+}
+
+/// A question, and the file for its answer, where that isn't for standard output.
+#[derive(Clone, Copy)]
+pub struct Query<'a> {
+    pub question: Question<'a>,
+    pub output: Option<&'a str>,
+}
+
+/// What the words ask for.
+#[derive(Clone, Copy)]
+pub enum Request<'a> {
+    Run(ScriptRun<'a>),
+    Answer(Query<'a>),
 }
 
 /// Words that ask for nothing to be done: what is printed in place of an answer.

@@ -17,7 +17,7 @@ use ap_live::{LiveAp, OperatorToken};
 use ap_locked::Journals;
 use ap_model::Event;
 use ap_queues::Unserved;
-use apd_files::Files;
+use apd_files::{Files, path_of_word};
 use apd_script::{Command, MapWord};
 use bpf_regions::{Hook, Scope};
 use std::marker::{Model, PhantomData};
@@ -76,7 +76,8 @@ impl<'a, B: Ledgers + Journals, L: Publications, F: Files> LiveOperator<'a, B, L
     {
         let limit = self.sources.limit;
         let files = &mut *self.sources.files;
-        self.loads.load(rt, files, hook, path, limit)
+        self.loads
+            .load(rt, files, hook, path_of_word(path), limit)
     }
 
     /// Adopts a program for a hook, with its certificate.
@@ -85,7 +86,9 @@ impl<'a, B: Ledgers + Journals, L: Publications, F: Files> LiveOperator<'a, B, L
         ensures nothing { told_counts result ≡ none }
     {
         let files = &mut *self.sources.files;
-        self.loads.adopt(rt, files, hook, path, certificate)
+        let certificate = path_of_word(certificate);
+        self.loads
+            .adopt(rt, files, hook, path_of_word(path), certificate)
     }
 
     /// Leaves a hook without a program.
