@@ -248,12 +248,12 @@ disassemble_with_ends : (file config : Text) → end_fault (leaf disassemble) (l
 unfolding clap_on_literals
 disassemble_with_ends file config = refl
 
-disassemble_asks : (file : Text) → command_asks (leaf disassemble).name (finished (leaf disassemble).rules (listed file)) ≡ Some (Disassemble file None false false)
+disassemble_asks : (file : Text) → command_asks (leaf disassemble).name (finished (leaf disassemble).rules (listed file)) ≡ Some (Disassemble file None false)
 unfolding clap_on_literals
 disassemble_asks file = refl
 
 disassemble_with_asks : (file config : Text)
-    → command_asks (leaf disassemble).name (finished (leaf disassemble).rules (listed_with file config)) ≡ Some (Disassemble file (Some config) false false)
+    → command_asks (leaf disassemble).name (finished (leaf disassemble).rules (listed_with file config)) ≡ Some (Disassemble file (Some config) false)
 unfolding clap_on_literals
 disassemble_with_asks file config = refl
 
@@ -269,7 +269,7 @@ disassemble_with_output : (file config : Text) → first_of (codes "output") (fi
 unfolding clap_on_literals
 disassemble_with_output file config = refl
 
-pub disassemble_plain : (program file : Text) → IsOperand file → Spells (program ∷ codes "disasm" ∷ file ∷ []) (Answer (Disassemble file None false false) None)
+pub disassemble_plain : (program file : Text) → IsOperand file → Spells (program ∷ codes "disasm" ∷ file ∷ []) (Answer (Disassemble file None false) None)
 disassemble_plain program file f p q t u =
     let passes = disassemble_operand file (plain file f) (no_more _ _) in
     record {
@@ -278,7 +278,7 @@ disassemble_plain program file f p q t u =
     }
 
 pub disassemble_configured : (program file config : Text) → IsOperand file → IsOperand config
-    → Spells (program ∷ codes "disasm" ∷ file ∷ codes "--config" ∷ config ∷ []) (Answer (Disassemble file (Some config) false false) None)
+    → Spells (program ∷ codes "disasm" ∷ file ∷ codes "--config" ∷ config ∷ []) (Answer (Disassemble file (Some config) false) None)
 disassemble_configured program file config f c p q t u =
     let passes = disassemble_operand file (plain file f) (disassemble_option file config (plain config c)) in
     record {

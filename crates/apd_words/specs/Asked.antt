@@ -9,13 +9,14 @@ use Rattle.clap.specs.Words.{Row, Text, first_of}
 use Rattle.bpf_regions.specs.declared.hooks.Hook.{Hook}
 use Rattle.bpf_regions.specs.declared.hooks.Hook.TheVariants.{Association, Addba, Data}
 use Rattle.apd_words.specs.CommandLine.{most_states}
-use Rattle.apd_words.specs.declared.Given.{Given}
+use Rattle.apd_words.specs.declared.Claim.{Claim}
 use Rattle.apd_words.specs.declared.Query.{Query}
 use Rattle.apd_words.specs.declared.Question.{Question}
 use Rattle.apd_words.specs.declared.Request.{Request}
 use Rattle.apd_words.specs.declared.ScriptRun.{ScriptRun}
 use Rattle.apd_words.specs.declared.Source.{Source}
 use Rattle.apd_words.specs.declared.Subject.{Subject}
+use Rattle.apd_words.specs.declared.Trial.{Trial}
 use Rattle.apd_words.specs.declared.Question.TheVariants as question
 use Rattle.apd_words.specs.declared.Request.TheVariants as request
 
@@ -23,7 +24,8 @@ use Rattle.apd_words.specs.declared.Request.TheVariants as request
 pub data Asked : Type 0 where
   Verify : Hook → Text → Option Text → ℕ → Asked
   Assemble : Text → Asked
-  Disassemble : Text → Option Text → Bool → Bool → Asked
+  Disassemble : Text → Option Text → Bool → Asked
+  ListRaw : Text → Option Text → Bool → Asked
   Trace : Hook → Text → Text → Option Text → ℕ → Option Text → Bool → Asked
   Certify : Hook → Text → Option Text → ℕ → Asked
   Check : Hook → Text → Text → Option Text → Asked
@@ -53,15 +55,20 @@ abbrev pub asked_verdict : Subject → Asked
 asked_verdict subject =
     Verify subject.terms.hook subject.source.file.now (config_of subject.source) subject.terms.states
 
--- the text of a source, with slots or without, of all slots or of instructions alone
-abbrev pub asked_listing : Source → Bool → Bool → Asked
-asked_listing source slots raw = Disassemble source.file.now (config_of source) slots raw
+-- the text of a source, with slots or without
+abbrev pub asked_listing : Source → Bool → Asked
+asked_listing source slots = Disassemble source.file.now (config_of source) slots
+
+-- the same of all slots, also those that are no instructions
+abbrev pub asked_slots : Source → Bool → Asked
+asked_slots source slots = ListRaw source.file.now (config_of source) slots
 
 -- the run of a subject on a frame, with what it is told
-abbrev pub asked_run : Subject → Text → Given → Asked
-asked_run subject frame given =
-    Trace subject.terms.hook subject.source.file.now frame (config_of subject.source)
-    subject.terms.states (text_of given.context) given.from_frame
+abbrev pub asked_run : Trial → Asked
+asked_run trial =
+    Trace trial.subject.terms.hook trial.subject.source.file.now trial.frame.now
+    (config_of trial.subject.source) trial.subject.terms.states
+    (text_of trial.given.context) trial.given.from_frame
 
 -- the certificate of a subject
 abbrev pub asked_certificate : Subject → Asked
@@ -69,17 +76,19 @@ asked_certificate subject =
     Certify subject.terms.hook subject.source.file.now (config_of subject.source) subject.terms.states
 
 -- what a certificate shows of a source, for a hook
-abbrev pub asked_check : Hook → Source → Text → Asked
-asked_check hook source certificate = Check hook source.file.now certificate (config_of source)
+abbrev pub asked_check : Claim → Asked
+asked_check claim =
+    Check claim.hook claim.source.file.now claim.certificate.now (config_of claim.source)
 
 -- what a question asks for; `--explain` asks for nothing but a text on standard error
 abbrev pub asked_of : Question → Asked
 asked_of (question.Verify subject explain) = asked_verdict subject
 asked_of (question.Assemble file) = Assemble file.now
-asked_of (question.Disassemble source slots raw) = asked_listing source slots raw
-asked_of (question.Trace subject frame given explain) = asked_run subject frame.now given
+asked_of (question.Disassemble source slots) = asked_listing source slots
+asked_of (question.ListRaw source slots) = asked_slots source slots
+asked_of (question.Trace trial) = asked_run trial
 asked_of (question.Certify subject) = asked_certificate subject
-asked_of (question.Check hook source certificate) = asked_check hook source certificate.now
+asked_of (question.Check claim) = asked_check claim
 asked_of (question.Explain number) = Explain (text_of number)
 asked_of (question.Frames capture ticks) = Frames capture.now ticks
 asked_of (question.Help command) = Help (text_of command)
@@ -154,8 +163,9 @@ assemble_of rows = do
 abbrev pub disassemble_of : List Row → Option Asked
 disassemble_of rows = do
   file ← first_of (codes "FILE") rows
-  Some (Disassemble file (first_of (codes "config") rows)
-      (is_set (codes "slots") rows) (is_set (codes "raw") rows))
+  (if is_set (codes "raw") rows
+      then Some (ListRaw file (first_of (codes "config") rows) (is_set (codes "slots") rows))
+      else Some (Disassemble file (first_of (codes "config") rows) (is_set (codes "slots") rows)))
 
 -- `trace HOOK FILE FRAME [--config C] [--states N] [--context KEY=VALUE,..] [--from-frame]
 -- [--explain]`

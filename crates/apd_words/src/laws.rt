@@ -34,10 +34,10 @@ pub fn assemble_law()
 /// or C begins with a hyphen.
 pub fn disassemble_law()
     ensures plain { (program file : List ℕ) → IsOperand file
-        → Spells (program ∷ codes "disasm" ∷ file ∷ []) (Answer (Disassemble file None false false) None) }
+        → Spells (program ∷ codes "disasm" ∷ file ∷ []) (Answer (Disassemble file None false) None) }
     ensures configured { (program file config : List ℕ) → IsOperand file → IsOperand config
         → Spells (program ∷ codes "disasm" ∷ file ∷ codes "--config" ∷ config ∷ [])
-        (Answer (Disassemble file (Some config) false false) None) }
+        (Answer (Disassemble file (Some config) false) None) }
 {}
 
 /// The law of `apd trace HOOK FILE FRAME`, with `--config C` or `--states N`: the words ask for what they

@@ -46,6 +46,23 @@ pub struct Given<'a> {
     pub from_frame: bool,
 }
 
+/// A program that is to be verified, and run on a frame. `explain` asks for the reason on standard error.
+#[derive(Clone, Copy)]
+pub struct Trial<'a> {
+    pub subject: Subject<'a>,
+    pub frame: &'a str,
+    pub given: Given<'a>,
+    pub explain: bool,
+}
+
+/// A program with the file of a certificate that is to show it safe for a hook.
+#[derive(Clone, Copy)]
+pub struct Claim<'a> {
+    pub hook: Hook,
+    pub source: Source<'a>,
+    pub certificate: &'a str,
+}
+
 /// A script that is to be run, by 1 to 8 workers. `quiet` asks for no progress on standard error, `strict` for an end after
 /// the first interval in which a line was refused, and `verbose` for what becomes of each load, on standard error.
 #[derive(Clone, Copy)]
@@ -71,26 +88,20 @@ pub enum Question<'a> {
     Assemble {
         file: &'a str,
     },
-    /// `raw` asks for all slots, also those that are no instructions.
     Disassemble {
         source: Source<'a>,
         slots: bool,
-        raw: bool,
     },
-    Trace {
-        subject: Subject<'a>,
-        frame: &'a str,
-        given: Given<'a>,
-        explain: bool,
+    /// All slots are asked for, also those that are no instructions.
+    ListRaw {
+        source: Source<'a>,
+        slots: bool,
     },
+    Trace(Trial<'a>),
     Certify {
         subject: Subject<'a>,
     },
-    Check {
-        hook: Hook,
-        source: Source<'a>,
-        certificate: &'a str,
-    },
+    Check(Claim<'a>),
     /// Without a number the list of all is asked for.
     Explain {
         number: Option<&'a str>,

@@ -7,7 +7,7 @@ ghost use Rattle.clap.specs.Walk.{first_of, rows_of};
 ghost use Rattle.apd_words.specs.Asked.{asked_of, command_asks, answers_to, wanted_of, wanted_in, asked_verdict, asked_certificate, hook_named, hook_at, workers_named, states_named, states_at, verify_of, assemble_of, disassemble_of, trace_of, run_of, certify_of, check_of, explain_of, frames_of, help_of, is_set};
 
 use crate::command::MOST_STATES;
-use crate::{Given, Query, Question, Request, ScriptRun, Source, Subject, Terms};
+use crate::{Claim, Given, Query, Question, Request, ScriptRun, Source, Subject, Terms, Trial};
 use bpf_regions::Hook;
 use clap::ArgMatches;
 
@@ -71,9 +71,12 @@ fn disassemble<'a>(matches: &ArgMatches<'a>) -> Option<Question<'a>>
     let file = value(matches, "FILE")?;
     let config = value(matches, "config");
     let slots = flag(matches, "slots");
-    let raw = flag(matches, "raw");
     let source = Source { file, config };
-    Some(Question::Disassemble { source, slots, raw })
+    if flag(matches, "raw") {
+        Some(Question::ListRaw { source, slots })
+    } else {
+        Some(Question::Disassemble { source, slots })
+    }
 }
 
 fn trace<'a>(matches: &ArgMatches<'a>) -> Option<Question<'a>>
@@ -87,12 +90,12 @@ fn trace<'a>(matches: &ArgMatches<'a>) -> Option<Question<'a>>
     let explain = flag(matches, "explain");
     let source = Source { file, config };
     let terms = Terms { hook, states };
-    Some(Question::Trace {
+    Some(Question::Trace(Trial {
         subject: Subject { source, terms },
         frame,
         given: given(matches),
         explain,
-    })
+    }))
 }
 
 fn run<'a>(matches: &ArgMatches<'a>) -> Option<Request<'a>>
@@ -131,11 +134,11 @@ fn check<'a>(matches: &ArgMatches<'a>) -> Option<Question<'a>>
     let certificate = value(matches, "CERT")?;
     let config = value(matches, "config");
     let source = Source { file, config };
-    Some(Question::Check {
+    Some(Question::Check(Claim {
         hook,
         source,
         certificate,
-    })
+    }))
 }
 
 fn explain<'a>(matches: &ArgMatches<'a>) -> Option<Question<'a>>
