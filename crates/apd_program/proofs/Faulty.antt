@@ -1,6 +1,6 @@
 -- What is at fault in files.
 use Rattle.std.proofs.Math.Nat.{lt_of_not-le}
-use Rattle.std.proofs.Common.{◌≡◌, ◌≢◌, ◌⊎◌, ◌<◌, ◌≤◌, ◌^◌, true, false, length, List, ℕ, Err, Option, None, Some, inl, inr, refl, subst}
+use Rattle.std.proofs.Common.{◌≡◌, ◌≢◌, ◌⊎◌, ◌<◌, ◌≤◌, ◌^◌, Bool, true, false, length, List, ℕ, Err, Option, None, Some, inl, inr, refl, subst}
 use Rattle.std.specs.Prelude.{IfSome}
 use Rattle.hex.specs.Hex.{decode_of}
 use Rattle.hex.specs.declared.error.FromHexError.{FromHexError}
@@ -26,7 +26,7 @@ use Rattle.apd_files.specs.declared.inputs.code.CodeFault.TheVariants as read
 use Rattle.apd_files.specs.Faults.{IsFaultOf}
 use Rattle.apd_files.specs.Held.{Held, Holds, IsNoInput, IsUnread}
 use Rattle.apd_program.specs.Setups.{Configures, IsLoaded}
-use Rattle.apd_program.specs.Faults.{IsMemoryOr, IsBadSource, HasBadCode, HasBadDigits, NoFile, NoCode, HasBadConfiguration, NoConfiguration, IsBadConfig, HasBadCapture, NoCapture, IsAtFault, OfConfiguration, OfCode, IsNoFrame, NoDigits, HasNoFrame, OfFiles, OfWord, HasNoCertificate, OfOthers, OfCertificate}
+use Rattle.apd_program.specs.Faults.{IsMemoryOr, IsBadSource, HasBadCode, HasBadDigits, NoFile, NoCode, HasBadConfiguration, NoConfiguration, IsBadConfig, HasBadCapture, NoCapture, IsAtFault, OfConfiguration, OfCode, IsNoFrame, NoDigits, OfFiles, OfWord, IsGiven, HasNoTrial, OfFrame, OfContext, HasNoCertificate, OfOthers, OfCertificate}
 
 pub code_at_fault : (kind : FileKind) (files : Held) (path : List ℕ) (e : CodeFault) (f : ProgramFault) → IsFaultOf kind files path e → (e ≡ read.NoMemory → f ≡ NoMemory) → (f ≡ NoMemory) ⊎ HasBadDigits kind files path
 code_at_fault kind files path read.NoMemory f h m = inl (m refl)
@@ -99,13 +99,19 @@ IsAtFault-code files later file config setup e same fine (inr bad) =
     inr (OfCode config setup fine (let P : Held → Type 0 = λ f. HasBadCode f file in subst P same bad))
 
 module _ (files : Held) (source : Source) where
-  pub HasNoFrame-files : (word : List ℕ) (e : ProgramFault) → IsMemoryOr (IsBadSource files source) e → IsMemoryOr (HasNoFrame files source.file.now word (config_of source)) e
-  HasNoFrame-files word e (inl memory) = inl memory
-  HasNoFrame-files word e (inr fault) = inr (OfFiles fault)
+  pub HasNoTrial-files : (word : List ℕ) (words : Option (List ℕ)) (from_frame : Bool) (e : ProgramFault) → IsMemoryOr (IsBadSource files source) e → IsMemoryOr (HasNoTrial files source.file.now word (config_of source) words from_frame) e
+  HasNoTrial-files word words from_frame e (inl memory) = inl memory
+  HasNoTrial-files word words from_frame e (inr fault) = inr (OfFrame (OfFiles fault))
 
-  pub HasNoFrame-word : (word : List ℕ) (loaded : Loaded) (e : ProgramFault) → IsLoaded files source loaded → IsMemoryOr (IsNoFrame word) e → IsMemoryOr (HasNoFrame files source.file.now word (config_of source)) e
-  HasNoFrame-word word loaded e h (inl memory) = inl memory
-  HasNoFrame-word word loaded e h (inr bad) = inr (OfWord loaded.setup h.kept.code h.configured h.kept.held bad)
+  pub HasNoTrial-word : (word : List ℕ) (words : Option (List ℕ)) (from_frame : Bool) (loaded : Loaded) (e : ProgramFault) → IsLoaded files source loaded → IsMemoryOr (IsNoFrame word) e
+      → IsMemoryOr (HasNoTrial files source.file.now word (config_of source) words from_frame) e
+  HasNoTrial-word word words from_frame loaded e h (inl memory) = inl memory
+  HasNoTrial-word word words from_frame loaded e h (inr bad) = inr (OfFrame (OfWord loaded.setup h.kept.code h.configured h.kept.held bad))
+
+  pub HasNoTrial-given : (word : List ℕ) (words : Option (List ℕ)) (from_frame : Bool) (e : ProgramFault) → IsMemoryOr (IsGiven words from_frame) e
+      → IsMemoryOr (HasNoTrial files source.file.now word (config_of source) words from_frame) e
+  HasNoTrial-given word words from_frame e (inl memory) = inl memory
+  HasNoTrial-given word words from_frame e (inr given) = inr (OfContext given)
 
   pub HasNoCertificate-others : (certificate : List ℕ) (e : ProgramFault) → IsMemoryOr (IsBadSource files source) e → IsMemoryOr (HasNoCertificate files source.file.now certificate (config_of source)) e
   HasNoCertificate-others certificate e (inl memory) = inl memory

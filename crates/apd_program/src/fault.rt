@@ -3,8 +3,9 @@
 ghost use Rattle.std.specs.Prelude.{◌≡◌};
 ghost use Rattle.apd_program.specs.declared.fault.ProgramFault.TheVariants.{NoMemory};
 
-use apd_config::ConfigFault;
+use apd_config::{ConfigFault, fault_text};
 use apd_files::{CodeFault, DigitFault, FileFault, shown};
+use apd_text::ContextFault;
 use capture::CaptureFault;
 use hex::FromHexError;
 use std::alloc::{AllocError, Global};
@@ -26,16 +27,20 @@ pub(crate) enum ProgramFault {
     OddDigits(String),
     Config {
         path: String,
-        fault: ConfigFault,
+        why: String,
     },
     Capture {
         path: String,
         fault: CaptureFault,
     },
-    NoPage(String),
+    NoPage {
+        word: String,
+        ranges: String,
+    },
     NoCommand(String),
     LongFrame,
-    NotThere(&'static str),
+    Context(String),
+    NoThreads,
     NoMemory,
 }
 
@@ -49,15 +54,19 @@ impl fmt::Display for ProgramFault {
                 "apd: {path}: line {line}: `{found}` is no hex digit (`apd asm` takes assembler text)"
             ),
             ProgramFault::OddDigits(name) => write!(f, "apd: {name}: an odd number of hex digits"),
-            ProgramFault::Config { path, fault } => write!(f, "apd: {path}: {fault}"),
+            ProgramFault::Config { path, why } => write!(f, "apd: {path}: {why}"),
             ProgramFault::Capture { path, fault } => write!(f, "apd: {path}: {fault}"),
-            ProgramFault::NoPage(word) => write!(f, "apd: no refusal has the number `{word}`"),
+            ProgramFault::NoPage { word, ranges } => write!(
+                f,
+                "apd: no refusal has the number `{word}`; there are {ranges}"
+            ),
             ProgramFault::NoCommand(word) => write!(
                 f,
                 "apd: there is no command `{word}`; `apd help` lists them"
             ),
             ProgramFault::LongFrame => f.write_str("apd: FRAME: more than 2400 bytes"),
-            ProgramFault::NotThere(name) => write!(f, "apd: `{name}` is not there yet"),
+            ProgramFault::Context(why) => write!(f, "apd: {why}"),
+            ProgramFault::NoThreads => f.write_str("apd: a script is run by threads alone"),
             ProgramFault::NoMemory => f.write_str("apd: out of memory"),
         }
     }
@@ -133,8 +142,13 @@ fn shown_byte(alloc: Global, byte: u8) -> Result<String, AllocError> {
     }
 }
 
-/// The fault of a file that is no configuration.
-pub(crate) fn of_configuration(alloc: Global, path: &str, fault: ConfigFault) -> ProgramFault
+/// The fault of a file with this text, which is no configuration.
+pub(crate) fn of_configuration(
+    alloc: Global,
+    path: &str,
+    text: &[u8],
+    fault: ConfigFault,
+) -> ProgramFault
     ensures memory { fault ≡ ConfigFault.NoMemory → result ≡ ProgramFault.NoMemory }
 {
     let Ok(path) = shown(alloc, path) else {
@@ -142,7 +156,21 @@ pub(crate) fn of_configuration(alloc: Global, path: &str, fault: ConfigFault) ->
     };
     match fault {
         ConfigFault::NoMemory => ProgramFault::NoMemory,
-        fault => ProgramFault::Config { path, fault },
+        fault => match fault_text(alloc, text, &fault) {
+            Ok(why) => ProgramFault::Config { path, why },
+            Err(AllocError) => ProgramFault::NoMemory,
+        },
+    }
+}
+
+/// The fault of what a traced program is to be told.
+pub(crate) fn of_context(alloc: Global, fault: ContextFault<'_>) -> ProgramFault {
+    let Ok(why) = format!(in alloc; "{fault}") else {
+        return ProgramFault::NoMemory;
+    };
+    match shown(alloc, why.as_str()) {
+        Ok(why) => ProgramFault::Context(why),
+        Err(AllocError) => ProgramFault::NoMemory,
     }
 }
 

@@ -28,6 +28,8 @@ mod lines;
 #[cfg(test)]
 mod memory;
 #[cfg(test)]
+mod options;
+#[cfg(test)]
 mod refusals;
 #[cfg(test)]
 mod running;
