@@ -355,6 +355,7 @@ fn shape_named(shapes: &Shapes, map: &str) -> Option<Shape> {
 }
 
 /// A word as it can be repeated in a message: its first characters, control characters escaped.
+#[derive(Clone, Copy)]
 struct Shown<'a>(&'a str);
 
 impl fmt::Display for Shown<'_> {
@@ -427,6 +428,18 @@ fn write_operand<W: fmt::Write>(
         OperandFault::NoHook => {
             write!(f, "{keyword}: `{shown}` is no hook (assoc, addba or data)")
         }
+        _ => write_map_operand(f, keyword, shown, fault),
+    }
+}
+
+/// Tells the fault of a word that a command for maps has.
+fn write_map_operand<W: fmt::Write>(
+    f: &mut fmt::Formatter<W>,
+    keyword: &str,
+    shown: Shown<'_>,
+    fault: OperandFault,
+) -> fmt::Result {
+    match fault {
         OperandFault::NoNumber => write!(f, "{keyword}: `{shown}` is no number of a map"),
         OperandFault::NoMap(0) => write!(f, "map {shown}: the configuration has none"),
         OperandFault::NoMap(count) => write!(f, "map {shown}: the configuration has {count}"),
@@ -444,9 +457,7 @@ fn write_operand<W: fmt::Write>(
         OperandFault::OtherScope(Scope::Worker) => {
             write!(f, "{keyword}: each worker has its own map {shown}: `sum` reads it")
         }
-        OperandFault::NoValue => {
-            write!(f, "{keyword}: a value is 0 to 18446744073709551615")
-        }
+        _ => write!(f, "{keyword}: a value is 0 to 18446744073709551615"),
     }
 }
 

@@ -327,14 +327,15 @@ fn address_of(text: &str) -> Option<[u8; 6]> {
     let mut count: usize = 0;
     for byte in text.bytes() {
         if byte != b':' {
-            *digits.get_mut(count)? = byte;
+            let digit = digits.get_mut(count)?;
+            *digit = byte;
             count = count.saturating_add(1);
         }
     }
     if count != 12 || (text.len() != 12 && text.len() != 17) {
         return None;
     }
-    <[u8; 6] as FromHex>::from_hex(digits).ok()
+    <[u8; 6] as FromHex>::from_hex(digits.as_slice()).ok()
 }
 
 /// The numbers that the hook tells beside the common ones.

@@ -1,8 +1,8 @@
-use Rattle.std.proofs.Common.{◌≡◌, ◌⊎◌, Bool, true, false, List, ℕ, Option, None, Some, Result, Ok, Err, IfOk, IsOk, refl, inr}
-use Rattle.std.specs.Prelude.{slice_index}
-use Rattle.bpf_regions.specs.declared.hooks.Hook.{Hook}
-use Rattle.bpf_regions.specs.Hooks.{number_of}
-use Rattle.apd_text.specs.Trace.{context_of}
-use Rattle.apd_program.specs.Setups.{IsContext}
-use Rattle.apd_program.specs.Faults.{IsGiven}
+use Rattle.apd_program.proofs.Faulty.{IsContext-of, IsGiven-of}
 use Rattle.apd_program.proofs.program.context.Goals as goal
+
+pub returns-in-Ok-clause-context : goal.returns-in-Ok-clause-context
+returns-in-Ok-clause-context c = IsContext-of c.args.hook c.args.given.context c.args.given.from_frame _ c.in-Ok.ensures.zeros c.in-Ok.ensures.hook
+
+pub returns-in-Err-clause-fault : goal.returns-in-Err-clause-fault
+returns-in-Err-clause-fault c = IsGiven-of c.args.given.context c.args.given.from_frame _ c.in-Err.ensures.plain
