@@ -40,7 +40,7 @@ Performs-delivered files a answer output old new r status is (Nothing kept) e = 
 complained : (files : Held) (a : Asked) (output o : Option (List ℕ)) (f : ProgramFault) → (f ≡ fault.NoMemory) ⊎ HasNoAnswer files a → Performs files a output o o (fault_status f)
 complained files a output o fault.NoMemory h = Exhausted (Keeps-same o)
 complained files a output o (fault.Unreadable path why) (inl memory) = cc
-complained files a output o (fault.NoCode path line found) (inl memory) = cc
+complained files a output o (fault.NoCode path f) (inl memory) = cc
 complained files a output o (fault.Capture path f) (inl memory) = cc
 complained files a output o (fault.NoPage word ranges) (inl memory) = cc
 complained files a output o (fault.Context why) (inl memory) = cc
@@ -51,7 +51,7 @@ complained files a output o (fault.OddDigits path) (inl memory) = cc
 complained files a output o (fault.Config path f) (inl memory) = cc
 complained files a output o fault.LongFrame (inl memory) = cc
 complained files a output o (fault.Unreadable path why) (inr h) = Refrained h (Keeps-same o)
-complained files a output o (fault.NoCode path line found) (inr h) = Refrained h (Keeps-same o)
+complained files a output o (fault.NoCode path f) (inr h) = Refrained h (Keeps-same o)
 complained files a output o (fault.Capture path f) (inr h) = Refrained h (Keeps-same o)
 complained files a output o (fault.NoPage word ranges) (inr h) = Refrained h (Keeps-same o)
 complained files a output o (fault.Context why) (inr h) = Refrained h (Keeps-same o)

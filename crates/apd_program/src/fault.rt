@@ -21,8 +21,7 @@ pub(crate) enum ProgramFault {
     NoDigits(String),
     NoCode {
         path: String,
-        line: u64,
-        found: String,
+        fault: DigitFault,
     },
     OddDigits(String),
     Config {
@@ -49,10 +48,9 @@ impl fmt::Display for ProgramFault {
         match self {
             ProgramFault::Unreadable { path, why } => write!(f, "apd: cannot read {path}: {why}"),
             ProgramFault::NoDigits(name) => write!(f, "apd: {name}: not hex digits"),
-            ProgramFault::NoCode { path, line, found } => write!(
-                f,
-                "apd: {path}: line {line}: `{found}` is no hex digit (`apd asm` takes assembler text)"
-            ),
+            ProgramFault::NoCode { path, fault } => {
+                write!(f, "apd: {path}: {fault} (`apd asm` takes assembler text)")
+            }
             ProgramFault::OddDigits(name) => write!(f, "apd: {name}: an odd number of hex digits"),
             ProgramFault::Config { path, why } => write!(f, "apd: {path}: {why}"),
             ProgramFault::Capture { path, fault } => write!(f, "apd: {path}: {fault}"),
@@ -126,19 +124,7 @@ fn of_code(alloc: Global, path: &str, fault: DigitFault) -> ProgramFault {
     };
     match fault {
         DigitFault::Odd => ProgramFault::OddDigits(path),
-        DigitFault::Foreign { line, byte } => match shown_byte(alloc, byte) {
-            Ok(found) => ProgramFault::NoCode { path, line, found },
-            Err(AllocError) => ProgramFault::NoMemory,
-        },
-    }
-}
-
-/// A byte as it can be read in a message.
-fn shown_byte(alloc: Global, byte: u8) -> Result<String, AllocError> {
-    if byte.is_ascii_graphic() {
-        format!(in alloc; "{}", char::from(byte))
-    } else {
-        format!(in alloc; "\\x{byte:02x}")
+        fault => ProgramFault::NoCode { path, fault },
     }
 }
 
