@@ -151,12 +151,28 @@ pub fn context_for<'a>(
         → IfOk result (λ context. context ≡ context_of hook) }
     ensures hook { IfOk result (λ context. slice_index context 6 ≡ number_of hook) }
 {
-    if words.is_none() && !from_frame {
-        return Ok(zeros(hook));
+    if from_frame {
+        return given(hook, Some(frame), words);
     }
+    match words {
+        None => return Ok(zeros(hook)),
+        Some(_) => return given(hook, None, words),
+    }
+}
+
+/// The context of words' values, and before them of a frame's own.
+fn given<'a>(
+    hook: Hook,
+    frame: Option<&[u8]>,
+    words: Option<&'a str>,
+) -> Result<Context, ContextFault<'a>>
+    ensures hook { IfOk result (λ context. slice_index context 6 ≡ number_of hook) }
+{
     let mut bytes = [0; 32];
-    if from_frame && read_frame(hook, frame, &mut bytes).is_none() {
-        return Err(ContextFault::OtherFrame(hook));
+    if let Some(frame) = frame {
+        if read_frame(hook, frame, &mut bytes).is_none() {
+            return Err(ContextFault::OtherFrame(hook));
+        }
     }
     if let Some(words) = words {
         read_words(hook, words, &mut bytes)?;
