@@ -23,11 +23,7 @@ struct Sought<'a> {
 
 /// The fault of a text that is no configuration, in words, with the line where it stands, if it stands at one that is
 /// found. Nothing is promised of the words.
-pub fn fault_text(
-    alloc: Global,
-    text: &[u8],
-    fault: &ConfigFault,
-) -> Result<String, AllocError> {
+pub fn fault_text(alloc: Global, text: &[u8], fault: &ConfigFault) -> Result<String, AllocError> {
     let more = advice(text, fault);
     match line_of(text, fault) {
         Some(line) => format!(in alloc; "line {line}: {fault}{more}"),

@@ -103,8 +103,7 @@ fn told(alloc: Global, place: &str, number: u8) -> Result<Option<String>, AllocE
 const CERTIFICATE: &[u8] = b"APC2";
 
 /// What is told where code begins so.
-const EXCHANGED: &str =
-    "apd: the code file begins like a certificate: are the two exchanged?\n";
+const EXCHANGED: &str = "apd: the code file begins like a certificate: are the two exchanged?\n";
 
 /// What makes code no program for maps of these shapes: its first fault, and each slot that is no instruction.
 fn faults_of(alloc: Global, code: &[u8], shapes: Shapes) -> Result<String, AllocError> {

@@ -14,28 +14,13 @@ use std::fmt;
 /// Why a command gives no answer. Its text is told on standard error.
 #[derive(Drop)]
 pub(crate) enum ProgramFault {
-    Unreadable {
-        path: String,
-        why: FileFault,
-    },
+    Unreadable { path: String, why: FileFault },
     NoDigits(String),
-    NoCode {
-        path: String,
-        fault: DigitFault,
-    },
+    NoCode { path: String, fault: DigitFault },
     OddDigits(String),
-    Config {
-        path: String,
-        why: String,
-    },
-    Capture {
-        path: String,
-        fault: CaptureFault,
-    },
-    NoPage {
-        word: String,
-        ranges: String,
-    },
+    Config { path: String, why: String },
+    Capture { path: String, fault: CaptureFault },
+    NoPage { word: String, ranges: String },
     NoCommand(String),
     LongFrame,
     Context(String),

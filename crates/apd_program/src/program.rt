@@ -21,9 +21,7 @@ use crate::verifying::Stimulus;
 use crate::{certifying, explaining, framing, helping, hints, texts, verifying};
 use apd_files::{FileKind, Files};
 use apd_text::context_for;
-use apd_words::{
-    Claim, Given, Query, Question, Request, Source, Subject, Told, Trial, read_words,
-};
+use apd_words::{Claim, Given, Query, Question, Request, Source, Subject, Told, Trial, read_words};
 use bpf_regions::{Context, Frame, Hook};
 use std::alloc::Global;
 use std::io::Write;
@@ -54,12 +52,7 @@ pub fn apd_main<'a, F: Files, O: Write, E: Write>(
 }
 
 /// Tells what the words came to that ask for nothing to be done, and answers the status.
-pub(crate) fn tell<O: Write, E: Write>(
-    alloc: Global,
-    told: &Told,
-    out: &mut O,
-    err: &mut E,
-) -> u8
+pub(crate) fn tell<O: Write, E: Write>(alloc: Global, told: &Told, out: &mut O, err: &mut E) -> u8
     ensures is { Tells told.now (O.contents out.old) (O.contents out.new) result }
 {
     match told {

@@ -5,8 +5,7 @@ use crate::line::{cut_words, next_word};
 use crate::read::first_line;
 use crate::words::{address, hook_named, number, number_below};
 use bpf_regions::{Scope, Shape, Shapes};
-use std::fmt;
-use std::str;
+use std::{fmt, str};
 
 /// Why a line is malformed. It is displayed in words, of which nothing is promised.
 #[derive(Clone, Copy, Debug)]
@@ -198,24 +197,42 @@ fn line_at(text: &[u8], number: u64) -> &[u8] {
 
 /// Why the words of a line are no command.
 fn command_fault<'a>(shapes: &Shapes, line: &'a str) -> Option<LineFault<'a>> {
-    let (word, rest) = next_word(line)?;
-    let Some(form) = form_of(word) else {
-        let near = near(word);
-        return Some(LineFault::UnknownWord { word, near });
-    };
+    match next_word(line) {
+        Some((word, rest)) => match form_of(word) {
+            Some(form) => form_fault(shapes, form, rest),
+            None => Some(LineFault::UnknownWord {
+                word,
+                near: near(word),
+            }),
+        },
+        None => None,
+    }
+}
+
+/// Why what follows a command's name is nothing that it takes.
+fn form_fault<'a>(shapes: &Shapes, form: Form, rest: &'a str) -> Option<LineFault<'a>> {
     let mut operands = [""; 4];
-    let words = match cut_words(rest, &mut operands) {
-        Some(count) if count == form.operands.len() => &operands[..count],
-        _ => return Some(LineFault::Operands(form)),
-    };
-    let (place, fault) = first_fault(shapes, form, words)?;
-    let word = *words.get(place)?;
-    let keyword = form.keyword;
-    Some(LineFault::Operand {
-        keyword,
-        word,
-        fault,
-    })
+    match cut_words(rest, &mut operands) {
+        Some(count) if count == form.operands.len() => {
+            operand_fault(shapes, form, &operands[..count])
+        }
+        _ => Some(LineFault::Operands(form)),
+    }
+}
+
+/// Why one of so many words as a command takes isn't what it takes there.
+fn operand_fault<'a>(shapes: &Shapes, form: Form, words: &[&'a str]) -> Option<LineFault<'a>> {
+    match first_fault(shapes, form, words) {
+        Some((place, fault)) => match words.get(place) {
+            Some(word) => Some(LineFault::Operand {
+                keyword: form.keyword,
+                word: *word,
+                fault,
+            }),
+            None => None,
+        },
+        None => None,
+    }
 }
 
 fn form_of(word: &str) -> Option<Form> {
@@ -455,7 +472,10 @@ fn write_map_operand<W: fmt::Write>(
             write!(f, "{keyword}: map {shown} is shared: `read` reads it")
         }
         OperandFault::OtherScope(Scope::Worker) => {
-            write!(f, "{keyword}: each worker has its own map {shown}: `sum` reads it")
+            write!(
+                f,
+                "{keyword}: each worker has its own map {shown}: `sum` reads it"
+            )
         }
         _ => write!(f, "{keyword}: a value is 0 to 18446744073709551615"),
     }

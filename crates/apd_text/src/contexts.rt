@@ -17,7 +17,10 @@ pub enum ContextFault<'a> {
     /// The words have something that isn't KEY=VALUE.
     NoPair(&'a str),
     /// The hook's context has no such key.
-    UnknownKey { key: &'a str, hook: Hook },
+    UnknownKey {
+        key: &'a str,
+        hook: Hook,
+    },
     NoAddress,
     /// The value of a key is no number of those from the first to the last.
     NoNumber {

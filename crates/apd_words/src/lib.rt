@@ -81,39 +81,19 @@ pub struct ScriptRun<'a> {
 #[derive(Clone, Copy)]
 pub enum Question<'a> {
     /// `explain` asks for the reason on standard error.
-    Verify {
-        subject: Subject<'a>,
-        explain: bool,
-    },
-    Assemble {
-        file: &'a str,
-    },
-    Disassemble {
-        source: Source<'a>,
-        slots: bool,
-    },
+    Verify { subject: Subject<'a>, explain: bool },
+    Assemble { file: &'a str },
+    Disassemble { source: Source<'a>, slots: bool },
     /// All slots are asked for, also those that are no instructions.
-    ListRaw {
-        source: Source<'a>,
-        slots: bool,
-    },
+    ListRaw { source: Source<'a>, slots: bool },
     Trace(Trial<'a>),
-    Certify {
-        subject: Subject<'a>,
-    },
+    Certify { subject: Subject<'a> },
     Check(Claim<'a>),
     /// Without a number the list of all is asked for.
-    Explain {
-        number: Option<&'a str>,
-    },
-    Frames {
-        capture: &'a str,
-        ticks: bool,
-    },
+    Explain { number: Option<&'a str> },
+    Frames { capture: &'a str, ticks: bool },
     /// Without a command that of the program is asked for.
-    Help {
-        command: Option<&'a str>,
-    },
+    Help { command: Option<&'a str> },
 }
 
 /// A question, and the file for its answer, where that isn't for standard output.

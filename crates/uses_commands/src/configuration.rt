@@ -119,7 +119,10 @@ const TOLD_OF_A_MAP: &[(&str, &str)] = &[
         "[[map]]\nentries = 1\nname = 1\n",
         "line 7: map 0: unknown key `name`",
     ),
-    ("map = 1\n", "line 5: `map` must be tables `[[map]]`, at most 16"),
+    (
+        "map = 1\n",
+        "line 5: `map` must be tables `[[map]]`, at most 16",
+    ),
 ];
 
 #[test]

@@ -32,18 +32,12 @@ const MALFORMED: &[(&str, &str)] = &[
     ("\u{1b}[2J", "unknown word `\\u{1b}[2J`"),
     ("tick 4294967296", "tick takes 0 to 4294967295"),
     ("tick -1", "tick takes 0 to 4294967295"),
-    (
-        "kick 0200000000 1",
-        "kick: an address has 12 hex digits",
-    ),
+    ("kick 0200000000 1", "kick: an address has 12 hex digits"),
     (
         "kick 02:00:00:00:00:0a 1",
         "kick: an address has 12 hex digits, without colons",
     ),
-    (
-        "kick 02000000000a 65536",
-        "kick: a reason is 0 to 65535",
-    ),
+    ("kick 02000000000a 65536", "kick: a reason is 0 to 65535"),
     ("close 02000000000a 8", "close: a TID is 0 to 7"),
     ("close 02000000000a", "`close` takes ADDRESS TID"),
     (
@@ -63,10 +57,7 @@ const MALFORMED: &[(&str, &str)] = &[
     ),
     ("store 0 0 0", "`store` takes MAP INDEX WORD VALUE"),
     ("read x 0 0", "read: `x` is no number of a map"),
-    (
-        "sum 0 1 0",
-        "sum: the entries of the map are 0 to 0",
-    ),
+    ("sum 0 1 0", "sum: the entries of the map are 0 to 0"),
     ("sum 0 0 8", "sum: the words of an entry are 0 to 0"),
     ("wait 1", "`wait` takes nothing"),
     ("wait 1 2 3 4 5", "`wait` takes nothing"),
@@ -99,8 +90,14 @@ fn a_malformed_line_of_each_kind_refuses_its_script(rt: HostRuntime) {
 const NO_SCRIPTS: &[(&str, &str)] = &[
     ("\u{feff}wait\n", "script line 1: a byte order mark"),
     ("\n\r\r\n", "script line 2: a capture: see `apd frames`"),
-    ("\u{7f}ELF\u{2}", "script line 1: an object file, and no text"),
-    ("store 3 0 0 1", "script line 1: map 3: the configuration has none"),
+    (
+        "\u{7f}ELF\u{2}",
+        "script line 1: an object file, and no text",
+    ),
+    (
+        "store 3 0 0 1",
+        "script line 1: map 3: the configuration has none",
+    ),
 ];
 
 #[test]

@@ -50,10 +50,16 @@ const FILES: &[(&str, &str)] = &[
     ("bad.s", "mov r0, 1\nexti\n"),
     ("one.hex", "b700000001000000\n9500000000000000\n"),
     ("exit.hex", "9500000000000000\n"),
-    ("damaged.hex", "b700000001000000 ff00000000000000 1800000000000000 95"),
+    (
+        "damaged.hex",
+        "b700000001000000 ff00000000000000 1800000000000000 95",
+    ),
     ("tells.hex", "7930000000000000 9500000000000000"),
     ("more.hex", "7930080000000000 9500000000000000"),
-    ("map.hex", "1811000000000000 0000000000000000 b700000000000000 9500000000000000"),
+    (
+        "map.hex",
+        "1811000000000000 0000000000000000 b700000000000000 9500000000000000",
+    ),
     ("one.cert", "4150433203"),
 ];
 
@@ -162,7 +168,9 @@ fn a_traced_program_is_told_what_is_given(rt: HostRuntime) {
     let alloc = rt.alloc();
     for (given, code, r0) in TOLD {
         let words = ["apd", "trace", "data", *code, FRAME];
-        let words = [words.as_slice(), given].concat(alloc).expect(&rt, "memory");
+        let words = [words.as_slice(), given]
+            .concat(alloc)
+            .expect(&rt, "memory");
         let (told, _) = answer(alloc, words.as_slice());
         let end = format!(in alloc; "r0 {r0} steps 2\n").expect(&rt, "memory");
         same(&rt, told.status, 0, "the status");
@@ -174,7 +182,10 @@ fn a_traced_program_is_told_what_is_given(rt: HostRuntime) {
 const NOT_GIVEN: &[(&[&str], &str)] = &[
     (&["--context", "state"], "`state` is no KEY=VALUE"),
     (&["--context", "state=4"], "`state` is 1 to 3"),
-    (&["--context", "tid=-1"], "`tid` is 0 to 7, or 255 where there is none"),
+    (
+        &["--context", "tid=-1"],
+        "`tid` is 0 to 7, or 255 where there is none",
+    ),
     (
         &["--context", "station=02:00"],
         "`station` is an address as 02:00:00:00:00:0a",
@@ -190,7 +201,9 @@ fn what_no_context_has_is_a_fault(rt: HostRuntime) {
     let alloc = rt.alloc();
     for (given, why) in NOT_GIVEN {
         let words = ["apd", "trace", "data", "one.hex", FRAME];
-        let words = [words.as_slice(), given].concat(alloc).expect(&rt, "memory");
+        let words = [words.as_slice(), given]
+            .concat(alloc)
+            .expect(&rt, "memory");
         let err = format!(in alloc; "apd: {why}\n").expect(&rt, "memory");
         says(&rt, alloc, words.as_slice(), 2, "", err.as_str());
     }

@@ -76,8 +76,7 @@ impl<'a, B: Ledgers + Journals, L: Publications, F: Files> LiveOperator<'a, B, L
     {
         let limit = self.sources.limit;
         let files = &mut *self.sources.files;
-        self.loads
-            .load(rt, files, hook, path_of_word(path), limit)
+        self.loads.load(rt, files, hook, path_of_word(path), limit)
     }
 
     /// Adopts a program for a hook, with its certificate.

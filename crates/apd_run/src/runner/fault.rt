@@ -17,9 +17,15 @@ use thiserror::Error;
 #[derive(Debug, Drop, Error)]
 pub(crate) enum RunFault {
     #[error("apd: cannot read {path}: {why}")]
-    Unreadable { path: String, why: FileFault },
+    Unreadable {
+        path: String,
+        why: FileFault,
+    },
     #[error("apd: {path}: {why}")]
-    Config { path: String, why: String },
+    Config {
+        path: String,
+        why: String,
+    },
     #[error("apd: {path}: {fault}{why}")]
     Script {
         path: String,
