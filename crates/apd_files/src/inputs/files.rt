@@ -95,7 +95,6 @@ pub trait Files {
     fn save(&mut self, path: &str, bytes: &[u8]) -> Result<(), Unwritten>
         ensures saved { OnOk result (Saves path.now bytes.now (saved self.old) (saved self.new)) }
     {
-        let _ = (path, bytes);
         Err(Unwritten(ErrorKind::Unsupported))
     }
 }
