@@ -4,7 +4,9 @@ use Rattle.std.specs.Str.{bytes_eq}
 use Rattle.std.specs.List.{list_any}
 use Rattle.std.proofs.lemmas.Bool.{ne_eqb}
 use Rattle.clap.specs.ValueTests.{accepts, is_unsigned_in}
-use Rattle.clap.specs.Walk.{Held, Row, Text, Walk, finished, first_of, nothing_held}
+use Rattle.clap.specs.Kinds.{or_else}
+use Rattle.clap.specs.Faults.{check_fault, defaults_fault, settle_fault}
+use Rattle.clap.specs.Walk.{Held, Row, Text, Walk, finished, first_of, nothing_held, settled}
 use Rattle.clap.specs.Simple.{Shape, built, built_leaf, inherited}
 use Rattle.clap.specs.declared.builder.value_parser.ValueParser.{ValueParser}
 use Rattle.clap.specs.declared.builder.value_parser.ValueParser.TheVariants.{Unsigned}
@@ -64,9 +66,9 @@ hook_is_named Addba asks = refl
 hook_is_named Data asks = refl
 
 -- what a command asks for is answered on standard output where no file is named for it
-answered : {name : Text} {rows : List Row} {a : Asked} → bytes_eq name (codes "run") ≡ false → command_asks name rows ≡ Some a → first_of (codes "output") rows ≡ None
+answered : (name : Text) (rows : List Row) {a : Asked} → bytes_eq name (codes "run") ≡ false → command_asks name rows ≡ Some a → first_of (codes "output") rows ≡ None
     → wanted_in (Some (name, rows)) ≡ Some (Answer a None)
-answered {name} {rows} {a} other asks none =
+answered name rows {a} other asks none =
     ap (λ b. (if b then run_of rows else answers_to name rows)) other ∙ ap₂ (λ q o. option_map (λ asked. Answer asked o) q) asks none
 
 -- ---- verify
@@ -156,7 +158,7 @@ verify_plain program file hook f p q t u =
     let passes = verify_operands p name file (taken p hook t) (named hook) (plain file f) (no_more _ _) in
     record {
       faultless = command_passes (verify_enters p q) (name ∷ file ∷ []) (level_passes passes (verify_ends p name file));
-      asked = ap wanted_in (command_gives (verify_enters p q) passes) ∙ answered (verify_is_other p) (verify_asks p name file ∙ hook_is_named hook (λ it. Verify it file None most_states)) (verify_output p name file);
+      asked = ap wanted_in (command_gives (verify_enters p q) passes) ∙ answered (leaf (verify p)).name (finished (leaf (verify p)).rules (verified p name file)) (verify_is_other p) (verify_asks p name file ∙ hook_is_named hook (λ it. Verify it file None most_states)) (verify_output p name file);
     }
 
 pub verify_configured : (program file config : Text) (hook : Hook) → IsOperand file → IsOperand config
@@ -166,7 +168,7 @@ verify_configured program file config hook f c p q t u =
     let passes = verify_operands p name file (taken p hook t) (named hook) (plain file f) (verify_option p name file config (plain config c)) in
     record {
       faultless = command_passes (verify_enters p q) (name ∷ file ∷ codes "--config" ∷ config ∷ []) (level_passes passes (verify_with_ends p name file config));
-      asked = ap wanted_in (command_gives (verify_enters p q) passes) ∙ answered (verify_is_other p) (verify_with_asks p name file config ∙ hook_is_named hook (λ it. Verify it file (Some config) most_states)) (verify_with_output p name file config);
+      asked = ap wanted_in (command_gives (verify_enters p q) passes) ∙ answered (leaf (verify p)).name (finished (leaf (verify p)).rules (verified_with p name file config)) (verify_is_other p) (verify_with_asks p name file config ∙ hook_is_named hook (λ it. Verify it file (Some config) most_states)) (verify_with_output p name file config);
     }
 
 pub verify_limited : (program file number : Text) (hook : Hook) (n : ℕ) → IsOperand file → IsOperand number → states_named number ≡ Some n
@@ -176,7 +178,7 @@ verify_limited program file number hook n f c e p q t u =
     let passes = verify_operands p name file (taken p hook t) (named hook) (plain file f) (verify_limit p name file number (plain number c)) in
     record {
       faultless = command_passes (verify_enters p q) (name ∷ file ∷ codes "--states" ∷ number ∷ []) (level_passes passes (verify_within_ends p name file number (accepted number n e)));
-      asked = ap wanted_in (command_gives (verify_enters p q) passes) ∙ answered (verify_is_other p) (verify_within_asks p name file number
+      asked = ap wanted_in (command_gives (verify_enters p q) passes) ∙ answered (leaf (verify p)).name (finished (leaf (verify p)).rules (verified_within p name file number)) (verify_is_other p) (verify_within_asks p name file number
           ∙ ap (λ o. option_and_then (λ it. option_and_then (λ m. Some (Verify it file None m)) o) (hook_named name)) e ∙ hook_is_named hook (λ it. Verify it file None n))
           (verify_within_output p name file number);
     }
@@ -212,7 +214,7 @@ assemble_plain program file f p q t u =
     let passes = assemble_passes file (plain file f) in
     record {
       faultless = command_passes (assemble_enters p q) (file ∷ []) (level_passes passes (assemble_ends file));
-      asked = ap wanted_in (command_gives (assemble_enters p q) passes) ∙ answered assemble_is_other (assemble_asks file) (assemble_output file);
+      asked = ap wanted_in (command_gives (assemble_enters p q) passes) ∙ answered (leaf assemble).name (finished (leaf assemble).rules (first_operand (codes "FILE") file)) assemble_is_other (assemble_asks file) (assemble_output file);
     }
 
 -- ---- disasm
@@ -274,7 +276,7 @@ disassemble_plain program file f p q t u =
     let passes = disassemble_operand file (plain file f) (no_more _ _) in
     record {
       faultless = command_passes (disassemble_enters p q) (file ∷ []) (level_passes passes (disassemble_ends file));
-      asked = ap wanted_in (command_gives (disassemble_enters p q) passes) ∙ answered disassemble_is_other (disassemble_asks file) (disassemble_output file);
+      asked = ap wanted_in (command_gives (disassemble_enters p q) passes) ∙ answered (leaf disassemble).name (finished (leaf disassemble).rules (listed file)) disassemble_is_other (disassemble_asks file) (disassemble_output file);
     }
 
 pub disassemble_configured : (program file config : Text) → IsOperand file → IsOperand config
@@ -283,7 +285,7 @@ disassemble_configured program file config f c p q t u =
     let passes = disassemble_operand file (plain file f) (disassemble_option file config (plain config c)) in
     record {
       faultless = command_passes (disassemble_enters p q) (file ∷ codes "--config" ∷ config ∷ []) (level_passes passes (disassemble_with_ends file config));
-      asked = ap wanted_in (command_gives (disassemble_enters p q) passes) ∙ answered disassemble_is_other (disassemble_with_asks file config) (disassemble_with_output file config);
+      asked = ap wanted_in (command_gives (disassemble_enters p q) passes) ∙ answered (leaf disassemble).name (finished (leaf disassemble).rules (listed_with file config)) disassemble_is_other (disassemble_with_asks file config) (disassemble_with_output file config);
     }
 
 -- ---- trace
@@ -340,10 +342,19 @@ trace_limit p name file frame number c =
     and_then {v = before_value (option_named (leaf (trace p)) (codes "states") (traced p name file frame)) (codes "states") 4} (codes "--states") refl refl
     (value_then 4 number c refl (no_more _ _))
 
+trace_within_settles : (p : ValueParser) (name file frame number : Text) → accepts false (Unsigned 1 most_states) number ≡ true
+    → settle_fault (leaf (trace p)).rules (leaf (trace p)).args_override_self (traced_within p name file frame number) ≡ []
+unfolding clap_on_literals
+trace_within_settles p name file frame number a = rw a refl
+
 trace_within_ends : (p : ValueParser) (name file frame number : Text) → accepts false (Unsigned 1 most_states) number ≡ true
     → end_fault (leaf (trace p)) (traced_within p name file frame number) false ≡ []
 unfolding clap_on_literals
-trace_within_ends p name file frame number a = rw a refl
+trace_within_ends p name file frame number a =
+    let s = leaf (trace p) in
+    let held = traced_within p name file frame number in
+    ap (λ faults. or_else faults (or_else (defaults_fault (settled s.rules held).rows s.rules) (check_fault s (finished s.rules held) false)))
+    (trace_within_settles p name file frame number a)
 
 trace_within_asks : (p : ValueParser) (name file frame number : Text)
     → command_asks (leaf (trace p)).name (finished (leaf (trace p)).rules (traced_within p name file frame number))
@@ -374,7 +385,7 @@ trace_plain program file frame hook f g p q t u =
     let passes = trace_operands p name file frame (taken p hook t) (named hook) (plain file f) (plain frame g) (no_more _ _) in
     record {
       faultless = command_passes (trace_enters p q) (name ∷ file ∷ frame ∷ []) (level_passes passes (trace_ends p name file frame));
-      asked = ap wanted_in (command_gives (trace_enters p q) passes) ∙ answered (trace_is_other p) (trace_asks p name file frame ∙ hook_is_named hook (λ it. Trace it file frame None most_states None false)) (trace_output p name file frame);
+      asked = ap wanted_in (command_gives (trace_enters p q) passes) ∙ answered (leaf (trace p)).name (finished (leaf (trace p)).rules (traced p name file frame)) (trace_is_other p) (trace_asks p name file frame ∙ hook_is_named hook (λ it. Trace it file frame None most_states None false)) (trace_output p name file frame);
     }
 
 pub trace_configured : (program file frame config : Text) (hook : Hook) → IsOperand file → IsOperand frame → IsOperand config
@@ -384,7 +395,7 @@ trace_configured program file frame config hook f g c p q t u =
     let passes = trace_operands p name file frame (taken p hook t) (named hook) (plain file f) (plain frame g) (trace_option p name file frame config (plain config c)) in
     record {
       faultless = command_passes (trace_enters p q) (name ∷ file ∷ frame ∷ codes "--config" ∷ config ∷ []) (level_passes passes (trace_with_ends p name file frame config));
-      asked = ap wanted_in (command_gives (trace_enters p q) passes) ∙ answered (trace_is_other p) (trace_with_asks p name file frame config ∙ hook_is_named hook (λ it. Trace it file frame (Some config) most_states None false)) (trace_with_output p name file frame config);
+      asked = ap wanted_in (command_gives (trace_enters p q) passes) ∙ answered (leaf (trace p)).name (finished (leaf (trace p)).rules (traced_with p name file frame config)) (trace_is_other p) (trace_with_asks p name file frame config ∙ hook_is_named hook (λ it. Trace it file frame (Some config) most_states None false)) (trace_with_output p name file frame config);
     }
 
 pub trace_limited : (program file frame number : Text) (hook : Hook) (n : ℕ) → IsOperand file → IsOperand frame → IsOperand number → states_named number ≡ Some n
@@ -394,7 +405,7 @@ trace_limited program file frame number hook n f g c e p q t u =
     let passes = trace_operands p name file frame (taken p hook t) (named hook) (plain file f) (plain frame g) (trace_limit p name file frame number (plain number c)) in
     record {
       faultless = command_passes (trace_enters p q) (name ∷ file ∷ frame ∷ codes "--states" ∷ number ∷ []) (level_passes passes (trace_within_ends p name file frame number (accepted number n e)));
-      asked = ap wanted_in (command_gives (trace_enters p q) passes) ∙ answered (trace_is_other p) (trace_within_asks p name file frame number
+      asked = ap wanted_in (command_gives (trace_enters p q) passes) ∙ answered (leaf (trace p)).name (finished (leaf (trace p)).rules (traced_within p name file frame number)) (trace_is_other p) (trace_within_asks p name file frame number
           ∙ ap (λ o. option_and_then (λ it. option_and_then (λ m. Some (Trace it file frame None m None false)) o) (hook_named name)) e ∙ hook_is_named hook (λ it. Trace it file frame None n None false))
           (trace_within_output p name file frame number);
     }
