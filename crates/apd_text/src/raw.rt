@@ -81,7 +81,7 @@ fn append_first<'c>(
     slot: usize,
     code: &'c [u8],
 ) -> Result<&'c [u8], AllocError>
-    requires some { 0 < length code.entry.now }
+    requires some { 0 < length code.now }
     ensures lists { IfOk result (λ rest. Lists slots slot code.entry.now rest.now
         (string_bytes text.old) (string_bytes text.new)) }
 {
