@@ -15,7 +15,7 @@ use apd_text::{
 };
 use apd_words::{Question, Terms};
 use bpf_decode::{DecodeFault, Program, decode};
-use bpf_regions::Shapes;
+use bpf_regions::{Shape, Shapes};
 use bpf_text::AsmFault;
 use bpf_verifier::Refusal;
 use std::alloc::{AllocError, Global};
@@ -149,10 +149,16 @@ impl Reason {
         }
     }
 
-    /// What is wrong with code.
-    pub(crate) fn explain_fault(&mut self, alloc: Global, code: &[u8], fault: DecodeFault) {
+    /// What is wrong with code, for maps of these shapes.
+    pub(crate) fn explain_fault(
+        &mut self,
+        alloc: Global,
+        code: &[u8],
+        shapes: &[Shape],
+        fault: DecodeFault,
+    ) {
         if self.wanted {
-            self.text = fault_text(alloc, code, fault).map(Some);
+            self.text = fault_text(alloc, code, shapes, fault).map(Some);
         }
     }
 

@@ -63,10 +63,11 @@ pub(crate) fn verify(
     ensures verdict { IfOk result (IsOfProgram (IsVerified terms) code.now shapes) }
     ensures memory { IfErr result (λ e. e ≡ ProgramFault.NoMemory) }
 {
+    let known = Vec::from_slice(alloc, shapes.as_slice())?;
     match decode(alloc, code, shapes) {
         Ok(program) => admitted(alloc, program, terms, reason),
         Err(fault) => {
-            reason.explain_fault(alloc, code, fault);
+            reason.explain_fault(alloc, code, known.as_slice(), fault);
             undecoded(fault)
         }
     }
