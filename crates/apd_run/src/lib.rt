@@ -7,9 +7,9 @@
 #![tactic(auto)]
 
 mod access;
+mod actions;
 mod collecting;
 mod crew;
-mod events;
 mod feeding;
 mod interval;
 mod loads;
@@ -21,6 +21,7 @@ mod script;
 mod setting;
 
 pub use crate::crew::{Ready, Serving};
+pub use actions::{Publication, WordUse};
 pub use apd_text::{Report, Told};
 pub use operating::{Operating, Waiting};
 pub use progress::{Progress, Watcher};
