@@ -19,6 +19,11 @@ use Rattle.apd_text.specs.declared.reports.report.Told.{Told}
 use Rattle.apd_text.specs.declared.reports.report.Told.TheVariants.{Memory, Loaded, Fault, Certificate, Unreadable}
 use Rattle.apd_run.specs.Loading.{IsInForce}
 
+-- what is told of a certificate's fault
+abbrev pub certificate_told : CertFault → Told
+certificate_told check.NoMemory = Memory
+certificate_told fault = Certificate (number_of fault)
+
 -- the program is in force for the hook from now on, and safe within the budget that the certificate shows
 pub record IsAdopted (hook : Hook) (program : Code) (certificate : List ℕ) (old new : Beginning) (budget : ℕ) : Type 0 where
   pub force : IsInForce hook program old new budget

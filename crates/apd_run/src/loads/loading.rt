@@ -21,7 +21,7 @@ use versions::{News, PublishFault, Publisher};
 /// It is not `Drop`: end it by `close`.
 pub struct Loads {
     pub(crate) alloc: Global,
-    publisher: Publisher,
+    pub(crate) publisher: Publisher,
     shapes: Shapes,
 }
 
@@ -156,7 +156,7 @@ impl Loads {
         }
     }
 
-    pub(crate) fn put_in_force<R: Wait>(&mut self, rt: &R, hook: Hook, accepted: Accepted) -> Told
+    fn put_in_force<R: Wait>(&mut self, rt: &R, hook: Hook, accepted: Accepted) -> Told
         requires hook_is { accepted.hook ≡ hook }
         requires shapes_are { accepted.code.shapes ≡ self.old.shapes }
         ensures { PutsInForce hook accepted self.old self.new result }
