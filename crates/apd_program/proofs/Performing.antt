@@ -119,7 +119,7 @@ Responds-nothing files (RunWanted config script workers states quiet strict verb
 
 Fulfils-nothing : (files : Held) (w : Wanted) (o : Option (List ℕ)) → Fulfils files w o o 3
 Fulfils-nothing files (AnswerWanted a output) o = Exhausted (Keeps-same o)
-Fulfils-nothing files (RunWanted config script workers states quiet strict verbose) o = runs_nothing o none 3 (inr refl)
+Fulfils-nothing files (RunWanted config script workers states quiet strict verbose) o = runs_nothing strict o none 3 (inr refl)
 
 -- words that always ask for something are told of only for want of memory
 pub Responds-told : (files : Held) (w : Wanted) (t : Told) (old new : Option (List ℕ)) (status : ℕ) → t ≡ told.NoMemory → Tells t old new status → Responds files w old new status

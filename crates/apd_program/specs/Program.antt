@@ -40,7 +40,7 @@ Responds files (Run config script workers states quiet strict verbose) old new s
 abbrev pub Fulfils : Held → Wanted → Option (List ℕ) → Option (List ℕ) → ℕ → Type 0
 Fulfils files (Answer a output) old new status = Performs files a output old new status
 Fulfils files (Run config script workers states quiet strict verbose) old new status =
-    shows.Runs old new none status
+    shows.Runs strict old new none status
 
 -- what is written of words that ask for nothing to be done, and the status
 abbrev pub Tells : Told → Option (List ℕ) → Option (List ℕ) → ℕ → Type 0

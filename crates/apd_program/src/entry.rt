@@ -39,13 +39,15 @@ where
     F: Files,
     O: Write + Drop,
     E: Write,
-    ensures runs { Runs (O.contents out) (O.contents result.0) none result.1 }
+    ensures runs { Runs asked.entry.strict (O.contents out) (O.contents result.0) none result.1 }
 {
     let Messages { err, watched } = messages;
     let words = RunWords {
         config: asked.config,
         script: asked.script,
         workers: asked.workers,
+        strict: asked.strict,
+        verbose: asked.verbose,
     };
     let limit = StateLimit::nearest(asked.states);
     if watched && !asked.quiet {

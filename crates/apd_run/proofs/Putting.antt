@@ -1,5 +1,5 @@
 -- A program that is put in force.
-use Rattle.std.proofs.Common.{◌≡◌, ◌≤◌, ℕ, List, Some, refl, subst}
+use Rattle.std.proofs.Common.{◌≡◌, ◌≤◌, ℕ, List, Some, length, refl, sym, subst}
 use Rattle.bpf_regions.specs.declared.hooks.Hook.{Hook}
 use Rattle.bpf_decode.specs.Program.{Code}
 use Rattle.bpf_model.specs.Run.{Safe}
@@ -17,12 +17,14 @@ use Rattle.apd_run.specs.Adopting.{AdoptsProgram, Certified, NotCertified, NoRoo
 -- once the verifier admitted it
 pub loaded : (limit : ℕ) (hook : Hook) (a : Verified) (program : Code) (old new : Beginning) (told : Told) → a.code ≡ program → a.budget ≤ limit → PutsInForce hook a old new told
     → LoadsProgram limit hook program old new told
-loaded limit hook a program old new _ is small (InForce force) = Admitted a.budget (subst (λ (code : Code). IsInForce hook code old new a.budget) is force) small
+loaded limit hook a program old new _ is small (InForce force) =
+    subst (λ (code : Code). LoadsProgram limit hook program old new (Loaded a.budget (length code.slots))) (sym is)
+    (Admitted a.budget (subst (λ (code : Code). IsInForce hook code old new a.budget) is force) small)
 loaded limit hook a program old new _ is small (NoRoomToPut same) = NoRoomToLoad same
 
 -- once a certificate showed that it is safe
 pub adopted : (hook : Hook) (program : Code) (certificate : List ℕ) (old new : Beginning) (budget : ℕ) → Covered program hook certificate budget → Safe program.slots program.shapes budget
-    → new ≡ with_load old (load hook (Some (record { code = program; hook = hook; budget = budget }))) → AdoptsProgram hook program certificate old new (Loaded budget)
+    → new ≡ with_load old (load hook (Some (record { code = program; hook = hook; budget = budget }))) → AdoptsProgram hook program certificate old new (Loaded budget (length program.slots))
 adopted hook program certificate old new budget covered safe is =
     Certified budget (record {
       force = record { accepted = record { code = program; hook = hook; budget = budget }; code_is = refl; hook_is = refl; budget_is = refl; safe = safe; loaded = is };

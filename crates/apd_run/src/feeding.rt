@@ -1,6 +1,6 @@
 //! The operator's lines between two waits.
 
-ghost use Rattle.std.specs.Prelude.{◌≡◌, ◌<◌, length, drop, IfOk, OnOk};
+ghost use Rattle.std.specs.Prelude.{◌≡◌, ◌<◌, ◌≤◌, length, drop, IfOk, OnOk};
 ghost use Rattle.apd_run.specs.Tells.{Tells};
 ghost use Rattle.apd_run.specs.Intervals.{is_wait, after_wait};
 
@@ -144,6 +144,7 @@ pub(crate) fn feed<W: Serving + Drop, O: Operating<W>, R: Wait>(
     ensures same { O.crew operator.new ≡ O.crew operator.old }
     ensures told { OnOk result (Tells told.old.items told.new.items) }
     ensures on { IfOk result (λ next. start < next) }
+    ensures within { IfOk result (λ next. next ≤ length commands.now) }
     ensures rest { IfOk result
         (λ next. drop next commands.now ≡ after_wait (drop start commands.now)) }
 {

@@ -9,8 +9,10 @@
 mod access;
 mod actions;
 mod collecting;
+mod console;
 mod crew;
 mod feeding;
+mod found;
 mod interval;
 mod loads;
 mod operating;
@@ -22,6 +24,7 @@ mod setting;
 
 pub use crate::crew::{Ready, Serving};
 pub use actions::{Publication, WordUse};
+pub use console::Console;
 pub use apd_text::{Report, Told};
 pub use operating::{Operating, Waiting};
 pub use progress::{Progress, Watcher};

@@ -38,6 +38,8 @@ mod same;
 #[cfg(test)]
 mod scripts;
 #[cfg(test)]
+mod telling;
+#[cfg(test)]
 mod told;
 #[cfg(test)]
 mod watching;

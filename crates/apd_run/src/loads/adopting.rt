@@ -76,13 +76,14 @@ impl Loads {
         requires { program.shapes ≡ self.old.shapes }
         ensures { AdoptsProgram hook program certificate.now self.old self.new result }
     {
+        let slots = program.len();
         let offer = Offer {
             program,
             hook,
             certificate,
         };
         match publish_checked(rt, self.alloc, &mut self.publisher, offer) {
-            Ok(budget) => return Told::Loaded { budget },
+            Ok(budget) => return Told::Loaded { budget, slots },
             Err(CheckedFault::Certificate(fault)) => return not_certified(fault),
             Err(CheckedFault::Publication(fault)) => match fault {
                 PublishFault::NoMemory => return Told::Memory,

@@ -162,11 +162,12 @@ impl Loads {
         ensures { PutsInForce hook accepted self.old self.new result }
     {
         let budget = accepted.budget();
+        let slots = accepted.program().len();
         let Ok(shared) = Arc::new(self.alloc, accepted) else {
             return Told::Memory;
         };
         match self.publisher.publish(rt, hook, Some(shared)) {
-            Ok(()) => return Told::Loaded { budget },
+            Ok(()) => return Told::Loaded { budget, slots },
             Err(PublishFault::NoMemory) => return Told::Memory,
             Err(PublishFault::OtherShapes) => unreachable!(),
         }
