@@ -28,7 +28,7 @@ const NEGATIVE: u64 = 1 << 63;
 
 impl Access {
     /// How far it reaches through a pointer that has one of these offsets.
-    pub(crate) fn reach(self, offset: AbsNum) -> Reach {
+    pub(crate) fn reach(&self, offset: AbsNum) -> Reach {
         let by = AbsNum::single(i64::from(self.offset).cast_unsigned());
         let at = offset.alu(AluOp::Add, true, by);
         let last = at.range().high();

@@ -46,7 +46,10 @@ fn value_of(state: &AbsState, source: Source) -> Option<AbsVal> {
 fn of_kinds(state: &AbsState, insn: Insn) -> Option<Cure> {
     match insn {
         Insn::Alu {
-            op, dst, source, ..
+            op,
+            dst,
+            source,
+            ..
         } => of_arithmetic(op, state.register(dst), value_of(state, source)),
         Insn::Branch { dst, source, .. } => {
             of_comparison(state.register(dst), value_of(state, source))
@@ -156,13 +159,11 @@ fn of_place(shapes: &Shapes, state: &AbsState, insn: Insn) -> Option<Cure> {
 
 /// The cure of a read of the frame: a test of the byte that is read.
 fn in_frame(access: Access, offset: AbsNum, label: Option<Label>) -> Cure {
+    let tested = test_behind(&access, label);
     match access.reach(offset) {
         Reach::Anywhere => BOUND_NUMBER,
         Reach::Before(_) => NOT_BEFORE,
-        Reach::To(end) => match test_behind(access, label) {
-            Some(cure) => cure,
-            None => test_of(end),
-        },
+        Reach::To(end) => tested.unwrap_or(test_of(end)),
     }
 }
 
@@ -176,11 +177,14 @@ fn test_of(bytes: u64) -> Cure {
 }
 
 /// The test that shows what is read behind the place of a label, which is the sum of the slot before its number.
-fn test_behind(access: Access, label: Option<Label>) -> Option<Cure> {
+fn test_behind(access: &Access, label: Option<Label>) -> Option<Cure> {
     let Label { label, distance } = label?;
     let size = i64::from(access.size);
-    let end = i64::from(distance) + i64::from(access.offset) + size;
-    let bytes = u64::try_from(end).ok()?;
+    let end = i64::from(distance)
+        .saturating_add(i64::from(access.offset))
+        .saturating_add(size);
+    // Below 0 it reads as a number above each length.
+    let bytes = end.cast_unsigned();
     if bytes == 0 || bytes > LONGEST {
         return None;
     }

@@ -58,12 +58,14 @@ fn append_knowledge(
     way: &[usize],
     slot: usize,
 ) -> Result<(), AllocError> {
-    let Some(Some(insn)) = program.insn_at(slot) else {
-        return Ok(());
-    };
-    append_registers(text, state, insn)?;
-    append_place(text, state, program.shapes(), insn)?;
-    append_origin(text, program, state, way, insn)
+    if let Some(Some(insn)) = program.insn_at(slot) {
+        let read = insn;
+        let placed = insn;
+        append_registers(text, state, read)?;
+        append_place(text, state, program.shapes(), placed)?;
+        append_origin(text, program, state, way, insn)?;
+    }
+    Ok(())
 }
 
 /// The cure: the one that was found, or else the one on the number's page.
@@ -97,7 +99,10 @@ fn cure_in(code: &[u8], shapes: &[Shape], fault: DecodeFault) -> Option<Cure> {
         DecodeFault::At {
             slot,
             fault: SlotFault::UnknownMap,
-        } => cure_of_map(shapes, insn_at(code, slot)?),
+        } => match insn_at(code, slot) {
+            Some(insn) => cure_of_map(shapes, insn),
+            None => None,
+        },
         _ => None,
     }
 }
@@ -130,7 +135,10 @@ fn slot_in(code: &[u8], slot: usize) -> Option<[u8; 8]> {
 fn insn_at(code: &[u8], slot: usize) -> Option<Insn> {
     let first = slot_in(code, slot)?;
     let second = slot_in(code, slot.saturating_add(1));
-    Insn::from_slots(first, second).ok()
+    match Insn::from_slots(first, second) {
+        Ok(insn) => Some(insn),
+        Err(_) => None,
+    }
 }
 
 /// The text of the instruction that stands at a slot of code; none where there is none.

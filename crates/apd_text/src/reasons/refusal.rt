@@ -184,9 +184,10 @@ fn append_stack(
         writeln!(text, "  the offset in a stack has to be one number")?;
         return Ok(());
     }
+    let size = u64::from(access.size);
     match access.reach(offset) {
         Reach::To(end) if end <= STACK => {
-            let begin = end.saturating_sub(u64::from(access.size));
+            let begin = end.saturating_sub(size);
             append_slots(text, state, number, begin, end)
         }
         _ => {
@@ -246,18 +247,28 @@ pub(crate) fn append_origin(
     way: &[usize],
     insn: Insn,
 ) -> Result<(), AllocError> {
-    let Some(access) = access_of(insn) else {
-        return Ok(());
-    };
-    if !may_wrap(state, access) {
-        return Ok(());
+    match access_of(insn) {
+        Some(access) if may_wrap(state, &access) => {
+            append_maker(text, program, state, way, access.base)
+        }
+        _ => Ok(()),
     }
-    let found = match label_of(state.register(access.base)) {
+}
+
+/// The line of the slot that made the pointer in a register: that of its label, or the last one that wrote it.
+fn append_maker(
+    text: &mut String,
+    program: &Program,
+    state: &AbsState,
+    way: &[usize],
+    base: Reg,
+) -> Result<(), AllocError> {
+    let found = match label_of(state.register(base)) {
         Some(label) => Some(usize::from(label.label).saturating_sub(1)),
-        None => written_at(program, way, access.base),
+        None => written_at(program, way, base),
     };
     match found {
-        Some(slot) => append_sum(text, program, access.base, slot),
+        Some(slot) => append_sum(text, program, base, slot),
         None => Ok(()),
     }
 }
@@ -271,19 +282,19 @@ fn label_of(value: AbsVal) -> Option<Label> {
 }
 
 /// Whether nothing bounds the offset of a pointer outside of the stack.
-fn may_wrap(state: &AbsState, access: Access) -> bool {
-    let offset = match state.register(access.base) {
-        AbsVal::Frame { offset, .. } => offset,
-        AbsVal::Pointer {
-            region: AbsRegion::Context,
-            offset,
-        } => offset,
-        AbsVal::Pointer {
-            region: AbsRegion::Entry(_),
-            offset,
-        } => offset,
-        _ => return false,
-    };
+fn may_wrap(state: &AbsState, access: &Access) -> bool {
+    match state.register(access.base) {
+        AbsVal::Frame { offset, .. } => is_anywhere(access, offset),
+        AbsVal::Pointer { region, offset } => match region {
+            AbsRegion::Stack(_) => false,
+            AbsRegion::Context => is_anywhere(access, offset),
+            AbsRegion::Entry(_) => is_anywhere(access, offset),
+        },
+        _ => false,
+    }
+}
+
+fn is_anywhere(access: &Access, offset: AbsNum) -> bool {
     matches!(access.reach(offset), Reach::Anywhere)
 }
 
@@ -296,7 +307,11 @@ fn append_sum(
 ) -> Result<(), AllocError> {
     if let Some(Some(insn)) = program.insn_at(slot) {
         let number = register.number();
-        writeln!(text, "  r{number} comes from slot {slot}: {}", InsnText(insn))?;
+        writeln!(
+            text,
+            "  r{number} comes from slot {slot}: {}",
+            InsnText(insn)
+        )?;
     }
     Ok(())
 }

@@ -114,7 +114,7 @@ argument is).",
     Explanation {
         number: 38,
         title: "the verdict is no number",
-        meaning: "At the exit r0 is a number: the verdict. Functions that the program calls answer numbers too.",
+        meaning: "At the exit r0 is a number: the verdict. Functions that the program calls return numbers too.",
         habit: "A pointer was returned, by the policy or by a function that was not inlined; without optimisation none \
 is, as `apd_body`.",
         programs: Some((Example::Text("mov r0, r1\nexit\n"), MOVES)),
