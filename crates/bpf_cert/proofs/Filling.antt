@@ -1,11 +1,12 @@
 -- Lists that are filled from the front.
-use Rattle.std.proofs.Common.{◌≡◌, ℕ, zero, suc, ◌+◌, ◌≤◌, ◌<◌, List, [], ◌∷◌, ◌++◌, length, take, drop, set, get_or, refl, sym, ◌∙◌, ap, arith}
-use Rattle.std.proofs.lemmas.List.{get_or-replicate, length-replicate}
+use Rattle.std.proofs.Common.{◌≡◌, ℕ, zero, suc, ◌+◌, ◌<◌, List, [], ◌∷◌, ◌++◌, length, take, drop, set, get_or, refl, sym, ◌∙◌, ap, arith}
 use Rattle.bpf_absval.specs.declared.slot.AbsSlot.{AbsSlot}
-use Rattle.bpf_absval.specs.declared.slot.AbsSlot.TheVariants.{Unset}
 use Rattle.bpf_absstate.specs.declared.frames.CallFrame.{CallFrame}
 use Rattle.bpf_absval.specs.declared.value.AbsVal.{AbsVal}
 use Rattle.bpf_absstate.specs.View.{View, frame_of, stack_of, empty_stack, with_slot, register, with_register}
+use Rattle.bpf_cert_format.specs.declared.slots.KnownSlot.{KnownSlot}
+use Rattle.bpf_cert_format.specs.Slots.{no_slots, slots_after}
+use Rattle.bpf_cert_format.proofs.Known.{taken_more}
 use Rattle.bpf_cert.specs.Built.{with_stack}
 
 module _ {X : Type 0} where
@@ -20,13 +21,6 @@ module _ {X : Type 0} where
   fill_more vs rs i d lt lr =
       let more : suc i ≡ i + 1 = omega arith in
       fill_suc vs rs i d lt lr ∙ ap (λ (k : ℕ). take k vs ++ drop k rs) more
-
-  -- what comes next is not filled yet
-  pub next_is : (vs rs : List X) (i : ℕ) (d : X) → i ≤ length vs → i < length rs → get_or (take i vs ++ drop i rs) i d ≡ get_or rs i d
-  next_is vs [] i d lt lr = absurd (omega (arith, lr))
-  next_is vs (r ∷ rs) zero d lt lr = refl
-  next_is [] (r ∷ rs) (suc i) d lt lr = absurd (omega (arith, lt))
-  next_is (v ∷ vs) (r ∷ rs) (suc i) d lt lr = next_is vs rs i d (omega (arith, lt)) (omega (arith, lr))
 
   pub same_within : (xs : List X) (k : ℕ) (d e : X) → k < length xs → get_or xs k d ≡ get_or xs k e
   same_within [] k d e less = absurd (omega (arith, less))
@@ -48,14 +42,6 @@ module _ {X : Type 0} where
   set_same [] k d = refl
   set_same (x ∷ xs) zero d = refl
   set_same (x ∷ xs) (suc k) d = ap (λ (ys : List X). x ∷ ys) (set_same xs k d)
-
--- an unset slot that is put where one is
-pub put_unset : (a : View) (k i : ℕ) → get_or (stack_of a k) i Unset ≡ Unset → a ≡ with_slot a k i Unset
-put_unset a k i h =
-    let stack : set (stack_of a k) i Unset ≡ stack_of a k = ap (λ (s : AbsSlot). set (stack_of a k) i s) (sym h) ∙ set_same (stack_of a k) i Unset in
-    let frame : set a.frames k (record (frame_of a k) { stack = set (stack_of a k) i Unset }) ≡ a.frames =
-    ap (λ (s : List AbsSlot). set a.frames k (record (frame_of a k) { stack = s })) stack ∙ set_same a.frames k _ in
-    ap (λ (fs : List CallFrame). record a { frames = fs }) (sym frame)
 
 -- a value that is put where it is
 pub put_there : (a : View) (r : ℕ) (v : AbsVal) → register a r ≡ v → a ≡ with_register a r v
@@ -89,19 +75,9 @@ value_more a b c vs i r v lt lr eb er ev h =
     ap (λ (k : ℕ). set rs k v) er ∙ ap (λ (x : AbsVal). set rs i x) ev ∙ fill_more vs a.registers i v lt lr in
     h ∙ ap (λ (x : View). with_register x r v) eb ∙ ap (λ (xs : List AbsVal). record a { registers = xs }) at
 
--- the slot that is filled next is unset so far
-pub next_unset : (a b : View) (k i : ℕ) (s : List AbsSlot) → k < length a.frames → i ≤ length s → i < 64 → b ≡ with_stack a k (take i s ++ drop i empty_stack) → get_or (stack_of b k) i Unset ≡ Unset
-next_unset a b k i s lt le small e =
-    let t : List AbsSlot = take i s ++ drop i empty_stack in
-    let here : stack_of (with_stack a k t) k ≡ t = ap (λ (g : CallFrame). g.stack) (get_set a.frames k (record (frame_of a k) { stack = t }) _ lt) in
-    ap (λ (x : View). get_or (stack_of x k) i Unset) e ∙ ap (λ (u : List AbsSlot). get_or u i Unset) here
-    ∙ next_is s empty_stack i Unset le (omega (arith, small, length-replicate 64 Unset)) ∙ get_or-replicate 64 i Unset Unset small
-
--- one slot more
-pub cell_more : (a b c : View) (k i : ℕ) (s : List AbsSlot) (x : AbsSlot) → k < length a.frames → i < length s → i < 64 → b ≡ with_stack a k (take i s ++ drop i empty_stack) → get_or s i Unset ≡ x →
-    c ≡ with_slot b k i x → c ≡ with_stack a k (take (i + 1) s ++ drop (i + 1) empty_stack)
-cell_more a b c k i s x lt ls small e got h =
-    let t : List AbsSlot = take i s ++ drop i empty_stack in
-    let put : set t i x ≡ take (i + 1) s ++ drop (i + 1) empty_stack =
-    ap (λ (y : AbsSlot). set t i y) (sym got) ∙ fill_more s empty_stack i Unset ls (omega (arith, small, length-replicate 64 Unset)) in
-    h ∙ ap (λ (y : View). with_slot y k i x) e ∙ stack_more a k t _ i x lt put
+-- one known slot more
+pub known_more : (a b c : View) (k i : ℕ) (ks : List KnownSlot) (x : KnownSlot) → k < length a.frames → i < length ks → x ≡ get_or ks i x → b ≡ with_stack a k (slots_after no_slots (take i ks)) →
+    c ≡ with_slot b k x.index x.slot → c ≡ with_stack a k (slots_after no_slots (take (i + 1) ks))
+known_more a b c k i ks x lt less is e h =
+    h ∙ ap (λ (y : View). with_slot y k x.index x.slot) e
+    ∙ stack_more a k (slots_after no_slots (take i ks)) (slots_after no_slots (take (i + 1) ks)) x.index x.slot lt (sym (taken_more no_slots ks i x less is))

@@ -1,18 +1,17 @@
 //! The states that entries describe.
 
-ghost use Rattle.std.specs.Prelude.{◌≡◌, ◌<◌, ◌≤◌, [], length, OnOk, IfOk, slice_index_or};
+ghost use Rattle.std.specs.Prelude.{◌≡◌, ◌<◌, ◌≤◌, [], length, OnOk, IfOk};
 ghost use Rattle.std.specs.List.{All};
-ghost use Rattle.bpf_absstate.specs.View.{frame_of, empty_stack, with_slot, with_register, stack_of};
-ghost use Rattle.bpf_absval.specs.declared.slot.AbsSlot.TheVariants.{Unset};
+ghost use Rattle.bpf_absstate.specs.View.{empty_stack, with_register, stack_of};
 ghost use Rattle.bpf_cert_format.specs.Fits.{FitsEntry, IsMainFirst, Rise};
+ghost use Rattle.bpf_cert_format.specs.Slots.{no_slots, slots_after};
 ghost use Rattle.bpf_cert.specs.Built.{with_values, with_stack, blank_view, filled, built};
 ghost use Rattle.bpf_cert.specs.States.{state_of as describes};
 
 use bpf_absstate::AbsState;
-use bpf_absval::{AbsSlot, AbsVal, Room};
-use bpf_cert_format::{Entry, Frame};
+use bpf_absval::{AbsVal, Room};
+use bpf_cert_format::{Entry, Frame, KnownSlot};
 use bpf_insn::Reg;
-use bpf_stack::Stack;
 use std::alloc::{AllocError, Global};
 
 /// Puts a value into a register. One that is unset and stays so stays shared.
@@ -51,29 +50,15 @@ pub(crate) fn blank(alloc: Global) -> Result<AbsState, AllocError>
     Ok(state)
 }
 
-/// Puts what a stack slot holds that is unset so far.
-fn put_cell(state: &mut AbsState, k: usize, index: usize, cell: AbsSlot) -> Result<(), AllocError>
+/// Fills the stack of call frame `k`, which is unset so far, with the slots that are known.
+fn put_stack(state: &mut AbsState, k: usize, known: &[KnownSlot]) -> Result<(), AllocError>
     requires lives { k < length state.old.frames }
-    requires inside { index < 64 }
-    requires unset { slice_index_or (stack_of state.old k) index Unset ≡ Unset }
-    ensures is { OnOk result (state.new ≡ with_slot state.old k index cell) }
-{
-    if matches!(cell, AbsSlot::Unset) {
-        return Ok(());
-    }
-    state.set_slot(k, index, cell)?;
-    Ok(())
-}
-
-/// Fills the stack of call frame `k`, which is unset so far.
-fn put_stack(state: &mut AbsState, k: usize, stack: &Stack) -> Result<(), AllocError>
-    requires lives { k < length state.old.frames }
+    requires inside { All (λ s. s.index < 64) known.now }
     requires unset { stack_of state.old k ≡ empty_stack }
-    ensures is { OnOk result (state.new ≡ with_stack state.old k stack.now) }
+    ensures is { OnOk result (state.new ≡ with_stack state.old k (slots_after no_slots known.now)) }
 {
-    stack.whole();
-    for index in 0..64 {
-        put_cell(state, k, index, stack.get(index))?;
+    for one in known {
+        state.set_slot(k, one.index as usize, one.slot)?;
     }
     Ok(())
 }
@@ -87,7 +72,7 @@ fn fill(state: &mut AbsState, k: usize, frame: &Frame) -> Result<(), AllocError>
     ensures is { OnOk result (state.new ≡ filled state.old k frame.now) }
 {
     put_values(state, frame.registers.as_slice())?;
-    put_stack(state, k, &frame.stack)?;
+    put_stack(state, k, frame.stack.known())?;
     Ok(())
 }
 

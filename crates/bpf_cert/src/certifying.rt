@@ -12,7 +12,7 @@ use crate::describing::described;
 use crate::fault::CertFault;
 use crate::sifting::sifted;
 use crate::widening::widened;
-use bpf_cert_format::{Certificate, Entry, WriteFault, write};
+use bpf_cert_format::{Certificate, Leaf, WriteFault, write};
 use bpf_decode::{Program, encode};
 use bpf_machine::Accepted;
 use bpf_plain::laws::standing_law;
@@ -24,11 +24,12 @@ use std::alloc::{AllocError, Global};
 /// Adds the entries that describe these states.
 fn describe(
     alloc: Global,
-    entries: &mut Vec<Entry>,
+    entries: &mut Vec<Leaf>,
     finished: &[Finished],
 ) -> Result<(), AllocError> {
     for one in finished {
-        entries.push(described(alloc, &one.state, one.budget)?)?;
+        let entry = described(alloc, &one.state, one.budget)?;
+        entries.push(Leaf::read(entry))?;
     }
     Ok(())
 }
@@ -39,7 +40,7 @@ fn entries_of(
     alloc: Global,
     program: &Program,
     finished: &[Finished],
-) -> Result<Vec<Entry>, AllocError> {
+) -> Result<Vec<Leaf>, AllocError> {
     let claims = widened(alloc, program, finished)?;
     let mut entries = Vec::new(alloc);
     for mut of_slot in sifted(alloc, program, &claims)? {
@@ -54,7 +55,7 @@ fn written(
     alloc: Global,
     program: &Program,
     hook: Hook,
-    entries: Vec<Entry>,
+    entries: Vec<Leaf>,
 ) -> Result<Vec<u8>, WriteFault> {
     let code = encode(alloc, program)?;
     write(alloc, &Certificate::new(hook, code, entries))

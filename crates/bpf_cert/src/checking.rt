@@ -7,21 +7,17 @@ ghost use Rattle.bpf_decode.specs.Program.{Begins};
 ghost use Rattle.bpf_model.specs.Run.{Safe};
 ghost use Rattle.bpf_absstate.specs.WellFormed.{IsView};
 ghost use Rattle.bpf_cert_format.specs.Fits.{FitsEntry};
-ghost use Rattle.bpf_cert.specs.Built.{blank_view};
 ghost use Rattle.bpf_cert.specs.Steps.{Tells};
 ghost use Rattle.bpf_cert.specs.States.{claim_of};
 ghost use Rattle.bpf_cert.specs.Certified.{IsFor, FollowsCall, AllFollow, StandsWell, Shows, Finds};
 ghost use Rattle.bpf_cert.specs.Certified.{KeepsWithin, Covered, Refuses, Answers, Admits, IsAdmitted};
 
-use crate::building::blank;
-use crate::claiming::claim;
 use crate::claims::Claims;
 use crate::coverage::{begins, covered_budget};
 use crate::fault::{CertFault, unread};
-use crate::held::claim_of_unread;
 use crate::laws::covered_law;
-use bpf_absstate::AbsState;
-use bpf_cert_format::{Entry, Frame, Kind, Leaf, Outline, outlined};
+use crate::source::Source;
+use bpf_cert_format::{Certificate, Entry, Frame, Kind, Leaf, read};
 use bpf_decode::{Program, encode, spelling_law};
 use bpf_insn::Insn;
 use bpf_machine::Accepted;
@@ -31,12 +27,15 @@ use std::alloc::{AllocError, Global};
 /// The greatest budget of a program that runs.
 const MOST: u32 = 4194304;
 
+/// How many bytes of memory claims may take for each byte of a certificate.
+const ROOM: usize = 8;
+
 /// Whether a certificate is for this hook and this code.
 fn is_for(
     alloc: Global,
     program: &Program,
     hook: Hook,
-    certificate: &Outline,
+    certificate: &Certificate,
 ) -> Result<bool, AllocError>
     ensures is { IfOk result (λ told. Tells told (IsFor program.now hook certificate.now)) }
 {
@@ -125,29 +124,33 @@ fn all_stand(alloc: Global, program: &Program, entries: &[Leaf]) -> Result<bool,
     Ok(true)
 }
 
-/// Adds what an entry claims. Of one that was not kept as a value the claim isn't either.
+/// Adds what an entry claims. Of one that was not kept as a value the claim isn't either, once claims take much memory.
 fn add_claim(
     alloc: Global,
     maps: usize,
-    blank: &AbsState,
+    source: &mut Source,
     leaf: &Leaf,
     claims: &mut Claims,
 ) -> Result<(), AllocError>
-    requires blank { blank.now ≡ blank_view }
     requires fits { FitsEntry maps leaf.now }
     ensures is { OnOk result (claims.new ≡ claims.old ++ claim_of leaf.now ∷ []) }
     ensures whole { OnOk result (IsView (claim_of leaf.now).state) }
 {
     match leaf.kind() {
         Kind::Read(entry) => {
-            let claim = claim(alloc, maps, blank, entry)?;
+            let claim = source.claim(alloc, maps, entry)?;
             claim.state.whole();
             claims.push(claim)?;
             return Ok(());
         }
         Kind::Spelled(spelled) => {
-            let claim = claim_of_unread(alloc, spelled)?;
+            let entry = spelled.entry(alloc)?;
+            let claim = source.claim(alloc, spelled.maps(), &entry)?;
             claim.state.whole();
+            if source.has_room() {
+                claims.push(claim)?;
+                return Ok(());
+            }
             let spelled = spelled.clone()?;
             claims.push_unread(spelled, claim.state.pc(), claim.budget)?;
             return Ok(());
@@ -155,17 +158,22 @@ fn add_claim(
     }
 }
 
-/// What entries claim.
-fn claims_of(alloc: Global, program: &Program, entries: &[Leaf]) -> Result<Claims, AllocError>
+/// What entries claim. Claims may take about so many bytes of memory, beside those of entries that are kept as values.
+fn claims_of(
+    alloc: Global,
+    program: &Program,
+    entries: &[Leaf],
+    room: usize,
+) -> Result<Claims, AllocError>
     requires fit { All (FitsEntry (length program.now.shapes)) entries.now }
     ensures is { IfOk result (λ claims. claims ≡ map claim_of entries.now) }
     ensures whole { IfOk result (All (λ e. IsView e.state)) }
 {
     let maps = program.shapes().len();
-    let blank = blank(alloc)?;
+    let mut source = Source::new(alloc, room)?;
     let mut claims = Claims::new(alloc, program.len())?;
     for leaf in entries {
-        add_claim(alloc, maps, &blank, leaf, &mut claims)?;
+        add_claim(alloc, maps, &mut source, leaf, &mut claims)?;
     }
     Ok(claims)
 }
@@ -185,6 +193,7 @@ fn shown_budget(
     alloc: Global,
     program: &Program,
     entries: &[Leaf],
+    room: usize,
 ) -> Result<Option<u32>, AllocError>
     requires fit { All (FitsEntry (length program.now.shapes)) entries.now }
     ensures is { IfOk result (λ o. Finds o (Shows program.now entries.now)) }
@@ -194,7 +203,7 @@ fn shown_budget(
     if !stand {
         return Ok(None);
     }
-    let claims = claims_of(alloc, program, entries)?;
+    let claims = claims_of(alloc, program, entries, room)?;
     program.whole();
     program.shapes().whole();
     covered_law();
@@ -225,13 +234,14 @@ pub(crate) fn certified_budget(
     ensures only { (b : ℕ) → Covered program.now hook bytes.now b → Answers result b }
     ensures err { IfErr result (Refuses program.now hook bytes.now) }
 {
-    match outlined(alloc, program.shapes(), bytes) {
+    match read(alloc, program.shapes(), bytes) {
         Err(fault) => Err(unread(fault)),
         Ok(certificate) => {
             if !is_for(alloc, program, hook, &certificate)? {
                 return Err(CertFault::Other);
             }
-            match shown_budget(alloc, program, certificate.entries())? {
+            let room = bytes.len().saturating_mul(ROOM);
+            match shown_budget(alloc, program, certificate.entries(), room)? {
                 None => Err(CertFault::NotCovered),
                 Some(budget) => Ok(budget),
             }

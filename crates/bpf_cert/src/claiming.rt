@@ -1,18 +1,15 @@
 //! What the entries of a certificate claim.
 
-ghost use Rattle.std.specs.Prelude.{◌≡◌, IfOk, length, take};
+ghost use Rattle.std.specs.Prelude.{◌≡◌, length, take};
 ghost use Rattle.std.specs.List.{All, list_all};
 ghost use Rattle.bpf_cert_format.specs.Fits.{FitsEntry};
-ghost use Rattle.bpf_cert.specs.Built.{blank_view};
-ghost use Rattle.bpf_cert.specs.States.{callers_free as free, claim_of};
+ghost use Rattle.bpf_cert.specs.States.{callers_free as free, claim_of, state_of as describes};
 ghost use Rattle.bpf_rules.specs.Operands.{is_unset as unset};
 
-use crate::building::state_of;
 use crate::claim::Claim;
 use bpf_absstate::AbsState;
 use bpf_absval::AbsVal;
 use bpf_cert_format::{Entry, Frame};
-use std::alloc::{AllocError, Global};
 
 fn is_unset(value: AbsVal) -> bool
     ensures is { result ≡ unset value }
@@ -51,22 +48,16 @@ fn callers_free(frames: &[Frame]) -> bool
     true
 }
 
-/// What an entry claims. Its state is a copy of that in which nothing is known.
+/// What an entry claims that describes a state.
 #[tactic(auto, using(crate::proofs::Builds::registers_ten))]
-pub(crate) fn claim(
-    alloc: Global,
-    maps: usize,
-    blank: &AbsState,
-    entry: &Entry,
-) -> Result<Claim, AllocError>
-    requires blank { blank.now ≡ blank_view }
+pub(crate) fn claim(maps: usize, state: AbsState, entry: &Entry) -> Claim
+    requires described { state ≡ describes entry.now }
     requires fits { FitsEntry maps entry.now }
-    ensures is { IfOk result (λ claim. claim ≡ claim_of entry.now) }
+    ensures is { result ≡ claim_of entry.now }
 {
-    let state = state_of(alloc, maps, blank, entry)?;
-    Ok(Claim {
+    Claim {
         state,
         budget: entry.budget(),
         is_open: callers_free(entry.frames()),
-    })
+    }
 }

@@ -17,7 +17,7 @@ use crate::claim::Claim;
 use crate::claims::Claims;
 use crate::held::includes;
 use bpf_absstate::AbsState;
-use bpf_checks::examine;
+use bpf_checks::examine_moved;
 use bpf_decode::Program;
 use bpf_rules::{Fault, Ways};
 use std::alloc::{AllocError, Global};
@@ -98,23 +98,23 @@ fn refused(fault: Fault) -> Result<Step, AllocError>
     }
 }
 
-/// The instruction at a state, of which so many may be left behind it.
+/// The instruction at a state that is given up, of which so many may be left behind it.
 fn advance(
     alloc: Global,
     program: &Program,
     claims: &Claims,
-    state: &AbsState,
+    state: AbsState,
     left: u32,
 ) -> Result<Step, AllocError>
     ensures is { IfOk result
         (Goes program.now claims.now left
-        (LeadsWithin program.now claims.now (left + 1) state.now)) }
+        (LeadsWithin program.now claims.now (left + 1) state)) }
 {
     program.whole();
     if !begins(program, state.pc()) {
         return Ok(Step::Decided(false));
     }
-    match examine(alloc, program, state) {
+    match examine_moved(alloc, program, state) {
         Ok(ways) => {
             let step = follow(alloc, program, claims, ways, left)?;
             return Ok(step);
@@ -123,21 +123,21 @@ fn advance(
     }
 }
 
-/// Whether from a claim every way leads within its budget to EXIT or to a claim.
+/// Whether from a claim, which is given up, every way leads within its budget to EXIT or to a claim.
 pub(crate) fn leads(
     alloc: Global,
     program: &Program,
     claims: &Claims,
-    claim: &Claim,
+    claim: Claim,
 ) -> Result<bool, AllocError>
     ensures is { IfOk result
-        (λ told. Tells told (LeadsWithin program.now claims.now claim.now.budget claim.now.state)) }
+        (λ told. Tells told (LeadsWithin program.now claims.now claim.budget claim.state)) }
 {
-    let mut state = claim.state.clone()?;
+    let mut state = claim.state;
     let mut left = claim.budget;
     while left > 0 {
         left -= 1;
-        match advance(alloc, program, claims, &state, left)? {
+        match advance(alloc, program, claims, state, left)? {
             Step::Decided(told) => return Ok(told),
             Step::Onward(next) => state = next,
         }
@@ -151,7 +151,7 @@ fn are_kept(alloc: Global, program: &Program, claims: &Claims) -> Result<bool, A
 {
     for place in 0..claims.len() {
         let claim = claims.claim(alloc, place)?;
-        if !leads(alloc, program, claims, &claim)? {
+        if !leads(alloc, program, claims, claim)? {
             return Ok(false);
         }
     }

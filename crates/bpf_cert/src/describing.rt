@@ -5,9 +5,8 @@ ghost use Rattle.std.specs.Prelude.{◌<◌, ◌≤◌, length};
 use bpf_absstate::AbsState;
 use bpf_absval::{AbsSlot, AbsVal, Room};
 use bpf_cert_format::frame::Registers;
-use bpf_cert_format::{Entry, Frame};
+use bpf_cert_format::{Entry, Frame, KnownSlot, Slots};
 use bpf_insn::Reg;
-use bpf_stack::Stack;
 use std::alloc::{AllocError, Global};
 
 /// A slot of the code as a field of two bytes; slots are below 16384.
@@ -34,10 +33,10 @@ fn kept_registers_of(state: &AbsState) -> Registers {
 }
 
 /// What the stack slots of call frame `k` hold.
-fn stack_of(alloc: Global, state: &AbsState, k: usize) -> Result<Stack, AllocError>
+fn stack_of(alloc: Global, state: &AbsState, k: usize) -> Result<Slots, AllocError>
     requires lives { k < length state.now.frames }
 {
-    let mut stack = Stack::unset(alloc);
+    let mut stack = Slots::unset(alloc);
     for index in 0..64 {
         match state.slot(k, index) {
             AbsSlot::Unset => {}
@@ -90,10 +89,10 @@ fn add_label(labels: &mut Vec<u16>, value: AbsVal) -> Result<(), AllocError> {
     Ok(())
 }
 
-/// Adds the labels of the values that a stack holds.
-fn add_stack_labels(labels: &mut Vec<u16>, stack: &Stack) -> Result<(), AllocError> {
-    for index in 0..64 {
-        if let AbsSlot::Stored(value) = stack.get(index) {
+/// Adds the labels of the values that slots hold.
+fn add_slot_labels(labels: &mut Vec<u16>, slots: &[KnownSlot]) -> Result<(), AllocError> {
+    for one in slots {
+        if let AbsSlot::Stored(value) = one.slot {
             add_label(labels, value)?;
         }
     }
@@ -105,7 +104,7 @@ fn add_labels(labels: &mut Vec<u16>, frame: &Frame) -> Result<(), AllocError> {
     for value in frame.registers.as_slice() {
         add_label(labels, *value)?;
     }
-    add_stack_labels(labels, &frame.stack)
+    add_slot_labels(labels, frame.stack.known())
 }
 
 /// The labels that values of these call frames have, rising.

@@ -7,7 +7,7 @@ ghost use Rattle.bpf_cert.specs.Covered.{Includes};
 ghost use Rattle.bpf_cert.specs.States.{claim_of};
 ghost use Rattle.bpf_cert.specs.Steps.{Tells, Serves};
 
-use crate::building::blank;
+use crate::building::{blank, state_of};
 use crate::claim::Claim;
 use crate::claiming::claim;
 use bpf_absstate::{AbsState, Difference};
@@ -45,10 +45,11 @@ impl Model for Held {
 pub(crate) fn claim_of_unread(alloc: Global, unread: &Unread) -> Result<Claim, AllocError>
     ensures is { IfOk result (λ claim. claim ≡ claim_of (entry_from unread.now)) }
 {
+    let maps = unread.maps();
     let blank = blank(alloc)?;
     let entry = unread.entry(alloc)?;
-    let claim = claim(alloc, unread.maps(), &blank, &entry)?;
-    Ok(claim)
+    let state = state_of(alloc, maps, &blank, &entry)?;
+    Ok(claim(maps, state, &entry))
 }
 
 /// Whether a claim includes a state.

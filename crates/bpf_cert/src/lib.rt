@@ -17,6 +17,7 @@ pub mod fault;
 pub mod held;
 pub mod laws;
 mod sifting;
+mod source;
 mod widening;
 
 pub use certifying::{certificate, certificate_within};

@@ -173,7 +173,7 @@ impl Trial<'_> {
             budget: self.budget,
             is_open: true,
         };
-        leads(self.alloc, self.program, self.claims, &claim)
+        leads(self.alloc, self.program, self.claims, claim)
     }
 
     /// With as little of one register as can be.

@@ -8,3 +8,4 @@ pub mod Again
 pub mod Refusals
 pub mod Zeros
 pub mod Places
+pub mod Known

@@ -1,6 +1,5 @@
 -- A stack of which nothing is known is spelled by bytes of 0.
-use Rattle.std.proofs.Common.{◌≡◌, ℕ, zero, suc, ◌+◌, ◌≤◌, ◌<◌, List, [], ◌∷◌, ◌++◌, length, drop, get_or, replicate, Option, Some, refl, ap, ◌∙◌, arith}
-use Rattle.bpf_absval.specs.declared.slot.AbsSlot.{AbsSlot}
+use Rattle.std.proofs.Common.{◌≡◌, ℕ, zero, suc, ◌≤◌, ◌<◌, List, [], ◌∷◌, ◌++◌, length, drop, get_or, replicate, Some, refl, ap, ◌∙◌, arith}
 use Rattle.bpf_absval.specs.declared.slot.AbsSlot.TheVariants.{Unset}
 use Rattle.bpf_cert_format.specs.Reading.{many, cell_at}
 

@@ -5,3 +5,4 @@ pub mod Reading
 pub mod Answers
 pub mod Unread
 pub mod Leaves
+pub mod Slots

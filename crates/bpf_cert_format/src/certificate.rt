@@ -2,7 +2,7 @@
 
 ghost use Rattle.std.specs.Prelude.{◌≡◌};
 
-use crate::entry::Entry;
+use crate::leaf::Leaf;
 use bpf_regions::Hook;
 use std::marker::Model;
 
@@ -11,7 +11,7 @@ use std::marker::Model;
 pub struct Certificate {
     hook: Hook,
     code: Vec<u8>,
-    entries: Vec<Entry>,
+    entries: Vec<Leaf>,
 }
 
 impl Model for Certificate {
@@ -24,7 +24,7 @@ impl Model for Certificate {
 
 impl Certificate {
     /// A certificate from its parts.
-    pub fn new(hook: Hook, code: Vec<u8>, entries: Vec<Entry>) -> Certificate
+    pub fn new(hook: Hook, code: Vec<u8>, entries: Vec<Leaf>) -> Certificate
         ensures is { result ≡ record { hook = hook; code = code.items; entries = entries.items } }
     {
         Certificate {
@@ -49,7 +49,7 @@ impl Certificate {
     }
 
     /// What it says of the code.
-    pub fn entries(&self) -> &[Entry]
+    pub fn entries(&self) -> &[Leaf]
         ensures is { result.now ≡ self.now.entries }
     {
         self.entries.as_slice()

@@ -80,4 +80,14 @@ impl Entry {
     {
         self.frames.as_slice()
     }
+
+    /// About how many bytes of memory it takes, and as many again in a state.
+    pub fn weight(&self) -> usize {
+        let mut weight = 0usize;
+        for frame in self.frames.as_slice() {
+            weight = weight.saturating_add(frame.registers.weight());
+            weight = weight.saturating_add(frame.stack.weight());
+        }
+        weight
+    }
 }

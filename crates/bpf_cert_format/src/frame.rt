@@ -2,8 +2,8 @@
 
 ghost use Rattle.std.specs.Prelude.{◌≡◌};
 
+use crate::slots::Slots;
 use bpf_absval::AbsVal;
-use bpf_stack::Stack;
 use std::marker::Model;
 
 /// What R0 to R9 may hold.
@@ -21,6 +21,18 @@ impl Model for Registers {
     ghost view = { λ a. a.values };
 }
 
+/// How many of these values are set.
+fn set_count(values: &[AbsVal]) -> usize {
+    let mut count = 0usize;
+    for value in values {
+        match value {
+            AbsVal::Unset => {}
+            _ => count = count.saturating_add(1),
+        }
+    }
+    count
+}
+
 impl Registers {
     /// Ten values, from R0 on.
     pub fn new(values: [AbsVal; 10]) -> Registers
@@ -35,6 +47,13 @@ impl Registers {
     {
         &self.values
     }
+
+    /// About how many bytes of memory they take in a state.
+    pub fn weight(&self) -> usize {
+        set_count(&self.values)
+            .saturating_mul(96)
+            .saturating_add(384)
+    }
 }
 
 /// What is known of one function that is being run.
@@ -43,5 +62,5 @@ pub struct Frame {
     /// The slot at which its caller goes on; 0 for the main function.
     pub return_slot: u16,
     pub registers: Registers,
-    pub stack: Stack,
+    pub stack: Slots,
 }

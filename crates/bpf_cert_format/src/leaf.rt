@@ -33,8 +33,8 @@ impl Model for Leaf {
 }
 
 impl Leaf {
-    /// An entry that was read.
-    pub(crate) fn read(entry: Entry) -> Leaf
+    /// An entry whose value is at hand.
+    pub fn read(entry: Entry) -> Leaf
         ensures is { result ≡ entry }
     {
         Leaf {

@@ -1,6 +1,6 @@
 //! Certificates as bytes: each has one spelling, which is written and read.
 //!
-//! Main calls: `read`, `outlined` and `write`. It stands on the abstract states. What a certificate's bytes are is
+//! Main calls: `read` and `write`. It stands on the abstract states. What a certificate's bytes are is
 //! said in `specs/Spelling.antt` and `specs/Fits.antt`; `read` answers the one certificate that bytes
 //! spell, or that they spell none. What a certificate is good for is said elsewhere.
 #![tactic(auto)]
@@ -11,9 +11,9 @@ pub mod fault;
 mod fields;
 pub mod frame;
 pub mod leaf;
-pub mod outline;
 mod parts;
 pub mod reading;
+pub mod slots;
 pub mod unread;
 mod values;
 pub mod writing;
@@ -23,7 +23,7 @@ pub use entry::Entry;
 pub use fault::{ReadFault, WriteFault};
 pub use frame::Frame;
 pub use leaf::{Kind, Leaf};
-pub use outline::{Outline, outlined};
 pub use reading::read;
+pub use slots::{KnownSlot, Slots};
 pub use unread::Unread;
 pub use writing::write;

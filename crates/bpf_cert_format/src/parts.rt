@@ -9,9 +9,9 @@ use crate::entry::Entry;
 use crate::fault::ReadFault;
 use crate::fields::{byte_at, u16_at, u32_at};
 use crate::frame::{Frame, Registers};
+use crate::slots::Slots;
 use crate::values::{cell_at, value_at};
 use bpf_absval::{AbsSlot, AbsVal, Room};
-use bpf_stack::Stack;
 use std::alloc::{AllocError, Global};
 
 /// What R0 to R9 may hold.
@@ -35,7 +35,7 @@ fn registers_at(maps: usize, frames: usize, bytes: &[u8]) -> Result<(Registers, 
 }
 
 /// Puts what a slot holds that is unset so far.
-fn put_cell(stack: &mut Stack, index: usize, cell: AbsSlot) -> Result<(), AllocError>
+fn put_cell(stack: &mut Slots, index: usize, cell: AbsSlot) -> Result<(), AllocError>
     requires inside { index < 64 }
     requires unset { slice_index_or stack.old index Unset ≡ Unset }
     ensures is { OnOk result (stack.new ≡ slice_set stack.old index cell) }
@@ -53,12 +53,12 @@ fn stack_at(
     maps: usize,
     frames: usize,
     bytes: &[u8],
-) -> Result<(Stack, &[u8]), ReadFault>
+) -> Result<(Slots, &[u8]), ReadFault>
     requires few_maps { maps ≤ 16 }
     requires few_frames { frames ≤ 8 }
     ensures is { Gives (λ x. (x.0, x.1.now)) result (many (reads_cell maps frames) 64 bytes.now) }
 {
-    let mut stack = Stack::unset(alloc);
+    let mut stack = Slots::unset(alloc);
     let mut rest = bytes;
     for index in 0..64 {
         match cell_at(maps, frames, rest) {
@@ -91,14 +91,14 @@ fn any_stack_at(
     maps: usize,
     frames: usize,
     bytes: &[u8],
-) -> Result<(Stack, &[u8]), ReadFault>
+) -> Result<(Slots, &[u8]), ReadFault>
     requires few_maps { maps ≤ 16 }
     requires few_frames { frames ≤ 8 }
     ensures is { Gives (λ x. (x.0, x.1.now)) result (many (reads_cell maps frames) 64 bytes.now) }
 {
     if bytes.len() >= 64 && begins_unset(bytes) {
         let (_, rest) = bytes.split_at(64);
-        return Ok((Stack::unset(alloc), rest));
+        return Ok((Slots::unset(alloc), rest));
     }
     match stack_at(alloc, maps, frames, bytes) {
         Err(fault) => Err(fault),
@@ -261,29 +261,4 @@ pub(crate) fn entry_at(
         Err(fault) => Err(fault),
         Ok((frames, rest)) => Ok((Entry::new(pc, budget, least, rooms, frames), rest)),
     }
-}
-
-/// So many entries.
-pub(crate) fn entry_list_at(
-    alloc: Global,
-    maps: usize,
-    count: u32,
-    bytes: &[u8],
-) -> Result<(Vec<Entry>, &[u8]), ReadFault>
-    requires few_maps { maps ≤ 16 }
-    ensures is { Gives (λ x. (x.0.items, x.1.now)) result
-        (many (reads_entry maps) count bytes.now) }
-{
-    let mut list = Vec::new(alloc);
-    let mut rest = bytes;
-    for _ in 0..count {
-        match entry_at(alloc, maps, rest) {
-            Err(fault) => return Err(fault),
-            Ok((entry, after)) => {
-                list.push(entry)?;
-                rest = after;
-            }
-        }
-    }
-    Ok((list, rest))
 }

@@ -1,25 +1,33 @@
-//! Certificates from bytes.
+//! Certificates from bytes. Entries are kept as values while these take little memory; the others are read when they are
+//! looked at, so that what a certificate takes is a few times its bytes.
 
 ghost use Rattle.std.specs.Prelude.{◌≡◌, ◌≤◌, IfOk, length};
 ghost use Rattle.bpf_cert_format.specs.Answers.{Gives, Spells, Reads};
-ghost use Rattle.bpf_cert_format.specs.Reading.{magic_at as reads_magic, hook_named as names_hook, hook_at as reads_hook, code_at as reads_code, entries_at as reads_entries, all_of};
+ghost use Rattle.bpf_cert_format.specs.Reading.{many, magic_at as reads_magic, hook_named as names_hook, hook_at as reads_hook, code_at as reads_code, entry_at as reads_entry, entries_at as reads_entries, all_of};
+ghost use Rattle.bpf_cert_format.specs.Unread.{entry_from};
 ghost use Rattle.bpf_cert_format.specs.Views.{CertificateView};
 
 use crate::certificate::Certificate;
 use crate::entry::Entry;
 use crate::fault::ReadFault;
 use crate::fields::{byte_at, bytes_at, u16_at, u32_at};
-use crate::parts::entry_list_at;
+use crate::leaf::Leaf;
+use crate::parts::entry_at;
+use crate::unread::{Text, Unread};
 use bpf_interval::laws::place_law;
 use bpf_regions::{Hook, Shapes};
-use std::alloc::Global;
+use std::alloc::{AllocError, Global};
+use std::rc::Rc;
 
 /// The first four bytes, 41 50 43 32, as a little-endian number.
 const MAGIC: u32 = 843272257;
 
+/// How many bytes of memory the values of entries may take.
+const ROOM: usize = 1 << 23;
+
 /// The first four bytes.
 #[tactic(auto, unfolding(crate::specs::Reading::magic_at))]
-pub(crate) fn magic_at(bytes: &[u8]) -> Result<(u32, &[u8]), ReadFault>
+fn magic_at(bytes: &[u8]) -> Result<(u32, &[u8]), ReadFault>
     ensures is { Gives (λ x. (x.0, x.1.now)) result (reads_magic bytes.now) }
 {
     let (magic, rest) = u32_at(bytes)?;
@@ -43,7 +51,7 @@ fn hook_named(number: u8) -> Option<Hook>
 
 /// A hook.
 #[tactic(auto, unfolding(crate::specs::Reading::hook_at))]
-pub(crate) fn hook_at(bytes: &[u8]) -> Result<(Hook, &[u8]), ReadFault>
+fn hook_at(bytes: &[u8]) -> Result<(Hook, &[u8]), ReadFault>
     ensures is { Gives (λ x. (x.0, x.1.now)) result (reads_hook bytes.now) }
 {
     let (number, rest) = byte_at(bytes)?;
@@ -55,7 +63,7 @@ pub(crate) fn hook_at(bytes: &[u8]) -> Result<(Hook, &[u8]), ReadFault>
 
 /// The bytes of the code.
 #[tactic(auto, unfolding(crate::specs::Reading::code_at))]
-pub(crate) fn code_at(bytes: &[u8]) -> Result<(&[u8], &[u8]), ReadFault>
+fn code_at(bytes: &[u8]) -> Result<(&[u8], &[u8]), ReadFault>
     ensures is { Gives (λ x. (x.0.now, x.1.now)) result (reads_code bytes.now) }
 {
     let (slots, rest) = u16_at(bytes)?;
@@ -63,14 +71,58 @@ pub(crate) fn code_at(bytes: &[u8]) -> Result<(&[u8], &[u8]), ReadFault>
     Ok((code, rest))
 }
 
+/// What is kept of an entry that was read at a place: its value, or the place.
+fn leaf(text: &Rc<Text>, place: usize, entry: Entry, is_kept: bool) -> Result<Leaf, AllocError>
+    requires there { entry ≡ entry_from (record { text = text.now.value; place = place }) }
+    ensures is { IfOk result (λ leaf. leaf ≡ entry) }
+{
+    if is_kept {
+        return Ok(Leaf::read(entry));
+    }
+    let unread = Unread::new(text, place)?;
+    Ok(Leaf::unread(unread))
+}
+
+/// So many entries. Those that come first are kept as values.
+fn leaf_list_at(
+    alloc: Global,
+    maps: usize,
+    count: u32,
+    bytes: &[u8],
+) -> Result<(Vec<Leaf>, &[u8]), ReadFault>
+    requires few_maps { maps ≤ 16 }
+    ensures is { Gives (λ x. (x.0.items, x.1.now)) result
+        (many (reads_entry maps) count bytes.now) }
+{
+    place_law();
+    let text = Text::shared(alloc, maps, bytes)?;
+    let mut list = Vec::new(alloc);
+    let mut rest = bytes;
+    let mut room = ROOM;
+    for _ in 0..count {
+        let place = bytes.len() - rest.len();
+        match entry_at(alloc, maps, rest) {
+            Err(fault) => return Err(fault),
+            Ok((entry, after)) => {
+                let weight = entry.weight();
+                let one = leaf(&text, place, entry, weight <= room)?;
+                list.push(one)?;
+                room = room.saturating_sub(weight);
+                rest = after;
+            }
+        }
+    }
+    Ok((list, rest))
+}
+
 /// The entries.
 #[tactic(auto, unfolding(crate::specs::Reading::entries_at))]
-fn entries_at(alloc: Global, maps: usize, bytes: &[u8]) -> Result<(Vec<Entry>, &[u8]), ReadFault>
+fn entries_at(alloc: Global, maps: usize, bytes: &[u8]) -> Result<(Vec<Leaf>, &[u8]), ReadFault>
     requires few_maps { maps ≤ 16 }
     ensures is { Gives (λ x. (x.0.items, x.1.now)) result (reads_entries maps bytes.now) }
 {
     let (count, rest) = u32_at(bytes)?;
-    entry_list_at(alloc, maps, count, rest)
+    leaf_list_at(alloc, maps, count, rest)
 }
 
 /// The certificate that is the whole of the bytes, where there are so many maps.

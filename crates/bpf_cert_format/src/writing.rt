@@ -12,11 +12,11 @@ use crate::certificate::Certificate;
 use crate::entry::Entry;
 use crate::fault::WriteFault;
 use crate::frame::Frame;
+use crate::leaf::{Kind, Leaf};
 use bpf_absnum::AbsNum;
 use bpf_absval::{AbsRegion, AbsSlot, AbsVal, Label, Room};
 use bpf_interval::laws::place_law;
 use bpf_interval::{Interval, SignedInterval};
-use bpf_stack::Stack;
 use bpf_tnum::Tnum;
 use std::alloc::{AllocError, Global};
 
@@ -217,14 +217,13 @@ fn put_values(out: &mut Vec<u8>, values: &[AbsVal]) -> Result<(), WriteFault>
     Ok(())
 }
 
-fn put_stack(out: &mut Vec<u8>, stack: &Stack) -> Result<(), WriteFault>
-    ensures is { OnOk result (out.new.items ≡ out.old.items ++ flat_map cell_bytes stack.now) }
+fn put_slots(out: &mut Vec<u8>, slots: &[AbsSlot]) -> Result<(), WriteFault>
+    ensures is { OnOk result (out.new.items ≡ out.old.items ++ flat_map cell_bytes slots.now) }
     ensures fitting { (maps count : ℕ) → maps ≤ 224 → count ≤ 8 →
-        AllByRecursion (FitsCell maps count) stack.now → RefusedForMemoryAlone result }
+        AllByRecursion (FitsCell maps count) slots.now → RefusedForMemoryAlone result }
 {
-    stack.whole();
-    for index in 0..64 {
-        put_cell(out, stack.get(index))?;
+    for slot in slots {
+        put_cell(out, *slot)?;
     }
     Ok(())
 }
@@ -236,7 +235,8 @@ fn put_frame(out: &mut Vec<u8>, frame: &Frame) -> Result<(), WriteFault>
 {
     put_u16(out, frame.return_slot)?;
     put_values(out, frame.registers.as_slice())?;
-    put_stack(out, &frame.stack)?;
+    let slots = frame.stack.all();
+    put_slots(out, &slots)?;
     Ok(())
 }
 
@@ -299,27 +299,46 @@ fn put_entry(out: &mut Vec<u8>, entry: &Entry) -> Result<(), WriteFault>
     Ok(())
 }
 
-fn put_entry_list(out: &mut Vec<u8>, entries: &[Entry]) -> Result<(), WriteFault>
-    ensures is { OnOk result (out.new.items ≡ out.old.items ++ flat_map entry_bytes entries.now) }
-    ensures fitting { (maps : ℕ) → maps ≤ 224 → AllByRecursion (FitsEntry maps) entries.now →
+/// An entry, which is read for it if its value isn't at hand.
+fn put_leaf(alloc: Global, out: &mut Vec<u8>, leaf: &Leaf) -> Result<(), WriteFault>
+    ensures is { OnOk result (out.new.items ≡ out.old.items ++ entry_bytes leaf.now) }
+    ensures fitting { (maps : ℕ) → maps ≤ 224 → FitsEntry maps leaf.now →
         RefusedForMemoryAlone result }
 {
-    for entry in entries {
-        put_entry(out, entry)?;
+    match leaf.kind() {
+        Kind::Read(entry) => {
+            put_entry(out, entry)?;
+            return Ok(());
+        }
+        Kind::Spelled(unread) => {
+            let entry = unread.entry(alloc)?;
+            put_entry(out, &entry)?;
+            return Ok(());
+        }
+    }
+}
+
+fn put_leaf_list(alloc: Global, out: &mut Vec<u8>, leaves: &[Leaf]) -> Result<(), WriteFault>
+    ensures is { OnOk result (out.new.items ≡ out.old.items ++ flat_map entry_bytes leaves.now) }
+    ensures fitting { (maps : ℕ) → maps ≤ 224 → AllByRecursion (FitsEntry maps) leaves.now →
+        RefusedForMemoryAlone result }
+{
+    for leaf in leaves {
+        put_leaf(alloc, out, leaf)?;
     }
     Ok(())
 }
 
-fn put_entries(out: &mut Vec<u8>, entries: &[Entry]) -> Result<(), WriteFault>
-    ensures is { OnOk result (out.new.items ≡ out.old.items ++ entries_bytes entries.now) }
-    ensures fitting { (maps : ℕ) → maps ≤ 224 → length entries.now < 2 ^ 32 →
-        AllByRecursion (FitsEntry maps) entries.now → RefusedForMemoryAlone result }
+fn put_entries(alloc: Global, out: &mut Vec<u8>, leaves: &[Leaf]) -> Result<(), WriteFault>
+    ensures is { OnOk result (out.new.items ≡ out.old.items ++ entries_bytes leaves.now) }
+    ensures fitting { (maps : ℕ) → maps ≤ 224 → length leaves.now < 2 ^ 32 →
+        AllByRecursion (FitsEntry maps) leaves.now → RefusedForMemoryAlone result }
 {
-    if entries.len() > 4294967295 {
+    if leaves.len() > 4294967295 {
         return Err(WriteFault::TooLarge);
     }
-    put_u32(out, entries.len() as u32)?;
-    put_entry_list(out, entries)?;
+    put_u32(out, leaves.len() as u32)?;
+    put_leaf_list(alloc, out, leaves)?;
     Ok(())
 }
 
@@ -351,6 +370,6 @@ pub fn write(alloc: Global, certificate: &Certificate) -> Result<Vec<u8>, WriteF
     out.extend_from_slice(b"APC2")?;
     out.push(certificate.hook().number())?;
     put_code(&mut out, certificate.code())?;
-    put_entries(&mut out, certificate.entries())?;
+    put_entries(alloc, &mut out, certificate.entries())?;
     Ok(out)
 }

@@ -6,9 +6,8 @@ use bpf_absnum::AbsNum;
 use bpf_absval::AbsVal;
 use bpf_cert::check;
 use bpf_cert_format::frame::Registers;
-use bpf_cert_format::{Certificate, Entry, Frame, write};
+use bpf_cert_format::{Certificate, Entry, Frame, Leaf, Slots, write};
 use bpf_regions::Hook;
-use bpf_stack::Stack;
 use bpf_text::assemble;
 use std::alloc::Global;
 use std::process::Abort;
@@ -26,7 +25,7 @@ fn all_states(rt: &impl Abort, alloc: Global, pc: u16, budget: u32, first: AbsVa
     let frame = Frame {
         return_slot: 0,
         registers: Registers::new(values),
-        stack: Stack::unset(alloc),
+        stack: Slots::unset(alloc),
     };
     frames.push(frame).ok().expect(rt, "memory");
     Entry::new(pc, budget, 0, Vec::new(alloc), frames)
@@ -36,8 +35,8 @@ fn any_number() -> AbsVal {
     AbsVal::Number(AbsNum::full())
 }
 
-fn add(rt: &impl Abort, entries: &mut Vec<Entry>, entry: Entry) {
-    entries.push(entry).ok().expect(rt, "memory");
+fn add(rt: &impl Abort, entries: &mut Vec<Leaf>, entry: Entry) {
+    entries.push(Leaf::read(entry)).ok().expect(rt, "memory");
 }
 
 /// One entry for the start, one for both ways, and one for their ends. For all numbers in R0 the

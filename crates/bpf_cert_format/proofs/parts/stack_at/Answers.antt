@@ -15,7 +15,7 @@ all_unset k = elim (cases_lt k 64) [
 
 pub loop-index-init : goal.loop-index-init
 loop-index-init c =
-    record { read = with_none (many (cell_at c.args.maps c.args.frames) 64 c.args.bytes.now); all = ap length c.unset-stack.ensures; unset = λ k le. ap (λ (l : List AbsSlot). get_or l k Unset) c.unset-stack.ensures ∙ all_unset k }
+    record { read = with_none (many (cell_at c.args.maps c.args.frames) 64 c.args.bytes.now); all = ap length c.unset-stack.ensures.is; unset = λ k le. ap (λ (l : List AbsSlot). get_or l k Unset) c.unset-stack.ensures.is ∙ all_unset k }
 
 pub returns-in-Err : goal.returns-in-Err
 returns-in-Err c =

@@ -2,7 +2,7 @@ use Rattle.std.proofs.Common.{◌≡◌, ◌-◌}
 use Rattle.bpf_cert_format.specs.Reading.{many, entry_at}
 use Rattle.bpf_cert_format.proofs.Loops.{with_front}
 use Rattle.bpf_cert_format.proofs.Places.{IsLast}
-use Rattle.bpf_cert_format.proofs.outline.leaf_list_at.Given as goal
+use Rattle.bpf_cert_format.proofs.reading.leaf_list_at.Given as goal
 
 abbrev pub invariant-loop : goal.invariant-loop
 invariant-loop l = record {

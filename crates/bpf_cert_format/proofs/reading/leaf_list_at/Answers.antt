@@ -3,7 +3,7 @@ use Rattle.bpf_cert_format.specs.Views.{EntryView}
 use Rattle.bpf_cert_format.specs.Reading.{many, entry_at}
 use Rattle.bpf_cert_format.proofs.Loops.{goes_on, ends, is_done}
 use Rattle.bpf_cert_format.proofs.Places.{all_last, entry_behind, stands_there}
-use Rattle.bpf_cert_format.proofs.outline.leaf_list_at.Goals as goal
+use Rattle.bpf_cert_format.proofs.reading.leaf_list_at.Goals as goal
 
 pub loop-init : goal.loop-init
 loop-init c = record { read = search rules; last = all_last c.args.bytes.now }

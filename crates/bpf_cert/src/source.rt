@@ -1,0 +1,62 @@
+//! Claims that are made of entries, as long as they take little memory.
+
+ghost use Rattle.std.specs.Prelude.{◌≡◌, IfOk};
+ghost use Rattle.bpf_cert_format.specs.Fits.{FitsEntry};
+ghost use Rattle.bpf_cert.specs.States.{claim_of};
+
+use crate::building::{blank, state_of};
+use crate::claim::Claim;
+use crate::claiming::claim;
+use bpf_absstate::AbsState;
+use bpf_cert_format::Entry;
+use std::alloc::{AllocError, Global};
+use std::marker::Model;
+
+/// What claims are made of, and how much memory they may take.
+#[derive(Drop)]
+pub struct Source {
+    /// The state in which nothing is known.
+    blank: AbsState,
+    /// About how many bytes are left.
+    room: usize,
+}
+
+impl Model for Source {
+    ghost use Rattle.std.specs.Prelude.{◌≡◌};
+    ghost use Rattle.bpf_absstate.specs.View.{View};
+    ghost use Rattle.bpf_cert.specs.Built.{blank_view};
+
+    ghost Value = { View };
+
+    ghost view = { λ a. a.blank };
+
+    ghost invariant = { λ a. a.blank ≡ blank_view };
+}
+
+impl Source {
+    /// Where claims may take about so many bytes.
+    pub(crate) fn new(alloc: Global, room: usize) -> Result<Source, AllocError> {
+        let blank = blank(alloc)?;
+        Ok(Source { blank, room })
+    }
+
+    /// Whether claims may take more memory.
+    pub(crate) fn has_room(&self) -> bool {
+        self.room > 0
+    }
+
+    /// What an entry claims. It counts as kept.
+    pub(crate) fn claim(
+        &mut self,
+        alloc: Global,
+        maps: usize,
+        entry: &Entry,
+    ) -> Result<Claim, AllocError>
+        requires fits { FitsEntry maps entry.now }
+        ensures is { IfOk result (λ claim. claim ≡ claim_of entry.now) }
+    {
+        self.room = self.room.saturating_sub(entry.weight());
+        let state = state_of(alloc, maps, &self.blank, entry)?;
+        Ok(claim(maps, state, entry))
+    }
+}
