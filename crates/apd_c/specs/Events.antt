@@ -28,7 +28,7 @@ pub record IsLed (a : Parts) (m : Maps) (event : Event) (outs : List Out) (a' : 
 
 -- the same where the content is an access point
 abbrev pub HasLed : Option Content → Maps → Event → List Out → Option Content → Maps → Type 0
-HasLed o m event outs o' m' = (a : Parts) × (a' : Parts) × (o ≡ Some (content.Link a)) × (o' ≡ Some (content.Link a')) × IsLed a m event outs a' m'
+HasLed o m event outs o' m' = (a : Parts) × (a' : Parts) × (link_of o ≡ Some a) × (link_of o' ≡ Some a') × IsLed a m event outs a' m'
 
 -- the same over the maps that a handle holds
 abbrev pub HasLedTo : Event → Option Content → Option Content → List Out → Option Content → Option Content → Type 0
@@ -41,7 +41,7 @@ LeadsTo event o maps outs o' maps' = HasLedTo event o maps (outs_of outs) o' map
 -- An access point reads what it read, and maps have what they had; all else is the same.
 pub data Stays (o o' : Option Content) : Type 0 where
   same : o' ≡ o → Stays o o'
-  like : (a a' : Parts) → o ≡ Some (content.Link a) → o' ≡ Some (content.Link a') → IsLike a a' → Stays o o'
+  like : (a a' : Parts) → link_of o ≡ Some a → link_of o' ≡ Some a' → IsLike a a' → Stays o o'
   kept : (m m' : Maps) → o ≡ Some (content.Maps m) → o' ≡ Some (content.Maps m') → IsSame m m' → Stays o o'
 
 -- What an event comes to, at the access point of one handle and over the maps of another: 0 fills a third with what came

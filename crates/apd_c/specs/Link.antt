@@ -25,6 +25,11 @@ pub record IsNetwork (n : Network) : Type 0 where
   pub some : 1 ≤ n.rate_count
   pub few : n.rate_count ≤ 8
 
+-- the access point that is held
+abbrev pub link_of : Option Content → Option Parts
+link_of (Some (content.Link boxed)) = Some boxed.value
+link_of _ = None
+
 -- 0, or 90 exactly where the name, the rates or a shape are out of their limits; 40 for want of memory
 abbrev pub IsNewNumber : Network → List MapShape → ℕ → Type 0
 IsNewNumber network shapes = Perhaps 40 (Unless (IsNetwork network × AreInLimits shapes) 90 IsDone)
@@ -41,7 +46,7 @@ pub record IsMade (network : Network) (shapes : List MapShape) (a : Parts) : Typ
 
 -- the content is such an access point
 abbrev pub HoldsMade : Network → List MapShape → Option Content → Type 0
-HoldsMade network shapes o = (a : Parts) × (o ≡ Some (content.Link a)) × IsMade network shapes a
+HoldsMade network shapes o = (a : Parts) × (link_of o ≡ Some a) × IsMade network shapes a
 
 -- the program, which was verified for this hook and for the access point's maps, in place of the one that was there
 pub record Puts (hook : Hook) (program : Verified) (a a' : Parts) : Type 0 where
@@ -52,12 +57,7 @@ pub record Puts (hook : Hook) (program : Verified) (a a' : Parts) : Type 0 where
 
 -- the same where the content is an access point
 abbrev pub HasPut : Hook → Verified → Option Content → Option Content → Type 0
-HasPut hook program o o' = (a : Parts) × (a' : Parts) × (o ≡ Some (content.Link a)) × (o' ≡ Some (content.Link a')) × Puts hook program a a'
-
--- the access point that is held
-abbrev pub link_of : Option Content → Option Parts
-link_of (Some (content.Link a)) = Some a
-link_of _ = None
+HasPut hook program o o' = (a : Parts) × (a' : Parts) × (link_of o ≡ Some a) × (link_of o' ≡ Some a') × Puts hook program a a'
 
 -- 0, or 95 exactly where the program was verified for another hook; else 93 exactly where it is for maps of other shapes
 abbrev pub IsPutNumber : ℕ → Verified → Parts → ℕ → Type 0

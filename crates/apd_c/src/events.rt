@@ -12,7 +12,6 @@ use crate::answer::{NO_MEMORY, NOT_EMPTY, OTHER_MAPS, OTHER_VALUE, OUT_OF_LIMITS
 use crate::handle::{Content, Handle};
 use crate::maps::Maps;
 use crate::runs::are_alike;
-use crate::words::{put_maps, take_maps};
 use ap_core::{Event, Octets, Out};
 use ap_single::AccessPoint;
 use mac_types::{Address, Reason, Tid};
@@ -29,35 +28,22 @@ pub struct Station {
 fn lead(
     alloc: Global,
     access_point: &mut AccessPoint,
-    maps: Maps,
+    maps: &mut Maps,
     event: Event,
-) -> (Maps, Result<Vec<Out>, u32>)
-    ensures ok { IfOk result.1 (λ outs.
-        IsLed access_point.old maps event outs.items access_point.new result.0) }
-    ensures err { IfErr result.1 (λ number. number ≢ 0) }
-    ensures kept { OnErr result.1 (IsLike access_point.old access_point.new
-        × IsSame maps result.0) }
-    ensures number { IsNumberOver maps access_point.old (number_in result.1) }
+) -> Result<Vec<Out>, u32>
+    ensures ok { IfOk result (λ outs.
+        IsLed access_point.old maps.old event outs.items access_point.new maps.new) }
+    ensures err { IfErr result (λ number. number ≢ 0) }
+    ensures kept { OnErr result (IsLike access_point.old access_point.new
+        × IsSame maps.old maps.new) }
+    ensures number { IsNumberOver maps.old access_point.old (number_in result) }
 {
     if !are_alike(access_point.shapes().as_slice(), maps.shapes.as_slice()) {
-        return (maps, Err(OTHER_MAPS));
+        return Err(OTHER_MAPS);
     }
-    let Maps {
-        shapes,
-        tables,
-        mut state,
-        hand,
-    } = maps;
-    let outs = access_point.handle(alloc, event, tables.maps(), &mut state);
-    let after = Maps {
-        shapes,
-        tables,
-        state,
-        hand,
-    };
-    match outs {
-        None => return (after, Err(NO_MEMORY)),
-        Some(outs) => return (after, Ok(outs)),
+    match access_point.handle(alloc, event, maps.tables.maps(), &mut maps.state) {
+        None => return Err(NO_MEMORY),
+        Some(outs) => return Ok(outs),
     }
 }
 
@@ -65,47 +51,66 @@ fn lead(
 fn lead_in(
     alloc: Global,
     content: &mut Content,
-    maps: Maps,
+    maps: &mut Maps,
     event: Event,
-) -> (Maps, Result<Vec<Out>, u32>)
-    ensures ok { IfOk result.1 (λ outs.
-        HasLed (Some content.old) maps event outs.items (Some content.new) result.0) }
-    ensures err { IfErr result.1 (λ number. number ≢ 0) }
-    ensures kept { OnErr result.1 (Stays (Some content.old) (Some content.new)
-        × IsSame maps result.0) }
-    ensures number { UnlessSome (link_of (Some content.old)) 91 (IsNumberOver maps)
-        (number_in result.1) }
+) -> Result<Vec<Out>, u32>
+    ensures ok { IfOk result (λ outs.
+        HasLed (Some content.old) maps.old event outs.items (Some content.new) maps.new) }
+    ensures err { IfErr result (λ number. number ≢ 0) }
+    ensures kept { OnErr result (Stays (Some content.old) (Some content.new)
+        × IsSame maps.old maps.new) }
+    ensures number { UnlessSome (link_of (Some content.old)) 91 (IsNumberOver maps.old)
+        (number_in result) }
 {
     match content {
         Content::Link(access_point) => {
-            let (maps, result) = lead(alloc, access_point, maps, event);
-            return (maps, result);
+            let led = lead(alloc, access_point, maps, event);
+            return led;
         }
-        _ => return (maps, Err(OTHER_VALUE)),
+        _ => return Err(OTHER_VALUE),
     }
 }
 
 /// The same where a handle holds an access point.
-fn lead_at(
-    alloc: Global,
-    link: &mut Handle,
-    maps: Maps,
-    event: Event,
-) -> (Maps, Result<Vec<Out>, u32>)
-    ensures ok { IfOk result.1 (λ outs.
-        HasLed (held link.old) maps event outs.items (held link.new) result.0) }
-    ensures err { IfErr result.1 (λ number. number ≢ 0) }
-    ensures kept { OnErr result.1 (Stays (held link.old) (held link.new) × IsSame maps result.0) }
-    ensures number { UnlessSome (link_of (held link.old)) 91 (IsNumberOver maps)
-        (number_in result.1) }
+fn lead_at(alloc: Global, link: &mut Handle, maps: &mut Maps, event: Event) -> Result<Vec<Out>, u32>
+    ensures ok { IfOk result (λ outs.
+        HasLed (held link.old) maps.old event outs.items (held link.new) maps.new) }
+    ensures err { IfErr result (λ number. number ≢ 0) }
+    ensures kept { OnErr result
+        (Stays (held link.old) (held link.new) × IsSame maps.old maps.new) }
+    ensures number { UnlessSome (link_of (held link.old)) 91 (IsNumberOver maps.old)
+        (number_in result) }
 {
     match link.take(alloc) {
-        None => return (maps, Err(OTHER_VALUE)),
+        None => return Err(OTHER_VALUE),
         Some(mut content) => {
-            let (maps, result) = lead_in(alloc, &mut content, maps, event);
+            let led = lead_in(alloc, &mut content, maps, event);
             link.put(content);
-            return (maps, result);
+            return led;
         }
+    }
+}
+
+/// The same over a content that is maps.
+fn lead_on(
+    alloc: Global,
+    link: &mut Handle,
+    content: &mut Content,
+    event: Event,
+) -> Result<Vec<Out>, u32>
+    ensures ok { IfOk result (λ outs. HasLedTo event (held link.old) (Some content.old) outs.items
+        (held link.new) (Some content.new)) }
+    ensures err { IfErr result (λ number. number ≢ 0) }
+    ensures kept { OnErr result (Stays (held link.old) (held link.new)
+        × Stays (Some content.old) (Some content.new)) }
+    ensures number { IsNumberAt (held link.old) (Some content.old) (number_in result) }
+{
+    match content {
+        Content::Maps(maps) => {
+            let led = lead_at(alloc, link, maps, event);
+            return led;
+        }
+        _ => return Err(OTHER_VALUE),
     }
 }
 
@@ -123,12 +128,12 @@ fn lead_over(
         (Stays (held link.old) (held link.new) × Stays (held maps.old) (held maps.new)) }
     ensures number { IsNumberAt (held link.old) (held maps.old) (number_in result) }
 {
-    match take_maps(alloc, maps) {
+    match maps.take(alloc) {
         None => return Err(OTHER_VALUE),
-        Some((boxed, words)) => {
-            let (words, result) = lead_at(alloc, link, words, event);
-            put_maps(maps, boxed, words);
-            return result;
+        Some(mut content) => {
+            let led = lead_on(alloc, link, &mut content, event);
+            maps.put(content);
+            return led;
         }
     }
 }
@@ -154,7 +159,7 @@ fn lead_to(
         Ok(mut boxed) => match lead_over(alloc, link, maps, event) {
             Err(number) => return number,
             Ok(list) => {
-                drop(Box::replace(&mut boxed, Content::Outs(list)));
+                *boxed = Content::Outs(list);
                 outs.put(boxed);
                 return 0;
             }

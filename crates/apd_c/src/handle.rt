@@ -25,8 +25,8 @@ pub enum Content {
     Maps(Maps),
     /// Bytes that C reads by `apd_c_read`.
     Bytes(Vec<u8>),
-    /// Eight shards and their programs.
-    Link(AccessPoint),
+    /// Eight shards and their programs. They have a box of their own, so that the others are small.
+    Link(Box<AccessPoint>),
     /// What came out of an event.
     Outs(Vec<Out>),
 }

@@ -40,9 +40,9 @@ fn config_from(alloc: Global, network: &Network) -> Result<Option<LinkConfig>, A
     Ok(LinkConfig::new(Address::new(network.bssid), name, rates))
 }
 
-/// An access point that has handled nothing.
-fn made(alloc: Global, network: &Network, shapes: &[MapShape]) -> Result<AccessPoint, u32>
-    ensures ok { IfOk result (IsMade network.now shapes.now) }
+/// An access point that has handled nothing, in a box of its own.
+fn made(alloc: Global, network: &Network, shapes: &[MapShape]) -> Result<Box<AccessPoint>, u32>
+    ensures ok { IfOk result (λ boxed. IsMade network.now shapes.now boxed.value) }
     ensures err { IfErr result (λ number. number ≢ 0) }
     ensures number { IsNewNumber network.now shapes.now (number_in result) }
 {
@@ -54,7 +54,10 @@ fn made(alloc: Global, network: &Network, shapes: &[MapShape]) -> Result<AccessP
             Ok(None) => return Err(OUT_OF_LIMITS),
             Ok(Some(shapes)) => match AccessPoint::new(alloc, &config, shapes) {
                 Err(_) => return Err(NO_MEMORY),
-                Ok(made) => return Ok(made),
+                Ok(made) => match Box::new(alloc, made) {
+                    Err(_) => return Err(NO_MEMORY),
+                    Ok(boxed) => return Ok(boxed),
+                },
             },
         },
     }
@@ -81,8 +84,8 @@ pub extern "C" fn apd_c_link(
     }
     match made(alloc, network, shapes) {
         Err(number) => return number,
-        Ok(access_point) => {
-            let answer = link.fill(alloc, Content::Link(access_point));
+        Ok(boxed) => {
+            let answer = link.fill(alloc, Content::Link(boxed));
             return answer.number;
         }
     }

@@ -1,15 +1,14 @@
 //! Programs that run.
 
-ghost use Rattle.std.specs.Prelude.{◌≡◌, ◌≢◌, ◌≤◌, ◌↔◌, Some, IsTrue, take};
+ghost use Rattle.std.specs.Prelude.{◌≡◌, ◌≢◌, ◌≤◌, ◌↔◌, Some, IsTrue, IfOk, IfErr, OnErr, take};
 ghost use Rattle.apd_c.specs.Held.{held};
-ghost use Rattle.apd_c.specs.Answers.{UnlessSome};
+ghost use Rattle.apd_c.specs.Answers.{UnlessSome, number_in};
 ghost use Rattle.apd_c.specs.Words.{maps_of};
-ghost use Rattle.apd_c.specs.Runs.{RunsOn, HasRun, RunsCode, IsNumberOn, IsRunNumber};
+ghost use Rattle.apd_c.specs.Runs.{RunsOn, HasRun, RunsCode, Reports, ReportsRun, IsNumberOn, IsRunNumber};
 
 use crate::answer::{OTHER_MAPS, OTHER_VALUE, OUT_OF_LIMITS};
 use crate::handle::{Content, Handle};
 use crate::maps::Maps;
-use crate::words::{put_maps, take_maps};
 use bpf_helpers::{WorkerView, run_hook};
 use bpf_machine::{Accepted, Outcome};
 use bpf_regions::{Context, Frame, Shape};
@@ -52,9 +51,7 @@ fn refused(number: u32) -> Report
 /// The report of a run.
 fn reported(outcome: &Outcome) -> Report
     ensures number { result.number ≡ 0 }
-    ensures r0 { result.r0 ≡ outcome.now.r0 }
-    ensures steps { result.steps ≡ outcome.now.steps }
-    ensures notes { take result.count result.notes ≡ outcome.now.notes.items }
+    ensures reports { Reports result outcome.now }
 {
     let listed = outcome.notes.as_slice();
     let count = listed.len();
@@ -76,46 +73,57 @@ pub(crate) fn are_alike(shapes: &[Shape], others: &[Shape]) -> bool
 }
 
 /// The run of a program on a frame, over its maps.
-fn run_on(accepted: &Accepted, maps: Maps, frame: &[u8], given: &Given) -> (Maps, Report)
-    ensures run { result.1.number ≡ 0 →
-        RunsOn accepted.now maps frame.now given.now result.1 result.0 }
-    ensures refused { result.1.number ≢ 0 → result.0 ≡ maps }
-    ensures number { IsNumberOn accepted.now maps frame.now given.now result.1.number }
+fn run_on(accepted: &Accepted, maps: &mut Maps, frame: &[u8], given: &Given) -> Result<Outcome, u32>
+    ensures run { IfOk result
+        (λ outcome. RunsOn accepted.now maps.old frame.now given.now outcome maps.new) }
+    ensures err { IfErr result (λ number. number ≢ 0) }
+    ensures refused { OnErr result (maps.new ≡ maps.old) }
+    ensures number { IsNumberOn accepted.now maps.old frame.now given.now (number_in result) }
 {
     let Some(frame) = Frame::new(frame) else {
-        return (maps, refused(OUT_OF_LIMITS));
+        return Err(OUT_OF_LIMITS);
     };
     if given.stations > 2007 {
-        return (maps, refused(OUT_OF_LIMITS));
+        return Err(OUT_OF_LIMITS);
     }
     if !are_alike(
         maps.shapes.as_slice(),
         accepted.program().shapes().as_slice(),
     ) {
-        return (maps, refused(OTHER_MAPS));
+        return Err(OTHER_MAPS);
     }
-    let Maps {
-        shapes,
-        tables,
-        mut state,
-        hand,
-    } = maps;
+    let context = Context::new(given.context);
     let view = WorkerView {
-        maps: tables.maps(),
+        maps: maps.tables.maps(),
         worker: 0,
         clock: given.clock,
         stations: given.stations,
     };
-    let context = Context::new(given.context);
-    let outcome = run_hook(accepted, &frame, &context, view, &mut state);
-    let report = reported(&outcome);
-    let after = Maps {
-        shapes,
-        tables,
-        state,
-        hand,
-    };
-    return (after, report);
+    let outcome = run_hook(accepted, &frame, &context, view, &mut maps.state);
+    return Ok(outcome);
+}
+
+/// The same where a content is maps.
+fn run_over(
+    accepted: &Accepted,
+    content: &mut Content,
+    frame: &[u8],
+    given: &Given,
+) -> Result<Outcome, u32>
+    ensures run { IfOk result (λ outcome. HasRun accepted.now (Some content.old) frame.now given.now
+        outcome (Some content.new)) }
+    ensures err { IfErr result (λ number. number ≢ 0) }
+    ensures refused { OnErr result (content.new ≡ content.old) }
+    ensures number { UnlessSome (maps_of (Some content.old)) 91
+        (λ m. IsNumberOn accepted.now m frame.now given.now) (number_in result) }
+{
+    match content {
+        Content::Maps(maps) => {
+            let ran = run_on(accepted, maps, frame, given);
+            return ran;
+        }
+        _ => return Err(OTHER_VALUE),
+    }
 }
 
 /// The run of a program over the maps that a handle holds.
@@ -125,19 +133,20 @@ fn run_at(
     maps: &mut Handle,
     frame: &[u8],
     given: &Given,
-) -> Report
-    ensures run { result.number ≡ 0 →
-        HasRun accepted.now (held maps.old) frame.now given.now result (held maps.new) }
-    ensures refused { result.number ≢ 0 → held maps.new ≡ held maps.old }
+) -> Result<Outcome, u32>
+    ensures run { IfOk result (λ outcome.
+        HasRun accepted.now (held maps.old) frame.now given.now outcome (held maps.new)) }
+    ensures err { IfErr result (λ number. number ≢ 0) }
+    ensures refused { OnErr result (held maps.new ≡ held maps.old) }
     ensures number { UnlessSome (maps_of (held maps.old)) 91
-        (λ m. IsNumberOn accepted.now m frame.now given.now) result.number }
+        (λ m. IsNumberOn accepted.now m frame.now given.now) (number_in result) }
 {
-    match take_maps(alloc, maps) {
-        None => return refused(OTHER_VALUE),
-        Some((boxed, words)) => {
-            let (words, report) = run_on(accepted, words, frame, given);
-            put_maps(maps, boxed, words);
-            return report;
+    match maps.take(alloc) {
+        None => return Err(OTHER_VALUE),
+        Some(mut content) => {
+            let ran = run_over(accepted, &mut content, frame, given);
+            maps.put(content);
+            return ran;
         }
     }
 }
@@ -149,19 +158,20 @@ fn run_content(
     maps: &mut Handle,
     frame: &[u8],
     given: &Given,
-) -> Report
-    ensures run { result.number ≡ 0 →
-        RunsCode (Some content.now) (held maps.old) frame.now given.now result (held maps.new) }
-    ensures refused { result.number ≢ 0 → held maps.new ≡ held maps.old }
+) -> Result<Outcome, u32>
+    ensures run { IfOk result (λ outcome. RunsCode (Some content.now) (held maps.old)
+        frame.now given.now outcome (held maps.new)) }
+    ensures err { IfErr result (λ number. number ≢ 0) }
+    ensures refused { OnErr result (held maps.new ≡ held maps.old) }
     ensures number { IsRunNumber (Some content.now) (held maps.old) frame.now given.now
-        result.number }
+        (number_in result) }
 {
     match content {
         Content::Code(accepted) => {
-            let report = run_at(alloc, accepted, maps, frame, given);
-            return report;
+            let ran = run_at(alloc, accepted, maps, frame, given);
+            return ran;
         }
-        _ => return refused(OTHER_VALUE),
+        _ => return Err(OTHER_VALUE),
     }
 }
 
@@ -180,7 +190,7 @@ pub extern "C" fn apd_c_run(
     given: &Given,
 ) -> Report
     ensures run { result.number ≡ 0 →
-        RunsCode (held code.old) (held maps.old) frame.now given.now result (held maps.new) }
+        ReportsRun (held code.old) (held maps.old) frame.now given.now result (held maps.new) }
     ensures refused { result.number ≢ 0 → held maps.new ≡ held maps.old }
     ensures code { held code.new ≡ held code.old }
     ensures number { IsRunNumber (held code.old) (held maps.old) frame.now given.now result.number }
@@ -188,9 +198,12 @@ pub extern "C" fn apd_c_run(
     match code.take(alloc) {
         None => return refused(OTHER_VALUE),
         Some(content) => {
-            let report = run_content(alloc, &content, maps, frame, given);
+            let ran = run_content(alloc, &content, maps, frame, given);
             code.put(content);
-            return report;
+            match ran {
+                Err(number) => return refused(number),
+                Ok(outcome) => return reported(&outcome),
+            }
         }
     }
 }

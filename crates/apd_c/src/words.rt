@@ -1,22 +1,21 @@
 //! What C does with words of maps.
 
-ghost use Rattle.std.specs.Prelude.{◌≡◌, ◌≢◌, ◌<◌, ◌↔◌, map, slice_get, Some, None, IsTrue, IfSome, IfOk, IfErr};
-ghost use Rattle.std.specs.Option.{option_map};
+ghost use Rattle.std.specs.Prelude.{◌≡◌, ◌≢◌, ◌<◌, ◌↔◌, map, slice_get, Some, IsTrue, IfOk, IfErr};
 ghost use Rattle.bpf_regions.specs.declared.asks.Ask.TheVariants.{Access};
 ghost use Rattle.bpf_regions.specs.declared.maps.MapOp.TheVariants.{Load, Store};
 ghost use Rattle.bpf_model.specs.Run.{InRange, words_in};
 ghost use Rattle.bpf_helpers.specs.Hooked.{Gives, IsFitting, shapes_of};
-ghost use Rattle.apd_c.specs.declared.handle.Content.TheVariants.{Maps as MapsContent};
 ghost use Rattle.apd_c.specs.Held.{held};
 ghost use Rattle.apd_c.specs.Answers.{number_in};
 ghost use Rattle.apd_c.specs.Given.{shape_of};
-ghost use Rattle.apd_c.specs.Words.{HasAccessed, HoldsMaps, IsAccessNumber, IsAccessed, IsMakingNumber, IsMapsNumber, IsWordNumber, Operates, maps_of, reads_of};
+ghost use Rattle.apd_c.specs.Words.{HasAccessed, HoldsMaps, IsAccessNumber, IsAccessed, IsMakingNumber, IsMapsNumber, IsWordNumber, Operates, reads_of};
 
 use crate::answer::{NO_MEMORY, NOT_EMPTY, OTHER_VALUE, OUT_OF_LIMITS};
 use crate::handle::{Content, Handle};
 use crate::maps::Maps;
 use crate::shapes::{MapShape, shapes_from};
-use bpf_helpers::{HookPort, MapTables, WorkerState, WorkerView};
+use ap_tables::ApTables;
+use bpf_helpers::{HookPort, WorkerState, WorkerView};
 use bpf_regions::{MapOp, Shapes};
 use bpf_tagged::Port;
 use std::alloc::Global;
@@ -37,34 +36,6 @@ impl Loaded {
     }
 }
 
-/// The maps that a handle holds, and the box in which they stood; the handle is empty then.
-pub(crate) fn take_maps(alloc: Global, handle: &mut Handle) -> Option<(Box<Content>, Maps)>
-    ensures some { IfSome result (λ t. held handle.old ≡ Some (MapsContent t.1)) }
-    ensures none { result ≡ None → held handle.new ≡ held handle.old }
-    ensures maps { option_map (λ t. t.1) result ≡ maps_of (held handle.old) }
-{
-    match handle.take(alloc) {
-        None => return None,
-        Some(mut boxed) => match Box::replace(&mut boxed, Content::Nothing) {
-            Content::Maps(maps) => return Some((boxed, maps)),
-            other => {
-                drop(Box::replace(&mut boxed, other));
-                handle.put(boxed);
-                return None;
-            }
-        },
-    }
-}
-
-/// Puts maps back.
-pub(crate) fn put_maps(handle: &mut Handle, boxed: Box<Content>, maps: Maps)
-    ensures { held handle.new ≡ Some (MapsContent maps) }
-{
-    let mut boxed = boxed;
-    drop(Box::replace(&mut boxed, Content::Maps(maps)));
-    handle.put(boxed);
-}
-
 /// Whether there is a map of that number, and the word is one of its words.
 fn has_word(shapes: &Shapes, map: u32, word: u32) -> bool
     ensures { IsTrue result ↔ (word < words_in (slice_get shapes.now map)) }
@@ -76,15 +47,16 @@ fn has_word(shapes: &Shapes, map: u32, word: u32) -> bool
 }
 
 /// One access to a word, by the seats of C.
-fn ask(maps: &[MapTables], hand: &mut WorkerState, map: u32, word: u32, operation: MapOp) -> u64
-    requires there { word < words_in (slice_get (shapes_of maps.now) map) }
-    requires fitting { IsFitting maps.now 0 hand.old.seats }
-    ensures made { Gives (reads_of maps.now) hand.old (Access map word operation) result hand.new }
-    ensures in_range { InRange (shapes_of maps.now) (Access map word operation) result }
-    ensures fitting { IsFitting maps.now 0 hand.new.seats }
+fn ask(tables: &ApTables, hand: &mut WorkerState, map: u32, word: u32, operation: MapOp) -> u64
+    requires there { word < words_in (slice_get (shapes_of tables.now.maps) map) }
+    requires fitting { IsFitting tables.now.maps 0 hand.old.seats }
+    ensures made { Gives (reads_of tables.now.maps) hand.old (Access map word operation) result
+        hand.new }
+    ensures in_range { InRange (shapes_of tables.now.maps) (Access map word operation) result }
+    ensures fitting { IsFitting tables.now.maps 0 hand.new.seats }
 {
     let view = WorkerView {
-        maps,
+        maps: tables.maps(),
         worker: 0,
         clock: 0,
         stations: 0,
@@ -94,29 +66,30 @@ fn ask(maps: &[MapTables], hand: &mut WorkerState, map: u32, word: u32, operatio
 }
 
 /// One access to a word, if a map has it.
-fn access(maps: Maps, at: u32, word: u32, operation: MapOp) -> (Maps, Loaded)
-    ensures made { result.1.number ≡ 0 →
-        IsAccessed maps at word operation result.1.value result.0 }
-    ensures refused { result.1.number ≢ 0 → result.0 ≡ maps }
-    ensures number { IsWordNumber maps.shapes at word result.1.number }
+fn access(maps: &mut Maps, at: u32, word: u32, operation: MapOp) -> Loaded
+    ensures made { result.number ≡ 0 →
+        IsAccessed maps.old at word operation result.value maps.new }
+    ensures refused { result.number ≢ 0 → maps.new ≡ maps.old }
+    ensures number { IsWordNumber maps.old.shapes at word result.number }
 {
     if !has_word(&maps.shapes, at, word) {
-        return (maps, Loaded::refused(OUT_OF_LIMITS));
+        return Loaded::refused(OUT_OF_LIMITS);
     }
-    let Maps {
-        shapes,
-        tables,
-        state,
-        mut hand,
-    } = maps;
-    let value = ask(tables.maps(), &mut hand, at, word, operation);
-    let after = Maps {
-        shapes,
-        tables,
-        state,
-        hand,
-    };
-    return (after, Loaded { number: 0, value });
+    let value = ask(&maps.tables, &mut maps.hand, at, word, operation);
+    return Loaded { number: 0, value };
+}
+
+/// The same where a content is maps.
+fn access_in(content: &mut Content, map: u32, word: u32, operation: MapOp) -> Loaded
+    ensures { Operates (Some content.old) map word operation result (Some content.new) }
+{
+    match content {
+        Content::Maps(maps) => {
+            let loaded = access(maps, map, word, operation);
+            return loaded;
+        }
+        _ => return Loaded::refused(OTHER_VALUE),
+    }
 }
 
 /// One access to a word of the maps that a handle holds.
@@ -129,11 +102,11 @@ pub(crate) fn access_at(
 ) -> Loaded
     ensures { Operates (held maps.old) map word operation result (held maps.new) }
 {
-    match take_maps(alloc, maps) {
+    match maps.take(alloc) {
         None => return Loaded::refused(OTHER_VALUE),
-        Some((boxed, words)) => {
-            let (words, loaded) = access(words, map, word, operation);
-            put_maps(maps, boxed, words);
+        Some(mut content) => {
+            let loaded = access_in(&mut content, map, word, operation);
+            maps.put(content);
             return loaded;
         }
     }

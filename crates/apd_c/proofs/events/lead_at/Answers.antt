@@ -8,7 +8,7 @@ use Rattle.apd_c.proofs.events.lead_at.Goals as goal
 pub returns-in-Some-clause-kept : goal.returns-in-Some-clause-kept
 returns-in-Some-clause-kept c =
     let before : held c.args.link.now ≡ Some c.deref_mut.result.now = search rules in
-    let after : held c.put.new.self ≡ Some c.lead_in-maps.new.content = search rules in
-    on_err_weaker c.lead_in-maps.result.1
+    let after : held c.put.new.self ≡ Some c.lead_in-led.new.content = search rules in
+    on_err_weaker c.lead_in-led.result
     (λ h. (subst (λ (o : Option Content). Stays o (held c.put.new.self)) (sym before) (subst (λ (o : Option Content). Stays (Some c.deref_mut.result.now) o) (sym after) h.0), h.1))
-    c.lead_in-maps.ensures.kept
+    c.lead_in-led.ensures.kept

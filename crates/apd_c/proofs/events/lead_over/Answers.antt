@@ -1,11 +1,23 @@
+use Rattle.std.proofs.Common.{rules, ◌≡◌, Option, Some, sym, subst}
 use Rattle.std.proofs.lemmas.Result.{IfOk-weaker, on_err_weaker}
-use Rattle.apd_c.specs.Events.{kept}
+use Rattle.apd_c.specs.declared.handle.Content.{Content}
+use Rattle.apd_c.specs.Held.{held}
+use Rattle.apd_c.specs.Events.{HasLedTo, Stays}
 use Rattle.apd_c.proofs.events.lead_over.Goals as goal
 
 pub returns-in-Some-clause-ok : goal.returns-in-Some-clause-ok
 returns-in-Some-clause-ok c =
-    IfOk-weaker c.lead_at-words.result.1 _ _ (λ outs h. (c.in-Some.words, c.lead_at-words.result.0, c.in-Some.ensures.some, c.put_maps.ensures, h)) c.lead_at-words.ensures.ok
+    let before : held c.args.maps.now ≡ Some c.deref_mut.result.now = search rules in
+    let after : held c.put.new.self ≡ Some c.lead_on-led.new.content = search rules in
+    IfOk-weaker c.lead_on-led.result _ _
+    (λ outs h. subst (λ (o : Option Content). HasLedTo c.args.event (held c.args.link.now) o outs.items (held c.lead_on-led.new.link) (held c.put.new.self)) (sym before)
+    (subst (λ (o : Option Content). HasLedTo c.args.event (held c.args.link.now) (Some c.deref_mut.result.now) outs.items (held c.lead_on-led.new.link) o) (sym after) h))
+    c.lead_on-led.ensures.ok
 
 pub returns-in-Some-clause-kept : goal.returns-in-Some-clause-kept
 returns-in-Some-clause-kept c =
-    on_err_weaker c.lead_at-words.result.1 (λ h. (h.0, kept c.in-Some.words c.lead_at-words.result.0 c.in-Some.ensures.some c.put_maps.ensures h.1)) c.lead_at-words.ensures.kept
+    let before : held c.args.maps.now ≡ Some c.deref_mut.result.now = search rules in
+    let after : held c.put.new.self ≡ Some c.lead_on-led.new.content = search rules in
+    on_err_weaker c.lead_on-led.result
+    (λ h. (h.0, subst (λ (o : Option Content). Stays o (held c.put.new.self)) (sym before) (subst (λ (o : Option Content). Stays (Some c.deref_mut.result.now) o) (sym after) h.1)))
+    c.lead_on-led.ensures.kept
