@@ -1,7 +1,7 @@
 /*
- * apd.h - the verifier, the machine and the link of apd, for programs in C and C++.
+ * apd.h - the verifier, the machine and the link of apd, for programs in C (C99 to C23) and C++ (C++11 to C++20).
  *
- * Link with libapd.a. Its code is proved (crates/apd_c): what a call that answers 0 has done; that one which answers
+ * Link with libapd.a or libapd.so. Its code is proved (crates/apd_c): what a call that answers 0 has done; that one which answers
  * another number changed nothing; and when each of 90 to 93 and 95 is answered, so that a call for which none of them is
  * due answers 0, or why code, a certificate or memory is refused. That memory isn't refused where there is some is tested,
  * not proved. The proofs begin at the functions named apd_c_*; the inline functions of this header test pointers for NULL,
@@ -24,10 +24,16 @@
 #include <stdbool.h>
 #include <stddef.h>
 #include <stdint.h>
+#include <string.h>
+
+#include "apd_context.h"
 
 #ifdef __cplusplus
 extern "C" {
 #endif
+
+/* The version of the library and of `apd`. */
+#define APD_VERSION "0.1.0"
 
 /* The numbers that calls answer. What is refused changes nothing. */
 enum apd_number {
@@ -61,9 +67,7 @@ enum apd_number {
     APD_OTHER_HOOK = 95      /* the program was verified for another hook */
 };
 
-enum apd_hook { APD_ASSOC = 1, APD_ADDBA = 2, APD_DATA = 3 };
-
-enum { APD_FRAME_MOST = 2400, APD_NOTES_MOST = 16, APD_STATIONS_MOST = 2007, APD_NO_TID = 255 };
+enum { APD_FRAME_MOST = 2400, APD_NOTES_MOST = 16, APD_STATIONS_MOST = 2007 };
 
 enum apd_kind { APD_NOTHING = 0, APD_SEND = 1, APD_UP = 2, APD_NOTE = 3 };
 
@@ -96,12 +100,11 @@ typedef struct apd_loaded {
     uint64_t value;
 } apd_loaded;
 
-/* What a program is given beside its frame and its maps. Byte 6 of a context is the hook's number; policies/apd_policy.h
-   has the rest. */
+/* What a program is given beside its frame and its maps. */
 typedef struct apd_given {
     uint64_t clock;
-    uint16_t stations; /* at most 2007 */
-    uint8_t context[32];
+    uint16_t stations;   /* at most 2007 */
+    uint8_t context[32]; /* the bytes of a struct apd_context; byte 6 is the hook's number */
 } apd_given;
 
 /* What a run came to, where number is 0. */
@@ -168,6 +171,11 @@ apd_out apd_c_out(apd_handle *outs, size_t at);
 size_t apd_c_out_bytes(apd_handle *outs, size_t at, uint8_t *into, size_t room);
 void apd_c_free(apd_handle *handle);
 
+/* How the functions below are defined; apd_shared.c makes exports of a shared library of them. */
+#ifndef APD_INLINE
+#define APD_INLINE static inline
+#endif
+
 /* What is pointed to where there is nothing: no pointer is NULL, also for no values. */
 static const uint64_t apd_none[2] = {0, 0};
 
@@ -188,7 +196,7 @@ static inline apd_answer apd_answer_of(uint32_t number)
 }
 
 /* Verifies code for a hook and maps of these shapes, and fills an empty handle with the program. */
-static inline apd_answer apd_verify(apd_handle *code, uint32_t hook, const uint8_t *bytes, size_t length,
+APD_INLINE apd_answer apd_verify(apd_handle *code, uint32_t hook, const uint8_t *bytes, size_t length,
                                     const apd_shape *shapes, size_t maps)
 {
     if (!code || (!bytes && length) || (!shapes && maps))
@@ -197,13 +205,13 @@ static inline apd_answer apd_verify(apd_handle *code, uint32_t hook, const uint8
 }
 
 /* The most instructions that a run of the program takes; 0 where the handle holds none. */
-static inline uint32_t apd_budget(apd_handle *code)
+APD_INLINE uint32_t apd_budget(apd_handle *code)
 {
     return code ? apd_c_budget(code) : 0;
 }
 
 /* Fills an empty handle with the certificate of a program: bytes, which apd_read reads. */
-static inline apd_answer apd_certify(apd_handle *certificate, apd_handle *code)
+APD_INLINE apd_answer apd_certify(apd_handle *certificate, apd_handle *code)
 {
     if (!certificate || !code || certificate == code)
         return apd_answer_of(APD_NULL);
@@ -211,7 +219,7 @@ static inline apd_answer apd_certify(apd_handle *certificate, apd_handle *code)
 }
 
 /* As apd_verify, by a certificate in place of an exploration. */
-static inline apd_answer apd_check(apd_handle *code, uint32_t hook, const uint8_t *bytes, size_t length,
+APD_INLINE apd_answer apd_check(apd_handle *code, uint32_t hook, const uint8_t *bytes, size_t length,
                                    const apd_shape *shapes, size_t maps, const uint8_t *certificate,
                                    size_t certificate_length)
 {
@@ -222,7 +230,7 @@ static inline apd_answer apd_check(apd_handle *code, uint32_t hook, const uint8_
 }
 
 /* Copies as many of the bytes as there is room for, and answers how many the handle holds. With NULL it only tells. */
-static inline size_t apd_read(apd_handle *bytes, uint8_t *into, size_t room)
+APD_INLINE size_t apd_read(apd_handle *bytes, uint8_t *into, size_t room)
 {
     uint8_t nothing[1];
     if (!bytes)
@@ -231,7 +239,7 @@ static inline size_t apd_read(apd_handle *bytes, uint8_t *into, size_t room)
 }
 
 /* Fills an empty handle with maps of words 0, and the word that programs draw first. */
-static inline uint32_t apd_maps(apd_handle *maps, const apd_shape *shapes, size_t count, uint64_t draw)
+APD_INLINE uint32_t apd_maps(apd_handle *maps, const apd_shape *shapes, size_t count, uint64_t draw)
 {
     if (!maps || (!shapes && count))
         return APD_NULL;
@@ -239,59 +247,69 @@ static inline uint32_t apd_maps(apd_handle *maps, const apd_shape *shapes, size_
 }
 
 /* One load of a word. Its number is its entry's index times the words of an entry, plus its place in the entry. */
-static inline apd_loaded apd_load(apd_handle *maps, uint32_t map, uint32_t word)
+APD_INLINE apd_loaded apd_load(apd_handle *maps, uint32_t map, uint32_t word)
 {
     apd_loaded none = {APD_NULL, 0};
     return maps ? apd_c_load(maps, map, word) : none;
 }
 
 /* One store of a number, mod 2^(8 * width), in a word. */
-static inline uint32_t apd_store(apd_handle *maps, uint32_t map, uint32_t word, uint64_t value)
+APD_INLINE uint32_t apd_store(apd_handle *maps, uint32_t map, uint32_t word, uint64_t value)
 {
     return maps ? apd_c_store(maps, map, word, value) : (uint32_t)APD_NULL;
 }
 
 /* Atomic operations on a word; each answers what the word held before. Numbers are taken mod 2^(8 * width). */
-static inline apd_loaded apd_exchange(apd_handle *maps, uint32_t map, uint32_t word, uint64_t value)
+APD_INLINE apd_loaded apd_exchange(apd_handle *maps, uint32_t map, uint32_t word, uint64_t value)
 {
     apd_loaded none = {APD_NULL, 0};
     return maps ? apd_c_exchange(maps, map, word, value) : none;
 }
 
-static inline apd_loaded apd_fetch_add(apd_handle *maps, uint32_t map, uint32_t word, uint64_t value)
+APD_INLINE apd_loaded apd_fetch_add(apd_handle *maps, uint32_t map, uint32_t word, uint64_t value)
 {
     apd_loaded none = {APD_NULL, 0};
     return maps ? apd_c_fetch_add(maps, map, word, value) : none;
 }
 
-static inline apd_loaded apd_fetch_or(apd_handle *maps, uint32_t map, uint32_t word, uint64_t value)
+APD_INLINE apd_loaded apd_fetch_or(apd_handle *maps, uint32_t map, uint32_t word, uint64_t value)
 {
     apd_loaded none = {APD_NULL, 0};
     return maps ? apd_c_fetch_or(maps, map, word, value) : none;
 }
 
-static inline apd_loaded apd_fetch_and(apd_handle *maps, uint32_t map, uint32_t word, uint64_t value)
+APD_INLINE apd_loaded apd_fetch_and(apd_handle *maps, uint32_t map, uint32_t word, uint64_t value)
 {
     apd_loaded none = {APD_NULL, 0};
     return maps ? apd_c_fetch_and(maps, map, word, value) : none;
 }
 
-static inline apd_loaded apd_fetch_xor(apd_handle *maps, uint32_t map, uint32_t word, uint64_t value)
+APD_INLINE apd_loaded apd_fetch_xor(apd_handle *maps, uint32_t map, uint32_t word, uint64_t value)
 {
     apd_loaded none = {APD_NULL, 0};
     return maps ? apd_c_fetch_xor(maps, map, word, value) : none;
 }
 
 /* Puts next where the word holds expected. */
-static inline apd_loaded apd_compare_exchange(apd_handle *maps, uint32_t map, uint32_t word, uint64_t expected,
+APD_INLINE apd_loaded apd_compare_exchange(apd_handle *maps, uint32_t map, uint32_t word, uint64_t expected,
                                               uint64_t next)
 {
     apd_loaded none = {APD_NULL, 0};
     return maps ? apd_c_compare_exchange(maps, map, word, expected, next) : none;
 }
 
+/* What a program is given, with the bytes of this context; with NULL, of zeros. */
+APD_INLINE apd_given apd_given_of(uint64_t clock, uint16_t stations, const struct apd_context *context)
+{
+    apd_given given = {clock, stations, {0}};
+
+    if (context)
+        memcpy(given.context, context, sizeof given.context);
+    return given;
+}
+
 /* Runs a program on a frame of at most 2400 bytes over maps of its shapes. It waits for nothing and takes no memory. */
-static inline apd_report apd_run(apd_handle *code, apd_handle *maps, const uint8_t *frame, size_t length,
+APD_INLINE apd_report apd_run(apd_handle *code, apd_handle *maps, const uint8_t *frame, size_t length,
                                  const apd_given *given)
 {
     if (!code || !maps || code == maps || !given || (!frame && length)) {
@@ -302,7 +320,7 @@ static inline apd_report apd_run(apd_handle *code, apd_handle *maps, const uint8
 }
 
 /* Fills an empty handle with an access point that has handled nothing and has no programs yet, for maps of these shapes. */
-static inline uint32_t apd_link(apd_handle *link, const apd_network *network, const apd_shape *shapes, size_t maps)
+APD_INLINE uint32_t apd_link(apd_handle *link, const apd_network *network, const apd_shape *shapes, size_t maps)
 {
     if (!link || !network || (!shapes && maps))
         return APD_NULL;
@@ -310,7 +328,7 @@ static inline uint32_t apd_link(apd_handle *link, const apd_network *network, co
 }
 
 /* Takes the program out of its handle, and has the access point judge by it on this hook. */
-static inline uint32_t apd_link_load(apd_handle *link, uint32_t hook, apd_handle *code)
+APD_INLINE uint32_t apd_link_load(apd_handle *link, uint32_t hook, apd_handle *code)
 {
     if (!link || !code || link == code)
         return APD_NULL;
@@ -325,7 +343,7 @@ static inline bool apd_are_three(const apd_handle *link, const apd_handle *maps,
 
 /* A frame of at most 2400 bytes, without its FCS, comes. Programs run over the maps; an empty handle is filled with what
    comes out, which apd_outs, apd_out_at and apd_out_bytes read. What is refused changes nothing. */
-static inline uint32_t apd_link_frame(apd_handle *link, apd_handle *maps, apd_handle *outs, const uint8_t *bytes,
+APD_INLINE uint32_t apd_link_frame(apd_handle *link, apd_handle *maps, apd_handle *outs, const uint8_t *bytes,
                                       size_t length)
 {
     if (!apd_are_three(link, maps, outs) || (!bytes && length))
@@ -334,13 +352,13 @@ static inline uint32_t apd_link_frame(apd_handle *link, apd_handle *maps, apd_ha
 }
 
 /* As many units of time pass. */
-static inline uint32_t apd_link_tick(apd_handle *link, apd_handle *maps, apd_handle *outs, uint32_t units)
+APD_INLINE uint32_t apd_link_tick(apd_handle *link, apd_handle *maps, apd_handle *outs, uint32_t units)
 {
     return apd_are_three(link, maps, outs) ? apd_c_link_tick(link, maps, outs, units) : (uint32_t)APD_NULL;
 }
 
 /* Sends a station away with a reason code. */
-static inline uint32_t apd_link_kick(apd_handle *link, apd_handle *maps, apd_handle *outs, const apd_station *station,
+APD_INLINE uint32_t apd_link_kick(apd_handle *link, apd_handle *maps, apd_handle *outs, const apd_station *station,
                                      uint16_t reason)
 {
     if (!apd_are_three(link, maps, outs) || !station)
@@ -349,7 +367,7 @@ static inline uint32_t apd_link_kick(apd_handle *link, apd_handle *maps, apd_han
 }
 
 /* Ends a station's block acknowledgement agreement for a TID below 8. */
-static inline uint32_t apd_link_close(apd_handle *link, apd_handle *maps, apd_handle *outs, const apd_station *station,
+APD_INLINE uint32_t apd_link_close(apd_handle *link, apd_handle *maps, apd_handle *outs, const apd_station *station,
                                       uint8_t tid)
 {
     if (!apd_are_three(link, maps, outs) || !station)
@@ -358,20 +376,20 @@ static inline uint32_t apd_link_close(apd_handle *link, apd_handle *maps, apd_ha
 }
 
 /* How many outs a handle holds. */
-static inline size_t apd_outs(apd_handle *outs)
+APD_INLINE size_t apd_outs(apd_handle *outs)
 {
     return outs ? apd_c_outs(outs) : 0;
 }
 
 /* One of them, but for its bytes; of kind APD_NOTHING where there is none. */
-static inline apd_out apd_out_at(apd_handle *outs, size_t at)
+APD_INLINE apd_out apd_out_at(apd_handle *outs, size_t at)
 {
     apd_out none = {APD_NOTHING, 0, {0}, {0}, 0, 0, 0, 0};
     return outs ? apd_c_out(outs, at) : none;
 }
 
 /* Copies as many of its bytes as there is room for, and answers how many it has. With NULL it only tells. */
-static inline size_t apd_out_bytes(apd_handle *outs, size_t at, uint8_t *into, size_t room)
+APD_INLINE size_t apd_out_bytes(apd_handle *outs, size_t at, uint8_t *into, size_t room)
 {
     uint8_t nothing[1];
     if (!outs)
@@ -380,7 +398,7 @@ static inline size_t apd_out_bytes(apd_handle *outs, size_t at, uint8_t *into, s
 }
 
 /* Frees what a handle holds, and leaves it empty. An empty one stays so. */
-static inline void apd_free(apd_handle *handle)
+APD_INLINE void apd_free(apd_handle *handle)
 {
     if (handle)
         apd_c_free(handle);
