@@ -1,7 +1,7 @@
 /*
  * apd.h - the verifier, the machine and the link of apd, for programs in C (C99 to C23) and C++ (C++11 to C++20).
  *
- * Link with libapd.a or libapd.so. Its code is proved (crates/apd_c): what a call that answers 0 has done; that one which answers
+ * Link with libapd.a. Its code is proved (crates/apd_c): what a call that answers 0 has done; that one which answers
  * another number changed nothing; and when each of 90 to 93 and 95 is answered, so that a call for which none of them is
  * due answers 0, or why code, a certificate or memory is refused. That memory isn't refused where there is some is tested,
  * not proved. The proofs begin at the functions named apd_c_*; the inline functions of this header test pointers for NULL,
@@ -64,7 +64,7 @@ enum apd_number {
     APD_NOT_EMPTY = 92,      /* the handle that is to be filled isn't empty */
     APD_OTHER_MAPS = 93,     /* the program is for maps of other shapes */
     APD_NULL = 94,           /* a pointer is NULL, or one handle is passed twice */
-    APD_OTHER_HOOK = 95      /* the program was verified for another hook */
+    APD_OTHER_HOOK = 95      /* the program was verified for another hook, or the context is another hook's */
 };
 
 enum { APD_FRAME_MOST = 2400, APD_NOTES_MOST = 16, APD_STATIONS_MOST = 2007 };
@@ -143,6 +143,8 @@ typedef struct apd_out {
 /* The proved functions. No pointer is NULL, and no handle is passed twice to one call. */
 apd_answer apd_c_verify(apd_handle *code, uint32_t hook, const uint8_t *bytes, size_t length, const apd_shape *shapes,
                         size_t maps);
+apd_answer apd_c_verify_within(apd_handle *code, uint32_t hook, const uint8_t *bytes, size_t length,
+                               const apd_shape *shapes, size_t maps, uint32_t states);
 uint32_t apd_c_budget(apd_handle *code);
 apd_answer apd_c_certify(apd_handle *certificate, apd_handle *code);
 apd_answer apd_c_check(apd_handle *code, uint32_t hook, const uint8_t *bytes, size_t length, const apd_shape *shapes,
@@ -160,6 +162,7 @@ apd_loaded apd_c_compare_exchange(apd_handle *maps, uint32_t map, uint32_t word,
 apd_report apd_c_run(apd_handle *code, apd_handle *maps, const uint8_t *frame, size_t length, const apd_given *given);
 uint32_t apd_c_link(apd_handle *link, const apd_network *network, const apd_shape *shapes, size_t maps);
 uint32_t apd_c_link_load(apd_handle *link, uint32_t hook, apd_handle *code);
+uint32_t apd_c_link_unload(apd_handle *link, uint32_t hook);
 uint32_t apd_c_link_frame(apd_handle *link, apd_handle *maps, apd_handle *outs, const uint8_t *bytes, size_t length);
 uint32_t apd_c_link_tick(apd_handle *link, apd_handle *maps, apd_handle *outs, uint32_t units);
 uint32_t apd_c_link_kick(apd_handle *link, apd_handle *maps, apd_handle *outs, const apd_station *station,
@@ -169,6 +172,7 @@ uint32_t apd_c_link_close(apd_handle *link, apd_handle *maps, apd_handle *outs, 
 size_t apd_c_outs(apd_handle *outs);
 apd_out apd_c_out(apd_handle *outs, size_t at);
 size_t apd_c_out_bytes(apd_handle *outs, size_t at, uint8_t *into, size_t room);
+size_t apd_c_explain(uint32_t number, uint8_t *into, size_t room);
 void apd_c_free(apd_handle *handle);
 
 /* How the functions below are defined; apd_shared.c makes exports of a shared library of them. */
@@ -202,6 +206,16 @@ APD_INLINE apd_answer apd_verify(apd_handle *code, uint32_t hook, const uint8_t 
     if (!code || (!bytes && length) || (!shapes && maps))
         return apd_answer_of(APD_NULL);
     return apd_c_verify(code, hook, apd_some_bytes(bytes), length, apd_some_shapes(shapes), maps);
+}
+
+/* The same, where at most so many states are examined, which bounds the time and the memory that a stranger's program
+   takes: one that has more is refused with 36. 0 is for no limit but the verifier's own, of 4194304. */
+APD_INLINE apd_answer apd_verify_within(apd_handle *code, uint32_t hook, const uint8_t *bytes, size_t length,
+                                        const apd_shape *shapes, size_t maps, uint32_t states)
+{
+    if (!code || (!bytes && length) || (!shapes && maps))
+        return apd_answer_of(APD_NULL);
+    return apd_c_verify_within(code, hook, apd_some_bytes(bytes), length, apd_some_shapes(shapes), maps, states);
 }
 
 /* The most instructions that a run of the program takes; 0 where the handle holds none. */
@@ -308,7 +322,8 @@ APD_INLINE apd_given apd_given_of(uint64_t clock, uint16_t stations, const struc
     return given;
 }
 
-/* Runs a program on a frame of at most 2400 bytes over maps of its shapes. It waits for nothing and takes no memory. */
+/* Runs a program on a frame of at most 2400 bytes over maps of its shapes. The context is for the hook that the program was
+   verified for, or the run is refused with 95. It waits for nothing and takes no memory. */
 APD_INLINE apd_report apd_run(apd_handle *code, apd_handle *maps, const uint8_t *frame, size_t length,
                                  const apd_given *given)
 {
@@ -333,6 +348,13 @@ APD_INLINE uint32_t apd_link_load(apd_handle *link, uint32_t hook, apd_handle *c
     if (!link || !code || link == code)
         return APD_NULL;
     return apd_c_link_load(link, hook, code);
+}
+
+/* Has the access point judge by no program on this hook: associations are admitted, agreements get what they ask for, and
+   data passes with mark 0. The program that was there is freed. */
+APD_INLINE uint32_t apd_link_unload(apd_handle *link, uint32_t hook)
+{
+    return link ? apd_c_link_unload(link, hook) : (uint32_t)APD_NULL;
 }
 
 /* Whether these are three handles. */
@@ -395,6 +417,20 @@ APD_INLINE size_t apd_out_bytes(apd_handle *outs, size_t at, uint8_t *into, size
     if (!outs)
         return 0;
     return into ? apd_c_out_bytes(outs, at, into, room) : apd_c_out_bytes(outs, at, nothing, 0);
+}
+
+/* What a number of enum apd_number, or a note's, means, in a few words: a text that ends with 0, cut where there is no room
+   for all of it. Answers how many bytes the whole text has without that 0; 0 where no call answers the number. */
+APD_INLINE size_t apd_explain(uint32_t number, char *into, size_t room)
+{
+    uint8_t nothing[1];
+    size_t length;
+
+    if (!into || !room)
+        return apd_c_explain(number, nothing, 0);
+    length = apd_c_explain(number, (uint8_t *)into, room - 1);
+    into[length < room ? length : room - 1] = 0;
+    return length;
 }
 
 /* Frees what a handle holds, and leaves it empty. An empty one stays so. */

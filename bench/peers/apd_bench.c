@@ -48,7 +48,7 @@ static size_t bytes_of(const char *hex)
 static void bench(const char *name, size_t bytes, double steps)
 {
     apd_handle program = APD_EMPTY, maps = APD_EMPTY;
-    apd_given given = {0, 0, {0}};
+    apd_given given = {0, 0, {0, 0, 0, 0, 0, 0, APD_DATA}};
     double verified = 1e18, interpreted = 1e18;
     long runs = 5e6 / steps + 1;
     apd_report report = {0, 0, 0, 0, {0}};

@@ -65,6 +65,24 @@ static void hostile_code(void)
     WANT(apd_certify(&other, &code).number, APD_OTHER_VALUE);
 }
 
+static void hostile_limits(void)
+{
+    apd_handle code = APD_EMPTY;
+    apd_shape odd = {1, 1, 5};
+
+    WANT(apd_verify_within(NULL, APD_DATA, seven, 16, NULL, 0, 1).number, APD_NULL);
+    WANT(apd_verify_within(&code, APD_DATA, NULL, 16, NULL, 0, 1).number, APD_NULL);
+    WANT(apd_verify_within(&code, APD_DATA, seven, 16, &odd, 1, 1).number, APD_OUT_OF_LIMITS);
+    WANT(apd_verify_within(&code, APD_DATA, seven, 16, NULL, 0, 1).number, 36);
+    WANT(apd_verify_within(&code, APD_DATA, seven, 16, NULL, 0, 2).number, APD_OK);
+    WANT(apd_verify_within(&code, APD_DATA, seven, 16, NULL, 0, 2).number, APD_NOT_EMPTY);
+    apd_free(&code);
+    WANT(apd_verify_within(&code, APD_DATA, seven, 16, NULL, 0, UINT32_MAX).number, APD_OK);
+    apd_free(&code);
+    WANT(apd_verify_within(&code, APD_DATA, seven, 16, NULL, 0, 0).number, APD_OK);
+    apd_free(&code);
+}
+
 static void hostile_certificate(void)
 {
     apd_handle code = APD_EMPTY, certificate = APD_EMPTY, again = APD_EMPTY;
@@ -92,7 +110,7 @@ static void hostile_certificate(void)
 static void hostile_runs(void)
 {
     apd_handle code = APD_EMPTY, maps = APD_EMPTY, empty = APD_EMPTY;
-    apd_given given = {0, 0, {0}}, crowd = {0, 2008, {0}};
+    apd_given given = {0, 0, {0, 0, 0, 0, 0, 0, APD_ASSOC}}, crowd = {0, 2008, {0}}, other = {0, 0, {0}};
     uint8_t frame[2401] = {0};
 
     WANT(apd_verify(&code, APD_ASSOC, seven, 16, NULL, 0).number, APD_OK);
@@ -101,6 +119,9 @@ static void hostile_runs(void)
     WANT(apd_run(&code, &maps, frame, 2400, &crowd).number, APD_OUT_OF_LIMITS);
     WANT(apd_run(&code, &maps, frame, 2400, &given).r0, 7);
     WANT(apd_run(&code, &maps, NULL, 0, &given).r0, 7);
+    WANT(apd_run(&code, &maps, NULL, 0, &other).number, APD_OTHER_HOOK);
+    other.context[6] = APD_DATA;
+    WANT(apd_run(&code, &maps, NULL, 0, &other).number, APD_OTHER_HOOK);
     WANT(apd_run(&code, &maps, NULL, 1, &given).number, APD_NULL);
     WANT(apd_run(&code, &maps, frame, 0, NULL).number, APD_NULL);
     WANT(apd_run(&code, &code, frame, 0, &given).number, APD_NULL);
@@ -117,7 +138,7 @@ static void hostile_runs(void)
 static void hostile_maps(void)
 {
     apd_handle code = APD_EMPTY, maps = APD_EMPTY, wide = APD_EMPTY;
-    apd_given given = {0, 0, {0}};
+    apd_given given = {0, 0, {0, 0, 0, 0, 0, 0, APD_DATA}};
     apd_shape shape = {2, 1, 8}, narrow = {2, 1, 4};
 
     WANT(apd_maps(&maps, &narrow, 1, 0), APD_OK);
@@ -185,7 +206,7 @@ static void handed_over(void)
 static void many_notes(void)
 {
     apd_handle code = APD_EMPTY, maps = APD_EMPTY;
-    apd_given given = {0, 0, {0}};
+    apd_given given = {0, 0, {0, 0, 0, 0, 0, 0, APD_ADDBA}};
 
     for (int at = 0; at < 17; at++) {
         memcpy(notes + 16 * at, (uint8_t[]){0xb7, 1, 0, 0, (uint8_t)(at + 1), 0, 0, 0}, 8);
@@ -239,6 +260,12 @@ static void hostile_links(void)
     WANT(apd_link_load(&link, APD_ASSOC, &code), APD_OK);
     WANT(code.full, 0);
     WANT(apd_link_load(&link, APD_ASSOC, &code), APD_OTHER_VALUE);
+    WANT(apd_link_unload(NULL, APD_ASSOC), APD_NULL);
+    WANT(apd_link_unload(&link, 4), APD_OUT_OF_LIMITS);
+    WANT(apd_link_unload(&maps, APD_ASSOC), APD_OTHER_VALUE);
+    WANT(apd_link_unload(&code, APD_ASSOC), APD_OTHER_VALUE);
+    WANT(apd_link_unload(&link, APD_ASSOC), APD_OK);
+    WANT(apd_link_unload(&link, APD_ASSOC), APD_OK);
     apd_free(&maps);
     apd_free(&other);
     apd_free(&link);
@@ -288,9 +315,26 @@ static void hostile_events(void)
     apd_free(&link);
 }
 
+static void hostile_texts(void)
+{
+    char text[40];
+
+    WANT(apd_explain(APD_OTHER_HOOK, NULL, 9), 31);
+    WANT(apd_explain(APD_OTHER_HOOK, text, 0), 31);
+    WANT(apd_explain(APD_OTHER_HOOK, text, sizeof text), 31);
+    WANT(strcmp(text, "the program is for another hook"), 0);
+    WANT(apd_explain(APD_OTHER_HOOK, text, 12), 31);
+    WANT(strcmp(text, "the program"), 0);
+    WANT(apd_explain(APD_OK, text, sizeof text), 0);
+    WANT(text[0], 0);
+    WANT(apd_explain(UINT32_MAX, text, 1), 0);
+}
+
 int main(void)
 {
     hostile_code();
+    hostile_limits();
+    hostile_texts();
     hostile_certificate();
     hostile_runs();
     hostile_maps();

@@ -31,7 +31,7 @@ static const uint8_t seven[16] = {0xb7, 0, 0, 0, 7, 0, 0, 0, 0x95};
 static int live(long refused)
 {
     apd_handle code = APD_EMPTY, maps = APD_EMPTY, certificate = APD_EMPTY, again = APD_EMPTY;
-    apd_given given = {0, 0, {0}};
+    apd_given given = {0, 0, {0, 0, 0, 0, 0, 0, APD_DATA}};
     apd_shape shape = {2, 1, 8};
     uint8_t bytes[4096];
     uint32_t number;

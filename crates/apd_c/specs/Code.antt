@@ -1,5 +1,5 @@
 -- What the verdict on code comes to.
-use Rattle.std.specs.Prelude.{◌≡◌, ◌≢◌, ◌≤◌, ◌^◌, ◌⊎◌, ℕ, List, map, Option, Some, None}
+use Rattle.std.specs.Prelude.{◌≡◌, ◌≢◌, ◌≤◌, ◌^◌, ◌⊎◌, ◌==◌, if◌then◌else◌, ℕ, List, map, Option, Some, None}
 use Rattle.bpf_regions.specs.declared.hooks.Hook.{Hook}
 use Rattle.bpf_regions.specs.declared.maps.Shape.{Shape}
 use Rattle.bpf_regions.specs.Hooks.{number_of}
@@ -16,6 +16,7 @@ use Rattle.bpf_plain.specs.Walks.{IsPlain}
 use Rattle.bpf_rules.specs.Faults as rules
 use Rattle.bpf_rules.specs.declared.fault.Fault.{Fault}
 use Rattle.bpf_rules.specs.declared.fault.Fault.TheVariants as fault
+use Rattle.bpf_verifier.specs.Limits.{nearest}
 use Rattle.apd_c.specs.declared.answer.Answer.{Answer}
 use Rattle.apd_c.specs.declared.handle.Content.{Content}
 use Rattle.apd_c.specs.declared.handle.Content.TheVariants as content
@@ -23,13 +24,18 @@ use Rattle.apd_c.specs.declared.shapes.MapShape.{MapShape}
 use Rattle.apd_c.specs.Answers.{answer, Perhaps, Unless, UnlessNone}
 use Rattle.apd_c.specs.Given.{IsAskable, shape_of}
 
--- The program that these bytes spell, for maps of these shapes and for a hook, safe within its budget.
-pub record IsAdmitted (hook : Hook) (bytes : List ℕ) (shapes : List Shape) (a : Verified) : Type 0 where
+-- how many states C lets the verifier examine; 0 stands for as many as it ever does
+abbrev pub limit_of : ℕ → ℕ
+limit_of states = if states == 0 then 2 ^ 22 else nearest states
+
+-- The program that these bytes spell, for maps of these shapes and for a hook, safe within its budget, which is no more than
+-- the limit of states.
+pub record IsAdmitted (hook : Hook) (bytes : List ℕ) (shapes : List Shape) (limit : ℕ) (a : Verified) : Type 0 where
   pub spells : Spells bytes a.code
   pub shapes_are : a.code.shapes ≡ shapes
   pub hook_is : a.hook ≡ hook
   pub safe : Safe a.code.slots a.code.shapes a.budget
-  pub small : a.budget ≤ 2 ^ 22
+  pub small : a.budget ≤ limit
 
 -- The bytes are no well-formed code, or memory was refused.
 pub record IsUndecoded (bytes : List ℕ) (shapes : List Shape) (answer : Answer) : Type 0 where
@@ -39,26 +45,26 @@ pub record IsUndecoded (bytes : List ℕ) (shapes : List Shape) (answer : Answer
   pub number : answer.number ≡ fault_number fault
   pub slot : answer.slot ≡ fault_slot fault
 
--- The verifier refuses the program that the bytes spell, at a slot that begins an instruction. A plain program, and one
--- that is clear by the rules, is refused for memory alone.
-pub record IsUnsafe (bytes : List ℕ) (shapes : List Shape) (answer : Answer) : Type 0 where
+-- The verifier refuses the program that the bytes spell, at a slot that begins an instruction. A program that is clear by
+-- the rules within the limit of states is refused for memory alone; so is a plain one, where the limit is the greatest.
+pub record IsUnsafe (bytes : List ℕ) (shapes : List Shape) (limit : ℕ) (answer : Answer) : Type 0 where
   pub program : Code
   pub spells : Spells bytes program
   pub shapes_are : program.shapes ≡ shapes
   pub why : Fault
   pub begins : Begins program.slots answer.slot
-  pub plain : IsPlain program.slots → why ≡ fault.NoMemory
-  pub clear : IsClear program entry_view (2 ^ 22) → why ≡ fault.NoMemory
+  pub plain : limit ≡ 2 ^ 22 → IsPlain program.slots → why ≡ fault.NoMemory
+  pub clear : IsClear program entry_view limit → why ≡ fault.NoMemory
   pub number : answer.number ≡ rules.number_of why
 
 -- why bytes aren't admitted
-abbrev pub IsRefused : List ℕ → List Shape → Answer → Type 0
-IsRefused bytes shapes answer = IsUndecoded bytes shapes answer ⊎ IsUnsafe bytes shapes answer
+abbrev pub IsRefused : List ℕ → List Shape → ℕ → Answer → Type 0
+IsRefused bytes shapes limit answer = IsUndecoded bytes shapes answer ⊎ IsUnsafe bytes shapes limit answer
 
 -- the content is a program that is admitted
-abbrev pub HoldsAdmitted : ℕ → List ℕ → List MapShape → Option Content → Type 0
-HoldsAdmitted hook bytes shapes o =
-    (a : Verified) × (h : Hook) × (o ≡ Some (content.Code a)) × (hook ≡ number_of h) × IsAdmitted h bytes (map shape_of shapes) a
+abbrev pub HoldsAdmitted : ℕ → List ℕ → List MapShape → ℕ → Option Content → Type 0
+HoldsAdmitted hook bytes shapes limit o =
+    (a : Verified) × (h : Hook) × (o ≡ Some (content.Code a)) × (hook ≡ number_of h) × IsAdmitted h bytes (map shape_of shapes) limit a
 
 -- the program that is held
 abbrev pub code_of : Option Content → Option Verified
@@ -71,11 +77,11 @@ budget_of (Some (content.Code a)) = a.budget
 budget_of _ = 0
 
 -- 0, or why the program isn't admitted
-abbrev pub IsAdmittedOr : List ℕ → List Shape → Answer → Type 0
-IsAdmittedOr bytes shapes a = (a ≡ answer 0) ⊎ IsRefused bytes shapes a
+abbrev pub IsAdmittedOr : List ℕ → List Shape → ℕ → Answer → Type 0
+IsAdmittedOr bytes shapes limit a = (a ≡ answer 0) ⊎ IsRefused bytes shapes limit a
 
 -- The answer where an empty handle is to be filled with a program: 92 exactly where it isn't empty; else perhaps 40; else 90
 -- exactly where there is no such hook or a shape is out of its limits; else 0, or why the program isn't admitted.
-abbrev pub IsVerdict : ℕ → List ℕ → List MapShape → Option Content → Answer → Type 0
-IsVerdict hook bytes shapes o =
-    UnlessNone o (answer 92) (Perhaps (answer 40) (Unless (IsAskable hook shapes) (answer 90) (IsAdmittedOr bytes (map shape_of shapes))))
+abbrev pub IsVerdict : ℕ → List ℕ → List MapShape → ℕ → Option Content → Answer → Type 0
+IsVerdict hook bytes shapes limit o =
+    UnlessNone o (answer 92) (Perhaps (answer 40) (Unless (IsAskable hook shapes) (answer 90) (IsAdmittedOr bytes (map shape_of shapes) limit)))

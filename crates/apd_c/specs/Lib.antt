@@ -9,3 +9,4 @@ pub mod Certificates
 pub mod Link
 pub mod Outs
 pub mod Events
+pub mod Explained

@@ -59,6 +59,19 @@ pub record Puts (hook : Hook) (program : Verified) (a a' : Parts) : Type 0 where
 abbrev pub HasPut : Hook → Verified → Option Content → Option Content → Type 0
 HasPut hook program o o' = (a : Parts) × (a' : Parts) × (link_of o ≡ Some a) × (link_of o' ≡ Some a') × Puts hook program a a'
 
+-- no program in place of the one that was there
+pub record Unloads (hook : Hook) (a a' : Parts) : Type 0 where
+  pub programs : a'.programs ≡ replaced hook a.programs None
+  pub shards : a'.shards ≡ a.shards
+
+-- the same where the content is an access point
+abbrev pub HasUnloaded : Hook → Option Content → Option Content → Type 0
+HasUnloaded hook o o' = (a : Parts) × (a' : Parts) × (link_of o ≡ Some a) × (link_of o' ≡ Some a') × Unloads hook a a'
+
+-- the number of unloading: 90 exactly where there is no such hook; else 91 exactly where the handle holds no access point
+abbrev pub IsUnloadNumber : ℕ → Option Content → ℕ → Type 0
+IsUnloadNumber hook link = Unless (IsHook hook) 90 (UnlessSome (link_of link) 91 (λ a. IsDone))
+
 -- 0, or 95 exactly where the program was verified for another hook; else 93 exactly where it is for maps of other shapes
 abbrev pub IsPutNumber : ℕ → Verified → Parts → ℕ → Type 0
 IsPutNumber hook program a = Unless (number_of program.hook ≡ hook) 95 (Unless (program.code.shapes ≡ a.programs.shapes) 93 IsDone)

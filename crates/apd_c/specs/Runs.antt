@@ -1,5 +1,6 @@
 -- What runs of programs come to, as C sees them.
-use Rattle.std.specs.Prelude.{◌≡◌, ◌≤◌, ℕ, List, length, take, Option, Some}
+use Rattle.std.specs.Prelude.{◌≡◌, ◌≤◌, ℕ, List, length, take, slice_index, Option, Some}
+use Rattle.bpf_regions.specs.Hooks.{number_of}
 use Rattle.bpf_machine.specs.Verified.{Verified}
 use Rattle.bpf_machine.specs.Runs.{Ran, setting_of}
 use Rattle.bpf_machine.specs.declared.outcome.Outcome.{Outcome}
@@ -50,12 +51,17 @@ pub record IsGivable (frame : List ℕ) (g : Given) : Type 0 where
   pub short : length frame ≤ 2400
   pub few : g.stations ≤ 2007
 
+-- byte 6 of the context is the hook that the program was verified for
+abbrev pub IsForHook : Verified → Given → Type 0
+IsForHook a g = slice_index g.context 6 ≡ number_of a.hook
+
 -- 0, or 90 exactly where the frame or the stations are out of their limits; else 93 exactly where the program is for maps
--- of other shapes
+-- of other shapes; else 95 exactly where the context is for another hook
 abbrev pub IsNumberOn : Verified → Maps → List ℕ → Given → ℕ → Type 0
-IsNumberOn a m frame g = Unless (IsGivable frame g) 90 (Unless (m.shapes ≡ a.code.shapes) 93 IsDone)
+IsNumberOn a m frame g = Unless (IsGivable frame g) 90 (Unless (m.shapes ≡ a.code.shapes) 93 (Unless (IsForHook a g) 95 IsDone))
 
 -- The number of a run: 91 exactly where a handle doesn't hold what it is asked for; else 90 exactly where the frame or the
--- stations are out of their limits; else 93 exactly where the program is for maps of other shapes; else 0.
+-- stations are out of their limits; else 93 exactly where the program is for maps of other shapes; else 95 exactly where the
+-- context is for another hook; else 0.
 abbrev pub IsRunNumber : Option Content → Option Content → List ℕ → Given → ℕ → Type 0
 IsRunNumber code maps frame g = UnlessSome (code_of code) 91 (λ a. UnlessSome (maps_of maps) 91 (λ m. IsNumberOn a m frame g))

@@ -1,11 +1,11 @@
 //! Programs that are verified.
 
-ghost use Rattle.std.specs.Prelude.{◌≡◌, ◌≢◌, ◌⊎◌, ◌↔◌, map, Some, None, IsSome, OnOk, IfOk, IfErr, IfSome};
+ghost use Rattle.std.specs.Prelude.{◌≡◌, ◌≢◌, ◌⊎◌, ◌↔◌, ◌^◌, map, Some, None, IsSome, OnOk, IfOk, IfErr, IfSome};
 ghost use Rattle.bpf_regions.specs.declared.hooks.Hook.{Hook as AHook};
 ghost use Rattle.bpf_regions.specs.Hooks.{number_of};
 ghost use Rattle.apd_c.specs.Held.{held};
 ghost use Rattle.apd_c.specs.Given.{IsAskable, IsHook, shape_of};
-ghost use Rattle.apd_c.specs.Code.{IsAdmitted, IsRefused, HoldsAdmitted, IsVerdict, budget_of};
+ghost use Rattle.apd_c.specs.Code.{IsAdmitted, IsRefused, HoldsAdmitted, IsVerdict, budget_of, limit_of};
 
 use crate::answer::{Answer, NO_MEMORY, NOT_EMPTY, OUT_OF_LIMITS};
 use crate::handle::{Content, Handle};
@@ -13,7 +13,7 @@ use crate::shapes::{MapShape, shapes_from};
 use bpf_decode::decode;
 use bpf_machine::Accepted;
 use bpf_regions::{Hook, Shapes};
-use bpf_verifier::verify;
+use bpf_verifier::{StateLimit, verify_within};
 use std::alloc::Global;
 
 /// The hook of that number.
@@ -29,10 +29,27 @@ pub(crate) fn hook_of(number: u32) -> Option<Hook>
     }
 }
 
+/// How many states the verifier may examine, as C says it; 0 for as many as it ever does.
+fn limit_of(states: u32) -> StateLimit
+    ensures { result ≡ limit_of states }
+{
+    if states == 0 {
+        StateLimit::MOST
+    } else {
+        StateLimit::nearest(states)
+    }
+}
+
 /// The program that the bytes spell, admitted for a hook.
-fn admitted(alloc: Global, hook: Hook, bytes: &[u8], shapes: Shapes) -> Result<Accepted, Answer>
-    ensures ok { IfOk result (IsAdmitted hook bytes.now shapes) }
-    ensures err { IfErr result (IsRefused bytes.now shapes) }
+fn admitted(
+    alloc: Global,
+    hook: Hook,
+    bytes: &[u8],
+    shapes: Shapes,
+    limit: StateLimit,
+) -> Result<Accepted, Answer>
+    ensures ok { IfOk result (IsAdmitted hook bytes.now shapes limit) }
+    ensures err { IfErr result (IsRefused bytes.now shapes limit) }
     ensures some { IfErr result (λ e. e.number ≢ 0) }
 {
     match decode(alloc, bytes, shapes) {
@@ -42,7 +59,7 @@ fn admitted(alloc: Global, hook: Hook, bytes: &[u8], shapes: Shapes) -> Result<A
                 slot: fault.slot(),
             });
         }
-        Ok(program) => match verify(alloc, program, hook) {
+        Ok(program) => match verify_within(alloc, program, hook, limit) {
             Err(refusal) => {
                 return Err(Answer {
                     number: u32::from(refusal.number()),
@@ -55,12 +72,18 @@ fn admitted(alloc: Global, hook: Hook, bytes: &[u8], shapes: Shapes) -> Result<A
 }
 
 /// The program that the bytes spell, for maps as C tells them.
-fn asked(alloc: Global, hook: u32, bytes: &[u8], shapes: &[MapShape]) -> Result<Accepted, Answer>
+fn asked(
+    alloc: Global,
+    hook: u32,
+    bytes: &[u8],
+    shapes: &[MapShape],
+    limit: StateLimit,
+) -> Result<Accepted, Answer>
     ensures ok { IfOk result (λ a. (h : AHook) × (hook ≡ number_of h)
-        × IsAdmitted h bytes.now (map shape_of shapes.now) a) }
+        × IsAdmitted h bytes.now (map shape_of shapes.now) limit a) }
     ensures some { IfErr result (λ e. e.number ≢ 0) }
     ensures within { OnOk result (IsAskable hook shapes.now) }
-    ensures err { IfErr result (IsVerdict hook bytes.now shapes.now None) }
+    ensures err { IfErr result (IsVerdict hook bytes.now shapes.now limit None) }
 {
     let Some(hook) = hook_of(hook) else {
         return Err(Answer::of(OUT_OF_LIMITS));
@@ -68,16 +91,45 @@ fn asked(alloc: Global, hook: u32, bytes: &[u8], shapes: &[MapShape]) -> Result<
     match shapes_from(alloc, shapes) {
         Err(_) => return Err(Answer::of(NO_MEMORY)),
         Ok(None) => return Err(Answer::of(OUT_OF_LIMITS)),
-        Ok(Some(shapes)) => return admitted(alloc, hook, bytes, shapes),
+        Ok(Some(shapes)) => return admitted(alloc, hook, bytes, shapes, limit),
     }
 }
 
 /// Verifies code for a hook (1 association, 2 addba, 3 data) and maps of these shapes, and fills an empty handle with
-/// the program.
+/// the program. At most `states` states are examined, which bounds the time and the memory that it takes; 0 is for no limit
+/// but the verifier's own, of 4194304.
 ///
-/// 0: the handle holds it. 1 to 3 and 10 to 19: the bytes are no well-formed code. 30 to 38: the verifier refuses it.
-/// 40: memory was refused. 90: no such hook, or a shape out of its limits. 92: the handle isn't empty. All but 0 leave
-/// the handle as it was.
+/// 0: the handle holds it. 1 to 3 and 10 to 19: the bytes are no well-formed code. 30 to 38: the verifier refuses it, with
+/// 36 where it has more states. 40: memory was refused. 90: no such hook, or a shape out of its limits. 92: the handle isn't
+/// empty. All but 0 leave the handle as it was.
+#[unsafe(no_mangle)]
+pub extern "C" fn apd_c_verify_within(
+    alloc: Global,
+    code: &mut Handle,
+    hook: u32,
+    bytes: &[u8],
+    shapes: &[MapShape],
+    states: u32,
+) -> Answer
+    ensures admitted { result.number ≡ 0 →
+        HoldsAdmitted hook bytes.now shapes.now (limit_of states) (held code.new) }
+    ensures kept { result.number ≢ 0 → held code.new ≡ held code.old }
+    ensures why { IsVerdict hook bytes.now shapes.now (limit_of states) (held code.old) result }
+{
+    if let Some(content) = code.take(alloc) {
+        code.put(content);
+        return Answer::of(NOT_EMPTY);
+    }
+    match asked(alloc, hook, bytes, shapes, limit_of(states)) {
+        Err(answer) => return answer,
+        Ok(accepted) => {
+            let answer = code.fill(alloc, Content::Code(accepted));
+            return answer;
+        }
+    }
+}
+
+/// The same without a limit of the caller's.
 #[unsafe(no_mangle)]
 pub extern "C" fn apd_c_verify(
     alloc: Global,
@@ -87,21 +139,11 @@ pub extern "C" fn apd_c_verify(
     shapes: &[MapShape],
 ) -> Answer
     ensures admitted { result.number ≡ 0 →
-        HoldsAdmitted hook bytes.now shapes.now (held code.new) }
+        HoldsAdmitted hook bytes.now shapes.now (2 ^ 22) (held code.new) }
     ensures kept { result.number ≢ 0 → held code.new ≡ held code.old }
-    ensures why { IsVerdict hook bytes.now shapes.now (held code.old) result }
+    ensures why { IsVerdict hook bytes.now shapes.now (2 ^ 22) (held code.old) result }
 {
-    if let Some(content) = code.take(alloc) {
-        code.put(content);
-        return Answer::of(NOT_EMPTY);
-    }
-    match asked(alloc, hook, bytes, shapes) {
-        Err(answer) => return answer,
-        Ok(accepted) => {
-            let answer = code.fill(alloc, Content::Code(accepted));
-            return answer;
-        }
-    }
+    apd_c_verify_within(alloc, code, hook, bytes, shapes, 0)
 }
 
 /// The budget of the program that a handle holds; 0 where it holds none.

@@ -12,6 +12,7 @@ mod certificates;
 mod code;
 mod crossing;
 mod events;
+mod explained;
 mod handle;
 mod keeping;
 mod link;
@@ -29,13 +30,14 @@ pub use atomics::{
     apd_c_fetch_xor,
 };
 pub use certificates::{apd_c_certify, apd_c_check, apd_c_read};
-pub use code::{apd_c_budget, apd_c_verify};
+pub use code::{apd_c_budget, apd_c_verify, apd_c_verify_within};
 pub use crossing::handles_law;
 pub use events::{Station, apd_c_link_close, apd_c_link_frame, apd_c_link_kick, apd_c_link_tick};
+pub use explained::apd_c_explain;
 pub use handle::Handle;
 pub use keeping::apd_c_free;
 pub use link::{Network, apd_c_link};
-pub use loads::apd_c_link_load;
+pub use loads::{apd_c_link_load, apd_c_link_unload};
 pub use outs::{OutHead, apd_c_out, apd_c_out_bytes, apd_c_outs};
 pub use runs::{Given, Report, apd_c_run};
 pub use shapes::MapShape;

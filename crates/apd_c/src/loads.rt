@@ -7,9 +7,9 @@ ghost use Rattle.bpf_regions.specs.Hooks.{number_of};
 ghost use Rattle.bpf_machine.specs.Verified.{Verified};
 ghost use Rattle.apd_c.specs.declared.handle.Content.TheVariants.{Code as CodeContent};
 ghost use Rattle.apd_c.specs.Held.{held};
-ghost use Rattle.apd_c.specs.Answers.{UnlessSome, number_with};
+ghost use Rattle.apd_c.specs.Answers.{IsDone, UnlessSome, number_with};
 ghost use Rattle.apd_c.specs.Code.{code_of};
-ghost use Rattle.apd_c.specs.Link.{HasPut, IsLoadNumber, IsPutAtNumber, IsPutNumber, Puts, link_of};
+ghost use Rattle.apd_c.specs.Link.{HasPut, HasUnloaded, IsLoadNumber, IsPutAtNumber, IsPutNumber, IsUnloadNumber, Puts, link_of};
 
 use crate::answer::{OTHER_HOOK, OTHER_MAPS, OTHER_VALUE, OUT_OF_LIMITS};
 use crate::code::hook_of;
@@ -139,5 +139,45 @@ pub extern "C" fn apd_c_link_load(
                 return number;
             }
         },
+    }
+}
+
+/// Where a content is an access point, it has no program for a hook.
+fn unload_in(content: &mut Content, hook: Hook) -> u32
+    ensures unloaded { result ≡ 0 → HasUnloaded hook (Some content.old) (Some content.new) }
+    ensures kept { result ≢ 0 → content.new ≡ content.old }
+    ensures number { UnlessSome (link_of (Some content.old)) 91 (λ a. IsDone) result }
+{
+    match content {
+        Content::Link(access_point) => {
+            access_point.put(hook, None);
+            return 0;
+        }
+        _ => return OTHER_VALUE,
+    }
+}
+
+/// Has an access point judge by no program on this hook (1 association, 2 addba, 3 data): associations are admitted,
+/// agreements get what they ask for, and data passes with mark 0. The program that was there is freed.
+///
+/// 0: it is so. 90: no such hook. 91: the handle holds no access point. All but 0 leave the handle as it was. It takes no
+/// memory.
+#[unsafe(no_mangle)]
+pub extern "C" fn apd_c_link_unload(alloc: Global, link: &mut Handle, hook: u32) -> u32
+    ensures unloaded { result ≡ 0 →
+        (h : AHook) × (hook ≡ number_of h) × HasUnloaded h (held link.old) (held link.new) }
+    ensures kept { result ≢ 0 → held link.new ≡ held link.old }
+    ensures number { IsUnloadNumber hook (held link.old) result }
+{
+    let Some(hook) = hook_of(hook) else {
+        return OUT_OF_LIMITS;
+    };
+    match link.take(alloc) {
+        None => return OTHER_VALUE,
+        Some(mut content) => {
+            let number = unload_in(&mut content, hook);
+            link.put(content);
+            return number;
+        }
     }
 }

@@ -4,9 +4,9 @@ ghost use Rattle.std.specs.Prelude.{◌≡◌, ◌≢◌, ◌≤◌, ◌↔◌, 
 ghost use Rattle.apd_c.specs.Held.{held};
 ghost use Rattle.apd_c.specs.Answers.{UnlessSome, number_in};
 ghost use Rattle.apd_c.specs.Words.{maps_of};
-ghost use Rattle.apd_c.specs.Runs.{RunsOn, HasRun, RunsCode, Reports, ReportsRun, IsNumberOn, IsRunNumber};
+ghost use Rattle.apd_c.specs.Runs.{RunsOn, HasRun, RunsCode, Reports, ReportsRun, IsForHook, IsNumberOn, IsRunNumber};
 
-use crate::answer::{OTHER_MAPS, OTHER_VALUE, OUT_OF_LIMITS};
+use crate::answer::{OTHER_HOOK, OTHER_MAPS, OTHER_VALUE, OUT_OF_LIMITS};
 use crate::handle::{Content, Handle};
 use crate::maps::Maps;
 use bpf_helpers::{WorkerView, run_hook};
@@ -48,8 +48,9 @@ fn refused(number: u32) -> Report
     }
 }
 
-/// The report of a run.
-fn reported(outcome: &Outcome) -> Report
+/// The report of a run that notes something, apart so that no other clears room for notes.
+#[inline(never)]
+fn noted(outcome: &Outcome) -> Report
     ensures number { result.number ≡ 0 }
     ensures reports { Reports result outcome.now }
 {
@@ -66,10 +67,34 @@ fn reported(outcome: &Outcome) -> Report
     }
 }
 
+/// The report of a run.
+fn reported(outcome: &Outcome) -> Report
+    ensures number { result.number ≡ 0 }
+    ensures reports { Reports result outcome.now }
+{
+    if outcome.notes.as_slice().is_empty() {
+        return Report {
+            number: 0,
+            steps: outcome.steps,
+            r0: outcome.r0,
+            count: 0,
+            notes: [0; 16],
+        };
+    }
+    return noted(outcome);
+}
+
 pub(crate) fn are_alike(shapes: &[Shape], others: &[Shape]) -> bool
     ensures { IsTrue result ↔ (shapes.now ≡ others.now) }
 {
     shapes == others
+}
+
+/// Whether a context is for the hook that a program was verified for.
+fn is_for_hook(accepted: &Accepted, given: &Given) -> bool
+    ensures { IsTrue result ↔ IsForHook accepted.now given.now }
+{
+    given.context[6] == accepted.hook().number()
 }
 
 /// The run of a program on a frame, over its maps.
@@ -91,6 +116,9 @@ fn run_on(accepted: &Accepted, maps: &mut Maps, frame: &[u8], given: &Given) -> 
         accepted.program().shapes().as_slice(),
     ) {
         return Err(OTHER_MAPS);
+    }
+    if !is_for_hook(accepted, given) {
+        return Err(OTHER_HOOK);
     }
     let context = Context::new(given.context);
     let view = WorkerView {
@@ -179,8 +207,8 @@ fn run_content(
 /// to stand only while it runs; it waits for nothing and takes no memory.
 ///
 /// 0: the run ended, within the program's budget. 90: the frame is longer, or there are more than 2007 stations. 91: a
-/// handle doesn't hold what it is asked for. 93: the program is for maps of other shapes. All but 0 leave the maps as
-/// they were.
+/// handle doesn't hold what it is asked for. 93: the program is for maps of other shapes. 95: byte 6 of the context is
+/// another hook than the program was verified for. All but 0 leave the maps as they were.
 #[unsafe(no_mangle)]
 pub extern "C" fn apd_c_run(
     alloc: Global,
@@ -200,9 +228,9 @@ pub extern "C" fn apd_c_run(
         Some(content) => {
             let ran = run_content(alloc, &content, maps, frame, given);
             code.put(content);
-            match ran {
-                Err(number) => return refused(number),
-                Ok(outcome) => return reported(&outcome),
+            match &ran {
+                Err(number) => return refused(*number),
+                Ok(outcome) => return reported(outcome),
             }
         }
     }

@@ -1,8 +1,6 @@
-use Rattle.std.proofs.Common.{rules, ◌≡◌}
-use Rattle.std.specs.Prelude.{Some}
+use Rattle.std.proofs.Common.{rules}
 use Rattle.std.proofs.lemmas.Result.{on_err_weaker}
 use Rattle.apd_c.specs.Events.{like}
-use Rattle.apd_c.specs.Link.{link_of}
 use Rattle.apd_c.proofs.events.lead_in.Goals as goal
 
 pub returns-in-Link-clause-kept : goal.returns-in-Link-clause-kept
