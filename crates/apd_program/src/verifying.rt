@@ -114,10 +114,11 @@ pub(crate) fn trace(
         stimulus.entry.draw) code.now shapes) }
     ensures memory { IfErr result (λ e. e ≡ ProgramFault.NoMemory) }
 {
+    let known = Vec::from_slice(alloc, shapes.as_slice())?;
     match decode(alloc, code, shapes) {
         Ok(program) => run(alloc, program, stimulus, reason),
         Err(fault) => {
-            reason.explain_fault(alloc, code, fault);
+            reason.explain_fault(alloc, code, known.as_slice(), fault);
             undecoded(fault)
         }
     }
