@@ -2,11 +2,12 @@
 use Rattle.std.proofs.Common.{◌≡◌, ℕ, sym, ap, subst, ◌∙◌}
 use Rattle.ap_books.specs.Holdings.{Holding, HasParts}
 use Rattle.ap_shards.specs.Tokens.{Eight, holding_of}
-use Rattle.ap_live.specs.Counting.{counted_by}
+use Rattle.ap_live.specs.Counting.{KeepParts, counted_by}
 use Rattle.ap_live.specs.Tokens.{Operator, IsOperator, Worker, IsWorker}
 use Rattle.logbook.specs.Pages.{Book}
 use Rattle.versions.specs.Lists.{Beginning}
 use Rattle.apd_run.specs.Hands.{RunOperator, IsRunOperator, RunWorker, IsRunWorker}
+use Rattle.apd_run.proofs.Sums.{keeps_parts}
 
 -- an operator whose token has the same parts of the ledgers
 pub other_token : (shares : ℕ) (list : Book) (o : RunOperator) (t : Operator) → IsOperator o.ap t → t.shards ≡ o.token.shards → IsRunOperator shares list o
@@ -56,3 +57,7 @@ same_parts list w t own same h =
       list_is = h.list_is;
       parts = subst (λ (e : Eight). HasParts 1 (holding_of e)) (sym same) h.parts;
     }
+
+-- a worker that served
+pub served_worker : (list : Book) (w : RunWorker) (t : Worker) → IsWorker w.ap t → KeepParts w.token.shards t.shards → IsRunWorker list w → IsRunWorker list (record w { token = t })
+served_worker list w t own keep h = record { own = own; list_is = h.list_is; parts = keeps_parts 1 w.token.shards t.shards keep h.parts }

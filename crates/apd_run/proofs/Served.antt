@@ -1,16 +1,21 @@
--- What a worker lists of what it served.
-use Rattle.std.proofs.Common.{◌≡◌, ℕ, ◌+◌, List, [], ◌∷◌, ◌++◌, refl, sym, ap, ◌∙◌, append_assoc, append-nil, zero-add}
+-- What is told of what a worker handed on.
+use Rattle.std.proofs.Common.{◌≡◌, ℕ, List, [], ◌∷◌, ◌++◌, refl, sym, ap, ◌∙◌, zero-add}
 use Rattle.std.proofs.lemmas.List.Sums.{sum_by-append}
-use Rattle.ap_books.specs.Counts.{Counts, plus}
-use Rattle.apd_run.specs.Reports.{Report}
-use Rattle.apd_run.specs.Tallies.{told_counts, report_counts, tallied, Serves}
+use Rattle.ap_books.specs.Counts.{Counts, none, plus}
+use Rattle.ap_live.specs.Counting.{counted_by, fate_counts, tally}
+use Rattle.ap_live.specs.Lives.{Live}
+use Rattle.ap_live.specs.Serving.{Served}
+use Rattle.ap_live.specs.Tokens.{Worker}
 use Rattle.ap_tagged.specs.declared.tagged.Fate.{Fate}
 use Rattle.ap_tagged.specs.declared.tagged.Fate.TheVariants.{Decided, Refused, NotHandled}
 use Rattle.ap_tagged.specs.declared.tagged.Tagged.{Tagged}
-use Rattle.ap_live.specs.Counting.{fate_counts}
-use Rattle.apd_run.specs.Reports.{Handled, Memory}
-use Rattle.apd_run.specs.Telling.{told_of, report_if, reports_of}
-use Rattle.apd_run.proofs.Sums.{plus_none, plus_three}
+use Rattle.apd_run.specs.Crews.{Collects, Crew, gains}
+use Rattle.apd_run.specs.Reports.{Handled, Memory, Report}
+use Rattle.apd_run.specs.Tallies.{Serves, report_counts, tallied, told_counts}
+use Rattle.apd_run.specs.Telling.{report_if, reports_in, reports_of, told_of}
+use Rattle.apd_run.proofs.Sums.{none_plus, plus_three}
+
+-- ---- what reports count
 
 tallied_two : (xs ys : List Report) → tallied (xs ++ ys) ≡ plus (tallied xs) (tallied ys)
 tallied_two xs ys i =
@@ -33,28 +38,50 @@ counts_one r i =
       notes = zero-add (told_counts r.told).notes i;
     }
 
--- what is listed of an event counts what became of it
+-- what is told of an event counts what became of it
 report_counted : (line shard : ℕ) (f : Fate) → tallied (report_if line shard (told_of f)) ≡ fate_counts f
 report_counted line shard (Decided outs dropped) = counts_one (record { line = line; shard = shard; told = Handled outs dropped })
 report_counted line shard Refused = counts_one (record { line = line; shard = shard; told = Memory })
 report_counted line shard NotHandled = refl
 
--- nothing was served yet
-pub serves_none : (c d : Counts) (xs ys : List Report) → d ≡ c → ys ≡ xs → Serves c d xs ys
-serves_none c d xs ys is list = record { reports = []; listed = list ∙ sym (append-nil xs); counts = is ∙ sym (plus_none c) }
+-- and so does what is told of all
+told_counted : (ts : List Tagged) → tallied (reports_in ts) ≡ tally ts
+unfolding tally
+told_counted [] = refl
+told_counted (t ∷ ts) =
+    tallied_two (reports_of t) (reports_in ts)
+    ∙ (ap (λ (c : Counts). plus c (tallied (reports_in ts))) (report_counted t.call t.shard t.fate) ∙ ap (λ (c : Counts). plus (fate_counts t.fate) c) (told_counted ts))
 
--- and then one more event was
-pub serves_more : (c d e : Counts) (xs ys zs : List Report) (t : Tagged) → Serves c d xs ys → zs ≡ ys ++ reports_of t → e ≡ plus d (fate_counts t.fate) → Serves c e xs zs
-serves_more c d e xs ys zs t h listed is =
-    let more : List Report = reports_of t in
-    let counted : tallied more ≡ fate_counts t.fate = report_counted t.call t.shard t.fate in
+-- a worker came back, and what is told of its list was added
+pub collects_told : (crew crew2 : Crew) (list list2 : List Report) (tags : List Tagged) → list2 ≡ list ++ reports_in tags → crew2 ≡ gains crew (tally tags) → Collects crew crew2 list list2
+collects_told crew crew2 list list2 tags listed counted =
     record {
-      reports = h.reports ++ more;
-      listed = listed ∙ (ap (λ (r : List Report). r ++ more) h.listed ∙ append_assoc xs h.reports more);
-      counts = is ∙ (ap (λ x. plus x (fate_counts t.fate)) h.counts ∙ (plus_three c (tallied h.reports) (fate_counts t.fate)
-          ∙ ap (λ x. plus c x) (ap (λ x. plus (tallied h.reports) x) (sym counted) ∙ sym (tallied_two h.reports more))));
+      reports = reports_in tags;
+      listed = listed;
+      counted = counted ∙ ap (λ (c : Counts). gains crew c) (sym (told_counted tags));
     }
 
--- and then counts alone stayed
-pub serves_still : (c d e : Counts) (xs ys zs : List Report) → Serves c d xs ys → e ≡ d → zs ≡ ys → Serves c e xs zs
-serves_still c d e xs ys zs h is list = record { reports = h.reports; listed = list ∙ h.listed; counts = is ∙ h.counts }
+-- ---- what workers counted
+
+-- what was served, as a run sees it
+pub served_tags : (a : Live) (w w2 : Worker) (list list2 : List Tagged) → Served a w w2 list list2 → Serves (counted_by w.shards) (counted_by w2.shards) list list2
+served_tags a w w2 list list2 s = record { tags = s.tags; listed = s.listed; counts = s.counted }
+
+tally_none : tally [] ≡ none
+unfolding tally
+tally_none = refl
+
+-- nothing yet
+pub nothing_counted : (c : Counts) (ts : List Tagged) → c ≡ none → ts ≡ [] → c ≡ tally ts
+nothing_counted c ts is empty = is ∙ sym (ap tally empty ∙ tally_none)
+
+-- two lists one after the other
+pub tally_two : (xs ys : List Tagged) → tally (xs ++ ys) ≡ plus (tally xs) (tally ys)
+unfolding tally
+tally_two [] ys = sym (none_plus (tally ys))
+tally_two (x ∷ xs) ys = ap (λ (c : Counts). plus (fate_counts x.fate) c) (tally_two xs ys) ∙ sym (plus_three (fate_counts x.fate) (tally xs) (tally ys))
+
+-- and then more
+pub more_counted : (c d : Counts) (xs ys tags : List Tagged) → c ≡ tally xs → ys ≡ xs ++ tags → d ≡ plus c (tally tags) → d ≡ tally ys
+more_counted c d xs ys tags is listed counted =
+    counted ∙ (ap (λ (x : Counts). plus x (tally tags)) is ∙ (sym (tally_two xs tags) ∙ ap tally (sym listed)))

@@ -17,6 +17,13 @@ no_more n = omega arith
 pub plus_none : (c : Counts) → plus c none ≡ c
 plus_none c = same_counts (plus c none) c (no_more c.events) (no_more c.sent) (no_more c.up) (no_more c.dropped) (no_more c.notes)
 
+zero_first : (n : ℕ) → 0 + n ≡ n
+zero_first n = omega arith
+
+pub none_plus : (c : Counts) → plus none c ≡ c
+none_plus c =
+    same_counts (plus none c) c (zero_first c.events) (zero_first c.sent) (zero_first c.up) (zero_first c.dropped) (zero_first c.notes)
+
 together : (a b c : ℕ) → a + b + c ≡ a + (b + c)
 together a b c = omega arith
 

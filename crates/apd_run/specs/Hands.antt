@@ -1,10 +1,9 @@
 -- The operator and the workers of a run.
-use Rattle.std.specs.Prelude.{◌≡◌, ◌+◌, ◌<◌, ℕ, Option, Some, None}
-use Rattle.ap_books.specs.Counts.{Counts, none, plus}
+use Rattle.std.specs.Prelude.{◌≡◌, ◌+◌, ◌<◌, ℕ}
+use Rattle.ap_books.specs.Counts.{none}
 use Rattle.ap_books.specs.Holdings.{Holding, HasParts, sum_of}
 use Rattle.ap_shards.specs.Tokens.{holding_of}
-use Rattle.ap_tagged.specs.declared.tagged.Tagged.{Tagged}
-use Rattle.ap_live.specs.Counting.{counted_by, fate_counts}
+use Rattle.ap_live.specs.Counting.{counted_by}
 use Rattle.ap_live.specs.Lives.{Live}
 use Rattle.ap_live.specs.Opening.{parts_in_all}
 use Rattle.ap_live.specs.Tokens.{Operator, IsOperator, Worker, IsWorker}
@@ -49,8 +48,3 @@ pub record IsRunOperator (shares : ℕ) (list : Book) (o : RunOperator) : Type 0
 -- how many workers have rights, and what those who came back have counted
 abbrev pub crew_of : RunOperator → Crew
 crew_of o = record { workers = o.workers; counted = sum_of o.hoard }
-
--- what was counted, once what became of an event was counted too
-abbrev pub counts_after : Counts → Option Tagged → Counts
-counts_after c None = c
-counts_after c (Some t) = plus c (fate_counts t.fate)

@@ -1,6 +1,8 @@
--- What reports count.
+-- What reports count, and what workers counted.
 use Rattle.std.specs.Prelude.{◌≡◌, List, ◌++◌, sum_by}
 use Rattle.ap_books.specs.Counts.{Counts, none, plus, counts_of}
+use Rattle.ap_live.specs.Counting.{tally}
+use Rattle.ap_tagged.specs.declared.tagged.Tagged.{Tagged}
 use Rattle.apd_text.specs.declared.reports.report.Report.{Report}
 use Rattle.apd_text.specs.declared.reports.report.Told.{Told}
 use Rattle.apd_text.specs.declared.reports.report.Told.TheVariants.{Handled}
@@ -25,8 +27,8 @@ tallied rs =
       notes = sum_by (λ r. (report_counts r).notes) rs;
     }
 
--- reports were added to the list, and what they count was counted
-pub record Serves (counted counted2 : Counts) (list list2 : List Report) : Type 0 where
-  pub reports : List Report
-  pub listed : list2 ≡ list ++ reports
-  pub counts : counted2 ≡ plus counted (tallied reports)
+-- what became of events was added to the list, and what it counts was counted
+pub record Serves (counted counted2 : Counts) (list list2 : List Tagged) : Type 0 where
+  pub tags : List Tagged
+  pub listed : list2 ≡ list ++ tags
+  pub counts : counted2 ≡ plus counted (tally tags)

@@ -1,5 +1,5 @@
 -- What is told of the events that a worker served.
-use Rattle.std.specs.Prelude.{ℕ, List, [], ◌∷◌, Option, Some, None}
+use Rattle.std.specs.Prelude.{ℕ, List, [], ◌∷◌, ◌++◌, Option, Some, None}
 use Rattle.ap_tagged.specs.declared.tagged.Fate.{Fate}
 use Rattle.ap_tagged.specs.declared.tagged.Fate.TheVariants.{Decided, Refused, NotHandled}
 use Rattle.ap_tagged.specs.declared.tagged.Tagged.{Tagged}
@@ -19,3 +19,8 @@ report_if line shard (Some told) = record { line = line; shard = shard; told = t
 -- what is listed of an event: its call is the number of its line
 abbrev pub reports_of : Tagged → List Report
 reports_of t = report_if t.call t.shard (told_of t.fate)
+
+-- what is told of all of these, in order
+abbrev pub reports_in : List Tagged → List Report
+reports_in [] = []
+reports_in (t ∷ ts) = reports_of t ++ reports_in ts

@@ -1,15 +1,14 @@
 //! A run of a script by a live access point.
 //!
 //! Main call: `run_live`. It stands on `ap_live`, `loads` and `running`. A worker of the run serves
-//! the queue of one worker of the access point and lists a report of each event that was handled; the
-//! operator puts events, loads and unloads programs and reads maps. What the last line says is what all
+//! the queue of one worker of the access point, by `LiveAp::serve`, and hands on what became of each
+//! event; the operator puts events, loads and unloads programs and reads maps. What the last line says is what all
 //! shares of the ledgers have counted, which is what the reports count.
 mod hands;
 mod hiring;
 mod naming;
 mod operator;
 mod running;
-mod telling;
 mod worker;
 
 pub use crate::loads::StateLimit;

@@ -1,13 +1,15 @@
 //! Workers that go out, and come back with what they did.
 
 ghost use Rattle.std.specs.Prelude.{◌≡◌, ◌+◌, ◌++◌, length, OnOk, vec_len};
-ghost use Rattle.apd_run.specs.Tallies.{tallied};
+ghost use Rattle.ap_live.specs.Counting.{tally};
 ghost use Rattle.apd_run.specs.Crews.{gains, Collects};
+ghost use Rattle.apd_run.specs.Telling.{told_of, reports_of, reports_in};
 
 use crate::crew::{Desk, Done, Order, Ready, Serving};
 use crate::operating::Operating;
 use crate::setting::{Setting, Staff};
-use apd_text::Report;
+use ap_tagged::{Fate, Tagged};
+use apd_text::{Report, Told};
 use std::alloc::AllocError;
 use std::sync::Wait;
 
@@ -32,9 +34,9 @@ pub(crate) fn send_out<W: Serving + Drop, R: Wait>(
 fn settled<W: Serving + Drop, O: Operating<W>>(
     operator: &mut O,
     done: Done<W>,
-) -> (Ready<W>, Vec<Report>)
+) -> (Ready<W>, Vec<Tagged>)
     requires alike { (worker : _) → O.taken worker ≡ W.counted worker }
-    ensures crew { O.crew operator.new ≡ gains (O.crew operator.old) (tallied result.1.items) }
+    ensures crew { O.crew operator.new ≡ gains (O.crew operator.old) (tally result.1.items) }
 {
     let Done {
         mut worker,
@@ -45,16 +47,47 @@ fn settled<W: Serving + Drop, O: Operating<W>>(
     (Ready { worker }, list)
 }
 
-/// Puts a list at the end of others.
-fn append(all: &mut Vec<Report>, list: Vec<Report>) -> Result<(), AllocError>
-    ensures { OnOk result (all.new.items ≡ all.old.items ++ list.items) }
+/// What is told of an event: nothing of one that was not handled.
+fn told_of(fate: Fate) -> Option<Told>
+    ensures { result ≡ told_of fate }
 {
-    let mut list = list;
-    all.append(&mut list)?;
+    match fate {
+        Fate::Decided { outs, dropped } => return Some(Told::Handled { outs, dropped }),
+        Fate::Refused => return Some(Told::Memory),
+        Fate::NotHandled => return None,
+    }
+}
+
+/// Adds what is told of an event, whose call is the number of its line.
+fn report(all: &mut Vec<Report>, tagged: Tagged) -> Result<(), AllocError>
+    ensures { OnOk result (all.new.items ≡ all.old.items ++ reports_of tagged) }
+{
+    let Tagged { call, shard, fate } = tagged;
+    match told_of(fate) {
+        Some(told) => {
+            all.push(Report {
+                line: call,
+                shard,
+                told,
+            })?;
+            return Ok(());
+        }
+        None => return Ok(()),
+    }
+}
+
+/// Adds what is told of each event that a worker handed on, in order.
+fn report_all(all: &mut Vec<Report>, list: Vec<Tagged>) -> Result<(), AllocError>
+    ensures { OnOk result (all.new.items ≡ all.old.items ++ reports_in list.items) }
+{
+    all.reserve(list.len())?;
+    for tagged in list {
+        report(all, tagged)?;
+    }
     Ok(())
 }
 
-/// Waits for a worker and takes it in. Its list goes to the end of the others'.
+/// Waits for a worker and takes it in. What is told of its list goes to the end of the others'.
 fn collect_one<W: Serving + Drop, O: Operating<W> + Drop, R: Wait>(
     rt: &R,
     desk: &Desk<W>,
@@ -73,11 +106,11 @@ fn collect_one<W: Serving + Drop, O: Operating<W> + Drop, R: Wait>(
     }
     let (ready, list) = settled(operator, done);
     workers.push_reserved(ready);
-    append(all, list)?;
+    report_all(all, list)?;
     Ok(())
 }
 
-/// Waits for all workers and takes them in. Their lists go to the end of what the operator told.
+/// Waits for all workers and takes them in. What is told of their lists goes to the end of what the operator told.
 pub(crate) fn collect<W: Serving + Drop, O: Operating<W> + Drop, R: Wait>(
     setting: &Setting<'_, W, R>,
     staff: &mut Staff<W, O>,

@@ -2,10 +2,10 @@
 
 ghost use Rattle.std.specs.Prelude.{◌≡◌, []};
 ghost use Rattle.ap_books.specs.Counts.{none};
-ghost use Rattle.apd_run.specs.Tallies.{tallied};
+ghost use Rattle.ap_live.specs.Counting.{tally};
 
 use crate::crew::serving::Serving;
-use apd_text::Report;
+use ap_tagged::Tagged;
 use std::alloc::Global;
 use std::sync::Wait;
 
@@ -16,14 +16,14 @@ pub struct Ready<W: Serving + Drop> {
     pub ghost nothing: { W.counted worker ≡ none },
 }
 
-/// A worker that has counted just what its list tells. `refused` says that memory was wanting for
+/// A worker that has counted just what it hands on. `refused` says that memory was wanting for
 /// the list.
 #[derive(Drop)]
 pub struct Done<W: Serving + Drop> {
     pub worker: W,
-    pub list: Vec<Report>,
+    pub list: Vec<Tagged>,
     pub refused: bool,
-    pub ghost counted: { W.counted worker ≡ tallied list.items },
+    pub ghost counted: { W.counted worker ≡ tally list.items },
 }
 
 impl<W: Serving + Drop> Ready<W> {
