@@ -7,7 +7,7 @@
 
 long half(long number)
 {
-    return number / 2;
+    return number >> 1;
 }
 
 long policy(const u8 *frame, const u8 *end, const struct apd_context *context)

@@ -1,10 +1,10 @@
 -- Runs that break off.
 use Rattle.std.proofs.Common.{◌≡◌, ℕ, List, Bool, true, false, Option, refl}
 use Rattle.ap_books.specs.Counts.{Counts}
-use Rattle.apd_run.specs.Shows.{Nothing, Before, Breaks, ends}
+use Rattle.apd_run.specs.Shows.{Nothing, Before, Breaks, is_over}
 
 -- where no line was refused a run goes on
-pub goes_on : (strict : Bool) → ends strict false ≡ false
+pub goes_on : (strict : Bool) → is_over strict false ≡ false
 goes_on true = refl
 goes_on false = refl
 

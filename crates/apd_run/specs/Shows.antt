@@ -35,8 +35,8 @@ abbrev pub any_refusal : List Report → Bool
 any_refusal reports = list_any (λ r. is_refusal r.told) reports
 
 -- a strict run ends behind a refused line
-abbrev pub ends : Bool → Bool → Bool
-ends strict refused = strict && refused
+abbrev pub is_over : Bool → Bool → Bool
+is_over strict refused = strict && refused
 
 -- what was handed over is printed in order; the flags say whether a line says `memory`, and whether one was refused
 pub record Prints (old new : Option (List ℕ)) (handed : List Report) (memory refused : Bool) : Type 0 where
@@ -61,7 +61,7 @@ pub record ShowsOne (old new : Option (List ℕ)) (counted counted2 : Counts) (m
 pub data Shows (strict : Bool) (old : Option (List ℕ)) (counted : Counts) : Option (List ℕ) → Counts → Bool → Bool → Type 0 where
   Nothing : Shows strict old counted old counted false false
   Then : (mid new : Option (List ℕ)) (before after : Counts) (memory more refused again : Bool) → Shows strict old counted mid before memory refused
-      → ends strict refused ≡ false → ShowsOne mid new before after more again → Shows strict old counted new after (memory || more) (refused || again)
+      → is_over strict refused ≡ false → ShowsOne mid new before after more again → Shows strict old counted new after (memory || more) (refused || again)
 
 -- intervals one after the other, of which the last breaks off
 pub record Breaks (strict : Bool) (old new : Option (List ℕ)) (counted : Counts) : Type 0 where
@@ -70,12 +70,12 @@ pub record Breaks (strict : Bool) (old new : Option (List ℕ)) (counted : Count
   pub memory : Bool
   pub refused : Bool
   pub shown : Shows strict old counted mid before memory refused
-  pub goes_on : ends strict refused ≡ false
+  pub goes_on : is_over strict refused ≡ false
   pub last : BreaksOff mid new
 
 -- 3 where a line says `memory`, 1 where a strict run ends behind a refused line
 abbrev pub status_of : Bool → Bool → Bool → ℕ
-status_of strict memory refused = if memory then 3 else (if ends strict refused then 1 else 0)
+status_of strict memory refused = if memory then 3 else (if is_over strict refused then 1 else 0)
 
 -- 2 for a write that failed, 3 for want of memory
 abbrev pub IsBroken : ℕ → Type 0

@@ -32,10 +32,7 @@ pub enum Publication<'a> {
 #[derive(Clone, Copy, Debug, PartialEq, Eq)]
 pub enum WordUse {
     /// A word of a shared map is written.
-    Store {
-        word: MapWord,
-        value: u64,
-    },
+    Store { word: MapWord, value: u64 },
     /// A word of a shared map is read.
     Read(MapWord),
     /// A word of a worker map is summed over all workers.
@@ -54,10 +51,7 @@ pub(crate) enum Action<'a> {
 }
 
 /// What a command asks of the operator. Err: want of memory for a frame's bytes.
-pub(crate) fn action_of<'a>(
-    alloc: Global,
-    command: &Command<'a>,
-) -> Result<Action<'a>, AllocError>
+pub(crate) fn action_of<'a>(alloc: Global, command: &Command<'a>) -> Result<Action<'a>, AllocError>
     ensures is { IfOk result (λ action. action ≡ action_of command.now) }
     ensures frame { OnErr result (is_wait command.now ≡ false) }
 {

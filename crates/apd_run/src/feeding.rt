@@ -152,7 +152,8 @@ pub(crate) fn feed<W: Serving + Drop, O: Operating<W>, R: Wait>(
     'lines: while next < commands.len() {
         let numbered = &commands[next];
         next += 1;
-        if follow(setting, operator, numbered, told)? {
+        let waits = follow(setting, operator, numbered, told)?;
+        if waits {
             return Ok(next);
         }
     }

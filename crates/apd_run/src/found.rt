@@ -1,7 +1,7 @@
 //! What lines that were printed say, as far as the end of their run depends on it.
 
 ghost use Rattle.std.specs.Prelude.{◌≡◌, false, ◌||◌};
-ghost use Rattle.apd_run.specs.Shows.{is_refusal, any_refusal, ends};
+ghost use Rattle.apd_run.specs.Shows.{is_refusal, any_refusal, is_over};
 
 use apd_text::{Report, Told};
 
@@ -39,8 +39,8 @@ impl Found {
 }
 
 /// Whether a run ends behind lines of which one was refused.
-pub(crate) fn ends(strict: bool, refused: bool) -> bool
-    ensures is { result ≡ ends strict refused }
+pub(crate) fn is_over(strict: bool, refused: bool) -> bool
+    ensures is { result ≡ is_over strict refused }
 {
     strict && refused
 }

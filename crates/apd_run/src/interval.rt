@@ -8,7 +8,7 @@ use crate::collecting::{collect, send_out};
 use crate::console::Console;
 use crate::crew::Serving;
 use crate::feeding::feed;
-use crate::found::{Found, any_refusal, ends};
+use crate::found::{Found, any_refusal, is_over};
 use crate::operating::Operating;
 use crate::setting::{Setting, Staff};
 use apd_script::Numbered;
@@ -94,7 +94,8 @@ fn interval<W: Serving + Drop, O: Operating<W> + Drop, R: Wait, P: Console>(
     let fed = feed(setting, &mut staff.operator, commands, from.line, &mut told);
     setting.signs.closed.store(from.interval, Ordering::SeqCst);
     let next = fed?;
-    writer.tell(&commands[from.line..next], told.as_slice());
+    let followed = &commands[from.line..next];
+    writer.tell(followed, told.as_slice());
     collect(setting, staff, &mut told)?;
     let found = print_interval(setting.alloc, told, writer)?;
     Ok(Passed { next, found })
@@ -122,7 +123,7 @@ pub(crate) fn intervals<W: Serving + Drop, O: Operating<W> + Drop, R: Wait, P: C
     let mut found = Found::nothing();
     let mut interval_number = 1u64;
     'intervals: while line < commands.len() {
-        if ends(setting.strict, found.refused) {
+        if is_over(setting.strict, found.refused) {
             return Ok(found);
         }
         let from = Place {

@@ -24,8 +24,8 @@ mod setting;
 
 pub use crate::crew::{Ready, Serving};
 pub use actions::{Publication, WordUse};
-pub use console::Console;
 pub use apd_text::{Report, Told};
+pub use console::Console;
 pub use operating::{Operating, Waiting};
 pub use progress::{Progress, Watcher};
 pub use runner::{Gate, OpenGate, RunWords, StateLimit, Supplies, run};

@@ -5,7 +5,7 @@ ghost use Rattle.apd_run.specs.Shows.{Shows, Breaks, IsBroken, status_of, Finish
 
 use crate::console::Console;
 use crate::crew::{Desk, Ready, Serving, Signs};
-use crate::found::{Found, ends};
+use crate::found::{Found, is_over};
 use crate::operating::Operating;
 use crate::running::{Ran, Work, run_threads};
 use crate::setting::{Setting, Staff};
@@ -43,7 +43,7 @@ fn ended(strict: bool, found: Found) -> u8
 {
     if found.memory {
         3
-    } else if ends(strict, found.refused) {
+    } else if is_over(strict, found.refused) {
         1
     } else {
         0

@@ -107,7 +107,12 @@ const PRINTED_STRICTLY: &str = "1 unreadable\n2 word 10\n\
 fn a_strict_run_ends_with_the_interval_of_a_refused_line(rt: HostRuntime) {
     for workers in [1, 2, 8] {
         let (page, status) = ran(&rt, rt.alloc(), workers, REFUSED, true);
-        same(&rt, page.text.as_slice(), PRINTED_STRICTLY.as_bytes(), "the text");
+        same(
+            &rt,
+            page.text.as_slice(),
+            PRINTED_STRICTLY.as_bytes(),
+            "the text",
+        );
         same(&rt, status, 1, "the status");
     }
 }

@@ -28,7 +28,7 @@ const MARK: &str = "b700000002050000 9500000000000000\n";
 const EXIT: &str = "9500000000000000\n";
 
 /// A configuration, a script, and two programs of which the second is refused.
-fn files(script: &str) -> [File<'_>; 4] {
+fn files_of(script: &str) -> [File<'_>; 4] {
     [
         file("config", LAB),
         file("script", script),
@@ -41,23 +41,27 @@ fn files(script: &str) -> [File<'_>; 4] {
 fn a_refused_load_says_what_is_in_force(rt: HostRuntime) {
     let script = "load data absent\nload data mark.hex\nwait\nload data exit.hex\n\
         adopt assoc mark.hex exit.hex\nunload data\nadopt data exit.hex mark.hex\n";
-    let told = "apd: script:1: absent is not loaded; data has no program: all data passes, with mark 0\n\
+    let told =
+        "apd: script:1: absent is not loaded; data has no program: all data passes, with mark 0\n\
         apd: script:4: exit.hex is not loaded; data keeps the program of line 2\n\
         apd: script:5: mark.hex is not loaded; assoc has no program: each station is admitted\n\
         apd: script:7: exit.hex is not loaded; data has no program: all data passes, with mark 0\n";
-    tells(&rt, rt.alloc(), &files(script), words(2), (told, 0));
+    let files = files_of(script);
+    tells(&rt, rt.alloc(), &files, words(2), (told, 0));
 }
 
 #[test]
 fn a_strict_run_says_why_it_ends(rt: HostRuntime) {
     let script = "load addba exit.hex\nwait\nload data mark.hex\nload data exit.hex\n";
-    let told = "apd: script:1: exit.hex is not loaded; addba has no program: each agreement is granted\n\
+    let told =
+        "apd: script:1: exit.hex is not loaded; addba has no program: each agreement is granted\n\
         apd: a line was refused, and the run ended with it (--strict)\n";
     let asked = RunWords {
         strict: true,
         ..words(1)
     };
-    tells(&rt, rt.alloc(), &files(script), asked, (told, 1));
+    let files = files_of(script);
+    tells(&rt, rt.alloc(), &files, asked, (told, 1));
 }
 
 #[test]
@@ -70,7 +74,8 @@ fn all_loads_are_told_where_it_is_asked_for(rt: HostRuntime) {
         ..words(1)
     };
     let script = "# mark\nload data mark.hex\n";
-    tells(&rt, rt.alloc(), &files(script), asked, (told, 0));
+    let files = files_of(script);
+    tells(&rt, rt.alloc(), &files, asked, (told, 0));
 }
 
 const NARROW: &str = "bssid = \"020000000001\"\nssid = \"lab\"\nrates = \"82848b96\"\ndraw = 0\n\

@@ -72,7 +72,10 @@ impl fmt::Display for Loading<'_> {
     fn fmt<W: fmt::Write>(&self, f: &mut fmt::Formatter<W>) -> fmt::Result {
         let Loading { hook, path, before } = *self;
         match before {
-            Some(line) => write!(f, "{path} is not loaded; {hook} keeps the program of line {line}"),
+            Some(line) => write!(
+                f,
+                "{path} is not loaded; {hook} keeps the program of line {line}"
+            ),
             None => {
                 let now = without_program(hook);
                 write!(f, "{path} is not loaded; {hook} {now}")

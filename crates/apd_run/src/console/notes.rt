@@ -76,11 +76,9 @@ impl Notes {
     fn tell_of<E: Write>(&mut self, err: &mut E, numbered: &Numbered<'_>, told: Option<&Told>) {
         let line = numbered.line;
         match numbered.command {
-            Command::Load { hook, path } => {
-                self.tell_load(err, line, self.loading(hook, path), told)
-            }
-            Command::Adopt { hook, path, .. } => {
-                self.tell_load(err, line, self.loading(hook, path), told)
+            Command::Load { hook, path } | Command::Adopt { hook, path, .. } => {
+                let load = self.loading(hook, path);
+                self.tell_load(err, line, load, told)
             }
             Command::Unload(hook) => {
                 if told.is_none() {
@@ -140,17 +138,13 @@ impl Notes {
         let Some(shape) = self.maps.get(word.map as usize) else {
             return;
         };
-        match shape.width {
-            WordWidth::Four if value > FOUR_BYTES => self.say(
-                err,
-                line,
-                Message::Cut {
-                    map: word.map,
-                    value,
-                    kept: value & FOUR_BYTES,
-                },
-            ),
-            _ => {}
+        if shape.width == WordWidth::Four && value > FOUR_BYTES {
+            let message = Message::Cut {
+                map: word.map,
+                value,
+                kept: value & FOUR_BYTES,
+            };
+            self.say(err, line, message);
         }
     }
 

@@ -44,7 +44,7 @@ impl<'a, O: Write + Drop, E: Write> Console for Terminal<'a, O, E> {
 impl<'a, O: Drop, E: Write> Terminal<'a, O, E> {
     /// Tells what is left to tell at the end of a run, and hands standard output back.
     pub(crate) fn end(self) -> O
-        ensures { result ≡ self.out }
+        ensures { result ≡ self.entry.out }
     {
         let Terminal { out, err, notes } = self;
         notes.end(err);

@@ -99,7 +99,7 @@ fn not_certified(fault: CertFault) -> Told
 {
     match fault {
         CertFault::NoMemory => Told::Memory,
-        _ => Told::Certificate {
+        CertFault::Malformed | CertFault::Other | CertFault::NotCovered => Told::Certificate {
             fault: fault.number(),
         },
     }

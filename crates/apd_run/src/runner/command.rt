@@ -122,6 +122,11 @@ where
     let Ok(notes) = Notes::new(alloc, script, &configuration.maps, strict, verbose) else {
         return (out, complain(alloc, &RunFault::NoMemory, err));
     };
+    let console = Terminal {
+        out,
+        err: &mut *err,
+        notes,
+    };
     let (console, status) = run_commands(
         rt,
         alloc,
@@ -129,11 +134,7 @@ where
         workers.max(1).min(8),
         commands.as_slice(),
         Supplies { files, limit, gate },
-        Terminal {
-            out,
-            err: &mut *err,
-            notes,
-        },
+        console,
     );
     let out = console.end();
     say_why(status, err);

@@ -165,7 +165,10 @@ pub(crate) fn complain<W: Write>(alloc: Global, fault: &RunFault, err: &mut W) -
 pub(crate) fn say_why<W: Write>(status: u8, err: &mut W) {
     match status {
         0 => {}
-        1 => say("apd: a line was refused, and the run ended with it (--strict)\n", err),
+        1 => say(
+            "apd: a line was refused, and the run ended with it (--strict)\n",
+            err,
+        ),
         2 => say("apd: cannot write\n", err),
         _ => say("apd: out of memory\n", err),
     }

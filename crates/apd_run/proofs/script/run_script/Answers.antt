@@ -1,5 +1,5 @@
-use Rattle.std.proofs.Common.{◌≡◌, ap, subst, ◌∙◌}
-use Rattle.apd_run.specs.Shows.{Ends, Fails, Finishes, status_of}
+use Rattle.std.proofs.Common.{◌≡◌, ap, ◌∙◌}
+use Rattle.apd_run.specs.Shows.{Ends, Fails, status_of}
 use Rattle.apd_run.proofs.script.run_script.Goals as goal
 
 pub returns-in-Ok : goal.returns-in-Ok
@@ -9,7 +9,7 @@ returns-in-Ok g c =
     c.ended-own.ensures ∙ ap (λ strict. status_of strict found.memory found.refused) c.is_strict-strict.ensures.is in
     record {
       runs = Ends _ _ found.memory found.refused c.finish-status.result (rw c.in-Ok.is at c.run-staff.ensures.shows)
-          (subst (λ n. Finishes _ _ _ n c.finish-status.result) own c.finish-status.ensures.finishes);
+          (rw own at c.finish-status.ensures.finishes);
     }
 
 pub returns-in-Err : goal.returns-in-Err
