@@ -10,6 +10,7 @@
 mod crew;
 mod frames;
 mod hands;
+mod meeting;
 mod operating;
 mod programs;
 mod purse;
@@ -21,6 +22,7 @@ mod tallying;
 
 pub use frames::{address, data, joining};
 pub use hands::{Chief, Hand};
+pub use meeting::{meet_operator, meet_workers};
 pub use programs::publish;
 pub use scenes::{Scene, Story, play};
 pub use setting::settings;
