@@ -159,7 +159,8 @@ apd_loaded apd_c_fetch_or(apd_handle *maps, uint32_t map, uint32_t word, uint64_
 apd_loaded apd_c_fetch_and(apd_handle *maps, uint32_t map, uint32_t word, uint64_t value);
 apd_loaded apd_c_fetch_xor(apd_handle *maps, uint32_t map, uint32_t word, uint64_t value);
 apd_loaded apd_c_compare_exchange(apd_handle *maps, uint32_t map, uint32_t word, uint64_t expected, uint64_t next);
-apd_report apd_c_run(apd_handle *code, apd_handle *maps, const uint8_t *frame, size_t length, const apd_given *given);
+void apd_c_run(apd_handle *code, apd_handle *maps, const uint8_t *frame, size_t length, const apd_given *given,
+               apd_report *report);
 uint32_t apd_c_link(apd_handle *link, const apd_network *network, const apd_shape *shapes, size_t maps);
 uint32_t apd_c_link_load(apd_handle *link, uint32_t hook, apd_handle *code);
 uint32_t apd_c_link_unload(apd_handle *link, uint32_t hook);
@@ -327,11 +328,11 @@ APD_INLINE apd_given apd_given_of(uint64_t clock, uint16_t stations, const struc
 APD_INLINE apd_report apd_run(apd_handle *code, apd_handle *maps, const uint8_t *frame, size_t length,
                                  const apd_given *given)
 {
-    if (!code || !maps || code == maps || !given || (!frame && length)) {
-        apd_report none = {APD_NULL, 0, 0, 0, {0}};
-        return none;
-    }
-    return apd_c_run(code, maps, apd_some_bytes(frame), length, given);
+    apd_report report = {APD_NULL, 0, 0, 0, {0}};
+
+    if (code && maps && code != maps && given && (frame || !length))
+        apd_c_run(code, maps, apd_some_bytes(frame), length, given, &report);
+    return report;
 }
 
 /* Fills an empty handle with an access point that has handled nothing and has no programs yet, for maps of these shapes. */

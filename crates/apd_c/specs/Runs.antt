@@ -19,32 +19,26 @@ abbrev pub given_to : Maps → Given → hooked.Given
 given_to m g = record { maps = m.tables.maps; worker = 0; clock = g.clock; stations = g.stations }
 
 -- The run of the program on the frame and the context, whose asks were answered over the words of the maps, by the clock,
--- the stations and the draws. It ended within the budget.
-pub record RunsOn (a : Verified) (m : Maps) (frame : List ℕ) (g : Given) (outcome : Outcome) (m' : Maps) : Type 0 where
+-- the stations and the draws. It ended within the budget. R0, steps and the first 16 notes are reported.
+pub record RunsOn (a : Verified) (m : Maps) (frame : List ℕ) (g : Given) (report : Report) (m' : Maps) : Type 0 where
+  pub outcome : Outcome
   pub ran : Ran (hooked.Gives (given_to m g)) (setting_of a.code frame g.context) m.state m'.state outcome
   pub within : outcome.steps ≤ a.budget
+  pub r0 : report.r0 ≡ outcome.r0
+  pub steps : report.steps ≡ outcome.steps
+  pub notes : take report.count report.notes ≡ outcome.notes.items
   pub shapes : m'.shapes ≡ m.shapes
   pub tables : m'.tables ≡ m.tables
   pub hand : m'.hand ≡ m.hand
 
 -- the run over the maps that a handle holds
-abbrev pub HasRun : Verified → Option Content → List ℕ → Given → Outcome → Option Content → Type 0
-HasRun a o frame g outcome o' =
-    (m : Maps) × (m' : Maps) × (o ≡ Some (content.Maps m)) × (o' ≡ Some (content.Maps m')) × RunsOn a m frame g outcome m'
+abbrev pub HasRun : Verified → Option Content → List ℕ → Given → Report → Option Content → Type 0
+HasRun a o frame g report o' =
+    (m : Maps) × (m' : Maps) × (o ≡ Some (content.Maps m)) × (o' ≡ Some (content.Maps m')) × RunsOn a m frame g report m'
 
 -- the run of the program that a handle holds
-abbrev pub RunsCode : Option Content → Option Content → List ℕ → Given → Outcome → Option Content → Type 0
-RunsCode code o frame g outcome o' = (a : Verified) × (code ≡ Some (content.Code a)) × HasRun a o frame g outcome o'
-
--- R0, steps and the first 16 notes are reported
-pub record Reports (report : Report) (outcome : Outcome) : Type 0 where
-  pub r0 : report.r0 ≡ outcome.r0
-  pub steps : report.steps ≡ outcome.steps
-  pub notes : take report.count report.notes ≡ outcome.notes.items
-
--- the run of the program that a handle holds, and its report
-abbrev pub ReportsRun : Option Content → Option Content → List ℕ → Given → Report → Option Content → Type 0
-ReportsRun code o frame g report o' = (outcome : Outcome) × Reports report outcome × RunsCode code o frame g outcome o'
+abbrev pub RunsCode : Option Content → Option Content → List ℕ → Given → Report → Option Content → Type 0
+RunsCode code o frame g report o' = (a : Verified) × (code ≡ Some (content.Code a)) × HasRun a o frame g report o'
 
 -- the frame and the number of stations are in their limits
 pub record IsGivable (frame : List ℕ) (g : Given) : Type 0 where

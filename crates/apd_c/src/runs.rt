@@ -1,10 +1,8 @@
 //! Programs that run.
 
-ghost use Rattle.std.specs.Prelude.{◌≡◌, ◌≢◌, ◌≤◌, ◌↔◌, Some, IsTrue, IfOk, IfErr, OnErr, take};
+ghost use Rattle.std.specs.Prelude.{◌≡◌, ◌≢◌, ◌↔◌, Some, IsTrue, take};
 ghost use Rattle.apd_c.specs.Held.{held};
-ghost use Rattle.apd_c.specs.Answers.{UnlessSome, number_in};
-ghost use Rattle.apd_c.specs.Words.{maps_of};
-ghost use Rattle.apd_c.specs.Runs.{RunsOn, HasRun, RunsCode, Reports, ReportsRun, IsForHook, IsNumberOn, IsRunNumber};
+ghost use Rattle.apd_c.specs.Runs.{RunsOn, RunsCode, IsForHook, IsNumberOn, IsRunNumber};
 
 use crate::answer::{OTHER_HOOK, OTHER_MAPS, OTHER_VALUE, OUT_OF_LIMITS};
 use crate::handle::{Content, Handle};
@@ -35,53 +33,21 @@ pub struct Report {
     pub notes: [u64; 16],
 }
 
-/// The report of no run.
-fn refused(number: u32) -> Report
-    ensures { result.number ≡ number }
-{
-    Report {
-        number,
-        steps: 0,
-        r0: 0,
-        count: 0,
-        notes: [0; 16],
-    }
-}
-
-/// The report of a run that notes something, apart so that no other clears room for notes.
-#[inline(never)]
-fn noted(outcome: &Outcome) -> Report
-    ensures number { result.number ≡ 0 }
-    ensures reports { Reports result outcome.now }
+/// Reports a run, but for its number. Notes beyond those of the run stay as they were.
+fn tell(outcome: &Outcome, report: &mut Report)
+    ensures r0 { report.new.r0 ≡ outcome.now.r0 }
+    ensures steps { report.new.steps ≡ outcome.now.steps }
+    ensures notes { take report.new.count report.new.notes ≡ outcome.now.notes.items }
 {
     let listed = outcome.notes.as_slice();
     let count = listed.len();
-    let mut notes = [0u64; 16];
-    notes[..count].copy_from_slice(listed);
-    Report {
-        number: 0,
-        steps: outcome.steps,
-        r0: outcome.r0,
-        count,
-        notes,
+    report.r0 = outcome.r0;
+    report.steps = outcome.steps;
+    report.count = count;
+    if count == 0 {
+        return;
     }
-}
-
-/// The report of a run.
-fn reported(outcome: &Outcome) -> Report
-    ensures number { result.number ≡ 0 }
-    ensures reports { Reports result outcome.now }
-{
-    if outcome.notes.as_slice().is_empty() {
-        return Report {
-            number: 0,
-            steps: outcome.steps,
-            r0: outcome.r0,
-            count: 0,
-            notes: [0; 16],
-        };
-    }
-    return noted(outcome);
+    report.notes[..count].copy_from_slice(listed);
 }
 
 pub(crate) fn are_alike(shapes: &[Shape], others: &[Shape]) -> bool
@@ -97,28 +63,33 @@ fn is_for_hook(accepted: &Accepted, given: &Given) -> bool
     given.context[6] == accepted.hook().number()
 }
 
-/// The run of a program on a frame, over its maps.
-fn run_on(accepted: &Accepted, maps: &mut Maps, frame: &[u8], given: &Given) -> Result<Outcome, u32>
-    ensures run { IfOk result
-        (λ outcome. RunsOn accepted.now maps.old frame.now given.now outcome maps.new) }
-    ensures err { IfErr result (λ number. number ≢ 0) }
-    ensures refused { OnErr result (maps.new ≡ maps.old) }
-    ensures number { IsNumberOn accepted.now maps.old frame.now given.now (number_in result) }
+/// The run of a program on a frame, over its maps. Answers its number.
+fn run_on(
+    accepted: &Accepted,
+    maps: &mut Maps,
+    frame: &[u8],
+    given: &Given,
+    report: &mut Report,
+) -> u32
+    ensures run { result ≡ 0 →
+        RunsOn accepted.now maps.old frame.now given.now report.new maps.new }
+    ensures refused { result ≢ 0 → maps.new ≡ maps.old }
+    ensures number { IsNumberOn accepted.now maps.old frame.now given.now result }
 {
     let Some(frame) = Frame::new(frame) else {
-        return Err(OUT_OF_LIMITS);
+        return OUT_OF_LIMITS;
     };
     if given.stations > 2007 {
-        return Err(OUT_OF_LIMITS);
+        return OUT_OF_LIMITS;
     }
     if !are_alike(
         maps.shapes.as_slice(),
         accepted.program().shapes().as_slice(),
     ) {
-        return Err(OTHER_MAPS);
+        return OTHER_MAPS;
     }
     if !is_for_hook(accepted, given) {
-        return Err(OTHER_HOOK);
+        return OTHER_HOOK;
     }
     let context = Context::new(given.context);
     let view = WorkerView {
@@ -128,82 +99,36 @@ fn run_on(accepted: &Accepted, maps: &mut Maps, frame: &[u8], given: &Given) -> 
         stations: given.stations,
     };
     let outcome = run_hook(accepted, &frame, &context, view, &mut maps.state);
-    return Ok(outcome);
+    tell(&outcome, report);
+    return 0;
 }
 
-/// The same where a content is maps.
-fn run_over(
-    accepted: &Accepted,
-    content: &mut Content,
+/// The same of contents.
+fn run_contents(
+    program: &Content,
+    words: &mut Content,
     frame: &[u8],
     given: &Given,
-) -> Result<Outcome, u32>
-    ensures run { IfOk result (λ outcome. HasRun accepted.now (Some content.old) frame.now given.now
-        outcome (Some content.new)) }
-    ensures err { IfErr result (λ number. number ≢ 0) }
-    ensures refused { OnErr result (content.new ≡ content.old) }
-    ensures number { UnlessSome (maps_of (Some content.old)) 91
-        (λ m. IsNumberOn accepted.now m frame.now given.now) (number_in result) }
+    report: &mut Report,
+) -> u32
+    ensures run { result ≡ 0 → RunsCode (Some program.now) (Some words.old) frame.now given.now
+        report.new (Some words.new) }
+    ensures refused { result ≢ 0 → words.new ≡ words.old }
+    ensures number { IsRunNumber (Some program.now) (Some words.old) frame.now given.now result }
 {
-    match content {
-        Content::Maps(maps) => {
-            let ran = run_on(accepted, maps, frame, given);
-            return ran;
-        }
-        _ => return Err(OTHER_VALUE),
+    match program {
+        Content::Code(accepted) => match words {
+            Content::Maps(maps) => {
+                let number = run_on(accepted, maps, frame, given, report);
+                return number;
+            }
+            _ => return OTHER_VALUE,
+        },
+        _ => return OTHER_VALUE,
     }
 }
 
-/// The run of a program over the maps that a handle holds.
-fn run_at(
-    alloc: Global,
-    accepted: &Accepted,
-    maps: &mut Handle,
-    frame: &[u8],
-    given: &Given,
-) -> Result<Outcome, u32>
-    ensures run { IfOk result (λ outcome.
-        HasRun accepted.now (held maps.old) frame.now given.now outcome (held maps.new)) }
-    ensures err { IfErr result (λ number. number ≢ 0) }
-    ensures refused { OnErr result (held maps.new ≡ held maps.old) }
-    ensures number { UnlessSome (maps_of (held maps.old)) 91
-        (λ m. IsNumberOn accepted.now m frame.now given.now) (number_in result) }
-{
-    match maps.take(alloc) {
-        None => return Err(OTHER_VALUE),
-        Some(mut content) => {
-            let ran = run_over(accepted, &mut content, frame, given);
-            maps.put(content);
-            return ran;
-        }
-    }
-}
-
-/// The run of a content that is a program.
-fn run_content(
-    alloc: Global,
-    content: &Content,
-    maps: &mut Handle,
-    frame: &[u8],
-    given: &Given,
-) -> Result<Outcome, u32>
-    ensures run { IfOk result (λ outcome. RunsCode (Some content.now) (held maps.old)
-        frame.now given.now outcome (held maps.new)) }
-    ensures err { IfErr result (λ number. number ≢ 0) }
-    ensures refused { OnErr result (held maps.new ≡ held maps.old) }
-    ensures number { IsRunNumber (Some content.now) (held maps.old) frame.now given.now
-        (number_in result) }
-{
-    match content {
-        Content::Code(accepted) => {
-            let ran = run_at(alloc, accepted, maps, frame, given);
-            return ran;
-        }
-        _ => return Err(OTHER_VALUE),
-    }
-}
-
-/// Runs a program on a frame of at most 2400 bytes, over the maps that a handle holds. The frame and what is given need
+/// Runs a program on a frame of at most 2400 bytes, over the maps that a handle holds, and reports it. The frame and what is given need
 /// to stand only while it runs; it waits for nothing and takes no memory.
 ///
 /// 0: the run ended, within the program's budget. 90: the frame is longer, or there are more than 2007 stations. 91: a
@@ -216,22 +141,26 @@ pub extern "C" fn apd_c_run(
     maps: &mut Handle,
     frame: &[u8],
     given: &Given,
-) -> Report
-    ensures run { result.number ≡ 0 →
-        ReportsRun (held code.old) (held maps.old) frame.now given.now result (held maps.new) }
-    ensures refused { result.number ≢ 0 → held maps.new ≡ held maps.old }
+    report: &mut Report,
+)
+    ensures run { report.new.number ≡ 0 → RunsCode (held code.old) (held maps.old) frame.now
+        given.now report.new (held maps.new) }
+    ensures refused { report.new.number ≢ 0 → held maps.new ≡ held maps.old }
     ensures code { held code.new ≡ held code.old }
-    ensures number { IsRunNumber (held code.old) (held maps.old) frame.now given.now result.number }
+    ensures number { IsRunNumber (held code.old) (held maps.old) frame.now given.now
+        report.new.number }
 {
-    match code.take(alloc) {
-        None => return refused(OTHER_VALUE),
-        Some(content) => {
-            let ran = run_content(alloc, &content, maps, frame, given);
-            code.put(content);
-            match &ran {
-                Err(number) => return refused(*number),
-                Ok(outcome) => return reported(outcome),
-            }
-        }
-    }
+    let Some(program) = code.take(alloc) else {
+        report.number = OTHER_VALUE;
+        return;
+    };
+    let Some(mut words) = maps.take(alloc) else {
+        code.put(program);
+        report.number = OTHER_VALUE;
+        return;
+    };
+    let number = run_contents(&program, &mut words, frame, given, report);
+    maps.put(words);
+    code.put(program);
+    report.number = number;
 }
