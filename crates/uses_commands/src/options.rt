@@ -132,7 +132,7 @@ fn code_at_fault_is_listed_raw(rt: HostRuntime) {
     says(&rt, alloc, &words, 0, out, why);
     let words = ["apd", "disasm", "--raw", "--slots", "map.hex"];
     let out = "  0 lddw r1, map 0\n  2 mov r0, 0\n  3 exit\n";
-    let why = "apd: slot 0: no such map; `apd explain 19` tells more\n";
+    let why = "apd: slot 0: no such map, or no such byte in it; `apd explain 19` tells more\n";
     says(&rt, alloc, &words, 0, out, why);
     let words = ["apd", "disasm", "--raw", "one.hex"];
     says(&rt, alloc, &words, 0, "mov r0, 1\nexit\n", "");
@@ -216,7 +216,7 @@ fn what_no_context_has_is_a_fault(rt: HostRuntime) {
 fn what_may_have_been_meant_is_told(rt: HostRuntime) {
     let alloc = rt.alloc();
     let words = ["apd", "verify", "data", "map.hex"];
-    let why = "apd: slot 0: no such map; `apd explain 19` tells more\n\
+    let why = "apd: slot 0: no such map, or no such byte in it; `apd explain 19` tells more\n\
         apd: no --config was given, so there are no maps\n";
     says(&rt, alloc, &words, 1, "fault 19 at 0\n", why);
     let words = ["apd", "check", "data", "one.cert", "one.hex"];
