@@ -128,8 +128,9 @@ fn run_contents(
     }
 }
 
-/// Runs a program on a frame of at most 2400 bytes, over the maps that a handle holds, and reports it. The frame and what is given need
-/// to stand only while it runs; it waits for nothing and takes no memory.
+/// Runs a program on a frame of at most 2400 bytes, over the maps that a handle holds, and reports it. The frame and
+/// what is given need to stand only while it runs; it waits for nothing and takes no memory. Notes beyond those of the run
+/// stay as they were.
 ///
 /// 0: the run ended, within the program's budget. 90: the frame is longer, or there are more than 2007 stations. 91: a
 /// handle doesn't hold what it is asked for. 93: the program is for maps of other shapes. 95: byte 6 of the context is
