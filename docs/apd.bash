@@ -6,7 +6,7 @@ _apd() {
     [ "$before" = = ] && before=${COMP_WORDS[COMP_CWORD - 2]}
     for ((at = 2; at < COMP_CWORD; at++)); do
         case ${COMP_WORDS[at]} in
-            --config | --states | --workers)
+            --config | --states | --output | --context | --workers)
                 at=$((at + 1))
                 [ "${COMP_WORDS[at]}" = = ] && at=$((at + 1))
                 ;;
@@ -16,20 +16,22 @@ _apd() {
     done
     case ${COMP_WORDS[1]} in
         verify) options='--config --states --explain --help' kinds=('assoc addba data/' '/hex') ;;
-        asm) options='--help' kinds=('/s') ;;
-        disasm) options='--config --slots --help' kinds=('/hex') ;;
-        trace) options='--config --states --help' kinds=('assoc addba data/' '/hex' '/') ;;
-        run) options='--workers --states --quiet --help' kinds=('/toml' '/script') ;;
-        cert) options='--config --states --help' kinds=('assoc addba data/' '/hex') ;;
+        asm) options='--output --help' kinds=('/s') ;;
+        disasm) options='--config --slots --raw --output --help' kinds=('/hex') ;;
+        trace) options='--config --states --context --from-frame --explain --help' kinds=('assoc addba data/' '/hex' '/') ;;
+        run) options='--workers --states --quiet --strict --verbose --help' kinds=('/toml' '/script') ;;
+        cert) options='--config --states --output --help' kinds=('assoc addba data/' '/hex') ;;
         check) options='--config --help' kinds=('assoc addba data/' '/hex' '/cert') ;;
         explain) options='--help' kinds=('NUMBERS/') ;;
-        frames) options='--no-ticks --help' kinds=('/pcap pcapng') ;;
+        frames) options='--no-ticks --output --help' kinds=('/pcap pcapng') ;;
         help) options='--help' kinds=('COMMANDS/') ;;
     esac
     kind=${kinds[place]-}
     case $before in
         --config) kind='/toml' ;;
         --states) kind='/' ;;
+        --output) kind='/hex' ;;
+        --context) kind='/' ;;
         --workers) kind='1 2 3 4 5 6 7 8/' ;;
     esac
     if [ "$COMP_CWORD" -eq 1 ]; then

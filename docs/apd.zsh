@@ -24,19 +24,19 @@ case $state in
                 _arguments -C '1:HOOK:(assoc addba data)' '2:FILE:_files -g "*.hex"' '--config=[The configuration\: shapes of maps, first draw word]:config:_files -g "*.toml"' '--states=[How many states the verifier may examine, 1 to 4194304 \[default\: 4194304\]]:states: ' '--explain[Tell on standard error why, and what is known there]' '--help[Print help]'
                 ;;
             asm)
-                _arguments -C '1:FILE:_files -g "*.s"' '--help[Print help]'
+                _arguments -C '1:FILE:_files -g "*.s"' '--output=[Write to this file, and only if the command succeeds]:output:_files -g "*.hex"' '--help[Print help]'
                 ;;
             disasm)
-                _arguments -C '1:FILE:_files -g "*.hex"' '--config=[The configuration\: shapes of maps, first draw word]:config:_files -g "*.toml"' '--slots[Print each line'\''s slot before it, and mark jump targets]' '--help[Print help]'
+                _arguments -C '1:FILE:_files -g "*.hex"' '--config=[The configuration\: shapes of maps, first draw word]:config:_files -g "*.toml"' '--slots[Print each line'\''s slot before it, and mark jump targets]' '--raw[Print slots that are no instructions, too, as digits]' '--output=[Write to this file, and only if the command succeeds]:output:_files -g "*.hex"' '--help[Print help]'
                 ;;
             trace)
-                _arguments -C '1:HOOK:(assoc addba data)' '2:FILE:_files -g "*.hex"' '3:FRAME: ' '--config=[The configuration\: shapes of maps, first draw word]:config:_files -g "*.toml"' '--states=[How many states the verifier may examine, 1 to 4194304 \[default\: 4194304\]]:states: ' '--help[Print help]'
+                _arguments -C '1:HOOK:(assoc addba data)' '2:FILE:_files -g "*.hex"' '3:FRAME: ' '--config=[The configuration\: shapes of maps, first draw word]:config:_files -g "*.toml"' '--states=[How many states the verifier may examine, 1 to 4194304 \[default\: 4194304\]]:states: ' '--context=[What the program is told, as KEY=VALUE,.. (see the manual)]:context: ' '--from-frame[Tell the program what the frame says of itself]' '--explain[Tell on standard error why, and what is known there]' '--help[Print help]'
                 ;;
             run)
-                _arguments -C '1:C:_files -g "*.toml"' '2:SCRIPT:_files -g "*.script"' '--workers=[How many worker threads serve the shards, 1 to 8 \[default\: 2\]]:workers:(1 2 3 4 5 6 7 8)' '--states=[How many states the verifier may examine, 1 to 4194304 \[default\: 4194304\]]:states: ' '--quiet[Tell no progress on standard error]' '--help[Print help]'
+                _arguments -C '1:C:_files -g "*.toml"' '2:SCRIPT:_files -g "*.script"' '--workers=[How many worker threads serve the shards, 1 to 8 \[default\: 2\]]:workers:(1 2 3 4 5 6 7 8)' '--states=[How many states the verifier may examine, 1 to 4194304 \[default\: 4194304\]]:states: ' '--quiet[Tell no progress on standard error]' '--strict[End after the first refused line, with status 1]' '--verbose[Tell on standard error what becomes of each load]' '--help[Print help]'
                 ;;
             cert)
-                _arguments -C '1:HOOK:(assoc addba data)' '2:FILE:_files -g "*.hex"' '--config=[The configuration\: shapes of maps, first draw word]:config:_files -g "*.toml"' '--states=[How many states the verifier may examine, 1 to 4194304 \[default\: 4194304\]]:states: ' '--help[Print help]'
+                _arguments -C '1:HOOK:(assoc addba data)' '2:FILE:_files -g "*.hex"' '--config=[The configuration\: shapes of maps, first draw word]:config:_files -g "*.toml"' '--states=[How many states the verifier may examine, 1 to 4194304 \[default\: 4194304\]]:states: ' '--output=[Write to this file, and only if the command succeeds]:output:_files -g "*.hex"' '--help[Print help]'
                 ;;
             check)
                 _arguments -C '1:HOOK:(assoc addba data)' '2:FILE:_files -g "*.hex"' '3:CERT:_files -g "*.cert"' '--config=[The configuration\: shapes of maps, first draw word]:config:_files -g "*.toml"' '--help[Print help]'
@@ -45,7 +45,7 @@ case $state in
                 _arguments -C '1:NUMBER:(1 2 3 10 11 12 13 14 15 16 17 18 19 20 21 22 30 31 32 33 34 35 36 37 38 40 50 51 52 53 54 55 56 60 61 62 63 70 71 72)' '--help[Print help]'
                 ;;
             frames)
-                _arguments -C '1:CAPTURE:_files -g "*.(pcap|pcapng)"' '--no-ticks[Leave out the time between frames]' '--help[Print help]'
+                _arguments -C '1:CAPTURE:_files -g "*.(pcap|pcapng)"' '--no-ticks[Leave out the time between frames]' '--output=[Write to this file, and only if the command succeeds]:output:_files -g "*.hex"' '--help[Print help]'
                 ;;
             help)
                 _arguments -C '1:COMMAND:->command' '--help[Print help]'

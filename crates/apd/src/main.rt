@@ -5,7 +5,7 @@ use apd_files::RealFiles;
 use apd_program::Messages;
 use std::alloc::{AllocError, Global};
 use std::env::FillError;
-use std::io::{ErrorKind, IsTerminal, Write};
+use std::io::{ErrorKind, Input, IsTerminal, Write};
 use std::process::ExitCode;
 use std::rt::Env;
 use std::sync::Wait;
@@ -57,7 +57,7 @@ fn touch_lower(rt: &impl Env) {
 /// Runs the program on its words, and answers its status.
 fn run<R, O, E>(rt: &R, alloc: Global, out: O, messages: Messages<'_, E>) -> io::Result<u8>
 where
-    R: Threads + Wait + Sync + Clock + Eprint + Env + rt::Files + AllocGlobal,
+    R: Threads + Wait + Sync + Clock + Input + Eprint + Env + rt::Files + AllocGlobal,
     O: Write + Drop,
     E: Write,
 {

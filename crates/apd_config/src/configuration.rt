@@ -1,6 +1,6 @@
 //! What an access point is configured with.
 
-ghost use Rattle.std.specs.Prelude.{◌≤◌, ◌<◌, ◌^◌, vec_len};
+ghost use Rattle.std.specs.Prelude.{◌≡◌, ◌≤◌, ◌<◌, ◌^◌, ◌%◌, ◌==◌, slice_index, vec_len};
 
 use bpf_regions::Shapes;
 
@@ -21,4 +21,13 @@ pub struct Configuration {
     ghost some_rates: { 1 ≤ vec_len rates },
     ghost rates_fit: { vec_len rates ≤ 8 },
     ghost draw_fits: { draw < 2 ^ 63 },
+}
+
+impl Configuration {
+    /// Whether the access point's address is that of a group (the low bit of its first octet).
+    pub fn is_for_group(&self) -> bool
+        ensures { result ≡ (slice_index self.now.bssid 0 % 2 == 1) }
+    {
+        self.bssid[0] % 2 == 1
+    }
 }

@@ -3,8 +3,8 @@
 //! Main call: `read_configuration`. It stands on `toml`, `hex` and `bpf_regions`. It answers a
 //! `Configuration` only where the text is a text of it: the access point's address, the network's
 //! name and rates, the shapes of the maps, the word that is drawn first; otherwise a `ConfigFault`
-//! that the text has, with the key that is at fault. `laws::faultless_law`: the text of a
-//! configuration has no fault.
+//! that the text has, with the key that is at fault. `fault_text` says it in words, with the line.
+//! `laws::faultless_law`: the text of a configuration has no fault.
 #![tactic(auto)]
 
 mod configuration;
@@ -12,6 +12,7 @@ mod fault;
 mod keys;
 pub mod laws;
 mod maps;
+mod place;
 mod reading;
 mod tables;
 mod values;
@@ -19,4 +20,5 @@ mod values;
 pub use configuration::Configuration;
 pub use fault::ConfigFault;
 pub use keys::{Key, MapKey};
+pub use place::fault_text;
 pub use reading::read_configuration;

@@ -62,6 +62,7 @@ unread_unopened kind (Some f) fault.Missing h = h
 unread_unopened kind (Some f) fault.Directory h = h
 unread_unopened kind (Some f) fault.NotAllowed h = h
 unread_unopened kind (Some f) fault.Failed h = h
+unread_unopened kind (Some f) fault.Taken h = h
 
 unread_memory : (kind : FileKind) (file : File) (e : FileFault) → e ≡ fault.NoMemory → IfSome file (IsUnread kind e)
 unread_memory kind None e h = tt
@@ -85,6 +86,7 @@ lacks_unopened kind (Some f) fault.Missing other h = inl h
 lacks_unopened kind (Some f) fault.Directory other h = inl h
 lacks_unopened kind (Some f) fault.NotAllowed other h = inl h
 lacks_unopened kind (Some f) fault.Failed other h = inl h
+lacks_unopened kind (Some f) fault.Taken other h = inl h
 
 told_as : (kind : FileKind) (files : Held) (path : List ℕ) (why : FileFault) (told : CodeFault) → IsTold why told → (why ≢ fault.NoMemory → Lacks kind files path) → IsFaultOf kind files path told
 told_as kind files path why told (inl memory) lacks = subst (λ x. IsFaultOf kind files path x) (sym memory) tt

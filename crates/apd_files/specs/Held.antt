@@ -1,5 +1,5 @@
 -- Files, and the code that they spell.
-use Rattle.std.specs.Prelude.{◌≡◌, ◌<◌, ◌%◌, ◌⊎◌, ℕ, List, length, Option, Some, None, Result, Ok, IfSome, not, filter}
+use Rattle.std.specs.Prelude.{◌≡◌, ◌<◌, ◌%◌, ◌⊎◌, ℕ, List, [], ◌∷◌, ◌++◌, length, Option, Some, None, Result, Ok, IfSome, not, filter}
 use Rattle.std.specs.Char.{is_ascii_whitespace}
 use Rattle.hex.specs.Hex.{decode_of}
 use Rattle.hex.specs.declared.error.FromHexError.{FromHexError}
@@ -32,6 +32,7 @@ IsUnopened fault.Missing file = file ≡ None
 IsUnopened fault.Directory file = file ≡ None
 IsUnopened fault.NotAllowed file = file ≡ None
 IsUnopened fault.Failed file = file ≡ None
+IsUnopened fault.Taken file = file ≡ None
 
 -- why a file of the kind isn't read: it is too long, or there is none; of memory nothing is said
 abbrev pub IsUnread : FileKind → FileFault → Option (List ℕ) → Type 0
@@ -41,6 +42,7 @@ IsUnread kind fault.Missing file = file ≡ None
 IsUnread kind fault.Directory file = file ≡ None
 IsUnread kind fault.NotAllowed file = file ≡ None
 IsUnread kind fault.Failed file = file ≡ None
+IsUnread kind fault.Taken file = file ≡ None
 
 -- no file of the kind can be read there, as far as is known
 abbrev pub Lacks : FileKind → Held → List ℕ → Type 0
@@ -73,3 +75,12 @@ pub record HoldsKept (most : ℕ) (files : Held) (path kept : List ℕ) : Type 0
   pub code : List ℕ
   pub held : HoldsCode files path code
   pub keeps : Keeps most 8 code kept
+
+-- what was written to files, by their paths, as far as is known
+abbrev pub Saved : Type 0
+Saved = Option (List (List ℕ × List ℕ))
+
+-- one more file was written
+abbrev pub Saves : List ℕ → List ℕ → Saved → Saved → Type 0
+Saves path bytes None new = Unit {0}
+Saves path bytes (Some old) new = new ≡ Some (old ++ (path, bytes) ∷ [])

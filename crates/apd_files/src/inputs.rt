@@ -9,4 +9,4 @@ mod digits;
 mod files;
 
 pub use code::{CodeFault, DigitFault, read_certificate, read_code};
-pub use files::{FileFault, FileKind, Files, read_whole, shown};
+pub use files::{FileFault, FileKind, Files, path_of_word, read_whole, shown};

@@ -1,28 +1,63 @@
-//! The files of the system, as `apd` reads them.
+//! The files of the system, as `apd` reads and writes them.
 //!
 //! `RealFiles` is what the commands are given by the program: it reads in blocks of 64 KiB. It stands on
 //! `Files`. Of what files hold no clause says anything: that they are really read is shown by the
 //! programs that the gate runs.
+ghost use Rattle.std.specs.Prelude.{◌≡◌, true, Err};
+
 use crate::inputs::{FileFault, Files};
+use crate::outputs::{Unwritten, write_whole};
 use std::alloc::Global;
-use std::io::{Error, ErrorKind, Read};
+use std::io::{Error, ErrorKind, Input, Read};
 use std::{fs, rt};
 
 /// How many bytes a block has at most.
 const BLOCK: usize = 1 << 16;
 
-/// The files of the system, from the working directory, of which at most one is open. Of what they hold
-/// nothing is known.
+/// The files of the system, from the working directory, of which at most one is open, and standard input, by the path `-`,
+/// which is opened once. Of what they hold nothing is known.
 #[derive(Drop)]
-pub struct RealFiles<'a, R: rt::Files + AllocGlobal> {
+pub struct RealFiles<'a, R: rt::Files + Input + AllocGlobal> {
     rt: &'a R,
     open: Option<R::File>,
+    input: Option<R::Reader>,
+    input_is_taken: bool,
 }
 
-impl<'a, R: rt::Files + AllocGlobal> RealFiles<'a, R> {
+impl<'a, R: rt::Files + Input + AllocGlobal> RealFiles<'a, R> {
     /// The files, of which none is open.
     pub fn new(rt: &'a R) -> Self {
-        RealFiles { rt, open: None }
+        RealFiles {
+            rt,
+            open: None,
+            input: None,
+            input_is_taken: false,
+        }
+    }
+
+    /// Opens standard input, unless it was opened before.
+    fn open_input(&mut self) -> Result<(), FileFault>
+        ensures taken { self.new.input_is_taken ≡ true }
+        ensures once { self.old.input_is_taken ≡ true → result ≡ Err FileFault.Taken }
+    {
+        if self.input_is_taken {
+            return Err(FileFault::Taken);
+        }
+        self.input_is_taken = true;
+        self.open = None;
+        self.input = Some(self.rt.reader());
+        Ok(())
+    }
+
+    fn open_file(&mut self, path: &str) -> Result<(), FileFault> {
+        match fs::open(self.rt, path) {
+            Ok(file) => {
+                self.open = Some(file);
+                self.input = None;
+                Ok(())
+            }
+            Err(error) => Err(fault_of(&error)),
+        }
     }
 }
 
@@ -58,21 +93,28 @@ fn block_of<F: Read>(alloc: Global, file: &mut F) -> Result<Vec<u8>, FileFault> 
     Err(FileFault::Failed)
 }
 
-impl<R: rt::Files + AllocGlobal> Files for RealFiles<'_, R> {
+impl<R: rt::Files + Input + AllocGlobal> Files for RealFiles<'_, R> {
     fn open(&mut self, path: &str) -> Result<(), FileFault> {
-        match fs::open(self.rt, path) {
-            Ok(file) => {
-                self.open = Some(file);
-                Ok(())
-            }
-            Err(error) => Err(fault_of(&error)),
+        if path == "-" {
+            return self.open_input();
         }
+        self.open_file(path)
     }
 
     fn next_block(&mut self) -> Result<Vec<u8>, FileFault> {
-        match &mut self.open {
-            Some(file) => block_of(self.rt.alloc(), file),
+        if let Some(file) = &mut self.open {
+            return block_of(self.rt.alloc(), file);
+        }
+        match &mut self.input {
+            Some(input) => block_of(self.rt.alloc(), input),
             None => Err(FileFault::Failed),
+        }
+    }
+
+    fn save(&mut self, path: &str, bytes: &[u8]) -> Result<(), Unwritten> {
+        match fs::create(self.rt, path) {
+            Ok(mut file) => write_whole(&mut file, bytes),
+            Err(error) => Err(Unwritten(error.kind())),
         }
     }
 }

@@ -1,7 +1,11 @@
 -- What is at fault in files.
 use Rattle.std.proofs.Math.Nat.{lt_of_not-le}
-use Rattle.std.proofs.Common.{◌≡◌, ◌≢◌, ◌⊎◌, ◌<◌, ◌≤◌, ◌^◌, true, false, length, List, ℕ, Err, Option, None, Some, inl, inr, refl, subst}
-use Rattle.std.specs.Prelude.{IfSome}
+use Rattle.std.proofs.Common.{◌≡◌, ◌≢◌, ◌⊎◌, ◌<◌, ◌≤◌, ◌^◌, Bool, true, false, length, List, ℕ, Err, Option, None, Some, inl, inr, refl, subst}
+use Rattle.std.specs.Prelude.{IfSome, slice_index}
+use Rattle.std.specs.Borrow.{Bor}
+use Rattle.bpf_regions.specs.declared.hooks.Hook.{Hook}
+use Rattle.bpf_regions.specs.Hooks.{number_of}
+use Rattle.apd_text.specs.Trace.{context_of}
 use Rattle.hex.specs.Hex.{decode_of}
 use Rattle.hex.specs.declared.error.FromHexError.{FromHexError}
 use Rattle.hex.specs.declared.error.FromHexError.TheVariants.{OutOfMemory}
@@ -14,7 +18,7 @@ use Rattle.capture.specs.declared.fault.CaptureFault.TheVariants as capture
 use Rattle.apd_program.specs.declared.fault.ProgramFault.{ProgramFault}
 use Rattle.apd_program.specs.declared.fault.ProgramFault.TheVariants.{NoMemory}
 use Rattle.apd_words.specs.declared.Source.{Source}
-use Rattle.apd_words.specs.Asked.{config_of}
+use Rattle.apd_words.specs.Asked.{config_of, text_of}
 use Rattle.apd_program.specs.declared.reading.Loaded.{Loaded}
 use Rattle.apd_program.specs.declared.reading.Setup.{Setup}
 use Rattle.apd_files.specs.declared.inputs.files.FileKind.{FileKind}
@@ -25,8 +29,8 @@ use Rattle.apd_files.specs.declared.inputs.code.CodeFault.{CodeFault}
 use Rattle.apd_files.specs.declared.inputs.code.CodeFault.TheVariants as read
 use Rattle.apd_files.specs.Faults.{IsFaultOf}
 use Rattle.apd_files.specs.Held.{Held, Holds, IsNoInput, IsUnread}
-use Rattle.apd_program.specs.Setups.{Configures, IsLoaded}
-use Rattle.apd_program.specs.Faults.{IsMemoryOr, IsBadSource, HasBadCode, HasBadDigits, NoFile, NoCode, HasBadConfiguration, NoConfiguration, IsBadConfig, HasBadCapture, NoCapture, IsAtFault, OfConfiguration, OfCode, IsNoFrame, NoDigits, HasNoFrame, OfFiles, OfWord, HasNoCertificate, OfOthers, OfCertificate}
+use Rattle.apd_program.specs.Setups.{Configures, IsContext, IsLoaded}
+use Rattle.apd_program.specs.Faults.{IsMemoryOr, IsBadSource, HasBadCode, HasBadDigits, NoFile, NoCode, HasBadConfiguration, NoConfiguration, IsBadConfig, HasBadCapture, NoCapture, IsAtFault, OfConfiguration, OfCode, IsNoFrame, NoDigits, OfFiles, OfWord, IsGiven, HasNoTrial, OfFrame, OfContext, HasNoCertificate, OfOthers, OfCertificate}
 
 pub code_at_fault : (kind : FileKind) (files : Held) (path : List ℕ) (e : CodeFault) (f : ProgramFault) → IsFaultOf kind files path e → (e ≡ read.NoMemory → f ≡ NoMemory) → (f ≡ NoMemory) ⊎ HasBadDigits kind files path
 code_at_fault kind files path read.NoMemory f h m = inl (m refl)
@@ -40,6 +44,7 @@ unread kind file unread_fault.Missing f h m = inr (inl h)
 unread kind file unread_fault.Directory f h m = inr (inl h)
 unread kind file unread_fault.NotAllowed f h m = inr (inl h)
 unread kind file unread_fault.Failed f h m = inr (inl h)
+unread kind file unread_fault.Taken f h m = inr (inl h)
 
 pub file_at_fault : (kind : FileKind) (file : Option (Option (List ℕ))) (e : FileFault) (f : ProgramFault) → IfSome file (IsUnread kind e) → (e ≡ unread_fault.NoMemory → f ≡ NoMemory) → (f ≡ NoMemory) ⊎ IfSome file (IsNoInput kind)
 file_at_fault kind None e f h m = inr tt
@@ -98,13 +103,19 @@ IsAtFault-code files later file config setup e same fine (inr bad) =
     inr (OfCode config setup fine (let P : Held → Type 0 = λ f. HasBadCode f file in subst P same bad))
 
 module _ (files : Held) (source : Source) where
-  pub HasNoFrame-files : (word : List ℕ) (e : ProgramFault) → IsMemoryOr (IsBadSource files source) e → IsMemoryOr (HasNoFrame files source.file.now word (config_of source)) e
-  HasNoFrame-files word e (inl memory) = inl memory
-  HasNoFrame-files word e (inr fault) = inr (OfFiles fault)
+  pub HasNoTrial-files : (word : List ℕ) (words : Option (List ℕ)) (from_frame : Bool) (e : ProgramFault) → IsMemoryOr (IsBadSource files source) e → IsMemoryOr (HasNoTrial files source.file.now word (config_of source) words from_frame) e
+  HasNoTrial-files word words from_frame e (inl memory) = inl memory
+  HasNoTrial-files word words from_frame e (inr fault) = inr (OfFrame (OfFiles fault))
 
-  pub HasNoFrame-word : (word : List ℕ) (loaded : Loaded) (e : ProgramFault) → IsLoaded files source loaded → IsMemoryOr (IsNoFrame word) e → IsMemoryOr (HasNoFrame files source.file.now word (config_of source)) e
-  HasNoFrame-word word loaded e h (inl memory) = inl memory
-  HasNoFrame-word word loaded e h (inr bad) = inr (OfWord loaded.setup h.kept.code h.configured h.kept.held bad)
+  pub HasNoTrial-word : (word : List ℕ) (words : Option (List ℕ)) (from_frame : Bool) (loaded : Loaded) (e : ProgramFault) → IsLoaded files source loaded → IsMemoryOr (IsNoFrame word) e
+      → IsMemoryOr (HasNoTrial files source.file.now word (config_of source) words from_frame) e
+  HasNoTrial-word word words from_frame loaded e h (inl memory) = inl memory
+  HasNoTrial-word word words from_frame loaded e h (inr bad) = inr (OfFrame (OfWord loaded.setup h.kept.code h.configured h.kept.held bad))
+
+  pub HasNoTrial-given : (word : List ℕ) (words : Option (List ℕ)) (from_frame : Bool) (e : ProgramFault) → IsMemoryOr (IsGiven words from_frame) e
+      → IsMemoryOr (HasNoTrial files source.file.now word (config_of source) words from_frame) e
+  HasNoTrial-given word words from_frame e (inl memory) = inl memory
+  HasNoTrial-given word words from_frame e (inr given) = inr (OfContext given)
 
   pub HasNoCertificate-others : (certificate : List ℕ) (e : ProgramFault) → IsMemoryOr (IsBadSource files source) e → IsMemoryOr (HasNoCertificate files source.file.now certificate (config_of source)) e
   HasNoCertificate-others certificate e (inl memory) = inl memory
@@ -122,3 +133,15 @@ frame_at_fault word e f (inr fault) m = inr (NoDigits e fault)
 
 pub too_long : (slice bytes : List ℕ) → slice ≡ bytes → (length slice ≤ 2400 → false ≡ true) → 2400 < length bytes
 too_long slice bytes same short = lt_of_not-le (λ h. let no : false ≡ true = short (rw same h) in cc)
+
+-- ---- what is given for a context
+
+pub IsGiven-of : (words : Option (Bor (List ℕ))) (from_frame : Bool) (f : ProgramFault) → (words ≡ None → from_frame ≡ false → ⊥) → (f ≡ NoMemory) ⊎ IsGiven (text_of words) from_frame
+IsGiven-of None false f h = absurd (h refl refl)
+IsGiven-of None true f h = inr tt
+IsGiven-of (Some word) from_frame f h = inr tt
+
+pub IsContext-of : (hook : Hook) (words : Option (Bor (List ℕ))) (from_frame : Bool) (context : List ℕ) → (words ≡ None → from_frame ≡ false → context ≡ context_of hook) → slice_index context 6 ≡ number_of hook → IsContext hook (text_of words) from_frame context
+IsContext-of hook None false context zeros number = zeros refl refl
+IsContext-of hook None true context zeros number = number
+IsContext-of hook (Some word) from_frame context zeros number = number

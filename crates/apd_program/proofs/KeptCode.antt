@@ -14,7 +14,7 @@ use Rattle.apd_words.specs.Asked.{config_of}
 use Rattle.apd_program.specs.declared.reading.Loaded.{Loaded}
 use Rattle.apd_program.specs.declared.reading.Setup.{Setup}
 use Rattle.apd_program.specs.Setups.{IsLoaded}
-use Rattle.apd_program.specs.Answers.{IsOfCode}
+use Rattle.apd_program.specs.Answers.{IsOfCode, IsOfSlots}
 use Rattle.apd_program.specs.Programs.{IsOfProgram, Undecoded, Decoded}
 
 -- code past the longest has the fault of what is kept of it
@@ -44,4 +44,15 @@ IsOfCode-loaded says files source loaded r h said =
       code = h.kept.code;
       held = h.kept.held;
       said = IsOfProgram-kept (says loaded.setup) loaded.setup.shapes h.kept.code loaded.code.items a h.kept.keeps i;
+    }) said
+
+pub IsOfSlots-loaded : (says : List ℕ → Answer → Type 0) (files : Held) (source : Source) (loaded : Loaded) (r : Result Answer ProgramFault) → IsLoaded files source loaded
+    → IfOk r (says loaded.code.items) → IfOk r (IsOfSlots says files source.file.now (config_of source))
+IsOfSlots-loaded says files source loaded r h said =
+    IfOk-weaker r (says loaded.code.items) (IsOfSlots says files source.file.now (config_of source)) (λ a i. record {
+      setup = loaded.setup;
+      configured = h.configured;
+      kept = loaded.code.items;
+      held = h.kept;
+      said = i;
     }) said

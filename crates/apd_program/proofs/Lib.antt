@@ -4,3 +4,4 @@ pub mod KeptCode
 pub mod Slots
 pub mod Said
 pub mod Performing
+pub mod Delivering

@@ -1,49 +1,68 @@
 -- From what was printed to what the program did.
-use Rattle.std.proofs.Common.{◌≡◌, ◌⊎◌, ◌≤◌, ℕ, List, Option, inl, inr, arith}
+use Rattle.std.proofs.Common.{◌≡◌, ◌≢◌, ◌∙◌, ◌⊎◌, ◌≤◌, ℕ, List, Option, Result, Ok, Err, inl, inr, refl, sym, subst, arith}
 use Rattle.std.specs.Io.KnownBytes.{Keeps}
 use Rattle.clap.specs.declared.builder.value_parser.ValueParser.{ValueParser}
-use Rattle.apd_words.specs.Asked.{Asked}
-use Rattle.apd_words.specs.Reads.{IsHelp}
+use Rattle.apd_words.specs.Asked.{Asked, Wanted, Run as RunWanted, Answer as AnswerWanted}
+use Rattle.apd_words.specs.Reads.{AsksFor, IsHelp, TellsOf}
+use Rattle.apd_words.specs.Spells.{IsReadAs}
+use Rattle.apd_words.specs.declared.Told.{Told}
+use Rattle.apd_words.specs.declared.Told.TheVariants as told
+use Rattle.apd_run.specs.Counts.{none}
+use Rattle.apd_run.specs.Shows as shows
+use Rattle.apd_run.proofs.Ending.{runs_nothing}
 use Rattle.apd_program.specs.declared.answer.Answer.{Answer}
-use Rattle.apd_program.specs.declared.answer.Answer.TheVariants.{Accepted, Code, Instructions, Run, Page, Script, Help, Fault, Refused, LineFault, Certificate, Unaccepted}
+use Rattle.apd_program.specs.declared.answer.Answer.TheVariants.{Accepted, Code, Instructions, Run, Page, Script, CutScript, Help, Fault, Refused, LineFault, Certificate, Unaccepted}
 use Rattle.apd_program.specs.declared.fault.ProgramFault.{ProgramFault}
 use Rattle.apd_program.specs.declared.fault.ProgramFault.TheVariants as fault
 use Rattle.apd_program.specs.Lines.{status_of}
 use Rattle.apd_files.specs.Held.{Held}
 use Rattle.apd_program.specs.Answers.{IsAnswer, HasNoAnswer}
-use Rattle.apd_program.specs.Printed.{Prints, Whole, Beginning, Nothing, PrintsText, WholeText, BeginningOfText, fault_status}
-use Rattle.apd_program.specs.Program.{Performs, Wrote, Stopped, Refrained, Exhausted, Does, Helped, StoppedHelp}
+use Rattle.apd_program.specs.Printed.{PrintsText, WholeText, BeginningOfText, fault_status}
+use Rattle.apd_program.specs.Delivered.{Delivers, Printed, Stored, Begun, Unstored, Nothing, status_after}
+use Rattle.apd_program.specs.declared.output.Undelivered.{Undelivered}
+use Rattle.apd_program.specs.declared.output.Undelivered.TheVariants as undelivered
+use Rattle.apd_program.specs.Program.{Performs, Wrote, Saved, Stopped, Unsaved, Refrained, Exhausted, Responds, Fulfils, Tells, Does, Performed, Complained, Helped, StoppedHelp}
 use Rattle.apd_program.proofs.Kept.{Keeps-same}
 
-pub Performs-printed : (files : Held) (a : Asked) (answer : Answer) (old new : Option (List ℕ)) (status : ℕ) → IsAnswer files a answer → Prints answer old new status → Performs files a old new status
-Performs-printed files a answer old new status is (Whole written) = Wrote answer is written
-Performs-printed files a answer old new status is (Beginning written) = Stopped answer is written
-Performs-printed files a answer old new status is (Nothing kept) = Exhausted kept
+-- a write that failed has the status 2
+failed : (e : Undelivered) → e ≢ undelivered.NoMemory → status_after (Err e) ≡ 2
+failed undelivered.NoMemory other = absurd (other refl)
+failed (undelivered.Unwritten why) other = refl
 
-complained : (files : Held) (a : Asked) (o : Option (List ℕ)) (f : ProgramFault) → (f ≡ fault.NoMemory) ⊎ HasNoAnswer files a → Performs files a o o (fault_status f)
-complained files a o fault.NoMemory h = Exhausted (Keeps-same o)
-complained files a o (fault.Unreadable path why) (inl memory) = cc
-complained files a o (fault.NoCode path line found) (inl memory) = cc
-complained files a o (fault.Capture path f) (inl memory) = cc
-complained files a o (fault.NoPage name) (inl memory) = cc
-complained files a o (fault.NoCommand name) (inl memory) = cc
-complained files a o (fault.NoDigits path) (inl memory) = cc
-complained files a o (fault.OddDigits path) (inl memory) = cc
-complained files a o (fault.Config path f) (inl memory) = cc
-complained files a o fault.LongFrame (inl memory) = cc
-complained files a o (fault.NotThere name) (inl memory) = cc
-complained files a o (fault.Unreadable path why) (inr h) = Refrained h (Keeps-same o)
-complained files a o (fault.NoCode path line found) (inr h) = Refrained h (Keeps-same o)
-complained files a o (fault.Capture path f) (inr h) = Refrained h (Keeps-same o)
-complained files a o (fault.NoPage name) (inr h) = Refrained h (Keeps-same o)
-complained files a o (fault.NoCommand name) (inr h) = Refrained h (Keeps-same o)
-complained files a o (fault.NoDigits path) (inr h) = Refrained h (Keeps-same o)
-complained files a o (fault.OddDigits path) (inr h) = Refrained h (Keeps-same o)
-complained files a o (fault.Config path f) (inr h) = Refrained h (Keeps-same o)
-complained files a o fault.LongFrame (inr h) = Refrained h (Keeps-same o)
-complained files a o (fault.NotThere name) (inr h) = Refrained h (Keeps-same o)
+pub Performs-delivered : (files : Held) (a : Asked) (answer : Answer) (output old new : Option (List ℕ)) (r : Result ℕ Undelivered) (status : ℕ) → IsAnswer files a answer → Delivers answer output old new r → status ≡ status_after r
+    → Performs files a output old new status
+Performs-delivered files a answer output old new r status is (Printed goes written) e = rw e (Wrote answer is goes written)
+Performs-delivered files a answer output old new r status is (Stored stored kept) e = rw e (Saved answer is stored kept)
+Performs-delivered files a answer output old new r status is (Begun u other written) e = rw (e ∙ failed u other) (Stopped answer is written)
+Performs-delivered files a answer output old new r status is (Unstored u other stored kept) e = rw (e ∙ failed u other) (Unsaved answer is stored kept)
+Performs-delivered files a answer output old new r status is (Nothing kept) e = rw e (Exhausted kept)
 
-pub Performs-complained : (files : Held) (a : Asked) (o : Option (List ℕ)) (f : ProgramFault) (status : ℕ) → (f ≡ fault.NoMemory) ⊎ HasNoAnswer files a → status ≡ fault_status f → Performs files a o o status
+complained : (files : Held) (a : Asked) (output o : Option (List ℕ)) (f : ProgramFault) → (f ≡ fault.NoMemory) ⊎ HasNoAnswer files a → Performs files a output o o (fault_status f)
+complained files a output o fault.NoMemory h = Exhausted (Keeps-same o)
+complained files a output o (fault.Unreadable path why) (inl memory) = cc
+complained files a output o (fault.NoCode path f) (inl memory) = cc
+complained files a output o (fault.Capture path f) (inl memory) = cc
+complained files a output o (fault.NoPage word ranges) (inl memory) = cc
+complained files a output o (fault.Context why) (inl memory) = cc
+complained files a output o fault.NoThreads (inl memory) = cc
+complained files a output o (fault.NoCommand name) (inl memory) = cc
+complained files a output o (fault.NoDigits path) (inl memory) = cc
+complained files a output o (fault.OddDigits path) (inl memory) = cc
+complained files a output o (fault.Config path f) (inl memory) = cc
+complained files a output o fault.LongFrame (inl memory) = cc
+complained files a output o (fault.Unreadable path why) (inr h) = Refrained h (Keeps-same o)
+complained files a output o (fault.NoCode path f) (inr h) = Refrained h (Keeps-same o)
+complained files a output o (fault.Capture path f) (inr h) = Refrained h (Keeps-same o)
+complained files a output o (fault.NoPage word ranges) (inr h) = Refrained h (Keeps-same o)
+complained files a output o (fault.Context why) (inr h) = Refrained h (Keeps-same o)
+complained files a output o fault.NoThreads (inr h) = Refrained h (Keeps-same o)
+complained files a output o (fault.NoCommand name) (inr h) = Refrained h (Keeps-same o)
+complained files a output o (fault.NoDigits path) (inr h) = Refrained h (Keeps-same o)
+complained files a output o (fault.OddDigits path) (inr h) = Refrained h (Keeps-same o)
+complained files a output o (fault.Config path f) (inr h) = Refrained h (Keeps-same o)
+complained files a output o fault.LongFrame (inr h) = Refrained h (Keeps-same o)
+
+pub Performs-complained : (files : Held) (a : Asked) (output o : Option (List ℕ)) (f : ProgramFault) (status : ℕ) → (f ≡ fault.NoMemory) ⊎ HasNoAnswer files a → status ≡ fault_status f → Performs files a o o status
 Performs-complained files a o f status h is = rw is (complained files a o f h)
 
 status_within : (answer : Answer) → status_of answer ≤ 1
@@ -53,6 +72,7 @@ status_within (Instructions text) = omega arith
 status_within (Run text) = omega arith
 status_within (Page text) = omega arith
 status_within (Script text) = omega arith
+status_within (CutScript text f) = omega arith
 status_within (Help text) = omega arith
 status_within (Fault e) = omega arith
 status_within (Refused e) = omega arith
@@ -60,23 +80,73 @@ status_within (LineFault e) = omega arith
 status_within (Certificate bytes) = omega arith
 status_within (Unaccepted e) = omega arith
 
-pub Performs-status : (files : Held) (a : Asked) (old new : Option (List ℕ)) (status : ℕ) → Performs files a old new status → status ≤ 3
-Performs-status files a old new status (Wrote answer is written) = omega (arith, status_within answer)
-Performs-status files a old new status (Stopped answer is written) = omega arith
-Performs-status files a old new status (Refrained h kept) = omega arith
-Performs-status files a old new status (Exhausted kept) = omega arith
+Performs-status : (files : Held) (a : Asked) (output old new : Option (List ℕ)) (status : ℕ) → Performs files a output old new status → status ≤ 3
+Performs-status files a output old new status (Wrote answer is goes written) = omega (arith, status_within answer)
+Performs-status files a output old new status (Saved answer is stored kept) = omega arith
+Performs-status files a output old new status (Stopped answer is written) = omega arith
+Performs-status files a output old new status (Unsaved answer is stored kept) = omega arith
+Performs-status files a output old new status (Refrained h kept) = omega arith
+Performs-status files a output old new status (Exhausted kept) = omega arith
 
-pub Performs-memory : (files : Held) (a : Asked) (old new : Option (List ℕ)) (status : ℕ) → Performs files a old new status → status ≡ 3 → Keeps old new
-Performs-memory files a old new status (Wrote answer is written) e = absurd (omega (arith, status_within answer, e))
-Performs-memory files a old new status (Stopped answer is written) e = absurd (omega (arith, e))
-Performs-memory files a old new status (Refrained h kept) e = kept
-Performs-memory files a old new status (Exhausted kept) e = kept
+Performs-memory : (files : Held) (a : Asked) (output old new : Option (List ℕ)) (status : ℕ) → Performs files a output old new status → status ≡ 3 → Keeps old new
+Performs-memory files a output old new status (Wrote answer is goes written) e = absurd (omega (arith, status_within answer, e))
+Performs-memory files a output old new status (Saved answer is stored kept) e = kept
+Performs-memory files a output old new status (Stopped answer is written) e = absurd (omega (arith, e))
+Performs-memory files a output old new status (Unsaved answer is stored kept) e = kept
+Performs-memory files a output old new status (Refrained h kept) e = kept
+Performs-memory files a output old new status (Exhausted kept) e = kept
+
+-- bytes that are the same are kept
+kept_same : (old new : Option (List ℕ)) → new ≡ old → Keeps old new
+kept_same old new same = let P : Option (List ℕ) → Type 0 = λ o. Keeps old o in subst P (sym same) (Keeps-same old)
+
+two_or_three : (status : ℕ) → (status ≡ 2) ⊎ (status ≡ 3) → status ≤ 3
+two_or_three status (inl e) = omega (arith, e)
+two_or_three status (inr e) = omega (arith, e)
+
+pub Responds-status : (files : Held) (w : Wanted) (old new : Option (List ℕ)) (status : ℕ) → Responds files w old new status → status ≤ 3
+Responds-status files (AnswerWanted a output) old new status h = Performs-status files a output old new status h
+Responds-status files (RunWanted config script workers states quiet strict verbose) old new status h = two_or_three status h.1
+
+pub Responds-memory : (files : Held) (w : Wanted) (old new : Option (List ℕ)) (status : ℕ) → Responds files w old new status → status ≡ 3 → Keeps old new
+Responds-memory files (AnswerWanted a output) old new status h e = Performs-memory files a output old new status h e
+Responds-memory files (RunWanted config script workers states quiet strict verbose) old new status h e = kept_same old new h.0
+
+-- want of memory does of everything what it does
+pub Responds-nothing : (files : Held) (w : Wanted) (o : Option (List ℕ)) → Responds files w o o 3
+Responds-nothing files (AnswerWanted a output) o = Exhausted (Keeps-same o)
+Responds-nothing files (RunWanted config script workers states quiet strict verbose) o = (refl, inr refl)
+
+Fulfils-nothing : (files : Held) (w : Wanted) (o : Option (List ℕ)) → Fulfils files w o o 3
+Fulfils-nothing files (AnswerWanted a output) o = Exhausted (Keeps-same o)
+Fulfils-nothing files (RunWanted config script workers states quiet strict verbose) o = runs_nothing strict o none 3 (inr refl)
+
+-- words that always ask for something are told of only for want of memory
+pub Responds-told : (files : Held) (w : Wanted) (t : Told) (old new : Option (List ℕ)) (status : ℕ) → t ≡ told.NoMemory → Tells t old new status → Responds files w old new status
+Responds-told files w (told.Help text) old new status e tells = cc
+Responds-told files w (told.Fault text) old new status e tells = cc
+Responds-told files w told.NoMemory old new status e tells = rw (tells.0, tells.1) (Responds-nothing files w old)
+
+pub Fulfils-told : (files : Held) (w : Wanted) (t : Told) (old new : Option (List ℕ)) (status : ℕ) → t ≡ told.NoMemory → Tells t old new status → Fulfils files w old new status
+Fulfils-told files w (told.Help text) old new status e tells = cc
+Fulfils-told files w (told.Fault text) old new status e tells = cc
+Fulfils-told files w told.NoMemory old new status e tells = rw (tells.0, tells.1) (Fulfils-nothing files w old)
+
+pub Tells-status : (t : Told) (old new : Option (List ℕ)) (status : ℕ) → Tells t old new status → status ≤ 3
+Tells-status (told.Help text) old new status (WholeText written) = omega arith
+Tells-status (told.Help text) old new status (BeginningOfText written) = omega arith
+Tells-status (told.Fault text) old new status h = omega (arith, h.1)
+Tells-status told.NoMemory old new status h = omega (arith, h.1)
+
+pub Tells-memory : (t : Told) (old new : Option (List ℕ)) (status : ℕ) → Tells t old new status → status ≡ 3 → Keeps old new
+Tells-memory (told.Help text) old new status (WholeText written) e = absurd (omega (arith, e))
+Tells-memory (told.Help text) old new status (BeginningOfText written) e = absurd (omega (arith, e))
+Tells-memory (told.Fault text) old new status h e = kept_same old new h.0
+Tells-memory told.NoMemory old new status h e = kept_same old new h.0
 
 module _ (hooks numbers : ValueParser) (words : List (List ℕ)) (files : Held) where
-  pub Does-text : (text : List ℕ) (old new : Option (List ℕ)) (status : ℕ) → IsHelp hooks numbers words → PrintsText text old new status → Does hooks numbers words files old new status
-  Does-text text old new status help (WholeText written) = Helped text help written
-  Does-text text old new status help (BeginningOfText written) = StoppedHelp text help written
-
-pub PrintsText-status : (text : List ℕ) (old new : Option (List ℕ)) (status : ℕ) → PrintsText text old new status → status ≤ 2
-PrintsText-status text old new status (WholeText written) = omega arith
-PrintsText-status text old new status (BeginningOfText written) = omega arith
+  pub Does-told : (t : Told) (old new : Option (List ℕ)) (status : ℕ) → TellsOf hooks numbers words t → Tells t old new status → Does hooks numbers words files old new status
+  Does-told (told.Help text) old new status help (WholeText written) = Helped _ help written
+  Does-told (told.Help text) old new status help (BeginningOfText written) = StoppedHelp _ help written
+  Does-told (told.Fault text) old new status nothing h = rw h.1 (Complained nothing (kept_same old new h.0))
+  Does-told told.NoMemory old new status nothing h = rw h.1 (Exhausted (kept_same old new h.0))

@@ -18,7 +18,7 @@ use Rattle.bpf_cert.specs.declared.fault.CertFault.{CertFault}
 use Rattle.bpf_rules.specs.declared.fault.Fault.TheVariants as verify_fault
 use Rattle.apd_text.specs.Trace.{IsTrace}
 use Rattle.apd_program.specs.declared.answer.Answer.{Answer}
-use Rattle.apd_program.specs.declared.answer.Answer.TheVariants.{Accepted, Code, Instructions, Run, Page, Script, Help, Fault, Refused, LineFault, Certificate, Unaccepted}
+use Rattle.apd_program.specs.declared.answer.Answer.TheVariants.{Accepted, Code, Instructions, Run, Page, Script, CutScript, Help, Fault, Refused, LineFault, Certificate, Unaccepted}
 use Rattle.apd_program.specs.declared.fault.ProgramFault.{ProgramFault}
 use Rattle.apd_program.specs.Programs.{IsOfProgram, Undecoded, Decoded}
 use Rattle.apd_program.specs.Refusing.{IsUndecoded, IsRefused, IsUnaccepted}
@@ -60,11 +60,11 @@ IsChecked-refused hook bytes p r e refuses told =
     let P : Answer → Type 0 = IsChecked hook bytes p in
     IfOk-weaker r (IsUnaccepted e) P (λ a h. subst P (sym h.0) (NotShown e h.1 refuses)) told
 
-pub IsTrace-of : (accepted : Verified) (p : decoded.Code) (hook : Hook) (frame : List ℕ) (draw : ℕ) (text : List ℕ) → accepted.code ≡ p → accepted.hook ≡ hook → IsTrace accepted frame draw text
-    → IsTrace (record { code = p; hook = hook; budget = accepted.budget }) frame draw text
-IsTrace-of accepted p hook frame draw text code served run =
-    let OfCode : decoded.Code → Type 0 = λ c. IsTrace (record { code = c; hook = accepted.hook; budget = accepted.budget }) frame draw text in
-    let OfHook : Hook → Type 0 = λ h. IsTrace (record { code = p; hook = h; budget = accepted.budget }) frame draw text in
+pub IsTrace-of : (accepted : Verified) (p : decoded.Code) (hook : Hook) (frame context : List ℕ) (draw : ℕ) (text : List ℕ) → accepted.code ≡ p → accepted.hook ≡ hook → IsTrace accepted frame context draw text
+    → IsTrace (record { code = p; hook = hook; budget = accepted.budget }) frame context draw text
+IsTrace-of accepted p hook frame context draw text code served run =
+    let OfCode : decoded.Code → Type 0 = λ c. IsTrace (record { code = c; hook = accepted.hook; budget = accepted.budget }) frame context draw text in
+    let OfHook : Hook → Type 0 = λ h. IsTrace (record { code = p; hook = h; budget = accepted.budget }) frame context draw text in
     subst OfHook served (subst OfCode code run)
 
 pub IsAssembly-broken : (text front : List ℕ) (a : Answer) → (IsUtf8 text → ⊥) → front ≡ take (utf8_valid_len text) text → BreaksOff front a → IsAssembly text a
@@ -78,6 +78,7 @@ IsAssembly-broken text front (Instructions listing) bad same breaks = absurd bre
 IsAssembly-broken text front (Run lines) bad same breaks = absurd breaks
 IsAssembly-broken text front (Page lines) bad same breaks = absurd breaks
 IsAssembly-broken text front (Script lines) bad same breaks = absurd breaks
+IsAssembly-broken text front (CutScript lines f) bad same breaks = absurd breaks
 IsAssembly-broken text front (Help lines) bad same breaks = absurd breaks
 IsAssembly-broken text front (Fault e) bad same breaks = absurd breaks
 IsAssembly-broken text front (Refused e) bad same breaks = absurd breaks

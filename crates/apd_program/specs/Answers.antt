@@ -1,20 +1,20 @@
 -- What the program answers to what is asked of it.
-use Rattle.std.specs.Prelude.{List, ℕ, Option}
+use Rattle.std.specs.Prelude.{◌^◌, Bool, List, ℕ, Option}
 use Rattle.bpf_regions.specs.declared.hooks.Hook.{Hook}
 use Rattle.bpf_decode.specs.Program.{Code}
 use Rattle.bpf_verifier.specs.Limits.{nearest}
-use Rattle.apd_words.specs.Asked.{Asked, Verify, Assemble, Disassemble, Trace, Explain, Frames, Help, Certify, Check}
+use Rattle.apd_words.specs.Asked.{Asked, Verify, Assemble, Disassemble, ListRaw, Trace, Explain, Frames, Help, Certify, Check}
 use Rattle.apd_program.specs.declared.answer.Answer.{Answer}
 use Rattle.apd_program.specs.declared.reading.Setup.{Setup}
 use Rattle.apd_files.specs.declared.inputs.files.FileKind.TheVariants as kind
-use Rattle.apd_files.specs.Held.{Held, Holds, Lacks, HoldsCode}
-use Rattle.apd_program.specs.Setups.{IsFrame, Configures}
-use Rattle.apd_program.specs.Faults.{IsAtFault, HasNoFrame, HasBadCapture, HasNoCertificate}
-use Rattle.apd_program.specs.Pages.{IsPage, HasNoPage, IsHelpText, HasNoHelp, help_words}
+use Rattle.apd_files.specs.Held.{Held, Holds, Lacks, HoldsCode, HoldsKept}
+use Rattle.apd_program.specs.Setups.{IsFrame, IsContext, Configures}
+use Rattle.apd_program.specs.Faults.{IsAtFault, HasNoTrial, HasBadCapture, HasNoCertificate}
+use Rattle.apd_program.specs.Pages.{IsPageFor, HasNoPage, IsHelpText, HasNoHelp, help_words}
 use Rattle.apd_program.specs.Scripts.{IsScript}
 use Rattle.apd_program.specs.Programs.{IsOfProgram}
 use Rattle.apd_program.specs.Verifying.{IsVerdict, IsBudget, IsRun}
-use Rattle.apd_program.specs.Texts.{IsAssembly, IsListingWith}
+use Rattle.apd_program.specs.Texts.{IsAssembly, IsListingWith, IsRawListing}
 use Rattle.apd_program.specs.Certifying.{IsCertificate, IsChecked}
 
 -- what is said of the program in the file, with the configuration
@@ -31,11 +31,21 @@ pub record IsOfText (says : List ℕ → Answer → Type 0) (files : Held) (file
   pub there : Holds files file text
   pub said : says text a
 
--- the run of the program in the file on the frame that the word spells
-pub record IsTraced (files : Held) (limit : ℕ) (hook : Hook) (file word : List ℕ) (config : Option (List ℕ)) (a : Answer) : Type 0 where
+-- what is said of what is kept of the code in the file, once the configuration is read, too
+pub record IsOfSlots (says : List ℕ → Answer → Type 0) (files : Held) (file : List ℕ) (config : Option (List ℕ)) (a : Answer) : Type 0 where
+  pub setup : Setup
+  pub configured : Configures files config setup
+  pub kept : List ℕ
+  pub held : HoldsKept (2 ^ 17) files file kept
+  pub said : says kept a
+
+-- the run of the program in the file on the frame that the word spells, with what it is told
+pub record IsTraced (files : Held) (limit : ℕ) (hook : Hook) (file word : List ℕ) (config words : Option (List ℕ)) (from_frame : Bool) (a : Answer) : Type 0 where
   pub frame : List ℕ
   pub spelled : IsFrame word frame
-  pub said : IsOfCode (λ setup. IsVerdict limit (IsRun hook frame setup.draw)) files file config a
+  pub context : List ℕ
+  pub told : IsContext hook words from_frame context
+  pub said : IsOfCode (λ setup. IsVerdict limit (IsRun hook frame context setup.draw)) files file config a
 
 -- what the certificate in one file shows of the program in the other
 pub record IsCheckedFile (files : Held) (hook : Hook) (file certificate : List ℕ) (config : Option (List ℕ)) (a : Answer) : Type 0 where
@@ -48,23 +58,25 @@ abbrev pub IsAnswer : Held → Asked → Answer → Type 0
 IsAnswer files (Verify hook file config states) a = IsOfCode (λ setup. IsVerdict (nearest states) IsBudget) files file config a
 IsAnswer files (Assemble file) a = IsOfText IsAssembly files file a
 IsAnswer files (Disassemble file config slots) a = IsOfCode (λ setup. IsListingWith slots) files file config a
-IsAnswer files (Trace hook file word config states) a = IsTraced files (nearest states) hook file word config a
-IsAnswer files (Explain word) a = IsPage word a
+IsAnswer files (ListRaw file config slots) a = IsOfSlots (IsRawListing slots) files file config a
+IsAnswer files (Trace hook file word config states words from_frame) a =
+    IsTraced files (nearest states) hook file word config words from_frame a
+IsAnswer files (Explain number) a = IsPageFor number a
 IsAnswer files (Frames capture ticks) a = IsOfText (IsScript ticks) files capture a
 IsAnswer files (Help command) a = IsHelpText (help_words command) a
 IsAnswer files (Certify hook file config states) a = IsOfCode (λ setup. IsCertificate (nearest states) hook) files file config a
 IsAnswer files (Check hook file certificate config) a = IsCheckedFile files hook file certificate config a
-IsAnswer files _ a = ⊥
 
--- there is no answer: a file or a word is at fault, or the command isn't there yet
+-- there is no answer: a file or a word is at fault
 abbrev pub HasNoAnswer : Held → Asked → Type 0
 HasNoAnswer files (Verify hook file config states) = IsAtFault files file config
 HasNoAnswer files (Assemble file) = Lacks kind.Text files file
 HasNoAnswer files (Disassemble file config slots) = IsAtFault files file config
-HasNoAnswer files (Trace hook file word config states) = HasNoFrame files file word config
-HasNoAnswer files (Explain word) = HasNoPage word
+HasNoAnswer files (ListRaw file config slots) = IsAtFault files file config
+HasNoAnswer files (Trace hook file word config states words from_frame) =
+    HasNoTrial files file word config words from_frame
+HasNoAnswer files (Explain number) = HasNoPage number
 HasNoAnswer files (Frames capture ticks) = HasBadCapture files capture
 HasNoAnswer files (Help command) = HasNoHelp (help_words command)
 HasNoAnswer files (Certify hook file config states) = IsAtFault files file config
 HasNoAnswer files (Check hook file certificate config) = HasNoCertificate files file certificate config
-HasNoAnswer files _ = Unit {0}

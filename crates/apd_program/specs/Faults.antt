@@ -1,5 +1,5 @@
 -- What is at fault where there is no answer.
-use Rattle.std.specs.Prelude.{◌≡◌, ◌≢◌, ◌<◌, ◌⊎◌, List, ℕ, length, Option, None, Some, Ok, Err}
+use Rattle.std.specs.Prelude.{◌≡◌, ◌≢◌, ◌<◌, ◌⊎◌, Bool, true, false, List, ℕ, length, Option, None, Some, Ok, Err}
 use Rattle.hex.specs.Hex.{decode_of}
 use Rattle.hex.specs.declared.error.FromHexError.{FromHexError}
 use Rattle.apd_config.specs.Text.{TellsOfText}
@@ -65,6 +65,17 @@ pub data IsNoFrame (word : List ℕ) : Type 0 where
 pub data HasNoFrame (files : Held) (file word : List ℕ) (config : Option (List ℕ)) : Type 0 where
   OfFiles : IsAtFault files file config → HasNoFrame files file word config
   OfWord : (setup : Setup) (code : List ℕ) → Configures files config setup → HoldsCode files file code → IsNoFrame word → HasNoFrame files file word config
+
+-- words or the frame are to say what the program is told
+abbrev pub IsGiven : Option (List ℕ) → Bool → Type 0
+IsGiven None false = ⊥
+IsGiven None true = Unit {0}
+IsGiven (Some words) from_frame = Unit {0}
+
+-- a file or the frame is at fault, or what is given for the context
+pub data HasNoTrial (files : Held) (file word : List ℕ) (config words : Option (List ℕ)) (from_frame : Bool) : Type 0 where
+  OfFrame : HasNoFrame files file word config → HasNoTrial files file word config words from_frame
+  OfContext : IsGiven words from_frame → HasNoTrial files file word config words from_frame
 
 -- the configuration or the code is at fault, or none is and the certificate's file can't be read, or doesn't hold hex digits in pairs
 pub data HasNoCertificate (files : Held) (file certificate : List ℕ) (config : Option (List ℕ)) : Type 0 where

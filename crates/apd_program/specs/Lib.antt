@@ -11,6 +11,6 @@ pub mod Pages
 pub mod Scripts
 pub mod Answers
 pub mod Printed
+pub mod Delivered
 pub mod Program
 pub mod Script
-pub mod Asking

@@ -7,7 +7,7 @@ use Rattle.bpf_cert.specs.Faults as certificate
 use Rattle.hex.specs.Hex.{encode_lower}
 use Rattle.apd_program.specs.Slots.{line_of, slot_lines}
 use Rattle.apd_program.specs.declared.answer.Answer.{Answer}
-use Rattle.apd_program.specs.declared.answer.Answer.TheVariants.{Accepted, Code, Instructions, Run, Page, Script, Help, Fault, Refused, LineFault, Certificate, Unaccepted}
+use Rattle.apd_program.specs.declared.answer.Answer.TheVariants.{Accepted, Code, Instructions, Run, Page, Script, CutScript, Help, Fault, Refused, LineFault, Certificate, Unaccepted}
 
 -- what is printed of an answer
 abbrev pub printed : Answer → List ℕ
@@ -17,6 +17,7 @@ printed (Instructions text) = string_bytes text
 printed (Run text) = string_bytes text
 printed (Page text) = string_bytes text
 printed (Script text) = string_bytes text
+printed (CutScript text fault) = string_bytes text
 printed (Help text) = string_bytes text
 printed (Fault e) = line_of (fault_text e)
 printed (Refused e) = line_of (refusal_text e)
@@ -32,6 +33,7 @@ status_of (Instructions text) = 0
 status_of (Run text) = 0
 status_of (Page text) = 0
 status_of (Script text) = 0
+status_of (CutScript text fault) = 1
 status_of (Help text) = 0
 status_of (Fault e) = 1
 status_of (Refused e) = 1

@@ -12,9 +12,19 @@ abbrev pub IsPage : List ℕ → Answer → Type 0
 IsPage word (Page text) = IsPageOf word (string_bytes text)
 IsPage word _ = ⊥
 
+-- a page; without a number it is the list of all, of which nothing is said
+abbrev pub IsSomePage : Answer → Type 0
+IsSomePage (Page text) = Unit {0}
+IsSomePage _ = ⊥
+
+-- the page on the number that is asked for, or the list
+abbrev pub IsPageFor : Option (List ℕ) → Answer → Type 0
+IsPageFor None a = IsSomePage a
+IsPageFor (Some word) a = IsPage word a
+
 -- of which words have no page nothing is said
-abbrev pub HasNoPage : List ℕ → Type 0
-HasNoPage word = Unit {0}
+abbrev pub HasNoPage : Option (List ℕ) → Type 0
+HasNoPage number = Unit {0}
 
 -- the words that ask for help on a command, or on the program
 abbrev pub help_words : Option (List ℕ) → List (List ℕ)

@@ -1,17 +1,9 @@
--- What is written for an answer or a text, and the status.
+-- What is written for a text, and the status.
 use Rattle.std.specs.Prelude.{ℕ, List, Option}
-use Rattle.std.specs.Io.KnownBytes.{Appends, Keeps}
+use Rattle.std.specs.Io.KnownBytes.{Appends}
 use Rattle.apd_files.specs.Beginning.{AppendsBeginning}
-use Rattle.apd_program.specs.declared.answer.Answer.{Answer}
 use Rattle.apd_program.specs.declared.fault.ProgramFault.{ProgramFault}
 use Rattle.apd_program.specs.declared.fault.ProgramFault.TheVariants.{NoMemory}
-use Rattle.apd_program.specs.Lines.{printed, status_of}
-
--- the whole text with the answer's status, or a beginning of it with 2, or nothing with 3
-pub data Prints (a : Answer) (old new : Option (List ℕ)) : ℕ → Type 0 where
-  Whole : Appends old new (printed a) → Prints a old new (status_of a)
-  Beginning : AppendsBeginning old new (printed a) → Prints a old new 2
-  Nothing : Keeps old new → Prints a old new 3
 
 -- the whole text with 0, or a beginning of it with 2
 pub data PrintsText (text : List ℕ) (old new : Option (List ℕ)) : ℕ → Type 0 where

@@ -1,30 +1,59 @@
 -- What a run of the program does.
-use Rattle.std.specs.Prelude.{ℕ, List, Option}
+use Rattle.std.specs.Prelude.{◌≡◌, ◌⊎◌, ℕ, List, Option, string_bytes}
 use Rattle.std.specs.Io.KnownBytes.{Appends, Keeps}
 use Rattle.clap.specs.declared.builder.value_parser.ValueParser.{ValueParser}
 use Rattle.apd_files.specs.Beginning.{AppendsBeginning}
-use Rattle.apd_words.specs.Asked.{Asked}
+use Rattle.apd_run.specs.Counts.{none}
+use Rattle.apd_run.specs.Shows as shows
+use Rattle.apd_words.specs.Asked.{Asked, Wanted, Run, Answer}
 use Rattle.apd_words.specs.CommandLine.{TakesNames, hook_names, worker_names}
 use Rattle.apd_words.specs.Reads.{AsksFor, IsHelp}
-use Rattle.apd_program.specs.declared.answer.Answer.{Answer}
+use Rattle.apd_words.specs.declared.Told.{Told}
+use Rattle.apd_words.specs.declared.Told.TheVariants as told
+use Rattle.apd_program.specs.declared.answer.Answer as answers
 use Rattle.apd_files.specs.Held.{Held}
 use Rattle.apd_program.specs.Lines.{printed, status_of}
 use Rattle.apd_program.specs.Answers.{IsAnswer, HasNoAnswer}
+use Rattle.apd_program.specs.Delivered.{GoesOut, IsForFile}
+use Rattle.apd_program.specs.Printed.{PrintsText}
 
--- What is written to standard output where this is asked, and the status. Want of memory and all
--- that is at fault leave standard output as it was.
-pub data Performs (files : Held) (a : Asked) (old new : Option (List ℕ)) : ℕ → Type 0 where
-  Wrote : (answer : Answer) → IsAnswer files a answer → Appends old new (printed answer) → Performs files a old new (status_of answer)
-  Stopped : (answer : Answer) → IsAnswer files a answer → AppendsBeginning old new (printed answer) → Performs files a old new 2
-  Refrained : HasNoAnswer files a → Keeps old new → Performs files a old new 2
-  Exhausted : Keeps old new → Performs files a old new 3
+-- What is written to standard output where this is asked, with a file for the answer or without, and the status. Want of
+-- memory and all that is at fault leave standard output as it was, and so does an answer that goes into a file.
+pub data Performs (files : Held) (a : Asked) (output old new : Option (List ℕ)) : ℕ → Type 0 where
+  Wrote : (answer : answers.Answer) → IsAnswer files a answer → GoesOut output (status_of answer) → Appends old new (printed answer) → Performs files a output old new (status_of answer)
+  Saved : (answer : answers.Answer) → IsAnswer files a answer → IsForFile output (status_of answer) → Keeps old new → Performs files a output old new 0
+  Stopped : (answer : answers.Answer) → IsAnswer files a answer → AppendsBeginning old new (printed answer) → Performs files a output old new 2
+  Unsaved : (answer : answers.Answer) → IsAnswer files a answer → IsForFile output (status_of answer) → Keeps old new → Performs files a output old new 2
+  Refrained : HasNoAnswer files a → Keeps old new → Performs files a output old new 2
+  Exhausted : Keeps old new → Performs files a output old new 3
 
--- The same, for all words: they ask for something, or for help, or for nothing.
+-- nothing is written, and the status is that of a fault or of want of memory
+abbrev pub Refuses : Option (List ℕ) → Option (List ℕ) → ℕ → Type 0
+Refuses old new status = (new ≡ old) × ((status ≡ 2) ⊎ (status ≡ 3))
+
+-- what is wanted is done, where no threads are at hand: no script is run
+abbrev pub Responds : Held → Wanted → Option (List ℕ) → Option (List ℕ) → ℕ → Type 0
+Responds files (Answer a output) old new status = Performs files a output old new status
+Responds files (Run config script workers states quiet strict verbose) old new status = Refuses old new status
+
+-- what is wanted is done: a script is run from its first line
+abbrev pub Fulfils : Held → Wanted → Option (List ℕ) → Option (List ℕ) → ℕ → Type 0
+Fulfils files (Answer a output) old new status = Performs files a output old new status
+Fulfils files (Run config script workers states quiet strict verbose) old new status =
+    shows.Runs strict old new none status
+
+-- what is written of words that ask for nothing to be done, and the status
+abbrev pub Tells : Told → Option (List ℕ) → Option (List ℕ) → ℕ → Type 0
+Tells (told.Help text) old new status = PrintsText (string_bytes text) old new status
+Tells (told.Fault text) old new status = (new ≡ old) × (status ≡ 2)
+Tells told.NoMemory old new status = (new ≡ old) × (status ≡ 3)
+
+-- The same, for all words: they want something, or help, or nothing.
 pub data Does (hooks numbers : ValueParser) (words : List (List ℕ)) (files : Held) (old new : Option (List ℕ)) : ℕ → Type 0 where
-  Performed : (a : Asked) (status : ℕ) → AsksFor hooks numbers words a → Performs files a old new status → Does hooks numbers words files old new status
+  Performed : (w : Wanted) (status : ℕ) → AsksFor hooks numbers words w → Responds files w old new status → Does hooks numbers words files old new status
   Helped : (text : List ℕ) → IsHelp hooks numbers words → Appends old new text → Does hooks numbers words files old new 0
   StoppedHelp : (text : List ℕ) → IsHelp hooks numbers words → AppendsBeginning old new text → Does hooks numbers words files old new 2
-  Complained : ((a : Asked) → AsksFor hooks numbers words a → ⊥) → Keeps old new → Does hooks numbers words files old new 2
+  Complained : ((w : Wanted) → AsksFor hooks numbers words w → ⊥) → Keeps old new → Does hooks numbers words files old new 2
   Exhausted : Keeps old new → Does hooks numbers words files old new 3
 
 -- a run on the words ends with the status

@@ -1,6 +1,9 @@
 -- The maps and the frames that files and words spell.
-use Rattle.std.specs.Prelude.{◌≡◌, ◌≤◌, ◌^◌, ℕ, List, [], length, Option, Some, None, Ok}
+use Rattle.std.specs.Prelude.{◌≡◌, ◌≤◌, ◌^◌, ℕ, Bool, true, false, List, [], length, slice_index, Option, Some, None, Ok}
 use Rattle.hex.specs.Hex.{decode_of}
+use Rattle.bpf_regions.specs.declared.hooks.Hook.{Hook}
+use Rattle.bpf_regions.specs.Hooks.{number_of}
+use Rattle.apd_text.specs.Trace.{context_of}
 use Rattle.apd_files.specs.Held.{Held, Holds, HoldsKept}
 use Rattle.apd_config.specs.Text.{IsTextOf}
 use Rattle.apd_config.specs.declared.configuration.Configuration.{Configuration}
@@ -13,6 +16,13 @@ use Rattle.apd_program.specs.declared.reading.Setup.{Setup}
 pub record IsFrame (word frame : List ℕ) : Type 0 where
   pub spelled : decode_of word ≡ Ok frame
   pub short : length frame ≤ 2400
+
+-- The context that a program is told: zeros but for the hook's number, where nothing is given for it; else it has the hook's
+-- number, and the rest of it is shown by tests.
+abbrev pub IsContext : Hook → Option (List ℕ) → Bool → List ℕ → Type 0
+IsContext hook None false context = context ≡ context_of hook
+IsContext hook None true context = slice_index context 6 ≡ number_of hook
+IsContext hook (Some words) from_frame context = slice_index context 6 ≡ number_of hook
 
 -- the file is a configuration with this setup
 pub record HoldsSetup (files : Held) (path : List ℕ) (setup : Setup) : Type 0 where

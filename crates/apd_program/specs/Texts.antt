@@ -4,6 +4,7 @@ use Rattle.std.specs.Str.Lossy.{utf8_valid_len}
 use Rattle.std.specs.declared.alloc.Global.{Global}
 use Rattle.bpf_decode.specs.Program as decoded
 use Rattle.apd_text.specs.Listing as listing
+use Rattle.apd_text.specs.Raw.{IsRaw}
 use Rattle.bpf_text.specs.Texts.{lines_of, assembled, disassembled}
 use Rattle.bpf_text.specs.Refusals.{Refuses}
 use Rattle.bpf_text.specs.declared.fault.AsmFault.{AsmFault}
@@ -44,6 +45,11 @@ IsListing p _ = ⊥
 abbrev pub IsSlotListing : decoded.Code → Answer → Type 0
 IsSlotListing p (Instructions text) = listing.IsListing p.slots (string_bytes text)
 IsSlotListing p _ = ⊥
+
+-- `disasm --raw` says all slots of code
+abbrev pub IsRawListing : Bool → List ℕ → Answer → Type 0
+IsRawListing slots code (Instructions text) = IsRaw slots code (string_bytes text)
+IsRawListing slots code _ = ⊥
 
 -- a program's text, with the numbers of its slots or without them
 abbrev pub IsListingWith : Bool → decoded.Code → Answer → Type 0

@@ -28,16 +28,16 @@ pub data IsVerdict (limit : ℕ) (says : Code → ℕ → Answer → Type 0) (p 
 abbrev pub IsBudget : Code → ℕ → Answer → Type 0
 IsBudget p budget a = a ≡ Accepted budget
 
--- `trace` says the run on a frame
-abbrev pub IsRun : Hook → List ℕ → ℕ → Code → ℕ → Answer → Type 0
-IsRun hook frame draw p budget (Run text) =
-    IsTrace (record { code = p; hook = hook; budget = budget }) frame draw (string_bytes text)
-IsRun hook frame draw p budget _ = ⊥
+-- `trace` says the run on a frame with a context
+abbrev pub IsRun : Hook → List ℕ → List ℕ → ℕ → Code → ℕ → Answer → Type 0
+IsRun hook frame context draw p budget (Run text) =
+    IsTrace (record { code = p; hook = hook; budget = budget }) frame context draw (string_bytes text)
+IsRun hook frame context draw p budget _ = ⊥
 
 -- what `verify` says within the states that are asked for
 abbrev pub IsVerified : Terms → Code → Answer → Type 0
 IsVerified terms = IsVerdict (nearest terms.states) IsBudget
 
 -- what `trace` says within them, for the hook
-abbrev pub IsRunWithin : Terms → List ℕ → ℕ → Code → Answer → Type 0
-IsRunWithin terms frame draw = IsVerdict (nearest terms.states) (IsRun terms.hook frame draw)
+abbrev pub IsRunWithin : Terms → List ℕ → List ℕ → ℕ → Code → Answer → Type 0
+IsRunWithin terms frame context draw = IsVerdict (nearest terms.states) (IsRun terms.hook frame context draw)

@@ -9,6 +9,7 @@ use bpf_cert::CertFault;
 use bpf_decode::DecodeFault;
 use bpf_text::AsmFault;
 use bpf_verifier::{Fault, Refusal};
+use capture::CaptureFault;
 use std::alloc::{AllocError, Global};
 
 /// What a command answers on standard output.
@@ -26,6 +27,8 @@ pub enum Answer {
     Page(String),
     /// The frames of a capture as a script.
     Script(String),
+    /// The frames that are before the fault of a capture that is cut, as a script.
+    CutScript { text: String, fault: CaptureFault },
     /// A text of help.
     Help(String),
     /// The code isn't well formed.
@@ -56,6 +59,7 @@ impl Answer {
             Answer::Page(_) | Answer::Script(_) | Answer::Help(_) => 0,
             Answer::Fault(_) | Answer::Refused(_) | Answer::LineFault(_) | Answer::Unaccepted(_) =>
                 1,
+            Answer::CutScript { .. } => 1,
         }
     }
 
@@ -68,6 +72,7 @@ impl Answer {
             Answer::Code(code) => slot_lines(alloc, code.as_slice()),
             Answer::Instructions(text) | Answer::Run(text) => Ok(text),
             Answer::Page(text) | Answer::Script(text) | Answer::Help(text) => Ok(text),
+            Answer::CutScript { text, .. } => Ok(text),
             Answer::Fault(fault) => format!(in alloc; "{fault}\n"),
             Answer::Refused(refusal) => format!(in alloc; "{refusal}\n"),
             Answer::LineFault(fault) => format!(in alloc; "{fault}\n"),

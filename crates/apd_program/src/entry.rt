@@ -1,8 +1,96 @@
-//! What `apd` does with its words: the run of a script, or one of the other commands.
-//!
-//! Main call: `perform`. It stands on `apd_run` and `apd_main`. Words that ask for a run, in their
-//! usual order, lead to a run, by threads; all other words lead to what `apd_main` says of them.
-mod asking;
-mod entry;
+//! From words to a status: what `apd` does with its words, the run of a script by threads or an answer.
 
-pub use entry::{Messages, perform};
+ghost use Rattle.std.specs.Prelude.{◌≡◌, map};
+ghost use Rattle.apd_run.specs.Counts.{none};
+ghost use Rattle.apd_run.specs.Shows.{Runs};
+ghost use Rattle.apd_words.specs.Asked.{Wanted};
+ghost use Rattle.apd_words.specs.Spells.{Spells};
+ghost use Rattle.apd_program.specs.Program.{Fulfils};
+
+use crate::program::{respond, tell};
+use apd_files::Files;
+use apd_run::{OpenGate, Progress, RunWords, StateLimit, Supplies, run};
+use apd_words::{Request, ScriptRun, read_words};
+use std::alloc::Global;
+use std::io::Write;
+use std::sync::Wait;
+use std::thread::Threads;
+use std::time::Clock;
+
+/// Where texts of faults go. `watched` says that somebody looks on, as at a terminal: then the progress of
+/// a long run is told there too.
+#[derive(Drop)]
+pub struct Messages<'a, E> {
+    pub err: &'a mut E,
+    pub watched: bool,
+}
+
+/// Runs a script, and tells its progress where somebody looks on who wants it.
+fn run_watched<R, F, O, E>(
+    rt: &R,
+    alloc: Global,
+    asked: ScriptRun<'_>,
+    files: &mut F,
+    out: O,
+    messages: Messages<'_, E>,
+) -> (O, u8)
+where
+    R: Threads + Wait + Sync + Clock + Eprint,
+    F: Files,
+    O: Write + Drop,
+    E: Write,
+    ensures runs { Runs asked.entry.strict (O.contents out) (O.contents result.0) none result.1 }
+{
+    let Messages { err, watched } = messages;
+    let words = RunWords {
+        config: asked.config,
+        script: asked.script,
+        workers: asked.workers,
+        strict: asked.strict,
+        verbose: asked.verbose,
+    };
+    let limit = StateLimit::nearest(asked.states);
+    if watched && !asked.quiet {
+        let progress = Progress::new(rt);
+        let gate = &progress;
+        return run(rt, alloc, words, Supplies { files, limit, gate }, out, err);
+    }
+    let gate = OpenGate;
+    return run(rt, alloc, words, Supplies { files, limit, gate }, out, err);
+}
+
+/// Does what the words ask for, the first being the program's own name. Answers are written to `out`, which
+/// is handed back with the program's status: 0 for success, 1 where something was refused, 2 for a fault of
+/// the words, a configuration, a script, a file or a write, 3 for want of memory.
+pub fn perform<'a, R, F, O, E>(
+    rt: &R,
+    alloc: Global,
+    words: &'a [&'a str],
+    files: &mut F,
+    out: O,
+    messages: Messages<'_, E>,
+) -> (O, u8)
+where
+    R: Threads + Wait + Sync + Clock + Eprint,
+    F: Files,
+    O: Write + Drop,
+    E: Write,
+    ensures fulfils { (w : Wanted) → Spells (map (λ word. word.now) words.entry.now) w
+        → Fulfils (F.held files.old) w (O.contents out) (O.contents result.0) result.1 }
+{
+    let Messages { err, watched } = messages;
+    let mut out = out;
+    match read_words(alloc, words) {
+        Ok(Request::Run(asked)) => {
+            return run_watched(rt, alloc, asked, files, out, Messages { err, watched });
+        }
+        Ok(Request::Answer(query)) => {
+            let status = respond(alloc, query, files, &mut out, err);
+            return (out, status);
+        }
+        Err(told) => {
+            let status = tell(alloc, &told, &mut out, err);
+            return (out, status);
+        }
+    }
+}

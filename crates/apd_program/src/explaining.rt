@@ -1,24 +1,42 @@
-//! The page on a refusal's number, the command `explain`; and what `verify --explain` tells.
+//! The page on a refusal's number, or the list of all, the command `explain`; and what `--explain` and others tell beside an
+//! answer.
 
 ghost use Rattle.std.specs.Prelude.{IfOk, IfErr};
+ghost use Rattle.apd_words.specs.Asked.{text_of};
 ghost use Rattle.apd_program.specs.Faults.{IsMemoryOr};
-ghost use Rattle.apd_program.specs.Pages.{IsPage, HasNoPage};
+ghost use Rattle.apd_program.specs.Pages.{IsPage, IsPageFor, HasNoPage};
 
 use crate::answer::Answer;
 use crate::fault::ProgramFault;
 use crate::verifying::limit_of;
 use apd_files::shown;
-use apd_text::{explain, fault_text, insn_text, page_text, reason_text};
-use apd_words::{Request, Terms};
-use bpf_decode::{DecodeFault, Program};
+use apd_text::{
+    explain, fault_text, insn_text, list_text, page_text, ranges_text, raw_faults, reason_text,
+};
+use apd_words::{Question, Terms};
+use bpf_decode::{DecodeFault, Program, decode};
+use bpf_regions::{Shape, Shapes};
 use bpf_text::AsmFault;
 use bpf_verifier::Refusal;
 use std::alloc::{AllocError, Global};
 
+/// The page on the number that a word spells, or without one the list of all numbers.
+pub(crate) fn page(alloc: Global, number: Option<&str>) -> Result<Answer, ProgramFault>
+    ensures page { IfOk result (IsPageFor (text_of number.entry)) }
+    ensures fault { IfErr result (IsMemoryOr (HasNoPage (text_of number.entry))) }
+{
+    match number {
+        Some(word) => page_on(alloc, word),
+        None => {
+            let text = list_text(alloc)?;
+            Ok(Answer::Page(text))
+        }
+    }
+}
+
 /// The page on the number that a word spells.
-pub(crate) fn page(alloc: Global, word: &str) -> Result<Answer, ProgramFault>
+fn page_on(alloc: Global, word: &str) -> Result<Answer, ProgramFault>
     ensures page { IfOk result (IsPage word.now) }
-    ensures fault { IfErr result (IsMemoryOr (HasNoPage word.now)) }
 {
     match page_text(alloc, word) {
         Ok(Some(text)) => Ok(Answer::Page(text)),
@@ -28,9 +46,9 @@ pub(crate) fn page(alloc: Global, word: &str) -> Result<Answer, ProgramFault>
 }
 
 fn unknown(alloc: Global, word: &str) -> ProgramFault {
-    match shown(alloc, word) {
-        Ok(word) => ProgramFault::NoPage(word),
-        Err(AllocError) => ProgramFault::NoMemory,
+    match (shown(alloc, word), ranges_text(alloc)) {
+        (Ok(word), Ok(ranges)) => ProgramFault::NoPage { word, ranges },
+        _ => ProgramFault::NoMemory,
     }
 }
 
@@ -81,6 +99,25 @@ fn told(alloc: Global, place: &str, number: u8) -> Result<Option<String>, AllocE
     Ok(Some(text))
 }
 
+/// How the bytes of a certificate begin.
+const CERTIFICATE: &[u8] = b"APC2";
+
+/// What is told where code begins so.
+const EXCHANGED: &str = "apd: the code file begins like a certificate: are the two exchanged?\n";
+
+/// What makes code no program for maps of these shapes: its first fault, and each slot that is no instruction.
+fn faults_of(alloc: Global, code: &[u8], shapes: Shapes) -> Result<String, AllocError> {
+    let mut text = raw_faults(alloc, code)?;
+    if let Err(fault) = decode(alloc, code, shapes) {
+        if text.is_empty() {
+            if let Some(told) = at(alloc, "slot", fault.slot() as u64, fault.number())? {
+                text.push_str(told.as_str())?;
+            }
+        }
+    }
+    Ok(text)
+}
+
 /// The reason for a verdict in words, where it is asked for.
 #[derive(Drop)]
 pub(crate) struct Reason {
@@ -91,10 +128,11 @@ pub(crate) struct Reason {
 }
 
 impl Reason {
-    /// No reason yet; it is wanted where the request says so.
-    pub(crate) fn wanted_by(request: &Request<'_>) -> Reason {
-        let wanted = match request {
-            Request::Verify { explain, .. } => *explain,
+    /// No reason yet; it is wanted where the question says so.
+    pub(crate) fn wanted_by(question: &Question<'_>) -> Reason {
+        let wanted = match question {
+            Question::Verify { explain, .. } => *explain,
+            Question::Trace(trial) => trial.explain,
             _ => false,
         };
         Reason {
@@ -111,10 +149,28 @@ impl Reason {
         }
     }
 
-    /// What is wrong with code.
-    pub(crate) fn explain_fault(&mut self, alloc: Global, code: &[u8], fault: DecodeFault) {
+    /// What is wrong with code, for maps of these shapes.
+    pub(crate) fn explain_fault(
+        &mut self,
+        alloc: Global,
+        code: &[u8],
+        shapes: &[Shape],
+        fault: DecodeFault,
+    ) {
         if self.wanted {
-            self.text = fault_text(alloc, code, fault).map(Some);
+            self.text = fault_text(alloc, code, shapes, fault).map(Some);
+        }
+    }
+
+    /// What makes code no program for maps of these shapes, and slots of it no instructions.
+    pub(crate) fn tells_faults(&mut self, alloc: Global, code: &[u8], shapes: Shapes) {
+        self.text = faults_of(alloc, code, shapes).map(Some);
+    }
+
+    /// Asks whether code is a certificate, if it begins like one.
+    pub(crate) fn suspects_exchange(&mut self, alloc: Global, code: &[u8]) {
+        if code.starts_with(CERTIFICATE) {
+            self.text = String::from_str(alloc, EXCHANGED).map(Some);
         }
     }
 

@@ -3,8 +3,9 @@
 ghost use Rattle.std.specs.Prelude.{◌≡◌};
 ghost use Rattle.apd_program.specs.declared.fault.ProgramFault.TheVariants.{NoMemory};
 
-use apd_config::ConfigFault;
+use apd_config::{ConfigFault, fault_text};
 use apd_files::{CodeFault, DigitFault, FileFault, shown};
+use apd_text::ContextFault;
 use capture::CaptureFault;
 use hex::FromHexError;
 use std::alloc::{AllocError, Global};
@@ -13,29 +14,17 @@ use std::fmt;
 /// Why a command gives no answer. Its text is told on standard error.
 #[derive(Drop)]
 pub(crate) enum ProgramFault {
-    Unreadable {
-        path: String,
-        why: FileFault,
-    },
+    Unreadable { path: String, why: FileFault },
     NoDigits(String),
-    NoCode {
-        path: String,
-        line: u64,
-        found: String,
-    },
+    NoCode { path: String, fault: DigitFault },
     OddDigits(String),
-    Config {
-        path: String,
-        fault: ConfigFault,
-    },
-    Capture {
-        path: String,
-        fault: CaptureFault,
-    },
-    NoPage(String),
+    Config { path: String, why: String },
+    Capture { path: String, fault: CaptureFault },
+    NoPage { word: String, ranges: String },
     NoCommand(String),
     LongFrame,
-    NotThere(&'static str),
+    Context(String),
+    NoThreads,
     NoMemory,
 }
 
@@ -44,20 +33,23 @@ impl fmt::Display for ProgramFault {
         match self {
             ProgramFault::Unreadable { path, why } => write!(f, "apd: cannot read {path}: {why}"),
             ProgramFault::NoDigits(name) => write!(f, "apd: {name}: not hex digits"),
-            ProgramFault::NoCode { path, line, found } => write!(
-                f,
-                "apd: {path}: line {line}: `{found}` is no hex digit (`apd asm` takes assembler text)"
-            ),
+            ProgramFault::NoCode { path, fault } => {
+                write!(f, "apd: {path}: {fault} (`apd asm` takes assembler text)")
+            }
             ProgramFault::OddDigits(name) => write!(f, "apd: {name}: an odd number of hex digits"),
-            ProgramFault::Config { path, fault } => write!(f, "apd: {path}: {fault}"),
+            ProgramFault::Config { path, why } => write!(f, "apd: {path}: {why}"),
             ProgramFault::Capture { path, fault } => write!(f, "apd: {path}: {fault}"),
-            ProgramFault::NoPage(word) => write!(f, "apd: no refusal has the number `{word}`"),
+            ProgramFault::NoPage { word, ranges } => write!(
+                f,
+                "apd: no refusal has the number `{word}`; there are {ranges}"
+            ),
             ProgramFault::NoCommand(word) => write!(
                 f,
                 "apd: there is no command `{word}`; `apd help` lists them"
             ),
             ProgramFault::LongFrame => f.write_str("apd: FRAME: more than 2400 bytes"),
-            ProgramFault::NotThere(name) => write!(f, "apd: `{name}` is not there yet"),
+            ProgramFault::Context(why) => write!(f, "apd: {why}"),
+            ProgramFault::NoThreads => f.write_str("apd: a script is run by threads alone"),
             ProgramFault::NoMemory => f.write_str("apd: out of memory"),
         }
     }
@@ -117,24 +109,17 @@ fn of_code(alloc: Global, path: &str, fault: DigitFault) -> ProgramFault {
     };
     match fault {
         DigitFault::Odd => ProgramFault::OddDigits(path),
-        DigitFault::Foreign { line, byte } => match shown_byte(alloc, byte) {
-            Ok(found) => ProgramFault::NoCode { path, line, found },
-            Err(AllocError) => ProgramFault::NoMemory,
-        },
+        fault => ProgramFault::NoCode { path, fault },
     }
 }
 
-/// A byte as it can be read in a message.
-fn shown_byte(alloc: Global, byte: u8) -> Result<String, AllocError> {
-    if byte.is_ascii_graphic() {
-        format!(in alloc; "{}", char::from(byte))
-    } else {
-        format!(in alloc; "\\x{byte:02x}")
-    }
-}
-
-/// The fault of a file that is no configuration.
-pub(crate) fn of_configuration(alloc: Global, path: &str, fault: ConfigFault) -> ProgramFault
+/// The fault of a file with this text, which is no configuration.
+pub(crate) fn of_configuration(
+    alloc: Global,
+    path: &str,
+    text: &[u8],
+    fault: ConfigFault,
+) -> ProgramFault
     ensures memory { fault ≡ ConfigFault.NoMemory → result ≡ ProgramFault.NoMemory }
 {
     let Ok(path) = shown(alloc, path) else {
@@ -142,7 +127,21 @@ pub(crate) fn of_configuration(alloc: Global, path: &str, fault: ConfigFault) ->
     };
     match fault {
         ConfigFault::NoMemory => ProgramFault::NoMemory,
-        fault => ProgramFault::Config { path, fault },
+        fault => match fault_text(alloc, text, &fault) {
+            Ok(why) => ProgramFault::Config { path, why },
+            Err(AllocError) => ProgramFault::NoMemory,
+        },
+    }
+}
+
+/// The fault of what a traced program is to be told.
+pub(crate) fn of_context(alloc: Global, fault: ContextFault<'_>) -> ProgramFault {
+    let Ok(why) = format!(in alloc; "{fault}") else {
+        return ProgramFault::NoMemory;
+    };
+    match shown(alloc, why.as_str()) {
+        Ok(why) => ProgramFault::Context(why),
+        Err(AllocError) => ProgramFault::NoMemory,
     }
 }
 

@@ -1,6 +1,7 @@
 //! A capture as a script: the command `frames`.
 
-ghost use Rattle.std.specs.Prelude.{IfOk, IfErr};
+ghost use Rattle.std.specs.Prelude.{◌≡◌, IfOk, IfErr, IfSome};
+ghost use Rattle.capture.specs.Captures.{Refuses};
 ghost use Rattle.apd_program.specs.Answers.{IsOfText};
 ghost use Rattle.apd_program.specs.Faults.{IsMemoryOr, HasBadCapture};
 ghost use Rattle.apd_program.specs.Scripts.{IsScript};
@@ -10,10 +11,11 @@ use crate::fault::{ProgramFault, of_capture};
 use crate::frames::script_text;
 use crate::reading::read;
 use apd_files::{FileKind, Files};
-use capture::read_capture;
+use capture::{CaptureFault, read_capture};
 use std::alloc::Global;
 
-/// The script of the frames in a capture, with the time between them where `ticks` says so.
+/// The script of the frames in a capture, with the time between them where `ticks` says so. Of a capture that is cut the
+/// frames before the cut are written.
 pub(crate) fn frames<F: Files>(
     alloc: Global,
     path: &str,
@@ -29,6 +31,71 @@ pub(crate) fn frames<F: Files>(
             let text = script_text(alloc, packets.as_slice(), ticks)?;
             Ok(Answer::Script(text))
         }
-        Err(fault) => Err(of_capture(alloc, path, fault)),
+        Err(fault) => match cut_script(alloc, file.as_slice(), ticks, fault)? {
+            Some(answer) => Ok(answer),
+            None => Err(of_capture(alloc, path, fault)),
+        },
     }
+}
+
+/// The script of what is before the fault of a capture that is cut; None where it has another fault.
+fn cut_script(
+    alloc: Global,
+    file: &[u8],
+    ticks: bool,
+    fault: CaptureFault,
+) -> Result<Option<Answer>, ProgramFault>
+    requires refused { Refuses file.now fault }
+    ensures script { IfOk result (λ found. IfSome found (IsScript ticks file.now)) }
+    ensures memory { IfErr result (λ e. e ≡ ProgramFault.NoMemory) }
+{
+    let Some(end) = cut_at(file, fault) else {
+        return Ok(None);
+    };
+    let Some((front, _)) = file.split_at_checked(end) else {
+        return Ok(None);
+    };
+    match read_capture(alloc, front) {
+        Ok(packets) => {
+            let text = script_text(alloc, packets.as_slice(), ticks)?;
+            Ok(Some(Answer::CutScript { text, fault }))
+        }
+        Err(CaptureFault::NoMemory) => Err(ProgramFault::NoMemory),
+        Err(_) => Ok(None),
+    }
+}
+
+/// How many bytes of a capture that is cut come before the record or block that is.
+fn cut_at(file: &[u8], fault: CaptureFault) -> Option<usize> {
+    match fault {
+        CaptureFault::CutRecord(records) => end_of_records(file, records),
+        CaptureFault::CutBlock(place) => usize::try_from(place).ok(),
+        _ => None,
+    }
+}
+
+/// How many bytes a classic capture's header has.
+const HEADER: usize = 24;
+
+/// How many bytes the header of a record has.
+const RECORD: usize = 16;
+
+/// Where so many records of a classic capture end.
+fn end_of_records(file: &[u8], records: u64) -> Option<usize> {
+    let mut end = HEADER;
+    for _ in 0..records {
+        let length = length_at(file, end.checked_add(8)?)?;
+        end = end.checked_add(RECORD)?.checked_add(length)?;
+    }
+    Some(end)
+}
+
+/// How many bytes of a packet were captured, as four bytes of its record say in the byte order of the file.
+fn length_at(file: &[u8], place: usize) -> Option<usize> {
+    let (bytes, _) = file.get(place..)?.split_first_chunk::<4>()?;
+    let length = match file.first()? {
+        0xd4 | 0x4d => u32::from_le_bytes(*bytes),
+        _ => u32::from_be_bytes(*bytes),
+    };
+    Some(length as usize)
 }

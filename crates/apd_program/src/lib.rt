@@ -1,7 +1,7 @@
 //! The commands of `apd`: what it does with its words.
 //!
-//! Main calls: `apd_main`, for all commands but `run`, and `perform`, for all. Words that ask for a run, in their usual order,
-//! lead to a run, by threads; all other words lead to what `apd_main` says of them.
+//! Main calls: `perform`, for all, and `apd_main`, for all commands but `run`, which takes threads. Each reads the words once,
+//! and what they ask for decides the rest.
 #![tactic(auto)]
 
 mod answer;
@@ -12,6 +12,8 @@ mod fault;
 mod frames;
 mod framing;
 mod helping;
+mod hints;
+mod output;
 mod printing;
 mod program;
 mod reading;

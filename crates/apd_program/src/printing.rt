@@ -1,37 +1,15 @@
-//! What is written for an answer, a text of help, or a fault.
+//! What is written for a text of help, or a fault.
 
-ghost use Rattle.std.specs.Prelude.{◌≡◌, Some};
-ghost use Rattle.apd_program.specs.Printed.{Prints, PrintsText, fault_status};
+ghost use Rattle.std.specs.Prelude.{◌≡◌};
+ghost use Rattle.apd_program.specs.Printed.{PrintsText, fault_status};
 
-use crate::answer::Answer;
 use crate::fault::ProgramFault;
 use apd_files::{Unwritten, write_whole};
 use std::alloc::{AllocError, Global};
 use std::io::{ErrorKind, Write};
 
 /// What is told where memory ran out. It is written as it stands, since a text that is made takes memory.
-const NO_MEMORY: &str = "apd: out of memory\n";
-
-/// Prints an answer, and answers the program's status: the answer's where its whole text was
-/// written, 2 where a write failed, 3 where memory ran out before the first.
-pub(crate) fn print<W: Write, E: Write>(
-    alloc: Global,
-    answer: Answer,
-    out: &mut W,
-    err: &mut E,
-) -> u8
-    ensures is { Prints answer (W.contents out.old) (W.contents out.new) result }
-{
-    let status = answer.status();
-    let Ok(text) = answer.printed(alloc) else {
-        say(NO_MEMORY, err);
-        return 3;
-    };
-    match write_whole(out, text.as_bytes()) {
-        Ok(()) => status,
-        Err(Unwritten(why)) => unwritten(alloc, why, err),
-    }
-}
+pub(crate) const NO_MEMORY: &str = "apd: out of memory\n";
 
 /// Prints a text that was asked for, as help, and answers the status 0, or 2 where a write failed.
 pub(crate) fn print_text<W: Write, E: Write>(
@@ -49,7 +27,7 @@ pub(crate) fn print_text<W: Write, E: Write>(
 }
 
 /// Tells why a write failed, and answers the status 2.
-fn unwritten<E: Write>(alloc: Global, why: ErrorKind, err: &mut E) -> u8
+pub(crate) fn unwritten<E: Write>(alloc: Global, why: ErrorKind, err: &mut E) -> u8
     ensures is { result ≡ 2 }
 {
     if let Ok(text) = format!(in alloc; "apd: cannot write: {why}\n") {

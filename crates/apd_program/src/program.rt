@@ -2,30 +2,34 @@
 
 ghost use Rattle.std.specs.Prelude.{◌≡◌, ◌≤◌, IfOk, IfErr};
 ghost use Rattle.std.specs.Io.KnownBytes.{Keeps};
-ghost use Rattle.apd_words.specs.Asked.{Asked, asked_of, asked_verdict, asked_listing, asked_run, asked_certificate, asked_check, texts_of};
+ghost use Rattle.apd_words.specs.Asked.{Wanted, asked_of, asked_verdict, asked_listing, asked_slots, asked_run, asked_certificate, asked_check, text_of, texts_of};
 ghost use Rattle.apd_words.specs.Spells.{Spells};
 ghost use Rattle.apd_files.specs.Held.{Lacks};
-ghost use Rattle.apd_program.specs.Faults.{IsMemoryOr};
+ghost use Rattle.apd_program.specs.Faults.{IsMemoryOr, IsGiven};
+ghost use Rattle.apd_program.specs.Setups.{IsContext};
 ghost use Rattle.apd_program.specs.Texts.{IsAssembly};
 ghost use Rattle.apd_program.specs.Answers.{IsAnswer, IsOfText, HasNoAnswer};
-ghost use Rattle.apd_program.specs.Program.{Performs, Runs};
+ghost use Rattle.apd_program.specs.Program.{Performs, Responds, Runs, Tells};
 
 use crate::answer::Answer;
 use crate::explaining::Reason;
-use crate::fault::ProgramFault;
-use crate::printing::{complain, print, print_text, say, say_if_any};
-use crate::reading::{Loaded, certificate, frame, load, read};
-use crate::{certifying, explaining, framing, helping, texts, verifying};
+use crate::fault::{ProgramFault, of_context};
+use crate::output::{conclude, deliver};
+use crate::printing::{complain, print_text, say, say_if_any};
+use crate::reading::{Loaded, Setup, certificate, frame, load, read};
+use crate::verifying::Stimulus;
+use crate::{certifying, explaining, framing, helping, hints, texts, verifying};
 use apd_files::{FileKind, Files};
-use apd_words::{Request, Source, Subject, Told, read_words};
-use bpf_regions::{Frame, Hook};
+use apd_text::context_for;
+use apd_words::{Claim, Given, Query, Question, Request, Source, Subject, Told, Trial, read_words};
+use bpf_regions::{Context, Frame, Hook};
 use std::alloc::Global;
 use std::io::Write;
 
 /// Does what the words ask for, the first being the program's own name, and answers the program's
 /// status: 0 for success, 1 where something was refused, 2 for a fault of the words, a
 /// configuration, a file or a write, 3 for want of memory. Texts of the statuses 2 and 3 go to
-/// `err`, all else to `out`.
+/// `err`, all else to `out`. A script is not run, since that takes threads (`perform`).
 pub fn apd_main<'a, F: Files, O: Write, E: Write>(
     alloc: Global,
     words: &'a [&'a str],
@@ -37,36 +41,52 @@ pub fn apd_main<'a, F: Files, O: Write, E: Write>(
     ensures memory { result ≡ 3 → Keeps (O.contents out.old) (O.contents out.new) }
     ensures runs { Runs (texts_of words.entry.now) (F.held files.old)
         (O.contents out.old) (O.contents out.new) result }
-    ensures spelled { (a : Asked) → Spells (texts_of words.entry.now) a
-        → Performs (F.held files.old) a (O.contents out.old) (O.contents out.new) result }
+    ensures spelled { (w : Wanted) → Spells (texts_of words.entry.now) w
+        → Responds (F.held files.old) w (O.contents out.old) (O.contents out.new) result }
 {
     match read_words(alloc, words) {
-        Ok(request) => perform(alloc, request, files, out, err),
-        Err(Told::Help(text)) => print_text(alloc, text.as_str(), out, err),
-        Err(Told::Fault(text)) => {
-            say(text.as_str(), err);
-            2
-        }
-        Err(Told::NoMemory) => complain(alloc, &ProgramFault::NoMemory, err),
+        Ok(Request::Answer(query)) => respond(alloc, query, files, out, err),
+        Ok(Request::Run(_)) => complain(alloc, &ProgramFault::NoThreads, err),
+        Err(told) => tell(alloc, &told, out, err),
     }
 }
 
-fn perform<F: Files, O: Write, E: Write>(
+/// Tells what the words came to that ask for nothing to be done, and answers the status.
+pub(crate) fn tell<O: Write, E: Write>(alloc: Global, told: &Told, out: &mut O, err: &mut E) -> u8
+    ensures is { Tells told.now (O.contents out.old) (O.contents out.new) result }
+{
+    match told {
+        Told::Help(text) => print_text(alloc, text.as_str(), out, err),
+        Told::Fault(text) => {
+            say(text.as_str(), err);
+            2
+        }
+        Told::NoMemory => complain(alloc, &ProgramFault::NoMemory, err),
+    }
+}
+
+/// Answers a question on standard output, or into the file that is named for it, and answers the status.
+pub(crate) fn respond<F: Files, O: Write, E: Write>(
     alloc: Global,
-    request: Request<'_>,
+    query: Query<'_>,
     files: &mut F,
     out: &mut O,
     err: &mut E,
 ) -> u8
-    ensures is { Performs (F.held files.old) (asked_of request.entry)
+    ensures is { Performs (F.held files.old)
+        (asked_of query.entry.question) (text_of query.entry.output)
         (O.contents out.old) (O.contents out.new) result }
 {
-    let mut reason = Reason::wanted_by(&request);
-    match answer(alloc, request, files, &mut reason) {
+    let Query { question, output } = query;
+    let mut reason = Reason::wanted_by(&question);
+    match answer(alloc, question, files, &mut reason) {
         Ok(answer) => {
             let sentence = explaining::sentence(alloc, &answer, reason.insn());
-            let status = print(alloc, answer, out, err);
+            let hint = hints::of(alloc, &question, &answer);
+            let delivered = deliver(alloc, answer, output, files, out);
+            let status = conclude(alloc, delivered, err);
             say_if_any(&sentence, err);
+            say_if_any(&hint, err);
             say_if_any(reason.text(), err);
             return status;
         }
@@ -76,29 +96,25 @@ fn perform<F: Files, O: Write, E: Write>(
 
 fn answer<F: Files>(
     alloc: Global,
-    request: Request<'_>,
+    question: Question<'_>,
     files: &mut F,
     reason: &mut Reason,
 ) -> Result<Answer, ProgramFault>
-    ensures answer { IfOk result (IsAnswer (F.held files.old) (asked_of request.entry)) }
+    ensures answer { IfOk result (IsAnswer (F.held files.old) (asked_of question.entry)) }
     ensures fault { IfErr result
-        (IsMemoryOr (HasNoAnswer (F.held files.old) (asked_of request.entry))) }
+        (IsMemoryOr (HasNoAnswer (F.held files.old) (asked_of question.entry))) }
 {
-    match request {
-        Request::Verify { subject, .. } => verify(alloc, subject, files, reason),
-        Request::Assemble { file } => assemble(alloc, file, files),
-        Request::Disassemble { source, slots } => disassemble(alloc, source, slots, files),
-        Request::Trace { subject, frame } => trace(alloc, subject, frame, files, reason),
-        Request::Explain { number } => explaining::page(alloc, number),
-        Request::Frames { capture, ticks } => framing::frames(alloc, capture, ticks, files),
-        Request::Help { command } => helping::help(alloc, command),
-        Request::Run { .. } => Err(ProgramFault::NotThere("run")),
-        Request::Certify { subject } => certify(alloc, subject, files, reason),
-        Request::Check {
-            hook,
-            source,
-            certificate,
-        } => check(alloc, hook, source, certificate, files),
+    match question {
+        Question::Verify { subject, .. } => verify(alloc, subject, files, reason),
+        Question::Assemble { file } => assemble(alloc, file, files),
+        Question::Disassemble { source, slots } => disassemble(alloc, source, slots, files),
+        Question::ListRaw { source, slots } => list_raw(alloc, source, slots, files, reason),
+        Question::Trace(trial) => trace(alloc, trial, files, reason),
+        Question::Explain { number } => explaining::page(alloc, number),
+        Question::Frames { capture, ticks } => framing::frames(alloc, capture, ticks, files),
+        Question::Help { command } => helping::help(alloc, command),
+        Question::Certify { subject } => certify(alloc, subject, files, reason),
+        Question::Check(claim) => check(alloc, claim, files, reason),
     }
 }
 
@@ -144,26 +160,69 @@ fn disassemble<F: Files>(
     texts::disassemble(alloc, code.as_slice(), setup.shapes, slots)
 }
 
-/// The run of the code of a file on the frame that a word spells.
-fn trace<F: Files>(
+/// All slots of the code of a file. What makes it no program is told beside them.
+fn list_raw<F: Files>(
     alloc: Global,
-    subject: Subject<'_>,
-    word: &str,
+    source: Source<'_>,
+    slots: bool,
     files: &mut F,
     reason: &mut Reason,
 ) -> Result<Answer, ProgramFault>
-    ensures run { IfOk result (IsAnswer (F.held files.old) (asked_run subject.entry word.now)) }
+    ensures listing { IfOk result (IsAnswer (F.held files.old) (asked_slots source.entry slots)) }
     ensures fault { IfErr result
-        (IsMemoryOr (HasNoAnswer (F.held files.old) (asked_run subject.entry word.now))) }
+        (IsMemoryOr (HasNoAnswer (F.held files.old) (asked_slots source.entry slots))) }
 {
+    let Loaded { code, setup } = load(alloc, source, files)?;
+    reason.tells_faults(alloc, code.as_slice(), setup.shapes);
+    texts::list_raw(alloc, code.as_slice(), slots)
+}
+
+/// The run of the code of a file on the frame that a word spells.
+fn trace<F: Files>(
+    alloc: Global,
+    trial: Trial<'_>,
+    files: &mut F,
+    reason: &mut Reason,
+) -> Result<Answer, ProgramFault>
+    ensures run { IfOk result (IsAnswer (F.held files.old) (asked_run trial.entry)) }
+    ensures fault { IfErr result
+        (IsMemoryOr (HasNoAnswer (F.held files.old) (asked_run trial.entry))) }
+{
+    let subject = trial.subject;
     let Loaded { code, setup } = load(alloc, subject.source, files)?;
-    let bytes = frame(alloc, word)?;
+    let bytes = frame(alloc, trial.frame)?;
     let Some(frame) = Frame::new(bytes.as_slice()) else {
         return Err(ProgramFault::LongFrame);
     };
-    let answer = verifying::trace(alloc, code.as_slice(), setup, subject.terms, &frame);
+    let context = context(alloc, subject.terms.hook, bytes.as_slice(), trial.given)?;
+    let Setup { shapes, draw } = setup;
+    let stimulus = Stimulus {
+        terms: subject.terms,
+        frame: &frame,
+        context: &context,
+        draw,
+    };
+    let answer = verifying::trace(alloc, code.as_slice(), shapes, stimulus, reason);
     reason.points_at(alloc, code.as_slice(), &answer);
     answer
+}
+
+/// What a traced program is told of the frame.
+fn context(
+    alloc: Global,
+    hook: Hook,
+    frame: &[u8],
+    given: Given<'_>,
+) -> Result<Context, ProgramFault>
+    ensures context { IfOk result
+        (IsContext hook (text_of given.entry.context) given.entry.from_frame) }
+    ensures fault { IfErr result
+        (IsMemoryOr (IsGiven (text_of given.entry.context) given.entry.from_frame)) }
+{
+    match context_for(hook, frame, given.context, given.from_frame) {
+        Ok(context) => Ok(context),
+        Err(fault) => Err(of_context(alloc, fault)),
+    }
 }
 
 /// The certificate of the program in a file, for the maps of a configuration.
@@ -187,17 +246,22 @@ fn certify<F: Files>(
 /// What a certificate in a file shows of the program in another.
 fn check<F: Files>(
     alloc: Global,
-    hook: Hook,
-    source: Source<'_>,
-    shown: &str,
+    claim: Claim<'_>,
     files: &mut F,
+    reason: &mut Reason,
 ) -> Result<Answer, ProgramFault>
-    ensures checked { IfOk result
-        (IsAnswer (F.held files.old) (asked_check hook source.entry shown.now)) }
+    ensures checked { IfOk result (IsAnswer (F.held files.old) (asked_check claim.entry)) }
     ensures fault { IfErr result
-        (IsMemoryOr (HasNoAnswer (F.held files.old) (asked_check hook source.entry shown.now))) }
+        (IsMemoryOr (HasNoAnswer (F.held files.old) (asked_check claim.entry))) }
 {
-    let Loaded { code, setup } = load(alloc, source, files)?;
-    let bytes = certificate(alloc, shown, files)?;
-    certifying::check(alloc, code.as_slice(), setup.shapes, hook, bytes.as_slice())
+    let Loaded { code, setup } = load(alloc, claim.source, files)?;
+    let bytes = certificate(alloc, claim.certificate, files)?;
+    reason.suspects_exchange(alloc, code.as_slice());
+    certifying::check(
+        alloc,
+        code.as_slice(),
+        setup.shapes,
+        claim.hook,
+        bytes.as_slice(),
+    )
 }

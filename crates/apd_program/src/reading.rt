@@ -70,7 +70,7 @@ fn configured<F: Files>(alloc: Global, path: &str, files: &mut F) -> Result<Setu
             draw: configuration.draw,
             shapes: configuration.maps,
         }),
-        Err(fault) => Err(of_configuration(alloc, path, fault)),
+        Err(fault) => Err(of_configuration(alloc, path, text.as_slice(), fault)),
     }
 }
 

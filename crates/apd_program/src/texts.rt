@@ -2,11 +2,11 @@
 
 ghost use Rattle.std.specs.Prelude.{◌≡◌, ◌==◌, ◌<◌, ◌^◌, IfOk, IfErr, count_by};
 ghost use Rattle.apd_program.specs.Programs.{IsOfProgram};
-ghost use Rattle.apd_program.specs.Texts.{BreaksOff, IsAssembly, IsListing, IsListingWith, IsSlotListing};
+ghost use Rattle.apd_program.specs.Texts.{BreaksOff, IsAssembly, IsListing, IsListingWith, IsRawListing, IsSlotListing};
 
 use crate::answer::{Answer, undecoded};
 use crate::fault::ProgramFault;
-use apd_text::listing_text;
+use apd_text::{listing_text, raw_text};
 use bpf_decode::{Program, decode};
 use bpf_regions::Shapes;
 use bpf_text::AsmFault;
@@ -107,6 +107,17 @@ fn written(alloc: Global, program: &Program) -> Result<Answer, ProgramFault>
     ensures memory { IfErr result (λ e. e ≡ ProgramFault.NoMemory) }
 {
     match bpf_text::disassemble(alloc, program) {
+        Ok(text) => Ok(Answer::Instructions(text)),
+        Err(_) => Err(ProgramFault::NoMemory),
+    }
+}
+
+/// All slots of code, with their numbers or without.
+pub(crate) fn list_raw(alloc: Global, code: &[u8], slots: bool) -> Result<Answer, ProgramFault>
+    ensures listing { IfOk result (IsRawListing slots code.now) }
+    ensures memory { IfErr result (λ e. e ≡ ProgramFault.NoMemory) }
+{
+    match raw_text(alloc, code, slots) {
         Ok(text) => Ok(Answer::Instructions(text)),
         Err(_) => Err(ProgramFault::NoMemory),
     }

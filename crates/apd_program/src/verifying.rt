@@ -8,13 +8,22 @@ ghost use Rattle.apd_program.specs.Verifying.{IsVerified, IsRunWithin};
 use crate::answer::{Answer, refused, undecoded};
 use crate::explaining::Reason;
 use crate::fault::ProgramFault;
-use crate::reading::Setup;
 use apd_text::trace_text;
 use apd_words::Terms;
 use bpf_decode::{Program, decode};
-use bpf_regions::{Frame, Shapes};
+use bpf_regions::{Context, Frame, Shapes};
 use bpf_verifier::{StateLimit, verify_within};
 use std::alloc::Global;
+
+/// What a program is verified for, and run on.
+#[derive(Clone, Copy)]
+pub(crate) struct Stimulus<'a> {
+    pub terms: Terms,
+    pub frame: &'a Frame<'a>,
+    pub context: &'a Context,
+    /// The word that is drawn first.
+    pub draw: u64,
+}
 
 /// How many states may be examined.
 pub(crate) fn limit_of(terms: Terms) -> StateLimit
@@ -54,10 +63,11 @@ pub(crate) fn verify(
     ensures verdict { IfOk result (IsOfProgram (IsVerified terms) code.now shapes) }
     ensures memory { IfErr result (λ e. e ≡ ProgramFault.NoMemory) }
 {
+    let known = Vec::from_slice(alloc, shapes.as_slice())?;
     match decode(alloc, code, shapes) {
         Ok(program) => admitted(alloc, program, terms, reason),
         Err(fault) => {
-            reason.explain_fault(alloc, code, fault);
+            reason.explain_fault(alloc, code, known.as_slice(), fault);
             undecoded(fault)
         }
     }
@@ -67,17 +77,24 @@ pub(crate) fn verify(
 fn run(
     alloc: Global,
     program: Program,
-    terms: Terms,
-    frame: &Frame,
-    draw: u64,
+    stimulus: Stimulus<'_>,
+    reason: &mut Reason,
 ) -> Result<Answer, ProgramFault>
-    ensures run { IfOk result (IsRunWithin terms frame.now draw program) }
+    ensures run { IfOk result (IsRunWithin stimulus.entry.terms stimulus.entry.frame.now
+        stimulus.entry.context.now stimulus.entry.draw program) }
     ensures memory { IfErr result (λ e. e ≡ ProgramFault.NoMemory) }
 {
+    let Stimulus {
+        terms,
+        frame,
+        context,
+        draw,
+    } = stimulus;
+    reason.explain(alloc, &program, terms);
     let limit = limit_of(terms);
     match verify_within(alloc, program, terms.hook, limit) {
         Ok(accepted) => {
-            let text = trace_text(alloc, &accepted, frame, draw)?;
+            let text = trace_text(alloc, &accepted, frame, context, draw)?;
             Ok(Answer::Run(text))
         }
         Err(refusal) => refused(refusal),
@@ -88,17 +105,21 @@ fn run(
 pub(crate) fn trace(
     alloc: Global,
     code: &[u8],
-    setup: Setup,
-    terms: Terms,
-    frame: &Frame,
+    shapes: Shapes,
+    stimulus: Stimulus<'_>,
+    reason: &mut Reason,
 ) -> Result<Answer, ProgramFault>
-    ensures run { IfOk result
-        (IsOfProgram (IsRunWithin terms frame.now setup.draw) code.now setup.shapes) }
+    ensures run { IfOk result (IsOfProgram
+        (IsRunWithin stimulus.entry.terms stimulus.entry.frame.now stimulus.entry.context.now
+        stimulus.entry.draw) code.now shapes) }
     ensures memory { IfErr result (λ e. e ≡ ProgramFault.NoMemory) }
 {
-    let Setup { shapes, draw } = setup;
+    let known = Vec::from_slice(alloc, shapes.as_slice())?;
     match decode(alloc, code, shapes) {
-        Ok(program) => run(alloc, program, terms, frame, draw),
-        Err(fault) => undecoded(fault),
+        Ok(program) => run(alloc, program, stimulus, reason),
+        Err(fault) => {
+            reason.explain_fault(alloc, code, known.as_slice(), fault);
+            undecoded(fault)
+        }
     }
 }

@@ -1,8 +1,14 @@
 -- Runs that break off.
-use Rattle.std.proofs.Common.{ℕ, List, Option, false, refl}
+use Rattle.std.proofs.Common.{◌≡◌, ℕ, List, Bool, true, false, Option, refl}
 use Rattle.ap_books.specs.Counts.{Counts}
-use Rattle.apd_run.specs.Shows.{Nothing, Before, Breaks}
+use Rattle.apd_run.specs.Shows.{Nothing, Before, Breaks, is_over}
+
+-- where no line was refused a run goes on
+pub goes_on : (strict : Bool) → is_over strict false ≡ false
+goes_on true = refl
+goes_on false = refl
 
 -- before their first interval
-pub breaks_at_once : (old : Option (List ℕ)) (counted : Counts) → Breaks old old counted
-breaks_at_once old counted = record { mid = old; before = counted; memory = false; shown = Nothing; last = Before refl }
+pub breaks_at_once : (strict : Bool) (old : Option (List ℕ)) (counted : Counts) → Breaks strict old old counted
+breaks_at_once strict old counted =
+    record { mid = old; before = counted; memory = false; refused = false; shown = Nothing; goes_on = goes_on strict; last = Before refl }

@@ -1,23 +1,40 @@
 -- A program that is put in force.
-use Rattle.std.proofs.Common.{◌≡◌, ◌≤◌, ℕ, List, subst}
+use Rattle.std.proofs.Common.{◌≡◌, ◌≤◌, ℕ, List, Some, length, refl, sym, subst}
 use Rattle.bpf_regions.specs.declared.hooks.Hook.{Hook}
 use Rattle.bpf_decode.specs.Program.{Code}
+use Rattle.bpf_model.specs.Run.{Safe}
 use Rattle.bpf_machine.specs.Verified.{Verified}
-use Rattle.bpf_cert.specs.Certified.{IsAdmitted}
-use Rattle.versions.specs.Lists.{Beginning}
+use Rattle.bpf_cert.specs.Certified.{Covered, Refuses}
+use Rattle.bpf_cert.specs.declared.fault.CertFault.{CertFault}
+use Rattle.bpf_cert.specs.declared.fault.CertFault.TheVariants as check
+use Rattle.versions.specs.Lists.{Beginning, with_load}
+use Rattle.versions.specs.Sets.{load}
 use Rattle.apd_text.specs.declared.reports.report.Told.{Told}
+use Rattle.apd_text.specs.declared.reports.report.Told.TheVariants.{Loaded}
 use Rattle.apd_run.specs.Loading.{IsInForce, PutsInForce, InForce, NoRoomToPut, LoadsProgram, Admitted, NoRoomToLoad}
-use Rattle.apd_run.specs.Adopting.{AdoptsProgram, Certified, NoRoomToAdopt}
+use Rattle.apd_run.specs.Adopting.{AdoptsProgram, Certified, NotCertified, NoRoomToAdopt, certificate_told}
 
 -- once the verifier admitted it
 pub loaded : (limit : ℕ) (hook : Hook) (a : Verified) (program : Code) (old new : Beginning) (told : Told) → a.code ≡ program → a.budget ≤ limit → PutsInForce hook a old new told
     → LoadsProgram limit hook program old new told
-loaded limit hook a program old new _ is small (InForce force) = Admitted a.budget (subst (λ (code : Code). IsInForce hook code old new a.budget) is force) small
+loaded limit hook a program old new _ is small (InForce force) =
+    subst (λ (code : Code). LoadsProgram limit hook program old new (Loaded a.budget (length code.slots))) (sym is)
+    (Admitted a.budget (subst (λ (code : Code). IsInForce hook code old new a.budget) is force) small)
 loaded limit hook a program old new _ is small (NoRoomToPut same) = NoRoomToLoad same
 
--- once a certificate did
-pub adopted : (hook : Hook) (a : Verified) (program : Code) (certificate : List ℕ) (old new : Beginning) (told : Told) → IsAdmitted program hook certificate a
-    → PutsInForce hook a old new told → AdoptsProgram hook program certificate old new told
-adopted hook a program certificate old new _ admitted (InForce force) =
-    Certified a.budget (record { force = subst (λ (code : Code). IsInForce hook code old new a.budget) admitted.code force; covered = admitted.covered })
-adopted hook a program certificate old new _ admitted (NoRoomToPut same) = NoRoomToAdopt same
+-- once a certificate showed that it is safe
+pub adopted : (hook : Hook) (program : Code) (certificate : List ℕ) (old new : Beginning) (budget : ℕ) → Covered program hook certificate budget → Safe program.slots program.shapes budget
+    → new ≡ with_load old (load hook (Some (record { code = program; hook = hook; budget = budget }))) → AdoptsProgram hook program certificate old new (Loaded budget (length program.slots))
+adopted hook program certificate old new budget covered safe is =
+    Certified budget (record {
+      force = record { accepted = record { code = program; hook = hook; budget = budget }; code_is = refl; hook_is = refl; budget_is = refl; safe = safe; loaded = is };
+      covered = covered;
+    })
+
+-- or did not
+pub not_adopted : (hook : Hook) (program : Code) (certificate : List ℕ) (old new : Beginning) (fault : CertFault) → Refuses program hook certificate fault → new ≡ old
+    → AdoptsProgram hook program certificate old new (certificate_told fault)
+not_adopted hook program certificate old new check.NoMemory refuses same = NoRoomToAdopt same
+not_adopted hook program certificate old new check.Malformed refuses same = NotCertified check.Malformed (λ e. cc) refuses same
+not_adopted hook program certificate old new check.Other refuses same = NotCertified check.Other (λ e. cc) refuses same
+not_adopted hook program certificate old new check.NotCovered refuses same = NotCertified check.NotCovered (λ e. cc) refuses same

@@ -1,5 +1,5 @@
 -- What an adoption does, and what it answers.
-use Rattle.std.specs.Prelude.{◌≡◌, ◌≢◌, ℕ, List}
+use Rattle.std.specs.Prelude.{◌≡◌, ◌≢◌, ℕ, List, length}
 use Rattle.bpf_regions.specs.declared.hooks.Hook.{Hook}
 use Rattle.bpf_decode.specs.Program.{Code, Spells}
 use Rattle.bpf_decode.specs.Answer as decoding
@@ -19,6 +19,11 @@ use Rattle.apd_text.specs.declared.reports.report.Told.{Told}
 use Rattle.apd_text.specs.declared.reports.report.Told.TheVariants.{Memory, Loaded, Fault, Certificate, Unreadable}
 use Rattle.apd_run.specs.Loading.{IsInForce}
 
+-- what is told of a certificate's fault
+abbrev pub certificate_told : CertFault → Told
+certificate_told check.NoMemory = Memory
+certificate_told fault = Certificate (number_of fault)
+
 -- the program is in force for the hook from now on, and safe within the budget that the certificate shows
 pub record IsAdopted (hook : Hook) (program : Code) (certificate : List ℕ) (old new : Beginning) (budget : ℕ) : Type 0 where
   pub force : IsInForce hook program old new budget
@@ -26,7 +31,7 @@ pub record IsAdopted (hook : Hook) (program : Code) (certificate : List ℕ) (ol
 
 -- what is done with a program and a certificate, and what is told of it
 pub data AdoptsProgram (hook : Hook) (program : Code) (certificate : List ℕ) (old new : Beginning) : Told → Type 0 where
-  Certified : (budget : ℕ) → IsAdopted hook program certificate old new budget → AdoptsProgram hook program certificate old new (Loaded budget)
+  Certified : (budget : ℕ) → IsAdopted hook program certificate old new budget → AdoptsProgram hook program certificate old new (Loaded budget (length program.slots))
   NotCertified : (fault : CertFault) → fault ≢ check.NoMemory → Refuses program hook certificate fault → new ≡ old
       → AdoptsProgram hook program certificate old new (Certificate (number_of fault))
   NoRoomToAdopt : new ≡ old → AdoptsProgram hook program certificate old new Memory

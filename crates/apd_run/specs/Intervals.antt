@@ -1,13 +1,12 @@
 -- The intervals of a script.
-use Rattle.std.specs.Prelude.{List, [], ◌∷◌, Bool, true, false, if◌then◌else◌}
+use Rattle.std.specs.Prelude.{List, [], ◌∷◌, Bool, if◌then◌else◌}
 use Rattle.apd_script.specs.declared.command.Command.{Command}
-use Rattle.apd_script.specs.declared.command.Command.TheVariants.{Wait}
 use Rattle.apd_script.specs.declared.command.Numbered.{Numbered}
+use Rattle.apd_run.specs.Actions.{action_of, waits}
 
 -- whether a command waits for all that came before it
 abbrev pub is_wait : Command → Bool
-is_wait Wait = true
-is_wait _ = false
+is_wait command = waits (action_of command)
 
 -- what follows the first `wait`
 abbrev pub after_wait : List Numbered → List Numbered

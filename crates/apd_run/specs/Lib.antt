@@ -1,4 +1,4 @@
-pub mod Events
+pub mod Actions
 pub mod Intervals
 pub mod Crews
 pub mod Shows

@@ -1,5 +1,5 @@
 -- What a load does, and what it answers.
-use Rattle.std.specs.Prelude.{◌≡◌, ◌≢◌, ◌≤◌, ◌^◌, ℕ, List, Some}
+use Rattle.std.specs.Prelude.{◌≡◌, ◌≢◌, ◌≤◌, ◌^◌, ℕ, List, length, Some}
 use Rattle.bpf_regions.specs.declared.hooks.Hook.{Hook}
 use Rattle.bpf_decode.specs.Program.{Code, Spells, Begins}
 use Rattle.bpf_decode.specs.Answer.{Refuses}
@@ -34,7 +34,7 @@ pub record IsInForce
 
 -- it is, or memory was refused
 pub data PutsInForce (hook : Hook) (a : Verified) (old new : Beginning) : Told → Type 0 where
-  InForce : IsInForce hook a.code old new a.budget → PutsInForce hook a old new (Loaded a.budget)
+  InForce : IsInForce hook a.code old new a.budget → PutsInForce hook a old new (Loaded a.budget (length a.code.slots))
   NoRoomToPut : new ≡ old → PutsInForce hook a old new Memory
 
 -- the verifier doesn't admit the program within the limit of states, within which it isn't clear then, nor plain where
@@ -51,7 +51,7 @@ pub record IsRefused
 pub data LoadsProgram
     (limit : ℕ) (hook : Hook) (program : Code) (old new : Beginning) : Told → Type 0 where
   Admitted : (budget : ℕ) → IsInForce hook program old new budget → budget ≤ limit →
-      LoadsProgram limit hook program old new (Loaded budget)
+      LoadsProgram limit hook program old new (Loaded budget (length program.slots))
   NotAdmitted : (refusal : Refusal) → IsRefused limit program old new refusal →
       LoadsProgram limit hook program old new (Refused refusal)
   NoRoomToLoad : new ≡ old → LoadsProgram limit hook program old new Memory

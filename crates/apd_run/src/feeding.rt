@@ -1,15 +1,15 @@
 //! The operator's lines between two waits.
 
-ghost use Rattle.std.specs.Prelude.{◌≡◌, ◌<◌, length, drop, IfOk, OnOk};
+ghost use Rattle.std.specs.Prelude.{◌≡◌, ◌<◌, ◌≤◌, length, drop, IfOk, OnOk};
 ghost use Rattle.apd_run.specs.Tells.{Tells};
 ghost use Rattle.apd_run.specs.Intervals.{is_wait, after_wait};
 
+use crate::actions::{Action, Publication, WordUse, action_of};
 use crate::crew::{Serving, Signs};
-use crate::events::event_of;
 use crate::operating::Operating;
 use crate::setting::Setting;
 use ap_model::Event;
-use apd_script::{Command, Numbered};
+use apd_script::Numbered;
 use apd_text::{Report, Told};
 use std::alloc::AllocError;
 use std::sync::Wait;
@@ -43,25 +43,50 @@ fn put<W: Serving + Drop, O: Operating<W>, R: Wait>(
     unreachable!()
 }
 
-/// Does what a line asks for that is no event.
-fn perform<W: Serving + Drop, O: Operating<W>, R: Wait>(
+/// Changes the program of a hook, and lists what is printed of it.
+fn publish<W: Serving + Drop, O: Operating<W>, R: Wait>(
     rt: &R,
     operator: &mut O,
-    numbered: &Numbered<'_>,
+    line: u64,
+    publication: Publication<'_>,
     told: &mut Vec<Report>,
 ) -> Result<(), AllocError>
     ensures same { O.crew operator.new ≡ O.crew operator.old }
     ensures told { OnOk result (Tells told.old.items told.new.items) }
 {
     told.reserve(1)?;
-    if let Some(answer) = operator.perform(rt, &numbered.command) {
-        told.push_reserved(Report {
-            line: numbered.line,
-            shard: 0,
-            told: answer,
-        });
+    if let Some(answer) = operator.publish(rt, publication) {
+        told.push_reserved(of_line(line, answer));
     }
     Ok(())
+}
+
+/// Uses a word of a map, and lists what is printed of it.
+fn use_word<W: Serving + Drop, O: Operating<W>>(
+    operator: &mut O,
+    line: u64,
+    wanted: WordUse,
+    told: &mut Vec<Report>,
+) -> Result<(), AllocError>
+    ensures same { O.crew operator.new ≡ O.crew operator.old }
+    ensures told { OnOk result (Tells told.old.items told.new.items) }
+{
+    told.reserve(1)?;
+    if let Some(answer) = operator.use_word(wanted) {
+        told.push_reserved(of_line(line, answer));
+    }
+    Ok(())
+}
+
+/// What became of a line in which no shard had a part.
+fn of_line(line: u64, told: Told) -> Report
+    ensures { result ≡ record { line = line; shard = 0; told = told } }
+{
+    Report {
+        line,
+        shard: 0,
+        told,
+    }
 }
 
 /// Tells that memory was refused to a line.
@@ -69,45 +94,41 @@ fn tell_memory(told: &mut Vec<Report>, line: u64) -> Result<(), AllocError>
     ensures told { OnOk result (Tells told.old.items told.new.items) }
 {
     told.reserve(1)?;
-    told.push_reserved(Report {
-        line,
-        shard: 0,
-        told: Told::Memory,
-    });
+    told.push_reserved(of_line(line, Told::Memory));
     Ok(())
 }
 
-/// Does what a line asks for.
+/// Does what a line asks for. The answer is whether it waits.
 fn follow<W: Serving + Drop, O: Operating<W>, R: Wait>(
     setting: &Setting<'_, W, R>,
     operator: &mut O,
     numbered: &Numbered<'_>,
     told: &mut Vec<Report>,
-) -> Result<(), AllocError>
+) -> Result<bool, AllocError>
     ensures same { O.crew operator.new ≡ O.crew operator.old }
     ensures told { OnOk result (Tells told.old.items told.new.items) }
+    ensures waits { IfOk result (λ waits. waits ≡ is_wait numbered.now.command) }
 {
-    match event_of(setting.alloc, &numbered.command) {
-        Ok(Some(event)) => {
-            put(setting.rt, operator, setting.signs, numbered.line, event)?;
-            return Ok(());
+    let line = numbered.line;
+    match action_of(setting.alloc, &numbered.command) {
+        Ok(Action::Submit(event)) => {
+            put(setting.rt, operator, setting.signs, line, event)?;
+            return Ok(false);
         }
-        Ok(None) => {
-            perform(setting.rt, operator, numbered, told)?;
-            return Ok(());
+        Ok(Action::Publish(publication)) => {
+            publish(setting.rt, operator, line, publication, told)?;
+            return Ok(false);
         }
+        Ok(Action::UseWord(wanted)) => {
+            use_word(operator, line, wanted, told)?;
+            return Ok(false);
+        }
+        Ok(Action::Wait) => return Ok(true),
         Err(_) => {
-            tell_memory(told, numbered.line)?;
-            return Ok(());
+            tell_memory(told, line)?;
+            return Ok(false);
         }
     }
-}
-
-/// Whether a line waits.
-fn is_wait(command: &Command<'_>) -> bool
-    ensures is { result ≡ is_wait command.now }
-{
-    matches!(*command, Command::Wait)
 }
 
 /// Follows the lines from a place on, up to the next wait or the end, and answers the place after
@@ -123,6 +144,7 @@ pub(crate) fn feed<W: Serving + Drop, O: Operating<W>, R: Wait>(
     ensures same { O.crew operator.new ≡ O.crew operator.old }
     ensures told { OnOk result (Tells told.old.items told.new.items) }
     ensures on { IfOk result (λ next. start < next) }
+    ensures within { IfOk result (λ next. next ≤ length commands.now) }
     ensures rest { IfOk result
         (λ next. drop next commands.now ≡ after_wait (drop start commands.now)) }
 {
@@ -130,10 +152,10 @@ pub(crate) fn feed<W: Serving + Drop, O: Operating<W>, R: Wait>(
     'lines: while next < commands.len() {
         let numbered = &commands[next];
         next += 1;
-        if is_wait(&numbered.command) {
+        let waits = follow(setting, operator, numbered, told)?;
+        if waits {
             return Ok(next);
         }
-        follow(setting, operator, numbered, told)?;
     }
     Ok(next)
 }

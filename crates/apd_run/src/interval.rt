@@ -5,8 +5,10 @@ ghost use Rattle.apd_run.specs.Intervals.{after_wait};
 ghost use Rattle.apd_run.specs.Shows.{is_memory, any_memory, Prints, BreaksOff, ShowsOne, Shows, Breaks};
 
 use crate::collecting::{collect, send_out};
+use crate::console::Console;
 use crate::crew::Serving;
 use crate::feeding::feed;
+use crate::found::{Found, any_refusal, is_over};
 use crate::operating::Operating;
 use crate::setting::{Setting, Staff};
 use apd_script::Numbered;
@@ -23,12 +25,11 @@ struct Place {
     interval: u64,
 }
 
-/// What an interval leaves: the place of the next command, and whether a line that was printed says
-/// `memory`.
+/// What an interval leaves: the place of the next command, and what the lines say that were printed.
 #[derive(Clone, Copy)]
 struct Passed {
     next: usize,
-    memory: bool,
+    found: Found,
 }
 
 /// Whether an answer says that memory was refused.
@@ -44,27 +45,31 @@ fn any_memory(reports: &[Report]) -> bool
     reports.iter().any(|report| is_memory(&report.told))
 }
 
-/// Prints what was handed over. The answer tells whether a line says `memory`.
+/// Prints what was handed over, and answers what its lines say.
 fn print_interval<P: Write>(
     alloc: Global,
     handed: Vec<Report>,
     writer: &mut P,
-) -> Result<bool, PrintFault>
-    ensures prints { IfOk result
-        (Prints (P.contents writer.old) (P.contents writer.new) handed.items) }
+) -> Result<Found, PrintFault>
+    ensures prints { IfOk result (λ found. Prints (P.contents writer.old) (P.contents writer.new)
+        handed.items found.memory found.refused) }
     ensures breaks { OnErr result (BreaksOff (P.contents writer.old) (P.contents writer.new)) }
 {
     let mut reports = handed;
     put_in_order(&mut reports)?;
     match print_reports(alloc, writer, reports.as_slice()) {
-        Ok(()) => return Ok(any_memory(reports.as_slice())),
+        Ok(()) => {
+            let memory = any_memory(reports.as_slice());
+            let refused = any_refusal(reports.as_slice());
+            return Ok(Found { memory, refused });
+        }
         Err(fault) => return Err(fault),
     }
 }
 
 /// An interval: workers go out, the operator follows the lines from a place on up to a wait or the
-/// end, workers come back, and what all handed over is printed.
-fn interval<W: Serving + Drop, O: Operating<W> + Drop, R: Wait, P: Write>(
+/// end, it is told what became of them, workers come back, and what all handed over is printed.
+fn interval<W: Serving + Drop, O: Operating<W> + Drop, R: Wait, P: Console>(
     setting: &Setting<'_, W, R>,
     staff: &mut Staff<W, O>,
     commands: &[Numbered<'_>],
@@ -80,7 +85,8 @@ fn interval<W: Serving + Drop, O: Operating<W> + Drop, R: Wait, P: Write>(
     ensures rest { IfOk result (λ passed.
         drop passed.next commands.now ≡ after_wait (drop from.line commands.now)) }
     ensures shows { IfOk result (λ passed. ShowsOne (P.contents writer.old) (P.contents writer.new)
-        (O.crew staff.old.operator).counted (O.crew staff.new.operator).counted passed.memory) }
+        (O.crew staff.old.operator).counted (O.crew staff.new.operator).counted
+        passed.found.memory passed.found.refused) }
     ensures breaks { OnErr result (BreaksOff (P.contents writer.old) (P.contents writer.new)) }
 {
     send_out(setting, &mut staff.workers, from.interval);
@@ -88,31 +94,38 @@ fn interval<W: Serving + Drop, O: Operating<W> + Drop, R: Wait, P: Write>(
     let fed = feed(setting, &mut staff.operator, commands, from.line, &mut told);
     setting.signs.closed.store(from.interval, Ordering::SeqCst);
     let next = fed?;
+    let followed = &commands[from.line..next];
+    writer.tell(followed, told.as_slice());
     collect(setting, staff, &mut told)?;
-    let memory = print_interval(setting.alloc, told, writer)?;
-    Ok(Passed { next, memory })
+    let found = print_interval(setting.alloc, told, writer)?;
+    Ok(Passed { next, found })
 }
 
-/// All intervals of a script. The answer tells whether a line says `memory`.
-pub(crate) fn intervals<W: Serving + Drop, O: Operating<W> + Drop, R: Wait, P: Write>(
+/// All intervals of a script, or those up to a refused line where the run is strict. The answer is what
+/// the lines say that were printed.
+pub(crate) fn intervals<W: Serving + Drop, O: Operating<W> + Drop, R: Wait, P: Console>(
     setting: &Setting<'_, W, R>,
     staff: &mut Staff<W, O>,
     commands: &[Numbered<'_>],
     writer: &mut P,
-) -> Result<bool, PrintFault>
+) -> Result<Found, PrintFault>
     requires home { vec_len staff.old.workers ≡ length setting.now.desks.now }
     ensures home { OnOk result (vec_len staff.new.workers ≡ length setting.now.desks.now) }
     ensures workers { OnOk result
         ((O.crew staff.new.operator).workers ≡ (O.crew staff.old.operator).workers) }
-    ensures shows { IfOk result (Shows (P.contents writer.old) (O.crew staff.old.operator).counted
-        (P.contents writer.new) (O.crew staff.new.operator).counted) }
-    ensures breaks { OnErr result (Breaks (P.contents writer.old) (P.contents writer.new)
-        (O.crew staff.old.operator).counted) }
+    ensures shows { IfOk result (λ found. Shows setting.now.strict
+        (P.contents writer.old) (O.crew staff.old.operator).counted
+        (P.contents writer.new) (O.crew staff.new.operator).counted found.memory found.refused) }
+    ensures breaks { OnErr result (Breaks setting.now.strict
+        (P.contents writer.old) (P.contents writer.new) (O.crew staff.old.operator).counted) }
 {
     let mut line = 0;
-    let mut memory = false;
+    let mut found = Found::nothing();
     let mut interval_number = 1u64;
     'intervals: while line < commands.len() {
+        if is_over(setting.strict, found.refused) {
+            return Ok(found);
+        }
         let from = Place {
             line,
             interval: interval_number,
@@ -122,8 +135,8 @@ pub(crate) fn intervals<W: Serving + Drop, O: Operating<W> + Drop, R: Wait, P: W
             Err(fault) => return Err(fault),
         };
         line = passed.next;
-        memory |= passed.memory;
+        found = found.and(passed.found);
         interval_number = interval_number.wrapping_add(1);
     }
-    Ok(memory)
+    Ok(found)
 }

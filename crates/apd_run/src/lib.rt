@@ -7,10 +7,12 @@
 #![tactic(auto)]
 
 mod access;
+mod actions;
 mod collecting;
+mod console;
 mod crew;
-mod events;
 mod feeding;
+mod found;
 mod interval;
 mod loads;
 mod operating;
@@ -21,7 +23,9 @@ mod script;
 mod setting;
 
 pub use crate::crew::{Ready, Serving};
+pub use actions::{Publication, WordUse};
 pub use apd_text::{Report, Told};
+pub use console::Console;
 pub use operating::{Operating, Waiting};
 pub use progress::{Progress, Watcher};
 pub use runner::{Gate, OpenGate, RunWords, StateLimit, Supplies, run};

@@ -6,9 +6,9 @@ ghost use Rattle.ap_books.specs.Reading.{Reads};
 ghost use Rattle.apd_run.specs.Tallies.{told_counts};
 ghost use Rattle.apd_run.specs.Crews.{Crew, gains, with_one_more};
 
+use crate::actions::{Publication, WordUse};
 use ap_books::Totals;
 use ap_model::Event;
-use apd_script::Command;
 use apd_text::Told;
 use std::sync::Wait;
 
@@ -35,8 +35,13 @@ pub trait Operating<W> {
     fn go_on<R: Wait>(&mut self, rt: &R, line: u64, waiting: Waiting) -> Result<(), Waiting>
         ensures same { crew self.new ≡ crew self.old };
 
-    /// Does what a line asks for that is no event. The answer is what is printed of it.
-    fn perform<R: Wait>(&mut self, rt: &R, command: &Command<'_>) -> Option<Told>
+    /// Changes the program of a hook. The answer is what is printed of it.
+    fn publish<R: Wait>(&mut self, rt: &R, publication: Publication<'_>) -> Option<Told>
+        ensures same { crew self.new ≡ crew self.old }
+        ensures nothing { IfSome result (λ told. told_counts told ≡ none) };
+
+    /// Uses a word of a map. The answer is what is printed of it.
+    fn use_word(&mut self, wanted: WordUse) -> Option<Told>
         ensures same { crew self.new ≡ crew self.old }
         ensures nothing { IfSome result (λ told. told_counts told ≡ none) };
 

@@ -3,14 +3,15 @@
 ghost use Rattle.std.specs.Prelude.{◌≡◌, length, vec_len, IfOk, OnOk, OnErr};
 ghost use Rattle.apd_run.specs.Shows.{Shows, Breaks};
 
+use crate::console::Console;
 use crate::crew::{Desk, Serving, Signs, Task, start_all, work};
+use crate::found::Found;
 use crate::interval::intervals;
 use crate::operating::Operating;
 use crate::setting::{Setting, Staff};
 use apd_script::Numbered;
 use apd_text::PrintFault;
 use std::alloc::Global;
-use std::io::Write;
 use std::sync::Wait;
 use std::thread;
 use std::thread::Threads;
@@ -36,7 +37,7 @@ impl<'a, W: Serving + Drop, R: Wait> Task<R> for Work<'a, W> {
 pub(crate) struct Ran<W: Serving + Drop, O: Operating<W> + Drop, P: Drop> {
     pub staff: Staff<W, O>,
     pub writer: P,
-    pub memory: Result<bool, PrintFault>,
+    pub found: Result<Found, PrintFault>,
 }
 
 /// Tells each worker's thread to end.
@@ -47,7 +48,7 @@ fn end_all<W: Serving + Drop, R: Wait>(setting: &Setting<'_, W, R>) {
 }
 
 /// The operator's whole work where all threads have started. Then each thread is told to end.
-fn beside<W: Serving + Drop, O: Operating<W> + Drop, R: Wait, P: Write + Drop>(
+fn beside<W: Serving + Drop, O: Operating<W> + Drop, R: Wait, P: Console + Drop>(
     setting: &Setting<'_, W, R>,
     staff: Staff<W, O>,
     commands: &[Numbered<'_>],
@@ -55,18 +56,20 @@ fn beside<W: Serving + Drop, O: Operating<W> + Drop, R: Wait, P: Write + Drop>(
     started: bool,
 ) -> Ran<W, O, P>
     requires home { vec_len staff.workers ≡ length setting.now.desks.now }
-    ensures home { OnOk result.memory (vec_len result.staff.workers
+    ensures home { OnOk result.found (vec_len result.staff.workers
         ≡ length setting.now.desks.now) }
-    ensures workers { OnOk result.memory
+    ensures workers { OnOk result.found
         ((O.crew result.staff.operator).workers ≡ (O.crew staff.operator).workers) }
-    ensures shows { IfOk result.memory (Shows (P.contents writer) (O.crew staff.operator).counted
-        (P.contents result.writer) (O.crew result.staff.operator).counted) }
-    ensures breaks { OnErr result.memory
-        (Breaks (P.contents writer) (P.contents result.writer) (O.crew staff.operator).counted) }
+    ensures shows { IfOk result.found (λ found. Shows setting.now.strict
+        (P.contents writer) (O.crew staff.operator).counted
+        (P.contents result.writer) (O.crew result.staff.operator).counted
+        found.memory found.refused) }
+    ensures breaks { OnErr result.found (Breaks setting.now.strict
+        (P.contents writer) (P.contents result.writer) (O.crew staff.operator).counted) }
 {
     let mut staff = staff;
     let mut writer = writer;
-    let memory = if started {
+    let found = if started {
         intervals(setting, &mut staff, commands, &mut writer)
     } else {
         Err(PrintFault::NoMemory)
@@ -75,7 +78,7 @@ fn beside<W: Serving + Drop, O: Operating<W> + Drop, R: Wait, P: Write + Drop>(
     Ran {
         staff,
         writer,
-        memory,
+        found,
     }
 }
 
@@ -85,7 +88,7 @@ pub(crate) fn run_threads<
     O: Operating<W> + Drop,
     R: Threads + Wait + Sync,
     T: Task<R> + Sync,
-    P: Write + Drop,
+    P: Console + Drop,
 >(
     setting: &Setting<'_, W, R>,
     task: &T,
@@ -94,14 +97,16 @@ pub(crate) fn run_threads<
     writer: P,
 ) -> Ran<W, O, P>
     requires home { vec_len staff.workers ≡ length setting.now.desks.now }
-    ensures home { OnOk result.memory (vec_len result.staff.workers
+    ensures home { OnOk result.found (vec_len result.staff.workers
         ≡ length setting.now.desks.now) }
-    ensures workers { OnOk result.memory
+    ensures workers { OnOk result.found
         ((O.crew result.staff.operator).workers ≡ (O.crew staff.operator).workers) }
-    ensures shows { IfOk result.memory (Shows (P.contents writer) (O.crew staff.operator).counted
-        (P.contents result.writer) (O.crew result.staff.operator).counted) }
-    ensures breaks { OnErr result.memory
-        (Breaks (P.contents writer) (P.contents result.writer) (O.crew staff.operator).counted) }
+    ensures shows { IfOk result.found (λ found. Shows setting.now.strict
+        (P.contents writer) (O.crew staff.operator).counted
+        (P.contents result.writer) (O.crew result.staff.operator).counted
+        found.memory found.refused) }
+    ensures breaks { OnErr result.found (Breaks setting.now.strict
+        (P.contents writer) (P.contents result.writer) (O.crew staff.operator).counted) }
 {
     let rt = setting.rt;
     let many = setting.desks.len();

@@ -3,7 +3,9 @@
 ghost use Rattle.std.specs.Prelude.{◌≡◌, vec_len, IfOk, OnOk, OnErr};
 ghost use Rattle.apd_run.specs.Shows.{Shows, Breaks, IsBroken, status_of, Finishes, Runs};
 
+use crate::console::Console;
 use crate::crew::{Desk, Ready, Serving, Signs};
+use crate::found::{Found, is_over};
 use crate::operating::Operating;
 use crate::running::{Ran, Work, run_threads};
 use crate::setting::{Setting, Staff};
@@ -35,11 +37,17 @@ fn broken(fault: PrintFault) -> u8
     }
 }
 
-/// The status of a run that ended.
-fn ended(memory: bool) -> u8
-    ensures { result ≡ status_of memory }
+/// The status of a run whose printed lines say this.
+fn ended(strict: bool, found: Found) -> u8
+    ensures { result ≡ status_of strict found.memory found.refused }
 {
-    if memory { 3 } else { 0 }
+    if found.memory {
+        3
+    } else if is_over(strict, found.refused) {
+        1
+    } else {
+        0
+    }
 }
 
 /// Takes all workers' rights back.
@@ -56,17 +64,17 @@ fn dismiss_all<W: Serving + Drop, O: Operating<W>>(operator: &mut O, workers: Ve
     }
 }
 
-/// Prints the last line, and answers the status.
+/// Prints the last line, and answers the status, which is the run's own where it was written.
 fn finish<W: Serving + Drop, O: Operating<W> + Drop, R: Wait, P: Write>(
     rt: &R,
     alloc: Global,
     staff: Staff<W, O>,
     writer: &mut P,
-    memory: bool,
+    own: u8,
 ) -> u8
     requires all { vec_len staff.workers ≡ (O.crew staff.operator).workers }
     ensures finishes { Finishes (P.contents writer.old) (P.contents writer.new)
-        (O.crew staff.operator).counted memory result }
+        (O.crew staff.operator).counted own result }
 {
     let Staff {
         mut operator,
@@ -75,7 +83,7 @@ fn finish<W: Serving + Drop, O: Operating<W> + Drop, R: Wait, P: Write>(
     dismiss_all(&mut operator, workers);
     let totals = operator.gather(rt);
     match print_totals(alloc, writer, &totals) {
-        Ok(()) => return ended(memory),
+        Ok(()) => return own,
         Err(fault) => return broken(fault),
     }
 }
@@ -92,20 +100,22 @@ where
     W: Serving + Send + Drop,
     O: Operating<W> + Drop,
     R: Threads + Wait + Sync,
-    P: Write + Drop,
-    ensures home { OnOk result.memory (vec_len result.staff.workers ≡ vec_len staff.workers) }
-    ensures workers { OnOk result.memory
+    P: Console + Drop,
+    ensures home { OnOk result.found (vec_len result.staff.workers ≡ vec_len staff.workers) }
+    ensures workers { OnOk result.found
         ((O.crew result.staff.operator).workers ≡ (O.crew staff.operator).workers) }
-    ensures shows { IfOk result.memory (Shows (P.contents writer) (O.crew staff.operator).counted
-        (P.contents result.writer) (O.crew result.staff.operator).counted) }
-    ensures breaks { OnErr result.memory
-        (Breaks (P.contents writer) (P.contents result.writer) (O.crew staff.operator).counted) }
+    ensures shows { IfOk result.found (λ found. Shows (P.strict writer)
+        (P.contents writer) (O.crew staff.operator).counted
+        (P.contents result.writer) (O.crew result.staff.operator).counted
+        found.memory found.refused) }
+    ensures breaks { OnErr result.found (Breaks (P.strict writer)
+        (P.contents writer) (P.contents result.writer) (O.crew staff.operator).counted) }
 {
     let Ok(desks) = new_desks(alloc, staff.workers.len()) else {
         return Ran {
             staff,
             writer,
-            memory: Err(PrintFault::NoMemory),
+            found: Err(PrintFault::NoMemory),
         };
     };
     let signs = Signs::new();
@@ -114,6 +124,7 @@ where
         alloc,
         desks: desks.as_slice(),
         signs: &signs,
+        strict: writer.is_strict(),
     };
     let task = Work {
         alloc,
@@ -124,8 +135,9 @@ where
 }
 
 /// Runs a script: between two waits the operator follows the lines while the workers handle events.
-/// The writer is handed back with the program's status: 0; 3 where a line says `memory`, or memory
-/// was refused to the run itself, which then broke off; 2 where a write failed, which ends the run.
+/// The writer is handed back with the program's status: 0; 1 where the writer is strict and a line was
+/// refused, with whose interval the run ended; 3 where a line says `memory`, or memory was refused to the
+/// run itself, which then broke off; 2 where a write failed, which ends the run.
 pub fn run_script<W, O, R, P>(
     rt: &R,
     alloc: Global,
@@ -137,20 +149,22 @@ where
     W: Serving + Send + Drop,
     O: Operating<W> + Drop,
     R: Threads + Wait + Sync,
-    P: Write + Drop,
+    P: Console + Drop,
     requires all { vec_len staff.workers ≡ (O.crew staff.operator).workers }
-    ensures runs { Runs (P.contents writer) (P.contents result.0)
+    ensures runs { Runs (P.strict writer) (P.contents writer) (P.contents result.0)
         (O.crew staff.operator).counted result.1 }
 {
+    let strict = writer.is_strict();
     let Ran {
         staff,
         writer,
-        memory,
+        found,
     } = run(rt, alloc, staff, commands, writer);
     let mut writer = writer;
-    match memory {
-        Ok(memory) => {
-            let status = finish(rt, alloc, staff, &mut writer, memory);
+    match found {
+        Ok(found) => {
+            let own = ended(strict, found);
+            let status = finish(rt, alloc, staff, &mut writer, own);
             return (writer, status);
         }
         Err(fault) => return (writer, broken(fault)),

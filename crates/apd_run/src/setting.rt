@@ -13,6 +13,8 @@ pub(crate) struct Setting<'a, W: Serving + Drop, R> {
     pub alloc: Global,
     pub desks: &'a [Desk<W>],
     pub signs: &'a Signs,
+    /// Whether a refused line ends the run after its interval.
+    pub strict: bool,
 }
 
 /// An operator with the workers that are at rest. Both say alike what a worker has counted.

@@ -16,7 +16,7 @@ pub struct HexText<'a> {
 }
 
 /// Whether all are hex digits. Each one is tested, since a loop without a branch is the fastest.
-fn are_digits(digits: &[u8]) -> bool
+pub(crate) fn are_digits(digits: &[u8]) -> bool
     ensures is { result ≡ list_all is_ascii_hexdigit digits.now }
 {
     let mut good = true;

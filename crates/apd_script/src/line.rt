@@ -28,7 +28,7 @@ fn cut_at_space(text: &str) -> (&str, &str)
 
 /// The first word of a text, and what follows it.
 #[tactic(auto, using(crate::proofs::Parts::empty, crate::proofs::Parts::some_word, crate::proofs::Parts::no_word))]
-fn next_word(text: &str) -> Option<(&str, &str)>
+pub(crate) fn next_word(text: &str) -> Option<(&str, &str)>
     ensures first { BeginsWith text.now result }
     ensures shorter { IfSome result (λ x. length x.1.now < length text.now) }
 {
@@ -44,7 +44,7 @@ fn next_word(text: &str) -> Option<(&str, &str)>
 }
 
 /// Puts the words of a text in order, and tells how many there are; None for more than four.
-fn cut_words<'a>(text: &'a str, cut: &mut [&'a str; 4]) -> Option<usize>
+pub(crate) fn cut_words<'a>(text: &'a str, cut: &mut [&'a str; 4]) -> Option<usize>
     ensures cut { IfSome result (λ count. words text.now ≡ texts (take count cut.new)) }
     ensures few { IfSome result (λ count. count ≤ 4) }
     ensures four { length cut.new ≡ 4 }

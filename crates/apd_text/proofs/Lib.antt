@@ -1,3 +1,4 @@
 pub mod Moves
 pub mod Listed
 pub mod Standing
+pub mod Rawly

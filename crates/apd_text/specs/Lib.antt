@@ -4,5 +4,6 @@ pub mod Order
 pub mod Moving
 pub mod Pages
 pub mod Listing
+pub mod Raw
 pub mod TraceLines
 pub mod Trace

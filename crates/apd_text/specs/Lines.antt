@@ -22,7 +22,7 @@ outs_text number outs = flat_map (λ out. line_of number (out_words out)) outs
 abbrev pub told_text : ℕ → Told → List ℕ
 told_text number (told.Handled outs dropped) = outs_text number outs.items
 told_text number told.Memory = line_of number (codes "memory")
-told_text number (told.Loaded budget) = line_of number (then (codes "loaded") (decimal budget))
+told_text number (told.Loaded budget slots) = line_of number (then (codes "loaded") (decimal budget))
 told_text number (told.Fault fault) = line_of number (fault_text fault)
 told_text number (told.Refused refusal) = line_of number (refusal_text refusal)
 told_text number (told.Certificate fault) =

@@ -24,13 +24,13 @@ port_of shapes draw = record { tables = map zeros shapes; clock = 0; stations = 
 abbrev pub Gives : Plain → Ask → ℕ → Plain → Type 0
 Gives p q a p2 = (a ≡ answer_of p q) × (p2 ≡ left_after p q)
 
--- The text of the program's run on the frame. Each step is made where an instruction starts, and there are no more
+-- The text of the program's run on the frame with the context. Each step is made where an instruction starts, and there are no more
 -- steps than the program's budget.
-pub record IsTrace (program : Verified) (frame : List ℕ) (draw : ℕ) (text : List ℕ) : Type 0 where
+pub record IsTrace (program : Verified) (frame context : List ℕ) (draw : ℕ) (text : List ℕ) : Type 0 where
   pub port : Plain
   pub log : List Step
   pub outcome : Outcome
-  pub run : Traced Gives (setting_of program.code frame (context_of program.hook))
+  pub run : Traced Gives (setting_of program.code frame context)
       (port_of program.code.shapes draw) port log outcome
   pub begins : All (λ step. Begins program.code.slots step.pc) log
   pub within : outcome.steps ≤ program.budget

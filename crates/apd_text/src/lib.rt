@@ -2,13 +2,19 @@
 //! pages on refusals.
 #![tactic(auto)]
 
+mod contexts;
 mod listing;
+mod numbers;
+mod raw;
 mod reasons;
 mod refusals;
 mod reports;
 mod trace;
 
+pub use contexts::{ContextFault, context_for};
 pub use listing::listing_text;
+pub use numbers::{list_text, ranges_text};
+pub use raw::{raw_faults, raw_text};
 pub use reasons::{fault_text, insn_text, reason_text};
 pub use refusals::{Example, Explanation, explain, page_text};
 pub use reports::{PrintFault, Report, Told, print_reports, print_totals, put_in_order};

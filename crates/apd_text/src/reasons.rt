@@ -5,6 +5,8 @@
 //! found. The texts are shown by tests; nothing is promised of them.
 mod access;
 mod costs;
+mod cure;
+mod curing;
 mod reason;
 mod refusal;
 mod values;

@@ -8,7 +8,7 @@ use Rattle.clap.specs.declared.builder.value_parser.ValueParser.TheVariants.{Nam
 use Rattle.clap.specs.declared.parser.matches.ArgMatches.{ArgMatches}
 use Rattle.std.specs.Borrow.{Bor}
 use Rattle.apd_words.specs.CommandLine.{command_line}
-use Rattle.apd_words.specs.Asked.{Asked, asked_of, asked_in}
+use Rattle.apd_words.specs.Asked.{Wanted, wanted_of, wanted_in}
 use Rattle.apd_words.specs.Reads.{AsksFor, Reads, IsHelp, WantsText, TellsOf, TellsOfKind, TellsNoHelp}
 use Rattle.apd_words.specs.Spells.{Spells, IsReadAs}
 use Rattle.std.proofs.lemmas.Option.{same_Some}
@@ -34,21 +34,21 @@ module _ (hooks numbers : Bor (List (Bor Text))) (app : App) (words : List Text)
   free = ap is_simple_and_free is ∙ is_free_line hooks numbers
 
   -- what the matches ask for is what the words ask for
-  asked_is : (m : ArgMatches) (o : Option Asked) → HasMatchesOf app words m → o ≡ asked_in (subcommand_rows_of m) → asked_in (subcommand_of line words) ≡ o
-  asked_is m o has asks = sym (asks ∙ ap asked_in ((has simple).1 ∙ ap (λ (a : App). subcommand_of a words) is))
+  asked_is : (m : ArgMatches) (o : Option Wanted) → HasMatchesOf app words m → o ≡ wanted_in (subcommand_rows_of m) → wanted_in (subcommand_of line words) ≡ o
+  asked_is m o has asks = sym (asks ∙ ap wanted_in ((has simple).1 ∙ ap (λ (a : App). subcommand_of a words) is))
 
-  pub AsksFor-parsed : (m : ArgMatches) (r : Option Request) (request : Request) → HasMatchesOf app words m → (is_simple_and_free app ≡ true → fault_of app words ≡ []) → option_map asked_of r ≡ asked_in (subcommand_rows_of m) → r ≡ Some request
-      → AsksFor (Names hooks) (Names numbers) words (asked_of request)
+  pub AsksFor-parsed : (m : ArgMatches) (r : Option Request) (request : Request) → HasMatchesOf app words m → (is_simple_and_free app ≡ true → fault_of app words ≡ []) → option_map wanted_of r ≡ wanted_in (subcommand_rows_of m) → r ≡ Some request
+      → AsksFor (Names hooks) (Names numbers) words (wanted_of request)
   AsksFor-parsed m r request has faultless asks some = record {
     faultless = ap (λ (a : App). fault_of a words) (sym is) ∙ faultless free;
-    asked = asked_is m _ has asks ∙ ap (option_map asked_of) some;
+    asked = asked_is m _ has asks ∙ ap (option_map wanted_of) some;
   }
 
-  asks_nothing : (m : ArgMatches) (r : Option Request) → HasMatchesOf app words m → option_map asked_of r ≡ asked_in (subcommand_rows_of m) → r ≡ None → (a : Asked) → AsksFor (Names hooks) (Names numbers) words a → ⊥
+  asks_nothing : (m : ArgMatches) (r : Option Request) → HasMatchesOf app words m → option_map wanted_of r ≡ wanted_in (subcommand_rows_of m) → r ≡ None → (a : Wanted) → AsksFor (Names hooks) (Names numbers) words a → ⊥
   asks_nothing m r has asks none a h =
-      let bad : None ≡ Some a = sym (ap (option_map asked_of) none) ∙ sym (asked_is m _ has asks) ∙ h.asked in cc
+      let bad : None ≡ Some a = sym (ap (option_map wanted_of) none) ∙ sym (asked_is m _ has asks) ∙ h.asked in cc
 
-  pub TellsOf-incomplete : (m : ArgMatches) (r : Option Request) (t : Told) → HasMatchesOf app words m → option_map asked_of r ≡ asked_in (subcommand_rows_of m) → r ≡ None → TellsNoHelp t → TellsOf (Names hooks) (Names numbers) words t
+  pub TellsOf-incomplete : (m : ArgMatches) (r : Option Request) (t : Told) → HasMatchesOf app words m → option_map wanted_of r ≡ wanted_in (subcommand_rows_of m) → r ≡ None → TellsNoHelp t → TellsOf (Names hooks) (Names numbers) words t
   TellsOf-incomplete m r (Help text) has asks none tells = absurd tells
   TellsOf-incomplete m r (Fault text) has asks none tells = asks_nothing m r has asks none
   TellsOf-incomplete m r NoMemory has asks none tells = tt
@@ -57,7 +57,7 @@ module _ (hooks numbers : Bor (List (Bor Text))) (app : App) (words : List Text)
   among_line k among = let P : App → Type 0 = λ a. IsAmong k (fault_of a words) in subst P is among
 
   -- a kind that is among the faults is none of words that ask for something
-  no_fault : (k : ErrorKind) (a : Asked) → IsAmong k (fault_of line words) → AsksFor (Names hooks) (Names numbers) words a → ⊥
+  no_fault : (k : ErrorKind) (a : Wanted) → IsAmong k (fault_of line words) → AsksFor (Names hooks) (Names numbers) words a → ⊥
   no_fault k a among h = let P : Kinds → Type 0 = λ kinds. IsAmong k kinds in subst P h.faultless among
 
   helps : (k : ErrorKind) → WantsText k → (k ≡ OutOfMemory) ⊎ IsAmong k (fault_of app words) → IsHelp (Names hooks) (Names numbers) words
@@ -65,7 +65,7 @@ module _ (hooks numbers : Bor (List (Bor Text))) (app : App) (words : List Text)
   helps k (inr version) (inl memory) = let bad : DisplayVersion ≡ OutOfMemory = sym version ∙ memory in cc
   helps k wants (inr among) = record { kind = k; wants = wants; among = among_line k among }
 
-  faults : (k : ErrorKind) → k ≢ OutOfMemory → (k ≡ OutOfMemory) ⊎ IsAmong k (fault_of app words) → (a : Asked) → AsksFor (Names hooks) (Names numbers) words a → ⊥
+  faults : (k : ErrorKind) → k ≢ OutOfMemory → (k ≡ OutOfMemory) ⊎ IsAmong k (fault_of app words) → (a : Wanted) → AsksFor (Names hooks) (Names numbers) words a → ⊥
   faults k other (inl memory) a h = other memory
   faults k other (inr among) a h = no_fault k a (among_line k among) h
 
@@ -75,7 +75,7 @@ module _ (hooks numbers : Bor (List (Bor Text))) (app : App) (words : List Text)
   TellsOf-refused e NoMemory has tells = tt
 
 -- words that always ask for something are read as that
-pub IsReadAs-spelled : (words : List Text) (r : Result Request Told) (a : Asked) → Reads words r → Spells words a → IsReadAs a r
+pub IsReadAs-spelled : (words : List Text) (r : Result Request Told) (a : Wanted) → Reads words r → Spells words a → IsReadAs a r
 IsReadAs-spelled words (Ok request) a reads spells =
     same_Some _ _ (sym reads.at.asked ∙ (spells reads.hooks reads.numbers reads.takes_hooks reads.takes_numbers).asked)
 IsReadAs-spelled words (Err (Help text)) a reads spells =

@@ -1,10 +1,12 @@
 -- Words in their usual order are taken, and ask for what they spell.
-use Rattle.std.proofs.Common.{◌≡◌, ◌==◌, ◌∙◌, ℕ, Bool, true, false, if◌then◌else◌, List, [], ◌∷◌, Option, Some, None, refl, ap, codes, option_and_then}
+use Rattle.std.proofs.Common.{◌≡◌, ◌==◌, ◌∙◌, ℕ, Bool, true, false, if◌then◌else◌, List, [], ◌∷◌, Option, Some, None, refl, ap, ap₂, codes, option_and_then, option_map}
 use Rattle.std.specs.Str.{bytes_eq}
 use Rattle.std.specs.List.{list_any}
 use Rattle.std.proofs.lemmas.Bool.{ne_eqb}
 use Rattle.clap.specs.ValueTests.{accepts, is_unsigned_in}
-use Rattle.clap.specs.Walk.{Held, Text, Walk, finished, nothing_held}
+use Rattle.clap.specs.Kinds.{or_else}
+use Rattle.clap.specs.Faults.{check_fault, defaults_fault, settle_fault}
+use Rattle.clap.specs.Walk.{Held, Row, Text, Walk, finished, first_of, nothing_held, settled}
 use Rattle.clap.specs.Simple.{Shape, built, built_leaf, inherited}
 use Rattle.clap.specs.declared.builder.value_parser.ValueParser.{ValueParser}
 use Rattle.clap.specs.declared.builder.value_parser.ValueParser.TheVariants.{Unsigned}
@@ -14,7 +16,7 @@ use Rattle.bpf_regions.specs.Hooks.{name_of}
 use Rattle.bpf_regions.specs.declared.hooks.Hook.{Hook}
 use Rattle.bpf_regions.specs.declared.hooks.Hook.TheVariants.{Association, Addba, Data}
 use Rattle.apd_words.specs.CommandLine.{command_line, hook_names, most_states, program as commands, verify, assemble, disassemble, trace, TakesNames}
-use Rattle.apd_words.specs.Asked.{Asked, Verify, Assemble, Disassemble, Trace, asked_in, hook_named, states_named}
+use Rattle.apd_words.specs.Asked.{Asked, Verify, Assemble, Disassemble, Trace, Answer, answers_to, command_asks, hook_named, run_of, states_named, wanted_in}
 use Rattle.apd_words.specs.Spells.{IsOperand, Spells}
 use Rattle.apd_words.proofs.Level.{Enters, IsPlain, Passes, and_then, before_value, between, command_gives, command_passes, end_fault, first_operand, level_passes, next_operand, no_more, option_given, option_named, plain_then, value_then}
 
@@ -63,6 +65,12 @@ hook_is_named Association asks = refl
 hook_is_named Addba asks = refl
 hook_is_named Data asks = refl
 
+-- what a command asks for is answered on standard output where no file is named for it
+answered : (name : Text) (rows : List Row) {a : Asked} → bytes_eq name (codes "run") ≡ false → command_asks name rows ≡ Some a → first_of (codes "output") rows ≡ None
+    → wanted_in (Some (name, rows)) ≡ Some (Answer a None)
+answered name rows {a} other asks none =
+    ap (λ b. (if b then run_of rows else answers_to name rows)) other ∙ ap₂ (λ q o. option_map (λ asked. Answer asked o) q) asks none
+
 -- ---- verify
 
 verify_enters : (p q : ValueParser) → Enters (built (command_line p q)) (codes "verify") (leaf (verify p))
@@ -97,12 +105,12 @@ unfolding clap_on_literals
 verify_with_ends p name file config = refl
 
 verify_asks : (p : ValueParser) (name file : Text)
-    → asked_in (Some ((leaf (verify p)).name, finished (leaf (verify p)).rules (verified p name file))) ≡ by_hook (λ hook. Verify hook file None most_states) name
+    → command_asks (leaf (verify p)).name (finished (leaf (verify p)).rules (verified p name file)) ≡ by_hook (λ hook. Verify hook file None most_states) name
 unfolding clap_on_literals
 verify_asks p name file = refl
 
 verify_with_asks : (p : ValueParser) (name file config : Text)
-    → asked_in (Some ((leaf (verify p)).name, finished (leaf (verify p)).rules (verified_with p name file config))) ≡ by_hook (λ hook. Verify hook file (Some config) most_states) name
+    → command_asks (leaf (verify p)).name (finished (leaf (verify p)).rules (verified_with p name file config)) ≡ by_hook (λ hook. Verify hook file (Some config) most_states) name
 unfolding clap_on_literals
 verify_with_asks p name file config = refl
 
@@ -123,39 +131,56 @@ unfolding clap_on_literals
 verify_within_ends p name file number a = rw a refl
 
 verify_within_asks : (p : ValueParser) (name file number : Text)
-    → asked_in (Some ((leaf (verify p)).name, finished (leaf (verify p)).rules (verified_within p name file number)))
+    → command_asks (leaf (verify p)).name (finished (leaf (verify p)).rules (verified_within p name file number))
     ≡ option_and_then (λ hook. option_and_then (λ n. Some (Verify hook file None n)) (states_named number)) (hook_named name)
 unfolding clap_on_literals
 verify_within_asks p name file number = refl
 
-pub verify_plain : (program file : Text) (hook : Hook) → IsOperand file → Spells (program ∷ codes "verify" ∷ name_of hook ∷ file ∷ []) (Verify hook file None most_states)
+verify_is_other : (p : ValueParser) → bytes_eq (leaf (verify p)).name (codes "run") ≡ false
+unfolding clap_on_literals
+verify_is_other p = refl
+
+verify_output : (p : ValueParser) (name file : Text) → first_of (codes "output") (finished (leaf (verify p)).rules (verified p name file)) ≡ None
+unfolding clap_on_literals
+verify_output p name file = refl
+
+verify_with_output : (p : ValueParser) (name file config : Text) → first_of (codes "output") (finished (leaf (verify p)).rules (verified_with p name file config)) ≡ None
+unfolding clap_on_literals
+verify_with_output p name file config = refl
+
+verify_within_output : (p : ValueParser) (name file number : Text) → first_of (codes "output") (finished (leaf (verify p)).rules (verified_within p name file number)) ≡ None
+unfolding clap_on_literals
+verify_within_output p name file number = refl
+
+pub verify_plain : (program file : Text) (hook : Hook) → IsOperand file → Spells (program ∷ codes "verify" ∷ name_of hook ∷ file ∷ []) (Answer (Verify hook file None most_states) None)
 verify_plain program file hook f p q t u =
     let name = name_of hook in
     let passes = verify_operands p name file (taken p hook t) (named hook) (plain file f) (no_more _ _) in
     record {
       faultless = command_passes (verify_enters p q) (name ∷ file ∷ []) (level_passes passes (verify_ends p name file));
-      asked = ap asked_in (command_gives (verify_enters p q) passes) ∙ verify_asks p name file ∙ hook_is_named hook (λ it. Verify it file None most_states);
+      asked = ap wanted_in (command_gives (verify_enters p q) passes) ∙ answered (leaf (verify p)).name (finished (leaf (verify p)).rules (verified p name file)) (verify_is_other p) (verify_asks p name file ∙ hook_is_named hook (λ it. Verify it file None most_states)) (verify_output p name file);
     }
 
 pub verify_configured : (program file config : Text) (hook : Hook) → IsOperand file → IsOperand config
-    → Spells (program ∷ codes "verify" ∷ name_of hook ∷ file ∷ codes "--config" ∷ config ∷ []) (Verify hook file (Some config) most_states)
+    → Spells (program ∷ codes "verify" ∷ name_of hook ∷ file ∷ codes "--config" ∷ config ∷ []) (Answer (Verify hook file (Some config) most_states) None)
 verify_configured program file config hook f c p q t u =
     let name = name_of hook in
     let passes = verify_operands p name file (taken p hook t) (named hook) (plain file f) (verify_option p name file config (plain config c)) in
     record {
       faultless = command_passes (verify_enters p q) (name ∷ file ∷ codes "--config" ∷ config ∷ []) (level_passes passes (verify_with_ends p name file config));
-      asked = ap asked_in (command_gives (verify_enters p q) passes) ∙ verify_with_asks p name file config ∙ hook_is_named hook (λ it. Verify it file (Some config) most_states);
+      asked = ap wanted_in (command_gives (verify_enters p q) passes) ∙ answered (leaf (verify p)).name (finished (leaf (verify p)).rules (verified_with p name file config)) (verify_is_other p) (verify_with_asks p name file config ∙ hook_is_named hook (λ it. Verify it file (Some config) most_states)) (verify_with_output p name file config);
     }
 
 pub verify_limited : (program file number : Text) (hook : Hook) (n : ℕ) → IsOperand file → IsOperand number → states_named number ≡ Some n
-    → Spells (program ∷ codes "verify" ∷ name_of hook ∷ file ∷ codes "--states" ∷ number ∷ []) (Verify hook file None n)
+    → Spells (program ∷ codes "verify" ∷ name_of hook ∷ file ∷ codes "--states" ∷ number ∷ []) (Answer (Verify hook file None n) None)
 verify_limited program file number hook n f c e p q t u =
     let name = name_of hook in
     let passes = verify_operands p name file (taken p hook t) (named hook) (plain file f) (verify_limit p name file number (plain number c)) in
     record {
       faultless = command_passes (verify_enters p q) (name ∷ file ∷ codes "--states" ∷ number ∷ []) (level_passes passes (verify_within_ends p name file number (accepted number n e)));
-      asked = ap asked_in (command_gives (verify_enters p q) passes) ∙ verify_within_asks p name file number
-          ∙ ap (λ o. option_and_then (λ it. option_and_then (λ m. Some (Verify it file None m)) o) (hook_named name)) e ∙ hook_is_named hook (λ it. Verify it file None n);
+      asked = ap wanted_in (command_gives (verify_enters p q) passes) ∙ answered (leaf (verify p)).name (finished (leaf (verify p)).rules (verified_within p name file number)) (verify_is_other p) (verify_within_asks p name file number
+          ∙ ap (λ o. option_and_then (λ it. option_and_then (λ m. Some (Verify it file None m)) o) (hook_named name)) e ∙ hook_is_named hook (λ it. Verify it file None n))
+          (verify_within_output p name file number);
     }
 
 -- ---- asm
@@ -172,16 +197,24 @@ assemble_ends : (file : Text) → end_fault (leaf assemble) (first_operand (code
 unfolding clap_on_literals
 assemble_ends file = refl
 
-assemble_asks : (file : Text) → asked_in (Some ((leaf assemble).name, finished (leaf assemble).rules (first_operand (codes "FILE") file))) ≡ Some (Assemble file)
+assemble_asks : (file : Text) → command_asks (leaf assemble).name (finished (leaf assemble).rules (first_operand (codes "FILE") file)) ≡ Some (Assemble file)
 unfolding clap_on_literals
 assemble_asks file = refl
 
-pub assemble_plain : (program file : Text) → IsOperand file → Spells (program ∷ codes "asm" ∷ file ∷ []) (Assemble file)
+assemble_is_other : bytes_eq (leaf assemble).name (codes "run") ≡ false
+unfolding clap_on_literals
+assemble_is_other = refl
+
+assemble_output : (file : Text) → first_of (codes "output") (finished (leaf assemble).rules (first_operand (codes "FILE") file)) ≡ None
+unfolding clap_on_literals
+assemble_output file = refl
+
+pub assemble_plain : (program file : Text) → IsOperand file → Spells (program ∷ codes "asm" ∷ file ∷ []) (Answer (Assemble file) None)
 assemble_plain program file f p q t u =
     let passes = assemble_passes file (plain file f) in
     record {
       faultless = command_passes (assemble_enters p q) (file ∷ []) (level_passes passes (assemble_ends file));
-      asked = ap asked_in (command_gives (assemble_enters p q) passes) ∙ assemble_asks file;
+      asked = ap wanted_in (command_gives (assemble_enters p q) passes) ∙ answered (leaf assemble).name (finished (leaf assemble).rules (first_operand (codes "FILE") file)) assemble_is_other (assemble_asks file) (assemble_output file);
     }
 
 -- ---- disasm
@@ -217,30 +250,42 @@ disassemble_with_ends : (file config : Text) → end_fault (leaf disassemble) (l
 unfolding clap_on_literals
 disassemble_with_ends file config = refl
 
-disassemble_asks : (file : Text) → asked_in (Some ((leaf disassemble).name, finished (leaf disassemble).rules (listed file))) ≡ Some (Disassemble file None false)
+disassemble_asks : (file : Text) → command_asks (leaf disassemble).name (finished (leaf disassemble).rules (listed file)) ≡ Some (Disassemble file None false)
 unfolding clap_on_literals
 disassemble_asks file = refl
 
 disassemble_with_asks : (file config : Text)
-    → asked_in (Some ((leaf disassemble).name, finished (leaf disassemble).rules (listed_with file config))) ≡ Some (Disassemble file (Some config) false)
+    → command_asks (leaf disassemble).name (finished (leaf disassemble).rules (listed_with file config)) ≡ Some (Disassemble file (Some config) false)
 unfolding clap_on_literals
 disassemble_with_asks file config = refl
 
-pub disassemble_plain : (program file : Text) → IsOperand file → Spells (program ∷ codes "disasm" ∷ file ∷ []) (Disassemble file None false)
+disassemble_is_other : bytes_eq (leaf disassemble).name (codes "run") ≡ false
+unfolding clap_on_literals
+disassemble_is_other = refl
+
+disassemble_output : (file : Text) → first_of (codes "output") (finished (leaf disassemble).rules (listed file)) ≡ None
+unfolding clap_on_literals
+disassemble_output file = refl
+
+disassemble_with_output : (file config : Text) → first_of (codes "output") (finished (leaf disassemble).rules (listed_with file config)) ≡ None
+unfolding clap_on_literals
+disassemble_with_output file config = refl
+
+pub disassemble_plain : (program file : Text) → IsOperand file → Spells (program ∷ codes "disasm" ∷ file ∷ []) (Answer (Disassemble file None false) None)
 disassemble_plain program file f p q t u =
     let passes = disassemble_operand file (plain file f) (no_more _ _) in
     record {
       faultless = command_passes (disassemble_enters p q) (file ∷ []) (level_passes passes (disassemble_ends file));
-      asked = ap asked_in (command_gives (disassemble_enters p q) passes) ∙ disassemble_asks file;
+      asked = ap wanted_in (command_gives (disassemble_enters p q) passes) ∙ answered (leaf disassemble).name (finished (leaf disassemble).rules (listed file)) disassemble_is_other (disassemble_asks file) (disassemble_output file);
     }
 
 pub disassemble_configured : (program file config : Text) → IsOperand file → IsOperand config
-    → Spells (program ∷ codes "disasm" ∷ file ∷ codes "--config" ∷ config ∷ []) (Disassemble file (Some config) false)
+    → Spells (program ∷ codes "disasm" ∷ file ∷ codes "--config" ∷ config ∷ []) (Answer (Disassemble file (Some config) false) None)
 disassemble_configured program file config f c p q t u =
     let passes = disassemble_operand file (plain file f) (disassemble_option file config (plain config c)) in
     record {
       faultless = command_passes (disassemble_enters p q) (file ∷ codes "--config" ∷ config ∷ []) (level_passes passes (disassemble_with_ends file config));
-      asked = ap asked_in (command_gives (disassemble_enters p q) passes) ∙ disassemble_with_asks file config;
+      asked = ap wanted_in (command_gives (disassemble_enters p q) passes) ∙ answered (leaf disassemble).name (finished (leaf disassemble).rules (listed_with file config)) disassemble_is_other (disassemble_with_asks file config) (disassemble_with_output file config);
     }
 
 -- ---- trace
@@ -277,12 +322,12 @@ unfolding clap_on_literals
 trace_with_ends p name file frame config = refl
 
 trace_asks : (p : ValueParser) (name file frame : Text)
-    → asked_in (Some ((leaf (trace p)).name, finished (leaf (trace p)).rules (traced p name file frame))) ≡ by_hook (λ hook. Trace hook file frame None most_states) name
+    → command_asks (leaf (trace p)).name (finished (leaf (trace p)).rules (traced p name file frame)) ≡ by_hook (λ hook. Trace hook file frame None most_states None false) name
 unfolding clap_on_literals
 trace_asks p name file frame = refl
 
 trace_with_asks : (p : ValueParser) (name file frame config : Text)
-    → asked_in (Some ((leaf (trace p)).name, finished (leaf (trace p)).rules (traced_with p name file frame config))) ≡ by_hook (λ hook. Trace hook file frame (Some config) most_states) name
+    → command_asks (leaf (trace p)).name (finished (leaf (trace p)).rules (traced_with p name file frame config)) ≡ by_hook (λ hook. Trace hook file frame (Some config) most_states None false) name
 unfolding clap_on_literals
 trace_with_asks p name file frame config = refl
 
@@ -297,44 +342,70 @@ trace_limit p name file frame number c =
     and_then {v = before_value (option_named (leaf (trace p)) (codes "states") (traced p name file frame)) (codes "states") 4} (codes "--states") refl refl
     (value_then 4 number c refl (no_more _ _))
 
+trace_within_settles : (p : ValueParser) (name file frame number : Text) → accepts false (Unsigned 1 most_states) number ≡ true
+    → settle_fault (leaf (trace p)).rules (leaf (trace p)).args_override_self (traced_within p name file frame number) ≡ []
+unfolding clap_on_literals
+trace_within_settles p name file frame number a = rw a refl
+
 trace_within_ends : (p : ValueParser) (name file frame number : Text) → accepts false (Unsigned 1 most_states) number ≡ true
     → end_fault (leaf (trace p)) (traced_within p name file frame number) false ≡ []
 unfolding clap_on_literals
-trace_within_ends p name file frame number a = rw a refl
+trace_within_ends p name file frame number a =
+    let s = leaf (trace p) in
+    let held = traced_within p name file frame number in
+    ap (λ faults. or_else faults (or_else (defaults_fault (settled s.rules held).rows s.rules) (check_fault s (finished s.rules held) false)))
+    (trace_within_settles p name file frame number a)
 
 trace_within_asks : (p : ValueParser) (name file frame number : Text)
-    → asked_in (Some ((leaf (trace p)).name, finished (leaf (trace p)).rules (traced_within p name file frame number)))
-    ≡ option_and_then (λ hook. option_and_then (λ n. Some (Trace hook file frame None n)) (states_named number)) (hook_named name)
+    → command_asks (leaf (trace p)).name (finished (leaf (trace p)).rules (traced_within p name file frame number))
+    ≡ option_and_then (λ hook. option_and_then (λ n. Some (Trace hook file frame None n None false)) (states_named number)) (hook_named name)
 unfolding clap_on_literals
 trace_within_asks p name file frame number = refl
 
+trace_is_other : (p : ValueParser) → bytes_eq (leaf (trace p)).name (codes "run") ≡ false
+unfolding clap_on_literals
+trace_is_other p = refl
+
+trace_output : (p : ValueParser) (name file frame : Text) → first_of (codes "output") (finished (leaf (trace p)).rules (traced p name file frame)) ≡ None
+unfolding clap_on_literals
+trace_output p name file frame = refl
+
+trace_with_output : (p : ValueParser) (name file frame config : Text) → first_of (codes "output") (finished (leaf (trace p)).rules (traced_with p name file frame config)) ≡ None
+unfolding clap_on_literals
+trace_with_output p name file frame config = refl
+
+trace_within_output : (p : ValueParser) (name file frame number : Text) → first_of (codes "output") (finished (leaf (trace p)).rules (traced_within p name file frame number)) ≡ None
+unfolding clap_on_literals
+trace_within_output p name file frame number = refl
+
 pub trace_plain : (program file frame : Text) (hook : Hook) → IsOperand file → IsOperand frame
-    → Spells (program ∷ codes "trace" ∷ name_of hook ∷ file ∷ frame ∷ []) (Trace hook file frame None most_states)
+    → Spells (program ∷ codes "trace" ∷ name_of hook ∷ file ∷ frame ∷ []) (Answer (Trace hook file frame None most_states None false) None)
 trace_plain program file frame hook f g p q t u =
     let name = name_of hook in
     let passes = trace_operands p name file frame (taken p hook t) (named hook) (plain file f) (plain frame g) (no_more _ _) in
     record {
       faultless = command_passes (trace_enters p q) (name ∷ file ∷ frame ∷ []) (level_passes passes (trace_ends p name file frame));
-      asked = ap asked_in (command_gives (trace_enters p q) passes) ∙ trace_asks p name file frame ∙ hook_is_named hook (λ it. Trace it file frame None most_states);
+      asked = ap wanted_in (command_gives (trace_enters p q) passes) ∙ answered (leaf (trace p)).name (finished (leaf (trace p)).rules (traced p name file frame)) (trace_is_other p) (trace_asks p name file frame ∙ hook_is_named hook (λ it. Trace it file frame None most_states None false)) (trace_output p name file frame);
     }
 
 pub trace_configured : (program file frame config : Text) (hook : Hook) → IsOperand file → IsOperand frame → IsOperand config
-    → Spells (program ∷ codes "trace" ∷ name_of hook ∷ file ∷ frame ∷ codes "--config" ∷ config ∷ []) (Trace hook file frame (Some config) most_states)
+    → Spells (program ∷ codes "trace" ∷ name_of hook ∷ file ∷ frame ∷ codes "--config" ∷ config ∷ []) (Answer (Trace hook file frame (Some config) most_states None false) None)
 trace_configured program file frame config hook f g c p q t u =
     let name = name_of hook in
     let passes = trace_operands p name file frame (taken p hook t) (named hook) (plain file f) (plain frame g) (trace_option p name file frame config (plain config c)) in
     record {
       faultless = command_passes (trace_enters p q) (name ∷ file ∷ frame ∷ codes "--config" ∷ config ∷ []) (level_passes passes (trace_with_ends p name file frame config));
-      asked = ap asked_in (command_gives (trace_enters p q) passes) ∙ trace_with_asks p name file frame config ∙ hook_is_named hook (λ it. Trace it file frame (Some config) most_states);
+      asked = ap wanted_in (command_gives (trace_enters p q) passes) ∙ answered (leaf (trace p)).name (finished (leaf (trace p)).rules (traced_with p name file frame config)) (trace_is_other p) (trace_with_asks p name file frame config ∙ hook_is_named hook (λ it. Trace it file frame (Some config) most_states None false)) (trace_with_output p name file frame config);
     }
 
 pub trace_limited : (program file frame number : Text) (hook : Hook) (n : ℕ) → IsOperand file → IsOperand frame → IsOperand number → states_named number ≡ Some n
-    → Spells (program ∷ codes "trace" ∷ name_of hook ∷ file ∷ frame ∷ codes "--states" ∷ number ∷ []) (Trace hook file frame None n)
+    → Spells (program ∷ codes "trace" ∷ name_of hook ∷ file ∷ frame ∷ codes "--states" ∷ number ∷ []) (Answer (Trace hook file frame None n None false) None)
 trace_limited program file frame number hook n f g c e p q t u =
     let name = name_of hook in
     let passes = trace_operands p name file frame (taken p hook t) (named hook) (plain file f) (plain frame g) (trace_limit p name file frame number (plain number c)) in
     record {
       faultless = command_passes (trace_enters p q) (name ∷ file ∷ frame ∷ codes "--states" ∷ number ∷ []) (level_passes passes (trace_within_ends p name file frame number (accepted number n e)));
-      asked = ap asked_in (command_gives (trace_enters p q) passes) ∙ trace_within_asks p name file frame number
-          ∙ ap (λ o. option_and_then (λ it. option_and_then (λ m. Some (Trace it file frame None m)) o) (hook_named name)) e ∙ hook_is_named hook (λ it. Trace it file frame None n);
+      asked = ap wanted_in (command_gives (trace_enters p q) passes) ∙ answered (leaf (trace p)).name (finished (leaf (trace p)).rules (traced_within p name file frame number)) (trace_is_other p) (trace_within_asks p name file frame number
+          ∙ ap (λ o. option_and_then (λ it. option_and_then (λ m. Some (Trace it file frame None m None false)) o) (hook_named name)) e ∙ hook_is_named hook (λ it. Trace it file frame None n None false))
+          (trace_within_output p name file frame number);
     }

@@ -9,23 +9,34 @@ use Rattle.clap.specs.Words.{Row, Text, first_of}
 use Rattle.bpf_regions.specs.declared.hooks.Hook.{Hook}
 use Rattle.bpf_regions.specs.declared.hooks.Hook.TheVariants.{Association, Addba, Data}
 use Rattle.apd_words.specs.CommandLine.{most_states}
+use Rattle.apd_words.specs.declared.Claim.{Claim}
+use Rattle.apd_words.specs.declared.Query.{Query}
+use Rattle.apd_words.specs.declared.Question.{Question}
 use Rattle.apd_words.specs.declared.Request.{Request}
+use Rattle.apd_words.specs.declared.ScriptRun.{ScriptRun}
 use Rattle.apd_words.specs.declared.Source.{Source}
 use Rattle.apd_words.specs.declared.Subject.{Subject}
+use Rattle.apd_words.specs.declared.Trial.{Trial}
+use Rattle.apd_words.specs.declared.Question.TheVariants as question
 use Rattle.apd_words.specs.declared.Request.TheVariants as request
 
--- a request, with its words as texts
+-- a question, with its words as texts
 pub data Asked : Type 0 where
   Verify : Hook → Text → Option Text → ℕ → Asked
   Assemble : Text → Asked
   Disassemble : Text → Option Text → Bool → Asked
-  Trace : Hook → Text → Text → Option Text → ℕ → Asked
-  Run : Text → Text → ℕ → ℕ → Bool → Asked
+  ListRaw : Text → Option Text → Bool → Asked
+  Trace : Hook → Text → Text → Option Text → ℕ → Option Text → Bool → Asked
   Certify : Hook → Text → Option Text → ℕ → Asked
   Check : Hook → Text → Text → Option Text → Asked
-  Explain : Text → Asked
+  Explain : Option Text → Asked
   Frames : Text → Bool → Asked
   Help : Option Text → Asked
+
+-- the run of a script, or the answer to a question, with the file that it is for, if it is for one
+pub data Wanted : Type 0 where
+  Run : Text → Text → ℕ → ℕ → Bool → Bool → Bool → Wanted
+  Answer : Asked → Option Text → Wanted
 
 -- the text of a word, if there is one
 abbrev pub text_of : Option (Bor Text) → Option Text
@@ -48,10 +59,16 @@ asked_verdict subject =
 abbrev pub asked_listing : Source → Bool → Asked
 asked_listing source slots = Disassemble source.file.now (config_of source) slots
 
--- the run of a subject on a frame
-abbrev pub asked_run : Subject → Text → Asked
-asked_run subject frame =
-    Trace subject.terms.hook subject.source.file.now frame (config_of subject.source) subject.terms.states
+-- the same of all slots, also those that are no instructions
+abbrev pub asked_slots : Source → Bool → Asked
+asked_slots source slots = ListRaw source.file.now (config_of source) slots
+
+-- the run of a subject on a frame, with what it is told
+abbrev pub asked_run : Trial → Asked
+asked_run trial =
+    Trace trial.subject.terms.hook trial.subject.source.file.now trial.frame.now
+    (config_of trial.subject.source) trial.subject.terms.states
+    (text_of trial.given.context) trial.given.from_frame
 
 -- the certificate of a subject
 abbrev pub asked_certificate : Subject → Asked
@@ -59,22 +76,36 @@ asked_certificate subject =
     Certify subject.terms.hook subject.source.file.now (config_of subject.source) subject.terms.states
 
 -- what a certificate shows of a source, for a hook
-abbrev pub asked_check : Hook → Source → Text → Asked
-asked_check hook source certificate = Check hook source.file.now certificate (config_of source)
+abbrev pub asked_check : Claim → Asked
+asked_check claim =
+    Check claim.hook claim.source.file.now claim.certificate.now (config_of claim.source)
 
--- what a request asks for; `--explain` asks for nothing but a text on standard error
-abbrev pub asked_of : Request → Asked
-asked_of (request.Verify subject explain) = asked_verdict subject
-asked_of (request.Assemble file) = Assemble file.now
-asked_of (request.Disassemble source slots) = asked_listing source slots
-asked_of (request.Trace subject frame) = asked_run subject frame.now
-asked_of (request.Run config script workers states quiet) =
-    Run config.now script.now workers states quiet
-asked_of (request.Certify subject) = asked_certificate subject
-asked_of (request.Check hook source certificate) = asked_check hook source certificate.now
-asked_of (request.Explain number) = Explain number.now
-asked_of (request.Frames capture ticks) = Frames capture.now ticks
-asked_of (request.Help command) = Help (text_of command)
+-- what a question asks for; `--explain` asks for nothing but a text on standard error
+abbrev pub asked_of : Question → Asked
+asked_of (question.Verify subject explain) = asked_verdict subject
+asked_of (question.Assemble file) = Assemble file.now
+asked_of (question.Disassemble source slots) = asked_listing source slots
+asked_of (question.ListRaw source slots) = asked_slots source slots
+asked_of (question.Trace trial) = asked_run trial
+asked_of (question.Certify subject) = asked_certificate subject
+asked_of (question.Check claim) = asked_check claim
+asked_of (question.Explain number) = Explain (text_of number)
+asked_of (question.Frames capture ticks) = Frames capture.now ticks
+asked_of (question.Help command) = Help (text_of command)
+
+-- the run of a script
+abbrev pub wanted_run : ScriptRun → Wanted
+wanted_run run =
+    Run run.config.now run.script.now run.workers run.states run.quiet run.strict run.verbose
+
+-- the answer to a question
+abbrev pub wanted_answer : Query → Wanted
+wanted_answer query = Answer (asked_of query.question) (text_of query.output)
+
+-- what a request wants
+abbrev pub wanted_of : Request → Wanted
+wanted_of (request.Run run) = wanted_run run
+wanted_of (request.Answer query) = wanted_answer query
 
 infixl 10 ◌>>=◌
 -- what follows from a part that is there
@@ -128,29 +159,34 @@ assemble_of rows = do
   file ← first_of (codes "FILE") rows
   Some (Assemble file)
 
--- `disasm FILE [--config C] [--slots]`
+-- `disasm FILE [--config C] [--slots] [--raw]`
 abbrev pub disassemble_of : List Row → Option Asked
 disassemble_of rows = do
   file ← first_of (codes "FILE") rows
-  Some (Disassemble file (first_of (codes "config") rows) (is_set (codes "slots") rows))
+  (if is_set (codes "raw") rows
+      then Some (ListRaw file (first_of (codes "config") rows) (is_set (codes "slots") rows))
+      else Some (Disassemble file (first_of (codes "config") rows) (is_set (codes "slots") rows)))
 
--- `trace HOOK FILE FRAME [--config C] [--states N]`
+-- `trace HOOK FILE FRAME [--config C] [--states N] [--context KEY=VALUE,..] [--from-frame]
+-- [--explain]`
 abbrev pub trace_of : List Row → Option Asked
 trace_of rows = do
   hook ← hook_at rows
   file ← first_of (codes "FILE") rows
   frame ← first_of (codes "FRAME") rows
   states ← states_at rows
-  Some (Trace hook file frame (first_of (codes "config") rows) states)
+  Some (Trace hook file frame (first_of (codes "config") rows) states
+      (first_of (codes "context") rows) (is_set (codes "from-frame") rows))
 
--- `run C SCRIPT [--workers N] [--states N] [--quiet]`
-abbrev pub run_of : List Row → Option Asked
+-- `run C SCRIPT [--workers N] [--states N] [--quiet] [--strict] [--verbose]`
+abbrev pub run_of : List Row → Option Wanted
 run_of rows = do
   config ← first_of (codes "C") rows
   script ← first_of (codes "SCRIPT") rows
   workers ← option_and_then workers_named (first_of (codes "workers") rows)
   states ← states_at rows
-  Some (Run config script workers states (is_set (codes "quiet") rows))
+  Some (Run config script workers states (is_set (codes "quiet") rows)
+      (is_set (codes "strict") rows) (is_set (codes "verbose") rows))
 
 -- `cert HOOK FILE [--config C] [--states N]`
 abbrev pub certify_of : List Row → Option Asked
@@ -168,11 +204,9 @@ check_of rows = do
   certificate ← first_of (codes "CERT") rows
   Some (Check hook file certificate (first_of (codes "config") rows))
 
--- `explain NUMBER`
+-- `explain [NUMBER]`
 abbrev pub explain_of : List Row → Option Asked
-explain_of rows = do
-  number ← first_of (codes "NUMBER") rows
-  Some (Explain number)
+explain_of rows = Some (Explain (first_of (codes "NUMBER") rows))
 
 -- `frames CAPTURE [--no-ticks]`
 abbrev pub frames_of : List Row → Option Asked
@@ -191,13 +225,22 @@ command_asks name rows =
     else (if bytes_eq name (codes "asm") then assemble_of rows
     else (if bytes_eq name (codes "disasm") then disassemble_of rows
     else (if bytes_eq name (codes "trace") then trace_of rows
-    else (if bytes_eq name (codes "run") then run_of rows
     else (if bytes_eq name (codes "cert") then certify_of rows
     else (if bytes_eq name (codes "check") then check_of rows
     else (if bytes_eq name (codes "explain") then explain_of rows
     else (if bytes_eq name (codes "frames") then frames_of rows
-    else (if bytes_eq name (codes "help") then help_of rows else None))))))))))
+    else (if bytes_eq name (codes "help") then help_of rows else None)))))))))
 
--- what the words ask for, by the command that they name and its arguments
-abbrev pub asked_in : Option (Text × List Row) → Option Asked
-asked_in = option_and_then (λ c. command_asks c.0 c.1)
+-- the answer to the question of a command with these arguments, for the file of `-o`
+abbrev pub answers_to : Text → List Row → Option Wanted
+answers_to name rows =
+    option_map (λ asked. Answer asked (first_of (codes "output") rows)) (command_asks name rows)
+
+-- what a command with these arguments wants
+abbrev pub command_wants : Text → List Row → Option Wanted
+command_wants name rows =
+    (if bytes_eq name (codes "run") then run_of rows else answers_to name rows)
+
+-- what the words want, by the command that they name and its arguments
+abbrev pub wanted_in : Option (Text × List Row) → Option Wanted
+wanted_in = option_and_then (λ c. command_wants c.0 c.1)

@@ -51,6 +51,14 @@ file = required (codes "FILE")
 abbrev pub config : Rule
 config = option (codes "config")
 
+-- `-o FILE`, or `--output FILE`; the letter is 111
+abbrev pub output : Rule
+output = record (option (codes "output")) { short = Some 111 }
+
+-- `--context KEY=VALUE,..`
+abbrev pub context : Rule
+context = option (codes "context")
+
 -- the argument HOOK, which has to be the name of one
 abbrev pub hook : ValueParser → Rule
 hook hooks = record (required (codes "HOOK")) { parser = Some hooks }
@@ -80,40 +88,47 @@ abbrev pub verify : ValueParser → Shape
 verify hooks =
     hook_command (codes "verify") hooks (config ∷ states ∷ flag (codes "explain") ∷ [])
 
--- `asm FILE`
+-- `asm FILE [-o FILE]`
 abbrev pub assemble : Shape
-assemble = command (codes "asm") (file ∷ [])
+assemble = command (codes "asm") (file ∷ output ∷ [])
 
--- `disasm FILE [--config C] [--slots]`
+-- `disasm FILE [--config C] [--slots] [--raw] [-o FILE]`
 abbrev pub disassemble : Shape
-disassemble = command (codes "disasm") (file ∷ config ∷ flag (codes "slots") ∷ [])
+disassemble =
+    command (codes "disasm") (file ∷ config ∷ flag (codes "slots") ∷ flag (codes "raw")
+    ∷ output ∷ [])
 
--- `trace HOOK FILE FRAME [--config C] [--states N]`
+-- `trace HOOK FILE FRAME [--config C] [--states N] [--context KEY=VALUE,..] [--from-frame]
+-- [--explain]`
 abbrev pub trace : ValueParser → Shape
 trace hooks =
-    hook_command (codes "trace") hooks (required (codes "FRAME") ∷ config ∷ states ∷ [])
+    hook_command (codes "trace") hooks (required (codes "FRAME") ∷ config ∷ states ∷ context
+    ∷ flag (codes "from-frame") ∷ flag (codes "explain") ∷ [])
 
--- `run C SCRIPT [--workers N] [--states N] [--quiet]`
+-- `run C SCRIPT [--workers N] [--states N] [--quiet] [--strict] [--verbose]`
 abbrev pub run : ValueParser → Shape
 run numbers =
     command (codes "run") (required (codes "C") ∷ required (codes "SCRIPT")
-    ∷ workers numbers ∷ states ∷ flag (codes "quiet") ∷ [])
+    ∷ workers numbers ∷ states ∷ flag (codes "quiet") ∷ flag (codes "strict")
+    ∷ flag (codes "verbose") ∷ [])
 
--- `cert HOOK FILE [--config C] [--states N]`
+-- `cert HOOK FILE [--config C] [--states N] [-o FILE]`
 abbrev pub certify : ValueParser → Shape
-certify hooks = hook_command (codes "cert") hooks (config ∷ states ∷ [])
+certify hooks = hook_command (codes "cert") hooks (config ∷ states ∷ output ∷ [])
 
 -- `check HOOK FILE CERT [--config C]`
 abbrev pub check : ValueParser → Shape
 check hooks = hook_command (codes "check") hooks (required (codes "CERT") ∷ config ∷ [])
 
--- `explain NUMBER`
+-- `explain [NUMBER]`
 abbrev pub explain : Shape
-explain = command (codes "explain") (required (codes "NUMBER") ∷ [])
+explain = command (codes "explain") (optional (codes "NUMBER") ∷ [])
 
--- `frames CAPTURE [--no-ticks]`
+-- `frames CAPTURE [--no-ticks] [-o FILE]`
 abbrev pub frames : Shape
-frames = command (codes "frames") (required (codes "CAPTURE") ∷ flag (codes "no-ticks") ∷ [])
+frames =
+    command (codes "frames") (required (codes "CAPTURE") ∷ flag (codes "no-ticks")
+    ∷ output ∷ [])
 
 -- `help [COMMAND]`
 abbrev pub help : Shape

@@ -5,15 +5,15 @@ use Rattle.clap.specs.declared.error.kind.ErrorKind.{ErrorKind}
 use Rattle.clap.specs.declared.error.kind.ErrorKind.TheVariants.{DisplayHelp, DisplayVersion, OutOfMemory}
 use Rattle.clap.specs.declared.builder.value_parser.ValueParser.{ValueParser}
 use Rattle.apd_words.specs.CommandLine.{command_line, hook_names, worker_names, TakesNames}
-use Rattle.apd_words.specs.Asked.{Asked, asked_of, asked_in}
+use Rattle.apd_words.specs.Asked.{Wanted, wanted_of, wanted_in}
 use Rattle.apd_words.specs.declared.Request.{Request}
 use Rattle.apd_words.specs.declared.Told.{Told}
 use Rattle.apd_words.specs.declared.Told.TheVariants.{Help, Fault, NoMemory}
 
 -- the command line takes the words, and they ask for this
-pub record AsksFor (hooks numbers : ValueParser) (words : List Text) (a : Asked) : Type 0 where
+pub record AsksFor (hooks numbers : ValueParser) (words : List Text) (a : Wanted) : Type 0 where
   pub faultless : fault_of (command_line hooks numbers) words ≡ []
-  pub asked : asked_in (subcommand_of (command_line hooks numbers) words) ≡ Some a
+  pub asked : wanted_in (subcommand_of (command_line hooks numbers) words) ≡ Some a
 
 -- help or the version is what the words come to
 abbrev pub WantsText : ErrorKind → Type 0
@@ -28,7 +28,7 @@ pub record IsHelp (hooks numbers : ValueParser) (words : List Text) : Type 0 whe
 -- what is told where there is no request; want of memory says nothing of the words
 abbrev pub TellsOf : ValueParser → ValueParser → List Text → Told → Type 0
 TellsOf hooks numbers words (Help text) = IsHelp hooks numbers words
-TellsOf hooks numbers words (Fault text) = (a : Asked) → AsksFor hooks numbers words a → ⊥
+TellsOf hooks numbers words (Fault text) = (a : Wanted) → AsksFor hooks numbers words a → ⊥
 TellsOf hooks numbers words NoMemory = Unit {0}
 
 -- what is told of a kind of error
@@ -49,5 +49,5 @@ pub record Reads (words : List Text) (r : Result Request Told) : Type 0 where
   pub numbers : ValueParser
   pub takes_hooks : TakesNames hooks hook_names
   pub takes_numbers : TakesNames numbers worker_names
-  pub at : MatchResult r (λ request. AsksFor hooks numbers words (asked_of request))
+  pub at : MatchResult r (λ request. AsksFor hooks numbers words (wanted_of request))
       (TellsOf hooks numbers words)

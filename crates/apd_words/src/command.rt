@@ -5,7 +5,7 @@ ghost use Rattle.clap.specs.Words.{App, Rule, Shape, app_of, rule_of, with_subco
 ghost use Rattle.clap.specs.Simple.{new_shape};
 ghost use Rattle.clap.specs.declared.builder.value_parser.ValueParser.TheVariants.{Names};
 ghost use Rattle.apd_words.specs.Built.{IsProgram, IsCommand, with_argument};
-ghost use Rattle.apd_words.specs.CommandLine.{command_line, program, with_code_commands, with_run_commands, with_certificate_commands, with_reading_commands, hook_command, required, optional, flag, hook, file, config, workers, states, verify, assemble, disassemble, trace, run, certify, check, explain, frames, help};
+ghost use Rattle.apd_words.specs.CommandLine.{command_line, program, with_code_commands, with_run_commands, with_certificate_commands, with_reading_commands, hook_command, required, optional, flag, hook, file, config, output, context, workers, states, verify, assemble, disassemble, trace, run, certify, check, explain, frames, help};
 
 use clap::builder::ValueParser;
 use clap::{Arg, ArgAction, Command};
@@ -161,7 +161,8 @@ fn assemble<'a>(alloc: Global) -> Made<'a>
         "asm",
         "Assemble a text and print its code, one slot a line",
     );
-    with_arg(command, required(alloc, "FILE", "Assembler text"))
+    let command = with_arg(command, required(alloc, "FILE", "Assembler text"));
+    with_arg(command, output(alloc))
 }
 
 fn disassemble<'a>(alloc: Global) -> Made<'a>
@@ -174,7 +175,9 @@ fn disassemble<'a>(alloc: Global) -> Made<'a>
     );
     let command = with_arg(with_arg(command, code(alloc)), config(alloc));
     let slots = "Print each line's slot before it, and mark jump targets";
-    with_arg(command, flag(alloc, "slots", slots))
+    let command = with_arg(command, flag(alloc, "slots", slots));
+    let raw = "Print slots that are no instructions, too, as digits";
+    with_arg(with_arg(command, flag(alloc, "raw", raw)), output(alloc))
 }
 
 fn trace<'a>(alloc: Global, hooks: &'a [&'a str]) -> Made<'a>
@@ -186,7 +189,12 @@ fn trace<'a>(alloc: Global, hooks: &'a [&'a str]) -> Made<'a>
         command,
         required(alloc, "FRAME", "The frame, as hex digits"),
     );
-    with_arg(with_arg(command, config(alloc)), states(alloc))
+    let command = with_arg(with_arg(command, config(alloc)), states(alloc));
+    let command = with_arg(command, context(alloc));
+    let frame = "Tell the program what the frame says of itself";
+    let command = with_arg(command, flag(alloc, "from-frame", frame));
+    let why = "Tell on standard error why, and what is known there";
+    with_arg(command, flag(alloc, "explain", why))
 }
 
 fn run<'a>(alloc: Global, numbers: &'a [&'a str]) -> Made<'a>
@@ -200,10 +208,12 @@ fn run<'a>(alloc: Global, numbers: &'a [&'a str]) -> Made<'a>
     let command = with_arg(command, required(alloc, "SCRIPT", "The script"));
     let command = with_arg(command, workers(alloc, numbers));
     let command = with_arg(command, states(alloc));
-    with_arg(
-        command,
-        flag(alloc, "quiet", "Tell no progress on standard error"),
-    )
+    let quiet = "Tell no progress on standard error";
+    let command = with_arg(command, flag(alloc, "quiet", quiet));
+    let strict = "End after the first refused line, with status 1";
+    let command = with_arg(command, flag(alloc, "strict", strict));
+    let verbose = "Tell on standard error what becomes of each load";
+    with_arg(command, flag(alloc, "verbose", verbose))
 }
 
 fn certify<'a>(alloc: Global, hooks: &'a [&'a str]) -> Made<'a>
@@ -211,7 +221,7 @@ fn certify<'a>(alloc: Global, hooks: &'a [&'a str]) -> Made<'a>
 {
     let about = "Verify a program and print its certificate in hex";
     let command = with_arg(hook_command(alloc, "cert", about, hooks), config(alloc));
-    with_arg(command, states(alloc))
+    with_arg(with_arg(command, states(alloc)), output(alloc))
 }
 
 fn check<'a>(alloc: Global, hooks: &'a [&'a str]) -> Made<'a>
@@ -229,8 +239,8 @@ fn explain<'a>(alloc: Global) -> Made<'a>
     ensures is { IfOk result (IsCommand explain) }
 {
     let command = named(alloc, "explain", "Explain the number of a refusal");
-    let number = "The number, as `fault N` or `refused N` names it";
-    with_arg(command, required(alloc, "NUMBER", number))
+    let number = "The number, as `fault N` or `refused N` names it; without one all are listed";
+    with_arg(command, optional(alloc, "NUMBER", number))
 }
 
 fn frames<'a>(alloc: Global) -> Made<'a>
@@ -242,9 +252,10 @@ fn frames<'a>(alloc: Global) -> Made<'a>
         named(alloc, "frames", about),
         required(alloc, "CAPTURE", capture),
     );
+    let ticks = "Leave out the time between frames";
     with_arg(
-        command,
-        flag(alloc, "no-ticks", "Leave out the time between frames"),
+        with_arg(command, flag(alloc, "no-ticks", ticks)),
+        output(alloc),
     )
 }
 
@@ -309,6 +320,29 @@ fn config<'a>(alloc: Global) -> Arg<'a>
         .value_name("C")
         .action(ArgAction::Set)
         .help("The configuration: shapes of maps, first draw word")
+}
+
+fn output<'a>(alloc: Global) -> Arg<'a>
+    ensures is { rule_of result ≡ output }
+    ensures local { result.global ≡ false }
+{
+    Arg::new(alloc, "output")
+        .long("output")
+        .short('o')
+        .value_name("FILE")
+        .action(ArgAction::Set)
+        .help("Write to this file, and only if the command succeeds")
+}
+
+fn context<'a>(alloc: Global) -> Arg<'a>
+    ensures is { rule_of result ≡ context }
+    ensures local { result.global ≡ false }
+{
+    Arg::new(alloc, "context")
+        .long("context")
+        .value_name("KEYS")
+        .action(ArgAction::Set)
+        .help("What the program is told, as KEY=VALUE,.. (see the manual)")
 }
 
 fn workers<'a>(alloc: Global, numbers: &'a [&'a str]) -> Arg<'a>

@@ -3,7 +3,7 @@
 ghost use Rattle.std.specs.Prelude.{◌≡◌, ◌∷◌, [], Some, None, List, ℕ, codes, false};
 ghost use Rattle.bpf_regions.specs.Hooks.{name_of};
 ghost use Rattle.bpf_regions.specs.declared.hooks.Hook.{Hook};
-ghost use Rattle.apd_words.specs.Asked.{Verify, Assemble, Disassemble, Trace, states_named};
+ghost use Rattle.apd_words.specs.Asked.{Verify, Assemble, Disassemble, Trace, Answer, states_named};
 ghost use Rattle.apd_words.specs.CommandLine.{most_states};
 ghost use Rattle.apd_words.specs.Spells.{IsOperand, Spells};
 
@@ -12,32 +12,32 @@ ghost use Rattle.apd_words.specs.Spells.{IsOperand, Spells};
 pub fn verify_law()
     ensures plain { (program file : List ℕ) (hook : Hook) → IsOperand file
         → Spells (program ∷ codes "verify" ∷ name_of hook ∷ file ∷ [])
-        (Verify hook file None most_states) }
+        (Answer (Verify hook file None most_states) None) }
     ensures configured { (program file config : List ℕ) (hook : Hook) →
         IsOperand file → IsOperand config
         → Spells (program ∷ codes "verify" ∷ name_of hook ∷ file ∷ codes "--config" ∷ config ∷ [])
-        (Verify hook file (Some config) most_states) }
+        (Answer (Verify hook file (Some config) most_states) None) }
     ensures limited { (program file number : List ℕ) (hook : Hook) (states : ℕ) →
         IsOperand file → IsOperand number → states_named number ≡ Some states
         → Spells (program ∷ codes "verify" ∷ name_of hook ∷ file ∷ codes "--states" ∷ number ∷ [])
-        (Verify hook file None states) }
+        (Answer (Verify hook file None states) None) }
 {}
 
 /// The law of `apd asm FILE`: the words ask for what they say, unless a FILE
 /// or C begins with a hyphen.
 pub fn assemble_law()
     ensures plain { (program file : List ℕ) → IsOperand file
-        → Spells (program ∷ codes "asm" ∷ file ∷ []) (Assemble file) }
+        → Spells (program ∷ codes "asm" ∷ file ∷ []) (Answer (Assemble file) None) }
 {}
 
 /// The law of `apd disasm FILE [--config C]`: the words ask for what they say, unless a FILE
 /// or C begins with a hyphen.
 pub fn disassemble_law()
     ensures plain { (program file : List ℕ) → IsOperand file
-        → Spells (program ∷ codes "disasm" ∷ file ∷ []) (Disassemble file None false) }
+        → Spells (program ∷ codes "disasm" ∷ file ∷ []) (Answer (Disassemble file None false) None) }
     ensures configured { (program file config : List ℕ) → IsOperand file → IsOperand config
         → Spells (program ∷ codes "disasm" ∷ file ∷ codes "--config" ∷ config ∷ [])
-        (Disassemble file (Some config) false) }
+        (Answer (Disassemble file (Some config) false) None) }
 {}
 
 /// The law of `apd trace HOOK FILE FRAME`, with `--config C` or `--states N`: the words ask for what they
@@ -45,13 +45,13 @@ pub fn disassemble_law()
 pub fn trace_law()
     ensures plain { (program file frame : List ℕ) (hook : Hook) → IsOperand file → IsOperand frame
         → Spells (program ∷ codes "trace" ∷ name_of hook ∷ file ∷ frame ∷ [])
-        (Trace hook file frame None most_states) }
+        (Answer (Trace hook file frame None most_states None false) None) }
     ensures configured { (program file frame config : List ℕ) (hook : Hook) →
         IsOperand file → IsOperand frame → IsOperand config
         → Spells (program ∷ codes "trace" ∷ name_of hook ∷ file ∷ frame ∷ codes "--config"
-        ∷ config ∷ []) (Trace hook file frame (Some config) most_states) }
+        ∷ config ∷ []) (Answer (Trace hook file frame (Some config) most_states None false) None) }
     ensures limited { (program file frame number : List ℕ) (hook : Hook) (states : ℕ) →
         IsOperand file → IsOperand frame → IsOperand number → states_named number ≡ Some states
         → Spells (program ∷ codes "trace" ∷ name_of hook ∷ file ∷ frame ∷ codes "--states"
-        ∷ number ∷ []) (Trace hook file frame None states) }
+        ∷ number ∷ []) (Answer (Trace hook file frame None states None false) None) }
 {}

@@ -39,54 +39,75 @@ pub struct Subject<'a> {
     pub terms: Terms,
 }
 
-/// What the words ask for. Paths and frames are as they were written. The states that the verifier
+/// What a traced program is told, beside its frame: as it was written, and whether the frame's own fields count.
+#[derive(Clone, Copy)]
+pub struct Given<'a> {
+    pub context: Option<&'a str>,
+    pub from_frame: bool,
+}
+
+/// A program that is to be verified, and run on a frame. `explain` asks for the reason on standard error.
+#[derive(Clone, Copy)]
+pub struct Trial<'a> {
+    pub subject: Subject<'a>,
+    pub frame: &'a str,
+    pub given: Given<'a>,
+    pub explain: bool,
+}
+
+/// A program with the file of a certificate that is to show it safe for a hook.
+#[derive(Clone, Copy)]
+pub struct Claim<'a> {
+    pub hook: Hook,
+    pub source: Source<'a>,
+    pub certificate: &'a str,
+}
+
+/// A script that is to be run, by 1 to 8 workers. `quiet` asks for no progress on standard error, `strict` for an end after
+/// the first interval in which a line was refused, and `verbose` for what becomes of each load, on standard error.
+#[derive(Clone, Copy)]
+pub struct ScriptRun<'a> {
+    pub config: &'a str,
+    pub script: &'a str,
+    pub workers: u8,
+    pub states: u32,
+    pub quiet: bool,
+    pub strict: bool,
+    pub verbose: bool,
+}
+
+/// What is asked for that runs no script. Paths, frames and numbers are as they were written. The states that the verifier
 /// may examine are 1 to 4194304.
 #[derive(Clone, Copy)]
-pub enum Request<'a> {
+pub enum Question<'a> {
     /// `explain` asks for the reason on standard error.
-    Verify {
-        subject: Subject<'a>,
-        explain: bool,
-    },
-    Assemble {
-        file: &'a str,
-    },
-    Disassemble {
-        source: Source<'a>,
-        slots: bool,
-    },
-    Trace {
-        subject: Subject<'a>,
-        frame: &'a str,
-    },
-    /// The workers are 1 to 8. `quiet` asks for no progress on standard error.
-    Run {
-        config: &'a str,
-        script: &'a str,
-        workers: u8,
-        states: u32,
-        quiet: bool,
-    },
-    Certify {
-        subject: Subject<'a>,
-    },
-    Check {
-        hook: Hook,
-        source: Source<'a>,
-        certificate: &'a str,
-    },
-    /// The number is as it was written.
-    Explain {
-        number: &'a str,
-    },
-    Frames {
-        capture: &'a str,
-        ticks: bool,
-    },
+    Verify { subject: Subject<'a>, explain: bool },
+    Assemble { file: &'a str },
+    Disassemble { source: Source<'a>, slots: bool },
+    /// All slots are asked for, also those that are no instructions.
+    ListRaw { source: Source<'a>, slots: bool },
+    Trace(Trial<'a>),
+    Certify { subject: Subject<'a> },
+    Check(Claim<'a>),
+    /// Without a number the list of all is asked for.
+    Explain { number: Option<&'a str> },
+    Frames { capture: &'a str, ticks: bool },
     /// Without a command that of the program is asked for.
-    Help {
-        command: Option<&'a str>,
-    },
+    Help { command: Option<&'a str> },
+}
+
+/// A question, and the file for its answer, where that isn't for standard output.
+#[derive(Clone, Copy)]
+pub struct Query<'a> {
+    pub question: Question<'a>,
+    pub output: Option<&'a str>,
+}
+
+/// What the words ask for.
+#[derive(Clone, Copy)]
+pub enum Request<'a> {
+    Run(ScriptRun<'a>),
+    Answer(Query<'a>),
 }
 
 /// Words that ask for nothing to be done: what is printed in place of an answer.

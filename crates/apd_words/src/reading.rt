@@ -1,27 +1,46 @@
 //! What the matches ask for.
 
-ghost use Rattle.std.specs.Prelude.{◌≡◌, ◌≤◌, ◌^◌, IfSome, option_map};
+ghost use Rattle.std.specs.Prelude.{◌≡◌, ◌≤◌, ◌^◌, IfSome, option_map, codes};
 ghost use Rattle.clap.specs.Matches.{found_of};
 ghost use Rattle.clap.specs.Simple.{subcommand_rows_of};
 ghost use Rattle.clap.specs.Walk.{first_of, rows_of};
-ghost use Rattle.apd_words.specs.Asked.{asked_of, asked_in, asked_verdict, asked_certificate, hook_named, hook_at, workers_named, states_named, states_at, verify_of, assemble_of, disassemble_of, trace_of, run_of, certify_of, check_of, explain_of, frames_of, help_of, is_set};
+ghost use Rattle.apd_words.specs.Asked.{asked_of, command_asks, answers_to, wanted_of, wanted_in, asked_verdict, asked_certificate, hook_named, hook_at, workers_named, states_named, states_at, verify_of, assemble_of, disassemble_of, trace_of, run_of, certify_of, check_of, explain_of, frames_of, help_of, is_set};
 
 use crate::command::MOST_STATES;
-use crate::{Request, Source, Subject, Terms};
+use crate::{Claim, Given, Query, Question, Request, ScriptRun, Source, Subject, Terms, Trial};
 use bpf_regions::Hook;
 use clap::ArgMatches;
 
 /// The request of the matches. None comes only where the parser left out what it requires.
 pub(crate) fn request<'a>(matches: &ArgMatches<'a>) -> Option<Request<'a>>
-    ensures is { option_map asked_of result ≡ asked_in (subcommand_rows_of matches.now) }
+    ensures is { option_map wanted_of result ≡ wanted_in (subcommand_rows_of matches.now) }
 {
     let (name, matches) = matches.subcommand()?;
+    match name {
+        "run" => run(matches),
+        _ => answer(name, matches),
+    }
+}
+
+/// The request of a command that runs no script.
+fn answer<'a>(name: &str, matches: &ArgMatches<'a>) -> Option<Request<'a>>
+    ensures is { option_map wanted_of result
+        ≡ answers_to name.now (rows_of (found_of matches.now)) }
+{
+    let question = question(name, matches)?;
+    let output = value(matches, "output");
+    Some(Request::Answer(Query { question, output }))
+}
+
+fn question<'a>(name: &str, matches: &ArgMatches<'a>) -> Option<Question<'a>>
+    ensures is { option_map asked_of result
+        ≡ command_asks name.now (rows_of (found_of matches.now)) }
+{
     match name {
         "verify" => verify(matches),
         "asm" => assemble(matches),
         "disasm" => disassemble(matches),
         "trace" => trace(matches),
-        "run" => run(matches),
         "cert" => certify(matches),
         "check" => check(matches),
         "explain" => explain(matches),
@@ -31,32 +50,36 @@ pub(crate) fn request<'a>(matches: &ArgMatches<'a>) -> Option<Request<'a>>
     }
 }
 
-fn verify<'a>(matches: &ArgMatches<'a>) -> Option<Request<'a>>
+fn verify<'a>(matches: &ArgMatches<'a>) -> Option<Question<'a>>
     ensures is { option_map asked_of result ≡ verify_of (rows_of (found_of matches.now)) }
 {
     let subject = subject(matches)?;
     let explain = flag(matches, "explain");
-    Some(Request::Verify { subject, explain })
+    Some(Question::Verify { subject, explain })
 }
 
-fn assemble<'a>(matches: &ArgMatches<'a>) -> Option<Request<'a>>
+fn assemble<'a>(matches: &ArgMatches<'a>) -> Option<Question<'a>>
     ensures is { option_map asked_of result ≡ assemble_of (rows_of (found_of matches.now)) }
 {
     let file = value(matches, "FILE")?;
-    Some(Request::Assemble { file })
+    Some(Question::Assemble { file })
 }
 
-fn disassemble<'a>(matches: &ArgMatches<'a>) -> Option<Request<'a>>
+fn disassemble<'a>(matches: &ArgMatches<'a>) -> Option<Question<'a>>
     ensures is { option_map asked_of result ≡ disassemble_of (rows_of (found_of matches.now)) }
 {
     let file = value(matches, "FILE")?;
     let config = value(matches, "config");
     let slots = flag(matches, "slots");
     let source = Source { file, config };
-    Some(Request::Disassemble { source, slots })
+    if flag(matches, "raw") {
+        Some(Question::ListRaw { source, slots })
+    } else {
+        Some(Question::Disassemble { source, slots })
+    }
 }
 
-fn trace<'a>(matches: &ArgMatches<'a>) -> Option<Request<'a>>
+fn trace<'a>(matches: &ArgMatches<'a>) -> Option<Question<'a>>
     ensures is { option_map asked_of result ≡ trace_of (rows_of (found_of matches.now)) }
 {
     let hook = hook(matches)?;
@@ -64,37 +87,46 @@ fn trace<'a>(matches: &ArgMatches<'a>) -> Option<Request<'a>>
     let frame = value(matches, "FRAME")?;
     let config = value(matches, "config");
     let states = states(matches)?;
+    let explain = flag(matches, "explain");
     let source = Source { file, config };
     let terms = Terms { hook, states };
-    let subject = Subject { source, terms };
-    Some(Request::Trace { subject, frame })
+    Some(Question::Trace(Trial {
+        subject: Subject { source, terms },
+        frame,
+        given: given(matches),
+        explain,
+    }))
 }
 
 fn run<'a>(matches: &ArgMatches<'a>) -> Option<Request<'a>>
-    ensures is { option_map asked_of result ≡ run_of (rows_of (found_of matches.now)) }
+    ensures is { option_map wanted_of result ≡ run_of (rows_of (found_of matches.now)) }
 {
     let config = value(matches, "C")?;
     let script = value(matches, "SCRIPT")?;
     let workers = workers_named(value(matches, "workers")?)?;
     let states = states(matches)?;
     let quiet = flag(matches, "quiet");
-    Some(Request::Run {
+    let strict = flag(matches, "strict");
+    let verbose = flag(matches, "verbose");
+    Some(Request::Run(ScriptRun {
         config,
         script,
         workers,
         states,
         quiet,
-    })
+        strict,
+        verbose,
+    }))
 }
 
-fn certify<'a>(matches: &ArgMatches<'a>) -> Option<Request<'a>>
+fn certify<'a>(matches: &ArgMatches<'a>) -> Option<Question<'a>>
     ensures is { option_map asked_of result ≡ certify_of (rows_of (found_of matches.now)) }
 {
     let subject = subject(matches)?;
-    Some(Request::Certify { subject })
+    Some(Question::Certify { subject })
 }
 
-fn check<'a>(matches: &ArgMatches<'a>) -> Option<Request<'a>>
+fn check<'a>(matches: &ArgMatches<'a>) -> Option<Question<'a>>
     ensures is { option_map asked_of result ≡ check_of (rows_of (found_of matches.now)) }
 {
     let hook = hook(matches)?;
@@ -102,33 +134,46 @@ fn check<'a>(matches: &ArgMatches<'a>) -> Option<Request<'a>>
     let certificate = value(matches, "CERT")?;
     let config = value(matches, "config");
     let source = Source { file, config };
-    Some(Request::Check {
+    Some(Question::Check(Claim {
         hook,
         source,
         certificate,
-    })
+    }))
 }
 
-fn explain<'a>(matches: &ArgMatches<'a>) -> Option<Request<'a>>
+fn explain<'a>(matches: &ArgMatches<'a>) -> Option<Question<'a>>
     ensures is { option_map asked_of result ≡ explain_of (rows_of (found_of matches.now)) }
 {
-    let number = value(matches, "NUMBER")?;
-    Some(Request::Explain { number })
+    let number = value(matches, "NUMBER");
+    Some(Question::Explain { number })
 }
 
-fn frames<'a>(matches: &ArgMatches<'a>) -> Option<Request<'a>>
+fn frames<'a>(matches: &ArgMatches<'a>) -> Option<Question<'a>>
     ensures is { option_map asked_of result ≡ frames_of (rows_of (found_of matches.now)) }
 {
     let capture = value(matches, "CAPTURE")?;
     let ticks = !flag(matches, "no-ticks");
-    Some(Request::Frames { capture, ticks })
+    Some(Question::Frames { capture, ticks })
 }
 
-fn help<'a>(matches: &ArgMatches<'a>) -> Option<Request<'a>>
+fn help<'a>(matches: &ArgMatches<'a>) -> Option<Question<'a>>
     ensures is { option_map asked_of result ≡ help_of (rows_of (found_of matches.now)) }
 {
     let command = value(matches, "COMMAND");
-    Some(Request::Help { command })
+    Some(Question::Help { command })
+}
+
+/// What the traced program is told.
+fn given<'a>(matches: &ArgMatches<'a>) -> Given<'a>
+    ensures context { option_map (λ text. text.now) result.context
+        ≡ first_of (codes "context") (rows_of (found_of matches.now)) }
+    ensures from_frame { result.from_frame
+        ≡ is_set (codes "from-frame") (rows_of (found_of matches.now)) }
+{
+    Given {
+        context: value(matches, "context"),
+        from_frame: flag(matches, "from-frame"),
+    }
 }
 
 /// The program that `verify` and `cert` name.

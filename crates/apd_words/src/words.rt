@@ -2,7 +2,7 @@
 
 ghost use Rattle.std.specs.Prelude.{map};
 ghost use Rattle.clap.specs.Words.{kind_of};
-ghost use Rattle.apd_words.specs.Asked.{Asked};
+ghost use Rattle.apd_words.specs.Asked.{Wanted};
 ghost use Rattle.apd_words.specs.Reads.{Reads, TellsOfKind, TellsNoHelp};
 ghost use Rattle.apd_words.specs.Spells.{Spells, IsReadAs};
 
@@ -15,8 +15,8 @@ use std::alloc::{AllocError, Global};
 /// What the words ask for, the first being the program's own name.
 pub fn read_words<'a>(alloc: Global, words: &'a [&'a str]) -> Result<Request<'a>, Told>
     ensures reads { Reads (map (λ word. word.now) words.entry.now) result }
-    ensures spelled { (a : Asked) →
-        Spells (map (λ word. word.now) words.entry.now) a → IsReadAs a result }
+    ensures spelled { (w : Wanted) →
+        Spells (map (λ word. word.now) words.entry.now) w → IsReadAs w result }
 {
     let Ok(command) = command_line(alloc, HOOKS.as_slice(), WORKERS.as_slice()) else {
         return Err(Told::NoMemory);

@@ -9,7 +9,7 @@ use apd_files::RealFiles;
 use apd_program::Messages;
 use std::alloc::{AllocError, Global};
 use std::io;
-use std::io::Write;
+use std::io::{Input, Write};
 use std::rt::Files;
 use std::sync::Wait;
 use std::thread::Threads;
@@ -32,7 +32,7 @@ fn main(rt: HostRuntime) -> io::Result<()> {
 /// Answers a line: what is printed, what is told, and the status.
 fn answer<R, O>(rt: &R, alloc: Global, line: &str, out: O) -> io::Result<()>
 where
-    R: Threads + Wait + Sync + Clock + Print + Eprint + Files + AllocGlobal,
+    R: Threads + Wait + Sync + Clock + Input + Print + Eprint + Files + AllocGlobal,
     O: Write + Drop,
 {
     let mut told = Vec::new(alloc);
@@ -59,7 +59,7 @@ fn perform<R, O, E>(
     messages: Messages<'_, E>,
 ) -> io::Result<u8>
 where
-    R: Threads + Wait + Sync + Clock + Eprint + Files + AllocGlobal,
+    R: Threads + Wait + Sync + Clock + Input + Eprint + Files + AllocGlobal,
     O: Write + Drop,
     E: Write,
 {

@@ -1,7 +1,7 @@
 //! Configurations: each key, its limits, and the texts of their faults.
 
 use crate::same::same;
-use apd_config::{Configuration, read_configuration};
+use apd_config::{Configuration, fault_text, read_configuration};
 use bpf_regions::{Scope, Shape, WordWidth};
 use std::alloc::Global;
 use std::process::Abort;
@@ -80,6 +80,62 @@ const LINES: [&str; 3] = [
     "ssid = \"\"\n",
     "rates = \"01\"\n",
 ];
+
+/// What a configuration is, and how its fault is told.
+const TOLD: &[(&str, &str)] = &[
+    ("bssid = 1\n", "line 1: `bssid` must be 12 hex digits"),
+    (
+        "\n\nbssid = \"02:00:00:00:00:01\"\n",
+        "line 3: `bssid` must be 12 hex digits, without colons",
+    ),
+    ("ssid = \"lab\"\n", "`bssid` is missing"),
+    ("[[map]]\n[wifi]\n", "line 2: unknown key `wifi`"),
+    ("# name\n \"name\" = 1\n", "line 2: unknown key `name`"),
+];
+
+#[test]
+fn tells_a_fault_with_its_line(rt: HostRuntime) {
+    let alloc = rt.alloc();
+    for (text, why) in TOLD {
+        let fault = read_configuration(alloc, text.as_bytes()).err();
+        let fault = fault.expect(&rt, why);
+        let told = fault_text(alloc, text.as_bytes(), &fault).expect(&rt, "memory");
+        same(&rt, told.as_str(), why, "the fault");
+    }
+}
+
+/// What comes after a configuration without maps, and how the fault is told.
+const TOLD_OF_A_MAP: &[(&str, &str)] = &[
+    (
+        "[[map]]\nentries = 0\n",
+        "line 6: map 0: `entries` must be 1 to 4096",
+    ),
+    (
+        "[[map]]\nentries = 1\nwords = 1\nwidth = 8\n\n[[map]]\nentries = 1\nwords = 9\n",
+        "line 12: map 1: `words` must be 1 to 8",
+    ),
+    ("\n[[map]]\n", "line 6: map 0: `entries` is missing"),
+    (
+        "[[map]]\nentries = 1\nname = 1\n",
+        "line 7: map 0: unknown key `name`",
+    ),
+    (
+        "map = 1\n",
+        "line 5: `map` must be tables `[[map]]`, at most 16",
+    ),
+];
+
+#[test]
+fn tells_a_fault_of_a_map_with_its_line(rt: HostRuntime) {
+    let alloc = rt.alloc();
+    for (tail, why) in TOLD_OF_A_MAP {
+        let text = format!(in alloc; "{BASE}{tail}").expect(&rt, "memory");
+        let fault = read_configuration(alloc, text.as_bytes()).err();
+        let fault = fault.expect(&rt, why);
+        let told = fault_text(alloc, text.as_bytes(), &fault).expect(&rt, "memory");
+        same(&rt, told.as_str(), why, "the fault");
+    }
+}
 
 /// How many of those lines come first, what comes next, and the text of the fault.
 const AT_THE_TOP: &[(usize, &str, &str)] = &[

@@ -9,8 +9,7 @@ ghost use Rattle.apd_run.specs.Tallies.{Serves};
 use ap_books::Totals;
 use ap_model::Event;
 use ap_tagged::{Fate, Tagged};
-use apd_run::{Operating, Serving, Waiting};
-use apd_script::Command;
+use apd_run::{Operating, Publication, Serving, Waiting, WordUse};
 use apd_text::Told;
 use std::alloc::AllocError;
 use std::sync::{Arc, Mutex, Wait};
@@ -140,12 +139,16 @@ impl Operating<Echo> for Places {
         put_event(rt, self.places.as_slice(), line, event)
     }
 
-    fn perform<R: Wait>(&mut self, _rt: &R, command: &Command<'_>) -> Option<Told> {
-        match *command {
-            Command::Load { .. } => return Some(Told::Unreadable),
-            Command::Unload(_) => return Some(Told::Memory),
-            _ => return None,
+    fn publish<R: Wait>(&mut self, _rt: &R, publication: Publication<'_>) -> Option<Told> {
+        match publication {
+            Publication::Load { .. } => return Some(Told::Unreadable),
+            Publication::Adopt { .. } => return None,
+            Publication::Unload(_) => return Some(Told::Memory),
         }
+    }
+
+    fn use_word(&mut self, _wanted: WordUse) -> Option<Told> {
+        None
     }
 
     fn settle(&mut self, _worker: &mut Echo) {}

@@ -28,6 +28,8 @@ mod lines;
 #[cfg(test)]
 mod memory;
 #[cfg(test)]
+mod options;
+#[cfg(test)]
 mod refusals;
 #[cfg(test)]
 mod running;
@@ -35,6 +37,8 @@ mod running;
 mod same;
 #[cfg(test)]
 mod scripts;
+#[cfg(test)]
+mod telling;
 #[cfg(test)]
 mod told;
 #[cfg(test)]

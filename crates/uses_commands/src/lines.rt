@@ -104,7 +104,13 @@ fn answers_are_spelled(rt: HostRuntime) {
         told(6, Told::Certificate { fault: 72 }),
         told(5, Told::Refused(Refusal { fault, pc: 3 })),
         told(4, Told::Fault(DecodeFault::Empty)),
-        told(3, Told::Loaded { budget: 2 }),
+        told(
+            3,
+            Told::Loaded {
+                budget: 2,
+                slots: 2
+            }
+        ),
         told(2, Told::Memory),
     ];
     let lines = "2 memory\n3 loaded 2\n4 fault 2 at 0\n5 refused 30 at 3\n\

@@ -60,20 +60,25 @@ pub struct Outcome {
     pub status: u8,
 }
 
-/// Runs the file `script` with the configuration `config` by so many workers. The watcher is told of each
-/// event.
-pub fn watched<R: Threads + Wait + Sync, G: Watcher + Copy + Send>(
-    rt: &R,
-    alloc: Global,
-    files: &[File<'_>],
-    workers: u8,
-    gate: G,
-) -> Outcome {
-    let words = RunWords {
+/// The run of the file `script` with the configuration `config` by so many workers.
+pub fn words(workers: u8) -> RunWords<'static> {
+    RunWords {
         config: "config",
         script: "script",
         workers,
-    };
+        strict: false,
+        verbose: false,
+    }
+}
+
+/// A run of files in memory. The watcher is told of each event.
+fn outcome<R: Threads + Wait + Sync, G: Watcher + Copy + Send>(
+    rt: &R,
+    alloc: Global,
+    files: &[File<'_>],
+    words: RunWords<'_>,
+    gate: G,
+) -> Outcome {
     let mut memory = Memory {
         alloc,
         files,
@@ -87,6 +92,28 @@ pub fn watched<R: Threads + Wait + Sync, G: Watcher + Copy + Send>(
     let mut err = Vec::new(alloc);
     let (out, status) = run(rt, alloc, words, supplies, Vec::new(alloc), &mut err);
     Outcome { out, err, status }
+}
+
+/// Runs the file `script` with the configuration `config` by so many workers. The watcher is told of each
+/// event.
+pub fn watched<R: Threads + Wait + Sync, G: Watcher + Copy + Send>(
+    rt: &R,
+    alloc: Global,
+    files: &[File<'_>],
+    workers: u8,
+    gate: G,
+) -> Outcome {
+    outcome(rt, alloc, files, words(workers), gate)
+}
+
+/// Runs files as words ask for it.
+pub fn ran_as<R: Threads + Wait + Sync>(
+    rt: &R,
+    alloc: Global,
+    files: &[File<'_>],
+    words: RunWords<'_>,
+) -> Outcome {
+    outcome(rt, alloc, files, words, OpenGate)
 }
 
 /// Runs the file `script` with the configuration `config` by so many workers.

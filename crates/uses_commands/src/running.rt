@@ -4,13 +4,43 @@ ghost use Rattle.std.specs.Prelude.{◌≡◌, vec_len};
 
 use crate::echo::{Echo, Place, Places};
 use crate::same::same;
-use apd_run::{Ready, Staff, run_script};
-use apd_script::read_script;
+use apd_run::{Console, Ready, Staff, run_script};
+use apd_script::{Numbered, read_script};
+use apd_text::Report;
 use bpf_regions::Shapes;
 use std::alloc::Global;
+use std::io;
+use std::io::Write;
 use std::process::Abort;
 use std::sync::{Arc, Mutex, Wait};
 use std::thread::Threads;
+
+/// Standard output in memory; what else there is to tell is forgotten.
+#[derive(Drop)]
+struct Page {
+    text: Vec<u8>,
+    strict: bool,
+}
+
+impl Write for Page {
+    fn write(&mut self, buf: &[u8]) -> io::Result<usize> {
+        self.text.write(buf)
+    }
+
+    fn flush(&mut self) -> io::Result<()> {
+        Ok(())
+    }
+}
+
+impl Console for Page {
+    ghost strict = { λ page. page.strict };
+
+    fn is_strict(&self) -> bool {
+        self.strict
+    }
+
+    fn tell(&mut self, _commands: &[Numbered<'_>], _reports: &[Report]) {}
+}
 
 /// So many workers, and an operator who has a place for each.
 fn staff(rt: &impl Abort, alloc: Global, workers: usize) -> Staff<Echo, Places>
@@ -42,11 +72,16 @@ fn ran<R: Threads + Wait + Abort + Sync>(
     alloc: Global,
     workers: usize,
     script: &str,
-) -> (Vec<u8>, u8) {
+    strict: bool,
+) -> (Page, u8) {
     let shapes = Shapes::new(Vec::new(alloc)).expect(rt, "no maps");
     let commands = read_script(alloc, script.as_bytes(), &shapes).expect(rt, "a script");
     let staff = staff(rt, alloc, workers);
-    run_script(rt, alloc, staff, commands.as_slice(), Vec::new(alloc))
+    let page = Page {
+        text: Vec::new(alloc),
+        strict,
+    };
+    run_script(rt, alloc, staff, commands.as_slice(), page)
 }
 
 const SCRIPT: &str = "tick 10\ntick 0\ntick 30\nunload data\nwait\ntick 60\nload data absent\n";
@@ -57,8 +92,27 @@ const PRINTED: &str = "1 memory\n3 memory\n4 memory\n6 memory\n7 unreadable\n\
 #[test]
 fn any_number_of_workers_prints_the_same(rt: HostRuntime) {
     for workers in [1, 2, 8] {
-        let (text, status) = ran(&rt, rt.alloc(), workers, SCRIPT);
-        same(&rt, text.as_slice(), PRINTED.as_bytes(), "the text");
+        let (page, status) = ran(&rt, rt.alloc(), workers, SCRIPT, false);
+        same(&rt, page.text.as_slice(), PRINTED.as_bytes(), "the text");
         same(&rt, status, 3, "the status");
+    }
+}
+
+const REFUSED: &str = "load data absent\ntick 10\nwait\ntick 20\n";
+
+const PRINTED_STRICTLY: &str = "1 unreadable\n2 word 10\n\
+    total events 0 sent 0 up 0 dropped 0 notes 0\n";
+
+#[test]
+fn a_strict_run_ends_with_the_interval_of_a_refused_line(rt: HostRuntime) {
+    for workers in [1, 2, 8] {
+        let (page, status) = ran(&rt, rt.alloc(), workers, REFUSED, true);
+        same(
+            &rt,
+            page.text.as_slice(),
+            PRINTED_STRICTLY.as_bytes(),
+            "the text",
+        );
+        same(&rt, status, 1, "the status");
     }
 }

@@ -1,5 +1,6 @@
 -- What becomes of a program that is offered with a certificate.
 use Rattle.std.specs.Prelude.{◌≡◌, ◌≢◌, ℕ, Result, Ok, Err, Some}
+use Rattle.bpf_model.specs.Run.{Safe}
 use Rattle.bpf_machine.specs.Verified.{Verified}
 use Rattle.bpf_cert.specs.Certified.{Covered, Refuses}
 use Rattle.bpf_cert.specs.declared.fault.CertFault.TheVariants as certificate
@@ -18,10 +19,11 @@ IsShown o b = Covered o.program o.hook o.certificate.now b
 abbrev pub verified : Offer → ℕ → Verified
 verified o b = record { code = o.program; hook = o.hook; budget = b }
 
--- The program was loaded for its hook with that budget, which the certificate shows, and its map
--- shapes are those of the list.
+-- The program was loaded for its hook with that budget, which the certificate shows and within which it
+-- is safe, and its map shapes are those of the list.
 pub record IsPublished (old new : Beginning) (o : Offer) (b : ℕ) : Type 0 where
   pub shown : IsShown o b
+  pub safe : Safe o.program.slots o.program.shapes b
   pub shapes : o.program.shapes ≡ old.shapes
   pub is : new ≡ with_load old (load o.hook (Some (verified o b)))
 

@@ -8,14 +8,30 @@ ghost use Rattle.apd_files.specs.Faults.{IsFaultOf, IsTold, Tells};
 use crate::inputs::digits::{BlockFault, add_block};
 use crate::inputs::files::{FileFault, FileKind, Files};
 use std::alloc::Global;
+use std::fmt;
 
-/// What a file has in place of hex digits in pairs.
+/// What a file has in place of hex digits in pairs. It is displayed in words.
 #[derive(Clone, Copy, Debug, PartialEq, Eq)]
 pub enum DigitFault {
     /// A byte that is neither a hex digit nor white space, the first of these, and its line.
     Foreign { line: u64, byte: u8 },
     /// Hex digits alone, but an odd number of them.
     Odd,
+}
+
+impl fmt::Display for DigitFault {
+    fn fmt<W: fmt::Write>(&self, f: &mut fmt::Formatter<W>) -> fmt::Result {
+        match *self {
+            DigitFault::Foreign { line, byte } if byte.is_ascii_graphic() => {
+                let found = char::from(byte);
+                write!(f, "line {line}: `{found}` is no hex digit")
+            }
+            DigitFault::Foreign { line, byte } => {
+                write!(f, "line {line}: `\\x{byte:02x}` is no hex digit")
+            }
+            DigitFault::Odd => f.write_str("an odd number of hex digits"),
+        }
+    }
 }
 
 /// Why no code was read from a file.

@@ -3,11 +3,13 @@
 ghost use Rattle.std.specs.Prelude.{◌≡◌, ◌⊎◌, ◌≤◌, ℕ, List, Some, None, IfOk, IfErr, OnOk, IfSome, length};
 ghost use Rattle.std.specs.declared.option.Option.{Option};
 ghost use Rattle.apd_files.specs.Kinds.{most_of};
-ghost use Rattle.apd_files.specs.Held.{Holds, IsUnopened, IsUnread};
+ghost use Rattle.apd_files.specs.Held.{Holds, IsUnopened, IsUnread, Saved, Saves};
 ghost use Rattle.apd_files.specs.Reading.{Opens, Gives};
 
+use crate::outputs::Unwritten;
 use std::alloc::{AllocError, Global};
 use std::fmt::Write;
+use std::io::ErrorKind;
 use thiserror::Error;
 
 /// Why a file wasn't read. Its text says so to people.
@@ -22,6 +24,9 @@ pub enum FileFault {
     /// The system gives another reason.
     #[error("reading failed")]
     Failed,
+    /// It is standard input, which was read already.
+    #[error("standard input is read once")]
+    Taken,
     /// It has more bytes than so many, which are read of such a file at most.
     #[error("it has more than {0} bytes")]
     TooLong(u64),
@@ -60,7 +65,7 @@ impl FileKind {
     }
 }
 
-/// Where files are read, one at a time and block by block.
+/// Where files are read, one at a time and block by block, and written whole.
 pub trait Files {
     // What is known of the file at a path: nothing, or its bytes, or that there is none to be read.
     ghost held: { Self → List ℕ → Option (Option (List ℕ)) } = { λ _ _. None };
@@ -68,7 +73,11 @@ pub trait Files {
     // What is known of what is still to come of the open file: nothing, or its bytes.
     ghost left: { Self → Option (List ℕ) } = { λ _. None };
 
+    // What was written, and where, as far as is known.
+    ghost saved: { Self → Saved } = { λ _. None };
+
     /// Opens the file at the path, in place of the one that was open. The files stay as they are.
+    /// The path `-` is standard input where there is one.
     fn open(&mut self, path: &str) -> Result<(), FileFault>
         ensures ok { OnOk result (Opens (held self.old path.now) (left self.new)) }
         ensures fault { IfErr result (λ e. IfSome (held self.old path.now) (IsUnopened e)) }
@@ -80,6 +89,14 @@ pub trait Files {
         ensures ok { IfOk result (λ block. Gives block.items (left self.old) (left self.new)) }
         ensures fault { IfErr result (λ e. (e ≡ FileFault.NoMemory) ⊎ (left self.old ≡ None)) }
         ensures same { held self.new ≡ held self.old };
+
+    /// Writes a file of these bytes, in place of one that was there. Where that fails, nothing is known
+    /// of it. Files that can't be written refuse it.
+    fn save(&mut self, path: &str, bytes: &[u8]) -> Result<(), Unwritten>
+        ensures saved { OnOk result (Saves path.now bytes.now (saved self.old) (saved self.new)) }
+    {
+        Err(Unwritten(ErrorKind::Unsupported))
+    }
 }
 
 /// The bytes of the file at the path, which is of this kind; `TooLong` where there are more than its kind
@@ -108,6 +125,11 @@ pub fn read_whole<F: Files>(
         }
     }
     Err(FileFault::TooLong(most))
+}
+
+/// The path of the file that a word of a script names: there `-` is a file's name as others are.
+pub fn path_of_word(word: &str) -> &str {
+    if word == "-" { "./-" } else { word }
 }
 
 /// A path as it can be repeated in a message: control characters are escaped.

@@ -10,6 +10,7 @@ ghost use Rattle.apd_run.specs.Crews.{gains, with_one_more};
 
 use crate::access::naming::Publications;
 use crate::access::worker::LiveWorker;
+use crate::actions::{Publication, WordUse};
 use crate::loads::{Loads, StateLimit};
 use crate::{Operating, Told, Waiting};
 use ap_books::{Ledgers, Portions, Totals};
@@ -17,8 +18,8 @@ use ap_live::{LiveAp, OperatorToken};
 use ap_locked::Journals;
 use ap_model::Event;
 use ap_queues::Unserved;
-use apd_files::Files;
-use apd_script::{Command, MapWord};
+use apd_files::{Files, path_of_word};
+use apd_script::MapWord;
 use bpf_regions::{Hook, Scope};
 use std::marker::{Model, PhantomData};
 use std::sync::Wait;
@@ -76,7 +77,7 @@ impl<'a, B: Ledgers + Journals, L: Publications, F: Files> LiveOperator<'a, B, L
     {
         let limit = self.sources.limit;
         let files = &mut *self.sources.files;
-        self.loads.load(rt, files, hook, path, limit)
+        self.loads.load(rt, files, hook, path_of_word(path), limit)
     }
 
     /// Adopts a program for a hook, with its certificate.
@@ -85,7 +86,9 @@ impl<'a, B: Ledgers + Journals, L: Publications, F: Files> LiveOperator<'a, B, L
         ensures nothing { told_counts result ≡ none }
     {
         let files = &mut *self.sources.files;
-        self.loads.adopt(rt, files, hook, path, certificate)
+        let certificate = path_of_word(certificate);
+        self.loads
+            .adopt(rt, files, hook, path_of_word(path), certificate)
     }
 
     /// Leaves a hook without a program.
@@ -96,23 +99,6 @@ impl<'a, B: Ledgers + Journals, L: Publications, F: Files> LiveOperator<'a, B, L
         match self.loads.unload(rt, hook) {
             Ok(()) => return None,
             Err(_) => return Some(Told::Memory),
-        }
-    }
-
-    /// A load, an adoption or an unload; nothing is told of any other command.
-    fn publish<R: Wait>(&mut self, rt: &R, command: &Command<'_>) -> Option<Told>
-        ensures same { crew_of self.new ≡ crew_of self.old }
-        ensures nothing { IfSome result (λ told. told_counts told ≡ none) }
-    {
-        match *command {
-            Command::Load { hook, path } => return Some(self.load(rt, hook, path)),
-            Command::Adopt {
-                hook,
-                path,
-                certificate,
-            } => return Some(self.adopt(rt, hook, path, certificate)),
-            Command::Unload(hook) => return self.unload(rt, hook),
-            _ => return None,
         }
     }
 
@@ -242,15 +228,26 @@ impl<'a, B: Ledgers + Journals, L: Publications, F: Files, G: Drop> Operating<
         }
     }
 
-    fn perform<R: Wait>(&mut self, rt: &R, command: &Command<'_>) -> Option<Told> {
-        match *command {
-            Command::Store { word, value } => {
+    fn publish<R: Wait>(&mut self, rt: &R, publication: Publication<'_>) -> Option<Told> {
+        match publication {
+            Publication::Load { hook, path } => return Some(self.load(rt, hook, path)),
+            Publication::Adopt {
+                hook,
+                path,
+                certificate,
+            } => return Some(self.adopt(rt, hook, path, certificate)),
+            Publication::Unload(hook) => return self.unload(rt, hook),
+        }
+    }
+
+    fn use_word(&mut self, wanted: WordUse) -> Option<Told> {
+        match wanted {
+            WordUse::Store { word, value } => {
                 self.store(word, value);
                 return None;
             }
-            Command::Read(word) => return self.read(word),
-            Command::Sum(word) => return self.sum(word),
-            _ => return self.publish(rt, command),
+            WordUse::Read(word) => return self.read(word),
+            WordUse::Sum(word) => return self.sum(word),
         }
     }
 

@@ -15,6 +15,7 @@ use crate::access::hands::{Hands, deal};
 use crate::access::naming::Publications;
 use crate::access::operator::{LiveOperator, Sources};
 use crate::access::worker::LiveWorker;
+use crate::console::Console;
 use crate::loads::{Loads, StateLimit};
 use crate::{Ready, Staff, run_script};
 use ap_books::{Ledgers, Portions};
@@ -26,7 +27,6 @@ use apd_files::Files;
 use apd_script::Numbered;
 use bpf_regions::Shapes;
 use std::alloc::{AllocError, Global};
-use std::io::Write;
 use std::marker::{Brand, PhantomData};
 use std::sync::Wait;
 use std::thread::Threads;
@@ -66,8 +66,8 @@ struct Equipment<B: Ledgers + Journals> {
 }
 
 /// The end of a run that memory was refused to before it began.
-fn without_memory<P: Write>(writer: P) -> (P, u8)
-    ensures runs { Runs (P.contents writer) (P.contents result.0) none result.1 }
+fn without_memory<P: Console>(writer: P) -> (P, u8)
+    ensures runs { Runs (P.strict writer) (P.contents writer) (P.contents result.0) none result.1 }
 {
     (writer, NO_MEMORY)
 }
@@ -153,10 +153,10 @@ where
     F: Files,
     G: Gate + Copy + Send,
     R: Threads + Wait + Sync,
-    P: Write + Drop,
+    P: Console + Drop,
     requires all { vec_len workers ≡ operator.workers }
     requires nothing { sum_of operator.hoard ≡ none }
-    ensures runs { Runs (P.contents writer) (P.contents result.0) none result.1 }
+    ensures runs { Runs (P.strict writer) (P.contents writer) (P.contents result.0) none result.1 }
 {
     let staff = Staff { operator, workers };
     run_script(rt, alloc, staff, commands, writer)
@@ -178,13 +178,13 @@ where
     F: Files,
     G: Gate + Copy + Send,
     R: Threads + Wait + Sync,
-    P: Write + Drop,
+    P: Console + Drop,
     requires hands { let hands = equipment.hands in
         AreHands ap.now hands.operator hands.workers.items hands.hoard hands.parts }
     requires shares { B.shares ≡ parts_in_all }
     requires list { ap.now.list.list ≡ L.list }
     requires loads { equipment.loads.list ≡ L.list }
-    ensures runs { Runs (P.contents writer) (P.contents result.0) none result.1 }
+    ensures runs { Runs (P.strict writer) (P.contents writer) (P.contents result.0) none result.1 }
 {
     let Supplies { files, limit, gate } = supplies;
     let Equipment { hands, loads } = equipment;
@@ -224,12 +224,12 @@ where
     F: Files,
     G: Gate + Copy + Send,
     R: Threads + Wait + Sync,
-    P: Write + Drop,
+    P: Console + Drop,
     requires unused { IsUnused new.workers new.opened.ap new.opened.publisher new.opened.left }
     requires few { new.workers ≤ 8 }
     requires shapes { new.shapes ≡ new.opened.publisher.shapes }
     requires shares { B.shares ≡ parts_in_all }
-    ensures runs { Runs (P.contents writer) (P.contents result.0) none result.1 }
+    ensures runs { Runs (P.strict writer) (P.contents writer) (P.contents result.0) none result.1 }
 {
     let Unused {
         opened,
@@ -266,13 +266,13 @@ where
     F: Files,
     G: Gate + Copy + Send,
     R: Threads + Wait + Sync,
-    P: Write + Drop,
+    P: Console + Drop,
     requires some { 0 < opening.settings.workers }
     requires few { opening.settings.workers ≤ 8 }
     requires shapes { opening.shapes ≡ opening.settings.shapes }
     requires named { AreNamed B.name_of B.shares B.journal_of opening.new }
     requires shares { B.shares ≡ parts_in_all }
-    ensures runs { Runs (P.contents writer) (P.contents result.0) none result.1 }
+    ensures runs { Runs (P.strict writer) (P.contents writer) (P.contents result.0) none result.1 }
 {
     let Opening {
         settings,

@@ -1,15 +1,17 @@
 //! Programs that come with a certificate.
 
 ghost use Rattle.std.specs.Prelude.{◌≡◌};
-ghost use Rattle.apd_run.specs.Adopting.{AdoptsProgram, AdoptsCode, AdoptsFiles};
+ghost use Rattle.apd_run.specs.Adopting.{AdoptsProgram, AdoptsCode, AdoptsFiles, certificate_told};
 
 use crate::loads::loading::Loads;
 use apd_files::{CodeFault, Files, read_certificate, read_code};
 use apd_text::Told;
-use bpf_cert::{CertFault, check};
+use bpf_cert::CertFault;
 use bpf_decode::{DecodeFault, Program, decode};
 use bpf_regions::Hook;
 use std::sync::Wait;
+use versions::PublishFault;
+use versions_checked::{CheckedFault, Offer, publish_checked};
 
 impl Loads {
     /// Reads two files, whose hex digits spell code and a certificate, and puts the code's program in
@@ -74,19 +76,31 @@ impl Loads {
         requires { program.shapes ≡ self.old.shapes }
         ensures { AdoptsProgram hook program certificate.now self.old self.new result }
     {
-        match check(self.alloc, program, hook, certificate) {
-            Ok(accepted) => {
-                let told = self.put_in_force(rt, hook, accepted);
-                return told;
-            }
-            Err(fault) => match fault {
-                CertFault::NoMemory => return Told::Memory,
-                _ => {
-                    return Told::Certificate {
-                        fault: fault.number(),
-                    };
-                }
+        let slots = program.len();
+        let offer = Offer {
+            program,
+            hook,
+            certificate,
+        };
+        match publish_checked(rt, self.alloc, &mut self.publisher, offer) {
+            Ok(budget) => return Told::Loaded { budget, slots },
+            Err(CheckedFault::Certificate(fault)) => return not_certified(fault),
+            Err(CheckedFault::Publication(fault)) => match fault {
+                PublishFault::NoMemory => return Told::Memory,
+                PublishFault::OtherShapes => unreachable!(),
             },
         }
+    }
+}
+
+/// What is told of a certificate that does not serve.
+fn not_certified(fault: CertFault) -> Told
+    ensures { result ≡ certificate_told fault }
+{
+    match fault {
+        CertFault::NoMemory => Told::Memory,
+        CertFault::Malformed | CertFault::Other | CertFault::NotCovered => Told::Certificate {
+            fault: fault.number(),
+        },
     }
 }

@@ -21,7 +21,7 @@ use versions::{News, PublishFault, Publisher};
 /// It is not `Drop`: end it by `close`.
 pub struct Loads {
     pub(crate) alloc: Global,
-    publisher: Publisher,
+    pub(crate) publisher: Publisher,
     shapes: Shapes,
 }
 
@@ -156,17 +156,18 @@ impl Loads {
         }
     }
 
-    pub(crate) fn put_in_force<R: Wait>(&mut self, rt: &R, hook: Hook, accepted: Accepted) -> Told
+    fn put_in_force<R: Wait>(&mut self, rt: &R, hook: Hook, accepted: Accepted) -> Told
         requires hook_is { accepted.hook ≡ hook }
         requires shapes_are { accepted.code.shapes ≡ self.old.shapes }
         ensures { PutsInForce hook accepted self.old self.new result }
     {
         let budget = accepted.budget();
+        let slots = accepted.program().len();
         let Ok(shared) = Arc::new(self.alloc, accepted) else {
             return Told::Memory;
         };
         match self.publisher.publish(rt, hook, Some(shared)) {
-            Ok(()) => return Told::Loaded { budget },
+            Ok(()) => return Told::Loaded { budget, slots },
             Err(PublishFault::NoMemory) => return Told::Memory,
             Err(PublishFault::OtherShapes) => unreachable!(),
         }

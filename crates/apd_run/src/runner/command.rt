@@ -5,8 +5,9 @@ ghost use Rattle.apd_run.specs.Counts.{none};
 ghost use Rattle.apd_run.specs.Shows.{Runs};
 
 use crate::access::{NewShards, Opening, Supplies, run_live};
+use crate::console::{Console, Notes, Terminal};
 use crate::progress::Watcher;
-use crate::runner::fault::{RunFault, complain, of_script, say_why};
+use crate::runner::fault::{RunFault, complain, of_script, say_if_group, say_why};
 use crate::runner::setup::{configuration, copy_of, read, settings};
 use apd_config::Configuration;
 use apd_files::{FileKind, Files};
@@ -24,6 +25,10 @@ pub struct RunWords<'a> {
     pub config: &'a str,
     pub script: &'a str,
     pub workers: u8,
+    /// Whether a refused line ends the run after its interval.
+    pub strict: bool,
+    /// Whether each load is told on standard error, and each hook that has no program at the end.
+    pub verbose: bool,
 }
 
 /// Into how many parts each ledger of an access point is cut.
@@ -51,10 +56,10 @@ where
     R: Threads + Wait + Sync,
     F: Files,
     G: Watcher + Copy + Send,
-    P: Write + Drop,
+    P: Console + Drop,
     requires some { 1 ≤ workers }
     requires few { workers ≤ 8 }
-    ensures runs { Runs (P.contents writer) (P.contents result.0) none result.1 }
+    ensures runs { Runs (P.strict writer) (P.contents writer) (P.contents result.0) none result.1 }
 {
     let Ok(shapes) = copy_of(alloc, &configuration.maps) else {
         return (writer, 3);
@@ -68,10 +73,11 @@ where
     run_live::<Brand, F, G, R, P>(rt, alloc, opening, supplies, commands, writer)
 }
 
-/// Runs a script. `out` is handed back with the program's status: 0; 2 for a fault of a file, the
-/// configuration, the script or a write; 3 where a line says `memory`, or memory was refused to the run
-/// itself. A script at fault is refused before its first line is done. What a status of 2 or 3 means is
-/// told to `err`.
+/// Runs a script. `out` is handed back with the program's status: 0; 1 where the run is strict and ended
+/// with a refused line; 2 for a fault of a file, the configuration, the script or a write; 3 where a line
+/// says `memory`, or memory was refused to the run itself. A script at fault is refused before its first
+/// line is done. What a status of 1, 2 or 3 means is told to `err`, and so is what is in force on a hook where
+/// a load was refused.
 pub fn run<R, F, G, P, E>(
     rt: &R,
     alloc: Global,
@@ -86,13 +92,14 @@ where
     G: Watcher + Copy + Send,
     P: Write + Drop,
     E: Write,
-    ensures runs { Runs (P.contents out) (P.contents result.0) none result.1 }
+    ensures runs { Runs words.entry.strict (P.contents out) (P.contents result.0) none result.1 }
 {
     let Supplies { files, limit, gate } = supplies;
     let configuration = match configuration(alloc, words.config, files) {
         Ok(configuration) => configuration,
         Err(fault) => return (out, complain(alloc, &fault, err)),
     };
+    say_if_group(alloc, words.config, &configuration, err);
     let text = match read(alloc, words.script, FileKind::Script, files) {
         Ok(text) => text,
         Err(fault) => return (out, complain(alloc, &fault, err)),
@@ -100,19 +107,36 @@ where
     let commands = match read_script(alloc, text.as_slice(), &configuration.maps) {
         Ok(commands) => commands,
         Err(fault) => {
-            let fault = of_script(alloc, words.script, fault);
+            let shapes = &configuration.maps;
+            let fault = of_script(alloc, words.script, text.as_slice(), shapes, fault);
             return (out, complain(alloc, &fault, err));
         }
     };
-    let (out, status) = run_commands(
+    let RunWords {
+        script,
+        workers,
+        strict,
+        verbose,
+        ..
+    } = words;
+    let Ok(notes) = Notes::new(alloc, script, &configuration.maps, strict, verbose) else {
+        return (out, complain(alloc, &RunFault::NoMemory, err));
+    };
+    let console = Terminal {
+        out,
+        err: &mut *err,
+        notes,
+    };
+    let (console, status) = run_commands(
         rt,
         alloc,
         configuration,
-        words.workers.max(1).min(8),
+        workers.max(1).min(8),
         commands.as_slice(),
         Supplies { files, limit, gate },
-        out,
+        console,
     );
+    let out = console.end();
     say_why(status, err);
     (out, status)
 }

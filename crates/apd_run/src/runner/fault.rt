@@ -5,9 +5,10 @@ ghost use Rattle.apd_run.specs.Shows.{IsBroken};
 ghost use Rattle.apd_run.specs.declared.runner.fault.RunFault.TheVariants.{NoMemory};
 ghost use Rattle.apd_run.specs.Statuses.{fault_status};
 
-use apd_config::ConfigFault;
+use apd_config::{ConfigFault, Configuration, fault_text};
 use apd_files::{FileFault, shown, write_whole};
-use apd_script::ScriptFault;
+use apd_script::{ScriptFault, line_fault};
+use bpf_regions::Shapes;
 use std::alloc::{AllocError, Global};
 use std::io::Write;
 use thiserror::Error;
@@ -16,11 +17,21 @@ use thiserror::Error;
 #[derive(Debug, Drop, Error)]
 pub(crate) enum RunFault {
     #[error("apd: cannot read {path}: {why}")]
-    Unreadable { path: String, why: FileFault },
-    #[error("apd: {path}: {fault}")]
-    Config { path: String, fault: ConfigFault },
-    #[error("apd: {path}: {fault}")]
-    Script { path: String, fault: ScriptFault },
+    Unreadable {
+        path: String,
+        why: FileFault,
+    },
+    #[error("apd: {path}: {why}")]
+    Config {
+        path: String,
+        why: String,
+    },
+    #[error("apd: {path}: {fault}{why}")]
+    Script {
+        path: String,
+        fault: ScriptFault,
+        why: String,
+    },
     #[error("apd: out of memory")]
     NoMemory,
 }
@@ -46,8 +57,13 @@ pub(crate) fn unreadable(alloc: Global, path: &str, why: FileFault) -> RunFault
     }
 }
 
-/// The fault of a file that is no configuration.
-pub(crate) fn of_configuration(alloc: Global, path: &str, fault: ConfigFault) -> RunFault
+/// The fault of a file with this text, which is no configuration.
+pub(crate) fn of_configuration(
+    alloc: Global,
+    path: &str,
+    text: &[u8],
+    fault: ConfigFault,
+) -> RunFault
     ensures memory { fault ≡ ConfigFault.NoMemory → result ≡ RunFault.NoMemory }
 {
     let Ok(path) = shown(alloc, path) else {
@@ -55,12 +71,21 @@ pub(crate) fn of_configuration(alloc: Global, path: &str, fault: ConfigFault) ->
     };
     match fault {
         ConfigFault::NoMemory => RunFault::NoMemory,
-        fault => RunFault::Config { path, fault },
+        fault => match fault_text(alloc, text, &fault) {
+            Ok(why) => RunFault::Config { path, why },
+            Err(AllocError) => RunFault::NoMemory,
+        },
     }
 }
 
-/// The fault of a file that is no script.
-pub(crate) fn of_script(alloc: Global, path: &str, fault: ScriptFault) -> RunFault
+/// The fault of a file with this text, which is no script for maps of these shapes.
+pub(crate) fn of_script(
+    alloc: Global,
+    path: &str,
+    text: &[u8],
+    shapes: &Shapes,
+    fault: ScriptFault,
+) -> RunFault
     ensures memory { fault ≡ ScriptFault.NoMemory → result ≡ RunFault.NoMemory }
 {
     let Ok(path) = shown(alloc, path) else {
@@ -68,7 +93,39 @@ pub(crate) fn of_script(alloc: Global, path: &str, fault: ScriptFault) -> RunFau
     };
     match fault {
         ScriptFault::NoMemory => RunFault::NoMemory,
-        fault => RunFault::Script { path, fault },
+        ScriptFault::Line(line) => match reason(alloc, text, line, shapes) {
+            Ok(why) => RunFault::Script { path, fault, why },
+            Err(AllocError) => RunFault::NoMemory,
+        },
+    }
+}
+
+/// Why a line is malformed, behind its number.
+fn reason(alloc: Global, text: &[u8], line: u64, shapes: &Shapes) -> Result<String, AllocError> {
+    match line_fault(text, line, shapes) {
+        Some(fault) => format!(in alloc; ": {fault}"),
+        None => Ok(String::new(alloc)),
+    }
+}
+
+/// Tells that no station can answer an access point whose address is that of a group.
+pub(crate) fn say_if_group<W: Write>(
+    alloc: Global,
+    path: &str,
+    configuration: &Configuration,
+    err: &mut W,
+) {
+    if !configuration.is_for_group() {
+        return;
+    }
+    let Ok(path) = shown(alloc, path) else {
+        return;
+    };
+    let [a, b, c, d, e, f] = configuration.bssid;
+    if let Ok(text) = format!(in alloc;
+        "apd: {path}: `bssid` is the address of a group, {a:02x}:{b:02x}:{c:02x}:{d:02x}:{e:02x}:{f:02x}: no station can answer it\n"
+    ) {
+        say(text.as_str(), err);
     }
 }
 
@@ -108,6 +165,10 @@ pub(crate) fn complain<W: Write>(alloc: Global, fault: &RunFault, err: &mut W) -
 pub(crate) fn say_why<W: Write>(status: u8, err: &mut W) {
     match status {
         0 => {}
+        1 => say(
+            "apd: a line was refused, and the run ended with it (--strict)\n",
+            err,
+        ),
         2 => say("apd: cannot write\n", err),
         _ => say("apd: out of memory\n", err),
     }

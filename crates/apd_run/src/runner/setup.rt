@@ -33,7 +33,7 @@ pub(crate) fn configuration<F: Files>(
     let text = read(alloc, path, FileKind::Configuration, files)?;
     match read_configuration(alloc, text.as_slice()) {
         Ok(configuration) => Ok(configuration),
-        Err(fault) => Err(of_configuration(alloc, path, fault)),
+        Err(fault) => Err(of_configuration(alloc, path, text.as_slice(), fault)),
     }
 }
 

@@ -1,6 +1,8 @@
 //! Where an instruction reaches into memory.
 
-use bpf_insn::{Insn, Reg, Size};
+use bpf_absnum::AbsNum;
+use bpf_insn::{AluOp, Insn, Reg, Size};
+use std::fmt;
 
 /// The bytes of memory that an instruction reads or writes: so many from a register's pointer and an offset on.
 #[derive(Clone, Copy)]
@@ -8,6 +10,46 @@ pub(crate) struct Access {
     pub(crate) base: Reg,
     pub(crate) offset: i16,
     pub(crate) size: u8,
+}
+
+/// How far an access reaches in its region.
+#[derive(Clone, Copy)]
+pub(crate) enum Reach {
+    /// It ends behind so many bytes at most.
+    To(u64),
+    /// It begins so many bytes before the region.
+    Before(u64),
+    /// Its offset may be below 0, or past what a number holds.
+    Anywhere,
+}
+
+/// From here on an offset reads as a negative number.
+const NEGATIVE: u64 = 1 << 63;
+
+impl Access {
+    /// How far it reaches through a pointer that has one of these offsets.
+    pub(crate) fn reach(&self, offset: AbsNum) -> Reach {
+        let by = AbsNum::single(i64::from(self.offset).cast_unsigned());
+        let at = offset.alu(AluOp::Add, true, by);
+        let last = at.range().high();
+        if last < NEGATIVE {
+            return Reach::To(last + u64::from(self.size));
+        }
+        if at.is_single() {
+            return Reach::Before(0u64.wrapping_sub(last));
+        }
+        Reach::Anywhere
+    }
+}
+
+impl fmt::Display for Reach {
+    fn fmt<W: fmt::Write>(&self, f: &mut fmt::Formatter<W>) -> fmt::Result {
+        match self {
+            Reach::To(end) => write!(f, "it reaches to byte {end}"),
+            Reach::Before(bytes) => write!(f, "it begins {bytes} bytes before the first byte"),
+            Reach::Anywhere => f.write_str("its offset may wrap, so that it reaches to any byte"),
+        }
+    }
 }
 
 fn bytes_of(size: Size) -> u8 {

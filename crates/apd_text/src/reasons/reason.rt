@@ -1,14 +1,16 @@
 //! Why a program is refused, or what admitting it took.
 
 use crate::reasons::costs::costs_text;
-use crate::reasons::refusal::{append_place, append_registers};
+use crate::reasons::cure::Cure;
+use crate::reasons::curing::{cure_of, cure_of_map};
+use crate::reasons::refusal::{append_origin, append_place, append_registers};
 use crate::reasons::way::append_way;
 use crate::refusals::explain as page_of;
 use bpf_absstate::AbsState;
-use bpf_decode::{DecodeFault, Program};
+use bpf_decode::{DecodeFault, Program, SlotFault};
 use bpf_insn::Insn;
 use bpf_line::InsnText;
-use bpf_regions::Hook;
+use bpf_regions::{Hook, Shape};
 use bpf_verifier::{Explanation, Refusal, StateLimit, explain_within};
 use std::alloc::{AllocError, Global};
 use std::fmt::Write;
@@ -36,55 +38,73 @@ fn refusal_text(
     explanation: &Explanation,
 ) -> Result<String, AllocError> {
     let mut text = String::new(alloc);
+    let way = explanation.path.as_slice();
+    let mut cure = None;
     if let Some(state) = &explanation.state {
-        append_reads(&mut text, program, state, refusal.pc)?;
-        append_reach(&mut text, program, state, refusal.pc)?;
+        append_knowledge(&mut text, program, state, way, refusal.pc)?;
+        cure = cure_of(program, state, refusal);
     }
-    append_way(&mut text, program, explanation.path.as_slice())?;
-    append_cure(&mut text, refusal.number())?;
+    append_way(&mut text, program, way)?;
+    append_cure(&mut text, cure, refusal.number())?;
     Ok(text)
 }
 
-/// What the verifier knew of the registers that an instruction reads.
-fn append_reads(
+/// What the verifier knew where it stopped: of the registers that the instruction reads, of the memory that it reaches to,
+/// and where a pointer into it comes from that may lead anywhere.
+fn append_knowledge(
     text: &mut String,
     program: &Program,
     state: &AbsState,
+    way: &[usize],
     slot: usize,
 ) -> Result<(), AllocError> {
-    match program.insn_at(slot) {
-        Some(Some(insn)) => append_registers(text, state, insn),
-        _ => Ok(()),
+    if let Some(Some(insn)) = program.insn_at(slot) {
+        let read = insn;
+        let placed = insn;
+        append_registers(text, state, read)?;
+        append_place(text, state, program.shapes(), placed)?;
+        append_origin(text, program, state, way, insn)?;
     }
+    Ok(())
 }
 
-/// What it knew of the memory that an instruction reaches to.
-fn append_reach(
-    text: &mut String,
-    program: &Program,
-    state: &AbsState,
-    slot: usize,
-) -> Result<(), AllocError> {
-    match program.insn_at(slot) {
-        Some(Some(insn)) => append_place(text, state, program.shapes(), insn),
-        _ => Ok(()),
+/// The cure: the one that was found, or else the one on the number's page.
+fn append_cure(text: &mut String, cure: Option<Cure>, number: u8) -> Result<(), AllocError> {
+    if let Some(cure) = cure {
+        writeln!(text, "  cure: {cure}")?;
+        return Ok(());
     }
-}
-
-/// The cure most likely meant.
-fn append_cure(text: &mut String, number: u8) -> Result<(), AllocError> {
     if let Some(page) = page_of(number) {
         writeln!(text, "  cure: {}", page.cure)?;
     }
     Ok(())
 }
 
-/// The lines on a fault of code: the bytes of its slot, and the cure.
-pub fn fault_text(alloc: Global, code: &[u8], fault: DecodeFault) -> Result<String, AllocError> {
+/// The lines on a fault of code, which was decoded for maps of these shapes: the bytes of its slot, and the cure.
+pub fn fault_text(
+    alloc: Global,
+    code: &[u8],
+    shapes: &[Shape],
+    fault: DecodeFault,
+) -> Result<String, AllocError> {
     let mut text = String::new(alloc);
     append_bytes(&mut text, code, fault.slot())?;
-    append_cure(&mut text, fault.number())?;
+    append_cure(&mut text, cure_in(code, shapes, fault), fault.number())?;
     Ok(text)
+}
+
+/// The cure of a fault of code, where its instruction tells more than its number.
+fn cure_in(code: &[u8], shapes: &[Shape], fault: DecodeFault) -> Option<Cure> {
+    match fault {
+        DecodeFault::At {
+            slot,
+            fault: SlotFault::UnknownMap,
+        } => match insn_at(code, slot) {
+            Some(insn) => cure_of_map(shapes, insn),
+            None => None,
+        },
+        _ => None,
+    }
 }
 
 /// The bytes of a slot, where the code has it.
@@ -111,14 +131,20 @@ fn slot_in(code: &[u8], slot: usize) -> Option<[u8; 8]> {
     Some(bytes)
 }
 
-/// The text of the instruction that stands at a slot of code; none where there is none.
-pub fn insn_text(alloc: Global, code: &[u8], slot: usize) -> Result<Option<String>, AllocError> {
-    let Some(first) = slot_in(code, slot) else {
-        return Ok(None);
-    };
+/// The instruction that stands at a slot of code; none where there is none.
+fn insn_at(code: &[u8], slot: usize) -> Option<Insn> {
+    let first = slot_in(code, slot)?;
     let second = slot_in(code, slot.saturating_add(1));
     match Insn::from_slots(first, second) {
-        Ok(insn) => Ok(Some(format!(in alloc; "{}", InsnText(insn))?)),
-        Err(_) => Ok(None),
+        Ok(insn) => Some(insn),
+        Err(_) => None,
+    }
+}
+
+/// The text of the instruction that stands at a slot of code; none where there is none.
+pub fn insn_text(alloc: Global, code: &[u8], slot: usize) -> Result<Option<String>, AllocError> {
+    match insn_at(code, slot) {
+        Some(insn) => Ok(Some(format!(in alloc; "{}", InsnText(insn))?)),
+        None => Ok(None),
     }
 }

@@ -1,11 +1,14 @@
 //! What the verifier knew where it refuses a program, as text.
 
-use crate::reasons::access::{Access, access_of};
+use crate::reasons::access::{Access, Reach, access_of};
 use crate::reasons::values::{SlotText, ValueText};
+use crate::reasons::way::written_at;
 use bpf_absnum::AbsNum;
 use bpf_absstate::AbsState;
 use bpf_absval::{AbsRegion, AbsVal, Label};
+use bpf_decode::Program;
 use bpf_insn::{AluOp, AtomicOp, Insn, Reg, Source};
+use bpf_line::InsnText;
 use bpf_regions::Shapes;
 use std::alloc::AllocError;
 use std::fmt::Write;
@@ -104,13 +107,6 @@ fn append_register(text: &mut String, state: &AbsState, register: Reg) -> Result
     Ok(())
 }
 
-/// How far an access ends behind a pointer's own place, at most.
-fn end_of(offset: AbsNum, access: Access) -> u64 {
-    let last = offset.range().high();
-    let by = i64::from(access.offset).cast_unsigned();
-    last.wrapping_add(by).wrapping_add(u64::from(access.size))
-}
-
 /// What there is at the place of an access: how large its region is known to be, or what a stack has there.
 pub(crate) fn append_place(
     text: &mut String,
@@ -122,13 +118,11 @@ pub(crate) fn append_place(
         return Ok(());
     };
     match state.register(access.base) {
-        AbsVal::Frame { offset, label } => {
-            append_frame(text, state, end_of(offset, access), label)
-        }
+        AbsVal::Frame { offset, label } => append_frame(text, state, access.reach(offset), label),
         AbsVal::Pointer { region, offset } => match region {
-            AbsRegion::Context => append_context(text, end_of(offset, access)),
+            AbsRegion::Context => append_context(text, access.reach(offset)),
             AbsRegion::Stack(number) => append_stack(text, state, number, offset, access),
-            AbsRegion::Entry(map) => append_entry(text, shapes, map, end_of(offset, access)),
+            AbsRegion::Entry(map) => append_entry(text, shapes, map, access.reach(offset)),
         },
         _ => Ok(()),
     }
@@ -138,13 +132,13 @@ pub(crate) fn append_place(
 fn append_frame(
     text: &mut String,
     state: &AbsState,
-    end: u64,
+    reach: Reach,
     label: Option<Label>,
 ) -> Result<(), AllocError> {
     let least = state.least();
     writeln!(
         text,
-        "  it reaches to byte {end} of the frame, which has {least} bytes or more"
+        "  {reach} of the frame, which has {least} bytes or more"
     )?;
     if let Some(label) = label {
         let room = state.room(label.label).unwrap_or(0);
@@ -154,16 +148,18 @@ fn append_frame(
     Ok(())
 }
 
-fn append_context(text: &mut String, end: u64) -> Result<(), AllocError> {
-    writeln!(
-        text,
-        "  it reaches to byte {end} of the context, which has 32"
-    )?;
+fn append_context(text: &mut String, reach: Reach) -> Result<(), AllocError> {
+    writeln!(text, "  {reach} of the context, which has 32")?;
     Ok(())
 }
 
 /// How large a map's entries and their words are.
-fn append_entry(text: &mut String, shapes: &Shapes, map: u32, end: u64) -> Result<(), AllocError> {
+fn append_entry(
+    text: &mut String,
+    shapes: &Shapes,
+    map: u32,
+    reach: Reach,
+) -> Result<(), AllocError> {
     let Some(shape) = shapes.get(map) else {
         return Ok(());
     };
@@ -171,7 +167,7 @@ fn append_entry(text: &mut String, shapes: &Shapes, map: u32, end: u64) -> Resul
     let size = shape.entry_bytes();
     writeln!(
         text,
-        "  it reaches to byte {end} of an entry of map {map}, which has {size}, in words of {width}"
+        "  {reach} of an entry of map {map}, which has {size}, in words of {width}"
     )?;
     Ok(())
 }
@@ -188,19 +184,35 @@ fn append_stack(
         writeln!(text, "  the offset in a stack has to be one number")?;
         return Ok(());
     }
-    let size = access.size;
-    let end = end_of(offset, access);
-    let begin = end.wrapping_sub(u64::from(size));
-    if end > STACK || begin > STACK {
-        writeln!(
-            text,
-            "  it reaches outside the {STACK} bytes of a stack frame"
-        )?;
-        return Ok(());
+    let size = u64::from(access.size);
+    match access.reach(offset) {
+        Reach::To(end) if end <= STACK => {
+            let begin = end.saturating_sub(size);
+            append_slots(text, state, number, begin, end)
+        }
+        _ => {
+            writeln!(
+                text,
+                "  it reaches outside the {STACK} bytes of a stack frame"
+            )?;
+            Ok(())
+        }
     }
-    append_slot(text, state, number, begin / 8)?;
-    if end > (begin / 8 + 1) * 8 {
-        append_slot(text, state, number, begin / 8 + 1)?;
+}
+
+/// The lines of the eights that an access to a stack touches: one or two.
+fn append_slots(
+    text: &mut String,
+    state: &AbsState,
+    number: u8,
+    begin: u64,
+    end: u64,
+) -> Result<(), AllocError> {
+    let first = begin / 8;
+    let last = end.saturating_sub(1) / 8;
+    append_slot(text, state, number, first)?;
+    if last > first {
+        append_slot(text, state, number, last)?;
     }
     Ok(())
 }
@@ -222,6 +234,83 @@ fn append_slot(
             text,
             "  stack {number} + {at} (r10-{before}): {}",
             SlotText(content)
+        )?;
+    }
+    Ok(())
+}
+
+/// Where the pointer of an access was made whose offset may wrap.
+pub(crate) fn append_origin(
+    text: &mut String,
+    program: &Program,
+    state: &AbsState,
+    way: &[usize],
+    insn: Insn,
+) -> Result<(), AllocError> {
+    match access_of(insn) {
+        Some(access) if may_wrap(state, &access) => {
+            append_maker(text, program, state, way, access.base)
+        }
+        _ => Ok(()),
+    }
+}
+
+/// The line of the slot that made the pointer in a register: that of its label, or the last one that wrote it.
+fn append_maker(
+    text: &mut String,
+    program: &Program,
+    state: &AbsState,
+    way: &[usize],
+    base: Reg,
+) -> Result<(), AllocError> {
+    let found = match label_of(state.register(base)) {
+        Some(label) => Some(usize::from(label.label).saturating_sub(1)),
+        None => written_at(program, way, base),
+    };
+    match found {
+        Some(slot) => append_sum(text, program, base, slot),
+        None => Ok(()),
+    }
+}
+
+/// The label of a frame pointer; its number is that of the slot of its sum, and 1.
+fn label_of(value: AbsVal) -> Option<Label> {
+    match value {
+        AbsVal::Frame { label, .. } => label,
+        _ => None,
+    }
+}
+
+/// Whether nothing bounds the offset of a pointer outside of the stack.
+fn may_wrap(state: &AbsState, access: &Access) -> bool {
+    match state.register(access.base) {
+        AbsVal::Frame { offset, .. } => is_anywhere(access, offset),
+        AbsVal::Pointer { region, offset } => match region {
+            AbsRegion::Stack(_) => false,
+            AbsRegion::Context => is_anywhere(access, offset),
+            AbsRegion::Entry(_) => is_anywhere(access, offset),
+        },
+        _ => false,
+    }
+}
+
+fn is_anywhere(access: &Access, offset: AbsNum) -> bool {
+    matches!(access.reach(offset), Reach::Anywhere)
+}
+
+/// The line of the slot that made a pointer.
+fn append_sum(
+    text: &mut String,
+    program: &Program,
+    register: Reg,
+    slot: usize,
+) -> Result<(), AllocError> {
+    if let Some(Some(insn)) = program.insn_at(slot) {
+        let number = register.number();
+        writeln!(
+            text,
+            "  r{number} comes from slot {slot}: {}",
+            InsnText(insn)
         )?;
     }
     Ok(())

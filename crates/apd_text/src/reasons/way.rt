@@ -1,7 +1,7 @@
 //! The way to an instruction, as text.
 
 use bpf_decode::Program;
-use bpf_insn::Insn;
+use bpf_insn::{Insn, Reg};
 use bpf_line::InsnText;
 use std::alloc::AllocError;
 use std::fmt::Write;
@@ -97,4 +97,54 @@ fn append_branch(
         InsnText(insn)
     )?;
     Ok(())
+}
+
+/// What an instruction does to a register.
+#[derive(Clone, Copy)]
+enum Effect {
+    Writes,
+    Keeps,
+    /// It is a call, or leaves a function: what was there is of no use behind it.
+    Ends,
+}
+
+/// What an instruction of a program does to a register.
+fn effect_on(program: &Program, slot: usize, register: Reg) -> Effect {
+    match program.insn_at(slot) {
+        Some(Some(insn)) => effect_of(insn, register),
+        _ => Effect::Keeps,
+    }
+}
+
+fn effect_of(insn: Insn, register: Reg) -> Effect {
+    match insn {
+        Insn::Alu { dst, .. }
+        | Insn::MovSx { dst, .. }
+        | Insn::Neg { dst, .. }
+        | Insn::End { dst, .. }
+        | Insn::Load { dst, .. }
+        | Insn::LoadWide { dst, .. } => {
+            if dst == register {
+                Effect::Writes
+            } else {
+                Effect::Keeps
+            }
+        }
+        Insn::Call { .. } | Insn::CallLocal { .. } | Insn::Exit => Effect::Ends,
+        _ => Effect::Keeps,
+    }
+}
+
+/// The slot on a way, but for its end, that wrote a register last. None where a call comes after it.
+pub(crate) fn written_at(program: &Program, way: &[usize], register: Reg) -> Option<usize> {
+    let steps = way.len().saturating_sub(1);
+    let mut written = None;
+    for slot in way.iter().take(steps) {
+        match effect_on(program, *slot, register) {
+            Effect::Writes => written = Some(*slot),
+            Effect::Keeps => {}
+            Effect::Ends => written = None,
+        }
+    }
+    written
 }

@@ -135,13 +135,14 @@ are zero.",
     },
     Explanation {
         number: 19,
-        title: "no such map",
+        title: "no such map, or no such byte in it",
         meaning: "The configuration has no map of that number, or its first entry has no byte at that offset.",
-        habit: "`--config` was left out, or maps were counted from 1.",
+        habit: "`--config` was left out, maps were counted from 1, or an offset counts past the first entry.",
         programs: Some((
             Example::Text("lddw r1, map 7\nmov r0, 0\nexit\n"),
             Example::Text("lddw r1, map 0\nmov r0, 0\nexit\n"),
         )),
-        cure: "Declare the map in the configuration; the first `[[map]]` is map 0.",
+        cure: "Declare the map in the configuration; the first `[[map]]` is map 0. `apd_lookup` gives entries behind \
+the first.",
     },
 ];

@@ -21,8 +21,8 @@ though its padding was never written.",
         meaning: "Pointers are moved, added to numbers, and numbers are subtracted from them; they are compared \
 with the frame's end or with 0, spilled to the stack, and used for accesses. All else is for numbers. The frame and \
 the context are only read.",
-        habit: "Two pointers were subtracted (`end - frame`), a pointer was multiplied or masked, an array on the \
-stack had a variable index, or the frame was written to.",
+        habit: "Two pointers were subtracted (`end - frame`), `end` was moved (`end - 4`), a pointer was multiplied or \
+masked, or the frame was written to.",
         programs: Some((
             Example::Text("mul r1, 2\nmov r0, 0\nexit\n"),
             Example::Text("mov r3, 2\nmul r3, 2\nadd r1, r3\nmov r0, 0\nexit\n"),
@@ -34,14 +34,16 @@ stack had a variable index, or the frame was written to.",
         title: "an access may leave its region",
         meaning: "Nothing shows that the bytes are there: in a frame a test against its end has to come before, in \
 the context (32 bytes), a stack frame (512) and a map's entry the offset has to be in range whatever its value.",
-        habit: "A byte of the frame is read without a test, or another pointer was tested than the one that is read.",
+        habit: "A byte of the frame is read without a test, or another pointer was tested than the one that is read; or \
+an array on the stack has a variable index.",
         programs: Some((
             Example::Text("ldxb r0, [r1+24]\nexit\n"),
             Example::Text(
                 "mov r3, r1\nadd r3, 25\nmov r0, 0\njgt r3, r2, +1\nldxb r0, [r1+24]\nexit\n",
             ),
         )),
-        cure: "Test first: `if (p + 25 > end) return APD_PASS;`. A variable offset is masked first (`at &= 63`).",
+        cure: "Test what is read: byte 24 needs `if (frame + 25 > end) return APD_PASS;`. A variable offset is masked \
+first (`at &= 63`). In place of an array on the stack take a map.",
     },
     Explanation {
         number: 33,
@@ -112,10 +114,11 @@ argument is).",
     Explanation {
         number: 38,
         title: "the verdict is no number",
-        meaning: "At the exit r0 is a number: the verdict.",
-        habit: "A pointer was returned.",
+        meaning: "At the exit r0 is a number: the verdict. Functions that the program calls return numbers too.",
+        habit: "A pointer was returned, by the policy or by a function that was not inlined; without optimisation none \
+is, as `apd_body`.",
         programs: Some((Example::Text("mov r0, r1\nexit\n"), MOVES)),
-        cure: "Return a number.",
+        cure: "Return a number, and compile with -O1, -Os or -O2.",
     },
     Explanation {
         number: 40,

@@ -79,7 +79,7 @@ pub(crate) fn append_report(
     match &report.told {
         Told::Handled { outs, .. } => append_outs(alloc, text, line, outs.as_slice())?,
         Told::Memory => writeln!(text, "{line} memory")?,
-        Told::Loaded { budget } => writeln!(text, "{line} loaded {budget}")?,
+        Told::Loaded { budget, .. } => writeln!(text, "{line} loaded {budget}")?,
         Told::Fault(fault) => writeln!(text, "{line} {fault}")?,
         Told::Refused(refusal) => writeln!(text, "{line} {refusal}")?,
         Told::Certificate { fault } => writeln!(text, "{line} certificate {fault}")?,

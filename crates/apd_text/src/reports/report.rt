@@ -11,8 +11,8 @@ pub enum Told {
     Handled { outs: Vec<Out>, dropped: bool },
     /// Memory was refused, and nothing changed.
     Memory,
-    /// A program is in force, and safe within the budget.
-    Loaded { budget: u32 },
+    /// A program of so many slots is in force, and safe within the budget.
+    Loaded { budget: u32, slots: usize },
     /// The code of a file isn't well formed.
     Fault(DecodeFault),
     /// The verifier doesn't admit a program.

@@ -6,10 +6,10 @@ use Rattle.apd_program.proofs.verifying.run.Goals as goal
 pub returns-in_ok-text-in-Ok-clause-run : goal.returns-in_ok-text-in-Ok-clause-run
 returns-in_ok-text-in-Ok-clause-run c =
     Admitted c.in-Ok.accepted.budget _ c.in-Ok.ensures.safe (subst (λ n. c.in-Ok.accepted.budget ≤ n) c.limit_of-limit.ensures.is c.in-Ok.ensures.small) c.in-Ok.ensures.walk
-    (IsTrace-of c.in-Ok.accepted _ _ _ _ _ c.in-Ok.ensures.code c.in-Ok.ensures.hook c.in_ok-text-in-Ok.ensures.is)
+    (IsTrace-of c.in-Ok.accepted _ _ _ _ _ _ c.in-Ok.ensures.code c.in-Ok.ensures.hook c.in_ok-text-in-Ok.ensures.is)
 
 pub returns-in-Err-clause-run : goal.returns-in-Err-clause-run
 returns-in-Err-clause-run c =
-    let says = IsRun c.args.terms.hook c.args.frame.now c.args.draw in
+    let says = IsRun c.args.stimulus.terms.hook c.args.stimulus.frame.now c.args.stimulus.context.now c.args.stimulus.draw in
     subst (λ n. IfOk c.refused.result (IsVerdict n says c.args.program)) c.limit_of-limit.ensures.is
     (IsVerdict-refused c.limit_of-limit.result says _ _ c.in-Err.refusal c.in-Err.ensures.plain c.in-Err.ensures.clear c.in-Err.ensures.begins c.refused.ensures.refusal)

@@ -7,4 +7,4 @@ use Rattle.apd_run.proofs.feeding.tell_memory.Goals as goal
 pub returns : goal.returns
 returns c =
     let report : Report = record { line = c.args.line; shard = 0; told = Memory } in
-    record { told = tells_one _ _ _ report refl c.in_ok-reserve.ensures.items c.push_reserved.ensures.items }
+    record { told = tells_one _ _ _ report refl c.in_ok-reserve.ensures.items (rw c.of_line.ensures at c.push_reserved.ensures.items) }

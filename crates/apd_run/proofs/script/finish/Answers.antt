@@ -1,14 +1,14 @@
-use Rattle.std.proofs.Common.{sym, subst}
+use Rattle.std.proofs.Common.{subst}
 use Rattle.ap_books.specs.Counts.{Counts}
 use Rattle.ap_books.specs.Reading.{Reads}
-use Rattle.apd_run.specs.Shows.{Finishes, Whole, Part}
+use Rattle.apd_run.specs.Shows.{Whole, Part}
 use Rattle.apd_run.proofs.script.finish.Goals as goal
 
 pub returns-in-Ok : goal.returns-in-Ok
 returns-in-Ok g c =
     let totals = c.gather-totals.result in
     let reads = subst (λ (x : Counts). Reads totals x) c.dismiss_all.ensures.counted c.gather-totals.ensures.reads in
-    record { finishes = subst (Finishes _ _ _ _) (sym c.ended.ensures) (Whole totals reads c.in-Ok.ensures.whole) }
+    record { finishes = Whole totals reads c.in-Ok.ensures.whole }
 
 pub returns-in-Err : goal.returns-in-Err
 returns-in-Err g c =

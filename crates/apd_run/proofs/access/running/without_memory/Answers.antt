@@ -5,4 +5,4 @@ use Rattle.apd_run.proofs.Broken.{breaks_at_once}
 use Rattle.apd_run.proofs.access.running.without_memory.Goals as goal
 
 pub returns : goal.returns
-returns g c = record { runs = Fails 3 (breaks_at_once _ none) (inr refl) }
+returns g c = record { runs = Fails 3 (breaks_at_once _ _ none) (inr refl) }

@@ -3,4 +3,4 @@ use Rattle.apd_run.proofs.Ending.{runs_nothing}
 use Rattle.apd_run.proofs.runner.command.run_commands.Goals as goal
 
 pub returns-in_default : goal.returns-in_default
-returns-in_default g c = record { runs = runs_nothing _ _ _ (inr refl) }
+returns-in_default g c = record { runs = runs_nothing _ _ _ _ (inr refl) }

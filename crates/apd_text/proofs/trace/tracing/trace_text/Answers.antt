@@ -9,7 +9,7 @@ returns c =
     let found = c.in_ok-outcome.ensures.run in
     let made : List Step = found.0 in
     let log : c.as_slice.result.now ≡ made = c.as_slice.ensures.value ∙ found.1 ∙ ap (λ l. l ++ made) c.new-log.ensures.items in
-    let run = rw (c.context_of-context.ensures.is, c.hook.ensures.is, c.in_ok-port.ensures.is, c.shapes.ensures.is, c.program-program.ensures.is) at found.2 in
+    let run = rw (c.in_ok-port.ensures.is, c.shapes.ensures.is, c.program-program.ensures.is) at found.2 in
     record {
       is = record {
         port = c.trace.new.port;

@@ -1,4 +1,5 @@
-use Rattle.std.proofs.Common.{rules, refl, sym, subst}
+use Rattle.std.proofs.Common.{◌≡◌, rules, refl, sym, subst, ap, ◌∙◌, length}
+use Rattle.bpf_decode.specs.Program.{Code}
 use Rattle.apd_text.specs.declared.reports.report.Told.TheVariants.{Loaded}
 use Rattle.apd_run.specs.Loading.{PutsInForce, InForce, NoRoomToPut}
 use Rattle.apd_run.proofs.loads.loading.Loads.put_in_force.Goals as goal
@@ -8,7 +9,10 @@ returns-in_default g c = NoRoomToPut refl
 
 pub returns-in-Ok-publish : goal.returns-in-Ok-publish
 returns-in-Ok-publish g c =
-    subst (λ b. PutsInForce c.args.hook c.args.accepted c.args.self.now c.publish.new.self (Loaded b)) (sym c.budget-budget.ensures.is)
+    let many : c.len-slots.result ≡ length c.args.accepted.code.slots =
+    c.len-slots.ensures.is ∙ ap (λ (code : Code). length code.slots) c.program.ensures.is in
+    subst (λ n. PutsInForce c.args.hook c.args.accepted c.args.self.now c.publish.new.self (Loaded c.budget-budget.result n)) (sym many)
+    (subst (λ b. PutsInForce c.args.hook c.args.accepted c.args.self.now c.publish.new.self (Loaded b (length c.args.accepted.code.slots))) (sym c.budget-budget.ensures.is)
     (InForce (record {
       accepted = c.args.accepted;
       code_is = refl;
@@ -16,7 +20,7 @@ returns-in-Ok-publish g c =
       budget_is = refl;
       safe = rw c.budget-budget.ensures.is at c.budget-budget.ensures.safe;
       loaded = search rules;
-    }))
+    })))
 
 pub returns-in-Err-NoMemory : goal.returns-in-Err-NoMemory
 returns-in-Err-NoMemory g c = NoRoomToPut (search rules)

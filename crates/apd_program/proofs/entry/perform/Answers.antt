@@ -1,0 +1,22 @@
+use Rattle.std.proofs.Common.{subst}
+use Rattle.apd_words.specs.Asked.{Wanted}
+use Rattle.apd_program.specs.Program.{Fulfils}
+use Rattle.apd_program.proofs.Performing.{Fulfils-told}
+use Rattle.apd_program.proofs.entry.perform.Goals as goal
+
+pub returns-in-Ok-Run : goal.returns-in-Ok-Run
+returns-in-Ok-Run g c = record {
+  fulfils = λ w spelled.
+      let P : Wanted → Type 0 = λ v. Fulfils (g.F.Files.held c.args.files.now) v (g.O.Write.contents c.args.out) (g.O.Write.contents c.run_watched.result.0) c.run_watched.result.1 in
+      subst P (c.in-Ok.ensures.spelled w spelled) c.run_watched.ensures.runs;
+}
+
+pub returns-in-Ok-Answer : goal.returns-in-Ok-Answer
+returns-in-Ok-Answer g c = record {
+  fulfils = λ w spelled.
+      let P : Wanted → Type 0 = λ v. Fulfils (g.F.Files.held c.args.files.now) v (g.O.Write.contents c.args.out) (g.O.Write.contents c.respond-status.new.out) c.respond-status.result in
+      subst P (c.in-Ok.ensures.spelled w spelled) c.respond-status.ensures.is;
+}
+
+pub returns-in-Err : goal.returns-in-Err
+returns-in-Err g c = record { fulfils = λ w spelled. Fulfils-told _ w _ _ _ _ (c.in-Err.ensures.spelled w spelled) c.tell-status.ensures.is }

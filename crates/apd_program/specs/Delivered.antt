@@ -1,0 +1,39 @@
+-- Where an answer goes: standard output, or a file.
+use Rattle.std.specs.Prelude.{◌≡◌, ◌≢◌, ℕ, List, Option, Some, None, Result, Ok, Err}
+use Rattle.std.specs.Io.KnownBytes.{Appends, Keeps}
+use Rattle.apd_files.specs.Beginning.{AppendsBeginning}
+use Rattle.apd_files.specs.Held.{Saved, Saves}
+use Rattle.apd_program.specs.Lines.{printed, status_of}
+use Rattle.apd_program.specs.declared.answer.Answer.{Answer}
+use Rattle.apd_program.specs.declared.output.Undelivered.{Undelivered}
+use Rattle.apd_program.specs.declared.output.Undelivered.TheVariants.{NoMemory, Unwritten}
+
+-- no file is named for the answer, or it is no success
+abbrev pub GoesOut : Option (List ℕ) → ℕ → Type 0
+GoesOut None status = Unit {0}
+GoesOut (Some path) status = status ≢ 0
+
+-- a file is named for the answer, which is a success
+abbrev pub IsForFile : Option (List ℕ) → ℕ → Type 0
+IsForFile None status = ⊥
+IsForFile (Some path) status = status ≡ 0
+
+-- what standard output gets of an answer
+pub data Delivers (a : Answer) (output old new : Option (List ℕ)) : Result ℕ Undelivered → Type 0 where
+  Printed : GoesOut output (status_of a) → Appends old new (printed a) → Delivers a output old new (Ok (status_of a))
+  Stored : IsForFile output (status_of a) → Keeps old new → Delivers a output old new (Ok 0)
+  Begun : (e : Undelivered) → e ≢ NoMemory → AppendsBeginning old new (printed a) → Delivers a output old new (Err e)
+  Unstored : (e : Undelivered) → e ≢ NoMemory → IsForFile output (status_of a) → Keeps old new → Delivers a output old new (Err e)
+  Nothing : Keeps old new → Delivers a output old new (Err NoMemory)
+
+-- what files get of an answer: one of them the whole text, if the answer is a success; if writing it fails nothing is said
+pub data Stores (a : Answer) (output : Option (List ℕ)) (old new : Saved) (r : Result ℕ Undelivered) : Type 0 where
+  OneFile : (path : List ℕ) → output ≡ Some path → status_of a ≡ 0 → Saves path (printed a) old new → Stores a output old new r
+  BrokenFile : (e : Undelivered) → r ≡ Err e → IsForFile output (status_of a) → Stores a output old new r
+  NoFile : new ≡ old → Stores a output old new r
+
+-- the status after that: the answer's, 2 where a write failed, 3 where memory ran out
+abbrev pub status_after : Result ℕ Undelivered → ℕ
+status_after (Ok status) = status
+status_after (Err NoMemory) = 3
+status_after (Err (Unwritten why)) = 2

@@ -1,0 +1,74 @@
+//! Where an answer goes: standard output, or the file that is named for it if the answer is a success.
+
+ghost use Rattle.std.specs.Prelude.{◌≡◌, ◌==◌, None, if◌then◌else◌};
+ghost use Rattle.apd_words.specs.Asked.{text_of};
+ghost use Rattle.apd_program.specs.Delivered.{Delivers, Stores, status_after};
+
+use crate::answer::Answer;
+use crate::printing::{NO_MEMORY, say, unwritten};
+use apd_files::{Files, Unwritten, write_whole};
+use std::alloc::Global;
+use std::io::{ErrorKind, Write};
+
+/// Why an answer wasn't delivered whole.
+#[derive(Clone, Copy, Debug)]
+pub(crate) enum Undelivered {
+    NoMemory,
+    /// A writer, or the file, took no more.
+    Unwritten(ErrorKind),
+}
+
+/// The file for an answer with this status: the one that is named, if the answer is a success.
+fn file_for<'a>(output: Option<&'a str>, status: u8) -> Option<&'a str>
+    ensures is { text_of result ≡ (if status == 0 then text_of output.entry else None) }
+{
+    if status == 0 { output } else { None }
+}
+
+/// Writes an answer, and answers its status.
+pub(crate) fn deliver<F: Files, W: Write>(
+    alloc: Global,
+    answer: Answer,
+    output: Option<&str>,
+    files: &mut F,
+    out: &mut W,
+) -> Result<u8, Undelivered>
+    ensures out { Delivers answer (text_of output.entry)
+        (W.contents out.old) (W.contents out.new) result }
+    ensures saved { Stores answer (text_of output.entry)
+        (F.saved files.old) (F.saved files.new) result }
+{
+    let status = answer.status();
+    let Ok(text) = answer.printed(alloc) else {
+        return Err(Undelivered::NoMemory);
+    };
+    match file_for(output, status) {
+        Some(path) => match files.save(path, text.as_bytes()) {
+            Ok(()) => return Ok(0),
+            Err(Unwritten(why)) => return Err(Undelivered::Unwritten(why)),
+        },
+        None => match write_whole(out, text.as_bytes()) {
+            Ok(()) => return Ok(status),
+            Err(Unwritten(why)) => return Err(Undelivered::Unwritten(why)),
+        },
+    }
+}
+
+/// Tells why an answer wasn't delivered, and answers the program's status: the answer's, 2 where a write failed, 3 where
+/// memory ran out.
+pub(crate) fn conclude<E: Write>(
+    alloc: Global,
+    delivered: Result<u8, Undelivered>,
+    err: &mut E,
+) -> u8
+    ensures is { result ≡ status_after delivered }
+{
+    match delivered {
+        Ok(status) => return status,
+        Err(Undelivered::NoMemory) => {
+            say(NO_MEMORY, err);
+            return 3;
+        }
+        Err(Undelivered::Unwritten(why)) => return unwritten(alloc, why, err),
+    }
+}

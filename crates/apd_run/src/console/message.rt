@@ -1,0 +1,107 @@
+//! What is told on standard error of the lines of a script.
+
+ghost use Rattle.std.specs.Prelude.{◌≡◌, true, IsSome};
+ghost use Rattle.apd_run.specs.Shows.{is_refusal};
+
+use apd_text::Told;
+use bpf_regions::Hook;
+use std::fmt;
+
+/// The file of a load or an adoption, its hook, and the line whose program the hook had before.
+#[derive(Clone, Copy)]
+pub(crate) struct Loading<'a> {
+    pub hook: Hook,
+    pub path: &'a str,
+    pub before: Option<u64>,
+}
+
+/// What is told.
+#[derive(Clone, Copy)]
+pub(crate) enum Message<'a> {
+    /// A file is not loaded, and its hook keeps what it had.
+    NotLoaded(Loading<'a>),
+    /// A file's program is in force.
+    Loaded {
+        load: Loading<'a>,
+        slots: usize,
+        budget: u32,
+    },
+    /// A number is cut to the width of a map's words.
+    Cut {
+        map: u32,
+        value: u64,
+        kept: u64,
+    },
+    /// A hook has no program.
+    NoProgram(Hook),
+}
+
+/// What there is to tell of a load or an adoption: that it was refused, or, where all is told, that it was not.
+pub(crate) fn message_of<'a>(load: Loading<'a>, told: &Told, verbose: bool) -> Option<Message<'a>>
+    ensures refused { is_refusal told.now ≡ true → IsSome result }
+{
+    match told {
+        Told::Fault(_) => return Some(Message::NotLoaded(load)),
+        Told::Refused(_) => return Some(Message::NotLoaded(load)),
+        Told::Certificate { .. } => return Some(Message::NotLoaded(load)),
+        Told::Unreadable => return Some(Message::NotLoaded(load)),
+        Told::Loaded { budget, slots } if verbose => {
+            return Some(Message::Loaded {
+                load,
+                slots: *slots,
+                budget: *budget,
+            });
+        }
+        Told::Loaded { .. } => return None,
+        Told::Handled { .. } => return None,
+        Told::Memory => return None,
+        Told::Word { .. } => return None,
+    }
+}
+
+/// What a hook without a program does.
+fn without_program(hook: Hook) -> &'static str {
+    match hook {
+        Hook::Association => "has no program: each station is admitted",
+        Hook::Addba => "has no program: each agreement is granted",
+        Hook::Data => "has no program: all data passes, with mark 0",
+    }
+}
+
+impl fmt::Display for Loading<'_> {
+    fn fmt<W: fmt::Write>(&self, f: &mut fmt::Formatter<W>) -> fmt::Result {
+        let Loading { hook, path, before } = *self;
+        match before {
+            Some(line) => write!(
+                f,
+                "{path} is not loaded; {hook} keeps the program of line {line}"
+            ),
+            None => {
+                let now = without_program(hook);
+                write!(f, "{path} is not loaded; {hook} {now}")
+            }
+        }
+    }
+}
+
+impl fmt::Display for Message<'_> {
+    fn fmt<W: fmt::Write>(&self, f: &mut fmt::Formatter<W>) -> fmt::Result {
+        match self {
+            Message::NotLoaded(load) => write!(f, "{load}"),
+            Message::Loaded {
+                load,
+                slots,
+                budget,
+            } => write!(
+                f,
+                "{} has {} from now on: {slots} slots, budget {budget}",
+                load.hook, load.path
+            ),
+            Message::Cut { map, value, kept } => write!(
+                f,
+                "map {map} has words of 4 bytes: of {value} it keeps {kept}"
+            ),
+            Message::NoProgram(hook) => write!(f, "{hook} {}", without_program(*hook)),
+        }
+    }
+}

@@ -1,0 +1,62 @@
+//! What lines that were printed say, as far as the end of their run depends on it.
+
+ghost use Rattle.std.specs.Prelude.{◌≡◌, false, ◌||◌};
+ghost use Rattle.apd_run.specs.Shows.{is_refusal, any_refusal, is_over};
+
+use apd_text::{Report, Told};
+
+/// What lines that were printed say.
+#[derive(Clone, Copy)]
+pub(crate) struct Found {
+    /// Memory was refused to one of them.
+    pub memory: bool,
+    /// One of them is a program, or a file of one, that was refused.
+    pub refused: bool,
+}
+
+impl Found {
+    /// No line was printed.
+    pub(crate) fn nothing() -> Found
+        ensures memory { result.memory ≡ false }
+        ensures refused { result.refused ≡ false }
+    {
+        Found {
+            memory: false,
+            refused: false,
+        }
+    }
+
+    /// These lines and others.
+    pub(crate) fn and(self, more: Found) -> Found
+        ensures memory { result.memory ≡ (self.memory || more.memory) }
+        ensures refused { result.refused ≡ (self.refused || more.refused) }
+    {
+        Found {
+            memory: self.memory || more.memory,
+            refused: self.refused || more.refused,
+        }
+    }
+}
+
+/// Whether a run ends behind lines of which one was refused.
+pub(crate) fn is_over(strict: bool, refused: bool) -> bool
+    ensures is { result ≡ is_over strict refused }
+{
+    strict && refused
+}
+
+/// Whether an answer says that a program, or a file of one, was refused.
+pub(crate) fn is_refusal(told: &Told) -> bool
+    ensures is { result ≡ is_refusal told.now }
+{
+    matches!(
+        told,
+        Told::Fault(_) | Told::Refused(_) | Told::Certificate { .. } | Told::Unreadable
+    )
+}
+
+pub(crate) fn any_refusal(reports: &[Report]) -> bool
+    ensures is { result ≡ any_refusal reports.now }
+{
+    reports.iter().any(|report| is_refusal(&report.told))
+}

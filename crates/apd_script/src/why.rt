@@ -1,0 +1,508 @@
+//! Why a line of a script is malformed, in words for people.
+
+use crate::hex_text::{HexText, are_digits};
+use crate::line::{cut_words, next_word};
+use crate::read::first_line;
+use crate::words::{address, hook_named, number, number_below};
+use bpf_regions::{Scope, Shape, Shapes};
+use std::{fmt, str};
+
+/// Why a line is malformed. It is displayed in words, of which nothing is promised.
+#[derive(Clone, Copy, Debug)]
+pub enum LineFault<'a> {
+    /// The whole text is a capture.
+    Capture,
+    /// The whole text is an object file.
+    ObjectFile,
+    ByteOrderMark,
+    Tab,
+    CarriageReturn,
+    Encoding,
+    /// No command has the name; there may be one that nearly has it.
+    UnknownWord {
+        word: &'a str,
+        near: Option<&'static str>,
+    },
+    /// The command takes another number of words.
+    Operands(Form),
+    /// A word isn't what the command takes at its place.
+    Operand {
+        keyword: &'static str,
+        word: &'a str,
+        fault: OperandFault,
+    },
+}
+
+/// Why a word isn't what a command takes at its place.
+#[derive(Clone, Copy, Debug)]
+pub enum OperandFault {
+    NoDigits,
+    OddDigits,
+    NoUnits,
+    NoAddress,
+    NoReason,
+    NoTid,
+    NoHook,
+    NoNumber,
+    /// So many maps there are.
+    NoMap(usize),
+    /// So many entries the map has.
+    NoEntry(u32),
+    /// So many words an entry of the map has.
+    NoWord(u32),
+    /// The scope that the map has.
+    OtherScope(Scope),
+    NoValue,
+}
+
+/// What a command takes at a place.
+#[derive(Clone, Copy, Debug)]
+pub(crate) enum Operand {
+    Digits,
+    Units,
+    Station,
+    Reason,
+    Tid,
+    Hook,
+    File,
+    Certificate,
+    Map,
+    Entry,
+    Word,
+    Value,
+}
+
+/// How a command is written: its name, what it takes, and the scope of the map whose words it is for, if it is.
+#[derive(Clone, Copy, Debug)]
+pub struct Form {
+    keyword: &'static str,
+    operands: &'static [Operand],
+    scope: Option<Scope>,
+}
+
+const FORMS: [Form; 11] = [
+    Form {
+        keyword: "frame",
+        operands: &[Operand::Digits],
+        scope: None,
+    },
+    Form {
+        keyword: "tick",
+        operands: &[Operand::Units],
+        scope: None,
+    },
+    Form {
+        keyword: "kick",
+        operands: &[Operand::Station, Operand::Reason],
+        scope: None,
+    },
+    Form {
+        keyword: "close",
+        operands: &[Operand::Station, Operand::Tid],
+        scope: None,
+    },
+    Form {
+        keyword: "load",
+        operands: &[Operand::Hook, Operand::File],
+        scope: None,
+    },
+    Form {
+        keyword: "unload",
+        operands: &[Operand::Hook],
+        scope: None,
+    },
+    Form {
+        keyword: "adopt",
+        operands: &[Operand::Hook, Operand::File, Operand::Certificate],
+        scope: None,
+    },
+    Form {
+        keyword: "store",
+        operands: &[Operand::Map, Operand::Entry, Operand::Word, Operand::Value],
+        scope: Some(Scope::Shared),
+    },
+    Form {
+        keyword: "read",
+        operands: &[Operand::Map, Operand::Entry, Operand::Word],
+        scope: Some(Scope::Shared),
+    },
+    Form {
+        keyword: "sum",
+        operands: &[Operand::Map, Operand::Entry, Operand::Word],
+        scope: Some(Scope::Worker),
+    },
+    Form {
+        keyword: "wait",
+        operands: &[],
+        scope: None,
+    },
+];
+
+/// How the files of captures begin.
+const CAPTURES: [&[u8]; 5] = [
+    b"\xd4\xc3\xb2\xa1",
+    b"\xa1\xb2\xc3\xd4",
+    b"\x4d\x3c\xb2\xa1",
+    b"\xa1\xb2\x3c\x4d",
+    b"\x0a\x0d\x0d\x0a",
+];
+
+/// How many characters of a word are repeated in a message.
+const SHOWN: usize = 40;
+
+/// Why the line with this number, from 1, of a text is malformed. None where it is well formed.
+pub fn line_fault<'a>(text: &'a [u8], number: u64, shapes: &Shapes) -> Option<LineFault<'a>> {
+    if is_capture(text) {
+        return Some(LineFault::Capture);
+    }
+    if text.starts_with(b"\x7fELF") {
+        return Some(LineFault::ObjectFile);
+    }
+    let line = line_at(text, number);
+    if number == 1 && line.starts_with(b"\xef\xbb\xbf") {
+        return Some(LineFault::ByteOrderMark);
+    }
+    if line.contains(&b'\t') {
+        return Some(LineFault::Tab);
+    }
+    if line.contains(&b'\r') {
+        return Some(LineFault::CarriageReturn);
+    }
+    match str::from_utf8(line) {
+        Ok(line) => command_fault(shapes, line),
+        Err(_) => Some(LineFault::Encoding),
+    }
+}
+
+fn is_capture(text: &[u8]) -> bool {
+    for magic in CAPTURES {
+        if text.starts_with(magic) {
+            return true;
+        }
+    }
+    false
+}
+
+/// The line with this number, from 1; the last one where there are fewer.
+fn line_at(text: &[u8], number: u64) -> &[u8] {
+    let mut rest = text;
+    for _ in 1..number {
+        match first_line(rest) {
+            (_, Some(next)) => rest = next,
+            (line, None) => return line,
+        }
+    }
+    first_line(rest).0
+}
+
+/// Why the words of a line are no command.
+fn command_fault<'a>(shapes: &Shapes, line: &'a str) -> Option<LineFault<'a>> {
+    match next_word(line) {
+        Some((word, rest)) => match form_of(word) {
+            Some(form) => form_fault(shapes, form, rest),
+            None => Some(LineFault::UnknownWord {
+                word,
+                near: near(word),
+            }),
+        },
+        None => None,
+    }
+}
+
+/// Why what follows a command's name is nothing that it takes.
+fn form_fault<'a>(shapes: &Shapes, form: Form, rest: &'a str) -> Option<LineFault<'a>> {
+    let mut operands = [""; 4];
+    match cut_words(rest, &mut operands) {
+        Some(count) if count == form.operands.len() => {
+            operand_fault(shapes, form, &operands[..count])
+        }
+        _ => Some(LineFault::Operands(form)),
+    }
+}
+
+/// Why one of so many words as a command takes isn't what it takes there.
+fn operand_fault<'a>(shapes: &Shapes, form: Form, words: &[&'a str]) -> Option<LineFault<'a>> {
+    match first_fault(shapes, form, words) {
+        Some((place, fault)) => match words.get(place) {
+            Some(word) => Some(LineFault::Operand {
+                keyword: form.keyword,
+                word: *word,
+                fault,
+            }),
+            None => None,
+        },
+        None => None,
+    }
+}
+
+fn form_of(word: &str) -> Option<Form> {
+    for form in FORMS {
+        if form.keyword == word {
+            return Some(form);
+        }
+    }
+    None
+}
+
+/// The name of a command that one slip makes the word.
+fn near(word: &str) -> Option<&'static str> {
+    for form in FORMS {
+        if is_near(word.as_bytes(), form.keyword.as_bytes()) {
+            return Some(form.keyword);
+        }
+    }
+    None
+}
+
+/// Whether two words differ in a letter, in the order of two, or in their case alone.
+fn is_near(word: &[u8], keyword: &[u8]) -> bool {
+    if word.eq_ignore_ascii_case(keyword) {
+        return true;
+    }
+    let front = common_front(word, keyword);
+    let word = word.get(front..).unwrap_or(&[]);
+    let keyword = keyword.get(front..).unwrap_or(&[]);
+    let back = common_back(word, keyword);
+    let word = word.get(..word.len().saturating_sub(back)).unwrap_or(&[]);
+    let keyword = keyword
+        .get(..keyword.len().saturating_sub(back))
+        .unwrap_or(&[]);
+    match (word, keyword) {
+        ([], [_]) | ([_], []) | ([_], [_]) => true,
+        ([first, second], [other, another]) => first == another && second == other,
+        _ => false,
+    }
+}
+
+/// How many bytes two words have in common at their beginnings.
+fn common_front(word: &[u8], other: &[u8]) -> usize {
+    let mut count: usize = 0;
+    for (byte, another) in word.iter().zip(other.iter()) {
+        if byte != another {
+            return count;
+        }
+        count = count.saturating_add(1);
+    }
+    count
+}
+
+/// How many bytes two words have in common at their ends.
+fn common_back(word: &[u8], other: &[u8]) -> usize {
+    let mut count: usize = 0;
+    for (byte, another) in word.iter().rev().zip(other.iter().rev()) {
+        if byte != another {
+            return count;
+        }
+        count = count.saturating_add(1);
+    }
+    count
+}
+
+/// The place of the first word that isn't what the command takes there, and why.
+fn first_fault(shapes: &Shapes, form: Form, words: &[&str]) -> Option<(usize, OperandFault)> {
+    if let Some(scope) = form.scope {
+        return map_fault(shapes, scope, words);
+    }
+    for (place, operand) in form.operands.iter().enumerate() {
+        let word = *words.get(place)?;
+        if let Some(fault) = word_fault(*operand, word) {
+            return Some((place, fault));
+        }
+    }
+    None
+}
+
+/// Why a word isn't what a command takes that is for no map.
+fn word_fault(operand: Operand, word: &str) -> Option<OperandFault> {
+    let (is_one, fault) = match operand {
+        Operand::Digits => (HexText::new(word).is_some(), digit_fault(word)),
+        Operand::Units => (
+            number_below(0x1_0000_0000, word).is_some(),
+            OperandFault::NoUnits,
+        ),
+        Operand::Station => (address(word).is_some(), OperandFault::NoAddress),
+        Operand::Reason => (
+            number_below(0x1_0000, word).is_some(),
+            OperandFault::NoReason,
+        ),
+        Operand::Tid => (number_below(8, word).is_some(), OperandFault::NoTid),
+        Operand::Hook => (hook_named(word).is_some(), OperandFault::NoHook),
+        _ => return None,
+    };
+    if is_one { None } else { Some(fault) }
+}
+
+fn digit_fault(word: &str) -> OperandFault {
+    if are_digits(word.as_bytes()) {
+        OperandFault::OddDigits
+    } else {
+        OperandFault::NoDigits
+    }
+}
+
+/// Why words name no word of a map with this scope, or spell no value for it.
+fn map_fault(shapes: &Shapes, scope: Scope, words: &[&str]) -> Option<(usize, OperandFault)> {
+    let [map, entry, word, ..] = words else {
+        return None;
+    };
+    if number(map).is_none() {
+        return Some((0, OperandFault::NoNumber));
+    }
+    let Some(shape) = shape_named(shapes, map) else {
+        return Some((0, OperandFault::NoMap(shapes.len())));
+    };
+    if number_below(u64::from(shape.entries), entry).is_none() {
+        return Some((1, OperandFault::NoEntry(shape.entries)));
+    }
+    if number_below(u64::from(shape.words), word).is_none() {
+        return Some((2, OperandFault::NoWord(shape.words)));
+    }
+    if shape.scope != scope {
+        return Some((0, OperandFault::OtherScope(shape.scope)));
+    }
+    match words {
+        [_, _, _, value] if number(value).is_none() => Some((3, OperandFault::NoValue)),
+        _ => None,
+    }
+}
+
+fn shape_named(shapes: &Shapes, map: &str) -> Option<Shape> {
+    let map = number_below(0x1_0000_0000, map)?;
+    shapes.get(map as u32)
+}
+
+/// A word as it can be repeated in a message: its first characters, control characters escaped.
+#[derive(Clone, Copy)]
+struct Shown<'a>(&'a str);
+
+impl fmt::Display for Shown<'_> {
+    fn fmt<W: fmt::Write>(&self, f: &mut fmt::Formatter<W>) -> fmt::Result {
+        for character in self.0.chars().take(SHOWN) {
+            if character.is_control() {
+                write!(f, "{}", character.escape_debug())?;
+            } else {
+                write!(f, "{character}")?;
+            }
+        }
+        if self.0.chars().count() > SHOWN {
+            f.write_str("..")?;
+        }
+        Ok(())
+    }
+}
+
+impl Operand {
+    /// The operand as a manual names it.
+    fn name(self) -> &'static str {
+        match self {
+            Operand::Digits => "HEX",
+            Operand::Units => "N",
+            Operand::Station => "ADDRESS",
+            Operand::Reason => "REASON",
+            Operand::Tid => "TID",
+            Operand::Hook => "HOOK",
+            Operand::File => "FILE",
+            Operand::Certificate => "CERTIFICATE",
+            Operand::Map => "MAP",
+            Operand::Entry => "INDEX",
+            Operand::Word => "WORD",
+            Operand::Value => "VALUE",
+        }
+    }
+}
+
+impl fmt::Display for Form {
+    fn fmt<W: fmt::Write>(&self, f: &mut fmt::Formatter<W>) -> fmt::Result {
+        write!(f, "`{}` takes", self.keyword)?;
+        if self.operands.is_empty() {
+            f.write_str(" nothing")?;
+        }
+        for operand in self.operands {
+            write!(f, " {}", operand.name())?;
+        }
+        Ok(())
+    }
+}
+
+/// Tells the fault of a word that a command has.
+fn write_operand<W: fmt::Write>(
+    f: &mut fmt::Formatter<W>,
+    keyword: &str,
+    word: &str,
+    fault: OperandFault,
+) -> fmt::Result {
+    let shown = Shown(word);
+    match fault {
+        OperandFault::NoDigits => write!(f, "{keyword}: `{shown}` isn't hex digits"),
+        OperandFault::OddDigits => write!(f, "{keyword}: an odd number of hex digits"),
+        OperandFault::NoUnits => write!(f, "{keyword} takes 0 to 4294967295"),
+        OperandFault::NoAddress if word.contains(':') => {
+            write!(f, "{keyword}: an address has 12 hex digits, without colons")
+        }
+        OperandFault::NoAddress => write!(f, "{keyword}: an address has 12 hex digits"),
+        OperandFault::NoReason => write!(f, "{keyword}: a reason is 0 to 65535"),
+        OperandFault::NoTid => write!(f, "{keyword}: a TID is 0 to 7"),
+        OperandFault::NoHook => {
+            write!(f, "{keyword}: `{shown}` is no hook (assoc, addba or data)")
+        }
+        _ => write_map_operand(f, keyword, shown, fault),
+    }
+}
+
+/// Tells the fault of a word that a command for maps has.
+fn write_map_operand<W: fmt::Write>(
+    f: &mut fmt::Formatter<W>,
+    keyword: &str,
+    shown: Shown<'_>,
+    fault: OperandFault,
+) -> fmt::Result {
+    match fault {
+        OperandFault::NoNumber => write!(f, "{keyword}: `{shown}` is no number of a map"),
+        OperandFault::NoMap(0) => write!(f, "map {shown}: the configuration has none"),
+        OperandFault::NoMap(count) => write!(f, "map {shown}: the configuration has {count}"),
+        OperandFault::NoEntry(count) => {
+            let last = count.saturating_sub(1);
+            write!(f, "{keyword}: the entries of the map are 0 to {last}")
+        }
+        OperandFault::NoWord(count) => {
+            let last = count.saturating_sub(1);
+            write!(f, "{keyword}: the words of an entry are 0 to {last}")
+        }
+        OperandFault::OtherScope(Scope::Shared) => {
+            write!(f, "{keyword}: map {shown} is shared: `read` reads it")
+        }
+        OperandFault::OtherScope(Scope::Worker) => {
+            write!(
+                f,
+                "{keyword}: each worker has its own map {shown}: `sum` reads it"
+            )
+        }
+        _ => write!(f, "{keyword}: a value is 0 to 18446744073709551615"),
+    }
+}
+
+impl fmt::Display for LineFault<'_> {
+    fn fmt<W: fmt::Write>(&self, f: &mut fmt::Formatter<W>) -> fmt::Result {
+        match *self {
+            LineFault::Capture => f.write_str("a capture: see `apd frames`"),
+            LineFault::ObjectFile => f.write_str("an object file, and no text"),
+            LineFault::ByteOrderMark => f.write_str("a byte order mark"),
+            LineFault::Tab => f.write_str("a tab"),
+            LineFault::CarriageReturn => f.write_str("a carriage return"),
+            LineFault::Encoding => f.write_str("not UTF-8"),
+            LineFault::UnknownWord { word, near: None } => {
+                write!(f, "unknown word `{}`", Shown(word))
+            }
+            LineFault::UnknownWord {
+                word,
+                near: Some(near),
+            } => write!(f, "unknown word `{}` (did you mean `{near}`?)", Shown(word)),
+            LineFault::Operands(form) => write!(f, "{form}"),
+            LineFault::Operand {
+                keyword,
+                word,
+                fault,
+            } => write_operand(f, keyword, word, fault),
+        }
+    }
+}

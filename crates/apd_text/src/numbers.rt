@@ -1,0 +1,48 @@
+//! The numbers of refusals that have a page.
+//!
+//! `list_text` lists them with their titles, and `ranges_text` tells in one line which there are. Nothing is promised of the
+//! texts; tests show them.
+
+use crate::refusals::explain;
+use std::alloc::{AllocError, Global};
+use std::fmt::Write;
+
+/// A line for each number that has a page: the number and what it means in a few words.
+pub fn list_text(alloc: Global) -> Result<String, AllocError> {
+    let mut text = String::new(alloc);
+    for number in 0..=255u8 {
+        if let Some(page) = explain(number) {
+            writeln!(text, "{number}: {}", page.title)?;
+        }
+    }
+    Ok(text)
+}
+
+/// The ranges of numbers that have a page, with commas between.
+pub fn ranges_text(alloc: Global) -> Result<String, AllocError> {
+    let mut text = String::new(alloc);
+    let mut first: Option<u8> = None;
+    for number in 0..=255u8 {
+        match (first, explain(number).is_some()) {
+            (None, true) => first = Some(number),
+            (Some(from), false) => {
+                append_range(&mut text, from, number.saturating_sub(1))?;
+                first = None;
+            }
+            _ => {}
+        }
+    }
+    Ok(text)
+}
+
+fn append_range(text: &mut String, from: u8, to: u8) -> Result<(), AllocError> {
+    if !text.is_empty() {
+        text.push_str(", ")?;
+    }
+    if from == to {
+        write!(text, "{from}")?;
+    } else {
+        write!(text, "{from} to {to}")?;
+    }
+    Ok(())
+}

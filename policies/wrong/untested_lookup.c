@@ -1,0 +1,13 @@
+/* untested_lookup: an entry that is not tested.
+ *
+ * Hook: data.
+ * Maps: token_bucket.toml.
+ * Gives: refused 34.
+ */
+#include "../apd_policy.h"
+
+long policy(const u8 *frame, const u8 *end, const struct apd_context *context)
+{
+    u64 *entry = apd_lookup(APD_MAP(0), context->tid);
+    return *entry > 100 ? APD_DROP : APD_PASS;
+}
