@@ -8,16 +8,15 @@ ghost use Rattle.apd_program.specs.Pages.{IsPage, IsPageFor, HasNoPage};
 
 use crate::answer::Answer;
 use crate::fault::ProgramFault;
-use crate::verifying::limit_of;
 use apd_files::shown;
 use apd_text::{
     explain, fault_text, insn_text, list_text, page_text, ranges_text, raw_faults, reason_text,
 };
-use apd_words::{Question, Terms};
+use apd_words::Question;
 use bpf_decode::{DecodeFault, Program, decode};
 use bpf_regions::{Shape, Shapes};
 use bpf_text::AsmFault;
-use bpf_verifier::Refusal;
+use bpf_verifier::{Explanation, Refusal};
 use std::alloc::{AllocError, Global};
 
 /// The page on the number that a word spells, or without one the list of all numbers.
@@ -142,11 +141,14 @@ impl Reason {
         }
     }
 
-    /// What the verifier finds of a program.
-    pub(crate) fn explain(&mut self, alloc: Global, program: &Program, terms: Terms) {
-        if self.wanted {
-            self.text = reason_text(alloc, program, terms.hook, limit_of(terms)).map(Some);
-        }
+    /// Whether the reason for a verdict is wanted.
+    pub(crate) fn is_wanted(&self) -> bool {
+        self.wanted
+    }
+
+    /// What the verifier found of a program.
+    pub(crate) fn explain(&mut self, alloc: Global, program: &Program, explanation: &Explanation) {
+        self.text = reason_text(alloc, program, explanation).map(Some);
     }
 
     /// What is wrong with code, for maps of these shapes.

@@ -1,6 +1,12 @@
 //! The verdict on code, and the run of what is admitted: the commands `verify` and `trace`.
 
-ghost use Rattle.std.specs.Prelude.{◌≡◌, IfOk, IfErr};
+ghost use Rattle.std.specs.Prelude.{◌≡◌, ◌≤◌, ◌^◌, IfOk, IfErr};
+ghost use Rattle.bpf_decode.specs.Program.{Begins};
+ghost use Rattle.bpf_model.specs.Run.{Safe};
+ghost use Rattle.bpf_absstate.specs.View.{entry_view};
+ghost use Rattle.bpf_plain.specs.Clear.{IsClear};
+ghost use Rattle.bpf_plain.specs.Walks.{IsPlain, HasWalk};
+ghost use Rattle.bpf_rules.specs.declared.fault.Fault.{Fault};
 ghost use Rattle.bpf_verifier.specs.Limits.{nearest};
 ghost use Rattle.apd_program.specs.Programs.{IsOfProgram};
 ghost use Rattle.apd_program.specs.Verifying.{IsVerified, IsRunWithin};
@@ -11,8 +17,10 @@ use crate::fault::ProgramFault;
 use apd_text::trace_text;
 use apd_words::Terms;
 use bpf_decode::{Program, decode};
+use bpf_machine::Accepted;
+use bpf_plain::laws::plain_law;
 use bpf_regions::{Context, Frame, Shapes};
-use bpf_verifier::{StateLimit, verify_within};
+use bpf_verifier::{Refusal, StateLimit, explain_within, verify_within};
 use std::alloc::Global;
 
 /// What a program is verified for, and run on.
@@ -32,6 +40,39 @@ pub(crate) fn limit_of(terms: Terms) -> StateLimit
     StateLimit::nearest(terms.states)
 }
 
+/// Admits a program, or says why not. The program is explored once, and what the reason tells of it, if that is wanted, is
+/// told of the same exploration.
+fn admit(
+    alloc: Global,
+    program: Program,
+    terms: Terms,
+    reason: &mut Reason,
+) -> Result<Accepted, Refusal>
+    ensures code { IfOk result (λ accepted. accepted.code ≡ program) }
+    ensures hook { IfOk result (λ accepted. accepted.hook ≡ terms.hook) }
+    ensures safe { IfOk result (λ accepted. Safe program.slots program.shapes accepted.budget) }
+    ensures small { IfOk result (λ accepted. accepted.budget ≤ nearest terms.states) }
+    ensures walk { IfOk result
+        (λ accepted. IsPlain program.slots → HasWalk program.slots accepted.budget) }
+    ensures plain { IfErr result
+        (λ e. nearest terms.states ≡ 2 ^ 22 → IsPlain program.slots → e.fault ≡ Fault.NoMemory) }
+    ensures begins { IfErr result (λ e. Begins program.slots e.pc) }
+    ensures clear { IfErr result
+        (λ e. IsClear program entry_view (nearest terms.states) → e.fault ≡ Fault.NoMemory) }
+{
+    program.whole();
+    plain_law();
+    let limit = limit_of(terms);
+    if !reason.is_wanted() {
+        return verify_within(alloc, program, terms.hook, limit);
+    }
+    let explanation = explain_within(alloc, &program, terms.hook, limit)?;
+    reason.explain(alloc, &program, &explanation);
+    let budget = explanation.verdict?;
+    let accepted = Accepted::new(alloc, program, terms.hook, budget)?;
+    Ok(accepted)
+}
+
 /// The verifier's verdict on a program.
 fn admitted(
     alloc: Global,
@@ -42,9 +83,7 @@ fn admitted(
     ensures verdict { IfOk result (IsVerified terms program) }
     ensures memory { IfErr result (λ e. e ≡ ProgramFault.NoMemory) }
 {
-    reason.explain(alloc, &program, terms);
-    let limit = limit_of(terms);
-    match verify_within(alloc, program, terms.hook, limit) {
+    match admit(alloc, program, terms, reason) {
         Ok(accepted) => Ok(Answer::Accepted {
             budget: accepted.budget(),
         }),
@@ -90,9 +129,7 @@ fn run(
         context,
         draw,
     } = stimulus;
-    reason.explain(alloc, &program, terms);
-    let limit = limit_of(terms);
-    match verify_within(alloc, program, terms.hook, limit) {
+    match admit(alloc, program, terms, reason) {
         Ok(accepted) => {
             let text = trace_text(alloc, &accepted, frame, context, draw)?;
             Ok(Answer::Run(text))

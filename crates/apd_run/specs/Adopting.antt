@@ -15,6 +15,7 @@ use Rattle.apd_files.specs.Faults.{IsFaultOf}
 use Rattle.apd_files.specs.declared.inputs.files.FileKind.TheVariants as kind
 use Rattle.apd_files.specs.declared.inputs.code.CodeFault.{CodeFault}
 use Rattle.apd_files.specs.declared.inputs.code.CodeFault.TheVariants as read
+use Rattle.apd_text.specs.declared.reports.report.Unread.TheVariants as unread
 use Rattle.apd_text.specs.declared.reports.report.Told.{Told}
 use Rattle.apd_text.specs.declared.reports.report.Told.TheVariants.{Memory, Loaded, Fault, Certificate, Unreadable}
 use Rattle.apd_run.specs.Loading.{IsInForce}
@@ -49,7 +50,7 @@ pub data AdoptsFiles (files : Held) (hook : Hook) (path shown : List ℕ) (old n
   Read : (code certificate : List ℕ) (told : Told) → HoldsCode files path code → HoldsCode files shown certificate
       → AdoptsCode hook code certificate old new told → AdoptsFiles files hook path shown old new told
   CodeNotRead : (fault : CodeFault) → fault ≢ read.NoMemory → IsFaultOf kind.Code files path fault → new ≡ old
-      → AdoptsFiles files hook path shown old new Unreadable
+      → AdoptsFiles files hook path shown old new (Unreadable (unread.Code fault))
   CertificateNotRead : (fault : CodeFault) → fault ≢ read.NoMemory → IsFaultOf kind.Certificate files shown fault → new ≡ old
-      → AdoptsFiles files hook path shown old new Unreadable
+      → AdoptsFiles files hook path shown old new (Unreadable (unread.Certificate fault))
   NoRoomToRead : new ≡ old → AdoptsFiles files hook path shown old new Memory

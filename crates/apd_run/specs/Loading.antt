@@ -19,6 +19,7 @@ use Rattle.apd_files.specs.Faults.{IsFaultOf}
 use Rattle.apd_files.specs.declared.inputs.files.FileKind.TheVariants as kind
 use Rattle.apd_files.specs.declared.inputs.code.CodeFault.{CodeFault}
 use Rattle.apd_files.specs.declared.inputs.code.CodeFault.TheVariants as read
+use Rattle.apd_text.specs.declared.reports.report.Unread.TheVariants as unread
 use Rattle.apd_text.specs.declared.reports.report.Told.{Told}
 use Rattle.apd_text.specs.declared.reports.report.Told.TheVariants.{Memory, Loaded, Fault, Refused, Unreadable}
 
@@ -73,5 +74,5 @@ pub data LoadsFile (files : Held) (limit : ℕ) (hook : Hook) (path : List ℕ)
       LoadsCode limit hook code old new told
       → LoadsFile files limit hook path old new told
   NotRead : (fault : CodeFault) → fault ≢ read.NoMemory → IsFaultOf kind.Code files path fault → new ≡ old
-      → LoadsFile files limit hook path old new Unreadable
+      → LoadsFile files limit hook path old new (Unreadable (unread.Code fault))
   NoRoomToRead : new ≡ old → LoadsFile files limit hook path old new Memory

@@ -27,7 +27,7 @@ abbrev pub is_refusal : Told → Bool
 is_refusal (Fault _) = true
 is_refusal (Refused _) = true
 is_refusal (Certificate _) = true
-is_refusal Unreadable = true
+is_refusal (Unreadable why) = true
 is_refusal _ = false
 
 -- one of the reports says so

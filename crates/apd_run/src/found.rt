@@ -51,7 +51,7 @@ pub(crate) fn is_refusal(told: &Told) -> bool
 {
     matches!(
         told,
-        Told::Fault(_) | Told::Refused(_) | Told::Certificate { .. } | Told::Unreadable
+        Told::Fault(_) | Told::Refused(_) | Told::Certificate { .. } | Told::Unreadable(_)
     )
 }
 

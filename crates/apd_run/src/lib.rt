@@ -24,7 +24,7 @@ mod setting;
 
 pub use crate::crew::{Ready, Serving};
 pub use actions::{Publication, WordUse};
-pub use apd_text::{Report, Told};
+pub use apd_text::{Report, Told, Unread};
 pub use console::Console;
 pub use operating::{Operating, Waiting};
 pub use progress::{Progress, Watcher};

@@ -27,7 +27,7 @@ told_text number (told.Fault fault) = line_of number (fault_text fault)
 told_text number (told.Refused refusal) = line_of number (refusal_text refusal)
 told_text number (told.Certificate fault) =
     line_of number (then (codes "certificate") (decimal fault))
-told_text number told.Unreadable = line_of number (codes "unreadable")
+told_text number (told.Unreadable why) = line_of number (codes "unreadable")
 told_text number (told.Word value) = line_of number (then (codes "word") (decimal value))
 
 -- the lines of one report

@@ -13,4 +13,4 @@ mod words;
 
 pub use order::put_in_order;
 pub use printing::{PrintFault, print_reports, print_totals};
-pub use report::{Report, Told};
+pub use report::{Report, Told, Unread};

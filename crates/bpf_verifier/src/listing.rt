@@ -5,7 +5,7 @@ ghost use Rattle.bpf_decode.specs.Program.{Begins};
 ghost use Rattle.bpf_model.specs.Run.{Safe};
 ghost use Rattle.bpf_absstate.specs.View.{entry_view};
 ghost use Rattle.bpf_plain.specs.Clear.{IsClear};
-ghost use Rattle.bpf_plain.specs.Walks.{IsPlain};
+ghost use Rattle.bpf_plain.specs.Walks.{IsPlain, HasWalk};
 ghost use Rattle.bpf_rules.specs.declared.fault.Fault.{Fault};
 
 use crate::exploration::{Exploration, observed_budget};
@@ -77,6 +77,8 @@ pub struct Explanation {
 pub fn explain(alloc: Global, program: &Program, hook: Hook) -> Result<Explanation, AllocError>
     ensures safe { IfOk result (λ x. IfOk x.verdict (Safe program.now.slots program.now.shapes)) }
     ensures small { IfOk result (λ x. IfOk x.verdict (λ budget. budget ≤ 2 ^ 22)) }
+    ensures walk { IfOk result (λ x. IfOk x.verdict
+        (λ budget. IsPlain program.now.slots → HasWalk program.now.slots budget)) }
     ensures begins { IfOk result (λ x. IfErr x.verdict (λ e. Begins program.now.slots e.pc)) }
     ensures clear { IfOk result
         (λ x. IfErr x.verdict (λ e. IsClear program.now entry_view (2 ^ 22) → e.fault
@@ -94,6 +96,8 @@ pub fn explain_within(
 ) -> Result<Explanation, AllocError>
     ensures safe { IfOk result (λ x. IfOk x.verdict (Safe program.now.slots program.now.shapes)) }
     ensures small { IfOk result (λ x. IfOk x.verdict (λ budget. budget ≤ limit)) }
+    ensures walk { IfOk result (λ x. IfOk x.verdict
+        (λ budget. IsPlain program.now.slots → HasWalk program.now.slots budget)) }
     ensures begins { IfOk result (λ x. IfErr x.verdict (λ e. Begins program.now.slots e.pc)) }
     ensures clear { IfOk result
         (λ x. IfErr x.verdict (λ e. IsClear program.now entry_view limit → e.fault

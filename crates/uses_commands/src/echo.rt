@@ -9,8 +9,9 @@ ghost use Rattle.apd_run.specs.Tallies.{Serves};
 use ap_books::Totals;
 use ap_model::Event;
 use ap_tagged::{Fate, Tagged};
+use apd_files::{CodeFault, FileFault};
 use apd_run::{Operating, Publication, Serving, Waiting, WordUse};
-use apd_text::Told;
+use apd_text::{Told, Unread};
 use std::alloc::AllocError;
 use std::sync::{Arc, Mutex, Wait};
 
@@ -141,7 +142,9 @@ impl Operating<Echo> for Places {
 
     fn publish<R: Wait>(&mut self, _rt: &R, publication: Publication<'_>) -> Option<Told> {
         match publication {
-            Publication::Load { .. } => return Some(Told::Unreadable),
+            Publication::Load { .. } => return Some(Told::Unreadable(Unread::Code(
+                CodeFault::Unreadable(FileFault::Missing),
+            ))),
             Publication::Adopt { .. } => return None,
             Publication::Unload(_) => return Some(Told::Memory),
         }

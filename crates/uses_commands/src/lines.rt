@@ -3,7 +3,8 @@
 use crate::same::{holds, same};
 use ap_books::Totals;
 use ap_model::{Octets, Out, Up};
-use apd_text::{Report, Told, print_reports, print_totals, put_in_order};
+use apd_files::{CodeFault, DigitFault};
+use apd_text::{Report, Told, Unread, print_reports, print_totals, put_in_order};
 use bpf_decode::DecodeFault;
 use bpf_rules::Fault;
 use bpf_verifier::Refusal;
@@ -100,7 +101,10 @@ fn answers_are_spelled(rt: HostRuntime) {
     let fault = Fault::Unset;
     let reports = vec![in alloc;
         told(8, Told::Word { value: u64::MAX }),
-        told(7, Told::Unreadable),
+        told(
+            7,
+            Told::Unreadable(Unread::Certificate(CodeFault::Digits(DigitFault::Odd)))
+        ),
         told(6, Told::Certificate { fault: 72 }),
         told(5, Told::Refused(Refusal { fault, pc: 3 })),
         told(4, Told::Fault(DecodeFault::Empty)),

@@ -9,6 +9,7 @@ use crate::inputs::digits::{BlockFault, add_block};
 use crate::inputs::files::{FileFault, FileKind, Files};
 use std::alloc::Global;
 use std::fmt;
+use thiserror::Error;
 
 /// What a file has in place of hex digits in pairs. It is displayed in words.
 #[derive(Clone, Copy, Debug, PartialEq, Eq)]
@@ -34,14 +35,16 @@ impl fmt::Display for DigitFault {
     }
 }
 
-/// Why no code was read from a file.
-#[derive(Clone, Copy, Debug, PartialEq, Eq)]
+/// Why no code was read from a file. Its text says so to people.
+#[derive(Clone, Copy, Debug, PartialEq, Eq, Error)]
 pub enum CodeFault {
     /// There is no such file, or it can't be read, or it is longer than its kind may be.
+    #[error("{0}")]
     Unreadable(FileFault),
     /// Without its white space it isn't hex digits in pairs.
+    #[error("{0}")]
     Digits(DigitFault),
-    /// Memory ran out.
+    #[error("out of memory")]
     NoMemory,
 }
 

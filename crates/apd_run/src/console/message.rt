@@ -3,15 +3,18 @@
 ghost use Rattle.std.specs.Prelude.{◌≡◌, true, IsSome};
 ghost use Rattle.apd_run.specs.Shows.{is_refusal};
 
-use apd_text::Told;
+use apd_files::CodeFault;
+use apd_text::{Told, Unread};
 use bpf_regions::Hook;
 use std::fmt;
 
-/// The file of a load or an adoption, its hook, and the line whose program the hook had before.
+/// The file of a load or an adoption, the file of its certificate, which a load has none of, its hook, and
+/// the line whose program the hook had before.
 #[derive(Clone, Copy)]
 pub(crate) struct Loading<'a> {
     pub hook: Hook,
     pub path: &'a str,
+    pub certificate: &'a str,
     pub before: Option<u64>,
 }
 
@@ -20,6 +23,11 @@ pub(crate) struct Loading<'a> {
 pub(crate) enum Message<'a> {
     /// A file is not loaded, and its hook keeps what it had.
     NotLoaded(Loading<'a>),
+    /// A file is not loaded, since one isn't read, and its hook keeps what it had.
+    NotRead {
+        load: Loading<'a>,
+        unread: Unread,
+    },
     /// A file's program is in force.
     Loaded {
         load: Loading<'a>,
@@ -44,7 +52,12 @@ pub(crate) fn message_of<'a>(load: Loading<'a>, told: &Told, verbose: bool) -> O
         Told::Fault(_) => return Some(Message::NotLoaded(load)),
         Told::Refused(_) => return Some(Message::NotLoaded(load)),
         Told::Certificate { .. } => return Some(Message::NotLoaded(load)),
-        Told::Unreadable => return Some(Message::NotLoaded(load)),
+        Told::Unreadable(unread) => {
+            return Some(Message::NotRead {
+                load,
+                unread: *unread,
+            });
+        }
         Told::Loaded { budget, slots } if verbose => {
             return Some(Message::Loaded {
                 load,
@@ -68,18 +81,60 @@ fn without_program(hook: Hook) -> &'static str {
     }
 }
 
-impl fmt::Display for Loading<'_> {
+/// What a hook keeps: the program of a line, or none.
+#[derive(Drop)]
+struct Kept {
+    hook: Hook,
+    before: Option<u64>,
+}
+
+impl fmt::Display for Kept {
     fn fmt<W: fmt::Write>(&self, f: &mut fmt::Formatter<W>) -> fmt::Result {
-        let Loading { hook, path, before } = *self;
+        let Kept { hook, before } = *self;
         match before {
-            Some(line) => write!(
-                f,
-                "{path} is not loaded; {hook} keeps the program of line {line}"
-            ),
-            None => {
-                let now = without_program(hook);
-                write!(f, "{path} is not loaded; {hook} {now}")
-            }
+            Some(line) => write!(f, "{hook} keeps the program of line {line}"),
+            None => write!(f, "{hook} {}", without_program(hook)),
+        }
+    }
+}
+
+/// A file that can't be read, and why.
+#[derive(Drop)]
+struct NotRead<'a> {
+    path: &'a str,
+    why: CodeFault,
+}
+
+impl fmt::Display for NotRead<'_> {
+    fn fmt<W: fmt::Write>(&self, f: &mut fmt::Formatter<W>) -> fmt::Result {
+        let NotRead { path, why } = *self;
+        match why {
+            CodeFault::Digits(fault) => write!(f, "{path}: {fault}"),
+            why => write!(f, "cannot read {path}: {why}"),
+        }
+    }
+}
+
+impl<'a> Loading<'a> {
+    /// What its hook keeps.
+    fn kept(&self) -> Kept {
+        Kept {
+            hook: self.hook,
+            before: self.before,
+        }
+    }
+
+    /// The file that isn't read.
+    fn not_read(&self, unread: Unread) -> NotRead<'a> {
+        match unread {
+            Unread::Code(why) => NotRead {
+                path: self.path,
+                why,
+            },
+            Unread::Certificate(why) => NotRead {
+                path: self.certificate,
+                why,
+            },
         }
     }
 }
@@ -87,7 +142,12 @@ impl fmt::Display for Loading<'_> {
 impl fmt::Display for Message<'_> {
     fn fmt<W: fmt::Write>(&self, f: &mut fmt::Formatter<W>) -> fmt::Result {
         match self {
-            Message::NotLoaded(load) => write!(f, "{load}"),
+            Message::NotLoaded(load) => {
+                write!(f, "{} is not loaded; {}", load.path, load.kept())
+            }
+            Message::NotRead { load, unread } => {
+                write!(f, "{}; {}", load.not_read(*unread), load.kept())
+            }
             Message::Loaded {
                 load,
                 slots,

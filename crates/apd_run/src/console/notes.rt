@@ -76,8 +76,16 @@ impl Notes {
     fn tell_of<E: Write>(&mut self, err: &mut E, numbered: &Numbered<'_>, told: Option<&Told>) {
         let line = numbered.line;
         match numbered.command {
-            Command::Load { hook, path } | Command::Adopt { hook, path, .. } => {
-                let load = self.loading(hook, path);
+            Command::Load { hook, path } => {
+                let load = self.loading(hook, path, "");
+                self.tell_load(err, line, load, told)
+            }
+            Command::Adopt {
+                hook,
+                path,
+                certificate,
+            } => {
+                let load = self.loading(hook, path, certificate);
                 self.tell_load(err, line, load, told)
             }
             Command::Unload(hook) => {
@@ -96,11 +104,12 @@ impl Notes {
         }
     }
 
-    /// A load or an adoption of a file for a hook, beside what the hook has.
-    fn loading<'a>(&self, hook: Hook, path: &'a str) -> Loading<'a> {
+    /// A load of a file for a hook, or an adoption by a certificate, beside what the hook has.
+    fn loading<'a>(&self, hook: Hook, path: &'a str, certificate: &'a str) -> Loading<'a> {
         Loading {
             hook,
             path,
+            certificate,
             before: self.programs.at(hook),
         }
     }
@@ -116,17 +125,19 @@ impl Notes {
         let Some(told) = told else {
             return;
         };
-        let Loading { hook, path, before } = load;
         if matches!(told, Told::Loaded { .. }) {
-            self.programs.put(hook, Some(line));
+            self.programs.put(load.hook, Some(line));
         }
-        let Ok(path) = shown(self.alloc, path) else {
+        let Ok(path) = shown(self.alloc, load.path) else {
+            return;
+        };
+        let Ok(certificate) = shown(self.alloc, load.certificate) else {
             return;
         };
         let load = Loading {
-            hook,
             path: path.as_str(),
-            before,
+            certificate: certificate.as_str(),
+            ..load
         };
         if let Some(message) = message_of(load, told, self.verbose) {
             self.say(err, line, message);

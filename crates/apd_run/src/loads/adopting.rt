@@ -5,7 +5,7 @@ ghost use Rattle.apd_run.specs.Adopting.{AdoptsProgram, AdoptsCode, AdoptsFiles,
 
 use crate::loads::loading::Loads;
 use apd_files::{CodeFault, Files, read_certificate, read_code};
-use apd_text::Told;
+use apd_text::{Told, Unread};
 use bpf_cert::CertFault;
 use bpf_decode::{DecodeFault, Program, decode};
 use bpf_regions::Hook;
@@ -33,18 +33,20 @@ impl Loads {
     {
         let code = match read_code(self.alloc, path, files) {
             Ok(code) => code,
-            Err(CodeFault::NoMemory) => return Told::Memory,
-            Err(CodeFault::Unreadable(_)) => return Told::Unreadable,
-            Err(CodeFault::Digits(_)) => return Told::Unreadable,
+            Err(fault) => match fault {
+                CodeFault::NoMemory => return Told::Memory,
+                _ => return Told::Unreadable(Unread::Code(fault)),
+            },
         };
         match read_certificate(self.alloc, certificate, files) {
             Ok(bytes) => {
                 let told = self.adopt_code(rt, hook, code.as_slice(), bytes.as_slice());
                 return told;
             }
-            Err(CodeFault::NoMemory) => return Told::Memory,
-            Err(CodeFault::Unreadable(_)) => return Told::Unreadable,
-            Err(CodeFault::Digits(_)) => return Told::Unreadable,
+            Err(fault) => match fault {
+                CodeFault::NoMemory => return Told::Memory,
+                _ => return Told::Unreadable(Unread::Certificate(fault)),
+            },
         }
     }
 

@@ -6,7 +6,7 @@ ghost use Rattle.versions.specs.Sets.{load};
 ghost use Rattle.apd_run.specs.Loading.{PutsInForce, LoadsProgram, LoadsCode, LoadsFile};
 
 use apd_files::{CodeFault, Files, read_code};
-use apd_text::Told;
+use apd_text::{Told, Unread};
 use bpf_decode::{DecodeFault, Program, decode};
 use bpf_machine::Accepted;
 use bpf_regions::{Hook, Shapes};
@@ -68,7 +68,7 @@ impl Loads {
     }
 
     /// Reads a file, whose hex digits spell code, and puts the code's program in force for a hook. The
-    /// verifier examines no more states of it than the limit. The answer is `Unreadable` where the file
+    /// verifier examines no more states of it than the limit. The answer is `Unreadable` if the file
     /// can't be read or holds no hex digits in pairs; the code's fault; the verifier's refusal; `Memory`;
     /// or the program's budget. All but the last leave what is in force.
     pub fn load<R: Wait, F: Files>(
@@ -87,9 +87,10 @@ impl Loads {
                 let told = self.load_code(rt, hook, code.as_slice(), limit);
                 return told;
             }
-            Err(CodeFault::NoMemory) => return Told::Memory,
-            Err(CodeFault::Unreadable(_)) => return Told::Unreadable,
-            Err(CodeFault::Digits(_)) => return Told::Unreadable,
+            Err(fault) => match fault {
+                CodeFault::NoMemory => return Told::Memory,
+                _ => return Told::Unreadable(Unread::Code(fault)),
+            },
         }
     }
 

@@ -10,23 +10,21 @@ use bpf_absstate::AbsState;
 use bpf_decode::{DecodeFault, Program, SlotFault};
 use bpf_insn::Insn;
 use bpf_line::InsnText;
-use bpf_regions::{Hook, Shape};
-use bpf_verifier::{Explanation, Refusal, StateLimit, explain_within};
+use bpf_regions::Shape;
+use bpf_verifier::{Explanation, Refusal};
 use std::alloc::{AllocError, Global};
 use std::fmt::Write;
 
-/// The lines on a program: what the verifier knew where it refuses it, the way there, and the cure; or, for one
-/// that it admits, the budget, and where its states stand. The program is explored anew, of so many states at most.
+/// The lines on a program, by what the verifier found of it: what it knew where it refuses the program, the way there, and
+/// the cure; or, if it admits the program, the budget, and where its states stand.
 pub fn reason_text(
     alloc: Global,
     program: &Program,
-    hook: Hook,
-    limit: StateLimit,
+    explanation: &Explanation,
 ) -> Result<String, AllocError> {
-    let explanation = explain_within(alloc, program, hook, limit)?;
     match explanation.verdict {
         Ok(budget) => costs_text(alloc, program, budget, explanation.visits.as_slice()),
-        Err(refusal) => refusal_text(alloc, program, refusal, &explanation),
+        Err(refusal) => refusal_text(alloc, program, refusal, explanation),
     }
 }
 

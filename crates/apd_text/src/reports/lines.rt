@@ -83,7 +83,7 @@ pub(crate) fn append_report(
         Told::Fault(fault) => writeln!(text, "{line} {fault}")?,
         Told::Refused(refusal) => writeln!(text, "{line} {refusal}")?,
         Told::Certificate { fault } => writeln!(text, "{line} certificate {fault}")?,
-        Told::Unreadable => writeln!(text, "{line} unreadable")?,
+        Told::Unreadable(_) => writeln!(text, "{line} unreadable")?,
         Told::Word { value } => writeln!(text, "{line} word {value}")?,
     }
     Ok(())

@@ -1,8 +1,18 @@
 //! What was handed over of the lines of a script.
 
 use ap_model::Out;
+use apd_files::CodeFault;
 use bpf_decode::DecodeFault;
 use bpf_verifier::Refusal;
+
+/// Which file of a load or an adoption isn't read, and why.
+#[derive(Clone, Copy)]
+pub enum Unread {
+    /// The file of the code.
+    Code(CodeFault),
+    /// The file of the certificate.
+    Certificate(CodeFault),
+}
 
 /// What became of a line of a script, or of one shard's part of it.
 #[derive(Drop)]
@@ -19,8 +29,8 @@ pub enum Told {
     Refused(Refusal),
     /// 70 to 72: a certificate doesn't serve for a program.
     Certificate { fault: u8 },
-    /// A file isn't there, or doesn't hold hex digits.
-    Unreadable,
+    /// A file can't be read, or doesn't hold hex digits in pairs.
+    Unreadable(Unread),
     /// The value of a word of a map.
     Word { value: u64 },
 }
