@@ -4,6 +4,7 @@ ghost use Rattle.std.specs.Prelude.{◌≡◌, ◌<◌, ◌≤◌, ◌*◌, ◌�
 ghost use Rattle.bpf_regions.specs.declared.maps.Shape.{Shape};
 ghost use Rattle.bpf_regions.specs.Maps.{bytes_of, entry_bytes, word_count, IsShape, AreShapes};
 
+use std::alloc::AllocError;
 use std::marker::Model;
 
 /// Whether all workers share a map, or each has one of its own.
@@ -79,6 +80,15 @@ impl Model for Shapes {
     ghost view = { λ s. s.shapes.items };
 
     ghost invariant = { λ s. AreShapes s.shapes.items };
+}
+
+impl Clone for Shapes {
+    ghost is_clone = { λ a b. b ≡ a };
+
+    fn clone(&self) -> Result<Shapes, AllocError> {
+        let shapes = self.shapes.clone()?;
+        Ok(Shapes { shapes })
+    }
 }
 
 impl Shapes {

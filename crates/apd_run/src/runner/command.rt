@@ -8,7 +8,7 @@ use crate::access::{NewShards, Opening, Supplies, run_live};
 use crate::console::{Console, Notes, Terminal};
 use crate::progress::Watcher;
 use crate::runner::fault::{RunFault, complain, of_script, say_if_group, say_why};
-use crate::runner::setup::{configuration, copy_of, read, settings};
+use crate::runner::setup::{configuration, read, settings};
 use apd_config::Configuration;
 use apd_files::{FileKind, Files};
 use apd_script::{Numbered, read_script};
@@ -61,7 +61,7 @@ where
     requires few { workers ≤ 8 }
     ensures runs { Runs (P.strict writer) (P.contents writer) (P.contents result.0) none result.1 }
 {
-    let Ok(shapes) = copy_of(alloc, &configuration.maps) else {
+    let Ok(shapes) = configuration.maps.clone() else {
         return (writer, 3);
     };
     supplies.gate.start(last_line(commands));

@@ -1,15 +1,14 @@
 //! What an access point is made with, from a configuration.
 
-ghost use Rattle.std.specs.Prelude.{◌≡◌, ◌<◌, ◌≤◌, IfOk};
+ghost use Rattle.std.specs.Prelude.{◌≡◌, ◌<◌, ◌≤◌};
 
 use crate::access::Settings;
 use crate::runner::fault::{RunFault, of_configuration, unreadable};
 use ap_model::{LinkConfig, Octets};
 use apd_config::{Configuration, read_configuration};
 use apd_files::{FileKind, Files, read_whole};
-use bpf_regions::Shapes;
 use mac_types::Address;
-use std::alloc::{AllocError, Global};
+use std::alloc::Global;
 
 /// The bytes of a file of this kind.
 pub(crate) fn read<F: Files>(
@@ -34,18 +33,6 @@ pub(crate) fn configuration<F: Files>(
     match read_configuration(alloc, text.as_slice()) {
         Ok(configuration) => Ok(configuration),
         Err(fault) => Err(of_configuration(alloc, path, text.as_slice(), fault)),
-    }
-}
-
-/// A copy of the shapes of maps.
-pub(crate) fn copy_of(alloc: Global, shapes: &Shapes) -> Result<Shapes, AllocError>
-    ensures is { IfOk result (λ copy. copy ≡ shapes.now) }
-{
-    shapes.whole();
-    let copy = Vec::from_slice(alloc, shapes.as_slice())?;
-    match Shapes::new(copy) {
-        Some(copy) => return Ok(copy),
-        None => unreachable!(),
     }
 }
 
