@@ -66,7 +66,7 @@ fn admit(
     if !reason.is_wanted() {
         return verify_within(alloc, program, terms.hook, limit);
     }
-    let explanation = explain_within(alloc, &program, terms.hook, limit)?;
+    let explanation = explain_within(alloc, &program, limit)?;
     reason.explain(alloc, &program, &explanation);
     let budget = explanation.verdict?;
     let accepted = Accepted::new(alloc, program, terms.hook, budget)?;

@@ -134,7 +134,7 @@ pub fn certificate_within(
     let hook = accepted.hook();
     program.whole();
     standing_law();
-    let finished = explore_within(alloc, program, hook, limit)?;
+    let finished = explore_within(alloc, program, limit)?;
     let entries = entries_of(alloc, program, &finished)?;
     match written(alloc, program, hook, entries) {
         Err(fault) => Err(unwritten(fault)),

@@ -19,5 +19,5 @@ pub mod refusal;
 pub use admission::{verify, verify_within};
 pub use bpf_rules::Fault;
 pub use limit::StateLimit;
-pub use listing::{Explanation, explain, explain_within, explore, explore_within};
+pub use listing::{Explanation, explain_within, explore, explore_within};
 pub use refusal::Refusal;

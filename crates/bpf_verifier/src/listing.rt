@@ -23,7 +23,7 @@ use std::alloc::{AllocError, Global};
 /// a local call), with their slots and budgets, in that order; or its refusal.
 ///
 /// Nothing else is promised of the list: whoever uses it checks it.
-pub fn explore(alloc: Global, program: &Program, hook: Hook) -> Result<Vec<Entry>, Refusal>
+pub fn explore(alloc: Global, program: &Program, _hook: Hook) -> Result<Vec<Entry>, Refusal>
     ensures safe { OnOk result
         ((b : ℕ) × (b ≤ 2 ^ 22) × Safe program.now.slots program.now.shapes b) }
     ensures plain { IfErr result (λ e. IsPlain program.now.slots → e.fault ≡ Fault.NoMemory) }
@@ -31,14 +31,13 @@ pub fn explore(alloc: Global, program: &Program, hook: Hook) -> Result<Vec<Entry
     ensures clear { IfErr result
         (λ e. IsClear program.now entry_view (2 ^ 22) → e.fault ≡ Fault.NoMemory) }
 {
-    explore_within(alloc, program, hook, StateLimit::MOST)
+    explore_within(alloc, program, StateLimit::MOST)
 }
 
 /// The same of `verify_within`.
 pub fn explore_within(
     alloc: Global,
     program: &Program,
-    _hook: Hook,
     limit: StateLimit,
 ) -> Result<Vec<Entry>, Refusal>
     ensures safe { OnOk result
@@ -73,25 +72,10 @@ pub struct Explanation {
     pub visits: Vec<u32>,
 }
 
-/// What `verify` finds of a program, and how it comes to it. Nothing is promised but the verdict.
-pub fn explain(alloc: Global, program: &Program, hook: Hook) -> Result<Explanation, AllocError>
-    ensures safe { IfOk result (λ x. IfOk x.verdict (Safe program.now.slots program.now.shapes)) }
-    ensures small { IfOk result (λ x. IfOk x.verdict (λ budget. budget ≤ 2 ^ 22)) }
-    ensures walk { IfOk result (λ x. IfOk x.verdict
-        (λ budget. IsPlain program.now.slots → HasWalk program.now.slots budget)) }
-    ensures begins { IfOk result (λ x. IfErr x.verdict (λ e. Begins program.now.slots e.pc)) }
-    ensures clear { IfOk result
-        (λ x. IfErr x.verdict (λ e. IsClear program.now entry_view (2 ^ 22) → e.fault
-        ≡ Fault.NoMemory)) }
-{
-    explain_within(alloc, program, hook, StateLimit::MOST)
-}
-
-/// The same of `verify_within`.
+/// What `verify_within` finds of a program, and how it comes to it. Nothing is promised but the verdict.
 pub fn explain_within(
     alloc: Global,
     program: &Program,
-    _hook: Hook,
     limit: StateLimit,
 ) -> Result<Explanation, AllocError>
     ensures safe { IfOk result (λ x. IfOk x.verdict (Safe program.now.slots program.now.shapes)) }
