@@ -7,8 +7,7 @@ use Rattle.ap_shards.specs.Tokens.{holding_of}
 use Rattle.ap_live.specs.Counting.{counted_by}
 use Rattle.ap_live.specs.Lives.{Live}
 use Rattle.ap_live.specs.Opening.{parts_in_all}
-use Rattle.ap_live.specs.Tokens.{Operator, IsOperator, Worker, IsWorker, Left, AreLeft}
-use Rattle.versions.specs.Lists.{Beginning}
+use Rattle.ap_live.specs.Tokens.{Operator, IsOperator, Worker, IsWorker}
 
 -- a token of an operator, with one part of each ledger, which has counted nothing
 pub record IsNewOperator (a : Live) (o : Operator) : Type 0 where
@@ -32,11 +31,3 @@ pub record AreHands (a : Live) (operator : Operator) (workers : List Worker) (ho
   pub all_parts : HasParts parts hoard
   pub nothing : sum_of hoard ≡ none
   pub all : parts + length workers + 1 ≡ parts_in_all
-
--- an access point with so many workers, the list that is published for it, and all of its tokens
-pub record IsUnused (workers : ℕ) (a : Live) (published : Beginning) (left : Left) : Type 0 where
-  pub many : length a.queues ≡ workers
-  pub list : published ≡ a.list
-  pub rest : AreLeft a left
-  pub parts : left.parts ≡ parts_in_all
-  pub nothing : counted_by left.shards ≡ none

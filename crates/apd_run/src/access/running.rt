@@ -7,7 +7,7 @@ ghost use Rattle.ap_books.specs.Holdings.{HasParts, sum_of};
 ghost use Rattle.ap_live.specs.Opening.{parts_in_all};
 ghost use Rattle.ap_live.specs.Tokens.{IsWorker};
 ghost use Rattle.ap_shards.specs.Opening.{AreNamed};
-ghost use Rattle.apd_run.specs.Dealing.{AreHands, IsNewOperator, IsNewWorker, IsUnused};
+ghost use Rattle.apd_run.specs.Dealing.{AreHands, IsNewOperator, IsNewWorker};
 ghost use Rattle.apd_run.specs.Hands.{crew_of};
 ghost use Rattle.apd_run.specs.Shows.{Runs};
 
@@ -49,14 +49,6 @@ pub struct Opening {
     pub settings: Settings,
     pub shapes: Shapes,
     pub new: NewShards,
-}
-
-/// An access point whose tokens were not given out yet, with so many workers, and a copy of the shapes
-/// of its maps.
-struct Unused<B: Ledgers + Journals> {
-    opened: Opened<B>,
-    workers: usize,
-    shapes: Shapes,
 }
 
 /// The tokens of an access point as they were given out, and the programs that are put in force there.
@@ -138,30 +130,6 @@ where
     }
 }
 
-/// Runs a script by an operator and its workers, of which none has counted anything.
-fn run_staffed<B, L, F, G, R, P>(
-    rt: &R,
-    alloc: Global,
-    operator: LiveOperator<'_, B, L, F>,
-    workers: Vec<Ready<LiveWorker<'_, B, L, G>>>,
-    commands: &[Numbered<'_>],
-    writer: P,
-) -> (P, u8)
-where
-    B: Ledgers + Journals + Send + Sync,
-    L: Publications + Send,
-    F: Files,
-    G: Gate + Copy + Send,
-    R: Threads + Wait + Sync,
-    P: Console + Drop,
-    requires all { vec_len workers ≡ operator.workers }
-    requires nothing { sum_of operator.hoard ≡ none }
-    ensures runs { Runs (P.strict writer) (P.contents writer) (P.contents result.0) none result.1 }
-{
-    let staff = Staff { operator, workers };
-    run_script(rt, alloc, staff, commands, writer)
-}
-
 /// Runs a script by an access point whose tokens were given out.
 fn run_with<B, L, F, G, R, P>(
     rt: &R,
@@ -205,49 +173,13 @@ where
     let many = ready.len() as u64;
     let sources = Sources { files, limit };
     let operator = new_operator::<B, L, F>(ap, operator, (hoard, parts), many, &mut loads, sources);
-    let ended = run_staffed(rt, alloc, operator, ready, commands, writer);
+    let staff = Staff {
+        operator,
+        workers: ready,
+    };
+    let ended = run_script(rt, alloc, staff, commands, writer);
     loads.close(rt);
     ended
-}
-
-/// Runs a script by an access point whose tokens were not given out yet.
-fn run_opened<B, F, G, R, P>(
-    rt: &R,
-    alloc: Global,
-    new: Unused<B>,
-    supplies: Supplies<'_, F, G>,
-    commands: &[Numbered<'_>],
-    writer: P,
-) -> (P, u8)
-where
-    B: Ledgers + Journals + Send + Sync,
-    F: Files,
-    G: Gate + Copy + Send,
-    R: Threads + Wait + Sync,
-    P: Console + Drop,
-    requires unused { IsUnused new.workers new.opened.ap new.opened.publisher new.opened.left }
-    requires few { new.workers ≤ 8 }
-    requires shapes { new.shapes ≡ new.opened.publisher.shapes }
-    requires shares { B.shares ≡ parts_in_all }
-    ensures runs { Runs (P.strict writer) (P.contents writer) (P.contents result.0) none result.1 }
-{
-    let Unused {
-        opened,
-        workers,
-        shapes,
-    } = new;
-    let Opened {
-        mut ap,
-        publisher,
-        left,
-    } = opened;
-    let loads = Loads::new(alloc, publisher, shapes);
-    let Ok(hands) = deal(&mut ap, alloc, left, workers) else {
-        loads.close(rt);
-        return without_memory(writer);
-    };
-    let equipment = Equipment { hands, loads };
-    run_with::<B, Brand, F, G, R, P>(rt, alloc, &ap, equipment, supplies, commands, writer)
 }
 
 /// Runs a script by a new access point. The writer is handed back with the program's status: 0; 3 where
@@ -283,10 +215,16 @@ where
     let Ok(opened) = LiveAp::<B>::open(rt, alloc, settings, new) else {
         return without_memory(writer);
     };
-    let unused = Unused {
-        opened,
-        workers,
-        shapes,
+    let Opened {
+        mut ap,
+        publisher,
+        left,
+    } = opened;
+    let loads = Loads::new(alloc, publisher, shapes);
+    let Ok(hands) = deal(&mut ap, alloc, left, workers) else {
+        loads.close(rt);
+        return without_memory(writer);
     };
-    run_opened(rt, alloc, unused, supplies, commands, writer)
+    let equipment = Equipment { hands, loads };
+    run_with::<B, Brand, F, G, R, P>(rt, alloc, &ap, equipment, supplies, commands, writer)
 }

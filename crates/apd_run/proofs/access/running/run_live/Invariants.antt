@@ -1,4 +1,4 @@
-use Rattle.apd_run.proofs.access.running.run_opened.Given as goal
+use Rattle.apd_run.proofs.access.running.run_live.Given as goal
 
 -- the list of the access point itself
 abbrev pub ghosts-run_with : goal.ghosts-run_with
