@@ -19,10 +19,10 @@ use bpf_prune::Entry;
 use bpf_regions::Hook;
 use std::alloc::{AllocError, Global};
 
-/// The states that `verify` finishes at target slots (slot 0, a jump's target, a local function's start, the slot after
-/// a local call), with their slots and budgets, in that order; or its refusal.
+/// Returns the states that `verify` finishes at target slots (slot 0, a jump's target, a local function's start, the
+/// slot after a local call), with their slots and budgets, in that order; or its refusal.
 ///
-/// Nothing else is promised of the list: whoever uses it checks it.
+/// The contract says nothing about the list, only that the program is safe: whoever uses the list checks it.
 pub fn explore(alloc: Global, program: &Program, hook: Hook) -> Result<Vec<Entry>, Refusal>
     ensures safe { OnOk result
         ((b : ℕ) × (b ≤ 2 ^ 22) × Safe program.now.slots program.now.shapes b) }
@@ -34,7 +34,7 @@ pub fn explore(alloc: Global, program: &Program, hook: Hook) -> Result<Vec<Entry
     explore_within(alloc, program, hook, StateLimit::MOST)
 }
 
-/// The same of `verify_within`.
+/// Like `explore`, within a limit of states as for `verify_within`.
 pub fn explore_within(
     alloc: Global,
     program: &Program,
@@ -60,20 +60,20 @@ pub fn explore_within(
     }
 }
 
-/// What an exploration found, and how it came to it.
+/// What an exploration found, and how.
 #[derive(Drop)]
 pub struct Explanation {
-    /// A budget within which the program is safe, or the refusal of `verify`.
+    /// A budget within which the program is safe, or the refusal.
     pub verdict: Result<u32, Refusal>,
-    /// The state that was examined last, unless memory was refused for it.
+    /// The state examined last, unless an allocation failed for it.
     pub state: Option<AbsState>,
-    /// The slots on the path to the state that was examined last, from slot 0 to its own.
+    /// The slots on the path to the state examined last, from slot 0 to its own.
     pub path: Vec<usize>,
-    /// How many states were examined at each slot; none at those behind the last.
+    /// How many states were examined at each slot; it ends at the last slot examined.
     pub visits: Vec<u32>,
 }
 
-/// What `verify` finds of a program, and how it comes to it. Nothing is promised but the verdict.
+/// What `verify` finds, and how. The contract describes only the verdict.
 pub fn explain(alloc: Global, program: &Program, hook: Hook) -> Result<Explanation, AllocError>
     ensures safe { IfOk result (λ x. IfOk x.verdict (Safe program.now.slots program.now.shapes)) }
     ensures small { IfOk result (λ x. IfOk x.verdict (λ budget. budget ≤ 2 ^ 22)) }
@@ -87,7 +87,7 @@ pub fn explain(alloc: Global, program: &Program, hook: Hook) -> Result<Explanati
     explain_within(alloc, program, hook, StateLimit::MOST)
 }
 
-/// The same of `verify_within`.
+/// Like `explain`, within a limit of states as for `verify_within`.
 pub fn explain_within(
     alloc: Global,
     program: &Program,
@@ -108,7 +108,7 @@ pub fn explain_within(
     Ok(explained(alloc, verdict, exploration.into_observer()))
 }
 
-/// A verdict with what was heard.
+/// A verdict with the observer's records.
 fn explained(alloc: Global, verdict: Result<u32, Refusal>, observer: Observer) -> Explanation
     ensures verdict { result.verdict ≡ verdict }
 {
