@@ -74,7 +74,7 @@ built_first f e =
     same_view (f.registers ++ stack_end 0 ∷ []) (f.registers ++ stack_end 0 ∷ []) _ _ refl
     (ap (λ (n : ℕ). record { return_slot = n; kept = main_frame.kept; stack = f.stack } ∷ []) (sym e))
 
--- a function that is called
+-- a called function
 pub built_more : (fs : List Frame) (f : Frame) → 1 ≤ length fs → length (newest_registers fs) ≡ 10 → filled (called (built fs) 0 f.return_slot) (length fs) f ≡ built (fs ++ f ∷ [])
 built_more fs f some ten =
     let rs : List AbsVal = newest_registers fs ++ stack_end (length fs - 1) ∷ [] in
@@ -150,7 +150,7 @@ goes_on fs k s t u f g one lt ten gis e h w =
     ∙ ap (λ (n : ℕ). filled (called (built (take k fs)) 0 g.return_slot) n g) (sym len) ∙ more
     ∙ ap built (ap (λ (x : Frame). take k fs ++ x ∷ []) gis ∙ sym (take_more fs k g lt))
 
--- ---- what an entry's frames are
+-- ---- the frames of an entry
 
 pub registers_ten : (maps : ℕ) (e : EntryView) → FitsEntry maps e → All (λ f. length f.registers ≡ 10) e.frames
 registers_ten maps e fits = All-from_recursion (λ f. length f.registers ≡ 10) e.frames (each e.frames fits.frames)

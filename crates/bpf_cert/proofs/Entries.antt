@@ -1,4 +1,4 @@
--- Entries that are looked at one after the other, and what they show.
+-- Entries checked one after the other, and what they show.
 use Rattle.std.proofs.Common.{◌≡◌, ℕ, zero, suc, ◌+◌, ◌-◌, ◌≤◌, ◌<◌, inl, inr, Bool, List, [], ◌∷◌, ◌++◌, length, take, drop, get_or, refl, sym, ◌∙◌, ap, subst, arith, Option, Some, None}
 use Rattle.std.specs.Prelude.{map, ◌^◌, IfSome}
 use Rattle.std.specs.List.{All}
@@ -100,7 +100,7 @@ pub claims_stand : (c : Code) (es : List EntryView) (maps : ℕ) → IsWhole c �
 claims_stand c es maps whole fit stand =
     All-map (λ (e : Claim). Stands c.slots e.state) claim_of es (λ k d lt. entry_stands c (get_or es k d) whole ((fit k d lt).main) (stand k d lt))
 
--- ---- the budget that is shown
+-- ---- the shown budget
 
 least_of : (cs : List Claim) (a b : ℕ) → BeginsWithin cs a → BeginsWithin cs b → a ≤ b
 least_of cs a b s t =

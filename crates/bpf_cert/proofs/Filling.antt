@@ -27,7 +27,7 @@ module _ {X : Type 0} where
   same_within (x ∷ xs) zero d e less = refl
   same_within (x ∷ xs) (suc k) d e less = same_within xs k d e (omega (arith, less))
 
-  -- what was set is got, and what is set twice is set once
+  -- a value that was set is read; setting twice is setting once
   pub get_set : (xs : List X) (k : ℕ) (x d : X) → k < length xs → get_or (set xs k x) k d ≡ x
   get_set [] k x d lt = absurd (omega (arith, lt))
   get_set (y ∷ xs) zero x d lt = refl
@@ -43,13 +43,13 @@ module _ {X : Type 0} where
   set_same (x ∷ xs) zero d = refl
   set_same (x ∷ xs) (suc k) d = ap (λ (ys : List X). x ∷ ys) (set_same xs k d)
 
--- a value that is put where it is
+-- putting a value where it already is
 pub put_there : (a : View) (r : ℕ) (v : AbsVal) → register a r ≡ v → a ≡ with_register a r v
 put_there a r v h =
     let same : set a.registers r v ≡ a.registers = ap (λ (x : AbsVal). set a.registers r x) (sym h) ∙ set_same a.registers r _ in
     ap (λ (xs : List AbsVal). record a { registers = xs }) (sym same)
 
--- a slot more of a stack that is filled
+-- one more slot of a stack that is filled
 pub stack_more : (a : View) (k : ℕ) (s t : List AbsSlot) (i : ℕ) (x : AbsSlot) → k < length a.frames → set s i x ≡ t → with_slot (with_stack a k s) k i x ≡ with_stack a k t
 stack_more a k s t i x lt e =
     let f : CallFrame = record (frame_of a k) { stack = s } in
@@ -59,7 +59,7 @@ stack_more a k s t i x lt e =
     ∙ ap (λ (u : List AbsSlot). set (set a.frames k f) k (record (frame_of a k) { stack = u })) e in
     ap (λ (fs : List CallFrame). record a { frames = fs }) (one ∙ set_set a.frames k f _)
 
--- before the first
+-- before the first slot
 pub stack_none : (a : View) (k : ℕ) → stack_of a k ≡ empty_stack → a ≡ with_stack a k empty_stack
 stack_none a k h =
     let frame : set a.frames k (record (frame_of a k) { stack = empty_stack }) ≡ a.frames =

@@ -8,7 +8,7 @@ use Rattle.bpf_cert.specs.declared.claim.Claim.{Claim}
 use Rattle.bpf_cert.specs.Covered.{Includes}
 use Rattle.bpf_cert.specs.Steps.{IsLeast}
 
--- an element within a list is the same whatever stands for the others
+-- an element within a list doesn't depend on the default
 pub same_within : (xs : List Claim) (k : ℕ) (d e : Claim) → k < length xs → get_or xs k d ≡ get_or xs k e
 same_within [] k d e less = absurd (omega (arith, less))
 same_within (x ∷ xs) zero d e less = refl

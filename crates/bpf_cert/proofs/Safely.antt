@@ -1,4 +1,4 @@
--- Claims that lead to claims are safe, by descent on the budget.
+-- Claims that lead to claims are safe, by induction on the budget.
 use Rattle.std.proofs.Common.{◌≡◌, ℕ, zero, suc, ◌+◌, ◌≤◌, ◌<◌, ◌⊎◌, inl, inr, List, length, get_or, sym, subst, arith}
 use Rattle.std.proofs.lemmas.Bool.{cases_lt}
 use Rattle.std.specs.List.{All, Any}
@@ -20,7 +20,7 @@ use Rattle.bpf_verifier.specs.Safety.{AllSafe}
 use Rattle.bpf_cert.specs.declared.claim.Claim.{Claim}
 use Rattle.bpf_cert.specs.Covered.{Includes, IsIncluded, LeadsWithin, AreKept}
 
--- where each way is safe, so is the state, within one instruction more
+-- if each successor is safe, so is the state, with one instruction more
 ways_safe : (p : Setting) (n : ℕ) (a : View) (w : Ways) → Covers p a w → EachWay w (AllSafe p n) → AllSafe p (n + 1) a
 ways_safe p n a Nowhere covers safe s in_a = SafeWithin-step p n s (IsFine-weaken p.shapes (next p s) (InWays p Nowhere) (SafeWithin p n) (λ t y. absurd y) (covers s in_a))
 ways_safe p n a (One x) covers safe s in_a = SafeWithin-step p n s (IsFine-weaken p.shapes (next p s) (InWays p (One x)) (SafeWithin p n) (λ t y. safe t y) (covers s in_a))
@@ -55,7 +55,7 @@ module _ (examining : ExaminedCovers) (keeps : InclusionKeeps) (c : Code) (p : S
       (each_weaken w (λ x. (IsTarget c.slots x.pc × IsIncluded es x n) ⊎ ((IsTarget c.slots x.pc → ⊥) × LeadsWithin c es n x)) (AllSafe p n)
       (λ x. elim [ inl t ↦ included_safe n x below t.1 | inr t ↦ deeper x t.1 ]) leads.4)
 
-  -- by descent on the budget
+  -- by induction on the budget
   both_safe : (n : ℕ) → BelowSafe n × ((a : View) → LeadsWithin c es n a → AllSafe p n a)
   unfolding LeadsWithin
   both_safe zero = (λ k d lt le. absurd (subst (λ (b : ℕ). LeadsWithin c es b (get_or es k d).state) (let z : (get_or es k d).budget ≡ 0 = omega (arith, le) in z) (kept k d lt)), λ a leads. absurd leads)

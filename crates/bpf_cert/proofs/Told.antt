@@ -1,4 +1,4 @@
--- Answers that tell whether something holds.
+-- Booleans that tell whether something holds.
 use Rattle.std.proofs.Common.{◌≡◌, ℕ, suc, ◌+◌, ◌≤◌, ◌<◌, inl, inr, Bool, true, false, List, sym, ◌∙◌, ap, subst, arith, Result, Ok, Err}
 use Rattle.std.specs.Prelude.{IfOk}
 use Rattle.std.specs.declared.alloc.AllocError.{AllocError}
@@ -27,7 +27,7 @@ open_includes e a false o h = λ x. true≢false (sym x.included ∙ sym h)
 pub closed_includes : (e : Claim) (a : View) → e.is_open ≡ false → Tells e.is_open (Includes e a)
 closed_includes e a h = subst (λ (b : Bool). Tells b (Includes e a)) (sym h) (λ x. true≢false (sym x.is_open ∙ h))
 
--- the same is told of what holds just where P does
+-- what is told of P is told of an equivalent Q
 pub tells_same : (told : Bool) (P Q : Type 0) → (P → Q) → (Q → P) → Tells told P → Tells told Q
 tells_same true P Q f g h = f h
 tells_same false P Q f g h = λ q. h (g q)
@@ -48,7 +48,7 @@ module _ (c : Code) (es : List Claim) (n : ℕ) where
   pub elsewhere : (x : View) → (IsTarget c.slots x.pc → ⊥) → Goes c es n (Arrives c es n x) (Onward x)
   elsewhere x other = record { back = λ l. inr (other, l); forth = λ a. elim a [ inl k ↦ absurd (other k.0) | inr k ↦ k.1 ] }
 
-  -- both ways
+  -- both successors
   pub second_in : (x y : View) (s : Step) → IsTarget c.slots y.pc → IsIncluded es y n → Goes c es n (Arrives c es n x) s → Goes c es n (EachWay (Two x y) (Arrives c es n)) s
   second_in x y s t i h = goes_same c es n (Arrives c es n x) (EachWay (Two x y) (Arrives c es n)) s (λ a. (a, inl (t, i))) (λ a. a.0) h
 
@@ -85,14 +85,14 @@ pub no_budget : (c : Code) (es : List Claim) (n : ℕ) (a : View) → n ≤ 0 �
 unfolding LeadsWithin
 no_budget c es n a le h = let z : n ≡ 0 = omega arith in subst (λ (m : ℕ). LeadsWithin c es m a) z h
 
--- an answer that is true or false
+-- a result that is true
 pub told_true : (r : Bool) (P : Type 0) → r ≡ true → Tells r P → P
 told_true r P e h = subst (λ (b : Bool). Tells b P) e h
 
 pub told_false : (r : Bool) (P : Type 0) → r ≡ false → Tells r P → P → ⊥
 told_false r P e h = subst (λ (b : Bool). Tells b P) e h
 
--- a fault that is met, or want of memory
+-- a fault, or lack of memory
 pub refused_goes : (c : Code) (es : List Claim) (n : ℕ) (P Q : Type 0) (r : Result Step AllocError) → IfOk r (λ told. (told ≡ Decided false) × Q) → (Q → P → ⊥) → IfOk r (Goes c es n P)
 refused_goes c es n P Q (Ok s) h k = subst (Goes c es n P) (sym h.0) (k h.1)
 refused_goes c es n P Q (Err e) h k = tt

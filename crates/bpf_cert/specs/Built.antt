@@ -19,7 +19,7 @@ blank_view = with_values entry_view (replicate 10 Unset)
 abbrev pub with_stack : View → ℕ → List AbsSlot → View
 with_stack a k stack = record a { frames = slice_set a.frames k (record (frame_of a k) { stack = stack }) }
 
--- both, as a frame has them
+-- the registers and the stack of a frame
 abbrev pub filled : View → ℕ → Frame → View
 filled a k f = with_stack (with_values a f.registers) k f.stack
 

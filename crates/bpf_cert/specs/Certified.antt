@@ -1,4 +1,4 @@
--- When the bytes of a certificate show that a program is safe.
+-- When a certificate's bytes show that a program is safe.
 use Rattle.std.specs.Prelude.{◌≡◌, ◌≤◌, ◌^◌, ℕ, ◌+◌, ℤ, List, drop, map, Result, Ok, Err, Option, Some, IfSome, MatchOption, ◌<◌}
 use Rattle.std.specs.List.{All}
 use Rattle.bpf_insn.specs.declared.insn.Insn.TheVariants as insn
@@ -18,7 +18,7 @@ pub record IsFor (c : Code) (h : Hook) (x : CertificateView) : Type 0 where
   pub hook : x.hook ≡ h
   pub code : SpellsCode x.code c
 
--- the slot comes right after a local call
+-- the slot immediately follows a local call
 abbrev pub FollowsCall : Code → ℕ → Type 0
 FollowsCall c t = (k : ℕ) × (x : ℤ) × Holds c.slots k (insn.CallLocal x) × (t ≡ k + 1)
 
@@ -26,24 +26,24 @@ FollowsCall c t = (k : ℕ) × (x : ℤ) × Holds c.slots k (insn.CallLocal x) �
 abbrev pub AllFollow : Code → List Frame → Type 0
 AllFollow c fs = All (λ f. FollowsCall c f.return_slot) fs
 
--- each function of the entry but the main one does
+-- each function of the entry except the main one does
 abbrev pub ReturnsWell : Code → EntryView → Type 0
 ReturnsWell c e = AllFollow c (drop 1 e.frames)
 
--- The entries show that the program ends within so many instructions, which is as many as a program may take.
+-- The entries show that the program ends within b instructions, at most 2^22.
 pub record Shows (c : Code) (es : List EntryView) (b : ℕ) : Type 0 where
   pub returns : All (ReturnsWell c) es
   pub covered : AreCovered c (map claim_of es) b
   pub small : b ≤ 2 ^ 22
 
--- The bytes are a certificate for this code and this hook, whose entries show it.
+-- The bytes are a certificate for this code and hook, whose entries show b.
 pub record Covered (c : Code) (hook : Hook) (bytes : List ℕ) (b : ℕ) : Type 0 where
   pub certificate : CertificateView
   pub spelled : Spells c.shapes bytes certificate
   pub is_for : IsFor c hook certificate
   pub shows : Shows c certificate.entries b
 
--- why bytes are refused: the first of these that is so; of memory nothing is said
+-- why bytes are refused: the first of these that applies; lack of memory says nothing
 abbrev pub Refuses : Code → Hook → List ℕ → CertFault → Type 0
 Refuses c hook bytes NoMemory = Unit {0}
 Refuses c hook bytes Malformed = (x : CertificateView) → Spells c.shapes bytes x → ⊥
@@ -51,7 +51,7 @@ Refuses c hook bytes Other = (x : CertificateView) × Spells c.shapes bytes x ×
 Refuses c hook bytes NotCovered =
     (x : CertificateView) × Spells c.shapes bytes x × IsFor c hook x × ((b : ℕ) → Shows c x.entries b → ⊥)
 
--- the answer is that budget, unless memory ran out
+-- the result is that budget, unless memory ran out
 abbrev pub Answers : Result ℕ CertFault → ℕ → Type 0
 Answers (Ok n) b = n ≡ b
 Answers (Err NoMemory) b = Unit {0}
@@ -63,13 +63,13 @@ Admits (Ok a) b = a.budget ≡ b
 Admits (Err NoMemory) b = Unit {0}
 Admits (Err _) b = ⊥
 
--- the program that was asked about is admitted, with a budget that is shown
+-- the given program is admitted, with a budget that is shown
 pub record IsAdmitted (c : Code) (h : Hook) (bytes : List ℕ) (a : Verified) : Type 0 where
   pub code : a.code ≡ c
   pub hook : a.hook ≡ h
   pub covered : Covered c h bytes a.budget
 
--- the number for which P holds, if there is one
+-- the number for which P holds, or none if there is none
 abbrev pub Finds : Option ℕ → (ℕ → Type 0) → Type 0
 Finds o P = MatchOption o ((n : ℕ) → P n → ⊥) P
 

@@ -12,7 +12,7 @@ number_of Malformed = 70
 number_of Other = 71
 number_of NotCovered = 72
 
--- what is answered where bytes could not be read
+-- the fault for bytes that couldn't be read
 abbrev pub fault_of : ReadFault → CertFault
 fault_of read.Memory = NoMemory
 fault_of read.Malformed = Malformed

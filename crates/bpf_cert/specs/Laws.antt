@@ -1,4 +1,4 @@
--- What claims are good for.
+-- What claims show.
 use Rattle.std.specs.Prelude.{ℕ, List}
 use Rattle.std.specs.List.{All}
 use Rattle.bpf_decode.specs.Program.{Code, IsWhole}

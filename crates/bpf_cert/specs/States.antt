@@ -1,4 +1,4 @@
--- The abstract states that entries of a certificate describe.
+-- The abstract states that a certificate's entries describe.
 use Rattle.std.specs.Prelude.{◌-◌, ◌&&◌, Bool, true, List, [], ◌∷◌, ◌++◌, length, take}
 use Rattle.std.specs.List.{list_all}
 use Rattle.bpf_absval.specs.declared.value.AbsVal.{AbsVal}
@@ -9,7 +9,7 @@ use Rattle.bpf_cert_format.specs.declared.frame.Frame.{Frame}
 use Rattle.bpf_cert_format.specs.Views.{EntryView}
 use Rattle.bpf_cert.specs.declared.claim.Claim.{Claim}
 
--- each call frame keeps what its caller has in R6 to R9
+-- each call frame keeps its caller's R6 to R9
 unfoldable pub frames_after : List AbsVal → List Frame → List CallFrame
 frames_after kept [] = []
 frames_after kept (f ∷ fs) = record { return_slot = f.return_slot; kept = kept; stack = f.stack } ∷ frames_after (kept_of f.registers) fs
@@ -31,12 +31,12 @@ state_of e =
       rooms = e.rooms;
     }
 
--- Nothing is said of R0 to R5 of a calling function: in each state that is reached they are unset.
+-- R0 to R5 of all calling functions are unset, as in each reached state
 unfoldable pub callers_free : List Frame → Bool
 callers_free [] = true
 callers_free (f ∷ []) = true
 callers_free (f ∷ g ∷ fs) = list_all is_unset (take 6 f.registers) && callers_free (g ∷ fs)
 
--- what an entry claims
+-- the claim of an entry
 abbrev pub claim_of : EntryView → Claim
 claim_of e = record { state = state_of e; budget = e.budget; is_open = callers_free e.frames }

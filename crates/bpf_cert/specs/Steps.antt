@@ -1,4 +1,4 @@
--- How a check goes from one state to the next.
+-- How a check proceeds from state to state.
 use Rattle.std.specs.Prelude.{◌≡◌, ◌⊎◌, ◌<◌, ◌≤◌, ℕ, Bool, List, MatchBool, slice_index_or}
 use Rattle.std.specs.List.{Any}
 use Rattle.bpf_decode.specs.Program.{Code, IsTarget}
@@ -10,7 +10,7 @@ use Rattle.bpf_cert.specs.declared.coverage.Step.{Step}
 use Rattle.bpf_cert.specs.declared.coverage.Step.TheVariants.{Decided, Onward}
 use Rattle.bpf_cert.specs.Covered.{Includes, IsIncluded, LeadsWithin}
 
--- the answer is yes where P holds, and no where it doesn't
+-- true if P holds, false if it doesn't
 abbrev pub Tells : Bool → Type 0 → Type 0
 Tells told P = MatchBool told P (P → ⊥)
 
@@ -18,16 +18,16 @@ Tells told P = MatchBool told P (P → ⊥)
 abbrev pub Serves : Claim → View → ℕ → Type 0
 Serves e a n = Includes e a × (e.budget ≤ n)
 
--- a way on leads to this state: a claim includes it, or its own ways lead on
+-- a successor leads on: at a target slot a claim includes it, at any other slot it leads within n
 abbrev pub Arrives : Code → List Claim → ℕ → View → Type 0
 Arrives c es n x = (IsTarget c.slots x.pc × IsIncluded es x n) ⊎ ((IsTarget c.slots x.pc → ⊥) × LeadsWithin c es n x)
 
--- P is decided, or holds just where the state's ways lead on
+-- P and Q are equivalent
 pub record IsSame (P Q : Type 0) : Type 0 where
   pub back : Q → P
   pub forth : P → Q
 
--- a step that says why the claim fails, or leads to other claims within their budgets
+-- a step decides P, or reduces it to a state that must lead within n
 abbrev pub Goes : Code → List Claim → ℕ → Type 0 → Step → Type 0
 Goes c es n P (Decided told) = Tells told P
 Goes c es n P (Onward x) = IsSame P (LeadsWithin c es n x)

@@ -14,7 +14,7 @@ use bpf_cert_format::{Entry, Frame, KnownSlot};
 use bpf_insn::Reg;
 use std::alloc::{AllocError, Global};
 
-/// Puts a value into a register. One that is unset and stays so stays shared.
+/// Puts a value into a register. A register that is unset and stays so isn't copied.
 #[tactic(auto, using(crate::proofs::Filling::put_there))]
 fn put_value(state: &mut AbsState, register: Reg, value: AbsVal) -> Result<(), AllocError>
     ensures is { OnOk result (state.new ≡ with_register state.old register value) }
@@ -39,7 +39,7 @@ fn put_values(state: &mut AbsState, values: &[AbsVal]) -> Result<(), AllocError>
     Ok(())
 }
 
-/// The state in which nothing is known. Those of entries are copies of it, which share what they leave as it is.
+/// The state in which nothing is known. States of entries are copies of it, and share what they don't change.
 #[tactic(auto, using(crate::proofs::Builds::entry_eleven))]
 pub(crate) fn blank(alloc: Global) -> Result<AbsState, AllocError>
     ensures is { IfOk result (λ state. state ≡ blank_view) }
@@ -50,7 +50,7 @@ pub(crate) fn blank(alloc: Global) -> Result<AbsState, AllocError>
     Ok(state)
 }
 
-/// Fills the stack of call frame `k`, which is unset so far, with the slots that are known.
+/// Fills the stack of call frame `k`, which is still unset, with the known slots.
 fn put_stack(state: &mut AbsState, k: usize, known: &[KnownSlot]) -> Result<(), AllocError>
     requires lives { k < length state.old.frames }
     requires inside { All (λ s. s.index < 64) known.now }
@@ -63,7 +63,7 @@ fn put_stack(state: &mut AbsState, k: usize, known: &[KnownSlot]) -> Result<(), 
     Ok(())
 }
 
-/// Fills call frame `k`, of which nothing is known so far.
+/// Fills call frame `k`, of which nothing is known yet.
 fn fill(state: &mut AbsState, k: usize, frame: &Frame) -> Result<(), AllocError>
     requires all { length frame.now.registers ≡ 10 }
     requires eleven { length state.old.registers ≡ 11 }
@@ -96,7 +96,7 @@ fn with_frames(alloc: Global, blank: &AbsState, frames: &[Frame]) -> Result<AbsS
     Ok(state)
 }
 
-/// Puts rooms of rising labels into a state that knows none.
+/// Puts the bytes known to follow labels, which rise, into a state that knows none.
 fn put_rooms(state: &mut AbsState, rooms: &[Room]) -> Result<(), AllocError>
     requires rise { Rise 0 rooms.now }
     requires none { state.old.rooms ≡ [] }

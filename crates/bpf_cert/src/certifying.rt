@@ -1,4 +1,4 @@
-//! Certificates made: an admitted program is explored again, and what was found is written down.
+//! Makes certificates: explores an admitted program again, and writes down what was found.
 
 ghost use Rattle.std.specs.Prelude.{◌≡◌, ◌⊎◌, ℕ, IfOk, IfErr};
 ghost use Rattle.bpf_decode.specs.Program.{Begins};
@@ -34,8 +34,8 @@ fn describe(
     Ok(())
 }
 
-/// The entries of a certificate for a program that finished states make, without needless ones, in the order of their
-/// slots and budgets. In that order `check` finds them soon.
+/// The entries that finished states give a program's certificate, without needless ones, ordered by slot and budget. In
+/// that order `check` finds them fast.
 fn entries_of(
     alloc: Global,
     program: &Program,
@@ -61,14 +61,13 @@ fn written(
     write(alloc, &Certificate::new(hook, code, entries))
 }
 
-/// A refusal at the start.
 fn at_start(fault: Fault) -> Refusal
     ensures is { result ≡ record { fault = fault; pc = 0 } }
 {
     Refusal { fault, pc: 0 }
 }
 
-/// Why bytes that were made are no certificate, as a refusal at the start.
+/// A refusal at the start, for bytes that turned out to be no certificate.
 fn unmade(fault: CertFault) -> Refusal
     ensures start { result.pc ≡ 0 }
 {
@@ -89,7 +88,7 @@ fn unwritten(fault: WriteFault) -> Refusal
     }
 }
 
-/// The certificate's bytes, if they show that the program is safe.
+/// Returns the certificate's bytes if they show that the program is safe.
 fn proved(alloc: Global, program: &Program, hook: Hook, bytes: Vec<u8>) -> Result<Vec<u8>, Refusal>
     ensures covered { IfOk result (λ made. (b : ℕ) × Covered program.now hook made.items b) }
     ensures start { IfErr result (λ e. e.pc ≡ 0) }
@@ -100,13 +99,13 @@ fn proved(alloc: Global, program: &Program, hook: Hook, bytes: Vec<u8>) -> Resul
     }
 }
 
-/// A certificate for an admitted program and its hook: the states that `explore` lists, but those for which others
-/// serve. It was checked, so `check` accepts it.
+/// Makes a certificate for an admitted program and its hook, from the states that `explore` lists, without needless
+/// ones. The certificate has been checked: `check` accepts it, unless memory is lacking.
 ///
-/// A program that `verify` refuses is refused here too, as one that came in through `check` may be. 36 at slot 0 also
-/// stands for states that don't fit a certificate.
+/// A program that `verify` refuses is refused here too; one admitted through `check` may be such a program. 36 at slot
+/// 0 can also mean that its states don't fit a certificate.
 pub fn certificate(alloc: Global, accepted: &Accepted) -> Result<Vec<u8>, Refusal>
-    // Within some budget the bytes show that the program is safe.
+    // The bytes show, with some budget, that the program is safe.
     ensures covered { IfOk result
         (λ bytes. (b : ℕ) × Covered accepted.now.code accepted.now.hook bytes.items b) }
     ensures begins { IfErr result (λ e. Begins accepted.now.code.slots e.pc) }
@@ -114,15 +113,15 @@ pub fn certificate(alloc: Global, accepted: &Accepted) -> Result<Vec<u8>, Refusa
     certificate_within(alloc, accepted, StateLimit::MOST)
 }
 
-/// The same, where at most so many states are examined: a program that has more of them is refused, as `verify_within`
-/// refuses it. One whose states, each counted once for every way to it, are no more than the limit and meet no fault is
-/// refused for memory alone, or at slot 0.
+/// Like `certificate`, but examines at most `limit` states: a program that needs more is refused as by `verify_within`.
+/// If its states, each counted once for every path to it, are at most the limit and meet no fault, it is refused only
+/// for lack of memory, or at slot 0.
 pub fn certificate_within(
     alloc: Global,
     accepted: &Accepted,
     limit: StateLimit,
 ) -> Result<Vec<u8>, Refusal>
-    // Within some budget the bytes show that the program is safe.
+    // The bytes show, with some budget, that the program is safe.
     ensures covered { IfOk result
         (λ bytes. (b : ℕ) × Covered accepted.now.code accepted.now.hook bytes.items b) }
     ensures begins { IfErr result (λ e. Begins accepted.now.code.slots e.pc) }

@@ -1,4 +1,4 @@
-//! Certificates checked: a program that was verified elsewhere is admitted.
+//! Checks certificates: admits a program that was verified elsewhere.
 
 ghost use Rattle.std.specs.Prelude.{◌≡◌, ◌≤◌, ◌^◌, ◌++◌, [], ◌∷◌, ℕ, ℤ, Some, IfOk, IfErr, IfSome, OnOk, length, map, drop};
 ghost use Rattle.std.specs.List.{All};
@@ -24,10 +24,10 @@ use bpf_machine::Accepted;
 use bpf_regions::Hook;
 use std::alloc::{AllocError, Global};
 
-/// The greatest budget of a program that runs.
+/// The greatest budget of an admitted program.
 const MOST: u32 = 4194304;
 
-/// How many bytes of memory claims may take for each byte of a certificate.
+/// How many bytes of memory the claims may take for each byte of a certificate.
 const ROOM: usize = 8;
 
 /// Whether a certificate is for this hook and this code.
@@ -47,7 +47,6 @@ fn is_for(
     Ok(certificate.code() == code.as_slice())
 }
 
-/// Whether an instruction is a local call.
 fn is_call(insn: Option<Option<Insn>>) -> bool
     ensures is { Tells result ((x : ℤ) × (insn ≡ Some (Some (CallLocal x)))) }
 {
@@ -57,7 +56,7 @@ fn is_call(insn: Option<Option<Insn>>) -> bool
     }
 }
 
-/// Whether a slot comes right after a local call.
+/// Whether a slot immediately follows a local call.
 fn follows_call(program: &Program, slot: u16) -> bool
     ensures is { Tells result (FollowsCall program.now slot) }
 {
@@ -79,7 +78,7 @@ fn all_follow(program: &Program, frames: &[Frame]) -> bool
     true
 }
 
-/// Whether each function but the main one does.
+/// Whether each function except the main one does.
 fn returns_well(program: &Program, frames: &[Frame]) -> bool
     ensures is { Tells result (AllFollow program.now (drop 1 frames.now)) }
 {
@@ -89,14 +88,14 @@ fn returns_well(program: &Program, frames: &[Frame]) -> bool
     all_follow(program, &frames[1..])
 }
 
-/// Whether an entry stands at an instruction, and its functions return to slots after local calls.
+/// Whether an instruction begins at an entry's slot, and its functions return to slots after local calls.
 fn stands(program: &Program, entry: &Entry) -> bool
     ensures is { Tells result (StandsWell program.now entry.now) }
 {
     begins(program, entry.pc() as usize) && returns_well(program, entry.frames())
 }
 
-/// The same of an entry that may have to be read for it.
+/// Like `stands`, for an entry that may have to be read first.
 fn leaf_stands(alloc: Global, program: &Program, leaf: &Leaf) -> Result<bool, AllocError>
     ensures is { IfOk result (λ told. Tells told (StandsWell program.now leaf.now)) }
 {
@@ -124,7 +123,8 @@ fn all_stand(alloc: Global, program: &Program, entries: &[Leaf]) -> Result<bool,
     Ok(true)
 }
 
-/// Adds what an entry claims. Of one that was not kept as a value the claim isn't either, once claims take much memory.
+/// Adds the claim of an entry. If the entry isn't held as a value and claims already take much memory, the claim is
+/// rebuilt on each use.
 fn add_claim(
     alloc: Global,
     maps: usize,
@@ -158,7 +158,7 @@ fn add_claim(
     }
 }
 
-/// What entries claim. Claims may take about so many bytes of memory, beside those of entries that are kept as values.
+/// The claims of entries. They may take about `room` bytes of memory, besides entries held as values.
 fn claims_of(
     alloc: Global,
     program: &Program,
@@ -178,7 +178,7 @@ fn claims_of(
     Ok(claims)
 }
 
-/// A budget, if a program may take so many steps.
+/// The budget, if it is at most 2^22.
 fn small(budget: Option<u32>) -> Option<u32>
     ensures is { KeepsWithin (2 ^ 22) budget result }
 {
@@ -211,7 +211,7 @@ fn shown_budget(
     Ok(small(budget))
 }
 
-/// The one call that makes an accepted program of a certificate's. Err where memory for its operations is refused.
+/// The only call that makes an accepted program from a certificate's. Fails if memory for its operations is lacking.
 fn accept(alloc: Global, program: Program, hook: Hook, budget: u32) -> Result<Accepted, AllocError>
     requires safe { Safe program.slots program.shapes budget }
     requires small { budget ≤ 2 ^ 22 }
@@ -221,7 +221,7 @@ fn accept(alloc: Global, program: Program, hook: Hook, budget: u32) -> Result<Ac
     Accepted::new(alloc, program, hook, budget)
 }
 
-/// The budget that the bytes show for a program and a hook, or the refusal as `check` has it.
+/// The budget that the bytes show for a program and a hook, or the refusal that `check` gives.
 pub(crate) fn certified_budget(
     alloc: Global,
     program: &Program,
@@ -249,22 +249,21 @@ pub(crate) fn certified_budget(
     }
 }
 
-/// The program, if the bytes are a certificate that shows within how many instructions each of its runs ends.
+/// Admits the program if the bytes are a certificate which shows within how many instructions each of its runs ends.
 ///
-/// 70: the bytes spell no certificate. 71: it is for another hook or another code. 72: its entries don't show it.
-/// 40: memory was refused. The first of 70, 71, 72 that is so is answered. A program that runs takes at most 2^22
-/// instructions, so a certificate that shows more is 72.
+/// 70: the bytes spell no certificate. 71: it is for another hook or another code. 72: its entries don't show a budget
+/// of at most 2^22. The first of these that applies is returned; or 40: lack of memory.
 pub fn check(
     alloc: Global,
     program: Program,
     hook: Hook,
     bytes: &[u8],
 ) -> Result<Accepted, CertFault>
-    // What is admitted is what was asked about, with a budget that is shown.
+    // The admitted program is the given one, with a budget that is shown.
     ensures ok { IfOk result (IsAdmitted program hook bytes.now) }
-    // What is shown is admitted, with that budget.
+    // A program whose budget is shown is admitted with it, unless memory is lacking.
     ensures only { (b : ℕ) → Covered program hook bytes.now b → Admits result b }
-    // Which of the refusals it is.
+    // Which refusal applies.
     ensures err { IfErr result (Refuses program hook bytes.now) }
 {
     let budget = certified_budget(alloc, &program, hook, bytes)?;

@@ -1,4 +1,4 @@
-//! What the entries of a certificate claim.
+//! The claims of a certificate's entries.
 
 ghost use Rattle.std.specs.Prelude.{◌≡◌, length, take};
 ghost use Rattle.std.specs.List.{All, list_all};
@@ -20,14 +20,13 @@ fn is_unset(value: AbsVal) -> bool
     }
 }
 
-/// Whether nothing is said of any of these values.
 fn are_unset(values: &[AbsVal]) -> bool
     ensures is { result ≡ list_all unset values.now }
 {
     values.iter().all(|value| is_unset(*value))
 }
 
-/// Whether nothing is said of R0 to R5.
+/// Whether R0 to R5 are unset.
 fn says_nothing(frame: &Frame) -> bool
     requires all { length frame.now.registers ≡ 10 }
     ensures is { result ≡ list_all unset (take 6 frame.now.registers) }
@@ -35,7 +34,7 @@ fn says_nothing(frame: &Frame) -> bool
     are_unset(&frame.registers.as_slice()[..6])
 }
 
-/// Whether nothing is said of R0 to R5 of calling functions.
+/// Whether R0 to R5 of all calling functions are unset.
 fn callers_free(frames: &[Frame]) -> bool
     requires all { All (λ f. length f.registers ≡ 10) frames.now }
     ensures is { result ≡ free frames.now }
@@ -48,7 +47,7 @@ fn callers_free(frames: &[Frame]) -> bool
     true
 }
 
-/// What an entry claims that describes a state.
+/// The claim of an entry that describes a state.
 #[tactic(auto, using(crate::proofs::Builds::registers_ten))]
 pub(crate) fn claim(maps: usize, state: AbsState, entry: &Entry) -> Claim
     requires described { state ≡ describes entry.now }

@@ -1,4 +1,4 @@
-//! Claims in a list, and where in it those of each slot stand.
+//! A list of claims, and the indexes of those of each slot.
 
 ghost use Rattle.std.specs.Prelude.{◌≡◌, ◌<◌, ◌≤◌, ◌++◌, [], ◌∷◌, IfOk, OnOk, OnSome, IsTrue, Some, length, slice_get};
 ghost use Rattle.bpf_cert_format.specs.Unread.{entry_from};
@@ -14,27 +14,27 @@ use std::alloc::{AllocError, Global};
 use std::cell::Cell;
 use std::marker::Model;
 
-/// Where a claim stands in the list, and its budget.
+/// A claim's index in the list, and its budget.
 #[derive(Clone, Copy)]
 struct Spot {
     place: usize,
     budget: u32,
 }
 
-/// The claims of a slot. They only say where to look first.
+/// The claims of a slot, which only say where to look first.
 #[derive(Drop)]
 struct Row {
     spots: Vec<Spot>,
-    /// The place of the claim that served last.
+    /// The index of the claim that served last.
     served: Cell<usize>,
 }
 
-/// Claims in the order in which they came. Contracts see the list.
+/// Claims in the order of insertion. Contracts see the list.
 #[derive(Drop)]
 pub struct Claims {
     list: Vec<Held>,
     rows: Vec<Row>,
-    /// Where a state was last found not to lie in a claim.
+    /// Where a state was last found not included in a claim.
     recent: Cell<Difference>,
 }
 
@@ -47,8 +47,8 @@ impl Model for Claims {
     ghost view = { λ a. a.list.items };
 }
 
-/// How many of these come before the first claim with a budget of more than what is left, where budgets don't fall; else
-/// any number of them.
+/// How many of these precede the first claim with a budget above what is left, if budgets don't fall; otherwise any
+/// number of them.
 fn count_within(spots: &[Spot], left: u32) -> usize
     ensures inside { result ≤ length spots.now }
 {
@@ -65,7 +65,8 @@ fn count_within(spots: &[Spot], left: u32) -> usize
     low
 }
 
-/// Whether some claim includes a state, with a budget of at most what is left: all are looked at.
+/// Whether some claim includes a state, with a budget of at most what is left. Examines all claims before it returns
+/// false.
 fn some_includes(
     alloc: Global,
     list: &[Held],
@@ -85,7 +86,7 @@ fn some_includes(
 }
 
 impl Claims {
-    /// No claims, for so many slots.
+    /// An empty list, for that many slots.
     pub fn new(alloc: Global, slots: usize) -> Result<Claims, AllocError>
         ensures is { IfOk result (λ claims. claims ≡ []) }
     {
@@ -103,21 +104,21 @@ impl Claims {
         })
     }
 
-    /// How many there are.
+    /// The number of claims.
     pub fn len(&self) -> usize
         ensures is { result ≡ length self.now }
     {
         self.list.len()
     }
 
-    /// Whether there are none.
+    /// True only if there are no claims.
     pub fn is_empty(&self) -> bool
         ensures is { IsTrue result → self.now ≡ [] }
     {
         self.list.is_empty()
     }
 
-    /// A copy of one of them.
+    /// A copy of the claim at an index.
     pub fn claim(&self, alloc: Global, place: usize) -> Result<Claim, AllocError>
         requires { place < length self.now }
         ensures is { IfOk result (λ claim. slice_get self.now place ≡ Some claim) }
@@ -127,7 +128,7 @@ impl Claims {
         Ok(claim)
     }
 
-    /// Notes where the next claim comes to stand.
+    /// Notes the index of the next claim.
     fn note(&mut self, pc: usize, budget: u32) -> Result<(), AllocError>
         ensures same { self.new ≡ self.old }
     {
@@ -147,7 +148,7 @@ impl Claims {
         Ok(())
     }
 
-    /// Adds what an entry claims that is read when it is looked at. Its slot and its budget only say where to look first.
+    /// Adds the claim of an entry that is read on each use. The given slot and budget only say where to look first.
     pub(crate) fn push_unread(
         &mut self,
         unread: Unread,
@@ -161,7 +162,8 @@ impl Claims {
         Ok(())
     }
 
-    /// Whether the claim at a place includes a state, with a budget of at most what is left.
+    /// True only if some claim includes a state with a budget of at most what is left. Only the claim at an index is
+    /// examined.
     fn serves(
         &self,
         alloc: Global,
@@ -179,7 +181,7 @@ impl Claims {
         Ok(told)
     }
 
-    /// The place of one of these claims that does, from the last on.
+    /// The index of one of these claims that does, searched from the last.
     fn one_serving(
         &self,
         alloc: Global,
@@ -197,8 +199,8 @@ impl Claims {
         Ok(None)
     }
 
-    /// Whether one of the claims at a state's slot includes it, with a budget of at most what is left: that which served
-    /// last, and of those whose budgets serve so many from the greatest on.
+    /// True only if a claim includes a state, with a budget of at most what is left. Examines claims at its slot: the
+    /// one that served last, and `most` of those whose budgets serve, from the greatest.
     pub(crate) fn soon_include(
         &self,
         alloc: Global,
@@ -227,9 +229,9 @@ impl Claims {
         }
     }
 
-    /// Whether some claim includes a state, with a budget of at most what is left. That which served last at the slot is
-    /// looked at first. Where claims come by rising budgets, it goes on from the greatest budget that can serve downwards.
-    /// All are looked through before the answer is no.
+    /// Whether some claim includes a state, with a budget of at most what is left. The claim that served last at the
+    /// slot is examined first, then, if claims were added by rising budgets, those with the greatest budgets that can
+    /// serve. Before it returns false, it examines all.
     pub fn include(&self, alloc: Global, state: &AbsState, left: u32) -> Result<bool, AllocError>
         ensures is { IfOk result (λ told. Tells told (IsIncluded self.now state.now left)) }
     {

@@ -22,12 +22,12 @@ use bpf_decode::Program;
 use bpf_rules::{Fault, Ways};
 use std::alloc::{AllocError, Global};
 
-/// Where a state leads.
+/// The result of one step.
 #[derive(Drop)]
 pub(crate) enum Step {
-    /// It is known whether every way leads to EXIT or to a claim.
+    /// It is decided whether every path leads to EXIT or to a claim.
     Decided(bool),
-    /// They do just where this state's ways do.
+    /// This is so if and only if it is so from this state.
     Onward(AbsState),
 }
 
@@ -41,7 +41,7 @@ pub(crate) fn begins(program: &Program, slot: usize) -> bool
     }
 }
 
-/// A way on to a state.
+/// A successor.
 fn arrive(
     alloc: Global,
     program: &Program,
@@ -59,7 +59,7 @@ fn arrive(
     Ok(Step::Onward(state))
 }
 
-/// The ways on from a state.
+/// The successors of a state.
 fn follow(
     alloc: Global,
     program: &Program,
@@ -88,7 +88,7 @@ fn follow(
     }
 }
 
-/// A fault that is met: no way leads on, or memory was wanting.
+/// On a fault the state leads nowhere; lack of memory is passed on.
 fn refused(fault: Fault) -> Result<Step, AllocError>
     ensures is { IfOk result (λ told. (told ≡ Decided false) × (fault ≡ NoMemory → ⊥)) }
 {
@@ -98,7 +98,7 @@ fn refused(fault: Fault) -> Result<Step, AllocError>
     }
 }
 
-/// The instruction at a state that is given up, of which so many may be left behind it.
+/// Examines the instruction at a state, which is consumed, with at most `left` instructions after it.
 fn advance(
     alloc: Global,
     program: &Program,
@@ -123,7 +123,7 @@ fn advance(
     }
 }
 
-/// Whether from a claim, which is given up, every way leads within its budget to EXIT or to a claim.
+/// Whether from a claim, which is consumed, every path leads within its budget to EXIT or to a claim.
 pub(crate) fn leads(
     alloc: Global,
     program: &Program,
@@ -145,7 +145,7 @@ pub(crate) fn leads(
     Ok(false)
 }
 
-/// Whether that is so of each claim.
+/// Whether every claim does.
 fn are_kept(alloc: Global, program: &Program, claims: &Claims) -> Result<bool, AllocError>
     ensures is { IfOk result (λ told. Tells told (AreKept program.now claims.now)) }
 {
@@ -158,7 +158,7 @@ fn are_kept(alloc: Global, program: &Program, claims: &Claims) -> Result<bool, A
     Ok(true)
 }
 
-/// The lesser of a budget and one that is known so far.
+/// The lesser of a budget and the least known so far.
 fn lesser(best: Option<u32>, budget: u32) -> u32
     ensures is { result ≡ option_map_or (λ b. min b budget) best budget }
 {

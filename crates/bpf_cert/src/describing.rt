@@ -1,4 +1,4 @@
-//! Entries that describe states: what `building` makes of an entry, the other way round.
+//! Entries that describe states: the inverse of `building`.
 
 ghost use Rattle.std.specs.Prelude.{◌<◌, ◌≤◌, length};
 
@@ -23,7 +23,7 @@ fn registers_of(state: &AbsState) -> Registers {
     Registers::new(values)
 }
 
-/// R6 to R9 of a function that has called another one. R0 to R5 are unset until that one returns.
+/// R6 to R9 of a calling function. Its R0 to R5 are unset until the called function returns.
 fn kept_registers_of(state: &AbsState) -> Registers {
     let mut values = [AbsVal::Unset; 10];
     for number in 6..10u8 {
@@ -32,7 +32,7 @@ fn kept_registers_of(state: &AbsState) -> Registers {
     Registers::new(values)
 }
 
-/// What the stack slots of call frame `k` hold.
+/// The content of the stack slots of call frame `k`.
 fn stack_of(alloc: Global, state: &AbsState, k: usize) -> Result<Slots, AllocError>
     requires lives { k < length state.now.frames }
 {
@@ -75,7 +75,6 @@ fn frames_of(alloc: Global, state: &AbsState) -> Result<Vec<Frame>, AllocError> 
     Ok(frames)
 }
 
-/// Adds the label of a value, if it has one.
 fn add_label(labels: &mut Vec<u16>, value: AbsVal) -> Result<(), AllocError> {
     if let AbsVal::Frame {
         label: Some(known),
@@ -89,7 +88,7 @@ fn add_label(labels: &mut Vec<u16>, value: AbsVal) -> Result<(), AllocError> {
     Ok(())
 }
 
-/// Adds the labels of the values that slots hold.
+/// Adds the labels of the values in stack slots.
 fn add_slot_labels(labels: &mut Vec<u16>, slots: &[KnownSlot]) -> Result<(), AllocError> {
     for one in slots {
         if let AbsSlot::Stored(value) = one.slot {
@@ -99,7 +98,7 @@ fn add_slot_labels(labels: &mut Vec<u16>, slots: &[KnownSlot]) -> Result<(), All
     Ok(())
 }
 
-/// Adds the labels of the values that a call frame holds.
+/// Adds the labels of the values in a call frame.
 fn add_labels(labels: &mut Vec<u16>, frame: &Frame) -> Result<(), AllocError> {
     for value in frame.registers.as_slice() {
         add_label(labels, *value)?;
@@ -107,7 +106,7 @@ fn add_labels(labels: &mut Vec<u16>, frame: &Frame) -> Result<(), AllocError> {
     add_slot_labels(labels, frame.stack.known())
 }
 
-/// The labels that values of these call frames have, rising.
+/// The labels of the values in these call frames, rising.
 fn labels_of(alloc: Global, frames: &[Frame]) -> Result<Vec<u16>, AllocError> {
     let mut labels = Vec::new(alloc);
     for frame in frames {
@@ -117,7 +116,7 @@ fn labels_of(alloc: Global, frames: &[Frame]) -> Result<Vec<u16>, AllocError> {
     Ok(labels)
 }
 
-/// What is known to lie behind the labels that values have. A room whose label no value has tells nothing.
+/// The bytes known to follow the labels of values. Those of other labels mean nothing.
 fn rooms_of(alloc: Global, state: &AbsState, frames: &[Frame]) -> Result<Vec<Room>, AllocError> {
     let mut rooms = Vec::new(alloc);
     for label in labels_of(alloc, frames)? {

@@ -10,7 +10,7 @@ use std::alloc::{AllocError, AllocFailed};
 /// Why a certificate isn't accepted.
 #[derive(Clone, Copy, Debug, PartialEq, Eq)]
 pub enum CertFault {
-    /// 40: memory was refused. It says nothing of the certificate.
+    /// 40: an allocation failed, which says nothing about the certificate.
     NoMemory,
     /// 70: the bytes spell no certificate.
     Malformed,
@@ -21,7 +21,7 @@ pub enum CertFault {
 }
 
 impl CertFault {
-    /// Its number: 40, or 70 to 72.
+    /// The fault's number: 40, or 70 to 72.
     pub fn number(self) -> u8
         ensures is { result ≡ number_of self }
     {
@@ -50,7 +50,7 @@ impl<T: Drop> From<AllocFailed<T>> for CertFault {
     }
 }
 
-/// What is answered where bytes could not be read.
+/// The fault for bytes that couldn't be read.
 pub(crate) fn unread(fault: ReadFault) -> CertFault
     ensures is { result ≡ fault_of fault }
 {

@@ -1,4 +1,4 @@
-//! Claims, each as a value or by the entry that makes it, with where a state was last found not to lie in it.
+//! Claims, as values or by their entries, each with where a state was last found not included in it.
 
 ghost use Rattle.std.specs.Prelude.{◌≡◌, IfOk};
 ghost use Rattle.bpf_absstate.specs.Inclusion.{state_included};
@@ -16,16 +16,16 @@ use std::alloc::{AllocError, Global};
 use std::cell::Cell;
 use std::marker::Model;
 
-/// What is at hand of a claim.
+/// The form in which a claim is held.
 #[derive(Drop)]
 pub enum Form {
     /// Its value.
     Built(Claim),
-    /// The entry that makes it, which is read each time that it is looked at.
+    /// Its entry, which is read on each use.
     Spelled(Unread),
 }
 
-/// A claim, and where a state was last found not to lie in it. Contracts see the claim.
+/// A claim, and where a state was last found not included in it. Contracts see the claim.
 #[derive(Drop)]
 pub struct Held {
     form: Form,
@@ -41,7 +41,7 @@ impl Model for Held {
     ghost view = { λ a. claim_in a.form };
 }
 
-/// What an entry claims, which is read for it.
+/// Reads an entry, and returns its claim.
 pub(crate) fn claim_of_unread(alloc: Global, unread: &Unread) -> Result<Claim, AllocError>
     ensures is { IfOk result (λ claim. claim ≡ claim_of (entry_from unread.now)) }
 {
@@ -59,8 +59,7 @@ pub(crate) fn includes(claim: &Claim, state: &AbsState) -> bool
     claim.is_open && state.is_included(&claim.state)
 }
 
-/// Whether a state lies in another one. The places at which states differed before, from this one and from others, are
-/// compared first.
+/// Whether a state is included in another one. Positions where this state and others differed are compared first.
 fn lies_in(
     state: &AbsState,
     other: &AbsState,
@@ -86,7 +85,7 @@ fn lies_in(
     }
 }
 
-/// The same as `includes`, by the places at which states differed before.
+/// Like `includes`; positions of earlier differences are compared first.
 fn includes_soon(
     claim: &Claim,
     state: &AbsState,
@@ -116,7 +115,7 @@ impl Held {
         }
     }
 
-    /// What an entry claims that is read when it is looked at.
+    /// The claim of an entry that is read on each use.
     pub(crate) fn unread(unread: Unread) -> Held
         ensures is { result ≡ claim_of (entry_from unread) }
     {

@@ -1,4 +1,4 @@
-//! What claims are good for. This function does nothing; a caller's proof takes its promise.
+//! What claims show. The function does nothing; a caller's proof uses its contract.
 
 ghost use Rattle.bpf_cert.specs.Laws.{CoveredIsSafe};
 

@@ -1,8 +1,9 @@
-//! Certificates: a program that was verified elsewhere is admitted after a check of what was found there.
+//! Certificates: a program that was verified elsewhere is admitted if its certificate shows that it is safe.
 //!
-//! Main calls: `check`, which admits a program by a certificate's bytes, and `certificate`, which makes the bytes. It
-//! stands on `bpf_cert_format`, `bpf_checks` and `bpf_verifier`. `check` accepts exactly what `Covered` says of the bytes,
-//! and what it accepts is safe within the budget that it answers; what `certificate` answers is covered.
+//! Main calls: `check`, which admits a program by a certificate's bytes, and `certificate`, which makes the bytes. The
+//! crate depends on `bpf_cert_format`, `bpf_checks` and `bpf_verifier`. `check` accepts exactly the bytes that
+//! `Covered` describes, unless memory is lacking. An accepted program is safe within the returned budget. What
+//! `certificate` returns is covered.
 #![tactic(auto)]
 
 mod building;

@@ -1,4 +1,4 @@
-//! Finished states, without those that others make needless.
+//! Finished states, without needless ones.
 
 ghost use Rattle.std.specs.Prelude.{◌≤◌};
 
@@ -10,17 +10,17 @@ use std::alloc::{AllocError, Global};
 /// With how many states of its slot a new one is compared.
 const NEWEST: usize = 64;
 
-/// Whether one finished state can stand wherever the other does: it includes it, and has no greater budget.
+/// Whether one finished state can replace the other: it includes it, and its budget isn't greater.
 fn serves(one: &Entry, other: &Entry) -> bool {
     one.budget <= other.budget && other.state.is_included(&one.state)
 }
 
-/// Whether one of the newest of these states serves for a new one.
+/// Whether one of the newest of these states can replace a new one.
 fn is_served(kept: &[Entry], entry: &Entry) -> bool {
     kept.iter().rev().take(NEWEST).any(|one| serves(one, entry))
 }
 
-/// Removes those of the newest states for which a new one serves.
+/// Removes those of the newest states that a new one can replace.
 fn give_up(kept: &mut Vec<Entry>, entry: &Entry) {
     let first = kept.len().saturating_sub(NEWEST);
     for at in (first..kept.len()).rev() {
@@ -30,7 +30,6 @@ fn give_up(kept: &mut Vec<Entry>, entry: &Entry) {
     }
 }
 
-/// Adds a state to those of its slot.
 fn add(kept: &mut Vec<Entry>, entry: Entry) -> Result<(), AllocError> {
     if is_served(kept.as_slice(), &entry) {
         return Ok(());
@@ -40,7 +39,6 @@ fn add(kept: &mut Vec<Entry>, entry: Entry) -> Result<(), AllocError> {
     Ok(())
 }
 
-/// No states yet, for so many slots.
 fn empty_table(alloc: Global, slots: usize) -> Result<Vec<Vec<Entry>>, AllocError> {
     let mut table = Vec::with_capacity(alloc, slots)?;
     for _slot in 0..slots {
@@ -49,8 +47,8 @@ fn empty_table(alloc: Global, slots: usize) -> Result<Vec<Vec<Entry>>, AllocErro
     Ok(table)
 }
 
-/// The claims of a program by their slots. A state goes for which another one of its slot serves: one that
-/// includes it and has no greater budget, among 64 that were finished about the same time.
+/// The claims of a program by slot. A state is left out if another one of its slot includes it with no greater budget,
+/// among 64 that were finished about the same time.
 pub(crate) fn sifted(
     alloc: Global,
     program: &Program,

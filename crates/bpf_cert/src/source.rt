@@ -1,4 +1,4 @@
-//! Claims that are made of entries, as long as they take little memory.
+//! Builds claims from entries, as long as they take little memory.
 
 ghost use Rattle.std.specs.Prelude.{◌≡◌, IfOk};
 ghost use Rattle.bpf_cert_format.specs.Fits.{FitsEntry};
@@ -12,12 +12,12 @@ use bpf_cert_format::Entry;
 use std::alloc::{AllocError, Global};
 use std::marker::Model;
 
-/// What claims are made of, and how much memory they may take.
+/// What claims are built from, and how much memory they may take.
 #[derive(Drop)]
 pub struct Source {
     /// The state in which nothing is known.
     blank: AbsState,
-    /// About how many bytes are left.
+    /// Roughly how many bytes are left.
     room: usize,
 }
 
@@ -34,7 +34,7 @@ impl Model for Source {
 }
 
 impl Source {
-    /// Where claims may take about so many bytes.
+    /// Claims may take about `room` bytes.
     pub(crate) fn new(alloc: Global, room: usize) -> Result<Source, AllocError> {
         let blank = blank(alloc)?;
         Ok(Source { blank, room })
@@ -45,7 +45,7 @@ impl Source {
         self.room > 0
     }
 
-    /// What an entry claims. It counts as kept.
+    /// The claim of an entry. Its memory counts as taken.
     pub(crate) fn claim(
         &mut self,
         alloc: Global,

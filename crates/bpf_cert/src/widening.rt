@@ -16,12 +16,12 @@ use std::alloc::{AllocError, Global};
 /// With how many claims of its slot a state is compared.
 const NEWEST: usize = 64;
 
-/// What is left out of a state.
+/// What is omitted from a state.
 #[derive(Clone, Copy, PartialEq, Eq)]
 struct Cut {
     /// The registers of which nothing is said: bit n for Rn.
     unset: u16,
-    /// Those of which no more is said than what kind of value they hold.
+    /// The registers of which only the kind of value is said.
     loose: u16,
     /// The slots of the newest stack of which nothing is said.
     slots: u64,
@@ -29,7 +29,7 @@ struct Cut {
     length: bool,
 }
 
-/// Nothing is left out.
+/// Nothing is omitted.
 const WHOLE: Cut = Cut {
     unset: 0,
     loose: 0,
@@ -37,7 +37,7 @@ const WHOLE: Cut = Cut {
     length: false,
 };
 
-/// The value with any number, or any place behind its label.
+/// The value with any number, or at any offset that keeps its label.
 fn loosened(value: AbsVal) -> AbsVal {
     match value {
         AbsVal::Number(_) => AbsVal::Number(AbsNum::full()),
@@ -52,7 +52,7 @@ fn loosened(value: AbsVal) -> AbsVal {
     }
 }
 
-/// Raises the room of a value's label to what is known in a state.
+/// Copies from a state the bytes known to follow a value's label.
 fn add_room(short: &mut AbsState, state: &AbsState, value: AbsVal) -> Result<(), AllocError> {
     let label = match value {
         AbsVal::Frame {
@@ -67,7 +67,7 @@ fn add_room(short: &mut AbsState, state: &AbsState, value: AbsVal) -> Result<(),
     Ok(())
 }
 
-/// Lets a state know of R0 to R9 what another one does.
+/// Copies R0 to R9 from a state.
 fn add_registers(short: &mut AbsState, state: &AbsState) -> Result<(), AllocError> {
     for number in 0..10u8 {
         let register = Reg::new(number);
@@ -77,7 +77,7 @@ fn add_registers(short: &mut AbsState, state: &AbsState) -> Result<(), AllocErro
     Ok(())
 }
 
-/// Lets a state know of a slot of the main function's stack what another one does.
+/// Copies a slot of the main function's stack.
 fn add_slot(short: &mut AbsState, index: usize, slot: AbsSlot) -> Result<(), AllocError>
     requires { index < 64 }
 {
@@ -89,7 +89,6 @@ fn add_slot(short: &mut AbsState, index: usize, slot: AbsSlot) -> Result<(), All
     Ok(())
 }
 
-/// The value that a slot of a stack holds.
 fn stored(slot: AbsSlot) -> AbsVal {
     match slot {
         AbsSlot::Stored(value) => value,
@@ -97,7 +96,7 @@ fn stored(slot: AbsSlot) -> AbsVal {
     }
 }
 
-/// Lets a state know of the main function's stack what another one does.
+/// Copies the main function's stack from a state.
 fn add_slots(short: &mut AbsState, state: &AbsState) -> Result<(), AllocError> {
     let _frames = state.depth();
     for index in 0..64 {
@@ -107,7 +106,7 @@ fn add_slots(short: &mut AbsState, state: &AbsState) -> Result<(), AllocError> {
     Ok(())
 }
 
-/// The state without what is known of the frame's length. In a function that was called it stays as it is.
+/// The state without what is known of the frame's length; unchanged in a called function.
 fn without_length(alloc: Global, state: &AbsState) -> Result<AbsState, AllocError> {
     if state.depth() != 1 {
         return state.clone();
@@ -119,7 +118,6 @@ fn without_length(alloc: Global, state: &AbsState) -> Result<AbsState, AllocErro
     Ok(short)
 }
 
-/// Leaves out what is known of registers.
 fn cut_registers(state: &mut AbsState, cut: Cut) -> Result<(), AllocError> {
     for number in 0..10u8 {
         let register = Reg::new(number);
@@ -132,7 +130,6 @@ fn cut_registers(state: &mut AbsState, cut: Cut) -> Result<(), AllocError> {
     Ok(())
 }
 
-/// Leaves out what is known of the newest stack.
 fn cut_slots(state: &mut AbsState, cut: Cut) -> Result<(), AllocError> {
     for index in 0..64 {
         if cut.slots >> index & 1 == 1 {
@@ -143,7 +140,7 @@ fn cut_slots(state: &mut AbsState, cut: Cut) -> Result<(), AllocError> {
     Ok(())
 }
 
-/// The state without what is left out.
+/// The state without what is omitted.
 fn without(alloc: Global, state: &AbsState, cut: Cut) -> Result<AbsState, AllocError> {
     let mut wide = if cut.length {
         without_length(alloc, state)?
@@ -155,7 +152,7 @@ fn without(alloc: Global, state: &AbsState, cut: Cut) -> Result<AbsState, AllocE
     Ok(wide)
 }
 
-/// A finished state of which as much as can is to be left out, where all that it leads to are claimed already.
+/// A finished state from which as much as possible is omitted. All its successors are claimed already.
 #[derive(Clone, Copy)]
 struct Trial<'a> {
     alloc: Global,
@@ -166,7 +163,7 @@ struct Trial<'a> {
 }
 
 impl Trial<'_> {
-    /// Whether the state without what is left out still leads to claims within its budget.
+    /// Whether the state still leads to claims within its budget.
     fn passes(self, cut: Cut) -> Result<bool, AllocError> {
         let claim = Claim {
             state: without(self.alloc, self.state, cut)?,
@@ -176,7 +173,7 @@ impl Trial<'_> {
         leads(self.alloc, self.program, self.claims, claim)
     }
 
-    /// With as little of one register as can be.
+    /// Omits as much of one register as possible.
     fn cut_register(self, cut: Cut, number: u8) -> Result<Cut, AllocError>
         requires { number < 10 }
     {
@@ -198,7 +195,7 @@ impl Trial<'_> {
         Ok(cut)
     }
 
-    /// With as little of the registers as can be.
+    /// Omits as much of the registers as possible.
     fn cut_registers(self, cut: Cut) -> Result<Cut, AllocError> {
         let mut cut = cut;
         for number in 0..10 {
@@ -207,7 +204,7 @@ impl Trial<'_> {
         Ok(cut)
     }
 
-    /// Without a slot of the newest stack, if that can be.
+    /// Omits a slot of the newest stack, if possible.
     fn cut_slot(self, cut: Cut, index: u8) -> Result<Cut, AllocError>
         requires { index < 64 }
     {
@@ -222,7 +219,7 @@ impl Trial<'_> {
         Ok(cut)
     }
 
-    /// With as few slots of the newest stack as can be.
+    /// Omits as many slots of the newest stack as possible.
     fn cut_slots(self, cut: Cut) -> Result<Cut, AllocError> {
         let mut cut = cut;
         for index in 0..64 {
@@ -231,7 +228,7 @@ impl Trial<'_> {
         Ok(cut)
     }
 
-    /// What can be left out. What could be at its slot before, if anything, is tried first.
+    /// What can be omitted. What was last omitted at its slot, if anything, is tried first.
     fn cut(self, before: Cut) -> Result<Cut, AllocError> {
         if before != WHOLE && self.passes(before)? {
             return Ok(before);
@@ -246,8 +243,8 @@ impl Trial<'_> {
     }
 }
 
-/// Finished states, each without what its checks don't need, as claims. A state goes that such a claim includes within
-/// its budget.
+/// Finished states as claims, each without what its checks don't need. A state that such a claim includes, with a
+/// budget that serves, is left out.
 pub(crate) fn widened(
     alloc: Global,
     program: &Program,

@@ -1,4 +1,4 @@
--- Readers and spellings that belong together, and how they are put together.
+-- Matching readers and spellings, and how they are combined.
 use Rattle.std.proofs.Common.{◌≡◌, ℕ, zero, suc, ◌+◌, ◌<◌, Bool, true, false, cond, List, [], ◌∷◌, ◌++◌, length, get_or, take, drop, Option, Some, None, refl, sym, ap, subst, ◌∙◌, append_assoc, arith, inl, inr, ◌⊎◌}
 use Rattle.std.specs.List.{flat_map, AllByRecursion}
 use Rattle.std.proofs.lemmas.List.Concat.{flat_map-cons}
@@ -22,17 +22,17 @@ IsBytes-take n bytes h i =
 pub IsBytes-rest : (b : ℕ) (bytes : List ℕ) → IsBytes (b ∷ bytes) → IsBytes bytes
 IsBytes-rest b bytes h i = h (suc i)
 
--- the value of a step that gave something
+-- the value of a step that gave one
 pub bind_some : {A B : Type 0} (r : Option A) (f : A → Option B) (y : B) → (r >>= f) ≡ Some y → (x : A) × (r ≡ Some x) × (f x ≡ Some y)
 bind_some (Some x) f y e = (x, refl, e)
 bind_some None f y e = absurd cc
 
--- a test that was passed
+-- a passed test
 pub guard_some : {A : Type 0} (b : Bool) (x y : A) → cond b (Some x) None ≡ Some y → (b ≡ true) × (x ≡ y)
 guard_some true x y e = (refl, cc)
 guard_some false x y e = absurd cc
 
--- which way a choice went
+-- the outcome of a choice
 pub chosen : {A : Type 0} (b : Bool) (x y z : A) → cond b x y ≡ z → ((b ≡ true) × (x ≡ z)) ⊎ ((b ≡ false) × (y ≡ z))
 chosen true x y z e = inl (refl, e)
 chosen false x y z e = inr (refl, e)
@@ -51,13 +51,13 @@ pub record Takes (bytes text rest : List ℕ) : Type 0 where
 pub Takes-then : (a x b y c : List ℕ) → Takes a x b → Takes b y c → Takes a (x ++ y) c
 Takes-then a x b y c p q = record { parts = p.parts ∙ ap (λ (t : List ℕ). x ++ t) q.parts ∙ sym (append_assoc x y c); rest_fits = q.rest_fits }
 
--- what is read is spelled so, and what is spelled so is read
+-- what is read is spelled that way, and what is spelled that way is read
 pub record IsFormat (A : Type 0) (spell : A → List ℕ) (Fits : A → Type 0) (r : Reader A) : Type 0 where
   pub takes : (bytes : List ℕ) (x : A × List ℕ) → IsBytes bytes → r bytes ≡ Some x → Takes bytes (spell x.0) x.1 × Fits x.0
   pub again : (x : A) (rest : List ℕ) → Fits x → r (spell x ++ rest) ≡ Some (x, rest)
 
 module _ (A B : Type 0) (sa : A → List ℕ) (Fa : A → Type 0) (ra : Reader A) where
-  -- what comes second may depend on the first
+  -- the second may depend on the first
   pub chained_format : (sb : A → B → List ℕ) (Fb : A → B → Type 0) (rb : A → Reader B) → IsFormat A sa Fa ra →
       ((x : A) → Fa x → IsFormat B (sb x) (Fb x) (rb x)) →
       IsFormat (A × B) (λ p. sa p.0 ++ sb p.0 p.1) (λ p. Fa p.0 × Fb p.0 p.1) (chained ra rb)
@@ -96,7 +96,7 @@ module _ (A B : Type 0) (sa : A → List ℕ) (Fa : A → Type 0) (ra : Reader A
   }
 
 module _ (A : Type 0) (s : A → List ℕ) (F : A → Type 0) (r : Reader A) where
-  -- only what passes a test
+  -- only if it passes a test
   pub only_if_format : (p : A → Bool) → IsFormat A s F r → IsFormat A s (λ x. F x × (p x ≡ true)) (only_if p r)
   only_if_format p h = record {
     takes = λ bytes x fits e.
@@ -141,7 +141,7 @@ module _ (A : Type 0) (s : A → List ℕ) (F : A → Type 0) (r : Reader A) whe
       ∙ ap (λ (o : Option (A × List ℕ)). o >>= λ x. many r n x.1 >>= λ y. Some (x.0 ∷ y.0, y.1)) (h.again x (flat_map s xs ++ rest) fits.0)
       ∙ ap (λ (o : Option (List A × List ℕ)). o >>= λ y. Some (x ∷ y.0, y.1)) (many_again h n xs rest fits.1 len)
 
-  -- so many, one after the other
+  -- n of them, one after the other
   pub many_format : (n : ℕ) → IsFormat A s F r → IsFormat (List A) (flat_map s) (λ xs. AllByRecursion F xs × (length xs ≡ n)) (many r n)
   many_format n h = record {
     takes = λ bytes x fits e. many_takes h n bytes x fits e;

@@ -1,4 +1,4 @@
--- Slots that are put one after the other.
+-- Slots that are set one after the other.
 use Rattle.std.proofs.Common.{◌≡◌, ℕ, ◌+◌, ◌<◌, List, [], ◌∷◌, ◌++◌, length, take, set, get_or, refl, sym, ap, ◌∙◌}
 use Rattle.std.proofs.lemmas.List.{take_more, length-set, length-replicate}
 use Rattle.bpf_absval.specs.declared.slot.AbsSlot.{AbsSlot}
@@ -6,7 +6,7 @@ use Rattle.bpf_absval.specs.declared.slot.AbsSlot.TheVariants.{Unset}
 use Rattle.bpf_cert_format.specs.declared.slots.KnownSlot.{KnownSlot}
 use Rattle.bpf_cert_format.specs.Slots.{no_slots, slots_after}
 
--- one put after the others
+-- one set after the others
 pub one_more : (slots : List AbsSlot) (ks : List KnownSlot) (k : KnownSlot) → slots_after slots (ks ++ k ∷ []) ≡ set (slots_after slots ks) k.index k.slot
 one_more slots [] k = refl
 one_more slots (j ∷ ks) k = one_more (set slots j.index j.slot) ks k

@@ -6,7 +6,7 @@ use Rattle.bpf_cert_format.specs.declared.fault.ReadFault.TheVariants.{Memory, M
 use Rattle.bpf_cert_format.specs.Answers.{Fails}
 use Rattle.bpf_cert_format.specs.Reading.{◌>>=◌, Reader, many}
 
--- what was read before, and what is still read
+-- what was read so far, and what is still read
 abbrev pub with_front : {A : Type 0} → List A → Option (List A × List ℕ) → Option (List A × List ℕ)
 with_front front read = read >>= λ x. Some (front ++ x.0, x.1)
 

@@ -1,4 +1,4 @@
--- Entries by their places in bytes.
+-- Entries by the positions of their bytes.
 use Rattle.std.proofs.Common.{◌≡◌, ℕ, ◌+◌, ◌-◌, ◌≤◌, List, [], ◌∷◌, ◌++◌, length, drop, Some, refl, sym, ap, subst, ◌∙◌, arith, length-append}
 use Rattle.std.proofs.lemmas.List.{drop-drop}
 use Rattle.bpf_interval.specs.Laws.{PlaceTwice}
@@ -14,7 +14,7 @@ skipped : (w after : List ℕ) → drop (length w) (w ++ after) ≡ after
 skipped [] after = refl
 skipped (x ∷ w) after = skipped w after
 
--- these bytes are the last ones of those
+-- the second bytes are a suffix of the first
 pub record IsLast (bytes rest : List ℕ) : Type 0 where
   pub short : length rest ≤ length bytes
   pub same : rest ≡ drop (length bytes - length rest) bytes
@@ -41,13 +41,13 @@ entry_behind twice maps bytes rest after e fits last h =
     let b : IsBytes rest = subst IsBytes (sym last.same) (IsBytes-drop (length bytes - length rest) bytes fits) in
     behind bytes rest (entry e) after last ((entry_format twice maps).takes rest (e, after) b h).0.parts
 
--- what is read at a place fits
+-- what is read at a position fits
 pub entry_fits : PlaceTwice → (maps place : ℕ) (bytes rest after : List ℕ) (e : EntryView) → IsBytes bytes → rest ≡ drop place bytes → entry_at maps rest ≡ Some (e, after) → FitsEntry maps e
 entry_fits twice maps place bytes rest after e fits same h =
     let b : IsBytes rest = subst IsBytes (sym same) (IsBytes-drop place bytes fits) in
     ((entry_format twice maps).takes rest (e, after) b h).1
 
--- it is what stands there
+-- it is the entry spelled there
 pub stands_there : (t : TextView) (maps : ℕ) (bytes rest after : List ℕ) (e : EntryView) → t ≡ record { maps = maps; bytes = bytes } → IsLast bytes rest → entry_at maps rest ≡ Some (e, after) → e ≡ entry_from (record { text = t; place = length bytes - length rest })
 stands_there t maps bytes rest after e same last h =
     let place : ℕ = length bytes - length rest in

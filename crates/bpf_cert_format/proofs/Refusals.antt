@@ -1,4 +1,4 @@
--- What fits, as one part of a certificate after the other is written.
+-- What fits, as the parts of a certificate are written.
 use Rattle.std.proofs.Common.{◌≡◌, ℕ, ◌<◌, List, length, get_or, Result, subst}
 use Rattle.std.specs.Prelude.{IsErrAnd}
 use Rattle.std.specs.List.{AllByRecursion}
@@ -11,11 +11,11 @@ use Rattle.bpf_cert_format.specs.declared.fault.WriteFault.TheVariants.{Memory}
 use Rattle.bpf_cert_format.specs.Answers.{RefusedForMemoryAlone}
 use Rattle.bpf_cert_format.specs.Fits.{FitsValue, FitsStored}
 
--- what a part was refused for is what the whole is refused for
+-- the fault of a part is the fault of the whole
 pub passed_on : {X : Type 0} (r : Result X WriteFault) (fault : WriteFault) → IsErrAnd r (λ y. y ≡ fault) → fault ≡ Memory → RefusedForMemoryAlone r
 passed_on r fault gives memory = let p = err_from_is_err_and r gives in rw (p.1, p.2) memory
 
--- what fits at each place fits at one
+-- if all fit, the one at an index fits
 pub fits_at : {X : Type 0} (P : X → Type 0) (xs : List X) (i : ℕ) (x : X) → i < length xs → get_or xs i x ≡ x → AllByRecursion P xs → P x
 fits_at P xs i x lt here all = subst P here (All-from_recursion P xs all i x lt)
 

@@ -95,7 +95,7 @@ named maps frames b r e =
       ]
     ]
 
--- a region has the name that its byte is
+-- a region's byte names that region
 pub names : (maps frames : ℕ) (r : AbsRegion) → frames ≤ 8 → FitsRegion maps frames r → region_named maps frames (region r) ≡ Some r
 names maps frames place.Context few fits = refl
 names maps frames (place.Stack k) few fits =
@@ -135,7 +135,7 @@ FitsPlace p = FitsNumber p.0 × FitsLabels p.1
 pub place_format : PlaceTwice → IsFormat Place spelled_place FitsPlace (chained number_at (λ _. label_at))
 place_format twice = chained_format Num (Option Label) number FitsNumber number_at (λ _. label) (λ _. FitsLabels) (λ _. label_at) (number_format twice) (λ x h. label_format)
 
--- what is behind a tag is a value
+-- what follows a tag is a value
 abbrev pub Tagged : ℕ → ℕ → ℕ → List ℕ → AbsVal × List ℕ → Type 0
 Tagged maps frames tag bytes x = Takes (tag ∷ bytes) (value x.0) x.1 × FitsValue maps frames x.0 × ((tag ≡ 0 → ⊥) → FitsStored maps frames x.0)
 

@@ -80,7 +80,7 @@ word_again w limit wide n rest lt =
 pub word_format : (w : Width) (limit : ℕ) → IsWide w limit → IsFormat ℕ (to_le_bytes w) (λ n. n < limit) (word_at w)
 word_format w limit wide = record { takes = word_takes w limit wide; again = word_again w limit wide }
 
--- ---- so many bytes
+-- ---- n bytes
 
 pub AreBytes-is : (bytes : List ℕ) → IsBytes bytes → AreBytes bytes
 AreBytes-is [] fits = tt

@@ -1,4 +1,4 @@
--- Values, stack slots, frames, rooms, entries and certificates as formats.
+-- Values, stack slots, frames, bytes known to follow labels, entries and certificates as formats.
 use Rattle.std.proofs.Common.{◌≡◌, ℕ, ◌*◌, ◌/◌, ◌^◌, ◌<◌, ◌≤◌, true, false, ltb, leb, eqb, List, [], ◌∷◌, ◌++◌, length, Option, Some, None, refl, sym, ap, subst, ◌∙◌, arith, inl, inr}
 use Rattle.std.specs.Prelude.{◌&&◌}
 use Rattle.std.specs.List.{flat_map, AllByRecursion}
@@ -159,7 +159,7 @@ cell_takes twice maps count (tag ∷ bytes) x fits e =
       ]
     ]
 
--- the tag of a value that is stored
+-- the tag of a stored value
 stored_tag : (maps count : ℕ) (v : AbsVal) → FitsStored maps count v → (eqb (tag_of v) 0 ≡ false) × (eqb (tag_of v) 6 ≡ false) × FitsValue maps count v
 stored_tag maps count abs.Unset fits = absurd fits
 stored_tag maps count (abs.Number n) fits = (refl, refl, fits)
@@ -252,7 +252,7 @@ frames_format twice maps =
     (read_as_format (Counted Frame) (List Frame) (λ p. (p.0 ∷ []) ++ flat_map frame p.1) (FitsCounted maps) counted frames (FitsFrames maps) (λ p. p.1)
     (counted_shape maps) (counted_back maps) (counted_frames twice maps))
 
--- ---- rooms
+-- ---- bytes known to follow labels
 
 abbrev IsShort : Room → Type 0
 IsShort r = (r.label < 2 ^ 16) × (r.size < 2 ^ 16)

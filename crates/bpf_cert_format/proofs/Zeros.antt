@@ -1,9 +1,9 @@
--- A stack of which nothing is known is spelled by bytes of 0.
+-- Bytes of 0 spell a stack of which nothing is known.
 use Rattle.std.proofs.Common.{◌≡◌, ℕ, zero, suc, ◌≤◌, ◌<◌, List, [], ◌∷◌, ◌++◌, length, drop, get_or, replicate, Some, refl, ap, ◌∙◌, arith}
 use Rattle.bpf_absval.specs.declared.slot.AbsSlot.TheVariants.{Unset}
 use Rattle.bpf_cert_format.specs.Reading.{many, cell_at}
 
--- bytes of 0 come first
+-- the first bytes are 0
 pub zeros_front : (n : ℕ) (bytes : List ℕ) → n ≤ length bytes → ((k : ℕ) → k < n → get_or bytes k 0 ≡ 0) → bytes ≡ replicate n 0 ++ drop n bytes
 zeros_front zero bytes le h = refl
 zeros_front (suc n) [] le h = absurd (omega (arith, le))

@@ -1,4 +1,4 @@
--- What has a spelling: what each field may hold.
+-- What has a spelling: the range of each field.
 use Rattle.std.specs.Prelude.{◌≡◌, ℕ, ◌*◌, ◌<◌, ◌≤◌, ◌^◌, List, [], ◌∷◌, length, Option, Some, None, bit_and}
 use Rattle.std.specs.List.{AllByRecursion}
 use Rattle.bpf_absnum.specs.Number.{Num}
@@ -13,7 +13,7 @@ use Rattle.bpf_absval.specs.declared.room.Room.{Room}
 use Rattle.bpf_cert_format.specs.declared.frame.Frame.{Frame}
 use Rattle.bpf_cert_format.specs.Views.{EntryView, CertificateView}
 
--- An abstract number: words in order, no bit of the value unknown. Nothing more is asked; its parts need not agree.
+-- An abstract number: words in order, no bit both known and unknown. Its parts need not agree.
 pub record FitsNumber (n : Num) : Type 0 where
   pub ordered : n.range.low ≤ n.range.high
   pub range : n.range.high < 2 ^ 64
@@ -29,18 +29,18 @@ pub record FitsLabel (l : Label) : Type 0 where
   pub label : l.label < 2 ^ 16
   pub distance : l.distance ≤ 2400
 
--- a label, if there is one, fits its bytes
+-- a label, if there is one, fits
 abbrev pub FitsLabels : Option Label → Type 0
 FitsLabels None = Unit {0}
 FitsLabels (Some l) = FitsLabel l
 
--- the context, one of so many stack frames, or an entry of one of so many maps
+-- the context, one of that many stack frames, or an entry of one of that many maps
 abbrev pub FitsRegion : ℕ → ℕ → AbsRegion → Type 0
 FitsRegion maps frames place.Context = Unit {0}
 FitsRegion maps frames (place.Stack k) = k < frames
 FitsRegion maps frames (place.Entry m) = m < maps
 
--- a value, where there are so many maps and so many stack frames
+-- a value, for that many maps and stack frames
 abbrev pub FitsValue : ℕ → ℕ → AbsVal → Type 0
 FitsValue maps frames abs.Unset = Unit {0}
 FitsValue maps frames (abs.Number n) = FitsNumber n
@@ -50,18 +50,18 @@ FitsValue maps frames abs.FrameEnd = Unit {0}
 FitsValue maps frames (abs.MapReference m) = m < maps
 FitsValue maps frames (abs.Lookup m) = m < maps
 
--- a value that is stored is set: an unset slot is spelled otherwise
+-- a stored value is set: an unset slot is spelled differently
 abbrev pub FitsStored : ℕ → ℕ → AbsVal → Type 0
 FitsStored maps frames abs.Unset = ⊥
 FitsStored maps frames v = FitsValue maps frames v
 
--- what stands in a slot of the stack fits its bytes
+-- the content of a stack slot fits
 abbrev pub FitsCell : ℕ → ℕ → AbsSlot → Type 0
 FitsCell maps frames slot.Unset = Unit {0}
 FitsCell maps frames (slot.Stored v) = FitsStored maps frames v
 FitsCell maps frames (slot.Bytes set) = set < 256
 
--- a call frame of so many: ten registers, 64 stack slots
+-- one of that many call frames: ten registers, 64 stack slots
 pub record FitsFrame (maps count : ℕ) (f : Frame) : Type 0 where
   pub return_slot : f.return_slot < 2 ^ 16
   pub registers : length f.registers ≡ 10
@@ -69,17 +69,17 @@ pub record FitsFrame (maps count : ℕ) (f : Frame) : Type 0 where
   pub stack : length f.stack ≡ 64
   pub cells : AllByRecursion (FitsCell maps count) f.stack
 
--- at most 2400 bytes are known behind each label, and labels rise
+-- at most 2400 bytes are known to follow each label, and labels rise
 unfoldable pub Rise : ℕ → List Room → Type 0
 Rise above [] = Unit {0}
 Rise above (r ∷ rs) = (above < r.label) × (r.label < 2 ^ 16) × (r.size ≤ 2400) × Rise r.label rs
 
--- the main function returns to no slot
+-- the main function's frame comes first, with return slot 0
 abbrev pub IsMainFirst : List Frame → Type 0
 IsMainFirst [] = ⊥
 IsMainFirst (f ∷ fs) = f.return_slot ≡ 0
 
--- an entry's numbers and lists fit their bytes
+-- an entry's numbers and lists fit
 pub record FitsEntry (maps : ℕ) (e : EntryView) : Type 0 where
   pub pc : e.pc < 2 ^ 16
   pub budget : e.budget < 2 ^ 32
@@ -94,7 +94,7 @@ pub record FitsEntry (maps : ℕ) (e : EntryView) : Type 0 where
 abbrev pub AreBytes : List ℕ → Type 0
 AreBytes bytes = AllByRecursion (λ b. b < 256) bytes
 
--- a certificate where there are so many maps: whole slots of code
+-- a certificate for that many maps: whole slots of code
 pub record FitsCertificate (maps : ℕ) (c : CertificateView) : Type 0 where
   pub slots : ℕ
   pub few_slots : slots < 2 ^ 16

@@ -19,28 +19,28 @@ use Rattle.bpf_cert_format.specs.declared.frame.Frame.{Frame}
 use Rattle.bpf_cert_format.specs.Views.{EntryView, CertificateView}
 
 infixl 10 ◌>>=◌
--- read on with what was read, if it was
+-- if something was read, continue with it
 abbrev pub ◌>>=◌ : {A B : Type 0} → Option A → (A → Option B) → Option B
 None >>= f = None
 (Some x) >>= f = f x
 
--- a value read from the front of some bytes, with the bytes that are left
+-- a value read from the front of bytes, with the remaining bytes
 abbrev pub Reader : Type 0 → Type 0
 Reader A = List ℕ → Option (A × List ℕ)
 
--- one after the other, where what comes second depends on the first
+-- one after the other; the second may depend on the first
 abbrev pub chained : {A B : Type 0} → Reader A → (A → Reader B) → Reader (A × B)
 chained r q bytes = r bytes >>= λ x. q x.0 x.1 >>= λ y. Some ((x.0, y.0), y.1)
 
--- what is made of what is read
+-- a function of what is read
 abbrev pub read_as : {A B : Type 0} → (A → B) → Reader A → Reader B
 read_as f r bytes = r bytes >>= λ x. Some (f x.0, x.1)
 
--- only what passes a test
+-- only if it passes a test
 abbrev pub only_if : {A : Type 0} → (A → Bool) → Reader A → Reader A
 only_if p r bytes = r bytes >>= λ x. (if p x.0 then Some x else None)
 
--- so many, one after the other
+-- n of them, one after the other
 unfoldable pub many : {A : Type 0} → Reader A → ℕ → Reader (List A)
 many r zero bytes = Some ([], bytes)
 many r (suc n) bytes = r bytes >>= λ x. many r n x.1 >>= λ y. Some (x.0 ∷ y.0, y.1)
@@ -52,7 +52,7 @@ abbrev pub byte_at : Reader ℕ
 byte_at [] = None
 byte_at (b ∷ rest) = Some (b, rest)
 
--- so many bytes
+-- n bytes
 unfoldable pub taken : ℕ → Reader (List ℕ)
 taken n bytes = (if nat_lt (length bytes) n then None else Some (take n bytes, drop n bytes))
 
@@ -76,20 +76,20 @@ are_apart p = bit_and p.0 p.1 == 0
 abbrev pub are_signed_ordered : ℕ × ℕ → Bool
 are_signed_ordered p = nat_le (signed_place p.0) (signed_place p.1)
 
--- an abstract number by its unsigned bounds, its signed bounds and its known bits
+-- an abstract number from its unsigned bounds, its known bits and its signed bounds
 abbrev pub number_of : ((ℕ × ℕ) × ((ℕ × ℕ) × (ℕ × ℕ))) → Num
 number_of p = num_of (bounds p.0.0 p.0.1) (bounds (signed_place p.1.1.0) (signed_place p.1.1.1)) (tnum_of p.1.0.0 p.1.0.1)
 
--- an abstract number: its unsigned bounds in order, its known bits apart from the unknown ones, its signed bounds in order
+-- an abstract number: its unsigned bounds in order, no bit both known and unknown, its signed bounds in order
 unfoldable pub number_at : Reader Num
 number_at =
     read_as number_of (chained (only_if are_ordered pair_at) (λ _. chained (only_if are_apart pair_at) (λ _. only_if are_signed_ordered pair_at)))
 
--- a label is above 0, or both numbers are 0
+-- a label is above 0 and its distance at most 2400, or both numbers are 0
 abbrev pub is_label : ℕ × ℕ → Bool
 is_label p = (if p.0 == 0 then p.1 == 0 else nat_le p.1 2400)
 
--- no label for the number 0
+-- the number 0 is no label
 abbrev pub label_of : ℕ × ℕ → Option Label
 label_of p = (if p.0 == 0 then None else Some (record { label = p.0; distance = p.1 }))
 
@@ -107,7 +107,7 @@ region_named maps frames b =
     else (if nat_le 32 b && nat_lt b (32 + maps) then Some (place.Entry (b - 32))
     else None)))
 
--- the number of one of the maps
+-- a map's number, below that many maps
 abbrev pub map_at : ℕ → Reader ℕ
 map_at maps = only_if (λ m. nat_lt m maps) byte_at
 
@@ -115,13 +115,13 @@ map_at maps = only_if (λ m. nat_lt m maps) byte_at
 abbrev pub frame_pointer_at : Reader AbsVal
 frame_pointer_at = read_as (λ x. abs.Frame x.0 x.1) (chained number_at (λ _. label_at))
 
--- a pointer into the region with that byte
+-- a pointer into the region of that byte
 unfoldable pub pointer_into : ℕ → ℕ → ℕ → Reader AbsVal
 pointer_into maps frames b bytes =
     (if b == 0 then frame_pointer_at bytes
     else (region_named maps frames b >>= λ region. read_as (abs.Pointer region) number_at bytes))
 
--- the rest of a value whose kind is told by that byte: unset, a number, a pointer, the frame's end, a map, a lookup
+-- the rest of a value after the byte of its kind: unset, a number, a pointer, the frame's end, a map, a lookup
 unfoldable pub value_tagged : ℕ → ℕ → ℕ → Reader AbsVal
 value_tagged maps frames tag bytes =
     (if tag == 0 then Some (abs.Unset, bytes)
@@ -144,46 +144,46 @@ cell_at maps frames bytes =
     else (if t.0 == 6 then read_as slot.Bytes byte_at t.1
     else read_as slot.Stored (value_tagged maps frames t.0) t.1))
 
--- ---- frames, rooms, entries
+-- ---- frames, bytes known to follow labels, entries
 
--- a frame of the stack: where it returns to, its ten registers, its 64 slots
+-- a stack frame: its return slot, its ten registers, its 64 slots
 unfoldable pub frame_at : ℕ → ℕ → Reader Frame
 frame_at maps count =
     read_as (λ p. record { return_slot = p.0; registers = p.1.0; stack = p.1.1 })
     (chained (word_at w16) (λ _. chained (many (value_at maps count) 10) (λ _. many (cell_at maps count) 64)))
 
--- whether there can be so many frames of the stack: 1 to 8
+-- whether there can be that many stack frames: 1 to 8
 abbrev pub is_count : ℕ → Bool
 is_count n = nat_le 1 n && nat_le n 8
 
--- whether the first frame of the stack returns nowhere
+-- whether the first stack frame has return slot 0
 abbrev pub is_main_first : List Frame → Bool
 is_main_first [] = false
 is_main_first (f ∷ fs) = f.return_slot == 0
 
--- how many frames there are, and each of them, the main function's first
+-- the number of frames, and each of them, the main function's first
 unfoldable pub frames_at : ℕ → Reader (List Frame)
 frames_at maps =
     only_if is_main_first (read_as (λ p. p.1) (chained (only_if is_count byte_at) (λ n. many (frame_at maps n) n)))
 
--- a label, and how many bytes are known behind its place
+-- a label, and how many bytes are known to follow it
 unfoldable pub room_at : Reader Room
 room_at = read_as (λ p. record { label = p.0; size = p.1 }) (chained (word_at w16) (λ _. word_at w16))
 
--- the labels are above that one and rise, and no room passes 2400 bytes
+-- the labels are above `above` and rise, and each has at most 2400 known bytes
 unfoldable pub are_rising : ℕ → List Room → Bool
 are_rising above [] = true
 are_rising above (r ∷ rs) = nat_lt above r.label && nat_le r.size 2400 && are_rising r.label rs
 
--- how many rooms there are, and each of them, by rising labels
+-- their number, and each of them, by rising labels
 unfoldable pub rooms_at : Reader (List Room)
 rooms_at = only_if (are_rising 0) (read_as (λ p. p.1) (chained (word_at w16) (λ n. many room_at n)))
 
--- an entry by its parts
+-- an entry from its parts
 abbrev pub entry_of : ℕ × (ℕ × (ℕ × (List Room × List Frame))) → EntryView
 entry_of p = record { pc = p.0; budget = p.1.0; least = p.1.1.0; rooms = p.1.1.1.0; frames = p.1.1.1.1 }
 
--- an entry: its slot, its budget, the least length of the received frame, the rooms, the frames of the stack
+-- an entry: its slot, its budget, the least length of the received frame, the bytes known to follow labels, the frames
 unfoldable pub entry_at : ℕ → Reader EntryView
 entry_at maps =
     read_as entry_of
@@ -191,7 +191,7 @@ entry_at maps =
 
 -- ---- the whole
 
--- the four bytes with which each certificate begins
+-- the first four bytes of each certificate
 unfoldable pub magic_at : Reader ℕ
 magic_at = only_if (λ n. n == 843272257) (word_at w32)
 
@@ -204,23 +204,23 @@ hook_named b =
 unfoldable pub hook_at : Reader Hook
 hook_at bytes = byte_at bytes >>= λ b. hook_named b.0 >>= λ hook. Some (hook, b.1)
 
--- how many slots the code has, and its bytes
+-- the number of slots of the code, and its bytes
 unfoldable pub code_at : Reader (List ℕ)
 code_at = read_as (λ p. p.1) (chained (word_at w16) (λ n. taken (8 * n)))
 
--- how many entries there are, and each of them
+-- the number of entries, and each of them
 unfoldable pub entries_at : ℕ → Reader (List EntryView)
 entries_at maps = read_as (λ p. p.1) (chained (word_at w32) (λ n. many (entry_at maps) n))
 
--- a certificate by its parts
+-- a certificate from its parts
 abbrev pub certificate_of : ℕ × (Hook × (List ℕ × List EntryView)) → CertificateView
 certificate_of p = record { hook = p.1.0; code = p.1.1.0; entries = p.1.1.1 }
 
--- a certificate: how it begins, its hook, its code, its entries
+-- a certificate: the first four bytes, its hook, its code, its entries
 unfoldable pub certificate_at : ℕ → Reader CertificateView
 certificate_at maps =
     read_as certificate_of (chained magic_at (λ _. chained hook_at (λ _. chained code_at (λ _. entries_at maps))))
 
--- all of the bytes
+-- a certificate that takes all the bytes
 unfoldable pub all_of : ℕ → List ℕ → Option CertificateView
 all_of maps bytes = certificate_at maps bytes >>= λ x. (if length x.1 == 0 then Some x.0 else None)

@@ -8,7 +8,7 @@ use Rattle.bpf_cert_format.specs.declared.slots.KnownSlot.{KnownSlot}
 abbrev pub no_slots : List AbsSlot
 no_slots = replicate 64 Unset
 
--- slots after these were put, one after the other
+-- the slots after these were set, one after the other
 abbrev pub slots_after : List AbsSlot → List KnownSlot → List AbsSlot
 slots_after slots [] = slots
 slots_after slots (k ∷ ks) = slots_after (slice_set slots k.index k.slot) ks

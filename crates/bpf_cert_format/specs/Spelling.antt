@@ -27,7 +27,7 @@ number n =
     (to_le_bytes w64 n.range.low ++ to_le_bytes w64 n.range.high) ++ ((to_le_bytes w64 n.bits.value ++ to_le_bytes w64 n.bits.mask) ++
     (to_le_bytes w64 (word_at n.signed.low) ++ to_le_bytes w64 (word_at n.signed.high)))
 
--- a label and the distance from its place; 0 and 0 where there is none
+-- a label and its distance; 0 and 0 without a label
 abbrev pub label : Option Label → List ℕ
 label None = to_le_bytes w16 0 ++ to_le_bytes w16 0
 label (Some l) = to_le_bytes w16 l.label ++ to_le_bytes w16 l.distance
@@ -54,32 +54,32 @@ cell slot.Unset = 0 ∷ []
 cell (slot.Stored v) = value v
 cell (slot.Bytes set) = 6 ∷ set ∷ []
 
--- a call frame: where it returns to, R0 to R9, and 64 stack slots
+-- a call frame: its return slot, R0 to R9, and 64 stack slots
 abbrev pub frame : Frame → List ℕ
 frame f = to_le_bytes w16 f.return_slot ++ (flat_map value f.registers ++ flat_map cell f.stack)
 
--- the bytes of a label and of how many bytes are known behind it
+-- a label, and how many bytes are known to follow it
 abbrev pub room : Room → List ℕ
 room r = to_le_bytes w16 r.label ++ to_le_bytes w16 r.size
 
--- how many there are, and each of them
+-- their number, and each of them
 abbrev pub rooms : List Room → List ℕ
 rooms rs = to_le_bytes w16 (length rs) ++ flat_map room rs
 
--- how many there are, and each of them
+-- their number, and each of them
 abbrev pub frames : List Frame → List ℕ
 frames fs = length fs ∷ flat_map frame fs
 
--- slot, budget, least length, rooms, call frames
+-- slot, budget, least length, bytes known to follow labels, call frames
 abbrev pub entry : EntryView → List ℕ
 entry e =
     to_le_bytes w16 e.pc ++ (to_le_bytes w32 e.budget ++ (to_le_bytes w16 e.least ++ (rooms e.rooms ++ frames e.frames)))
 
--- how many slots, and the bytes of each
+-- the number of slots, and the bytes of each
 abbrev pub code : List ℕ → List ℕ
 code bytes = to_le_bytes w16 (length bytes / 8) ++ bytes
 
--- how many there are, and each of them
+-- their number, and each of them
 abbrev pub entries : List EntryView → List ℕ
 entries es = to_le_bytes w32 (length es) ++ flat_map entry es
 

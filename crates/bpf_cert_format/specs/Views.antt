@@ -4,8 +4,8 @@ use Rattle.bpf_regions.specs.declared.hooks.Hook.{Hook}
 use Rattle.bpf_absval.specs.declared.room.Room.{Room}
 use Rattle.bpf_cert_format.specs.declared.frame.Frame.{Frame}
 
--- An entry: the slot, the budget of the states that it describes, the known least length of the received frame, what is
--- known to lie behind labels, and the call frames, the main function's first.
+-- An entry: the slot, the budget of the states that it describes, the known least length of the received frame, the
+-- bytes known to follow labels, and the call frames, the main function's first.
 pub record EntryView : Type 0 where
   pub pc : ℕ
   pub budget : ℕ

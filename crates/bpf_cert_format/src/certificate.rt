@@ -6,7 +6,7 @@ use crate::leaf::Leaf;
 use bpf_regions::Hook;
 use std::marker::Model;
 
-/// A hook, the bytes of a code, and entries that are to show that the code is safe.
+/// A hook, the bytes of a code, and entries which are meant to show that the code is safe.
 #[derive(Drop)]
 pub struct Certificate {
     hook: Hook,
@@ -34,21 +34,21 @@ impl Certificate {
         }
     }
 
-    /// The hook that it is for.
+    /// The certificate's hook.
     pub fn hook(&self) -> Hook
         ensures is { result ≡ self.now.hook }
     {
         self.hook
     }
 
-    /// The bytes of the code that it is for.
+    /// The bytes of the certificate's code.
     pub fn code(&self) -> &[u8]
         ensures is { result.now ≡ self.now.code }
     {
         self.code.as_slice()
     }
 
-    /// What it says of the code.
+    /// The certificate's entries.
     pub fn entries(&self) -> &[Leaf]
         ensures is { result.now ≡ self.now.entries }
     {

@@ -6,8 +6,7 @@ use crate::frame::Frame;
 use bpf_absval::Room;
 use std::marker::Model;
 
-/// A set of states, all at one slot and with the same call chain, and a budget within which each run from one of them
-/// is said to end.
+/// A set of states at one slot with one call chain, and the budget within which each run from them is claimed to end.
 #[derive(Drop)]
 pub struct Entry {
     pc: u16,
@@ -26,8 +25,8 @@ impl Model for Entry {
 }
 
 impl Entry {
-    /// An entry from its parts: the slot, the budget, the known least length of the received frame, what is known to lie
-    /// behind labels, and the call frames, the main function's first.
+    /// An entry from its parts: the slot, the budget, the known least length of the received frame, the bytes known to
+    /// follow labels, and the call frames, the main function's first.
     pub fn new(pc: u16, budget: u32, least: u16, rooms: Vec<Room>, frames: Vec<Frame>) -> Entry
         ensures is { result ≡ record {
           pc = pc;
@@ -67,7 +66,7 @@ impl Entry {
         self.least
     }
 
-    /// What is known to lie behind labels.
+    /// The bytes known to follow labels.
     pub fn rooms(&self) -> &[Room]
         ensures is { result.now ≡ self.now.rooms }
     {
@@ -81,7 +80,7 @@ impl Entry {
         self.frames.as_slice()
     }
 
-    /// About how many bytes of memory it takes, and as many again in a state.
+    /// Roughly the bytes of memory that it takes; a state takes as many again.
     pub fn weight(&self) -> usize {
         let mut weight = 0usize;
         for frame in self.frames.as_slice() {

@@ -1,4 +1,4 @@
-//! Why bytes could not be read, or not be written.
+//! Why bytes can't be read, or a certificate can't be written.
 
 ghost use Rattle.std.specs.Prelude.{◌≡◌};
 ghost use Rattle.bpf_cert_format.specs.declared.fault.ReadFault.TheVariants as reading;
@@ -6,10 +6,10 @@ ghost use Rattle.bpf_cert_format.specs.declared.fault.WriteFault.TheVariants as 
 
 use std::alloc::{AllocError, AllocFailed};
 
-/// Why bytes could not be read.
+/// Why bytes can't be read.
 #[derive(Clone, Copy, Debug, PartialEq, Eq)]
 pub enum ReadFault {
-    /// Memory was refused. It says nothing of the bytes.
+    /// An allocation failed, which says nothing about the bytes.
     Memory,
     /// The bytes spell no certificate.
     Malformed,
@@ -31,10 +31,10 @@ impl<T: Drop> From<AllocFailed<T>> for ReadFault {
     }
 }
 
-/// Why a certificate could not be written.
+/// Why a certificate can't be written.
 #[derive(Clone, Copy, Debug, PartialEq, Eq)]
 pub enum WriteFault {
-    /// Memory was refused. It says nothing of the certificate.
+    /// An allocation failed, which says nothing about the certificate.
     Memory,
     /// A number is too large for its field.
     TooLarge,

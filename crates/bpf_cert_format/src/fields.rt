@@ -1,4 +1,4 @@
-//! The smallest fields.
+//! Reads the smallest fields.
 
 ghost use Rattle.std.specs.Prelude.{◌≡◌, nat_le, if◌then◌else◌, Some, None};
 ghost use Rattle.std.specs.Int.{w16, w32, w64};
@@ -14,7 +14,7 @@ use bpf_interval::laws::place_law;
 use bpf_interval::{Interval, SignedInterval};
 use bpf_tnum::Tnum;
 
-/// The byte in front.
+/// The first byte.
 pub(crate) fn byte_at(bytes: &[u8]) -> Result<(u8, &[u8]), ReadFault>
     ensures is { Gives (λ x. (x.0, x.1.now)) result (reads_byte bytes.now) }
 {
@@ -24,7 +24,7 @@ pub(crate) fn byte_at(bytes: &[u8]) -> Result<(u8, &[u8]), ReadFault>
     }
 }
 
-/// So many bytes in front.
+/// The first `count` bytes.
 #[tactic(auto, unfolding(crate::specs::Reading::taken))]
 pub(crate) fn bytes_at(count: usize, bytes: &[u8]) -> Result<(&[u8], &[u8]), ReadFault>
     ensures is { Gives (λ x. (x.0.now, x.1.now)) result (reads_bytes count bytes.now) }
@@ -61,7 +61,6 @@ pub(crate) fn u32_at(bytes: &[u8]) -> Result<(u32, &[u8]), ReadFault>
     Ok((number, rest))
 }
 
-/// A number of 64 bits.
 #[tactic(auto, unfolding(crate::specs::Reading::word_at))]
 fn u64_at(bytes: &[u8]) -> Result<(u64, &[u8]), ReadFault>
     ensures is { Gives (λ x. (x.0, x.1.now)) result (reads_word w64 bytes.now) }
@@ -85,7 +84,7 @@ fn pair_at(bytes: &[u8]) -> Result<((u64, u64), &[u8]), ReadFault>
     Ok(((first, second), rest))
 }
 
-/// The words between two that are read as signed, if they are in order.
+/// The signed interval between two words read as signed, if they are in order.
 fn signed_between(low: u64, high: u64) -> Option<SignedInterval>
     ensures is { result ≡ (if nat_le (place low) (place high) then Some
         (bounds (place low) (place high)) else None) }
@@ -122,7 +121,7 @@ pub(crate) fn number_at(bytes: &[u8]) -> Result<(AbsNum, &[u8]), ReadFault>
     }
 }
 
-/// A label with a distance, or none.
+/// A label with a distance, or None.
 #[tactic(auto, unfolding(crate::specs::Reading::label_at))]
 pub(crate) fn label_at(bytes: &[u8]) -> Result<(Option<Label>, &[u8]), ReadFault>
     ensures is { Gives (λ x. (x.0, x.1.now)) result (reads_label bytes.now) }

@@ -1,4 +1,4 @@
-//! Call frames as certificates have them.
+//! Call frames of certificates.
 
 ghost use Rattle.std.specs.Prelude.{◌≡◌};
 
@@ -48,7 +48,7 @@ impl Registers {
         &self.values
     }
 
-    /// About how many bytes of memory they take in a state.
+    /// Roughly the bytes of memory that they take in a state.
     pub fn weight(&self) -> usize {
         set_count(&self.values)
             .saturating_mul(96)
@@ -56,10 +56,10 @@ impl Registers {
     }
 }
 
-/// What is known of one function that is being run.
+/// What is known of one function call.
 #[derive(Drop)]
 pub struct Frame {
-    /// The slot at which its caller goes on; 0 for the main function.
+    /// The slot at which its caller continues; 0 for the main function.
     pub return_slot: u16,
     pub registers: Registers,
     pub stack: Slots,

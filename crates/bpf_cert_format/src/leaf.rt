@@ -1,4 +1,4 @@
-//! Entries as values, or by their places.
+//! Entries as values, or by the positions of their bytes.
 
 ghost use Rattle.std.specs.Prelude.{◌≡◌};
 ghost use Rattle.bpf_cert_format.specs.Leaves.{entry_in};
@@ -8,16 +8,16 @@ use crate::entry::Entry;
 use crate::unread::Unread;
 use std::marker::Model;
 
-/// What is at hand of an entry.
+/// The form in which an entry is held.
 #[derive(Drop)]
 pub enum Kind {
     /// Its value.
     Read(Entry),
-    /// The place of its bytes.
+    /// The position of its bytes.
     Spelled(Unread),
 }
 
-/// An entry, of which the value is at hand or the place of its bytes. Contracts see the entry.
+/// An entry, held as its value or as the position of its bytes. Contracts see the entry.
 #[derive(Drop)]
 pub struct Leaf {
     kind: Kind,
@@ -33,7 +33,7 @@ impl Model for Leaf {
 }
 
 impl Leaf {
-    /// An entry whose value is at hand.
+    /// An entry held as its value.
     pub fn read(entry: Entry) -> Leaf
         ensures is { result ≡ entry }
     {
@@ -42,7 +42,7 @@ impl Leaf {
         }
     }
 
-    /// An entry that is read when it is looked at.
+    /// An entry that is read on each use.
     pub(crate) fn unread(unread: Unread) -> Leaf
         ensures is { result ≡ entry_from unread }
     {
@@ -51,7 +51,7 @@ impl Leaf {
         }
     }
 
-    /// What is at hand of it.
+    /// The form in which it is held.
     pub fn kind(&self) -> &Kind
         ensures is { entry_in result.now ≡ self.now }
     {

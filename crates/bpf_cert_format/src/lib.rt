@@ -1,8 +1,8 @@
 //! Certificates as bytes: each has one spelling, which is written and read.
 //!
-//! Main calls: `read` and `write`. It stands on the abstract states. What a certificate's bytes are is
-//! said in `specs/Spelling.antt` and `specs/Fits.antt`; `read` answers the one certificate that bytes
-//! spell, or that they spell none. What a certificate is good for is said elsewhere.
+//! Main calls: `read` and `write`. The crate depends on the abstract states. `specs/Spelling.antt` and
+//! `specs/Fits.antt` define a certificate's bytes; `read` returns the only certificate that bytes spell, or that they
+//! spell none. What a certificate shows is defined elsewhere.
 #![tactic(auto)]
 
 pub mod certificate;

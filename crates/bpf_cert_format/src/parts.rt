@@ -1,4 +1,4 @@
-//! Call frames, rooms and entries.
+//! Reads call frames, bytes known to follow labels, and entries.
 
 ghost use Rattle.std.specs.Prelude.{◌≡◌, ◌<◌, ◌≤◌, ◌++◌, OnOk, IsTrue, length, drop, replicate, slice_index_or, slice_set};
 ghost use Rattle.bpf_absval.specs.declared.slot.AbsSlot.TheVariants.{Unset};
@@ -34,7 +34,7 @@ fn registers_at(maps: usize, frames: usize, bytes: &[u8]) -> Result<(Registers, 
     Ok((Registers::new(values), rest))
 }
 
-/// Puts what a slot holds that is unset so far.
+/// Sets a slot that is unset so far.
 fn put_cell(stack: &mut Slots, index: usize, cell: AbsSlot) -> Result<(), AllocError>
     requires inside { index < 64 }
     requires unset { slice_index_or stack.old index Unset ≡ Unset }
@@ -72,7 +72,7 @@ fn stack_at(
     Ok((stack, rest))
 }
 
-/// Whether 64 bytes of 0 come first: a stack of which nothing is known.
+/// True only if the first 64 bytes are 0: a stack of which nothing is known.
 fn begins_unset(bytes: &[u8]) -> bool
     requires whole { 64 ≤ length bytes.now }
     ensures is { IsTrue result → bytes.now ≡ replicate 64 0 ++ drop 64 bytes.now }
@@ -85,7 +85,7 @@ fn begins_unset(bytes: &[u8]) -> bool
     true
 }
 
-/// The same. A stack of which nothing is known is told at once.
+/// Like `stack_at`, with a shortcut for a stack of which nothing is known.
 fn any_stack_at(
     alloc: Global,
     maps: usize,
@@ -106,7 +106,7 @@ fn any_stack_at(
     }
 }
 
-/// A call frame of so many.
+/// One of `frames` call frames.
 #[tactic(auto, unfolding(crate::specs::Reading::frame_at))]
 fn frame_at(
     alloc: Global,
@@ -135,7 +135,7 @@ fn frame_at(
     }
 }
 
-/// So many call frames.
+/// `frames` call frames.
 fn frame_list_at(
     alloc: Global,
     maps: usize,
@@ -161,7 +161,7 @@ fn frame_list_at(
     Ok((list, rest))
 }
 
-/// Whether the main function's frame, which returns to no slot, comes first.
+/// Whether the main function's frame, which has return slot 0, comes first.
 fn is_main_first(frames: &[Frame]) -> bool
     ensures is { result ≡ begins_with_main frames.now }
 {
@@ -192,7 +192,7 @@ fn frames_at(alloc: Global, maps: usize, bytes: &[u8]) -> Result<(Vec<Frame>, &[
     }
 }
 
-/// A room.
+/// A label, and how many bytes are known to follow it.
 #[tactic(auto, unfolding(crate::specs::Reading::room_at))]
 fn room_at(bytes: &[u8]) -> Result<(Room, &[u8]), ReadFault>
     ensures is { Gives (λ x. (x.0, x.1.now)) result (reads_room bytes.now) }
@@ -202,7 +202,7 @@ fn room_at(bytes: &[u8]) -> Result<(Room, &[u8]), ReadFault>
     Ok((Room { label, size }, rest))
 }
 
-/// So many rooms.
+/// `count` of these.
 fn room_list_at(alloc: Global, count: u16, bytes: &[u8]) -> Result<(Vec<Room>, &[u8]), ReadFault>
     ensures is { Gives (λ x. (x.0.items, x.1.now)) result (many reads_room count bytes.now) }
 {
@@ -216,7 +216,7 @@ fn room_list_at(alloc: Global, count: u16, bytes: &[u8]) -> Result<(Vec<Room>, &
     Ok((list, rest))
 }
 
-/// Whether labels rise from 1 on, and no room is above 2400 bytes.
+/// Whether labels rise from 1 on, and each is followed by at most 2400 known bytes.
 fn are_rising(rooms: &[Room]) -> bool
     ensures is { result ≡ rise 0 rooms.now }
 {
@@ -230,7 +230,7 @@ fn are_rising(rooms: &[Room]) -> bool
     true
 }
 
-/// What is known to lie behind labels.
+/// The bytes known to follow labels.
 #[tactic(auto, unfolding(crate::specs::Reading::rooms_at))]
 fn rooms_at(alloc: Global, bytes: &[u8]) -> Result<(Vec<Room>, &[u8]), ReadFault>
     ensures is { Gives (λ x. (x.0.items, x.1.now)) result (reads_rooms bytes.now) }

@@ -1,5 +1,5 @@
-//! Certificates from bytes. Entries are kept as values while these take little memory; the others are read when they are
-//! looked at, so that what a certificate takes is a few times its bytes.
+//! Reads certificates. Entries are kept as values as long as these take little memory; the others are read on each use.
+//! So a certificate takes a few times the memory of its bytes.
 
 ghost use Rattle.std.specs.Prelude.{◌≡◌, ◌≤◌, IfOk, length};
 ghost use Rattle.bpf_cert_format.specs.Answers.{Gives, Spells, Reads};
@@ -37,7 +37,7 @@ fn magic_at(bytes: &[u8]) -> Result<(u32, &[u8]), ReadFault>
     Ok((magic, rest))
 }
 
-/// The hook with that number.
+/// The hook of that number.
 fn hook_named(number: u8) -> Option<Hook>
     ensures is { result ≡ names_hook number }
 {
@@ -49,7 +49,6 @@ fn hook_named(number: u8) -> Option<Hook>
     }
 }
 
-/// A hook.
 #[tactic(auto, unfolding(crate::specs::Reading::hook_at))]
 fn hook_at(bytes: &[u8]) -> Result<(Hook, &[u8]), ReadFault>
     ensures is { Gives (λ x. (x.0, x.1.now)) result (reads_hook bytes.now) }
@@ -61,7 +60,6 @@ fn hook_at(bytes: &[u8]) -> Result<(Hook, &[u8]), ReadFault>
     }
 }
 
-/// The bytes of the code.
 #[tactic(auto, unfolding(crate::specs::Reading::code_at))]
 fn code_at(bytes: &[u8]) -> Result<(&[u8], &[u8]), ReadFault>
     ensures is { Gives (λ x. (x.0.now, x.1.now)) result (reads_code bytes.now) }
@@ -71,7 +69,7 @@ fn code_at(bytes: &[u8]) -> Result<(&[u8], &[u8]), ReadFault>
     Ok((code, rest))
 }
 
-/// What is kept of an entry that was read at a place: its value, or the place.
+/// What is kept of an entry that was read at a position: its value, or the position.
 fn leaf(text: &Rc<Text>, place: usize, entry: Entry, is_kept: bool) -> Result<Leaf, AllocError>
     requires there { entry ≡ entry_from (record { text = text.now.value; place = place }) }
     ensures is { IfOk result (λ leaf. leaf ≡ entry) }
@@ -83,7 +81,7 @@ fn leaf(text: &Rc<Text>, place: usize, entry: Entry, is_kept: bool) -> Result<Le
     Ok(Leaf::unread(unread))
 }
 
-/// So many entries. Those that come first are kept as values.
+/// `count` entries. The first are kept as values.
 fn leaf_list_at(
     alloc: Global,
     maps: usize,
@@ -115,7 +113,6 @@ fn leaf_list_at(
     Ok((list, rest))
 }
 
-/// The entries.
 #[tactic(auto, unfolding(crate::specs::Reading::entries_at))]
 fn entries_at(alloc: Global, maps: usize, bytes: &[u8]) -> Result<(Vec<Leaf>, &[u8]), ReadFault>
     requires few_maps { maps ≤ 16 }
@@ -125,7 +122,7 @@ fn entries_at(alloc: Global, maps: usize, bytes: &[u8]) -> Result<(Vec<Leaf>, &[
     leaf_list_at(alloc, maps, count, rest)
 }
 
-/// The certificate that is the whole of the bytes, where there are so many maps.
+/// The certificate that the bytes spell as a whole, for that many maps.
 #[tactic(auto, unfolding(crate::specs::Reading::all_of, crate::specs::Reading::certificate_at))]
 fn all(alloc: Global, maps: usize, bytes: &[u8]) -> Result<Certificate, ReadFault>
     requires few_maps { maps ≤ 16 }
@@ -146,13 +143,13 @@ fn all(alloc: Global, maps: usize, bytes: &[u8]) -> Result<Certificate, ReadFaul
     }
 }
 
-/// The certificate that the bytes spell, all of the bytes, where maps have these shapes.
+/// Reads the certificate that all of the bytes spell, for maps of these shapes.
 ///
-/// `Malformed`: they spell none. `Memory`: memory was refused.
+/// `Malformed`: they spell none. `Memory`: an allocation failed.
 pub fn read(alloc: Global, shapes: &Shapes, bytes: &[u8]) -> Result<Certificate, ReadFault>
-    // What is read is spelled so.
+    // A certificate that is read has these bytes as its spelling.
     ensures found { IfOk result (Spells shapes.now bytes.now) }
-    // What is spelled so is read.
+    // A certificate with this spelling is read, or memory is lacking.
     ensures only { (c : CertificateView) → Spells shapes.now bytes.now c → Reads result c }
 {
     shapes.whole();

@@ -8,14 +8,14 @@ use bpf_absval::AbsSlot;
 use std::alloc::{AllocError, Global};
 use std::marker::Model;
 
-/// What one of the 64 slots may hold.
+/// One of the 64 slots, and what it may hold.
 #[derive(Clone, Copy)]
 pub struct KnownSlot {
     pub index: u8,
     pub slot: AbsSlot,
 }
 
-/// What the 64 slots of a stack may hold. Contracts see all of them; those of which nothing is known take no memory.
+/// What the 64 slots of a stack may hold. Contracts see all 64; those of which nothing is known take no memory.
 #[derive(Drop)]
 pub struct Slots {
     known: Vec<KnownSlot>,
@@ -34,7 +34,7 @@ impl Model for Slots {
     ghost invariant = { λ a. All (λ k. k.index < 64) a.known.items };
 }
 
-/// All slots, where these are known.
+/// All 64 slots, given the known ones.
 fn filled(known: &[KnownSlot]) -> [AbsSlot; 64]
     requires inside { All (λ k. k.index < 64) known.now }
     ensures is { result ≡ slots_after no_slots known.now }
@@ -47,7 +47,7 @@ fn filled(known: &[KnownSlot]) -> [AbsSlot; 64]
 }
 
 impl Slots {
-    /// Slots of which nothing is known.
+    /// 64 slots of which nothing is known.
     pub fn unset(alloc: Global) -> Slots
         ensures is { result ≡ no_slots }
     {
@@ -56,7 +56,7 @@ impl Slots {
         }
     }
 
-    /// Puts what a slot may hold. Where memory is wanting all stays as it is.
+    /// Sets what a slot may hold. If allocation fails, nothing changes.
     pub fn set(&mut self, index: usize, slot: AbsSlot) -> Result<(), AllocError>
         requires inside { index < 64 }
         ensures ok { OnOk result (self.new ≡ slice_set self.old index slot) }
@@ -67,7 +67,7 @@ impl Slots {
         Ok(())
     }
 
-    /// The slots that were put, in their order; what was put later counts.
+    /// The slots that were set, in order; a later one overrides an earlier one.
     pub fn known(&self) -> &[KnownSlot]
         ensures is { slots_after no_slots result.now ≡ self.now }
         ensures inside { All (λ k. k.index < 64) result.now }
@@ -75,14 +75,14 @@ impl Slots {
         self.known.as_slice()
     }
 
-    /// All slots.
+    /// All 64 slots.
     pub fn all(&self) -> [AbsSlot; 64]
         ensures is { result ≡ self.now }
     {
         filled(self.known())
     }
 
-    /// About how many bytes of memory they take, and as many again in a state.
+    /// Roughly the bytes of memory that they take; a state takes as many again.
     pub fn weight(&self) -> usize {
         let slots = self.known.len().saturating_mul(160);
         slots.saturating_add(384)

@@ -1,4 +1,4 @@
-//! Entries that are read when they are looked at.
+//! Entries that are read on each use.
 
 ghost use Rattle.std.specs.Prelude.{◌≡◌, ◌≤◌, IfOk, drop};
 ghost use Rattle.bpf_cert_format.specs.Fits.{FitsEntry};
@@ -12,7 +12,7 @@ use std::alloc::{AllocError, Global};
 use std::marker::Model;
 use std::rc::Rc;
 
-/// The bytes of entries, for a program with so many maps.
+/// The bytes of entries, and how many maps the program has.
 #[derive(Drop)]
 pub struct Text {
     maps: usize,
@@ -30,7 +30,7 @@ impl Model for Text {
     ghost invariant = { λ a. a.maps ≤ 16 };
 }
 
-/// The entry that some bytes spell from a place on. Where they spell none it is refused like want of memory.
+/// The entry that the bytes spell at a position. If they spell none, this fails like an allocation.
 fn entry_in_bytes(
     alloc: Global,
     maps: usize,
@@ -53,7 +53,7 @@ fn entry_in_bytes(
 }
 
 impl Text {
-    /// A text that entries can share.
+    /// A text that entries share.
     pub(crate) fn shared(alloc: Global, maps: usize, bytes: &[u8]) -> Result<Rc<Text>, AllocError>
         requires few_maps { maps ≤ 16 }
         ensures is { IfOk result (λ text. text.value ≡ record { maps = maps; bytes = bytes.now }) }
@@ -63,7 +63,7 @@ impl Text {
         Ok(text)
     }
 
-    /// The entry that is spelled from a place on.
+    /// The entry spelled at a position.
     fn entry(&self, alloc: Global, place: usize) -> Result<Entry, AllocError>
         ensures is { IfOk result
             (λ entry. entry ≡ entry_from (record { text = self.now; place = place })) }
@@ -74,7 +74,7 @@ impl Text {
     }
 }
 
-/// An entry that is read when it is looked at: the place of its bytes in a text that entries share.
+/// An entry that is read on each use: the position of its bytes in a text that entries share.
 #[derive(Drop)]
 pub struct Unread {
     text: Rc<Text>,
@@ -102,7 +102,7 @@ impl Clone for Unread {
 }
 
 impl Unread {
-    /// That of a place in a text.
+    /// The entry at a position of a text.
     pub(crate) fn new(text: &Rc<Text>, place: usize) -> Result<Unread, AllocError>
         ensures is { IfOk result
             (λ unread. unread ≡ record { text = text.now.value; place = place }) }
@@ -119,7 +119,7 @@ impl Unread {
         text.maps
     }
 
-    /// The entry.
+    /// Reads the entry.
     pub fn entry(&self, alloc: Global) -> Result<Entry, AllocError>
         ensures is { IfOk result (λ entry. entry ≡ entry_from self.now) }
         ensures fits { IfOk result (FitsEntry self.now.text.maps) }

@@ -1,4 +1,4 @@
-//! Values and stack slots.
+//! Reads values and stack slots.
 
 ghost use Rattle.std.specs.Prelude.{◌≡◌, ◌≤◌};
 ghost use Rattle.bpf_cert_format.specs.Answers.{Gives};
@@ -8,7 +8,7 @@ use crate::fault::ReadFault;
 use crate::fields::{byte_at, label_at, number_at};
 use bpf_absval::{AbsRegion, AbsSlot, AbsVal};
 
-/// The region with that byte, where there are so many maps and so many stack frames.
+/// The region of that byte, for that many maps and stack frames.
 fn region_named(maps: usize, frames: usize, byte: u8) -> Option<AbsRegion>
     requires few_maps { maps ≤ 16 }
     requires few_frames { frames ≤ 8 }
@@ -26,7 +26,7 @@ fn region_named(maps: usize, frames: usize, byte: u8) -> Option<AbsRegion>
     None
 }
 
-/// The number of one of so many maps.
+/// A map's number, below `maps`.
 fn map_at(maps: usize, bytes: &[u8]) -> Result<(u32, &[u8]), ReadFault>
     ensures is { Gives (λ x. (x.0, x.1.now)) result (reads_map maps bytes.now) }
 {
@@ -50,7 +50,7 @@ fn frame_pointer_at(bytes: &[u8]) -> Result<(AbsVal, &[u8]), ReadFault>
     }
 }
 
-/// A pointer into the region with that byte.
+/// A pointer into the region of that byte.
 #[tactic(auto, unfolding(crate::specs::Reading::pointer_into))]
 fn pointer_into(
     maps: usize,
@@ -74,7 +74,7 @@ fn pointer_into(
     }
 }
 
-/// A value behind its tag.
+/// A value after its tag.
 #[tactic(auto, unfolding(crate::specs::Reading::value_tagged))]
 fn value_tagged(
     maps: usize,

@@ -1,4 +1,4 @@
-//! Certificates as bytes.
+//! Writes certificates as bytes.
 
 ghost use Rattle.std.specs.Prelude.{◌≡◌, ◌*◌, ◌<◌, ◌≤◌, ◌^◌, ◌++◌, ◌∷◌, [], ℕ, length, IfOk, IsOk, OnOk};
 ghost use Rattle.std.specs.List.{flat_map, AllByRecursion};
@@ -20,7 +20,7 @@ use bpf_interval::{Interval, SignedInterval};
 use bpf_tnum::Tnum;
 use std::alloc::{AllocError, Global};
 
-/// The least and the greatest number as words.
+/// The least and the greatest number, as words.
 fn words_of(signed: SignedInterval) -> (u64, u64)
     ensures low { result.0 ≡ word_at signed.low }
     ensures high { result.1 ≡ word_at signed.high }
@@ -108,7 +108,7 @@ fn put_label(out: &mut Vec<u8>, label: Option<Label>) -> Result<(), AllocError>
     Ok(())
 }
 
-/// A number below 256 as a byte.
+/// A number below 256, as a byte.
 fn byte_of(number: u32) -> Result<u8, WriteFault>
     ensures is { IfOk result (λ byte. byte ≡ number) }
     ensures fitting { number < 256 → IsOk result }
@@ -147,7 +147,6 @@ fn put_place(out: &mut Vec<u8>, offset: AbsNum, label: Option<Label>) -> Result<
     Ok(())
 }
 
-/// Two bytes.
 fn put_two(out: &mut Vec<u8>, first: u8, second: u8) -> Result<(), AllocError>
     ensures is { OnOk result (out.new.items ≡ out.old.items ++ first ∷ second ∷ []) }
 {
@@ -299,7 +298,7 @@ fn put_entry(out: &mut Vec<u8>, entry: &Entry) -> Result<(), WriteFault>
     Ok(())
 }
 
-/// An entry, which is read for it if its value isn't at hand.
+/// An entry, which is read first if it isn't held as a value.
 fn put_leaf(alloc: Global, out: &mut Vec<u8>, leaf: &Leaf) -> Result<(), WriteFault>
     ensures is { OnOk result (out.new.items ≡ out.old.items ++ entry_bytes leaf.now) }
     ensures fitting { (maps : ℕ) → maps ≤ 224 → FitsEntry maps leaf.now →
@@ -355,14 +354,14 @@ fn put_code(out: &mut Vec<u8>, code: &[u8]) -> Result<(), WriteFault>
     Ok(())
 }
 
-/// The one spelling of a certificate.
+/// Writes the only spelling of a certificate.
 ///
-/// `TooLarge`: a number is too large for its field. `Memory`: memory was refused.
+/// `TooLarge`: a number is too large for its field. `Memory`: an allocation failed.
 pub fn write(alloc: Global, certificate: &Certificate) -> Result<Vec<u8>, WriteFault>
-    // What is written is its spelling.
+    // The bytes written are the spelling.
     ensures spelled { IfOk result (λ v. v.items ≡ spelling certificate.now) }
-    // A certificate that fits is refused for nothing but memory. The byte of a map's region is 32 and the map's number, so
-    // there are at most 224 maps.
+    // A certificate that fits is refused only for lack of memory. The byte of a map's region is 32 plus the map's
+    // number, so there are at most 224 maps.
     ensures fitting { (maps : ℕ) → maps ≤ 224 → FitsCertificate maps certificate.now →
         RefusedForMemoryAlone result }
 {

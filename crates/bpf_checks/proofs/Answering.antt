@@ -1,4 +1,4 @@
--- A helper's answer may be put into R0 before or after R1 to R5 are unset, and what is unset needs no writing.
+-- A helper's result may be put into R0 before or after R1 to R5 are unset; what is already unset needs no writing.
 use Rattle.std.proofs.Common.{◌≡◌, ℕ, List, [], ◌∷◌, refl, sym, ◌∙◌, ap, slice_set, get_or}
 use Rattle.std.proofs.lemmas.List.{set-get_or}
 use Rattle.bpf_absval.specs.declared.value.AbsVal.{AbsVal}

@@ -1,4 +1,4 @@
--- What follows from an outcome.
+-- Consequences of an outcome.
 use Rattle.std.proofs.Common.{◌≡◌, inl, inr, ap, Result, Ok, Err}
 use Rattle.bpf_rules.specs.declared.fault.Fault.{Fault}
 use Rattle.bpf_rules.specs.Faults.{on, IsOrNoMemory}

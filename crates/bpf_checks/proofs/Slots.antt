@@ -1,4 +1,4 @@
--- A store and an atomic leave the state at its slot.
+-- A store or an atomic leaves the state at its slot.
 use Rattle.std.proofs.Common.{◌≡◌, ℕ, refl, sym, ◌∙◌, ap, Bool, true, false, Option, Some, None, List, Result, slice_get, ℤ}
 use Rattle.std.specs.Prelude.{◌==◌, ◌≢◌, if◌then◌else◌}
 use Rattle.bpf_insn.specs.declared.insn.AtomicOp.{AtomicOp}
@@ -79,7 +79,7 @@ store_pc shapes a n Unset to by b e = absurd (refused-okay fault.Unset b e)
 store_pc shapes a n v (Pointer r offset) by b e = into_pc shapes a r (offset_of offset by) n v b e
 store_pc shapes a n v to by b e = absurd (refused-okay _ b e)
 
--- an atomic goes through a pointer alone
+-- an atomic needs a pointer
 pub atomic_refused : (shapes : List Shape) (a : View) (n : ℕ) (op : AtomicOp) (src : ℕ) (by : ℤ) (to v r0 : AbsVal) → ((r : AbsRegion) (offset : Num) → to ≢ Pointer r offset) → atomic shapes a n op src by to v r0 ≡ refused (operands_fault to v r0)
 atomic_refused shapes a n op src by (Pointer r offset) v r0 differs = absurd (differs r offset refl)
 atomic_refused shapes a n op src by Unset v r0 differs = refl

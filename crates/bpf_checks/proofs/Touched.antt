@@ -32,7 +32,7 @@ less_product k m b h some =
     let x : (k + 1) * b ≤ m * b = mul-le-mul_right b h in
     omega (arith, x, some)
 
--- where the slot behind is touched, it is one of the stack
+-- if bytes of the next slot are touched, the stack has that slot
 pub touched_one : (at n : ℕ) → n ≤ 8 → at + n ≤ 512 → touched at n / 256 ≢ 0 → at / 8 + 1 < 64
 touched_one at n le inside some = elim (cases_lt (at / 8 + 1) 64) [
   | inl less ↦ less
@@ -48,6 +48,6 @@ touched_one at n le inside some = elim (cases_lt (at / 8 + 1) 64) [
         let c : 2 ^ (n + at % 8) ≤ 256 = pow_mono {j = 8} (omega (arith, le)) in
         omega (arith, a, b, c)
 
--- no bytes are read of it otherwise
+-- reading no bytes is no fault
 pub none_read : (s : AbsSlot) → bytes_fault s 0 ≡ None
 none_read s = ap (λ b. if b then None else (if is_stored s then Some fault.WrongOperand else Some fault.Unset)) (ap (λ x. x == 0) (and_zero_r (bytes_set s)))

@@ -1,4 +1,4 @@
--- What a register has already needs no writing.
+-- What a register already holds needs no writing.
 use Rattle.std.proofs.Common.{◌≡◌, ℕ, sym, ◌∙◌, ap, slice_set}
 use Rattle.std.proofs.lemmas.List.{set-get_or}
 use Rattle.bpf_absval.specs.declared.value.AbsVal.{AbsVal}

@@ -1,8 +1,8 @@
--- How many bytes more than its offset a way teaches.
+-- By how many bytes more than the offset a branch bounds the frame's length.
 use Rattle.std.specs.Prelude.{ℕ, zero, suc, Option, Some, None}
 use Rattle.bpf_rules.specs.Branches.{Lesson, Nothing, AtMost, Below}
 
--- nothing, or how many bytes more are there: none, so the offset is at most the length, or one, so it is below it
+-- None shows nothing; 0: the offset is at most the length; 1 or more: it is below it
 abbrev pub lesson_of : Option ℕ → Lesson
 lesson_of None = Nothing
 lesson_of (Some zero) = AtMost

@@ -1,4 +1,4 @@
-//! Conditional jumps: which ways are visited, and what each teaches.
+//! Conditional jumps: which branches are followed, and what each shows.
 
 ghost use Rattle.std.specs.Prelude.{◌≡◌, ◌≤◌, IfOk, IfSome, OnOk, true, false};
 ghost use Rattle.bpf_absval.specs.declared.value.AbsVal.TheVariants.{Number};
@@ -17,7 +17,8 @@ use bpf_rules::Fault;
 use bpf_words::word_of_int;
 use std::alloc::AllocError;
 
-/// The states on the way that isn't taken and on the way that is, at the jump itself; None where a way is not visited.
+/// The states on the branch not taken and on the branch taken, both at the jump itself; None if a branch isn't
+/// followed.
 pub type Split = (Option<AbsState>, Option<AbsState>);
 
 /// What a conditional jump tests.
@@ -30,7 +31,7 @@ pub struct Test {
 }
 
 impl Test {
-    /// A comparison of 64 bits (`wide`) or of 32 of a register with a source.
+    /// Compares a register with a source: 64 bits (`wide`) or 32.
     pub fn new(compare: Compare, wide: bool, dst: Reg, source: Source) -> Test
         ensures is { result
             ≡ record { compare = compare; wide = wide; dst = dst; source = source } }
@@ -44,7 +45,7 @@ impl Test {
     }
 }
 
-/// What is compared with; JMP32 compares the low 32 bits of an immediate.
+/// The right operand. JMP32 compares the low 32 bits of an immediate.
 fn compared_with(state: &AbsState, test: &Test) -> AbsVal
     ensures is { result ≡ compared_value test.now.wide state.now test.now.source }
 {
@@ -58,7 +59,6 @@ fn compared_with(state: &AbsState, test: &Test) -> AbsVal
     }
 }
 
-/// Whether both sides are one register.
 fn same_register(dst: Reg, source: Source) -> bool
     ensures is { result ≡ is_itself dst source }
 {
@@ -68,7 +68,7 @@ fn same_register(dst: Reg, source: Source) -> bool
     }
 }
 
-/// What is left of both operands on a way.
+/// What remains of both operands on a branch.
 fn narrow(test: &Test, taken: bool, x: AbsNum, y: AbsNum) -> Option<(AbsNum, AbsNum)>
     ensures is { result ≡ narrowed test.now.wide test.now.compare
         (is_itself test.now.dst test.now.source) taken x y }
@@ -79,7 +79,7 @@ fn narrow(test: &Test, taken: bool, x: AbsNum, y: AbsNum) -> Option<(AbsNum, Abs
     x.branch(test.compare, test.wide, taken, y)
 }
 
-/// Puts a number into a register. What has it already isn't written.
+/// Puts a number into a register, unless it holds that number already.
 #[tactic(auto, using(crate::proofs::Written::written_again))]
 fn put_number(state: &mut AbsState, register: Reg, number: AbsNum) -> Result<(), AllocError>
     ensures is { OnOk result (state.new ≡ with_register state.old register (Number number)) }
@@ -92,7 +92,7 @@ fn put_number(state: &mut AbsState, register: Reg, number: AbsNum) -> Result<(),
     Ok(())
 }
 
-/// The state in which the operands are what is left of them.
+/// The state with the narrowed operands.
 fn with_narrowed(
     mut state: AbsState,
     test: &Test,
@@ -109,7 +109,7 @@ fn with_narrowed(
     Ok(state)
 }
 
-/// A way of a comparison of numbers.
+/// One branch of a comparison of numbers.
 fn way_of_numbers(
     state: AbsState,
     test: &Test,
@@ -129,7 +129,7 @@ fn way_of_numbers(
     }
 }
 
-/// Both ways of a comparison of numbers.
+/// Both branches of a comparison of numbers.
 fn ways_of_numbers(
     state: AbsState,
     test: &Test,
@@ -145,7 +145,7 @@ fn ways_of_numbers(
     Ok((fall, jump))
 }
 
-/// Whether the immediate 0 is tested for by JEQ or JNE, and then whether the jump is taken where the register isn't 0.
+/// If JEQ or JNE tests for the immediate 0: whether the jump is taken if the register isn't 0. Otherwise None.
 fn taken_unless_null(compare: Compare, zero: bool) -> Option<bool>
     ensures is { result ≡ null_test compare zero }
 {
@@ -166,7 +166,6 @@ fn taken_unless_null(compare: Compare, zero: bool) -> Option<bool>
     }
 }
 
-/// Whether a source is the immediate 0.
 fn is_zero_source(source: Source) -> bool
     ensures is { result ≡ is_zero source }
 {
@@ -176,7 +175,6 @@ fn is_zero_source(source: Source) -> bool
     }
 }
 
-/// The state with a value in a register.
 fn with_value(mut state: AbsState, dst: Reg, value: AbsVal) -> Result<AbsState, AllocError>
     ensures is { IfOk result (λ next. next ≡ with_register state dst value) }
 {
@@ -184,7 +182,7 @@ fn with_value(mut state: AbsState, dst: Reg, value: AbsVal) -> Result<AbsState, 
     Ok(state)
 }
 
-/// The ways of a lookup's answer that is tested for null: it is 0, or points to the start of an entry.
+/// The branches of testing a lookup's result for null: it is 0, or points to the start of an entry.
 fn ways_of_lookup(state: AbsState, dst: Reg, map: u32, test: Option<bool>) -> Result<Split, Fault>
     ensures is { IsOrNoMemory result (lookup_ways state dst map test) }
 {
@@ -204,7 +202,7 @@ fn ways_of_lookup(state: AbsState, dst: Reg, map: u32, test: Option<bool>) -> Re
     Ok((Some(set), Some(null)))
 }
 
-/// The one way of a pointer that is tested for null.
+/// The only branch of testing a pointer for null.
 fn ways_of_pointer(state: AbsState, test: Option<bool>) -> Result<Split, Fault>
     ensures is { result ≡ pointer_ways state test }
 {
@@ -217,7 +215,7 @@ fn ways_of_pointer(state: AbsState, test: Option<bool>) -> Result<Split, Fault>
     Ok((Some(state), None))
 }
 
-/// A way on which the offset and `more` bytes are at most the frame's length; None where no frame is so long.
+/// The branch on which the offset plus `more` is at most the frame's length; None if no frame is that long.
 fn with_learnt(
     mut state: AbsState,
     offset: AbsNum,
@@ -240,8 +238,8 @@ fn with_learnt(
     Ok(Some(state))
 }
 
-/// How many bytes more than the offset a way teaches of a comparison of a pointer with the frame's end: none on the ways
-/// that teach nothing, 0 where the offset is at most the length, 1 where it is below it.
+/// By how many bytes more than the offset the frame's length is bounded on a branch of a comparison with the frame end:
+/// 0 if the offset is at most the length, 1 if it is below it, None if the branch shows nothing.
 fn taught_by(compare: Compare, taken: bool) -> Option<u16>
     ensures is { lesson_of result ≡ lesson compare taken }
     ensures small { IfSome result (λ more. more ≤ 1) }
@@ -275,7 +273,7 @@ fn taught_by(compare: Compare, taken: bool) -> Option<u16>
     }
 }
 
-/// A way of a comparison of a pointer with the frame's end.
+/// One branch of comparing a pointer with the frame end.
 fn way_of_end(
     state: AbsState,
     offset: AbsNum,
@@ -295,7 +293,7 @@ fn way_of_end(
     }
 }
 
-/// Both ways of a comparison of a pointer with the frame's end.
+/// Both branches of comparing a pointer with the frame end.
 fn ways_of_end(
     state: AbsState,
     offset: AbsNum,
@@ -314,7 +312,7 @@ fn ways_of_end(
     Ok((fall, jump))
 }
 
-/// The comparison with its sides turned, of the unsigned orders.
+/// The unsigned comparison with its operands swapped; None if it isn't an order.
 fn turn(compare: Compare) -> Option<Compare>
     ensures is { result ≡ turned compare }
 {
@@ -340,7 +338,7 @@ fn as_order(compare: Compare) -> Option<Compare>
     }
 }
 
-/// The ways of a comparison of 64 bits with a number.
+/// The branches of comparing 64 bits with a number.
 fn ways_against_number(
     state: AbsState,
     test: &Test,
@@ -365,7 +363,7 @@ fn ways_against_number(
     }
 }
 
-/// The ways of a comparison of 64 bits.
+/// The branches of a 64-bit comparison.
 fn ways_of_wide(state: AbsState, test: &Test, left: AbsVal, right: AbsVal) -> Result<Split, Fault>
     requires wide { test.now.wide ≡ true }
     ensures is { IsOrNoMemory result
@@ -387,7 +385,7 @@ fn ways_of_wide(state: AbsState, test: &Test, left: AbsVal, right: AbsVal) -> Re
     }
 }
 
-/// The ways of a comparison of 32 bits.
+/// The branches of a 32-bit comparison.
 fn ways_of_narrow(state: AbsState, test: &Test, left: AbsVal, right: AbsVal) -> Result<Split, Fault>
     requires narrow { test.now.wide ≡ false }
     ensures is { IsOrNoMemory result
@@ -405,7 +403,7 @@ fn ways_of_narrow(state: AbsState, test: &Test, left: AbsVal, right: AbsVal) -> 
     }
 }
 
-/// The ways of a conditional jump, at the jump itself.
+/// The branches of a conditional jump, at the jump itself.
 pub fn split_ways(state: AbsState, test: &Test) -> Result<Split, Fault>
     ensures is { IsOrNoMemory result
         (split state test.now.wide test.now.compare test.now.dst test.now.source) }

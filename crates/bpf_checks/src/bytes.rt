@@ -1,4 +1,4 @@
-//! Bytes of a stack that are read and set.
+//! Reads and sets bytes of a stack.
 
 ghost use Rattle.std.specs.Prelude.{◌≡◌, ◌+◌, ◌/◌, ◌%◌, ◌<◌, ◌≤◌, length, IfOk};
 ghost use Rattle.bpf_absstate.specs.View.{stack_of, with_slot};
@@ -9,7 +9,7 @@ use bpf_absval::{AbsSlot, AbsVal};
 use bpf_rules::Fault;
 use std::alloc::AllocError;
 
-/// Which bytes of eight, and of the eight behind them, `n` bytes at an offset touch.
+/// The bytes that `n` bytes at an offset touch, as bits: of a slot of eight bytes, and of the next.
 #[tactic(auto, using(crate::proofs::Touched::touched_fits))]
 fn touched_bytes(at: usize, n: u32) -> u32
     requires few { n ≤ 8 }
@@ -32,7 +32,7 @@ fn fault_of_bytes(slot: AbsSlot, needed: u8) -> Option<Fault>
     }
 }
 
-/// The fault that comes first.
+/// The fault of the two that is reported: 30 before others, then the first.
 fn first_of(a: Option<Fault>, b: Option<Fault>) -> Option<Fault>
     ensures is { result ≡ worse a b }
 {
@@ -68,7 +68,7 @@ pub fn fault_of_reading(state: &AbsState, k: u8, at: usize, n: u32) -> Option<Fa
     )
 }
 
-/// The slot with these bytes set.
+/// The slot with these bytes also set.
 fn set_in(slot: AbsSlot, mask: u8) -> AbsSlot
     ensures is { result ≡ with_bytes slot mask }
 {
@@ -104,7 +104,7 @@ pub fn is_whole_slot(at: usize, n: u32) -> bool
     n == 8 && at % 8 == 0
 }
 
-/// The state with a value stored: whole, or a number's bytes.
+/// The state with a value stored: whole, if it fills a slot; otherwise its bytes are set.
 pub fn with_stored(
     mut state: AbsState,
     k: u8,

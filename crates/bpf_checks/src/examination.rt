@@ -1,4 +1,4 @@
-//! One instruction in one abstract state.
+//! Examines one instruction in one abstract state.
 
 ghost use Rattle.std.specs.Prelude.{◌≡◌, ◌<◌, ◌+◌, ℕ, ℤ, Ok, Some, true};
 ghost use Rattle.bpf_checks.specs.Kinds.{is_access};
@@ -36,14 +36,13 @@ use bpf_rules::{Fault, Ways};
 use bpf_words::word_of_int;
 use std::alloc::Global;
 
-/// An arithmetic operation, of 64 bits or of 32.
+/// An arithmetic operation of 64 bits (`wide`) or 32.
 #[derive(Clone, Copy)]
 struct Operator {
     op: AluOp,
     wide: bool,
 }
 
-/// An arithmetic operation.
 fn arithmetic(
     alloc: Global,
     state: AbsState,
@@ -68,7 +67,7 @@ fn arithmetic(
     }
 }
 
-/// An operation on a number, once it is computed.
+/// Puts the number that an operation computed into a register, and goes to the next slot.
 fn put_number(state: AbsState, dst: Reg, number: AbsNum) -> Result<Ways, Fault>
     requires inside { state.pc < 16384 }
     ensures is { IsOrNoMemory result (put state 1 dst (Number number)) }
@@ -76,7 +75,6 @@ fn put_number(state: AbsState, dst: Reg, number: AbsNum) -> Result<Ways, Fault>
     put_value(state, 1, dst, AbsVal::Number(number))
 }
 
-/// A conditional jump.
 fn branch(state: AbsState, test: &Test, by: i16) -> Result<Ways, Fault>
     requires inside { state.pc < 16384 }
     requires leads { (t : ℕ) × IsJump state.pc by t }
@@ -91,7 +89,6 @@ fn branch(state: AbsState, test: &Test, by: i16) -> Result<Ways, Fault>
     }
 }
 
-/// A helper call.
 fn help(state: AbsState, helper: i32) -> Result<Ways, Fault>
     requires inside { state.pc < 16384 }
     ensures is { IsOrNoMemory result
@@ -103,7 +100,7 @@ fn help(state: AbsState, helper: i32) -> Result<Ways, Fault>
     }
 }
 
-/// The state after a load, with what it gave in a register.
+/// The state after a load, with the loaded value in a register.
 fn put_loaded(state: AbsState, dst: Reg, loaded: Result<AbsVal, Fault>) -> Result<Ways, Fault>
     requires inside { state.pc < 16384 }
     ensures is { IsOrNoMemory result (on loaded (put state 1 dst)) }
@@ -114,7 +111,6 @@ fn put_loaded(state: AbsState, dst: Reg, loaded: Result<AbsVal, Fault>) -> Resul
     }
 }
 
-/// A store of so many bytes of a value.
 fn store(
     shapes: &Shapes,
     state: AbsState,
@@ -134,7 +130,6 @@ fn store(
     }
 }
 
-/// An atomic.
 fn atomic(
     shapes: &Shapes,
     state: AbsState,
@@ -187,7 +182,6 @@ fn order(state: AbsState, order: ByteOrder, width: OrderWidth, dst: Reg) -> Resu
     }
 }
 
-/// A jump that is always taken.
 fn jump(state: AbsState, by: i32) -> Ways
     requires inside { state.pc < 16384 }
     requires leads { (t : ℕ) × IsJump state.pc by t }
@@ -197,7 +191,6 @@ fn jump(state: AbsState, by: i32) -> Ways
     goes_to(state, to)
 }
 
-/// A local call.
 fn call(alloc: Global, state: AbsState, by: i32) -> Result<Ways, Fault>
     requires inside { state.pc < 16384 }
     requires leads { (t : ℕ) × IsJump state.pc by t }
@@ -249,7 +242,7 @@ fn examine_access(shapes: &Shapes, insn: Insn, state: AbsState) -> Result<Ways, 
     }
 }
 
-/// What an instruction makes of an abstract state: the ways on, or the fault that it meets first.
+/// What an instruction makes of an abstract state: its successors, or the first fault.
 fn examine_insn(alloc: Global, shapes: &Shapes, insn: Insn, state: AbsState) -> Result<Ways, Fault>
     requires inside { state.pc < 16384 }
     requires leads { (x : ℤ) → jump_of insn ≡ Some x → (t : ℕ) × IsJump state.pc x t }
@@ -293,7 +286,8 @@ fn examine_insn(alloc: Global, shapes: &Shapes, insn: Insn, state: AbsState) -> 
     }
 }
 
-/// The ways on from an abstract state, or the fault that its instruction meets first.
+/// Returns the successors of an abstract state, or the first fault of its instruction, or lack of memory. The
+/// instruction must begin at the state's slot.
 pub fn examine(alloc: Global, program: &Program, state: &AbsState) -> Result<Ways, Fault>
     requires begins { Begins program.now.slots state.now.pc }
     ensures is { (i : Insn) → Holds program.now.slots state.now.pc i →
@@ -303,7 +297,7 @@ pub fn examine(alloc: Global, program: &Program, state: &AbsState) -> Result<Way
     examine_moved(alloc, program, copy)
 }
 
-/// The same of a state that is given up: what it shares with no other is changed where it stands, and not copied.
+/// Like `examine`, but consumes the state: what no other state shares is changed in place, not copied.
 pub fn examine_moved(alloc: Global, program: &Program, state: AbsState) -> Result<Ways, Fault>
     requires begins { Begins program.now.slots state.pc }
     ensures is { (i : Insn) → Holds program.now.slots state.pc i →

@@ -1,4 +1,4 @@
-//! Arithmetic, jumps, calls and EXIT: the states that come next.
+//! Arithmetic, jumps, calls and EXIT: the successors.
 
 ghost use Rattle.std.specs.Prelude.{◌≡◌, ◌<◌, ◌≤◌, ◌+◌, ℕ, if◌then◌else◌, Ok, true};
 ghost use Rattle.bpf_absnum.specs.Number.{Num};
@@ -22,7 +22,7 @@ use bpf_rules::{Fault, Ways};
 use bpf_words::word_of_int;
 use std::alloc::{AllocError, Global};
 
-/// What a register holds, or an immediate.
+/// The value of a source: a register's, or an immediate.
 pub fn source_of(state: &AbsState, source: Source) -> AbsVal
     ensures is { result ≡ source_value state.now source }
 {
@@ -32,7 +32,7 @@ pub fn source_of(state: &AbsState, source: Source) -> AbsVal
     }
 }
 
-/// So many slots on, with a value in a register.
+/// Puts a value into a register, and goes `slots` slots further.
 pub fn put_value(mut state: AbsState, slots: usize, dst: Reg, value: AbsVal) -> Result<Ways, Fault>
     requires inside { state.pc < 16384 }
     requires few { slots ≤ 2 }
@@ -44,8 +44,8 @@ pub fn put_value(mut state: AbsState, slots: usize, dst: Reg, value: AbsVal) -> 
     Ok(Ways::One(state))
 }
 
-/// The next slot, with the value of an operation in a register; where it gives a frame pointer a label of its own, what
-/// other values had of that label is forgotten.
+/// Puts an operation's result into a register, and goes to the next slot. If the result has a new label (`labels`), all
+/// other values forget this label first.
 pub fn put_result(
     alloc: Global,
     mut state: AbsState,
@@ -67,7 +67,7 @@ pub fn put_result(
     Ok(Ways::One(state))
 }
 
-/// Where a jump leads that stays in the program.
+/// The target of a jump, which lies in the program.
 pub fn target(pc: usize, by: i32) -> usize
     requires small { pc < 16384 }
     requires inside { (t : ℕ) × IsJump pc by t }
@@ -87,7 +87,7 @@ pub fn goes_to(mut state: AbsState, pc: usize) -> Ways
     Ways::One(state)
 }
 
-/// The ways that are visited, each at its slot.
+/// The branches that are followed, each at its slot.
 pub fn ways_at(split: Split, fall: usize, jump: usize) -> Ways
     ensures is { result ≡ ways (moved_to fall split.0) (moved_to jump split.1) }
 {
@@ -113,7 +113,7 @@ pub fn ways_at(split: Split, fall: usize, jump: usize) -> Ways
     }
 }
 
-/// What helper 1 answers: the entry of a map at an index, or 0.
+/// The result of helper 1: an untested lookup in a map, at an index that is a number.
 fn look_up(map: AbsVal, index: AbsVal) -> Result<AbsVal, Fault>
     ensures is { result ≡ looked_up map index }
 {
@@ -126,7 +126,7 @@ fn look_up(map: AbsVal, index: AbsVal) -> Result<AbsVal, Fault>
     }
 }
 
-/// What a helper answers.
+/// The value that a helper returns.
 pub fn helper_answer(state: &AbsState, helper: u64) -> Result<AbsVal, Fault>
     ensures is { result ≡ helped state.now helper }
 {
@@ -141,7 +141,7 @@ pub fn helper_answer(state: &AbsState, helper: u64) -> Result<AbsVal, Fault>
     }
 }
 
-/// Whether R1 to R5 are unset.
+/// True only if R1 to R5 are unset.
 #[tactic(auto, using(crate::proofs::Answering::cleared_again))]
 fn has_no_arguments(state: &AbsState) -> bool
     ensures is { result ≡ true → without_arguments state.now.registers ≡ state.now.registers }
@@ -153,7 +153,7 @@ fn has_no_arguments(state: &AbsState) -> bool
         && matches!(state.register(Reg::new(5)), AbsVal::Unset)
 }
 
-/// The state after a helper's answer. Registers that are unset already aren't written.
+/// The state after a helper call. Registers that are already unset aren't written.
 #[tactic(auto, using(crate::proofs::Answering::answered_last))]
 pub fn after_helper(mut state: AbsState, value: AbsVal) -> Result<Ways, Fault>
     requires inside { state.pc < 16384 }
@@ -168,7 +168,7 @@ pub fn after_helper(mut state: AbsState, value: AbsVal) -> Result<Ways, Fault>
     Ok(Ways::One(state))
 }
 
-/// The state in which a local function begins.
+/// The state in which a local function starts.
 pub fn call_at(alloc: Global, mut state: AbsState, to: usize) -> Result<Ways, Fault>
     requires inside { state.pc < 16384 }
     ensures is { IsOrNoMemory result (on (call state to) (λ b. Ok (One b))) }
@@ -181,7 +181,7 @@ pub fn call_at(alloc: Global, mut state: AbsState, to: usize) -> Result<Ways, Fa
     Ok(Ways::One(state))
 }
 
-/// EXIT wants a number in R0: the end of the run, or of the function that was called.
+/// EXIT requires a number in R0. It ends the run, or returns to the caller.
 pub fn exit(mut state: AbsState) -> Result<Ways, Fault>
     ensures is { IsOrNoMemory result
         (on (exit_number (register state 0)) (λ x. Ok (exited state))) }
@@ -199,7 +199,7 @@ pub fn exit(mut state: AbsState) -> Result<Ways, Fault>
     }
 }
 
-/// What CMPXCHG compares with; the other operations compare with nothing.
+/// What CMPXCHG compares with; for other operations 0.
 pub fn expected_by(state: &AbsState, op: AtomicOp) -> AbsVal
     ensures is { result ≡ compared op state.now }
 {

@@ -1,10 +1,10 @@
-//! Every check at one instruction, and the abstract states that come next.
+//! Performs every check of one instruction, and computes its successors: the next abstract states.
 //!
-//! Main calls: `examine`, and `examine_moved` of a state that nobody needs any more. It stands on
-//! `bpf_rules`. They answer exactly what the rules define (`examined`): the ways on, or the fault
-//! that is met first, in the order of the checks; or want of memory. The other functions are their
-//! parts, by kind of instruction, each with the part of the rules that it follows as its contract.
-//! They take the state, or a copy of it, and change it: what it shares with no other isn't copied.
+//! Main calls: `examine`, and `examine_moved`, which consumes the state. The crate depends on
+//! `bpf_rules`. Both return exactly what the rules define (`examined`): the successors, or the
+//! first fault in the order of the checks; or lack of memory. The other functions are their parts,
+//! by kind of instruction; the contract of each is its part of the rules. They take the state, or a
+//! copy of it, and change it; they copy only what other states share.
 #![tactic(auto)]
 
 pub mod branches;

@@ -24,14 +24,14 @@ use bpf_regions::Shapes;
 use bpf_rules::Fault;
 use std::alloc::AllocError;
 
-/// Where an access leads: through a value that has to be a pointer, so many bytes from it.
+/// The address of an access: `by` bytes from a value that must be a pointer.
 #[derive(Clone, Copy)]
 pub struct Address {
     pub pointer: AbsVal,
     pub by: i16,
 }
 
-/// An atomic operation, of 8 bytes or of 4, and the register of its number.
+/// An atomic operation of 8 bytes (`wide`) or 4, and the register that holds its operand.
 #[derive(Clone, Copy)]
 pub struct Exchange {
     pub op: AtomicOp,
@@ -39,7 +39,7 @@ pub struct Exchange {
     pub src: Reg,
 }
 
-/// The offsets of a region at which an access may begin.
+/// A region, and the offsets at which an access may begin.
 #[derive(Clone, Copy)]
 struct Spot {
     region: AbsRegion,
@@ -47,7 +47,7 @@ struct Spot {
 }
 
 impl Address {
-    /// Through the value of a register, so many bytes from it.
+    /// The address `by` bytes from the value of a register.
     pub fn at(state: &AbsState, base: Reg, by: i16) -> Address
         ensures is { result ≡ record { pointer = register state.now base; by = by } }
     {
@@ -72,7 +72,7 @@ fn bytes_of_size(size: Size) -> u32
     }
 }
 
-/// A number of so many bytes, with sign or without.
+/// Any number of `n` bytes, signed or unsigned.
 fn number_of_bytes(signed: bool, n: u32) -> AbsVal
     requires some { 1 ≤ n }
     requires few { n ≤ 8 }
@@ -84,7 +84,6 @@ fn number_of_bytes(signed: bool, n: u32) -> AbsVal
     AbsVal::Number(AbsNum::loaded(8 * n))
 }
 
-/// A load of bytes of a stack.
 fn load_bytes(state: &AbsState, k: u8, at: usize, n: u32, signed: bool) -> Result<AbsVal, Fault>
     requires lives { k < length state.now.frames }
     requires few { n ≤ 8 }
@@ -98,7 +97,7 @@ fn load_bytes(state: &AbsState, k: u8, at: usize, n: u32, signed: bool) -> Resul
     }
 }
 
-/// A load from a stack: what was stored whole, or a number's bytes.
+/// Loads from a stack: what was stored whole, or a number if all bytes are set.
 fn load_stack(state: &AbsState, k: u8, at: usize, n: u32, signed: bool) -> Result<AbsVal, Fault>
     requires lives { k < length state.now.frames }
     requires few { n ≤ 8 }
@@ -118,7 +117,7 @@ fn load_stack(state: &AbsState, k: u8, at: usize, n: u32, signed: bool) -> Resul
     }
 }
 
-/// A load from a region other than the frame.
+/// Loads from a region other than the frame.
 fn load_region(
     shapes: &Shapes,
     state: &AbsState,
@@ -147,7 +146,7 @@ fn load_region(
     }
 }
 
-/// What a load through a pointer gives.
+/// The value that a load through a pointer gives.
 pub fn load_through(
     shapes: &Shapes,
     state: &AbsState,
@@ -176,7 +175,7 @@ pub fn load_through(
     }
 }
 
-/// Whether a value is a pointer to another stack frame than that of number `k`.
+/// Whether a value points into a stack frame other than number `k`.
 fn leads_to_other_stack(k: u8, value: &AbsVal) -> bool
     ensures is { result ≡ strays k value.now }
 {
@@ -189,8 +188,8 @@ fn leads_to_other_stack(k: u8, value: &AbsVal) -> bool
     }
 }
 
-/// The state with a value other than a number stored: in 8 bytes at a multiple of 8, and a pointer to a stack frame into
-/// that frame alone.
+/// The state with a value other than a number stored. It must fill 8 bytes at a multiple of 8; a pointer to a stack
+/// frame may be stored only in that frame.
 fn spill(state: AbsState, k: u8, at: AbsNum, n: u32, value: AbsVal) -> Result<AbsState, Fault>
     requires few { n ≤ 8 }
     ensures is { IsOrNoMemory result (spilled state k at n value) }
@@ -210,7 +209,7 @@ fn spill(state: AbsState, k: u8, at: AbsNum, n: u32, value: AbsVal) -> Result<Ab
     }
 }
 
-/// Whether a lookup's answer may be stored so.
+/// Whether an untested lookup result may be stored here.
 fn can_spill(at: AbsNum, n: u32) -> bool
     ensures is { result ≡ is_spill at n }
 {
@@ -247,7 +246,7 @@ fn store_in_stack(
     }
 }
 
-/// The state after a number was stored in a map, which is not followed.
+/// The state after a number is stored in a map, whose contents aren't tracked; other values are refused.
 fn store_in_map(state: AbsState, fault: Option<Fault>, value: AbsVal) -> Result<AbsState, Fault>
     ensures is { (shape : Option Shape) (at : Num) (n : ℕ) → fault ≡ entry_fault shape at n →
         result ≡ stored_in_map state shape at n value }
@@ -261,7 +260,7 @@ fn store_in_map(state: AbsState, fault: Option<Fault>, value: AbsVal) -> Result<
     }
 }
 
-/// The fault of storing into what is read-only.
+/// The fault of storing into read-only memory.
 fn fault_of_read_only(value: AbsVal) -> Fault
     ensures is { result ≡ read_only value }
 {
@@ -293,7 +292,7 @@ fn store_in_region(
     }
 }
 
-/// What a store through a pointer leaves, at the same slot.
+/// The state after a store through a pointer, at the same slot.
 pub fn store_through(
     shapes: &Shapes,
     state: AbsState,
@@ -318,7 +317,6 @@ pub fn store_through(
     }
 }
 
-/// How many bytes an atomic works on.
 fn bytes_of_atomic(wide: bool) -> u32
     ensures is { result ≡ atomic_bytes wide }
     ensures some { 1 ≤ result }
@@ -358,7 +356,7 @@ fn atomic_in_region(
     }
 }
 
-/// Puts the old number of an atomic where it goes.
+/// Puts the old number of an atomic into its register, if it has one.
 fn put_old(mut state: AbsState, into: Option<Reg>, n: u32) -> Result<AbsState, AllocError>
     requires few { n ≤ 8 }
     requires some { 1 ≤ n }
@@ -370,7 +368,7 @@ fn put_old(mut state: AbsState, into: Option<Reg>, n: u32) -> Result<AbsState, A
     Ok(state)
 }
 
-/// The register that gets the old number of an atomic.
+/// The register that receives the old number of an atomic.
 fn old_number_into(op: AtomicOp, src: Reg) -> Option<Reg>
     ensures is { result ≡ old_into op src }
 {
@@ -400,7 +398,7 @@ fn fault_of_operands(pointer: AbsVal, number: AbsVal, expected: AbsVal) -> Fault
     Fault::WrongOperand
 }
 
-/// What an atomic through a pointer leaves, at the same slot.
+/// The state after an atomic through a pointer, at the same slot.
 pub fn atomic_through(
     shapes: &Shapes,
     state: AbsState,

@@ -1,5 +1,5 @@
-//! Arithmetic on abstract values, with the checks of its operands: that all are set (30), that no lookup's answer is used
-//! untested (34), and their kinds (31), in this order.
+//! Arithmetic on abstract values. Operands are checked in this order: all are set (30), none is an untested lookup
+//! result (34), their kinds fit (31).
 
 ghost use Rattle.std.specs.Prelude.{◌≡◌, ◌<◌, ◌+◌, Some};
 ghost use Rattle.bpf_words.specs.Word.{word_add, word_sub};
@@ -24,7 +24,7 @@ pub fn fault_of(value: AbsVal) -> Fault
     }
 }
 
-/// The fault of two values of which one is of the wrong kind.
+/// The fault of two values of which at least one is of the wrong kind.
 pub fn fault_of_two(a: AbsVal, b: AbsVal) -> Fault
     ensures is { result ≡ wrong_two a b }
 {
@@ -37,7 +37,7 @@ pub fn fault_of_two(a: AbsVal, b: AbsVal) -> Fault
     Fault::WrongOperand
 }
 
-/// A value that has to be a number.
+/// The number, if the value is one.
 pub fn number_of(value: AbsVal) -> Result<AbsNum, Fault>
     ensures is { result ≡ number value }
 {
@@ -47,7 +47,7 @@ pub fn number_of(value: AbsVal) -> Result<AbsNum, Fault>
     }
 }
 
-/// An operation both of whose operands have to be numbers.
+/// An operation whose operands must both be numbers.
 fn on_numbers(op: AluOp, wide: bool, a: AbsVal, b: AbsVal) -> Result<AbsVal, Fault>
     ensures is { result ≡ numbers wide op a b }
 {
@@ -60,7 +60,7 @@ fn on_numbers(op: AluOp, wide: bool, a: AbsVal, b: AbsVal) -> Result<AbsVal, Fau
     }
 }
 
-/// A label at a distance, where that is within reach.
+/// A label at a distance, if that is at most 2400.
 fn reach(label: u16, distance: u64) -> Option<Label>
     ensures is { result ≡ within_reach label distance }
 {
@@ -71,7 +71,7 @@ fn reach(label: u16, distance: u64) -> Option<Label>
     None
 }
 
-/// What a pointer keeps of its label where a single number is added.
+/// What a pointer keeps of its label if a single number is added.
 fn label_ahead(label: Option<Label>, by: u64) -> Option<Label>
     ensures is { result ≡ label_moved word_add by label }
 {
@@ -81,7 +81,7 @@ fn label_ahead(label: Option<Label>, by: u64) -> Option<Label>
     }
 }
 
-/// What a pointer keeps of its label where a single number is subtracted.
+/// What a pointer keeps of its label if a single number is subtracted.
 fn label_back(label: Option<Label>, by: u64) -> Option<Label>
     ensures is { result ≡ label_moved word_sub by label }
 {
@@ -91,7 +91,7 @@ fn label_back(label: Option<Label>, by: u64) -> Option<Label>
     }
 }
 
-/// The label that the variable operation of this slot gives.
+/// The label that an addition or subtraction of a number that isn't single makes at this slot.
 fn own_label(pc: u16) -> Option<Label>
     requires { pc < 16384 }
     ensures is { result ≡ Some (record { label = pc + 1; distance = 0 }) }
@@ -158,7 +158,7 @@ fn add(pc: u16, a: AbsVal, b: AbsVal) -> Result<AbsVal, Fault>
     }
 }
 
-/// SUB in ALU64: of two numbers, or a number from a pointer.
+/// SUB in ALU64: a number from a number or from a pointer.
 fn subtract(pc: u16, a: AbsVal, b: AbsVal) -> Result<AbsVal, Fault>
     requires { pc < 16384 }
     ensures is { result ≡ difference pc a b }
@@ -180,7 +180,7 @@ fn subtract(pc: u16, a: AbsVal, b: AbsVal) -> Result<AbsVal, Fault>
     }
 }
 
-/// MOV: in ALU64 of any value that is set, in ALU of the low half of a number.
+/// MOV: in ALU64 any value that is set, in ALU the low half of a number.
 fn copy(wide: bool, value: AbsVal) -> Result<AbsVal, Fault>
     ensures is { result ≡ moved wide value }
 {
@@ -196,7 +196,7 @@ fn copy(wide: bool, value: AbsVal) -> Result<AbsVal, Fault>
     }
 }
 
-/// What an arithmetic operation at a slot gives.
+/// The result of an arithmetic operation at a slot.
 pub fn operate(pc: u16, op: AluOp, wide: bool, a: AbsVal, b: AbsVal) -> Result<AbsVal, Fault>
     requires { pc < 16384 }
     ensures is { result ≡ alu pc op wide a b }
@@ -219,7 +219,7 @@ pub fn operate(pc: u16, op: AluOp, wide: bool, a: AbsVal, b: AbsVal) -> Result<A
     }
 }
 
-/// Whether a frame pointer and a number that isn't one word meet.
+/// Whether one operand is a frame pointer and the other a number that isn't single.
 fn meets_variable(a: AbsVal, b: AbsVal) -> bool
     ensures is { result ≡ is_variable a b }
 {
@@ -236,7 +236,7 @@ fn meets_variable(a: AbsVal, b: AbsVal) -> bool
     }
 }
 
-/// Whether an operation gives a frame pointer a label of its own.
+/// Whether an operation gives a frame pointer a new label.
 pub fn gives_label(op: AluOp, a: AbsVal, b: AbsVal) -> bool
     ensures is { result ≡ makes_label op a b }
 {
@@ -247,7 +247,7 @@ pub fn gives_label(op: AluOp, a: AbsVal, b: AbsVal) -> bool
     }
 }
 
-/// What a wide load loads.
+/// The value that a wide load loads.
 pub fn wide_load(value: Wide) -> AbsVal
     ensures is { result ≡ wide_value value }
 {

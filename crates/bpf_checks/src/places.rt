@@ -1,4 +1,4 @@
-//! Where an access lies, and whether it stays there.
+//! Where an access lies, and whether it fits there.
 
 ghost use Rattle.std.specs.Prelude.{◌≡◌, ◌<◌, ◌+◌, ◌≤◌, nat_le, length, None, Some, IfSome, IfOk, IfErr};
 ghost use Rattle.bpf_regions.specs.Maps.{IsShape};
@@ -12,14 +12,14 @@ use bpf_regions::Shape;
 use bpf_rules::Fault;
 use bpf_words::word_of_int;
 
-/// The offset of an access: the pointer's and the instruction's.
+/// The offset of an access: the sum of the pointer's and the instruction's.
 pub fn offset_by(offset: AbsNum, by: i16) -> AbsNum
     ensures is { result ≡ offset_of offset by }
 {
     offset.alu(AluOp::Add, true, AbsNum::single(word_of_int(i32::from(by))))
 }
 
-/// Whether the offsets are multiples of `n`, a power of two, as far as their low bits tell.
+/// Whether the known low bits show that all offsets are multiples of `n`, a power of two.
 pub fn are_multiples_of(n: u64, at: AbsNum) -> bool
     requires some { 1 ≤ n }
     ensures is { result ≡ are_multiples n at }
@@ -28,7 +28,7 @@ pub fn are_multiples_of(n: u64, at: AbsNum) -> bool
     (bits.value() | bits.mask()) & (n - 1) == 0
 }
 
-/// Whether so many bytes fit below a limit.
+/// Whether `n` bytes at an offset fit below a limit.
 fn fits(at: u64, n: u64, limit: u64) -> bool
     requires few { n ≤ 8 }
     ensures is { result ≡ nat_le (at + n) limit }
@@ -60,7 +60,7 @@ pub fn fault_in_frame(
     Some(Fault::OutsideRegion)
 }
 
-/// Whether the bytes behind a labelled pointer lie in the room that is known of its label.
+/// Whether the `n` bytes are among those known to follow the pointer's label.
 fn lies_in_room(state: &AbsState, label: Option<Label>, by: i16, n: u64) -> bool
     requires few { n ≤ 8 }
     ensures is { result ≡ in_room state.now.rooms label by n }
@@ -105,7 +105,7 @@ pub fn fault_in_entry(shape: Option<Shape>, at: AbsNum, n: u64) -> Option<Fault>
     Some(Fault::OutsideRegion)
 }
 
-/// Where an access to the stack of call frame `k` lies: at one offset, in a frame that lives.
+/// The offset of an access to the stack of call frame `k`: a single one, in a live frame.
 pub fn place_in_stack(state: &AbsState, k: u8, at: AbsNum, n: u32) -> Result<usize, Fault>
     requires few { n ≤ 8 }
     ensures fine { IfOk result (λ place. stack_fault state.now k at n ≡ None) }
@@ -121,7 +121,7 @@ pub fn place_in_stack(state: &AbsState, k: u8, at: AbsNum, n: u32) -> Result<usi
     Ok(low as usize)
 }
 
-/// The same at a multiple of `n`, which is tested first.
+/// Like `place_in_stack`, at a multiple of `n`, which is checked first.
 pub fn aligned_in_stack(state: &AbsState, k: u8, at: AbsNum, n: u32) -> Result<usize, Fault>
     requires some { 1 ≤ n }
     requires few { n ≤ 8 }

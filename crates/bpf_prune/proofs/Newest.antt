@@ -1,4 +1,4 @@
--- The search from the newest entry back.
+-- The search from the newest entry backwards.
 use Rattle.std.proofs.Common.{◌≡◌, ℕ, zero, suc, ◌-◌, ◌<◌, ◌≤◌, List, [], ◌∷◌, ◌++◌, length, take, get_or, true, false, Option, Some, None, refl, ap, arith, sym, ◌∙◌, cond, take-suc}
 use Rattle.std.specs.Prelude.{if◌then◌else◌}
 use Rattle.bpf_absstate.specs.View.{View}
@@ -30,12 +30,12 @@ one_more es zero s d h within = absurd (omega (arith, h))
 one_more es (suc k) s d h within =
     rw (take-suc es k d (omega (arith, within))) (newest_last (take k es) (get_or es k d) s ∙ ap (λ n. or_else (alone (get_or es n d) s) (newest_covering (take n es) s)) (sym (before k)))
 
--- the entry before the place k includes s
+-- the entry before index k includes s
 pub found : (es : List Entry) (k : ℕ) (s : View) (d e : Entry) → 0 < k → k ≤ length es → e ≡ get_or es (k - 1) d → state_included s e.state ≡ true → newest_covering es s ≡ newest_covering (take k es) s → Some e.budget ≡ newest_covering es s
 found es k s d e h within is so so_far =
     sym (so_far ∙ one_more es k s d h within ∙ rw (← is) (ap (λ t. or_else (cond t (Some e.budget) None) (newest_covering (take (k - 1) es) s)) so))
 
--- it does not, and the search goes on below it
+-- it doesn't, and the search continues below it
 pub passed : (es : List Entry) (k : ℕ) (s : View) (d e : Entry) → 0 < k → k ≤ length es → e ≡ get_or es (k - 1) d → state_included s e.state ≡ false → newest_covering es s ≡ newest_covering (take k es) s → newest_covering es s ≡ newest_covering (take (k - 1) es) s
 passed es k s d e h within is differs so_far =
     so_far ∙ one_more es k s d h within ∙ rw (← is) (ap (λ t. or_else (cond t (Some e.budget) None) (newest_covering (take (k - 1) es) s)) differs)

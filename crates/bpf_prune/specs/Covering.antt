@@ -6,22 +6,22 @@ use Rattle.bpf_absstate.specs.Inclusion.{state_included}
 use Rattle.bpf_absstate.specs.WellFormed.{IsView}
 use Rattle.bpf_prune.specs.declared.kept.Entry.{Entry}
 
--- a new entry comes last; of 64 the first makes room for it
+-- a new entry comes last; the first of 64 is dropped for it
 unfoldable pub with_newest : List Entry → Entry → List Entry
 with_newest es e = (if length es == 64 then drop 1 es else es) ++ e ∷ []
 
--- the first, if it is there, and else the second
+-- the first, if it exists, otherwise the second
 abbrev pub or_else : Option ℕ → Option ℕ → Option ℕ
 or_else (Some budget) other = Some budget
 or_else None other = other
 
--- the budget of the newest entry in which a state lies
+-- the budget of the newest entry whose state includes this one
 unfoldable pub newest_covering : List Entry → View → Option ℕ
 newest_covering [] a = None
 newest_covering (e ∷ es) a =
     or_else (newest_covering es a) (if state_included a e.state then Some e.budget else None)
 
--- one of these entries has that budget, and the state lies in its state, which is well formed
+-- one of these entries has that budget, and its state, which is well formed, includes this one
 pub record Covers (es : List Entry) (a : View) (budget : ℕ) : Type 0 where
   pub entry : Entry
   pub kept : Has es entry

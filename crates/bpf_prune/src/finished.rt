@@ -9,11 +9,12 @@ use std::alloc::{AllocError, Global};
 use std::cell::Cell;
 use std::marker::Model;
 
-/// For each slot of a code its newest finished states.
+/// The newest finished states of each slot of a code.
 #[derive(Drop)]
 pub struct Finished {
     slots: Vec<Kept>,
-    /// Where the last look found its state not to lie in the kept ones, by their age. It only says where to look first.
+    /// Where the last search found its state not included in the kept ones, by their age. It only says where to compare
+    /// first.
     before: Vec<Cell<Difference>>,
 }
 
@@ -26,7 +27,7 @@ impl Model for Finished {
     ghost view = { λ a. a.slots.items };
 }
 
-/// Unknown places for the 64 newest states of a slot.
+/// Unknown positions for the 64 newest states of a slot.
 fn unknown(alloc: Global) -> Result<Vec<Cell<Difference>>, AllocError> {
     let mut places = Vec::with_capacity(alloc, 64)?;
     for _age in 0..64 {
@@ -36,7 +37,7 @@ fn unknown(alloc: Global) -> Result<Vec<Cell<Difference>>, AllocError> {
 }
 
 impl Finished {
-    /// Nothing is finished, in a code of so many slots.
+    /// A table without states, for a code of that many slots.
     pub fn new(alloc: Global, slots: usize) -> Result<Finished, AllocError>
         ensures is { IfOk result (λ finished. finished ≡ replicate slots []) }
     {
@@ -50,8 +51,8 @@ impl Finished {
         })
     }
 
-    /// Keeps a state at its slot; of 64 there the oldest is given up. Where memory is wanting nothing changes, nor
-    /// does anything for a slot outside the code.
+    /// Keeps a state at its slot, and drops the oldest of 64 there. A slot outside the code keeps nothing. If
+    /// allocation fails, nothing changes.
     pub fn keep(&mut self, entry: Entry) -> Result<(), AllocError>
         ensures ok { OnOk result (self.new ≡ with_entry self.old entry) }
         ensures err { OnErr result (self.new ≡ self.old) }
@@ -64,7 +65,7 @@ impl Finished {
         Ok(())
     }
 
-    /// The budget of the newest state kept at this one's slot in which it lies.
+    /// The budget of the newest state kept at this one's slot that includes it.
     pub fn covering(&self, state: &AbsState) -> Option<u32>
         ensures is { result ≡ newest_covering (kept_at self.now state.now.pc) state.now }
         ensures covers { IfSome result (Covers (kept_at self.now state.now.pc) state.now) }

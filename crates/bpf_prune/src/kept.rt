@@ -10,14 +10,14 @@ use std::cell::Cell;
 use std::collections::VecDeque;
 use std::marker::Model;
 
-/// A finished state, and within how many steps each run from its states ends.
+/// A finished state and its budget: how many steps a run from any member of it takes at most, as the caller promises.
 #[derive(Drop)]
 pub struct Entry {
     pub state: AbsState,
     pub budget: u32,
 }
 
-/// The four places at which states were last found not to lie in another one, the newest first.
+/// The four positions at which states were last found not included in another, the newest first.
 #[derive(Clone, Copy)]
 struct Places {
     first: Difference,
@@ -27,7 +27,7 @@ struct Places {
 }
 
 impl Places {
-    /// One place; the others cost nothing to look at.
+    /// One position; checking the other three costs nothing.
     fn new(place: Difference) -> Places {
         Places {
             first: place,
@@ -37,7 +37,7 @@ impl Places {
         }
     }
 
-    /// Those with a newer one, without the oldest.
+    /// These with a newer one, without the oldest.
     fn with(self, newest: Difference) -> Places {
         Places {
             first: newest,
@@ -47,7 +47,7 @@ impl Places {
         }
     }
 
-    /// One of the older places at which a state does not lie in another one, if there is one; then it is not included.
+    /// An older position at which a state isn't included in another one, if any; then the state isn't included.
     fn outside(self, state: &AbsState, other: &AbsState) -> Option<Difference>
         ensures outside { OnSome result (state_included state.now other.now ≡ false) }
     {
@@ -64,7 +64,7 @@ impl Places {
     }
 }
 
-/// An entry, and where states were last found not to lie in its own.
+/// An entry, and where states were last found not included in it.
 #[derive(Drop)]
 struct Marked {
     entry: Entry,
@@ -79,8 +79,8 @@ impl Model for Marked {
     ghost view = { λ a. a.entry };
 }
 
-/// Where else to look first: where this look last found its state not to lie in an entry's, and where the last look did so
-/// in the entry that was as old among those of its slot.
+/// Where else to compare first: where this search last found its state not included, and where the last search did so
+/// in the entry of the same age at its slot.
 #[derive(Clone, Copy)]
 struct Hints {
     recent: Difference,
@@ -88,7 +88,8 @@ struct Hints {
 }
 
 impl Marked {
-    /// A place to look at first at which a state does not lie in the entry's, if there is one; then it is not included.
+    /// One of the first positions to compare at which a state isn't included in the entry's, if any; then it isn't
+    /// included.
     fn outside_soon(&self, state: &AbsState, hints: Hints) -> Option<Difference>
         ensures outside { OnSome result (state_included state.now self.now.state ≡ false) }
     {
@@ -102,8 +103,8 @@ impl Marked {
         self.differed.get().outside(state, kept)
     }
 
-    /// Where a state does not lie in the entry's, if it does not. The places at which states differed before are compared
-    /// first, that at which the last one did before all.
+    /// Where a state isn't included in the entry's, if it isn't. Positions of earlier differences are compared first,
+    /// beginning with the latest.
     fn outside(&self, state: &AbsState, hints: Hints) -> Option<Difference>
         ensures none { IfNone result (state_included state.now self.now.state ≡ true) }
         ensures some { OnSome result (state_included state.now self.now.state ≡ false) }
@@ -126,7 +127,7 @@ impl Marked {
         }
     }
 
-    /// Whether a state lies in the entry's. Where it does not is noted.
+    /// Whether the entry's state includes this one. If not, the difference is noted.
     fn covers(&self, state: &AbsState, recent: &mut Difference, before: &Cell<Difference>) -> bool
         ensures is { result ≡ state_included state.now self.now.state }
     {
@@ -145,7 +146,7 @@ impl Marked {
     }
 }
 
-/// The place for the entry of an age, from 1 on; that which stands for unknown ones where there is none.
+/// The position for the entry of an age, from 1; `unknown` if there is none.
 fn place_of<'a>(
     before: &'a [Cell<Difference>],
     age: usize,
@@ -175,7 +176,7 @@ impl Model for Kept {
 }
 
 impl Kept {
-    /// None yet; this takes no memory.
+    /// No states; allocates nothing.
     pub fn none(alloc: Global) -> Kept
         ensures is { result ≡ [] }
     {
@@ -184,7 +185,7 @@ impl Kept {
         }
     }
 
-    /// Keeps a state; of 64 the oldest is given up. Where memory is wanting nothing changes.
+    /// Keeps a state, and drops the oldest of 64. If allocation fails, nothing changes.
     #[tactic(auto, unfolding(crate::specs::Covering::with_newest))]
     pub fn keep(&mut self, entry: Entry) -> Result<(), AllocError>
         ensures ok { OnOk result (self.new ≡ with_newest self.old entry) }
@@ -198,7 +199,7 @@ impl Kept {
         Ok(())
     }
 
-    /// Where a state was last found not to lie in the newest.
+    /// Where a state was last found not included in the newest.
     fn newest_difference(&self) -> Difference {
         match self.entries.back() {
             Some(newest) => newest.differed.get().first,
@@ -206,8 +207,8 @@ impl Kept {
         }
     }
 
-    /// The budget of the newest state in which this one lies. Where the last look found its state not to lie in one is looked
-    /// at first: a place for each entry by its age, the newest first.
+    /// The budget of the newest state that includes this one. `before` says for each entry, by age from the newest,
+    /// where to compare first: where the last search found its state not included.
     pub fn covering(&self, state: &AbsState, before: &[Cell<Difference>]) -> Option<u32>
         ensures is { result ≡ newest_covering self.now state.now }
         ensures covers { IfSome result (Covers self.now state.now) }

@@ -1,9 +1,9 @@
-//! The states that are finished, by the slot at which they stand, with their budgets.
+//! Keeps finished states with their budgets, the newest 64 of each slot.
 //!
-//! Main calls: `Finished::keep` and `Finished::covering`. It stands on `bpf_absstate`. At each slot
-//! the newest 64 are kept. `covering` answers the budget of the newest kept state in which the
-//! asked one lies; each is compared first where an earlier one differed. A refused growth changes
-//! nothing. That a kept budget is right is its caller's promise, not this crate's.
+//! Main calls: `Finished::keep` and `Finished::covering`. The crate depends on `bpf_absstate`.
+//! `covering` returns the budget of the newest kept state that includes a given one; each
+//! comparison starts where an earlier one found a difference. A refused allocation changes nothing.
+//! That a kept budget is right is the caller's promise, not this crate's.
 #![tactic(auto)]
 
 pub mod finished;

@@ -1,4 +1,4 @@
--- The states that are still to be explored.
+-- The pending successors.
 use Rattle.std.proofs.Common.{◌≡◌, ℕ, ◌+◌, ◌≤◌, List, [], ◌∷◌, ◌++◌, sym, ◌∙◌, ap, subst, arith, Some, None}
 use Rattle.bpf_insn.specs.declared.insn.Insn.{Insn}
 use Rattle.bpf_absstate.specs.View.{View}
@@ -23,7 +23,7 @@ unfolding AreClear
 AreClear-push c [] f l m h k = (m, 0, k, tt, omega arith)
 AreClear-push c (g ∷ fs) f l m h k = (h.0, h.1 + m, h.2, AreClear-push c fs f h.1 m h.3 k, omega (arith, h.4))
 
--- the frame on top, and the others
+-- the newest frame, and the others
 pub AreClear-pop : (c : Code) (fs : List Frame) (f : Frame) (n : ℕ) → AreClear c (fs ++ f ∷ []) n →
     (l m : ℕ) × AreClear c fs l × IsClearWay c f.pending m × (l + m ≤ n)
 unfolding AreClear
@@ -37,7 +37,7 @@ drops c items fs f n e h =
     let r = AreClear-pop c fs f n (subst (λ x. AreClear c x n) e h) in
     AreClear-le c fs r.0 n (omega (arith, r.4)) r.2
 
--- the pending way is taken up
+-- the pending successor is explored
 pub takes_up : (c : Code) (items fs : List Frame) (f g : Frame) (a : View) (n : ℕ) → items ≡ fs ++ f ∷ [] → f.pending ≡ Some a → g.pending ≡ None →
     AreClear c items n → (l m : ℕ) × IsClear c a l × AreClear c (fs ++ g ∷ []) m × (l + m ≤ n)
 takes_up c items fs f g a n e some none h =

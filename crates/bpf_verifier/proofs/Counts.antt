@@ -1,4 +1,4 @@
--- Budgets and frames are paid by visits.
+-- Visits bound budgets and frames.
 use Rattle.std.proofs.Common.{◌≡◌, ℕ, ◌+◌, ◌≤◌, List, [], ◌∷◌, ◌++◌, refl, ap, ◌∙◌, sym, subst, arith, Some, max, Option}
 use Rattle.bpf_absstate.specs.View.{View}
 use Rattle.std.specs.List.{All}
@@ -20,7 +20,7 @@ unfolding weight
 weight_more [] after = refl
 weight_more (g ∷ fs) after = let k = weight_more fs after in omega (arith, k)
 
--- the states after the newest frame lie on the path, too
+-- the states after the newest frame are on the path, too
 pub after_le : (fs : List Frame) (after : ℕ) → after ≤ weight fs after
 unfolding weight
 after_le [] after = omega arith
@@ -46,7 +46,7 @@ Counted-pop items fs f after table visits e h =
       subst (λ m. f.best + m ≤ visits) n k.1,
     )
 
--- a path of items that fits so many visits, with its last frame changed
+-- a path that the visits bound, with its last frame changed
 pub Counted-over : (items fs new : List Frame) (f g : Frame) (after : ℕ) (table : List (List Entry)) (visits : ℕ) → items ≡ fs ++ f ∷ [] → new ≡ fs ++ g ∷ [] → g.before ≡ f.before →
     IsCounted items after table visits → g.best + (weight fs f.before + 1) ≤ visits → IsCounted new 0 table visits
 Counted-over items fs new f g after table visits e e2 before h le =
@@ -77,7 +77,7 @@ Counted-push fs new f after table visits e before none h le =
       finished = weaker (λ x. x.budget + weight fs after ≤ visits) (λ x. x.budget + weight new 0 ≤ visits + 1) (λ x k. omega (arith, k, n)) table h.finished;
     }
 
--- one more state with one way, for one more visit
+-- one more state with one successor, for one more visit
 pub Counted-on : (fs : List Frame) (after : ℕ) (table : List (List Entry)) (visits : ℕ) → IsCounted fs after table visits → IsCounted fs (after + 1) table (visits + 1)
 Counted-on fs after table visits h =
     let n = weight_more fs after in
@@ -102,7 +102,7 @@ pub Counted-kept : (fs : List Frame) (after : ℕ) (old new : List (List Entry))
 Counted-kept fs after old new o budget visits k h le =
     record { frames = h.frames; finished = kept (λ x. x.budget + weight fs after ≤ visits) old new o budget k h.finished (of_any (budget + weight fs after ≤ visits) o le) }
 
--- the greater budget of the last frame is paid, too
+-- the greater budget of the last frame is bounded, too
 pub Counted-best : (items fs : List Frame) (f : Frame) (after : ℕ) (table : List (List Entry)) (visits done best : ℕ) → items ≡ fs ++ f ∷ [] → IsCounted items after table visits →
     done + weight items after ≤ visits → best ≡ max f.best (done + after) → best + (weight fs f.before + 1) ≤ visits
 Counted-best items fs f after table visits done best e h paid greater =

@@ -1,4 +1,4 @@
--- A state that lies in a finished one has its budget.
+-- A state that is included in a finished one has its budget.
 use Rattle.std.proofs.Common.{◌≡◌, ℕ, ◌+◌, ◌≤◌, List, Option, true, sym, subst}
 use Rattle.std.specs.Prelude.{◌&&◌, ◌==◌, nat_le}
 use Rattle.bpf_absstate.specs.Inclusion.{state_included, values_included, frames_included}

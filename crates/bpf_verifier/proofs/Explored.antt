@@ -1,4 +1,4 @@
--- The safety of runs, as a path is explored.
+-- The safety of runs while a path is explored.
 use Rattle.std.proofs.Common.{◌≡◌, ℕ, ◌+◌, ◌≤◌, ◌⊎◌, List, [], ◌∷◌, ◌++◌, inl, inr, sym, subst, arith, Some, None, IfSome}
 use Rattle.bpf_model.specs.State.{Setting, State}
 use Rattle.bpf_model.specs.Step.{next}
@@ -21,12 +21,12 @@ module _ (p : Setting) where
   one_done a b n covers safe s w =
       SafeWithin-step p n s (IsFine-weaken p.shapes (next p s) (InWays p (One b)) (SafeWithin p n) (λ t y. safe t y) (covers s w))
 
-  -- one more state with one way
+  -- one more state with one successor
   pub leads_on : (a b x : View) (k : ℕ) → Covers p a (One b) → LeadsSafely p k x a → LeadsSafely p (k + 1) x b
   leads_on a b x k covers leads n safe s w =
       SafeWithin-le p (n + 1 + k) (n + (k + 1)) s (omega arith) (leads (n + 1) (one_done a b n covers safe) s w)
 
-  -- the child is done: its budget counts
+  -- the child is finished: its budget counts
   child_done : (f : Frame) (own a : View) (done best : ℕ) → done ≤ best → f.best ≤ best → IsExplored p f own a → AllSafe p done a →
       (s : State) → Contains p own s → IsFine p.shapes (next p s) (λ t. InWay p f.pending t ⊎ SafeWithin p best t)
   child_done f own a done best le le2 h safe s w =
@@ -37,7 +37,7 @@ module _ (p : Setting) where
       ])
       (h s w)
 
-  -- the pending way is explored
+  -- the pending successor is explored
   goes_to_pending : (f g : Frame) (own a b : View) (done : ℕ) → f.pending ≡ Some b → g.pending ≡ None → done ≤ g.best → f.best ≤ g.best →
       IsExplored p f own a → AllSafe p done a → IsExplored p g own b
   goes_to_pending f g own a b done e none le le2 h safe s w =
@@ -45,7 +45,7 @@ module _ (p : Setting) where
       (λ t. elim [ inl x ↦ inl (subst (λ o. InWay p o t) e x) | inr z ↦ inr (inr z) ])
       (child_done f own a done g.best le le2 h safe s w)
 
-  -- all ways are done
+  -- all successors are finished
   frame_done : (f : Frame) (own a : View) (done best : ℕ) → f.pending ≡ None → done ≤ best → f.best ≤ best → IsExplored p f own a → AllSafe p done a →
       AllSafe p (best + 1) own
   frame_done f own a done best none le le2 h safe s w =
@@ -54,7 +54,7 @@ module _ (p : Setting) where
       (λ t. elim [ inl x ↦ absurd (subst (λ o. InWay p o t) none x) | inr z ↦ z ])
       (child_done f own a done best le le2 h safe s w))
 
-  -- a state with no way on
+  -- a state without successors
   pub leaf_done : (a : View) → Covers p a Nowhere → AllSafe p 1 a
   leaf_done a h s x = SafeWithin-step p 0 s (IsFine-weaken p.shapes (next p s) (InWays p Nowhere) (SafeWithin p 0) (λ t y. absurd y) (h s x))
 
@@ -68,7 +68,7 @@ module _ (p : Setting) where
       (λ t. elim [ inl y ↦ inl y | inr y ↦ inr (inl (subst (λ o. InWay p o t) (sym some) y)) ])
       (h s x)
 
-  -- the frame on top is done
+  -- the newest frame is finished
   pub goes_back : (items fs : List Frame) (f : Frame) (after : ℕ) (start a : View) (done best : ℕ) → items ≡ fs ++ f ∷ [] → f.pending ≡ None → done + after ≤ best → f.best ≤ best →
       Linked (LeadsSafely p) (IsExplored p) items after start a → AllSafe p done a →
       (own : View) × IfSome f.state (λ x. x ≡ own) × Linked (LeadsSafely p) (IsExplored p) fs f.before start own × AllSafe p (best + 1) own
@@ -76,7 +76,7 @@ module _ (p : Setting) where
       let k = Linked-pop (LeadsSafely p) (IsExplored p) fs f after start a (subst (λ x. Linked (LeadsSafely p) (IsExplored p) x after start a) e chain) in
       (k.own, k.kept, k.below, frame_done f k.own k.child (done + after) best none le le2 k.opens (k.leads done safe))
 
-  -- the pending way of the frame on top is next
+  -- the pending successor of the newest frame is next
   pub goes_over : (items fs : List Frame) (f g : Frame) (after : ℕ) (start a b : View) (done : ℕ) → items ≡ fs ++ f ∷ [] → g.before ≡ f.before → g.state ≡ f.state → f.pending ≡ Some b →
       g.pending ≡ None → done + after ≤ g.best → f.best ≤ g.best → Linked (LeadsSafely p) (IsExplored p) items after start a → AllSafe p done a →
       Linked (LeadsSafely p) (IsExplored p) (fs ++ g ∷ []) 0 start b

@@ -1,4 +1,4 @@
--- Frames that are folded.
+-- Folded frames.
 use Rattle.std.proofs.Common.{◌≡◌, ℕ, zero, suc, ◌+◌, List, [], ◌∷◌, ◌++◌, take, drop, refl, sym, ap, ◌∙◌, Some, arith, append_assoc}
 use Rattle.std.specs.Prelude.{map, slice_get}
 use Rattle.std.proofs.lemmas.List.{append-nil}
@@ -26,7 +26,7 @@ peeled (f ∷ fs) (suc k) o at =
       ap (λ n. take n (f ∷ fs)) more ∙ ap (λ x. f ∷ x) r.3,
     )
 
--- one more list behind four, or behind three of which the last is none
+-- one more list after four, or after fewer and empty ones
 four : (a b c d e : List Frame) → a ++ (b ++ (c ++ (d ++ e))) ≡ (a ++ (b ++ (c ++ d))) ++ e
 four a b c d e = simp append_assoc
 
@@ -46,7 +46,7 @@ nothing root older newer folds a b c d =
     ap (λ x. x ++ (unfolded folds ++ (older ++ newer))) a ∙ ap (λ x. unfolded x ++ (older ++ newer)) b ∙ ap (λ x. x ++ newer) c ∙ d
 
 module _ (root rest older newer : List Frame) (f : Frame) where
-  -- a frame more
+  -- one frame more
   pub pushed : (new : List Frame) → new ≡ newer ++ f ∷ [] → root ++ (rest ++ (older ++ new)) ≡ (root ++ (rest ++ (older ++ newer))) ++ f ∷ []
   pushed new e = ap (λ x. root ++ (rest ++ (older ++ x))) e ∙ four root rest older newer (f ∷ [])
 
@@ -55,7 +55,7 @@ module _ (root rest older newer : List Frame) (f : Frame) where
       ap (λ x. root ++ (rest ++ (new ++ x))) none ∙ ap (λ x. root ++ (rest ++ (x ++ []))) e ∙ three root rest older (f ∷ [])
       ∙ ap (λ x. (root ++ (rest ++ (older ++ x))) ++ f ∷ []) (sym none)
 
-  -- a frame fewer
+  -- one frame fewer
   pub popped : (new : List Frame) → newer ≡ new ++ f ∷ [] → root ++ (rest ++ (older ++ newer)) ≡ (root ++ (rest ++ (older ++ new))) ++ f ∷ []
   popped new e = ap (λ x. root ++ (rest ++ (older ++ x))) e ∙ four root rest older new (f ∷ [])
 
@@ -64,7 +64,7 @@ module _ (root rest older newer : List Frame) (f : Frame) where
       ap (λ x. root ++ (rest ++ (older ++ x))) e ∙ ap (λ x. root ++ (rest ++ (x ++ []))) is ∙ three root rest new (f ∷ [])
       ∙ ap (λ x. (root ++ (rest ++ (new ++ x))) ++ f ∷ []) (sym nothing)
 
--- folds behind the root, and nothing above them
+-- folds after the root, and nothing after them
 pub all_folded : (root : List Frame) (folds rest : List (List Frame)) (fold older newer : List Frame) → folds ≡ rest ++ fold ∷ [] → older ≡ [] → newer ≡ [] →
     root ++ (unfolded folds ++ (older ++ newer)) ≡ (root ++ unfolded rest) ++ fold
 all_folded root folds rest fold older newer e none nothing =

@@ -6,14 +6,14 @@ use Rattle.bpf_absstate.specs.View.{View}
 use Rattle.bpf_verifier.specs.declared.frame.Frame.{Frame}
 use Rattle.bpf_verifier.specs.Path.{Leads, Opens, Linked, AreBegun, StandsIn}
 
--- a frame that is put on top
+-- a frame is pushed
 pub Linked-push : (L : Leads) (R : Opens) (fs : List Frame) (f : Frame) (start own a : View) → Linked L R fs f.before start own → IfSome f.state (λ x. x ≡ own) → R f own a → L 0 a a →
     Linked L R (fs ++ f ∷ []) 0 start a
 unfolding Linked
 Linked-push L R [] f start own a w kept h stays = (own, w, kept, a, h, stays)
 Linked-push L R (g ∷ fs) f start own a w kept h stays = (w.0, w.1, w.2, w.3, w.4, Linked-push L R fs f w.3 own a w.5 kept h stays)
 
--- the frame on top: its state, and how that leads to the state that is examined next
+-- the newest frame: its state, and how that leads to the state to examine next
 pub record Popped (L : Leads) (R : Opens) (fs : List Frame) (f : Frame) (after : ℕ) (start a : View) : Type 0 where
   pub own : View
   pub below : Linked L R fs f.before start own
@@ -29,7 +29,7 @@ Linked-pop L R (g ∷ fs) f after start a w =
     let r = Linked-pop L R fs f after w.3 a w.5 in
     record { own = r.own; below = (w.0, w.1, w.2, w.3, w.4, r.below); kept = r.kept; child = r.child; opens = r.opens; leads = r.leads }
 
--- one more state with one way
+-- one more state with one successor
 pub Linked-on : (L : Leads) (R : Opens) (fs : List Frame) (after : ℕ) (start a b : View) → ((x : View) (k : ℕ) → L k x a → L (k + 1) x b) → Linked L R fs after start a → Linked L R fs (after + 1) start b
 unfolding Linked
 Linked-on L R [] after start a b step w = step start after w
@@ -39,12 +39,12 @@ pub Linked-empty : (L : Leads) (R : Opens) (fs : List Frame) (after : ℕ) (a : 
 unfolding Linked
 Linked-empty L R fs after a e none h = subst (λ x. Linked L R x after a a) (sym e) (subst (λ k. L k a a) (sym none) h)
 
--- of an empty path, states with one way lead from the start
+-- on an empty path, states with one successor lead from the start
 pub Linked-start : (L : Leads) (R : Opens) (fs : List Frame) (after : ℕ) (start a : View) → fs ≡ [] → Linked L R fs after start a → L after start a
 unfolding Linked
 Linked-start L R fs after start a e w = subst (λ x. Linked L R x after start a) e w
 
--- what holds of the frame's state holds of the one that is kept
+-- what holds of the frame's own state holds of the kept one
 pub of_own : (P : View → Type 0) (o : Option View) (own : View) → IfSome o (λ x. x ≡ own) → P own → IfSome o P
 of_own P None own h k = tt
 of_own P (Some a) own h k = subst P (sym h) k

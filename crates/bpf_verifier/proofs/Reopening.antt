@@ -1,4 +1,4 @@
--- Frames that are made again.
+-- Frames that are rebuilt.
 use Rattle.std.proofs.Common.{◌≡◌, ◌<◌, ℕ, ◌+◌, length, arith, List, [], ◌∷◌, ◌++◌, take, drop, refl, sym, subst, Some, IfSome}
 use Rattle.std.specs.Prelude.{map, slice_get}
 use Rattle.bpf_decode.specs.Program.{Code}
@@ -10,7 +10,7 @@ use Rattle.bpf_verifier.specs.Path.{Linked}
 use Rattle.bpf_verifier.specs.Traced.{LeadsExactly, IsOpened, IsTraced}
 use Rattle.bpf_verifier.proofs.Folding.{peeled}
 
--- the frame whose state is known, and the path above it
+-- the frame whose state is known, and the path after it
 pub record First (c : Code) (all : List Frame) (first : View) (o : Outline) (after : ℕ) (a : View) : Type 0 where
   pub frame : Frame
   pub taken : take 1 all ≡ frame ∷ []
@@ -36,7 +36,7 @@ first_of c (f ∷ fs) first os o after a folded at t =
       above = w.5;
     }
 
--- the next frame, how the child of the last leads to its state, and the path above it
+-- the next frame, how the child of the last leads to its state, and the path after it
 pub record Next (c : Code) (all : List Frame) (k : ℕ) (current : View) (o : Outline) (after : ℕ) (a : View) : Type 0 where
   pub frame : Frame
   pub taken : take (k + 1) all ≡ take k all ++ frame ∷ []

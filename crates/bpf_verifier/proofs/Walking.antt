@@ -1,4 +1,4 @@
--- Budgets are lengths of paths.
+-- Budgets are lengths of paths of slots.
 use Rattle.std.proofs.Common.{◌≡◌, ℕ, ◌+◌, ◌≤◌, List, [], ◌∷◌, ◌++◌, length, sym, subst, arith, Option, Some, None, IfSome, max, inl, inr}
 use Rattle.std.proofs.lemmas.Bool.{cases_lt}
 use Rattle.bpf_insn.specs.declared.insn.Insn.{Insn}
@@ -27,16 +27,16 @@ module _ (slots : List (Option Insn)) where
   pub stays : (a : View) → LeadsBySlots slots 0 a a
   stays a n r = subst (Reaches slots a.pc) (let e : n ≡ n + 0 = omega arith in e) r
 
-  -- one more state with one way
+  -- one more state with one successor
   pub leads_on : (a b x : View) (k : ℕ) → Follows slots a.pc b.pc → LeadsBySlots slots k x a → LeadsBySlots slots (k + 1) x b
   leads_on a b x k follows leads n r =
       subst (Reaches slots x.pc) (let e : n + 1 + k ≡ n + (k + 1) = omega arith in e) (leads (n + 1) (Reaches-more slots a.pc b.pc n follows r))
 
-  -- the child is done: its budget counts
+  -- the child is finished: its budget counts
   child_done : (f : Frame) (own a : View) (done : ℕ) → IsWalked slots f own a → Reaches slots a.pc done → Reaches slots own.pc (max f.best done + 1)
   child_done f own a done w r = Reaches-max slots own.pc f.best done w.best (Reaches-more slots own.pc a.pc done w.follows r)
 
-  -- the frame on top is done
+  -- the newest frame is finished
   pub goes_back : (items fs : List Frame) (f : Frame) (after : ℕ) (start a : View) (done : ℕ) → items ≡ fs ++ f ∷ [] →
       Linked (LeadsBySlots slots) (IsWalked slots) items after start a → Reaches slots a.pc done →
       (own : View) × IfSome f.state (λ x. x ≡ own) × Linked (LeadsBySlots slots) (IsWalked slots) fs f.before start own × Reaches slots own.pc (max f.best (done + after) + 1)
@@ -44,7 +44,7 @@ module _ (slots : List (Option Insn)) where
       let k = Linked-pop (LeadsBySlots slots) (IsWalked slots) fs f after start a (subst (λ x. Linked (LeadsBySlots slots) (IsWalked slots) x after start a) e path) in
       (k.own, k.kept, k.below, child_done f k.own k.child (done + after) k.opens (k.leads done r))
 
-  -- the pending way of the frame on top is next
+  -- the pending successor of the newest frame is next
   pub goes_over : (items fs : List Frame) (f g : Frame) (after : ℕ) (start a b : View) (done : ℕ) → items ≡ fs ++ f ∷ [] → g.before ≡ f.before → g.state ≡ f.state → f.pending ≡ Some b →
       g.pending ≡ None → g.best ≡ max f.best (done + after) → Linked (LeadsBySlots slots) (IsWalked slots) items after start a → Reaches slots a.pc done →
       Linked (LeadsBySlots slots) (IsWalked slots) (fs ++ g ∷ []) 0 start b

@@ -1,10 +1,10 @@
--- Frames of the path that are folded.
+-- Folded frames of the path.
 use Rattle.std.specs.Prelude.{◌≡◌, List, [], ◌∷◌, ◌++◌, map, Some, is_some}
 use Rattle.bpf_absstate.specs.View.{View}
 use Rattle.bpf_verifier.specs.declared.frame.Frame.{Frame}
 use Rattle.bpf_verifier.specs.declared.fold.Outline.{Outline}
 
--- what is kept of a frame
+-- the outline of a frame
 abbrev pub outline_of : Frame → Outline
 outline_of f = record { before = f.before; best = f.best; forks = is_some f.pending }
 
@@ -13,7 +13,7 @@ abbrev pub BeginsWith : View → List Frame → Type 0
 BeginsWith a [] = ⊥
 BeginsWith a (f ∷ fs) = f.state ≡ Some a
 
--- what is kept of frames: the state of the first, and all outlines
+-- what a fold keeps of frames: the state of the first, and all outlines
 pub record IsFolded (first : View) (outlines : List Outline) (frames : List Frame) : Type 0 where
   pub begins : BeginsWith first frames
   pub same : outlines ≡ map outline_of frames

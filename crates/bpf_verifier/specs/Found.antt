@@ -14,54 +14,55 @@ use Rattle.bpf_verifier.specs.Traced.{IsTraced}
 use Rattle.bpf_verifier.specs.declared.exploration.Unwound.TheVariants.{Onward, Over}
 use Rattle.bpf_verifier.specs.Walked.{LeadsBySlots, IsWalked, AreWalked, IsWalkedOn}
 
--- nothing is explored yet
+-- the exploration hasn't started
 pub record IsFresh (c : Code) (e : Exploration) : Type 0 where
   pub path : e.path ≡ []
   pub after : e.after ≡ 0
   pub finished : e.finished ≡ replicate (length c.slots) []
   pub visits : e.visits ≡ 0
 
--- its budgets are counted by its visits, and a budget that was found now is, too
+-- the visits bound its budgets
 abbrev pub IsCountedSoFar : Exploration → Type 0
 IsCountedSoFar e = IsCounted e.path e.after e.finished e.visits
 
--- what was explored so far is paid for by the visits that were counted
+-- so they do after the last step, also the budget it may have found
 abbrev pub IsPaidSoFar : Exploration → Unwound → Type 0
 IsPaidSoFar e u = IsPaid e.path e.after e.visits u
 
--- what is still to be explored begins at instructions
+-- the pending successors are at instructions
 abbrev pub IsBegunSoFar : List (Option Insn) → Exploration → Type 0
 IsBegunSoFar slots e = AreBegun slots e.path
 
--- while a is explored, an examination of each state leads along the path to it
+-- while a is explored, examining each state leads along the path to a
 abbrev pub IsTracedSoFar : Code → View → Exploration → Type 0
 IsTracedSoFar c a e = IsTraced c e.path e.after a
 
--- so it is with what is explored next
+-- so it is with the state explored next
 abbrev pub IsTracedAfter : Code → Exploration → Unwound → Type 0
 IsTracedAfter c e (Onward a) = IsTracedSoFar c a e
 IsTracedAfter c e (Over b) = Unit {0}
 
--- while a is explored the path from the start and the finished states say what is safe
+-- while a is explored, the path from the start and the finished states are safe so far
 abbrev pub IsSafeSoFar : Setting → View → View → Exploration → Type 0
 IsSafeSoFar p start a e = Linked (LeadsSafely p) (IsExplored p) e.path e.after start a × AreSafe p e.finished
 
--- what is left to explore from here on is ongoing, and finished states are safe
+-- the exploration from here on is ongoing or over, and finished states are safe
 abbrev pub IsSafeAfter : Setting → View → Exploration → Unwound → Type 0
 IsSafeAfter p start e u = IsOngoing p e.path e.after start u × AreSafe p e.finished
 
--- while a is explored the path from the start and the finished states have paths as long as their budgets
+-- while a is explored, the path from the start and the finished states have paths of slots as long as their budgets
 abbrev pub IsWalkedSoFar : List (Option Insn) → View → View → Exploration → Type 0
 IsWalkedSoFar slots start a e = Linked (LeadsBySlots slots) (IsWalked slots) e.path e.after start a × AreWalked slots e.finished
 
--- what is left to explore is walked on from here, and finished states were walked
+-- the exploration from here on is ongoing or over with the length of a path of slots, and finished states have such
+-- paths
 abbrev pub IsWalkedAfter : List (Option Insn) → View → Exploration → Unwound → Type 0
 IsWalkedAfter slots start e u = IsWalkedOn slots e.path e.after start u × AreWalked slots e.finished
 
--- what is still to be explored leads to at most n states
+-- the pending successors lead to at most n states
 abbrev pub IsClearSoFar : Code → ℕ → Exploration → Type 0
 IsClearSoFar c n e = AreClear c e.path n
 
--- what is left to explore is clear within so many states
+-- they and the state explored next lead to at most n states
 abbrev pub IsClearAfter : Code → ℕ → Exploration → Unwound → Type 0
 IsClearAfter c n e u = IsClearOn c e.path n u

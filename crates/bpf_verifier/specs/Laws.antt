@@ -1,7 +1,7 @@
--- What the examination of an instruction is good for.
+-- What follows from examining an instruction.
 use Rattle.bpf_insn.specs.declared.insn.Insn.{Insn}
 use Rattle.bpf_rules.specs.Covers.{InsnCovers}
 
--- whatever comes next after a state lies in one of the ways
+-- whatever state comes next is contained in one of the successors
 abbrev pub ExaminedCovers : Type 0
 ExaminedCovers = (i : Insn) → InsnCovers i

@@ -1,4 +1,4 @@
--- The path that is being explored, from the start to the state that is examined next.
+-- The path being explored, from the start to the state to examine next.
 use Rattle.std.specs.Prelude.{◌≡◌, ℕ, List, [], ◌∷◌, Option, Some, None, IfSome}
 use Rattle.std.specs.List.{All}
 use Rattle.bpf_insn.specs.declared.insn.Insn.{Insn}
@@ -11,35 +11,35 @@ use Rattle.bpf_verifier.specs.declared.frame.Frame.{Frame}
 use Rattle.bpf_verifier.specs.declared.exploration.Unwound.{Unwound}
 use Rattle.bpf_verifier.specs.declared.exploration.Unwound.TheVariants.{Onward, Over}
 
--- how a number of states with one way lead from one state to another
+-- how a number of states with one successor lead from one state to another
 abbrev pub Leads : Type 1
 Leads = ℕ → View → View → Type 0
 
--- how a frame stands to its own state and to the one that its way leads to
+-- how a frame relates to its own state and to the successor being explored
 abbrev pub Opens : Type 1
 Opens = Frame → View → View → Type 0
 
--- from the start the path leads to the state that is examined next: to each frame by states with one way, from it by the
--- way that is being explored, and from the newest frame by `after` states with one way
+-- the path leads from the start to the state to examine next: to each frame by states with one successor, from it by
+-- the successor being explored, and from the newest frame by `after` states with one successor
 unfoldable pub Linked : Leads → Opens → List Frame → ℕ → View → View → Type 0
 Linked L R [] after start current = L after start current
 Linked L R (f ∷ fs) after start current =
     (own : View) × L f.before start own × IfSome f.state (λ a. a ≡ own) × (child : View) × R f own child × Linked L R fs after child current
 
--- the state stands at an instruction, in a plain program in the main function
+-- the state is at an instruction, in a plain program in the main function
 abbrev pub StandsIn : List (Option Insn) → View → Type 0
 StandsIn slots a = Stands slots a × (IsPlain slots → IsMain a)
 
--- the ways that are still to be explored stand at instructions
+-- the pending successors are at instructions
 abbrev pub AreBegun : List (Option Insn) → List Frame → Type 0
 AreBegun slots fs = All (λ f. IfSome f.pending (StandsIn slots)) fs
 
--- so does what is explored next
+-- so is the state explored next
 abbrev pub IsBegun : List (Option Insn) → Unwound → Type 0
 IsBegun slots (Onward a) = StandsIn slots a
 IsBegun slots (Over b) = Unit {0}
 
--- a state that is done is kept with its budget
+-- a finished state, if there is one, is kept with its budget
 abbrev pub IsKept : List (List Entry) → List (List Entry) → Option View → ℕ → Type 0
 IsKept old new None budget = new ≡ old
 IsKept old new (Some a) budget = new ≡ with_entry old (record { state = a; budget = budget })

@@ -1,4 +1,4 @@
--- What an exploration has found of the safety of runs.
+-- What an exploration has found about the safety of runs.
 use Rattle.std.specs.Prelude.{ℕ, ◌+◌, ◌⊎◌, List, Option, Some, None}
 use Rattle.std.specs.List.{All}
 use Rattle.bpf_model.specs.State.{Setting, State}
@@ -12,7 +12,7 @@ use Rattle.bpf_verifier.specs.declared.exploration.Unwound.{Unwound}
 use Rattle.bpf_verifier.specs.declared.exploration.Unwound.TheVariants.{Onward, Over}
 use Rattle.bpf_verifier.specs.Path.{Leads, Opens, Linked}
 
--- a state that a way's abstract state contains
+-- a state that a pending successor contains
 abbrev pub InWay : Setting → Option View → State → Type 0
 InWay p None s = ⊥
 InWay p (Some a) s = Contains p a s
@@ -21,11 +21,12 @@ InWay p (Some a) s = Contains p a s
 abbrev pub AllSafe : Setting → ℕ → View → Type 0
 AllSafe p b a = (s : State) → Contains p a s → SafeWithin p b s
 
--- so many states with one way lead from a to b: if b is safe, so is a within as many steps more
+-- k states with one successor lead from a to b: if b is safe within n steps, a is safe within n + k
 abbrev pub LeadsSafely : Setting → Leads
 LeadsSafely p k a b = (n : ℕ) → AllSafe p n b → AllSafe p (n + k) a
 
--- whatever comes next after a state of the frame's is in the child, in what is still to be explored, or safe within the best budget so far
+-- each next state of a state in the frame is in the child, in the pending successor, or safe within the best budget so
+-- far
 abbrev pub IsExplored : Setting → Opens
 IsExplored p f own child =
     (s : State) → Contains p own s → IsFine p.shapes (next p s) (λ t. Contains p child t ⊎ (InWay p f.pending t ⊎ SafeWithin p f.best t))
@@ -34,7 +35,7 @@ IsExplored p f own child =
 abbrev pub AreSafe : Setting → List (List Entry) → Type 0
 AreSafe p table = All (All (λ e. AllSafe p e.budget e.state)) table
 
--- the exploration goes on at a state, or is over with a budget for the start
+-- the exploration continues at a state, or is over with a budget for the start
 abbrev pub IsOngoing : Setting → List Frame → ℕ → View → Unwound → Type 0
 IsOngoing p fs after start (Onward a) = Linked (LeadsSafely p) (IsExplored p) fs after start a
 IsOngoing p fs after start (Over b) = AllSafe p b start

@@ -1,4 +1,4 @@
-//! Programs that are admitted.
+//! Admits programs.
 
 ghost use Rattle.std.specs.Prelude.{◌≡◌, ◌≤◌, ◌^◌, IfOk, IfErr};
 ghost use Rattle.bpf_decode.specs.Program.{Begins};
@@ -17,12 +17,12 @@ use bpf_plain::laws::plain_law;
 use bpf_regions::Hook;
 use std::alloc::Global;
 
-/// Admits a program for a hook, or says why not and where. What it admits is safe within its budget, which is at most
-/// 2^22.
+/// Admits a program for a hook, or says why not and where. An admitted program is safe within its budget, which is at
+/// most 2^22.
 ///
-/// A plain program is refused for nothing but memory, and its budget is at most the length of its longest walk. Nor is
-/// a program refused for anything else whose states, each counted once for every way to it, are at most 2^22 and meet
-/// no fault.
+/// A plain program is refused only for lack of memory, and its budget is at most the length of one of its walks. A
+/// program whose states, each counted once for every path to it, are at most 2^22 and meet no fault is also refused
+/// only for lack of memory.
 pub fn verify(alloc: Global, program: Program, hook: Hook) -> Result<Accepted, Refusal>
     ensures code { IfOk result (λ accepted. accepted.code ≡ program) }
     ensures hook { IfOk result (λ accepted. accepted.hook ≡ hook) }
@@ -38,11 +38,11 @@ pub fn verify(alloc: Global, program: Program, hook: Hook) -> Result<Accepted, R
     verify_within(alloc, program, hook, StateLimit::MOST)
 }
 
-/// The same, where at most so many states are examined: a program that has more of them is refused with 36. What it
-/// admits is safe within its budget, which is no more than the limit.
+/// Like `verify`, but examines at most `limit` states: a program that needs more is refused with 36. An admitted
+/// program is safe within its budget, which is at most the limit.
 ///
-/// A program is refused for nothing but memory whose states, each counted once for every way to it, are no more than
-/// the limit and meet no fault; nor is a plain one, where the limit is the greatest.
+/// A program whose states, each counted once for every path to it, are at most the limit and meet no fault is refused
+/// only for lack of memory; so is a plain one, if the limit is the greatest.
 pub fn verify_within(
     alloc: Global,
     program: Program,

@@ -30,30 +30,30 @@ use bpf_prune::{Entry, Finished};
 use bpf_rules::{Fault, Ways};
 use std::alloc::{AllocError, Global};
 
-/// Where the exploration stands after a state was done.
+/// What comes after a state is finished.
 #[derive(Drop)]
 enum Unwound {
-    /// This state is next.
+    /// The state to examine next.
     Onward(AbsState),
-    /// All is done, the start within this budget.
+    /// The exploration is over; this is the start's budget.
     Over(u32),
 }
 
-/// An exploration under way.
+/// An exploration in progress.
 #[derive(Drop)]
 pub(crate) struct Exploration {
-    /// The path to the state that is examined next.
+    /// The path to the state to examine next.
     path: Path,
-    /// How many states with one way come after the newest frame.
+    /// How many states with one successor follow the newest frame.
     after: u32,
     finished: Finished,
-    /// How many states were examined.
+    /// How many states were visited.
     visits: u32,
     observer: Observer,
 }
 
 impl Exploration {
-    /// Nothing is explored yet.
+    /// An exploration that hasn't started.
     pub(crate) fn new(
         alloc: Global,
         program: &Program,
@@ -71,12 +71,12 @@ impl Exploration {
         })
     }
 
-    /// Who listened to it.
+    /// The observer of this exploration.
     pub(crate) fn into_observer(self) -> Observer {
         self.observer
     }
 
-    /// Puts a state on the path. One of its ways is explored next, and then `pending`.
+    /// Puts a state on the path. One of its successors is explored next, and `pending` after it.
     fn push(
         &mut self,
         before: u32,
@@ -101,7 +101,7 @@ impl Exploration {
         Ok(())
     }
 
-    /// Keeps a state that is done.
+    /// Keeps a finished state.
     fn finish(&mut self, state: Option<AbsState>, budget: u32) -> Result<(), AllocError>
         ensures finished { OnOk result (IsKept self.old.finished self.new.finished state budget) }
         ensures path { self.new.path ≡ self.old.path }
@@ -115,7 +115,7 @@ impl Exploration {
         Ok(())
     }
 
-    /// The state under exploration is done within a budget: goes back to the newest way that is still to be explored.
+    /// The state under exploration is finished with a budget: goes back to the newest pending successor.
     fn unwind(&mut self, program: &Program, done: u32) -> Result<Unwound, AllocError>
         requires traced { (a : View) × IsTracedSoFar program.now a self.old }
         requires counted { IsCountedSoFar self.old }
@@ -161,8 +161,8 @@ impl Exploration {
         Ok(Unwound::Over(done + self.after))
     }
 
-    /// Examines a state, unless a finished one covers it. Its first way is explored next; where there is none it is
-    /// done.
+    /// Examines a state, unless a finished one includes it. Its first successor is explored next; without any it is
+    /// finished.
     fn visit(&mut self, alloc: Global, program: &Program, state: AbsState) -> Result<Unwound, Fault>
         requires room { self.old.visits < 2 ^ 22 }
         requires traced { IsTracedSoFar program.now state self.old }
@@ -225,8 +225,8 @@ impl Exploration {
     }
 }
 
-/// Explores each path of a program, of so many states at most, and answers a budget within which it is safe. The
-/// exploration tells its observer.
+/// Explores each path of a program, within a limit of states, and returns a budget within which it is safe. The
+/// observer is told of each step.
 pub(crate) fn observed_budget(
     alloc: Global,
     program: &Program,
@@ -264,7 +264,7 @@ pub(crate) fn observed_budget(
     })
 }
 
-/// The same, and nobody observes it.
+/// Like `observed_budget`, without an observer.
 pub(crate) fn find_budget(
     alloc: Global,
     program: &Program,

@@ -1,4 +1,4 @@
-//! Frames of the path of which little is kept, and which are made again when they are needed.
+//! Frames of the path that are reduced to outlines, and rebuilt when they are needed.
 
 ghost use Rattle.std.specs.Prelude.{◌≡◌, ◌<◌, ◌∷◌, ◌++◌, ℕ, List, length, map, Option, is_some, IfOk, IfSome};
 ghost use Rattle.bpf_absstate.specs.View.{View};
@@ -16,25 +16,25 @@ use std::alloc::{AllocError, Global};
 use std::marker::Model;
 use std::snapshot::Snapshot;
 
-/// What is kept of a frame.
+/// The outline of a frame.
 #[derive(Clone, Copy)]
 pub(crate) struct Outline {
-    /// How many states with one way come before it.
+    /// How many states with one successor precede it.
     before: u32,
-    /// The greatest budget of the ways that are done.
+    /// The greatest budget of the finished successors.
     best: u32,
-    /// Whether a way is still to be explored.
+    /// Whether a successor is pending.
     forks: bool,
 }
 
-/// A frame, and the state to which the way that is explored leads.
+/// A frame, and the successor being explored.
 #[derive(Drop)]
 struct Opened {
     frame: Frame,
     child: AbsState,
 }
 
-/// A part of the path, of which the first state and the outlines are kept: an examination of each state gives the next.
+/// A part of the path, kept as its first state and the outlines: examining each state gives the next.
 #[derive(Drop)]
 pub(crate) struct Fold {
     first: AbsState,
@@ -55,7 +55,6 @@ impl Model for Fold {
     ghost invariant = { λ a. IsFolded a.first a.outlines.items a.frames.value.items };
 }
 
-/// What is kept of a frame.
 fn outlined(frame: &Frame) -> Outline
     ensures is { result ≡ outline_of frame.now }
 {
@@ -66,7 +65,6 @@ fn outlined(frame: &Frame) -> Outline
     }
 }
 
-/// What is kept of frames.
 fn outlines(alloc: Global, frames: &[Frame]) -> Result<Vec<Outline>, AllocError>
     ensures is { IfOk result (λ outlines. outlines.items ≡ map outline_of frames.now) }
 {
@@ -77,7 +75,6 @@ fn outlines(alloc: Global, frames: &[Frame]) -> Result<Vec<Outline>, AllocError>
     Ok(outlines)
 }
 
-/// The one way there is.
 fn only(ways: Ways) -> AbsState
     requires one { (a : View) × (ways ≡ One a) }
     ensures is { ways ≡ One result }
@@ -89,7 +86,7 @@ fn only(ways: Ways) -> AbsState
     }
 }
 
-/// The state to which so many states with one way lead. They were examined before, so that only memory may be wanting.
+/// The state after `steps` states with one successor. They were examined before, so only memory may be lacking.
 fn led(
     alloc: Global,
     program: &Program,
@@ -110,7 +107,7 @@ fn led(
     Ok(current)
 }
 
-/// The way that is put aside, if one is, and the one that is explored.
+/// The pending successor, if any, and the one being explored.
 fn parted(ways: Ways, forks: bool) -> (Option<AbsState>, AbsState)
     requires open { (o : Option View) × (child : View) × AreOpen o child ways × (forks ≡ is_some o) }
     ensures open { AreOpen result.0 result.1 ways }
@@ -130,7 +127,7 @@ fn parted(ways: Ways, forks: bool) -> (Option<AbsState>, AbsState)
     }
 }
 
-/// The frame of a state with that outline. The state was examined before, so that only memory may be wanting.
+/// The frame of a state with that outline. The state was examined before, so only memory may be lacking.
 fn reopened(
     alloc: Global,
     program: &Program,
@@ -159,7 +156,7 @@ fn reopened(
 }
 
 impl Fold {
-    /// Folds frames, unless the first has no state.
+    /// Folds frames; None if the first has no state.
     pub(crate) fn of(alloc: Global, frames: &Vec<Frame>) -> Result<Option<Fold>, AllocError>
         ensures is { IfOk result (λ o. IfSome o (λ fold. fold ≡ frames.now.items)) }
     {
@@ -178,7 +175,7 @@ impl Fold {
         }))
     }
 
-    /// How many frames they are.
+    /// The number of frames.
     pub(crate) fn len(&self) -> usize
         ensures is { result ≡ length self.now }
     {

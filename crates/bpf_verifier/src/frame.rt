@@ -1,4 +1,4 @@
-//! A state some of whose ways are being explored, and the examination that finds its ways.
+//! A state whose successors are being explored, and the examination that computes them.
 
 ghost use Rattle.std.specs.Prelude.{◌≡◌, ◌⊎◌, Ok, Err, Some, IfOk, IfErr, IfSome};
 ghost use Rattle.bpf_insn.specs.declared.insn.Insn.{Insn};
@@ -12,21 +12,21 @@ use bpf_decode::Program;
 use bpf_rules::{Fault, Ways};
 use std::alloc::Global;
 
-/// A state some of whose ways are being explored: one that stands at a target slot, or has two ways.
+/// A state whose successors are being explored: one at a target slot, or with two successors.
 #[derive(Drop)]
 pub(crate) struct Frame {
-    /// How many states with one way come before it, since the frame below.
+    /// How many states with one successor precede it, since the frame below.
     pub(crate) before: u32,
-    /// The state, where it stands at a target slot.
+    /// The state, if it is at a target slot.
     pub(crate) state: Option<AbsState>,
-    /// The way that is still to be explored.
+    /// The successor still to be explored.
     pub(crate) pending: Option<AbsState>,
-    /// The greatest budget of the ways that are done.
+    /// The greatest budget of the finished successors.
     pub(crate) best: u32,
 }
 
 impl Frame {
-    /// How many call frames its states have; one where it has no state.
+    /// How many call frames its states have; 1 if it has no state.
     fn depth(&self) -> u32 {
         if let Some(state) = &self.state {
             return state.depth() as u32;
@@ -37,22 +37,22 @@ impl Frame {
         1
     }
 
-    /// How much memory it may take beside those below, in parts that a state of one call frame may add to it: four, and
-    /// one for each state that comes before it, for each of its call frames.
+    /// A bound on the memory it adds to that of the frames below, in units that a state of one call frame may add:
+    /// four, and one for each preceding state, times its call frames.
     pub(crate) fn weight(&self) -> u32 {
         self.before.saturating_add(4).saturating_mul(self.depth())
     }
 }
 
-/// What the examination of a state came to.
+/// The result of examining a state.
 #[derive(Drop)]
 pub(crate) struct Outcome {
     pub(crate) ways: Ways,
-    /// The state itself, where it stands at a target slot.
+    /// The state itself, if it is at a target slot.
     pub(crate) kept: Option<AbsState>,
 }
 
-/// Examines a state. One that stands at no target slot is given up: what it shares with no other isn't copied.
+/// Examines a state. One that isn't at a target slot is consumed: what no other state shares is changed in place.
 pub(crate) fn examine_state(
     alloc: Global,
     program: &Program,

@@ -1,8 +1,9 @@
-//! The verifier: it explores a program over abstract states, and admits what is safe within a budget.
+//! The verifier explores a program over abstract states, and admits it only if it is safe within a budget.
 //!
-//! Main calls: `verify` and `explore`, and the same within a limit of states. It stands on `bpf_checks`, `bpf_prune` and
-//! the laws of the rules. What it admits is safe within the budget that it answers, for every frame, context and port.
-//! A plain program, and one that is clear by the rules, is refused for memory alone. A refusal has a number and a slot.
+//! Main calls: `verify` and `explore`, also within a limit of states. The crate depends on `bpf_checks`, `bpf_prune`
+//! and the laws of the rules. An admitted program is safe within the returned budget, for every frame, context and
+//! port. A plain program, and one that is clear by the rules, is refused only for lack of memory. A refusal has a
+//! number and a slot.
 #![tactic(auto)]
 
 pub mod admission;

@@ -1,15 +1,14 @@
-//! How many states an exploration may examine.
+//! The limit on examined states.
 
 ghost use Rattle.std.specs.Prelude.{◌≡◌, ◌↔◌, ℕ, IsSome, IfSome};
 ghost use Rattle.bpf_verifier.specs.Limits.{IsStateLimit, nearest};
 
 use std::marker::Model;
 
-/// How many states any exploration examines at most.
+/// The most states that any exploration examines.
 const MOST: u32 = 4194304;
 
-/// How many states an exploration examines at most, from 1 to 4194304: a program that has more of them is refused as
-/// one with too many visits.
+/// The most states that an exploration examines, from 1 to 4194304. A program that needs more is refused with 36.
 #[derive(Clone, Copy, Debug, PartialEq, Eq)]
 pub struct StateLimit {
     states: u32,
@@ -29,7 +28,7 @@ impl StateLimit {
     /// The greatest limit, 4194304 states.
     pub const MOST: StateLimit = StateLimit { states: MOST };
 
-    /// None where the number is 0, or more than 4194304.
+    /// None if the number is 0 or above 4194304.
     pub fn new(states: u32) -> Option<Self>
         ensures valid { IsSome result ↔ IsStateLimit states }
         ensures value { IfSome result (λ l. l ≡ states) }
@@ -41,7 +40,7 @@ impl StateLimit {
         }
     }
 
-    /// The limit that is nearest to a number: 1 for 0, and 4194304 for more.
+    /// The limit nearest to a number: 1 for 0, and 4194304 for more.
     pub fn nearest(states: u32) -> Self
         ensures value { result ≡ nearest states }
     {
@@ -58,7 +57,7 @@ impl StateLimit {
         self.states
     }
 
-    /// Tells a proof what each value of the type keeps, and does nothing.
+    /// Does nothing; its contract gives a proof the type's invariant.
     pub fn known(self)
         ensures { IsStateLimit self }
     {}

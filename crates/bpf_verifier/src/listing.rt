@@ -19,10 +19,10 @@ use bpf_prune::Entry;
 use bpf_regions::Hook;
 use std::alloc::{AllocError, Global};
 
-/// The states that `verify` finishes at target slots (slot 0, a jump's target, a local function's start, the slot after
-/// a local call), with their slots and budgets, in that order; or its refusal.
+/// Returns the states that `verify` finishes at target slots (slot 0, a jump's target, a local function's start, the
+/// slot after a local call), with their slots and budgets, in that order; or its refusal.
 ///
-/// Nothing else is promised of the list: whoever uses it checks it.
+/// The contract says nothing about the list, only that the program is safe: whoever uses the list checks it.
 pub fn explore(alloc: Global, program: &Program, _hook: Hook) -> Result<Vec<Entry>, Refusal>
     ensures safe { OnOk result
         ((b : ℕ) × (b ≤ 2 ^ 22) × Safe program.now.slots program.now.shapes b) }
@@ -34,7 +34,7 @@ pub fn explore(alloc: Global, program: &Program, _hook: Hook) -> Result<Vec<Entr
     explore_within(alloc, program, StateLimit::MOST)
 }
 
-/// The same of `verify_within`.
+/// Like `explore`, within a limit of states as for `verify_within`.
 pub fn explore_within(
     alloc: Global,
     program: &Program,
@@ -59,20 +59,20 @@ pub fn explore_within(
     }
 }
 
-/// What an exploration found, and how it came to it.
+/// What an exploration found, and how.
 #[derive(Drop)]
 pub struct Explanation {
-    /// A budget within which the program is safe, or the refusal of `verify`.
+    /// A budget within which the program is safe, or the refusal.
     pub verdict: Result<u32, Refusal>,
-    /// The state that was examined last, unless memory was refused for it.
+    /// The state examined last, unless an allocation failed for it.
     pub state: Option<AbsState>,
-    /// The slots on the path to the state that was examined last, from slot 0 to its own.
+    /// The slots on the path to the state examined last, from slot 0 to its own.
     pub path: Vec<usize>,
-    /// How many states were examined at each slot; none at those behind the last.
+    /// How many states were examined at each slot; it ends at the last slot examined.
     pub visits: Vec<u32>,
 }
 
-/// What `verify_within` finds of a program, and how it comes to it. Nothing is promised but the verdict.
+/// What `verify_within` finds of a program, and how. The contract describes only the verdict.
 pub fn explain_within(
     alloc: Global,
     program: &Program,
@@ -82,17 +82,21 @@ pub fn explain_within(
     ensures small { IfOk result (λ x. IfOk x.verdict (λ budget. budget ≤ limit)) }
     ensures walk { IfOk result (λ x. IfOk x.verdict
         (λ budget. IsPlain program.now.slots → HasWalk program.now.slots budget)) }
+    ensures plain { IfOk result (λ x. IfErr x.verdict
+        (λ e. limit ≡ 2 ^ 22 → IsPlain program.now.slots → e.fault ≡ Fault.NoMemory)) }
     ensures begins { IfOk result (λ x. IfErr x.verdict (λ e. Begins program.now.slots e.pc)) }
     ensures clear { IfOk result
         (λ x. IfErr x.verdict (λ e. IsClear program.now entry_view limit → e.fault
         ≡ Fault.NoMemory)) }
 {
+    program.whole();
+    plain_law();
     let mut exploration = Exploration::new(alloc, program, Observer::listening(alloc))?;
     let verdict = observed_budget(alloc, program, &mut exploration, limit);
     Ok(explained(alloc, verdict, exploration.into_observer()))
 }
 
-/// A verdict with what was heard.
+/// A verdict with the observer's records.
 fn explained(alloc: Global, verdict: Result<u32, Refusal>, observer: Observer) -> Explanation
     ensures verdict { result.verdict ≡ verdict }
 {

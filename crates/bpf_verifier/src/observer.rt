@@ -1,4 +1,4 @@
-//! What is told of an exploration, beside its answer.
+//! What is recorded of an exploration, beside its result.
 
 ghost use Rattle.std.specs.Prelude.{◌≡◌};
 
@@ -6,22 +6,23 @@ use bpf_absstate::AbsState;
 use bpf_prune::Entry;
 use std::alloc::{AllocError, Global};
 
-/// What was heard of an exploration.
+/// The records of an exploration.
 #[derive(Drop)]
 pub(crate) struct Heard {
-    /// The states that were finished at target slots, in that order.
+    /// The states finished at target slots, in that order.
     pub(crate) finished: Vec<Entry>,
-    /// The state that was examined last.
+    /// The state examined last.
     pub(crate) examined: Option<AbsState>,
     /// The slots on the path to it, from slot 0 to its own.
     pub(crate) path: Vec<usize>,
-    /// How many states were examined at each slot; none at those behind the last.
+    /// How many states were examined at each slot; it ends at the last slot examined.
     pub(crate) visits: Vec<u32>,
-    /// How much of the path stands before the first state behind each state with a way put aside, or at a target slot.
+    /// For each kept state, which has a pending successor or is at a target slot, the length of the path before the
+    /// state that follows it.
     starts: Vec<usize>,
 }
 
-/// Listens to an exploration. One that is off does nothing, and takes no memory.
+/// Records an exploration. If it is off, it does nothing and allocates nothing.
 #[derive(Drop)]
 pub(crate) struct Observer {
     heard: Option<Heard>,
@@ -38,8 +39,7 @@ impl Heard {
         }
     }
 
-    /// The path goes back to where so many states are kept on it, and so many after the newest of them, and then on to
-    /// this slot.
+    /// Cuts the path back to `kept` kept states and `after` states after the newest of them, then appends this slot.
     fn goes_to(&mut self, slot: usize, kept: usize, after: u32) -> Result<(), AllocError> {
         self.starts.truncate(kept);
         if self.starts.len() < kept {
@@ -51,7 +51,7 @@ impl Heard {
         Ok(())
     }
 
-    /// One state more was examined at this slot.
+    /// Counts one more state examined at this slot.
     fn counts(&mut self, slot: usize) -> Result<(), AllocError> {
         if self.visits.len() <= slot {
             self.visits.resize(slot.saturating_add(1), 0u32)?;
@@ -64,19 +64,19 @@ impl Heard {
 }
 
 impl Observer {
-    /// It tells nothing.
+    /// An observer that records nothing.
     pub(crate) fn off() -> Observer {
         Observer { heard: None }
     }
 
-    /// It tells which states were finished, which one was examined last, the path to it, and how many were examined.
+    /// An observer that records the finished states, the state examined last, the path to it, and the counts.
     pub(crate) fn listening(alloc: Global) -> Observer {
         Observer {
             heard: Some(Heard::new(alloc)),
         }
     }
 
-    /// This state is examined next. So many states are kept on the path to it, and so many come after the newest.
+    /// This state is examined next. The path to it has `kept` kept states, and `after` after the newest.
     pub(crate) fn examines(
         &mut self,
         state: &AbsState,
@@ -91,7 +91,7 @@ impl Observer {
         Ok(())
     }
 
-    /// This state is finished, with that budget.
+    /// This state is finished with that budget.
     pub(crate) fn finishes(&mut self, state: &AbsState, budget: u32) -> Result<(), AllocError> {
         if let Some(heard) = &mut self.heard {
             heard.finished.push(Entry {
@@ -102,7 +102,7 @@ impl Observer {
         Ok(())
     }
 
-    /// What was heard.
+    /// The records.
     pub(crate) fn into_heard(self) -> Option<Heard> {
         self.heard
     }

@@ -1,4 +1,4 @@
-//! The path to the state that is examined next.
+//! The path to the state to examine next.
 
 ghost use Rattle.std.specs.Prelude.{◌≡◌, ◌∷◌, ◌++◌, [], ℕ, List, OnOk, IfOk, IfSome, IfNone};
 ghost use Rattle.bpf_absstate.specs.View.{View};
@@ -11,26 +11,25 @@ use std::alloc::{AllocError, Global};
 use std::marker::Model;
 use std::mem::replace;
 
-/// How much weight of frames goes on the path before older ones are folded. A state adds 32 to it at most. So more
-/// states go on the path than a program has slots, and frames are folded and made again no oftener than as many states
-/// are examined.
+/// The weight of the frames that are pushed before older ones are folded. A state adds at most 32. So more states are
+/// pushed than a program has slots, and frames are folded and rebuilt at most once for as many examined states.
 const WINDOW: u32 = 1048576;
 
-/// The frames of an exploration, the oldest first. Those that lie deep are folded.
+/// The frames of an exploration, the oldest first. Deep ones are folded.
 #[derive(Drop)]
 pub(crate) struct Path {
     alloc: Global,
-    /// The oldest frames, before the first that has a state: no more than a program has slots.
+    /// The oldest frames, before the first that has a state: at most as many as a program has slots.
     root: Vec<Frame>,
-    /// The frames behind them that lie deep.
+    /// The folded frames after the root.
     folds: Vec<Fold>,
-    /// How many these are.
+    /// The number of folded frames.
     folded: usize,
-    /// Those that are folded next.
+    /// The frames to fold next.
     older: Vec<Frame>,
-    /// The newest. The first of them has a state.
+    /// The newest frames. The first of them has a state.
     newer: Vec<Frame>,
-    /// The weight of the frames that went on the path since frames were folded.
+    /// The weight of the frames pushed since frames were folded.
     window: u32,
 }
 
@@ -46,7 +45,7 @@ impl Model for Path {
 }
 
 impl Path {
-    /// No frame yet; this takes no memory.
+    /// An empty path; allocates nothing.
     pub(crate) fn new(alloc: Global) -> Path
         ensures is { result ≡ [] }
     {
@@ -61,7 +60,7 @@ impl Path {
         }
     }
 
-    /// How many frames there are.
+    /// The number of frames.
     pub(crate) fn len(&self) -> usize {
         self.root
             .len()
@@ -70,7 +69,6 @@ impl Path {
             .saturating_add(self.newer.len())
     }
 
-    /// Puts a frame on the path.
     pub(crate) fn push(&mut self, frame: Frame) -> Result<(), AllocError>
         ensures ok { OnOk result (self.new ≡ self.old ++ frame ∷ []) }
     {
@@ -90,8 +88,8 @@ impl Path {
         Ok(())
     }
 
-    /// Folds the older frames, or puts them to the root, where the first of them has no state. The newer ones are the
-    /// older ones from then on.
+    /// Folds the older frames, or moves them to the root if the first of them has no state. Then the newer ones become
+    /// the older ones.
     fn fold(&mut self) -> Result<(), AllocError>
         ensures ok { OnOk result (self.new ≡ self.old) }
     {
@@ -109,7 +107,7 @@ impl Path {
         Ok(())
     }
 
-    /// Where no frames are older, the newer ones are the older ones from then on.
+    /// If there are no older frames, the newer ones become the older ones.
     fn turn(&mut self)
         ensures is { self.new ≡ self.old }
     {

@@ -7,8 +7,7 @@ use bpf_rules::Fault;
 use std::alloc::AllocError;
 use std::fmt;
 
-/// A fault and the slot at which it is met first, where of each conditional jump the fall-through is explored before
-/// the jump.
+/// The fault met first, and its slot. At each conditional jump the fall-through is explored before the jump.
 #[derive(Clone, Copy, Debug, PartialEq, Eq)]
 pub struct Refusal {
     pub fault: Fault,
@@ -30,7 +29,7 @@ impl From<AllocError> for Refusal {
 
     ghost from_gives = { λ _ r. r ≡ record { fault = NoMemory; pc = 0 } };
 
-    /// Memory was refused before the first instruction was examined.
+    /// An allocation failed before the first instruction was examined.
     fn from(_error: AllocError) -> Refusal {
         Refusal {
             fault: Fault::NoMemory,

@@ -1,4 +1,4 @@
--- Beginnings of one list.
+-- Prefixes of one list.
 use Rattle.std.proofs.Common.{◌≡◌, ◌≤◌, ◌+◌, List, [], ◌∷◌, ◌++◌, length, map, refl, ap, sym, subst, ◌∙◌, arith, append_assoc, length-append}
 use Rattle.std.specs.List.{All}
 use Rattle.std.proofs.lemmas.List.Elements.{All-append, All-cons, All-nil}
@@ -11,7 +11,7 @@ use Rattle.versions.specs.Sets.{Fits}
 use Rattle.logbook.specs.Pages.{Book}
 use Rattle.versions.specs.Lists.{Beginning, Begins, beginning, with_load, shapes_of, loads_of, IsWritten}
 
--- each list begins with itself
+-- each list is a prefix of itself
 pub prefix_self : {A : Type 0} (xs : List A) → IsPrefix xs xs
 prefix_self [] = ([], refl)
 prefix_self (x ∷ xs) = (let r = prefix_self xs in r.0, ap (λ ys. x ∷ ys) (prefix_self xs).1)
@@ -19,7 +19,7 @@ prefix_self (x ∷ xs) = (let r = prefix_self xs in r.0, ap (λ ys. x ∷ ys) (p
 pub prefix_trans : {A : Type 0} (xs ys zs : List A) → IsPrefix xs ys → IsPrefix ys zs → IsPrefix xs zs
 prefix_trans xs ys zs p q = (p.0 ++ q.0, sym (append_assoc xs p.0 q.0) ∙ (ap (λ w. w ++ q.0) p.1 ∙ q.1))
 
--- of two beginnings of one list the shorter begins the longer
+-- of two prefixes of one list the shorter is a prefix of the longer
 pub prefix_shorter : {A : Type 0} (xs ys zs : List A) → IsPrefix xs zs → IsPrefix ys zs → length xs ≤ length ys → IsPrefix xs ys
 prefix_shorter [] ys zs p q le = (ys, refl)
 prefix_shorter (x ∷ xs) [] zs p q le = absurd (omega arith)
@@ -29,7 +29,7 @@ prefix_shorter (x ∷ xs) (y ∷ ys) (z ∷ zs) p q le =
     let rest = prefix_shorter xs ys zs (p.0, cc (p.1)) (q.0, cc (q.1)) (omega arith) in
     (rest.0, cc (heads, rest.1))
 
--- a beginning as long as the whole is the whole
+-- a prefix as long as the whole list is the list
 pub prefix_whole : {A : Type 0} (xs ys : List A) → IsPrefix xs ys → length ys ≤ length xs → xs ≡ ys
 prefix_whole [] [] p le = refl
 prefix_whole [] (y ∷ ys) p le = absurd (omega arith)
@@ -49,14 +49,14 @@ loads_of-append (Loaded l ∷ xs) ys = ap (λ ls. l ∷ ls) (loads_of-append xs 
 pub length-loads_of : (xs : List Entry) → IsWritten xs → length xs ≡ length (loads_of xs) + 1
 length-loads_of xs written = omega (arith, ap length written.order, length-map (loads_of xs) Loaded)
 
--- what goes on from written entries goes on from their loads, for the same shapes
+-- if written entries are extended, so are their loads, for the same shapes
 pub loads_prefix : (xs ys : List Entry) → IsWritten xs → IsPrefix xs ys → (shapes_of ys ≡ shapes_of xs) × IsPrefix (loads_of xs) (loads_of ys)
 loads_prefix [] ys written pre = absurd (cc (written.order))
 loads_prefix (Opened s ∷ xs) ys written pre =
     (ap shapes_of (sym pre.1), (loads_of pre.0, sym (loads_of-append xs pre.0) ∙ ap loads_of pre.1))
 loads_prefix (Loaded l ∷ xs) ys written pre = absurd (cc (written.order))
 
--- of two beginnings of one book the longer goes on from the shorter
+-- of two prefixes of one book the longer extends the shorter
 pub begins_from : (k l : Beginning) (b c : Book) (xs ys zs : List Entry) → beginning b xs ≡ k → beginning c ys ≡ l → l.list ≡ k.list → IsWritten xs
     → IsPrefix xs zs → IsPrefix ys zs → length xs ≤ length ys → Begins k l
 begins_from k l b c xs ys zs k_is l_is same written one other le =
@@ -82,7 +82,7 @@ written_more (Opened s ∷ xs) l written fits =
     }
 written_more (Loaded m ∷ xs) l written fits = absurd (cc (written.order))
 
--- what a written book says of its loads, as many as there are
+-- a written book with all the loads of another has at least as many entries
 pub begins_count : (k l : Beginning) (b c : Book) (xs ys : List Entry) → beginning b xs ≡ k → beginning c ys ≡ l → IsWritten xs → IsWritten ys → Begins k l → length xs ≤ length ys
 begins_count k l b c xs ys k_is l_is one other begins =
     let le : length k.loads ≤ length l.loads = prefix_length k.loads l.loads begins.has_all in

@@ -36,6 +36,6 @@ none_fits shapes Data = tt
 pub set_fits : (shapes : List Shape) (loads : List Load) → All (Fits shapes) loads → AllFor shapes (set_of loads)
 set_fits shapes loads fitting = fold_fits shapes no_programs loads (none_fits shapes) fitting
 
--- the program that a set has at a hook is for it
+-- a set's program at a hook is for that hook
 pub at_fits : (shapes : List Shape) (loads : List Load) (hook : Hook) (p : Verified) → All (Fits shapes) loads → Some p ≡ program_at hook (set_of loads) → IsFor shapes hook p
 at_fits shapes loads hook p fitting is = subst (λ (o : Option Verified). IfSome o (IsFor shapes hook)) (sym is) (set_fits shapes loads fitting hook)

@@ -21,7 +21,7 @@ first_home cells entries kept =
     let some : 0 < length cells = omega (arith, kept.counted) in
     (some, kept.home 0 some ∙ lt-ltb 0 (length entries) kept.begun)
 
--- the same words, with the first written again
+-- the same words, with the first rewritten
 pub same_turns : (cells : List Cell) (entries : List Entry) (n : ℕ) → IsKept cells entries → n ≡ (cell cells 0).0 → IsKept (set cells 0 (n, true)) entries
 same_turns [] entries n kept is = absurd (omega (arith, kept.counted))
 same_turns (first ∷ others) entries n kept is = record {
@@ -35,7 +35,7 @@ same_turns (first ∷ others) entries n kept is = record {
     home zero within = sym (lt-ltb 0 (length entries) kept.begun)
     home (suc k) within = kept.home (suc k) within
 
--- a word that was added stands last, and is away
+-- an added word is the last, and is away
 added_away : (others : List Cell) (n k : ℕ) → k < length others + 1 → n ≤ length others + 1
     → ((j : ℕ) → j < length others → (cell others j).1 ≡ nat_lt (suc j) n) → (b : Bool) → nat_lt k (length others) ≡ b
     → (cell (others ++ (0, false) ∷ []) k).1 ≡ nat_lt (suc k) n
@@ -45,7 +45,7 @@ added_away others n k within few home false is =
     let last : k ≡ length others + 0 = omega (arith, ltb-false k (length others) is) in
     rw last (ap (λ (c : Cell). c.1) (get_or-append-add others ((0, false) ∷ []) 0 (0, false)) ∙ sym (le-ltb (suc (length others + 0)) n (omega arith)))
 
--- with one more turn, which the first word then counts
+-- one more turn, which the first word counts
 pub more_turns : (cells : List Cell) (entries : List Entry) (n : ℕ) → IsKept cells entries → n ≡ (cell cells 0).0 + 1
     → IsKept (set cells 0 (n, true) ++ (0, false) ∷ []) entries
 more_turns [] entries n kept is = absurd (omega (arith, kept.counted))
@@ -64,7 +64,7 @@ more_turns (first ∷ others) entries n kept is =
         added_away others (length entries) k (omega (arith, length-append others ((0, false) ∷ []))) (omega (arith, kept.ahead))
         (λ j small. kept.home (suc j) (omega arith)) (nat_lt k (length others)) refl
 
--- the word of the entry that was added is home
+-- the word of the added entry is home
 entry_home : (cells : List Cell) (entries : List Entry) (e : Entry) (k value j : ℕ) → IsKept cells entries → k < length cells → k ≡ length entries → j < length cells
     → (b : Bool) → (j == k) ≡ b → (cell (set cells k (value, true)) j).1 ≡ nat_lt j (length entries + 1)
 entry_home cells entries e k value j kept in_cells last within true is =
@@ -74,7 +74,7 @@ entry_home cells entries e k value j kept in_cells last within false is =
     let apart : j ≢ k = grind (arith, nat_tests) in
     ap (λ (c : Cell). c.1) (get_or-set_other cells k j (value, true) (0, false) apart) ∙ (kept.home j within ∙ grind (arith, nat_tests))
 
--- the words after the turn of the entry that is added
+-- the words after the turn of the added entry
 pub turn_taken : (cells : List Cell) (entries : List Entry) (e : Entry) (k value : ℕ) → IsKept cells entries → k < length cells → k ≡ length entries
     → IsKept (set cells k (value, true)) (entries ++ e ∷ [])
 turn_taken cells entries e k value kept in_cells last =
@@ -87,7 +87,7 @@ turn_taken cells entries e k value kept in_cells last =
       home = λ j within. entry_home cells entries e k value j kept in_cells last (omega (arith, length-set cells k (value, true))) (j == k) refl ∙ ap (nat_lt j) (sym long);
     }
 
--- whatever the book is, the exchange makes the turn after the last one, if that has the number expected
+-- whatever the book is, the exchange makes the turn after the last one, if that has the expected number
 turn_goes : (v : List Entry) (e : Entry) (last : ℕ) (cs : List Cell) (log : List Entry) → IsKept cs log → (b : Bool) → ((cell cs 0).0 == last) ≡ b
     → Goes IsKept shown moved 0 (v, (no_nib, None)) (λ n. either (n == last) (last + 1) n) (MakesTurn (step 0 last (last + 1) e) (v, (no_nib, None))) cs log
 turn_goes v e last cs log kept true is =
@@ -125,12 +125,12 @@ either_same n = either_same_at n (n == 0) refl
     either_same_at n true is = let none : n ≡ 0 = grind (arith, nat_tests) in rw is (sym none)
     either_same_at n false is = rw is refl
 
--- a turn that nobody took bounds the list
+-- an unused turn bounds the list
 turn_bounds : (p : Nib) (cs : List Cell) (log : List Entry) → p.right ≡ may_write → IsKept cs log → Away p cs → (p.key < length cs) × (length log ≤ p.key)
 turn_bounds p cs log right kept away =
     let at = away right in (at.0, ltb-false p.key (length log) (sym (kept.home p.key at.0) ∙ at.1))
 
--- whoever has the turn after all that was seen adds its entry at the end of the list
+-- whoever has the turn after everything seen adds its entry at the end of the list
 pub add_moves : (v : List Entry) (e : Entry) (p : Nib) → p.right ≡ may_write → p.key ≡ length v
     → Moves IsKept shown moved 0 (v, (p, None)) (λ n. either (n == 0) 0 n) (Adds (step 0 0 0 e) (v, (p, None)))
 add_moves v e p right next cs log kept pre away =
@@ -152,7 +152,7 @@ add_moves v e p right next cs log kept pre away =
       ),
     )
 
--- whoever has a turn finds that the list is no longer than its number
+-- whoever has a turn finds the list no longer than its number
 pub look_moves : (v : List Entry) (e : Entry) (p : Nib) → p.right ≡ may_write
     → Moves IsKept shown moved 0 (v, (p, None)) (λ n. either (n == 0) 0 n) (Looks (step 0 0 0 e) (v, (p, None)))
 look_moves v e p right cs log kept pre away =

@@ -1,4 +1,4 @@
--- Each step keeps the rule over the published set.
+-- Each step keeps the rule of the published set.
 use Rattle.std.proofs.Common.{◌≡◌, ℕ, ◌≢◌, List, [], ◌∷◌, ◌++◌, fold, set, refl, sym, ap, ◌∙◌, subst, ⊎_elim, Option, None, Some}
 use mathlib.Core.Option.{some}
 use lib.ListN.{get_elem?}
@@ -31,7 +31,7 @@ merges seat v other w x views h at apart there =
     let b : IsOf x.list w = ⊎_elim (λ (t : (other ≡ seat) × (w ≡ w)). absurd (apart t.0)) (λ (t : (other ≢ seat) × (get_elem? views other ≡ some w)). h other w t.1) (at_set views seat other w w there) in
     set_fits x (set views seat w) other None (set_fits x views seat w h b) tt
 
--- a seat that knew a list, and then knows that a set is of its own, knew the set's list
+-- if a seat knew a list, and then knows a set of its own list, it knew the set's list
 pub same_list : (b c : Book) (v : Option Beginning) → tie_of v ≡ Some b → IsOf c v → c ≡ b
 same_list b c None is fits = absurd (cc is)
 same_list b c (Some k) is fits = sym fits ∙ cc is
@@ -44,7 +44,7 @@ pub last_of-snoc : (s : Beginning) (xs : List Beginning) (op : Beginning) → la
 last_of-snoc s [] op = refl
 last_of-snoc s (x ∷ xs) op = last_of-snoc x xs op
 
--- the set that was put last, of the same list, may be shown
+-- the set put last, of the same list, may be shown
 pub shows : (seat : ℕ) (v : Option Beginning) (x next op : Beginning) (ops earlier : List Beginning) → ops ≡ earlier ++ op ∷ [] → op.list ≡ x.list → next ≡ last_of x ops
     → TurnsAt OneList seat v x next Enters
 shows seat v x next op ops earlier is own now = enters seat v x next (ap (λ (b : Beginning). b.list) (now ∙ (ap (last_of x) is ∙ last_of-snoc x earlier op)) ∙ own)

@@ -1,4 +1,4 @@
--- Lists of published loads, and their beginnings.
+-- Lists of published loads, and their prefixes.
 use Rattle.std.specs.Prelude.{◌≡◌, ℕ, List, [], ◌∷◌, ◌++◌, map}
 use Rattle.std.specs.List.{All}
 use mathlib.Core.List.{IsPrefix}
@@ -9,23 +9,23 @@ use Rattle.versions.specs.declared.list.Entry.TheVariants.{Opened, Loaded}
 use Rattle.versions.specs.declared.list.Load.{Load}
 use Rattle.versions.specs.Sets.{Fits}
 
--- a beginning of a list of published loads: which list it is, the map shapes that it is for, the loads
+-- a prefix of a list of published loads: which list it is, its map shapes, the loads
 pub record Beginning : Type 0 where
   pub list : Book
   pub shapes : List Shape
   pub loads : List Load
 
--- the beginning that has one more load
+-- the prefix with one more load
 abbrev pub with_load : Beginning → Load → Beginning
 with_load k l = record k { loads = k.loads ++ l ∷ [] }
 
--- one beginning of a list, and one that goes on from it
+-- a prefix of a list, and one that extends it
 pub record Begins (earlier later : Beginning) : Type 0 where
   pub same_list : later.list ≡ earlier.list
   pub same_shapes : later.shapes ≡ earlier.shapes
   pub has_all : IsPrefix earlier.loads later.loads
 
--- what a caller has of the readers that are left: the list, its map shapes, and how many they are
+-- what a caller has of the remaining readers: the list, its map shapes, and their number
 pub record Readers : Type 0 where
   pub list : Book
   pub shapes : List Shape
@@ -35,7 +35,7 @@ pub record Readers : Type 0 where
 abbrev pub newcomer : Readers → Beginning
 newcomer p = record { list = p.list; shapes = p.shapes; loads = [] }
 
--- so many readers of a list, of which nobody has one yet
+-- that many readers of a list, none given out yet
 abbrev pub readers_of : Beginning → ℕ → Readers
 readers_of k count = record { list = k.list; shapes = k.shapes; left = count }
 
@@ -51,12 +51,12 @@ loads_of [] = []
 loads_of (Opened _ ∷ entries) = loads_of entries
 loads_of (Loaded l ∷ entries) = l ∷ loads_of entries
 
--- what the entries of a book say, as far as they go
+-- what the entries of a book say
 abbrev pub beginning : Book → List Entry → Beginning
 beginning list entries =
     record { list = list; shapes = shapes_of entries; loads = loads_of entries }
 
--- the entries are the shapes and then loads, of which each fits the shapes
+-- the entries are the shapes and then loads, each of which fits the shapes
 pub record IsWritten (entries : List Entry) : Type 0 where
   pub order : entries ≡ Opened (shapes_of entries) ∷ map Loaded (loads_of entries)
   pub fitting : All (Fits (shapes_of entries)) (loads_of entries)

@@ -1,4 +1,4 @@
--- Sets that are to come.
+-- Sets to be made.
 use Rattle.versions.specs.declared.set.Owners.{Owners}
 use Rattle.versions.specs.Sets.{Programs, kept_by_hook}
 

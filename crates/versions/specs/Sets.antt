@@ -1,4 +1,4 @@
--- Program sets, and the loads that leave them.
+-- Program sets, and the loads that result in them.
 use Rattle.std.specs.Prelude.{◌≡◌, ◌≢◌, List, fold, Option, None, Some, IfSome}
 use Rattle.std.specs.Option.{IsSomeAnd}
 use Rattle.std.specs.Arc.{arc_value}
@@ -31,7 +31,7 @@ replaced Association s p = record s { association = p }
 replaced Addba s p = record s { addba = p }
 replaced Data s p = record s { frames = p }
 
--- the program that is loaded for a hook; None removes the one that is there
+-- the load of a program for a hook; None removes the hook's program
 abbrev pub load : Hook → Option Verified → Load
 load hook program = record { hook = hook; program = program }
 
@@ -39,7 +39,7 @@ load hook program = record { hook = hook; program = program }
 abbrev pub after : Programs → Load → Programs
 after s l = replaced l.hook s l.program
 
--- the set that a list of loads leaves
+-- the set that a list of loads results in
 abbrev pub set_of : List Load → Programs
 set_of loads = fold after no_programs loads
 
@@ -48,7 +48,7 @@ pub record IsFor (shapes : List Shape) (hook : Hook) (p : Verified) : Type 0 whe
   pub hook_is : p.hook ≡ hook
   pub shapes_are : p.code.shapes ≡ shapes
 
--- what is loaded, if anything, is for the hook and for these shapes
+-- the loaded program, if any, is for the hook and these shapes
 abbrev pub Fits : List Shape → Load → Type 0
 Fits shapes l = IfSome l.program (IsFor shapes l.hook)
 
@@ -56,12 +56,12 @@ Fits shapes l = IfSome l.program (IsFor shapes l.hook)
 abbrev pub HasOtherShapes : List Shape → Option Verified → Type 0
 HasOtherShapes shapes program = IsSomeAnd program (λ p. p.code.shapes ≢ shapes)
 
--- the program that is shared, if there is one
+-- the shared program, if there is one
 abbrev pub kept : {A : Type 0} → Option (Arc Verified A) → Option Verified
 kept None = None
 kept (Some p) = Some (arc_value p)
 
--- the programs that are shared, of the three hooks
+-- the shared programs of the three hooks
 abbrev pub kept_by_hook : {A : Type 0} (association addba frames : Option (Arc Verified A)) → Programs
 kept_by_hook association addba frames =
     record { association = kept association; addba = kept addba; frames = kept frames }

@@ -1,4 +1,4 @@
-//! Why a program was not published, or no reader given.
+//! Why a program wasn't published, or no reader given out.
 
 ghost use Rattle.std.specs.Prelude.{◌≡◌};
 ghost use Rattle.versions.specs.Faults.{number_of};
@@ -11,12 +11,12 @@ use std::fmt;
 pub enum PublishFault {
     /// The program was accepted for maps of other shapes.
     OtherShapes,
-    /// A program has no room for one more owner, or the list of loads for one more load.
+    /// A program can't have one more owner, or the list of loads can't take one more load.
     NoMemory,
 }
 
 impl PublishFault {
-    /// 60 for other shapes, 40 for want of memory.
+    /// 60 for other shapes, 40 for lack of memory.
     pub fn number(self) -> u8
         ensures is { result ≡ number_of self }
     {
@@ -44,7 +44,7 @@ impl From<AllocError> for PublishFault {
     }
 }
 
-/// All readers are given out.
+/// No reader is left.
 #[derive(Clone, Copy, Debug, PartialEq, Eq)]
 pub struct NoReader;
 

@@ -1,9 +1,9 @@
 //! Program sets: a reader holds one whole published set of the hooks' programs, while a publisher replaces them.
 //!
-//! Main calls: `opening::published`, `Publisher::publish`, `Entrance::enter` and `Entered::set`. It stands
-//! on `left_right` and `logbook`. A set that is lent is what a beginning of the list of published loads
-//! leads to, with all loads that its reader was told of; it does not change until it is given back. 60
-//! comes exactly where map shapes differ, 62 where no reader is left, 40 for want of memory.
+//! Main calls: `opening::published`, `Publisher::publish`, `Entrance::enter` and `Entered::set`. The crate depends on
+//! `left_right` and `logbook`. A borrowed set is the result of a prefix of the list of published loads that includes
+//! all loads its reader had seen or was told of; it doesn't change until it is returned. 60 comes if and only if map
+//! shapes differ, 62 if no reader is left, 40 for lack of memory.
 #![tactic(auto)]
 
 mod fault;

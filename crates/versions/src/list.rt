@@ -1,4 +1,4 @@
-//! The list of published loads, which exists in proofs alone: what one knows of it, and the right to add to it.
+//! The list of published loads, which exists only in proofs: what one knows of it, and the right to add to it.
 
 ghost use Rattle.std.specs.Prelude.{◌≡◌, ◌+◌, ◌<◌, ◌≤◌, ◌^◌, ◌++◌, ◌∷◌, ◌⊎◌, ◌↔◌, [], length, IsTrue, IfSome, IfNone};
 ghost use Rattle.std.specs.List.{All};
@@ -15,16 +15,16 @@ use logbook::{Gain, Offer, Opening, Pen, Plain, Play, Rule, Seen, Start, Word};
 use std::marker::Model;
 use std::sync::Arc;
 
-/// So many loads at most: a book's word counts them. No run comes near it.
+/// The most loads of a list: a book's word counts them. No run comes near it.
 const MOST: u64 = 1 << 61;
 
-/// A load: it replaces one hook's program, or removes it. No value of it is made.
+/// A load: it replaces one hook's program, or removes it. No value of this type is made.
 pub struct Load {
     pub hook: Hook,
     pub program: Option<Accepted>,
 }
 
-/// What stands in a list: first the map shapes that it is for, then the loads. No value of it is made.
+/// An entry of a list: first the map shapes that it is for, then the loads. No value of this type is made.
 pub enum Entry {
     Opened(Shapes),
     Loaded(Load),
@@ -97,7 +97,7 @@ impl Play<Entry, u64> for Looks {
     ghost then = { Looks };
 }
 
-/// A load that is to be made.
+/// A requested load.
 #[derive(Drop)]
 pub struct Wanted {
     pub hook: Hook,
@@ -114,7 +114,7 @@ impl Plain<Wanted, Entry, u64> for Adds {
     ghost state = { λ wanted. None };
 }
 
-// The steps that add nothing ask for nothing: some entry has to stand here.
+// This step adds nothing, but an entry must be given here; any will do.
 impl Plain<u64, Entry, u64> for Looks {
     ghost use Rattle.std.specs.Prelude.{None, []};
     ghost use Rattle.versions.specs.declared.list.Entry.TheVariants.{Opened};
@@ -124,7 +124,7 @@ impl Plain<u64, Entry, u64> for Looks {
     ghost state = { λ _. None };
 }
 
-/// A beginning of a list: what one knows of it. At run time it is the number of its entries.
+/// A prefix of a list, as far as one knows it. At run time it is the number of its entries.
 #[derive(Drop)]
 pub struct Known {
     count: u64,
@@ -142,7 +142,7 @@ impl Model for Known {
     ghost invariant = { λ k. (k.count ≡ length k.seen.log) × IsWritten k.seen.log };
 }
 
-/// The right to add to a list: its word, and the turn of the next entry.
+/// The right to add to a list: its word, and the next entry's turn.
 #[derive(Drop)]
 pub struct Author {
     word: Word<Entry, u64, Law>,
@@ -161,7 +161,7 @@ impl Model for Author {
     ghost invariant = { λ a. (a.word ≡ word_of a.turn.book) × (a.turn.nib.right ≡ may_write) };
 }
 
-/// The turn after the last one that was made, if that one's number is `last`.
+/// The turn after the last one made, if that one's number is `last`.
 fn next_turn(word: &Word<Entry, u64, Law>, seen: &Seen<Entry, u64, Law>, last: u64) -> Option<Pen>
     requires word { word.now ≡ word_of seen.now.book }
     requires room { last < 2 ^ 62 }
@@ -186,7 +186,7 @@ fn next_turn(word: &Word<Entry, u64, Law>, seen: &Seen<Entry, u64, Law>, last: u
 }
 
 impl Known {
-    /// A list for maps of these shapes, with no load yet.
+    /// A list for maps of these shapes, without loads.
     pub fn open(shapes: &Shapes) -> Option<(Author, Known)>
         ensures author { IfSome result (λ t. IsNext t.0 t.1) }
         ensures shapes { IfSome result (λ t. t.1.shapes ≡ shapes.now) }
@@ -209,7 +209,7 @@ impl Known {
         }
     }
 
-    /// Whether there is room for one more load.
+    /// Whether one more load fits.
     pub fn has_room(&self) -> bool
         ensures { IsTrue result ↔ (length self.now.loads < 2 ^ 61) }
     {
@@ -223,7 +223,7 @@ impl Known {
         let _ = &self.count;
     }
 
-    /// Of two beginnings of one list the longer, which goes on from the other.
+    /// The longer of two prefixes of one list, which extends the other.
     pub fn longer(&self, other: &Known) -> Known
         requires { other.now.list ≡ self.now.list }
         ensures this { Begins self.now result }
@@ -239,7 +239,7 @@ impl Known {
         }
     }
 
-    /// Whether this one has all that the other has.
+    /// Whether this prefix includes all of the other.
     pub fn covers(&self, other: &Known) -> bool
         requires { other.now.list ≡ self.now.list }
         ensures shapes { self.now.shapes ≡ other.now.shapes }
@@ -252,7 +252,7 @@ impl Known {
 }
 
 impl Author {
-    /// Adds a load to the list, of which all is known. It does not where there is no further turn.
+    /// Adds a load to the list, all of which is known. None if there is no next turn; then nothing changes.
     pub fn add(&mut self, known: &Known, wanted: &Wanted) -> Option<Known>
         requires turn { IsNext self.old known.now }
         requires room { length known.now.loads < 2 ^ 61 }
@@ -275,7 +275,7 @@ impl Author {
         })
     }
 
-    /// Who knows a list whole knows all that anyone knows of it.
+    /// Who knows a whole list knows all that anyone knows of it.
     pub fn look(&mut self, known: &Known, other: &Known)
         requires turn { IsNext self.old known.now }
         requires one_list { other.now.list ≡ known.now.list }

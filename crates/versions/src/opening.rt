@@ -1,4 +1,4 @@
-//! What makes a publisher and its readers.
+//! Makes a publisher and its readers.
 
 ghost use Rattle.std.specs.Prelude.{◌≡◌, ◌++◌, ◌∷◌, [], vec_len, IfOk, OnOk};
 ghost use Rattle.std.specs.List.{All};
@@ -48,7 +48,7 @@ fn fill(
     Ok(())
 }
 
-/// Puts the empty set, so that the writer's log has room for it.
+/// Puts the empty set, so that the writer's log reserves memory for it.
 fn put_empty(writer: &mut Desk, known: &Known) -> Result<(), AllocError>
     requires { known.now.loads ≡ [] }
     ensures desk { writer.new.desk ≡ writer.old.desk }
@@ -60,8 +60,8 @@ fn put_empty(writer: &mut Desk, known: &Known) -> Result<(), AllocError>
     }
 }
 
-/// The copies of a set before any load, of which readers see one. The log of operations then has room for more than is
-/// ever in it, so that no publication takes memory.
+/// The copies of the set before any load, one of which readers see. The log of operations then has enough memory for
+/// all that is ever in it, so no publication allocates.
 fn opened<R: Wait>(rt: &R, writer: Desk, known: &Known) -> (Desk, Result<(), AllocError>)
     requires empty { known.now.loads ≡ [] }
     requires own { writer.desk.shown.value.list ≡ known.now.list }
@@ -78,7 +78,7 @@ fn opened<R: Wait>(rt: &R, writer: Desk, known: &Known) -> (Desk, Result<(), All
     (show(rt, writer, known), Ok(()))
 }
 
-/// A publisher for maps of these shapes, and so many readers. Want of memory is 40.
+/// A publisher for maps of these shapes, and `readers` readers. Lack of memory is 40.
 pub fn published<R: Wait>(
     rt: &R,
     alloc: Global,

@@ -11,8 +11,8 @@ use crate::reader::{Entered, Reader};
 use std::marker::Model;
 use std::sync::Wait;
 
-/// The way to the published set, for readers that were given out. Threads share it by reference. Contracts see the
-/// list, and no load of it.
+/// Access to the published set, for readers that were given out. Threads share it by reference. Contracts see the list,
+/// and no load of it.
 #[derive(Drop)]
 pub struct Entrance {
     known: Known,
@@ -27,8 +27,8 @@ impl Model for Entrance {
 }
 
 impl Entrance {
-    /// Lends one whole set: that of a beginning of the list of published loads which has all that the reader had seen
-    /// or was told of. It tries again until it has one.
+    /// Borrows one whole set: the result of a prefix of the list of published loads that includes all the reader had
+    /// seen or was told of. Retries until it has one.
     pub fn enter<R: Wait>(&self, rt: &R, reader: Reader) -> Entered
         requires own { reader.list ≡ self.now.list }
         ensures seen { Begins reader result }
@@ -38,7 +38,7 @@ impl Entrance {
         reader.enter(rt)
     }
 
-    /// From now on the reader takes no set without the loads of the news.
+    /// From here on the reader enters only sets that include the loads in `news`.
     pub fn learn(&self, reader: Reader, news: News) -> Reader
         requires own { reader.list ≡ self.now.list }
         requires news { news.list ≡ self.now.list }
@@ -50,8 +50,8 @@ impl Entrance {
     }
 }
 
-/// The readers that are not given out yet, and the way to the published set for those that are. One thread has it;
-/// others have an entrance.
+/// The readers still to be given out, and access to the published set for the others. One thread has it; others have an
+/// entrance.
 #[derive(Drop)]
 pub struct Published {
     readers: Vec<Reader>,
@@ -79,7 +79,7 @@ impl Published {
         Published { readers, known }
     }
 
-    /// A reader that has seen no load yet. Each is given once; then the fault is 62.
+    /// A reader that has seen no load. Each is given out once. The fault is 62 if and only if none is left.
     pub fn reader(&mut self) -> Result<Reader, NoReader>
         ensures same { (self.new.list ≡ self.old.list) × (self.new.shapes ≡ self.old.shapes) }
         ensures new { IfOk result (λ reader. reader ≡ newcomer self.old) }
@@ -102,7 +102,7 @@ impl Published {
         }
     }
 
-    /// As `Entrance::enter`.
+    /// Like `Entrance::enter`.
     pub fn enter<R: Wait>(&self, rt: &R, reader: Reader) -> Entered
         requires own { reader.list ≡ self.now.list }
         ensures seen { Begins reader result }
@@ -111,7 +111,7 @@ impl Published {
         self.entrance().enter(rt, reader)
     }
 
-    /// As `Entrance::learn`.
+    /// Like `Entrance::learn`.
     pub fn learn(&self, reader: Reader, news: News) -> Reader
         requires own { reader.list ≡ self.now.list }
         requires news { news.list ≡ self.now.list }

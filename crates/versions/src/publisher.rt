@@ -21,10 +21,10 @@ use std::marker::Model;
 use std::sync::{Arc, Wait};
 use std::thread;
 
-/// Two copies of the published set, of which readers have one and the publisher the other.
+/// Two copies of the published set: the readers' and the publisher's.
 pub type Desk = Writer<ProgramSet, ProgramSet, Option<Known>, OneList>;
 
-/// The one that publishes. Contracts see the list of all that was published. It is not `Drop`: end it by `close`.
+/// The publisher. Contracts see the list of everything published. It isn't `Drop`: end it by `close`.
 pub struct Publisher {
     writer: Desk,
     author: Author,
@@ -60,7 +60,7 @@ impl Model for News {
     ghost view = { λ n. n.known };
 }
 
-/// Adds the set that comes next to what is pending. There is room for it since the list was opened.
+/// Adds the next set to the pending ones. Its memory is reserved when the list is opened.
 fn put<R: Wait>(rt: &R, writer: Desk, next: ProgramSet) -> Desk
     ensures desk { result.desk ≡ writer.desk }
     ensures pending { pending result ≡ pending writer ++ next ∷ [] }
@@ -77,7 +77,7 @@ fn put<R: Wait>(rt: &R, writer: Desk, next: ProgramSet) -> Desk
     unreachable!()
 }
 
-/// Shows readers the set that was put last.
+/// Shows readers the set put last.
 pub fn show<R: Wait>(rt: &R, writer: Desk, known: &Known) -> Desk
     requires last { (earlier : List Beginning) × (pending writer ≡ earlier ++ known.now ∷ []) }
     requires own { writer.desk.shown.value.list ≡ known.now.list }
@@ -95,7 +95,7 @@ pub fn show<R: Wait>(rt: &R, writer: Desk, known: &Known) -> Desk
     unreachable!()
 }
 
-/// Whether maps of these shapes are those of the others.
+/// Whether two lists of map shapes are equal.
 fn are_alike(shapes: &[Shape], others: &[Shape]) -> bool
     ensures { IsTrue result ↔ (shapes.now ≡ others.now) }
 {
@@ -129,7 +129,7 @@ impl Publisher {
         }
     }
 
-    /// The loads so far, for one reader, which then learns them.
+    /// The loads so far, for a reader to learn.
     pub fn tell(&mut self) -> News
         ensures same { self.new ≡ self.old }
         ensures told { result ≡ self.old }
@@ -139,8 +139,8 @@ impl Publisher {
         }
     }
 
-    /// What a reader has seen or was told of is a beginning of what was published, whatever it is a reader of the same
-    /// list. It is one atomic step, and answers nothing: a caller's proof takes its promises.
+    /// What a reader has seen or was told of is a prefix of what was published, whichever reader of the same list it
+    /// is. This is one atomic step, and returns nothing; a caller's proof uses its contract.
     pub fn beginning_law(&mut self, reader: &Reader)
         requires own { reader.now.list ≡ self.old.list }
         ensures same { self.new ≡ self.old }
@@ -149,9 +149,9 @@ impl Publisher {
         self.author.look(&self.known, reader.known());
     }
 
-    /// Replaces one hook's program, or removes it, for readers that enter from now on. It waits for the readers that
-    /// hold a set from before the last publication. The fault is 60 exactly where the program was accepted for maps of
-    /// other shapes, and else 40, where a program has no room for one more owner or 2^61 loads were made.
+    /// Replaces one hook's program, or removes it, for readers that enter from here on. Waits for the readers that hold
+    /// a set from before the last publication. The fault is 60 if and only if the program was accepted for maps of
+    /// other shapes; otherwise it is 40, if a program can't have one more owner or 2^61 loads were made.
     pub fn publish<R: Wait>(
         &mut self,
         rt: &R,
@@ -174,8 +174,7 @@ impl Publisher {
         )
     }
 
-    /// Waits for the readers, ends, and hands back the set that was published last. From then on a reader that enters
-    /// waits for ever.
+    /// Waits for the readers, ends, and returns the set published last. A reader that enters afterwards waits forever.
     pub fn close<R: Wait>(self, rt: &R) -> ProgramSet
         ensures last { result ≡ self }
     {
@@ -188,7 +187,7 @@ impl Publisher {
         Box::into_inner(writer.take(rt))
     }
 
-    // All that can be refused comes before the list grows.
+    // Everything that can be refused comes before the list grows.
     fn published<R: Wait>(
         self,
         rt: &R,

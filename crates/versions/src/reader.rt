@@ -14,7 +14,7 @@ use std::marker::Model;
 use std::sync::Wait;
 use std::thread;
 
-/// A place among the two copies, with no set.
+/// A reader's seat at the two copies, while it holds no set.
 pub type Outside = reader::Reader<ProgramSet, Option<Known>, OneList>;
 
 /// A reader that holds no set. Contracts see the loads that it has seen or was told of. It may move to another thread.
@@ -37,8 +37,8 @@ impl Model for Reader {
     ghost invariant = { λ r. tie_of (seat_view r.place.place) ≡ Some r.known.list };
 }
 
-/// A reader with the set that it holds, which stays the same until the reader leaves. It is not `Drop`: end it by
-/// `leave`. Contracts see the loads that leave the set.
+/// A reader with the set that it holds, which doesn't change until the reader leaves. It isn't `Drop`: end it by
+/// `leave`. Contracts see the loads that result in the set.
 pub struct Entered {
     reading: reader::Reading<ProgramSet, Option<Known>, OneList>,
 }
@@ -64,7 +64,7 @@ impl Entered {
         self.reading.get()
     }
 
-    /// Gives the set back.
+    /// Gives the set back, and returns the reader.
     pub fn leave(self) -> Reader
         ensures seen { result ≡ self }
     {
@@ -78,7 +78,7 @@ impl Entered {
 }
 
 impl Reader {
-    /// A reader that has seen the loads that are known.
+    /// A reader that has seen the known loads.
     pub(crate) fn over(place: Outside, known: Known) -> Reader
         requires { tie_of (view place.place) ≡ Some known.list }
         ensures { result ≡ known }
@@ -93,7 +93,7 @@ impl Reader {
         &self.known
     }
 
-    /// Takes one whole set with all that this reader has seen or was told of. It tries again until it has one.
+    /// Borrows one whole set that includes all this reader has seen or was told of. Retries until it has one.
     pub(crate) fn enter<R: Wait>(self, rt: &R) -> Entered
         ensures { Begins self result }
     {
@@ -113,7 +113,7 @@ impl Reader {
         unreachable!()
     }
 
-    /// From now on it takes no set without the loads of the news.
+    /// From here on it enters only sets that include the loads in `news`.
     pub(crate) fn learn(self, news: News) -> Reader
         requires { news.list ≡ self.list }
         ensures seen { Begins self result }

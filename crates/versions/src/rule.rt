@@ -1,4 +1,4 @@
-//! The rule under which a reader knows that the set that it takes is of its own list.
+//! The rule by which a reader knows that the set it enters is of its own list.
 
 use crate::list::Known;
 use crate::set::ProgramSet;
@@ -16,7 +16,7 @@ impl Protocol<ProgramSet, Option<Known>> for OneList {
     ghost first = { None };
 }
 
-/// A step after which a seat knows the set that is published.
+/// A step after which a seat knows the published set.
 pub struct Enters;
 
 impl Outcome<ProgramSet, Option<Known>> for Enters {

@@ -13,7 +13,7 @@ use std::alloc::AllocError;
 use std::marker::Model;
 use std::sync::Arc;
 
-/// A set of programs: for each hook the one that was loaded last, or none. Contracts see the loads that leave it.
+/// A set of programs: for each hook the last one loaded, or none. Contracts see the loads that result in it.
 #[derive(Drop)]
 pub struct ProgramSet {
     association: Option<Arc<Accepted>>,
@@ -34,7 +34,7 @@ impl Model for ProgramSet {
     ghost invariant = { λ s. kept_by_hook s.association s.addba s.frames ≡ set_of s.known.loads };
 }
 
-/// The programs of a set that is to come.
+/// The programs of a set to be made.
 #[derive(Drop)]
 pub struct Owners {
     pub association: Option<Arc<Accepted>>,
@@ -66,7 +66,7 @@ impl ProgramSet {
         }
     }
 
-    /// The set that those loads leave.
+    /// The set that those loads result in.
     pub fn of(owners: Owners, known: Known) -> ProgramSet
         requires { programs_of owners ≡ set_of known.loads }
         ensures { result ≡ known }
@@ -117,14 +117,14 @@ impl ProgramSet {
         })
     }
 
-    /// The loads that it is the set of.
+    /// The loads that result in the set.
     pub fn known(&self) -> &Known
         ensures { result.now ≡ self.now }
     {
         &self.known
     }
 
-    /// A hook's program, which was accepted for that hook and for the map shapes in use. None where the hook has none.
+    /// A hook's program, which was accepted for that hook and for the map shapes in use; None if it has none.
     pub fn program(&self, hook: Hook) -> Option<&Accepted>
         ensures is { option_copied result ≡ program_at hook (set_of self.now.loads) }
         ensures own { IfSome result (λ p. IsFor self.now.shapes hook p.now) }
@@ -142,7 +142,7 @@ impl ProgramSet {
     }
 }
 
-/// An operation is the whole set that comes next.
+/// An operation is the whole next set.
 impl Absorb<ProgramSet> for ProgramSet {
     type State = Known;
 

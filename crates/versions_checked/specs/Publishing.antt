@@ -1,4 +1,4 @@
--- What becomes of a program that is offered with a certificate.
+-- The outcome for a program offered with a certificate.
 use Rattle.std.specs.Prelude.{◌≡◌, ◌≢◌, ℕ, Result, Ok, Err, Some}
 use Rattle.bpf_model.specs.Run.{Safe}
 use Rattle.bpf_machine.specs.Verified.{Verified}
@@ -11,7 +11,7 @@ use Rattle.versions_checked.specs.declared.fault.CheckedFault.{CheckedFault}
 use Rattle.versions_checked.specs.declared.fault.CheckedFault.TheVariants.{Certificate, Publication}
 use Rattle.versions_checked.specs.declared.publishing.Offer.{Offer}
 
--- the certificate shows that the program is safe within so many instructions
+-- the certificate shows that the program is safe within b instructions
 abbrev pub IsShown : Offer → ℕ → Type 0
 IsShown o b = Covered o.program o.hook o.certificate.now b
 
@@ -19,27 +19,27 @@ IsShown o b = Covered o.program o.hook o.certificate.now b
 abbrev pub verified : Offer → ℕ → Verified
 verified o b = record { code = o.program; hook = o.hook; budget = b }
 
--- The program was loaded for its hook with that budget, which the certificate shows and within which it
--- is safe, and its map shapes are those of the list.
+-- The program was loaded for its hook with a budget that the certificate shows and within which it is safe, and its map
+-- shapes are those of the list.
 pub record IsPublished (old new : Beginning) (o : Offer) (b : ℕ) : Type 0 where
   pub shown : IsShown o b
   pub safe : Safe o.program.slots o.program.shapes b
   pub shapes : o.program.shapes ≡ old.shapes
   pub is : new ≡ with_load old (load o.hook (Some (verified o b)))
 
--- the map shapes are why a program is refused whose certificate shows a budget
+-- a program whose certificate shows a budget is refused because its map shapes differ
 pub record HasOtherShapes (old : Beginning) (o : Offer) : Type 0 where
   pub budget : ℕ
   pub shown : IsShown o budget
   pub differ : o.program.shapes ≢ old.shapes
 
--- why it was refused: the certificate, or else the map shapes; of memory nothing is said
+-- why it was refused: the certificate, or else the map shapes; lack of memory says nothing
 abbrev pub IsRefusal : Beginning → Offer → CheckedFault → Type 0
 IsRefusal old o (Certificate fault) = Refuses o.program o.hook o.certificate.now fault
 IsRefusal old o (Publication publication.NoMemory) = Unit {0}
 IsRefusal old o (Publication publication.OtherShapes) = HasOtherShapes old o
 
--- what is answered where the certificate shows a budget: that one, 60 where shapes differ, or 40
+-- the result if the certificate shows a budget: that one, 60 if the shapes differ, or 40
 abbrev pub Obtains : Beginning → Offer → Result ℕ CheckedFault → ℕ → Type 0
 Obtains old o (Ok n) b = n ≡ b
 Obtains old o (Err (Certificate certificate.NoMemory)) b = Unit {0}

@@ -1,4 +1,4 @@
-//! Why a program was not published by its certificate.
+//! Why a program wasn't published by its certificate.
 
 ghost use Rattle.std.specs.Prelude.{◌≡◌};
 ghost use Rattle.versions.specs.declared.fault.PublishFault.TheVariants.{NoMemory};
@@ -9,17 +9,17 @@ use bpf_cert::CertFault;
 use std::alloc::AllocFailed;
 use versions::PublishFault;
 
-/// Why a program was not published by its certificate.
+/// Why a program wasn't published by its certificate.
 #[derive(Clone, Copy, Debug, PartialEq, Eq)]
 pub enum CheckedFault {
     /// The certificate wasn't accepted: 70 to 72, or 40.
     Certificate(CertFault),
-    /// It was, and the program wasn't published: 60 or 40.
+    /// The certificate was accepted, but the program wasn't published: 60 or 40.
     Publication(PublishFault),
 }
 
 impl CheckedFault {
-    /// 70 to 72 for a certificate that isn't accepted, 60 for other shapes, 40 for want of memory.
+    /// 70 to 72 for a certificate that isn't accepted, 60 for other shapes, 40 for lack of memory.
     pub fn number(self) -> u8
         ensures is { result ≡ number_of self }
     {

@@ -1,8 +1,8 @@
-//! Programs that are published by their certificates.
+//! Publishes programs by their certificates.
 //!
-//! Main call: `publish_checked`, which checks a certificate and then publishes the program for its
-//! hook. It stands on `versions` and `bpf_cert`. A program whose certificate shows a budget is refused
-//! for nothing but other map shapes (60) or want of memory (40). A refusal leaves the published set.
+//! Main call: `publish_checked`, which checks a certificate and then publishes the program for its hook. The crate
+//! depends on `versions` and `bpf_cert`. A program whose certificate shows a budget is refused only for other map
+//! shapes (60) or lack of memory (40). A refusal leaves the published set unchanged.
 #![tactic(auto)]
 
 mod fault;

@@ -19,12 +19,11 @@ pub struct Offer<'a> {
     pub certificate: &'a [u8],
 }
 
-/// Checks a certificate, publishes its program for its hook, and answers the budget. It waits as
-/// `Publisher::publish` does.
+/// Checks a certificate, publishes its program for its hook, and returns the budget. Waits like `Publisher::publish`.
 ///
-/// 70 to 72: the certificate isn't accepted, as `check` has it. 60: it is, and the program's map
-/// shapes are not those of the published sets. 40: memory was refused, or there is no room, as
-/// `publish` has it. After any refusal the published set is as it was.
+/// 70 to 72: the certificate isn't accepted, as `check` defines it. 60: it is, but the program's map shapes aren't
+/// those of the published sets. 40: lack of memory, or as `publish` defines it. After any refusal the published set is
+/// unchanged.
 pub fn publish_checked<R: Wait>(
     rt: &R,
     alloc: Global,
@@ -36,7 +35,7 @@ pub fn publish_checked<R: Wait>(
     ensures added { IfOk result (IsPublished publisher.old publisher.new offer.entry) }
     ensures refused { OnErr result (publisher.new ≡ publisher.old) }
     ensures why { IfErr result (IsRefusal publisher.old offer.entry) }
-    // Where the certificate shows a budget, that is answered, or 60 where the shapes differ, or 40.
+    // If the certificate shows a budget, it is returned, or 60 if the shapes differ, or 40.
     ensures only { (b : ℕ) → IsShown offer.entry b → Obtains publisher.old offer.entry result b }
 {
     let Offer {

@@ -3,7 +3,7 @@ use Rattle.bpf_cert_format.specs.Fits.{FitsValue}
 use Rattle.bpf_cert_format.specs.Spelling.{number, label, region}
 use Rattle.bpf_cert_format.proofs.writing.put_value.Goals as goal
 
--- two bytes, and what comes then
+-- two bytes, and what follows
 two : (o o1 o2 c : List ℕ) (a b : ℕ) → o1 ≡ o ++ a ∷ b ∷ [] → o2 ≡ o1 ++ c → o2 ≡ o ++ a ∷ b ∷ c
 two o o1 o2 c a b e f = f ∙ ap (λ (t : List ℕ). t ++ c) e ∙ append_assoc o (a ∷ b ∷ []) c
 

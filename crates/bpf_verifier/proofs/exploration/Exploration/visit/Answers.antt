@@ -23,7 +23,7 @@ use Rattle.bpf_verifier.proofs.Paths.{AreBegun-push, Linked-push, Linked-on, of_
 use Rattle.bpf_verifier.proofs.Tables.{kept}
 use Rattle.bpf_verifier.proofs.exploration.Exploration.visit.Goals as goal
 
--- what is kept of a state is that state
+-- the state that is kept is that state
 the_state : (o : Option View) (a : View) (P : View → Type 0) → IfSome o (λ x. (x ≡ a) × P x) → IfSome o (λ x. x ≡ a)
 the_state None a P h = tt
 the_state (Some x) a P h = h.0
