@@ -1,4 +1,5 @@
-//! The machine of bare words: single steps, and the same results with policies as the tagged machine's.
+//! The machine of bare words: single steps, and the same results with policies as the tagged
+//! machine's.
 
 use crate::alike::compare_on_frames;
 use crate::policies::POLICIES;

@@ -12,7 +12,8 @@ use bpf_text::assemble;
 use std::alloc::Global;
 use std::process::Abort;
 
-/// Two branches that join at slot 3, with different numbers in R0. From there one is shorter than the other.
+/// Two branches that join at slot 3, with different numbers in R0. From there one is shorter than
+/// the other.
 const TEXT: &str =
     "call 4\njgt r0, 7, +1\nmov r0, 0\njeq r0, 0, +3\nmov r0, 1\nmov r0, 1\nmov r0, 1\nexit";
 
@@ -38,8 +39,8 @@ fn add(rt: &impl Abort, entries: &mut Vec<Leaf>, entry: Entry) {
     entries.push(Leaf::read(entry)).ok().expect(rt, "memory");
 }
 
-/// One entry for the start, one for both branches, and one for their ends. For all numbers in R0 the longer branch is
-/// possible, so the budget is one above the verified one.
+/// One entry for the start, one for both branches, and one for their ends. For all numbers in R0
+/// the longer branch is possible, so the budget is one above the verified one.
 fn by_hand(rt: &impl Abort, alloc: Global) -> Vec<u8> {
     let mut entries = Vec::new(alloc);
     add(rt, &mut entries, all_states(rt, alloc, 0, 8, AbsVal::Unset));

@@ -1,5 +1,5 @@
-//! Certificates with a changed byte, or truncated: each is refused, or accepted with a budget within which the
-//! program's runs on three frames end.
+//! Certificates with a changed byte, or truncated: each is refused, or accepted with a budget
+//! within which the program's runs on three frames end.
 
 use crate::making::{certified, program};
 use crate::same::holds;

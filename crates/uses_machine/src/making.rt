@@ -57,7 +57,8 @@ fn checked(alloc: Global, program: Program, hook: Hook, bytes: &[u8]) -> u32 {
     }
 }
 
-/// A program is verified with this budget, and its certificate, which is for its hook alone, has the same.
+/// A program is verified with this budget, and its certificate, which is for its hook alone, has
+/// the same.
 fn is_certified(rt: &impl Abort, alloc: Global, text: &str, map: Option<(u32, u32)>, budget: u32) {
     let (verified, bytes) = certified(rt, alloc, text, map);
     same(rt, verified, budget, text);
@@ -103,7 +104,8 @@ const PROGRAMS: &[(&str, Option<(u32, u32)>, u32)] = &[
         Some((1, 8)),
         10,
     ),
-    // the callee spills its argument; the caller keeps r6 and a stack slot, over a loop in the callee
+    // the callee spills its argument; the caller keeps r6 and a stack slot, over a loop in the
+    // callee
     (
         "mov r1, 5\ncall local +2\nadd r0, 1\nexit\nstxdw [r10-8], r1\nldxdw r0, [r10-8]\nmul r0, r0\nexit",
         None,

@@ -1,5 +1,5 @@
-//! The accepted policies and examples, as slots, each with its first byte as the highest. They equal `policies/*.hex`
-//! and the files in `examples/`, which a test can't read.
+//! The accepted policies and examples, as slots, each with its first byte as the highest. They
+//! equal `policies/*.hex` and the files in `examples/`, which a test can't read.
 
 use bpf_regions::{Hook, Scope, Shape, WordWidth};
 
@@ -505,7 +505,8 @@ const MARK_AND_COUNT: [u64; 11] = [
     0x9500000000000000,
 ];
 
-/// All accepted ones but two in the assembler's language: `texts` has the loop and the header of variable length.
+/// All accepted ones but two in the assembler's language: `texts` has the loop and the header of
+/// variable length.
 pub const POLICIES: [Policy; 19] = [
     Policy {
         name: "agreements",

@@ -1,5 +1,5 @@
-//! Programs of slots, accepted or not, and their results on the tagged machine: R0 and the steps, or the slot and
-//! number of a fault. Accepted programs have the same results on both machines.
+//! Programs of slots, accepted or not, and their results on the tagged machine: R0 and the steps,
+//! or the slot and number of a fault. Accepted programs have the same results on both machines.
 
 use crate::alike::compare_on_frames;
 use crate::programs::of_slots;
@@ -65,7 +65,8 @@ const TEST: u64 = 0x5500010000000000;
 
 const LOAD: u64 = 0x7900000000000000;
 
-/// The result of a program: R0 and the steps, or the slot and the number of a fault, or that the limit cut the run.
+/// The result of a program: R0 and the steps, or the slot and the number of a fault, or that the
+/// limit cut the run.
 #[derive(Clone, Copy, Debug, PartialEq)]
 enum End {
     Ends(u64, u32),
@@ -83,7 +84,8 @@ fn end_of(answer: &Probe) -> End {
     }
 }
 
-/// The inputs of a probe: the shape of a map, a frame, the answers to queries, and a limit of steps.
+/// The inputs of a probe: the shape of a map, a frame, the answers to queries, and a limit of
+/// steps.
 #[derive(Clone, Copy, Drop)]
 struct Given<'a> {
     map: Option<Shape>,
@@ -334,7 +336,8 @@ const TURNS: &[u64] = &[
     EXIT,
 ];
 
-/// Programs, each with a limit of steps. At the limit the run is cut, or the fault of the next step is found.
+/// Programs, each with a limit of steps. At the limit the run is cut, or the fault of the next step
+/// is found.
 const LIMITS: &[(&[u64], u32, End)] = &[
     (&[0x0500ffff00000000, EXIT], 10, Cut),
     (&[ONE, EXIT], 0, Cut),
@@ -453,7 +456,8 @@ const OF_NINE: &[(&[u64], Option<Shape>, End)] = &[
     ),
 ];
 
-/// Programs with a map of one 4-byte word, and a list of answers, which are reduced to their ranges.
+/// Programs with a map of one 4-byte word, and a list of answers, which are reduced to their
+/// ranges.
 const LISTED: &[(&[u64], &[u64], End)] = &[
     (&[NOW, EXIT], &[u64::MAX], Ends(u64::MAX, 2)),
     (&[STATIONS, EXIT], &[2010], Ends(2, 2)),
@@ -536,7 +540,8 @@ const WIDE: Option<Shape> = Some(Shape {
     scope: Scope::Shared,
 });
 
-/// Programs over plain maps that keep what is stored, the first number that they draw, and their result.
+/// Programs over plain maps that keep what is stored, the first number that they draw, and their
+/// result.
 const PLAIN: &[(&[u64], Option<Shape>, u64, End)] = &[
     (&[NOW, EXIT], None, 0, Ends(11, 2)),
     (&[STATIONS, EXIT], None, 0, Ends(2007, 2)),

@@ -1,4 +1,5 @@
-//! Programs by their text: the results of verification, and those of runs of accepted programs on both machines.
+//! Programs by their text: the results of verification, and those of runs of accepted programs on
+//! both machines.
 
 use crate::alike::compare_on_frames;
 use crate::programs::{Said, admitted, of_text, repeated, said_of};
@@ -9,7 +10,8 @@ use bpf_verifier::verify;
 use std::alloc::Global;
 use std::process::Abort;
 
-/// R0 and the steps of a run of an accepted program, on this frame, with these answers to its queries.
+/// R0 and the steps of a run of an accepted program, on this frame, with these answers to its
+/// queries.
 fn end_of(rt: &impl Abort, accepted: &Accepted, frame: &[u8], answers: &[u64]) -> (u64, u32) {
     let frame = Frame::new(frame).expect(rt, "a short frame");
     let mut port = ListPort::new(accepted.program().shapes(), answers);
@@ -20,7 +22,8 @@ fn end_of(rt: &impl Abort, accepted: &Accepted, frame: &[u8], answers: &[u64]) -
 /// A run: a frame, the answers to queries, R0 and the steps.
 type Run = (&'static [u8], &'static [u64], (u64, u32));
 
-/// The program is accepted with this budget. Its runs end so, and have the same results on both machines.
+/// The program is accepted with this budget. Its runs end so, and have the same results on both
+/// machines.
 fn is_run(
     rt: &impl Abort,
     alloc: Global,
@@ -208,7 +211,8 @@ const BUILT: &[Built] = &[
     ),
     // the longest code
     (&[("mov r0, 1\n", 16383), ("exit\n", 1)], 16384, &[]),
-    // each jump leaves one of eight registers unset, so that no state covers another: 256 paths, all explored
+    // each jump leaves one of eight registers unset, so that no state covers another: 256 paths,
+    // all explored
     (
         &[
             ("call 2\n", 1),
