@@ -80,7 +80,8 @@ fn spelling(rt: &impl Abort, alloc: Global, frame: &MacFrame) -> Vec<u8> {
     out
 }
 
-/// Bytes are refused with a number of 50 to 55, or read and written again unchanged. Whether they are read.
+/// Bytes are refused with a number of 50 to 55, or read and written again unchanged. Whether they
+/// are read.
 fn is_read_or_refused(rt: &impl Abort, alloc: Global, bytes: &[u8]) -> bool {
     match parse(alloc, bytes) {
         Ok(frame) => {
@@ -605,8 +606,8 @@ fn is_written_and_read(rt: &impl Abort, alloc: Global, digits: &str) {
     is_spelled(rt, alloc, read, digits);
 }
 
-/// For each kind: the length of its header, that with its fixed fields, and the lengths at which the frame above ends
-/// with an element or within its data.
+/// For each kind: the length of its header, that with its fixed fields, and the lengths at which
+/// the frame above ends with an element or within its data.
 const CUTS: [(usize, usize, &[usize]); 16] = [
     (24, 28, &[28, 33, 39]),
     (24, 30, &[30, 36]),
