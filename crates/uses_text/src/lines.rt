@@ -5,8 +5,8 @@ use bpf_line::{InsnText, LineFault, read_line};
 use std::alloc::Global;
 use std::process::Abort;
 
-/// The line is read, and then written as this text: empty if it has no instruction, `?` if it isn't in the grammar, `#`
-/// if a number is out of range.
+/// The line is read, and then written as this text: empty if it has no instruction, `?` if it isn't
+/// in the grammar, `#` if a number is out of range.
 fn is_again(rt: &impl Abort, alloc: Global, line: &str, text: &str) {
     match read_line(line) {
         Ok(Some(insn)) => {
