@@ -6,8 +6,7 @@ use std::alloc::{AllocError, Global};
 
 const BSSID: [u8; 6] = [2, 0, 0, 0, 0, 1];
 
-/// What follows the addresses of a data frame: 4 bytes of sequence and QoS control, then a packet to UDP port 53, 74
-/// bytes in all.
+/// The body of a data frame: LLC/SNAP and a packet to UDP port 53, 74 bytes in all.
 const PACKET: [u8; 74] = [
     0xaa, 0xaa, 0x03, 0, 0, 0, 0x08, 0, 0x45, 0, 0, 66, 0, 0, 0, 0, 64, 17, 0, 0, 10, 0, 0, 1, 10,
     0, 0, 2, 0x30, 0x39, 0, 53, 0, 46, 0, 0, 1, 2, 3, 4, 5, 6, 7, 8, 9, 10, 11, 12, 13, 14, 15, 16,

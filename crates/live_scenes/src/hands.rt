@@ -115,7 +115,7 @@ impl<'a, B: Ledgers + Journals> Chief<'a, B> {
         true
     }
 
-    /// Disassociates a station at once, as `LiveAp::act`.
+    /// Deauthenticates a station at once, as `LiveAp::act`.
     pub fn kick<R: Wait>(
         &mut self,
         rt: &R,

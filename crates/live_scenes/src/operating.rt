@@ -21,7 +21,7 @@ pub(crate) struct Diary {
     pub put: u64,
     /// The outcome of the commands that it decided at once.
     pub acted: Totals,
-    /// How often an allocation failed, or a map word was wrong.
+    /// How often an allocation failed, or a map's word or sum was wrong.
     pub wrong: u64,
     /// The last sum that it took.
     sum: u64,
@@ -84,7 +84,7 @@ fn guest_of(operator: u8) -> [u8; 6] {
     address(operator.wrapping_add(100), operator)
 }
 
-/// Disassociates the guest at once.
+/// Deauthenticates the guest at once.
 fn kick<B: Ledgers + Journals, R: Wait>(
     rt: &R,
     alloc: Global,

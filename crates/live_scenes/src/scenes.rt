@@ -33,8 +33,8 @@ pub struct Scene<'a, B: Ledgers + Journals> {
 }
 
 impl<'a, B: Ledgers + Journals> Scene<'a, B> {
-    /// Each worker serves its queue, one after another. If an allocation fails, the list has what was served until
-    /// then.
+    /// One after another, each worker serves its queue. If an allocation fails, the list has what that worker served
+    /// until then.
     pub fn serve<R: Wait, G: Gate>(
         &mut self,
         rt: &R,
@@ -153,7 +153,6 @@ fn players_of<'x, 'a, B: Ledgers + Journals>(
     Ok(players)
 }
 
-/// Does one user's part.
 fn play_part<B: Ledgers + Journals, R: Wait, S: Story<R>>(
     rt: &R,
     alloc: Global,

@@ -58,7 +58,6 @@ pub struct Found {
 }
 
 impl Found {
-    /// Nothing found yet.
     fn new() -> Found {
         Found {
             put: 0,
@@ -71,13 +70,11 @@ impl Found {
         }
     }
 
-    /// Adds what a worker reported.
     fn add_tally(&mut self, tally: &Tally) {
         self.served = self.served.and(tally.totals);
         self.wrong = self.wrong.wrapping_add(tally.wrong);
     }
 
-    /// Adds what an operator did.
     fn add_diary(&mut self, diary: Diary) {
         self.put = self.put.wrapping_add(diary.put);
         self.acted = self.acted.and(diary.acted);
@@ -109,7 +106,6 @@ impl Found {
     }
 }
 
-/// Yields to other threads.
 fn pause() {
     for _ in 0..YIELDS {
         yield_now();

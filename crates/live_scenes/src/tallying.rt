@@ -93,7 +93,6 @@ impl Tally {
         call / 16 / 8 == place && is_right(outs, dropped, call)
     }
 
-    /// Counts an event's outcome.
     fn count(&mut self, call: u64, outs: &[Out], dropped: bool) {
         self.totals = self.totals.and(counts_of(outs, dropped));
         if call % 16 < 4 && !self.is_next(call, outs, dropped) {
@@ -101,7 +100,6 @@ impl Tally {
         }
     }
 
-    /// Counts the report of one event.
     fn take_one(&mut self, tagged: &Tagged) {
         match &tagged.fate {
             Fate::Decided { outs, dropped } => self.count(tagged.call, outs.as_slice(), *dropped),
