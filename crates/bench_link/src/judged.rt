@@ -68,13 +68,11 @@ impl Served {
         Ok(())
     }
 
-    /// Associates the station.
     fn associate(&mut self, alloc: Global) -> Result<(), AllocError> {
         self.accept(alloc, &authentication(alloc, STATION)?)?;
         self.accept(alloc, &association(alloc, STATION)?)
     }
 
-    /// The station's frame.
     fn frame(&self) -> Option<Frame<'_>> {
         match &self.sent.event {
             Event::Frame(octets) => Frame::new(octets.bytes()),
@@ -115,7 +113,6 @@ fn handled(
     Ok(ups(&outs))
 }
 
-/// The verdict on a frame.
 #[inline(never)]
 fn verdict(frame: &Frame<'_>, policies: &Policies<'_, '_>, state: &mut WorkerState) -> u64
     requires seats { IsFitting policies.now.maps.now 0 state.old.seats }

@@ -188,7 +188,6 @@ struct Spent {
     bytes: u64,
 }
 
-/// Measures the frames of a load.
 fn measure<R: Clock>(
     rt: &R,
     alloc: Global,
@@ -209,7 +208,6 @@ fn measure<R: Clock>(
     })
 }
 
-/// Prints what a load took.
 fn print_spent<R: Eprint>(rt: &R, load: Load, spent: Spent) -> io::Result<()> {
     let frames = u128::from(load.frames.max(1));
     eprintln!(rt;
@@ -244,7 +242,6 @@ fn report<R: Clock + Eprint>(
     print_spent(rt, load, spent)
 }
 
-/// Associates all stations.
 fn associate(alloc: Global, halves: &mut Halves) -> Result<(), AllocError> {
     for station in 0..STATIONS {
         halves.handle(alloc, &authentication(alloc, station)?, &[])?;

@@ -41,7 +41,6 @@ fn perform<R: Clock + Eprint + Wait>(rt: &R, alloc: Global, task: &Task, size: S
     }
 }
 
-/// Reports an unknown argument.
 fn refuse<R: Eprint>(rt: &R, unknown: &str) -> io::Result<()> {
     eprintln!(rt; "bench_link: {unknown}: no such word here; {USAGE}")
 }
