@@ -131,7 +131,6 @@ fn measure_often<R: Clock>(
     Ok(least)
 }
 
-/// Prints what was measured of a program.
 fn print_measured<R: Eprint>(rt: &R, name: &str, found: &Measured) -> io::Result<()> {
     eprintln!(rt;
         "{name}: budget {}, checked {}; {} bytes; verify {} ns, certificate {} ns, check {} ns",

@@ -127,7 +127,6 @@ struct Workload {
     quick: u32,
 }
 
-/// All workloads.
 const WORKLOADS: [Workload; 6] = [
     Workload {
         works: &[("straight64", Work::Run)],
@@ -191,7 +190,6 @@ fn slots_of(alloc: Global, code: Code, count: u32) -> Result<Vec<u64>, AllocErro
     }
 }
 
-/// The bytes of slots.
 fn bytes_of(alloc: Global, slots: &[u64]) -> Result<Vec<u8>, AllocError> {
     let mut bytes = Vec::new(alloc);
     for slot in slots {
@@ -324,7 +322,6 @@ fn print_best<R: Eprint>(rt: &R, name: &str, best: Best) -> io::Result<()> {
     )
 }
 
-/// Measures a work of a program.
 fn measure<R: Clock + Eprint>(
     rt: &R,
     name: &str,

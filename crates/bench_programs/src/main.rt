@@ -53,7 +53,6 @@ fn perform<R: Threads + Wait + Runtime + Sync + AllocGlobal>(
     }
 }
 
-/// Reports an unknown argument.
 fn refuse<R: Eprint>(rt: &R, unknown: &str) -> io::Result<()> {
     eprintln!(rt; "bench_programs: {unknown}: no such word here; {USAGE}")
 }

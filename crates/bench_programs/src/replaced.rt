@@ -66,7 +66,6 @@ fn enter_many<R: Wait>(rt: &R, entrance: &Entrance, reader: Reader, rounds: &Rou
     }
 }
 
-/// Two threads enter.
 fn enter_by_two<R: Threads + Wait + Sync>(
     rt: &R,
     entrance: &Entrance,
@@ -83,7 +82,6 @@ fn enter_by_two<R: Threads + Wait + Sync>(
     );
 }
 
-/// Four threads enter.
 fn enter_by_four<R: Threads + Wait + Sync>(
     rt: &R,
     entrance: &Entrance,
@@ -237,7 +235,6 @@ fn measure<R: Threads + Wait + Clock + Sync>(
     Ok((spent, loads.ok_or(AllocError)?))
 }
 
-/// Prints the result of one measurement.
 fn report<R: Eprint>(rt: &R, threads: u32, nanos: u128, loads: u64) -> io::Result<()> {
     eprintln!(rt; "{threads} threads: {nanos} ns an entry, {loads} publications")
 }

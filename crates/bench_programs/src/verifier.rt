@@ -47,7 +47,6 @@ enum Answer {
     Refused(Refusal),
 }
 
-/// Verifies a program.
 fn answer_of(alloc: Global, program: Program) -> Answer {
     match verify(alloc, program, Hook::Data) {
         Ok(accepted) => Answer::Budget(accepted.budget()),
@@ -55,7 +54,6 @@ fn answer_of(alloc: Global, program: Program) -> Answer {
     }
 }
 
-/// Prints the result of verification.
 fn print_answer<R: Eprint>(rt: &R, name: &str, answer: Answer) -> io::Result<()> {
     match answer {
         Answer::Budget(budget) => eprint!(rt; "{name}: budget {budget}"),
