@@ -57,7 +57,6 @@ fn await_asleep<R: Wait + Clock>(rt: &R, sign: &AtomicU64, far: u64) {
 }
 
 impl Filled {
-    /// The load, not yet measured.
     fn new(load: Load, workers: u32) -> Filled {
         Filled {
             load,
@@ -70,7 +69,6 @@ impl Filled {
         }
     }
 
-    /// The measured load.
     fn measured(&self) -> Load {
         Load {
             served: self.served.load(SeqCst),
@@ -103,7 +101,6 @@ impl Filled {
         }
     }
 
-    /// Adds the time since `start`.
     fn add_time<R: Clock>(&self, rt: &R, start: Option<Instant>) {
         if let Some(start) = start {
             if let Ok(spent) = start.elapsed(rt) {

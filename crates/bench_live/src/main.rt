@@ -55,7 +55,6 @@ fn perform<R: Threads + Wait + Clock + Eprint + Sync>(
     }
 }
 
-/// Reports an unknown argument.
 fn refuse<R: Eprint>(rt: &R, unknown: &str) -> io::Result<()> {
     eprintln!(rt; "bench_live: {unknown}: no such word here; {USAGE}")
 }

@@ -21,7 +21,6 @@ pub enum Kind {
 }
 
 impl Kind {
-    /// Its name.
     fn name(self) -> &'static str {
         match self {
             Kind::Filled => "filled",
@@ -44,7 +43,6 @@ impl Kind {
     }
 }
 
-/// Prints the result of a load.
 fn print_rate<R: Eprint>(rt: &R, workers: u32, kind: Kind, load: Load) -> io::Result<()> {
     eprintln!(rt;
         "workers {workers}, {}, {}: {} events a second, of {}",

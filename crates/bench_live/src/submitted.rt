@@ -44,7 +44,6 @@ fn events_of(alloc: Global, count: u64) -> Option<Vec<Event>> {
 }
 
 impl Submitted {
-    /// The load, not yet measured.
     fn new(alloc: Global, load: Load) -> Submitted {
         Submitted {
             load,
@@ -56,7 +55,6 @@ impl Submitted {
         }
     }
 
-    /// The measured load.
     fn measured<R: Wait>(&self, rt: &R) -> Load {
         Load {
             served: self.served.load(SeqCst),
