@@ -18,7 +18,6 @@ const LONG: u32 = 1024;
 /// The most paths to slots, summed over the slots, before code counts as heavy.
 const MOST: u64 = 16384;
 
-/// One of the hooks.
 fn hook(numbers: &mut Numbers) -> Hook {
     match numbers.below(3) {
         0 => Hook::Association,
@@ -143,7 +142,6 @@ fn judged_runs_first(
     }
 }
 
-/// The result for a program.
 fn judged_whole(
     alloc: Global,
     numbers: &mut Numbers,

@@ -4,7 +4,6 @@ use crate::tally::Judged;
 use capture::{CaptureFault, Packet, read_capture};
 use std::alloc::{AllocError, Global};
 
-/// Whether two packets are the same.
 fn are_same(one: &Packet<'_>, other: &Packet<'_>) -> bool {
     if one.time != other.time {
         return false;

@@ -42,7 +42,6 @@ fn code_in(bytes: &[u8]) -> &[u8] {
     &rest[..size]
 }
 
-/// The hook that a certificate names.
 fn hook_in(bytes: &[u8]) -> Hook {
     match bytes.get(4) {
         Some(1) => Hook::Association,

@@ -101,7 +101,6 @@ fn reshaped(alloc: Global, numbers: &mut Numbers, code: &[u8]) -> Result<Vec<u8>
     }
 }
 
-/// The code with one change.
 fn changed(alloc: Global, numbers: &mut Numbers, mut code: Vec<u8>) -> Result<Vec<u8>, AllocError> {
     if code.len() < 8 {
         return Ok(code);

@@ -17,7 +17,6 @@ fn refused(fault: FrameFault) -> Judged {
     }
 }
 
-/// Whether two frames have the same fields.
 fn are_alike(one: &MacFrame, other: &MacFrame) -> bool {
     one.flags() == other.flags()
         && one.duration() == other.duration()

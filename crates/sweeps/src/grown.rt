@@ -13,10 +13,9 @@ const LENGTHS: [u32; 8] = [0, 1, 14, 24, 26, 64, 100, 1500];
 /// Operations: add, sub, mul, div, or, and, mod, xor, mov.
 const OPERATIONS: [u8; 9] = [0x00, 0x10, 0x20, 0x30, 0x40, 0x50, 0x90, 0xa0, 0xb0];
 
-/// Shifts: left, right, and right with the sign.
+/// Shifts: left, logical right, and arithmetic right.
 const SHIFTS: [u8; 3] = [0x60, 0x70, 0xc0];
 
-/// Conditions.
 const CONDITIONS: [u8; 11] = [
     0x10, 0x20, 0x30, 0x40, 0x50, 0x60, 0x70, 0xa0, 0xb0, 0xc0, 0xd0,
 ];
@@ -24,7 +23,7 @@ const CONDITIONS: [u8; 11] = [
 /// Atomic operations: add, or, and, xor, each without and with fetch; exchange, compare and exchange.
 const ATOMICS: [u32; 10] = [0x00, 0x40, 0x50, 0xa0, 0x01, 0x41, 0x51, 0xa1, 0xe1, 0xf1];
 
-/// Loads of one, two, four and eight bytes, and of one, two and four with their sign.
+/// Loads of one, two, four and eight bytes, and sign-extending loads of one, two and four.
 const LOADS: [u8; 7] = [0x71, 0x69, 0x61, 0x79, 0x91, 0x89, 0x81];
 
 /// A register with a number.
@@ -55,7 +54,6 @@ fn push_stack(code: &mut Vec<u8>, numbers: &mut Numbers) -> Result<(), AllocErro
     Ok(())
 }
 
-/// Appends slots.
 fn push_all(code: &mut Vec<u8>, slots: &[Slot]) -> Result<(), AllocError> {
     for slot in slots {
         slot.push_to(code)?;
@@ -247,7 +245,6 @@ fn push_entry(code: &mut Vec<u8>, numbers: &mut Numbers) -> Result<(), AllocErro
     push_arguments(code, numbers)
 }
 
-/// One more part.
 fn push_part(code: &mut Vec<u8>, numbers: &mut Numbers, length: u32) -> Result<(), AllocError> {
     match numbers.below(32) {
         0..=11 => operation(numbers).push_to(code),

@@ -66,7 +66,6 @@ fn answers(alloc: Global, numbers: &mut Numbers) -> Result<Vec<u64>, AllocError>
     Ok(answers)
 }
 
-/// 32 random bytes.
 fn context(numbers: &mut Numbers) -> [u8; 32] {
     let mut bytes = [0u8; 32];
     for byte in bytes.iter_mut() {
@@ -98,7 +97,6 @@ pub enum Seen {
     Long,
 }
 
-/// What a program does on a frame.
 fn seen_on(program: &Program, inputs: &Inputs, bytes: &[u8], limit: u32) -> Seen {
     let Some(frame) = Frame::new(bytes) else {
         return Seen::Ended;

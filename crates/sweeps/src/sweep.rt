@@ -65,7 +65,6 @@ fn swept<R: Eprint>(
     Ok((tally, None))
 }
 
-/// Prints bytes as hex digits.
 fn print_digits<R: Print>(rt: &R, bytes: &[u8]) -> io::Result<()> {
     for byte in bytes {
         print!(rt; "{byte:02x}")?;

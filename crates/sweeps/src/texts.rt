@@ -9,7 +9,6 @@ use bpf_text::{AsmFault, assemble, disassemble};
 use std::alloc::{AllocError, Global};
 use std::str;
 
-/// How many lines a text has.
 fn count_lines(text: &[u8]) -> u64 {
     let feeds = text.iter().filter(|byte| **byte == b'\n').count();
     (feeds as u64).saturating_add(1)
@@ -65,7 +64,6 @@ pub fn judged_text(alloc: Global, bytes: &[u8]) -> Result<Judged, AllocError> {
     }
 }
 
-/// Whether two configurations are the same.
 fn are_alike(one: &Configuration, other: &Configuration) -> bool {
     one.bssid == other.bssid
         && one.ssid.as_slice() == other.ssid.as_slice()
@@ -128,7 +126,6 @@ fn are_in_order(commands: &[Numbered<'_>], lines: u64) -> bool {
     true
 }
 
-/// Whether lists of commands are the same.
 fn are_same(one: &[Numbered<'_>], other: &[Numbered<'_>]) -> bool {
     if one.len() != other.len() {
         return false;
