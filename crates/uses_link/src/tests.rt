@@ -45,7 +45,7 @@ enum Line<'a> {
     Request(u16),
     /// Time passes.
     Tick(u32),
-    /// The operator disassociates station `02000000000a`.
+    /// The operator deauthenticates station `02000000000a`.
     Kick(u16),
     /// The operator ends its agreement for a TID.
     Close(u8),

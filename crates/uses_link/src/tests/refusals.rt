@@ -115,7 +115,7 @@ const REFUSED_EXCHANGES_MAY_COME_AGAIN: &[Line<'_>] = &[
     Frame("c0000000 020000000001 02000000000a 020000000001 6000 0300"),
     Frame(ASSOCIATION),
     Sends(DEAUTHENTICATED_6),
-    // The operator disassociates it.
+    // The operator deauthenticates it.
     Frame(AUTHENTICATION),
     Sends(AUTHENTICATED),
     Frame(ASSOCIATION),
