@@ -98,8 +98,8 @@ fn is_read_and_written(rt: &impl Abort, alloc: Global, shapes: &Shapes, bytes: &
 fn fields_have_limits(rt: HostRuntime) {
     let alloc = rt.alloc();
     let shapes = no_maps(&rt, alloc);
-    // The magic, hook 0 and 4, a main function that returns, nine call frames, a missing stack
-    // frame and map, low above high, a distance without a label, an unknown tag.
+    // The magic, hook 0 and 4, a main function that returns, nine call frames, a stack frame and a
+    // map that don't exist, low above high, a distance without a label, an unknown tag.
     let wrong = [
         (0, 0x42),
         (4, 0),
