@@ -1,4 +1,4 @@
-//! What the words of the command line ask for.
+//! What the command line's arguments request.
 
 use std::alloc::{AllocError, Global};
 
@@ -11,7 +11,7 @@ pub enum Benchmark {
     Judge,
 }
 
-/// All of them, in the order in which they are measured where no word chooses.
+/// All, in the order in which they are measured if no argument chooses.
 const ALL: [Benchmark; 4] = [
     Benchmark::Frames,
     Benchmark::Windows,
@@ -20,7 +20,7 @@ const ALL: [Benchmark; 4] = [
 ];
 
 impl Benchmark {
-    /// The benchmark that a word chooses.
+    /// The benchmark that an argument names.
     fn named(word: &str) -> Option<Benchmark> {
         match word {
             "frames" => Some(Benchmark::Frames),
@@ -31,7 +31,7 @@ impl Benchmark {
         }
     }
 
-    /// Whether a number behind the benchmark's name says how much it measures.
+    /// Whether a number after the benchmark's name says how much it measures.
     fn has_number(self) -> bool {
         match self {
             Benchmark::Windows | Benchmark::Link => true,
@@ -40,7 +40,7 @@ impl Benchmark {
     }
 }
 
-/// How much is measured of what has no number of its own.
+/// How much is measured if no number says so.
 #[derive(Clone, Copy)]
 pub enum Size {
     Full,
@@ -57,7 +57,7 @@ impl Size {
     }
 }
 
-/// A benchmark that is asked for, and the number behind its name.
+/// A requested benchmark, and the number after its name.
 #[derive(Drop)]
 pub struct Task {
     pub benchmark: Benchmark,
@@ -65,7 +65,7 @@ pub struct Task {
 }
 
 impl Task {
-    /// A benchmark with no number behind its name yet.
+    /// A benchmark without a number.
     fn new(benchmark: Benchmark) -> Task {
         Task {
             benchmark,
@@ -73,7 +73,7 @@ impl Task {
         }
     }
 
-    /// Takes the word behind the benchmark's name, or gives it back where it means nothing there.
+    /// Takes the argument after the benchmark's name, or returns it if it means nothing there.
     fn take(&mut self, word: String) -> Option<String> {
         match word.as_str().parse::<u64>() {
             Ok(number) if self.benchmark.has_number() && self.number.is_none() => {
@@ -85,7 +85,7 @@ impl Task {
     }
 }
 
-/// What the words ask for.
+/// What the arguments request.
 #[derive(Drop)]
 pub struct Asked {
     pub size: Size,
@@ -93,7 +93,7 @@ pub struct Asked {
 }
 
 impl Asked {
-    /// What no word asks for: all, in full.
+    /// Nothing requested yet, in full.
     pub fn new(alloc: Global) -> Asked {
         Asked {
             size: Size::Full,
@@ -101,7 +101,7 @@ impl Asked {
         }
     }
 
-    /// Takes another word, or gives it back where it means nothing there.
+    /// Takes another argument, or returns it if it means nothing there.
     pub fn take(&mut self, word: String) -> Result<Option<String>, AllocError> {
         if word.as_str() == "quick" {
             self.size = Size::Quick;
@@ -117,7 +117,7 @@ impl Asked {
         }
     }
 
-    /// The tasks that were chosen, or each benchmark where none was.
+    /// The requested tasks, or each benchmark if there is none.
     pub fn finish(self) -> Result<Vec<Task>, AllocError> {
         let mut tasks = self.chosen;
         if tasks.is_empty() {

@@ -27,7 +27,7 @@ fn data_frame(alloc: Global) -> Result<Vec<u8>, AllocError> {
     Ok(bytes)
 }
 
-/// How many of so many readings found a frame.
+/// How many of `times` parses found a frame.
 fn readings(alloc: Global, bytes: &[u8], times: u64) -> u64 {
     let mut found = 0u64;
     for _ in 0..times {
@@ -38,12 +38,12 @@ fn readings(alloc: Global, bytes: &[u8], times: u64) -> u64 {
     found
 }
 
-/// Prints how many readings of a frame found it, and how long one took.
+/// Prints how many parses of a frame found it, and how long one took.
 fn print_found<R: Eprint>(rt: &R, name: &str, found: u64, nanos: u128) -> io::Result<()> {
     eprintln!(rt; "{name}: {found} read, {nanos} ns each")
 }
 
-/// Reads a frame so many times, and prints how long one reading took.
+/// Parses a frame `times` times, and prints how long one parse took.
 fn report<R: Clock + Eprint>(
     rt: &R,
     alloc: Global,
@@ -57,7 +57,7 @@ fn report<R: Clock + Eprint>(
     print_found(rt, name, found, spent / u128::from(times.max(1)))
 }
 
-/// Reads a frame of each kind, a million times or 10000.
+/// Parses a frame of each kind a million times, or 10000 if quick.
 pub fn print_times<R: Clock + Eprint>(rt: &R, alloc: Global, size: Size) -> io::Result<()> {
     let times = size.choose(1_000_000, 10_000);
     report(rt, alloc, "data of 1500 bytes", &data_frame(alloc)?, times)?;

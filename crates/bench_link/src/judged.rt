@@ -1,6 +1,6 @@
 //! How long a shard takes for a QoS data frame of 100 bytes of one associated station that programs judge: without a
-//! program, under a filter of a port, and under a program that counts in a map. Beside these the verdict by itself and
-//! the run of the program by itself, which shows what the judge adds to the run. Each is the least of all rounds.
+//! program, under a port filter, and under a program that counts in a map. Beside these, the verdict by itself and the
+//! run of the program by itself, which show what the judge adds to the run. Each is the least of all rounds.
 
 ghost use Rattle.std.specs.Prelude.{◌≡◌, ◌≤◌};
 ghost use Rattle.bpf_helpers.specs.Hooked.{IsFitting, shapes_of};
@@ -23,17 +23,17 @@ use std::{fmt, io};
 /// The station that sends.
 const STATION: u16 = 0;
 
-/// How often each is done in a round.
+/// How often a round does each.
 const TIMES: u64 = 1000;
 
-/// A shard at which a station is associated, and a data frame of it.
+/// A shard with an associated station, and a data frame of that.
 #[derive(Drop)]
 struct Served {
     shard: Shard,
     sent: Sent,
 }
 
-/// How many nanoseconds a round took: of the frame in the shard, of its verdict by itself and of the run by itself.
+/// How many nanoseconds a round took: of the frame in the shard, of its verdict by itself, and of the run by itself.
 #[derive(Clone, Copy)]
 struct Spent {
     frame: u128,
@@ -42,7 +42,7 @@ struct Spent {
 }
 
 impl Spent {
-    /// The less of each.
+    /// The lesser of each.
     fn least(self, other: Spent) -> Spent {
         Spent {
             frame: self.frame.min(other.frame),
@@ -61,20 +61,18 @@ impl Served {
         Ok(Served { shard, sent })
     }
 
-    /// Handles what the station sends before.
+    /// Handles an earlier frame of the station.
     fn accept(&mut self, alloc: Global, sent: &Sent) -> Result<(), AllocError> {
         let mut judge = ListJudge::new(&[]);
         let _outs = self.shard.handle(alloc, &sent.event, &mut judge)?;
         Ok(())
     }
 
-    /// Associates the station.
     fn associate(&mut self, alloc: Global) -> Result<(), AllocError> {
         self.accept(alloc, &authentication(alloc, STATION)?)?;
         self.accept(alloc, &association(alloc, STATION)?)
     }
 
-    /// The station's frame.
     fn frame(&self) -> Option<Frame<'_>> {
         match &self.sent.event {
             Event::Frame(octets) => Frame::new(octets.bytes()),
@@ -97,7 +95,7 @@ fn view_of<'t>(policies: &Policies<'_, 't>, clock: u64, stations: u16) -> Worker
     }
 }
 
-/// Handles the frame once, and answers how many frames were passed up.
+/// Handles the frame once, and returns how many frames were passed up.
 #[inline(never)]
 fn handled(
     alloc: Global,
@@ -115,7 +113,6 @@ fn handled(
     Ok(ups(&outs))
 }
 
-/// The verdict on a frame.
 #[inline(never)]
 fn verdict(frame: &Frame<'_>, policies: &Policies<'_, '_>, state: &mut WorkerState) -> u64
     requires seats { IsFitting policies.now.maps.now 0 state.old.seats }
@@ -142,7 +139,7 @@ fn ran(
     run_hook(accepted, frame, &Context::new([0; 32]), view, state).r0
 }
 
-/// A round of frames in the shard. It answers how many were passed up.
+/// A round of frames in the shard. Returns how many were passed up.
 fn handle_round(
     alloc: Global,
     served: &mut Served,
@@ -159,7 +156,7 @@ fn handle_round(
     Ok(passed)
 }
 
-/// A round of verdicts on a frame. It answers their sum.
+/// A round of verdicts on a frame. Returns their sum.
 fn judge_round(frame: &Frame<'_>, policies: &Policies<'_, '_>, state: &mut WorkerState) -> u64
     requires seats { IsFitting policies.now.maps.now 0 state.old.seats }
     ensures seats { IsFitting policies.now.maps.now 0 state.new.seats }
@@ -171,7 +168,7 @@ fn judge_round(frame: &Frame<'_>, policies: &Policies<'_, '_>, state: &mut Worke
     sum
 }
 
-/// A round of runs on a frame. It answers the sum of their R0.
+/// A round of runs on a frame. Returns the sum of their R0.
 fn run_round(
     accepted: &Accepted,
     frame: &Frame<'_>,
@@ -237,7 +234,8 @@ fn time_runs<R: Clock>(
     Ok((sum, start.elapsed(rt)?.as_nanos()))
 }
 
-/// How long a round of verdicts on a frame takes, and one of runs, if there is a program.
+/// How long a round of verdicts on a frame takes, and one of runs if there is a program. Fails if the sum of verdicts
+/// isn't that of R0.
 fn spent_by_itself<R: Clock>(
     rt: &R,
     frame: &Frame<'_>,
@@ -282,7 +280,7 @@ fn round<R: Clock>(
     })
 }
 
-/// The least of each that a round took: the first, or one of so many further ones.
+/// The least of each in `further + 1` rounds.
 fn least<R: Clock>(
     rt: &R,
     alloc: Global,
@@ -329,7 +327,7 @@ struct Beside {
 }
 
 impl Beside {
-    /// The less of each.
+    /// The lesser of each.
     fn least(self, other: Beside) -> Beside {
         Beside {
             without: self.without.least(other.without),
@@ -339,7 +337,7 @@ impl Beside {
     }
 }
 
-/// One turn of rounds without a program, then under the filter, and then under the counter.
+/// Rounds without a program, then under the filter, then under the counter.
 fn turn<R: Clock + Wait>(
     rt: &R,
     alloc: Global,
@@ -356,7 +354,7 @@ fn turn<R: Clock + Wait>(
     })
 }
 
-/// The least of each in ten turns of 50 rounds, or in one of two rounds, once the station is associated.
+/// Associates the station. The least of each in ten iterations of 50 rounds, or in one of two.
 fn in_turn<R: Clock + Wait>(
     rt: &R,
     alloc: Global,
@@ -372,23 +370,23 @@ fn in_turn<R: Clock + Wait>(
     Ok(least)
 }
 
-/// The same, of a new shard.
+/// The same, with a new shard.
 fn measured<R: Clock + Wait>(rt: &R, alloc: Global, size: Size) -> Result<Beside> {
     let mut served = Served::new(alloc)?;
     in_turn(rt, alloc, &mut served, size)
 }
 
-/// A number with two digits behind its point.
+/// A number with two decimal digits.
 #[derive(Clone, Copy)]
 struct Hundredths(u128);
 
 impl Hundredths {
-    /// A quotient, cut.
+    /// A quotient, rounded down.
     fn of(number: u128, divisor: u128) -> Hundredths {
         Hundredths(number.wrapping_mul(100) / divisor.max(1))
     }
 
-    /// What one took of a round.
+    /// The mean of a round.
     fn each(nanos: u128) -> Hundredths {
         Hundredths::of(nanos, u128::from(TIMES))
     }

@@ -1,5 +1,5 @@
 //! How long a shard takes for a data frame of 100 bytes and of 1500: of one associated station in an agreement, and of
-//! 500 stations in agreements in turn, 250 in each of two shards; and how long a copy of the frame takes.
+//! 500 stations in agreements alternating, 250 in each of two shards; and how long a copy of the frame takes.
 
 use crate::asked::{Size, Task};
 use ap_core::{Event, LinkConfig, ListJudge, Octets, Out, Shard};
@@ -34,7 +34,7 @@ pub struct Sent {
     pub event: Event,
 }
 
-/// A frame to the access point: its first four bytes, three addresses, and what comes behind them.
+/// A frame to the access point: its first four bytes, three addresses, and the rest.
 fn frame(alloc: Global, first: [u8; 4], station: u16, rest: &[u8]) -> Result<Sent, AllocError> {
     let mut bytes = Vec::from_slice(alloc, &first)?;
     bytes.extend_from_slice(&BSSID)?;
@@ -47,7 +47,7 @@ fn frame(alloc: Global, first: [u8; 4], station: u16, rest: &[u8]) -> Result<Sen
     })
 }
 
-/// What an access point of network `lab` is made with, which is within the limits.
+/// The configuration of an access point of network `lab`, which is within the limits.
 pub fn config(alloc: Global) -> Result<LinkConfig, AllocError> {
     let ssid = Octets::copy(alloc, b"lab")?;
     let rates = Octets::copy(alloc, &[0x82, 0x84, 0x8b, 0x96])?;
@@ -66,7 +66,7 @@ pub fn association(alloc: Global, station: u16) -> Result<Sent, AllocError> {
     frame(alloc, [0, 0, 0, 0], station, &request)
 }
 
-/// A request for an agreement of size 64 for TID 0, from number 0 on, with no timeout.
+/// A request for an agreement of size 64 for TID 0, from number 0 on, without timeout.
 fn setup(alloc: Global, station: u16) -> Result<Sent, AllocError> {
     let request = [0x10, 0, 3, 0, 7, 0x02, 0x10, 0, 0, 0, 0];
     frame(alloc, [0xd0, 0, 0, 0], station, &request)
@@ -131,7 +131,7 @@ impl Halves {
         Ok(ups(&outs))
     }
 
-    /// Handles events in turn, and counts the frames that are passed up.
+    /// Handles events in order, and counts the frames that are passed up.
     fn handle_all(&mut self, alloc: Global, events: &[Sent]) -> Result<u64, AllocError> {
         let mut passed = 0u64;
         for sent in events {
@@ -141,8 +141,8 @@ impl Halves {
     }
 }
 
-/// What is measured: data of how many stations in turn, each with numbers of its own, how many frames, and of how many
-/// bytes.
+/// What is measured: data of how many stations alternating, each with numbers of its own; how many frames; and how many
+/// bytes each has.
 #[derive(Clone, Copy)]
 struct Load {
     stations: u16,
@@ -178,8 +178,8 @@ fn copied(alloc: Global, events: &[Sent]) -> Result<u64, AllocError> {
     Ok(bytes)
 }
 
-/// What a load came to: how many nanoseconds its frames took and how many of them were passed up; how many nanoseconds
-/// copies of them took and how many bytes were copied.
+/// What a load took: nanoseconds for its frames, and how many were passed up; nanoseconds for copies of them, and how
+/// many bytes were copied.
 #[derive(Clone, Copy)]
 struct Spent {
     handling: u128,
@@ -188,7 +188,6 @@ struct Spent {
     bytes: u64,
 }
 
-/// Measures the frames of a load.
 fn measure<R: Clock>(
     rt: &R,
     alloc: Global,
@@ -209,7 +208,6 @@ fn measure<R: Clock>(
     })
 }
 
-/// Prints what a load came to.
 fn print_spent<R: Eprint>(rt: &R, load: Load, spent: Spent) -> io::Result<()> {
     let frames = u128::from(load.frames.max(1));
     eprintln!(rt;
@@ -223,7 +221,7 @@ fn print_spent<R: Eprint>(rt: &R, load: Load, spent: Spent) -> io::Result<()> {
     )
 }
 
-/// The first stations come to new agreements, so many of them.
+/// The first `stations` stations set up new agreements.
 fn agree(alloc: Global, halves: &mut Halves, stations: u16) -> Result<(), AllocError> {
     for station in 0..stations {
         halves.handle(alloc, &setup(alloc, station)?, &[64])?;
@@ -231,7 +229,7 @@ fn agree(alloc: Global, halves: &mut Halves, stations: u16) -> Result<(), AllocE
     Ok(())
 }
 
-/// Prints how long a load takes, whose agreements are new, and how long copies of its frames.
+/// Prints how long a load takes, in new agreements, and how long copies of its frames take.
 fn report<R: Clock + Eprint>(
     rt: &R,
     alloc: Global,
@@ -244,7 +242,6 @@ fn report<R: Clock + Eprint>(
     print_spent(rt, load, spent)
 }
 
-/// Associates all stations.
 fn associate(alloc: Global, halves: &mut Halves) -> Result<(), AllocError> {
     for station in 0..STATIONS {
         halves.handle(alloc, &authentication(alloc, station)?, &[])?;
@@ -253,7 +250,7 @@ fn associate(alloc: Global, halves: &mut Halves) -> Result<(), AllocError> {
     Ok(())
 }
 
-/// Prints how long frames of one size take, so many of them: of one station, and of all.
+/// Prints how long `frames` frames of this size take: of one station, and of all.
 fn report_both<R: Clock + Eprint>(
     rt: &R,
     alloc: Global,
@@ -272,7 +269,7 @@ fn report_both<R: Clock + Eprint>(
     Ok(())
 }
 
-/// Associates all stations, and prints how long each load takes, of so many frames.
+/// Associates all stations, and prints how long each load of `frames` frames takes.
 fn report_all<R: Clock + Eprint>(
     rt: &R,
     alloc: Global,

@@ -1,16 +1,16 @@
-//! How long the link takes for its frames, on standard error. The words of the command line choose benchmarks, and
-//! without any all are measured:
+//! How long the link takes for its frames, on standard error. The arguments choose benchmarks; without any, all are
+//! measured:
 //!
 //! - `frames`: `parse` of a data frame of 1500 bytes and of an association request;
-//! - `windows`: a reorder buffer, for data in order and with every second pair swapped. Behind it comes how many pairs;
-//! - `link`: a shard, for data frames of 100 bytes and of 1500, of one associated station in an agreement and of 500
-//!   stations in turn, 250 in each of two shards; and a copy of the frame. Behind it comes how many frames;
+//! - `windows`: a reorder buffer, for data in order and with every second pair swapped. A number of pairs may follow;
+//! - `link`: a shard, for data frames of 100 and of 1500 bytes, of one associated station in an agreement and of 500
+//!   stations alternating, 250 in each of two shards; and a copy of the frame. A number of frames may follow;
 //! - `judge`: a shard, for a data frame of 100 bytes of one associated station that programs judge: without a program,
-//!   under a filter of a port with a test of the frame's end, and under a program that counts in a map; beside each the
-//!   verdict by itself, the run of the program by itself, and what the judge adds to the run. Of 500 rounds of 1000 the
-//!   least of each is printed.
+//!   under a port filter that tests the frame's end, and under a program that counts in a map; beside each the verdict
+//!   by itself, the run of the program by itself, and what the judge adds to the run. The least of 500 rounds of 1000
+//!   is printed.
 //!
-//! `quick` makes all that has no number of its own small.
+//! `quick` makes small whatever has no number of its own.
 #![tactic(auto)]
 
 mod asked;
@@ -28,10 +28,10 @@ use std::rt::Clock;
 use std::sync::Wait;
 use std::{env, io};
 
-/// What an unknown word is told.
+/// The reply to an unknown argument.
 const USAGE: &str = "the benchmarks are frames, windows, link and judge; quick makes them small";
 
-/// Prints how long what a task asks for takes.
+/// Measures what a task requests, and prints it.
 fn perform<R: Clock + Eprint + Wait>(rt: &R, alloc: Global, task: &Task, size: Size) -> Result<()> {
     match task.benchmark {
         Benchmark::Frames => Ok(frames::print_times(rt, alloc, size)?),
@@ -41,7 +41,6 @@ fn perform<R: Clock + Eprint + Wait>(rt: &R, alloc: Global, task: &Task, size: S
     }
 }
 
-/// Says that a word means nothing here.
 fn refuse<R: Eprint>(rt: &R, unknown: &str) -> io::Result<()> {
     eprintln!(rt; "bench_link: {unknown}: no such word here; {USAGE}")
 }

@@ -1,4 +1,4 @@
-//! Programs for data with what they run on: a map of one word, a seat at it, and the set that a reader holds.
+//! Programs for data with what they need: a map of one word, a seat of it, and the set that a reader holds.
 
 ghost use Rattle.std.specs.Prelude.{◌≡◌, IfOk, IfSome};
 ghost use Rattle.bpf_helpers.specs.Hooked.{HaveTables, IsFitting, shapes_of};
@@ -17,7 +17,7 @@ use std::sync::{Arc, Wait};
 use versions::opening::published;
 use versions::{Entered, ProgramSet, Published, Publisher};
 
-/// R0 is 0 for LLC/SNAP, IPv4 and UDP to port 53 in QoS data, with a test of the frame's end first, and else 1.
+/// R0 is 0 for QoS data with LLC/SNAP, IPv4 and UDP to port 53, and else 1. It tests the frame's end first.
 pub const FILTER: &str = "mov r4, r1
 add r4, 58
 jgt r4, r2, +23
@@ -74,7 +74,7 @@ fn one_map(alloc: Global) -> Result<Vec<MapTables>>
     Ok(vec![in alloc; map]?)
 }
 
-/// The next seat of worker 0 at each of its tables.
+/// The next seat of worker 0 at each table of these maps.
 fn seat_at(alloc: Global, maps: &mut [MapTables]) -> Result<WorkerState>
     requires there { HaveTables maps.old 0 }
     ensures fits { IfOk result (λ state. IsFitting maps.new 0 state.seats) }
@@ -122,7 +122,7 @@ fn accepted(alloc: Global, text: &str, maps: &[MapTables]) -> Result<Accepted>
     }
 }
 
-/// The same for a set, if there is a text.
+/// The same to share, if there is a text.
 fn loaded(alloc: Global, text: Option<&str>, maps: &[MapTables]) -> Result<Option<Arc<Accepted>>>
     ensures { IfOk result (λ program. IfSome (kept program) (λ p. p.hook ≡ Data)) }
 {
@@ -154,7 +154,7 @@ fn opened<R: Wait>(
     Ok((publisher, sets))
 }
 
-/// A reader holds the set, if one is left.
+/// A reader enters the set, if a reader is left.
 fn held<R: Wait>(rt: &R, sets: &mut Published, publisher: &mut Publisher) -> Option<Entered>
     requires list { sets.old.list ≡ publisher.old.list }
     ensures shapes { IfSome result (λ held. held.shapes ≡ sets.old.shapes) }
@@ -163,7 +163,7 @@ fn held<R: Wait>(rt: &R, sets: &mut Published, publisher: &mut Publisher) -> Opt
     Some(sets.enter(rt, sets.learn(reader, publisher.tell())))
 }
 
-/// A set for these maps that a reader holds, and its publisher, likewise.
+/// The same set, entered by a reader, and its publisher.
 pub fn entered<R: Wait>(
     rt: &R,
     alloc: Global,

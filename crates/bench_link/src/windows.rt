@@ -11,7 +11,7 @@ use std::time::Instant;
 
 type Frames = ArrayVec<(u16, u64), 64>;
 
-/// What data hands up.
+/// How many frames a data frame releases.
 fn deliver(agreement: &mut Agreement<u64>, number: u16, out: &mut Frames) -> u64
     requires { number < 4096 }
 {
@@ -20,8 +20,7 @@ fn deliver(agreement: &mut Agreement<u64>, number: u16, out: &mut Frames) -> u64
     out.len() as u64
 }
 
-/// So many pairs of numbers, in order, or with every second pair swapped. Answers how many frames
-/// were handed up.
+/// `count` pairs of numbers, in order, or with every second pair swapped. Returns how many frames were released.
 fn pairs(count: u64, swapping: bool) -> u64 {
     let mut agreement = Agreement::open(0, 64);
     let mut out = Frames::new();
@@ -41,7 +40,7 @@ fn pairs(count: u64, swapping: bool) -> u64 {
     handed_up
 }
 
-/// Prints how many frames were handed up, and how long a number took in tenths of a nanosecond.
+/// Prints how many frames were released, and how long a number took, in tenths of a nanosecond.
 fn print_tenths<R: Eprint>(rt: &R, name: &str, handed_up: u64, tenths: u128) -> io::Result<()> {
     eprintln!(rt;
         "{name}: {handed_up} handed up, {}.{} ns a number",
@@ -50,7 +49,7 @@ fn print_tenths<R: Eprint>(rt: &R, name: &str, handed_up: u64, tenths: u128) -> 
     )
 }
 
-/// Prints how long a number takes, of so many pairs.
+/// Prints how long a number takes, of `count` pairs.
 fn report<R: Clock + Eprint>(rt: &R, name: &str, count: u64, swapping: bool) -> io::Result<()> {
     let start = Instant::now(rt)?;
     let handed_up = pairs(count, swapping);

@@ -1,4 +1,4 @@
-//! What the words of the command line ask for.
+//! What the command line's arguments request.
 
 use std::alloc::{AllocError, Global};
 
@@ -10,11 +10,11 @@ pub enum Benchmark {
     Soak,
 }
 
-/// Those that are measured where no word chooses, in their order.
+/// The benchmarks that are measured if no argument chooses, in this order.
 const ALL: [Benchmark; 2] = [Benchmark::Filled, Benchmark::Submitted];
 
 impl Benchmark {
-    /// The benchmark that a word chooses.
+    /// The benchmark that an argument names.
     fn named(word: &str) -> Option<Benchmark> {
         match word {
             "filled" => Some(Benchmark::Filled),
@@ -25,7 +25,7 @@ impl Benchmark {
     }
 }
 
-/// How much is measured of what has no number of its own.
+/// How much is measured if no number says so.
 #[derive(Clone, Copy)]
 pub enum Size {
     Full,
@@ -42,7 +42,7 @@ impl Size {
     }
 }
 
-/// A benchmark that is asked for, and the number behind its name.
+/// A requested benchmark, and the number after its name.
 #[derive(Drop)]
 pub struct Task {
     pub benchmark: Benchmark,
@@ -50,7 +50,7 @@ pub struct Task {
 }
 
 impl Task {
-    /// A benchmark with no number behind its name yet.
+    /// A benchmark without a number.
     fn new(benchmark: Benchmark) -> Task {
         Task {
             benchmark,
@@ -58,7 +58,7 @@ impl Task {
         }
     }
 
-    /// Takes the word behind the benchmark's name, or gives it back where it means nothing there.
+    /// Takes the argument after the benchmark's name, or returns it if it means nothing there.
     fn take(&mut self, word: String) -> Option<String> {
         match word.as_str().parse::<u64>() {
             Ok(number) if self.number.is_none() => {
@@ -69,13 +69,13 @@ impl Task {
         }
     }
 
-    /// The number behind the name, or that of the size.
+    /// The number after the name, or that of the size.
     pub fn number_or(&self, size: Size, full: u64, quick: u64) -> u64 {
         self.number.unwrap_or(size.choose(full, quick))
     }
 }
 
-/// What the words ask for.
+/// What the arguments request.
 #[derive(Drop)]
 pub struct Asked {
     pub size: Size,
@@ -83,7 +83,7 @@ pub struct Asked {
 }
 
 impl Asked {
-    /// What no word asks for: all, in full.
+    /// Nothing requested yet, in full.
     pub fn new(alloc: Global) -> Asked {
         Asked {
             size: Size::Full,
@@ -91,7 +91,7 @@ impl Asked {
         }
     }
 
-    /// Takes another word, or gives it back where it means nothing there.
+    /// Takes another argument, or returns it if it means nothing there.
     pub fn take(&mut self, word: String) -> Result<Option<String>, AllocError> {
         if word.as_str() == "quick" {
             self.size = Size::Quick;
@@ -107,7 +107,7 @@ impl Asked {
         }
     }
 
-    /// The tasks that were chosen, or those of `ALL` where none was.
+    /// The requested tasks, or those of `ALL` if there is none.
     pub fn finish(self) -> Result<Vec<Task>, AllocError> {
         let mut tasks = self.chosen;
         if tasks.is_empty() {

@@ -1,4 +1,4 @@
-//! Queues that are filled, and then served by all workers at once, many times over.
+//! Queues that are filled, and then served by all workers at once, repeatedly.
 
 use crate::loads::{Load, nanos_of};
 use crate::stations::{event, join_all};
@@ -20,11 +20,11 @@ use versions::Publisher;
 /// How many events a queue holds.
 const ROOM: u64 = 256;
 
-/// How long the submitter sleeps before it looks again, in microseconds.
+/// How long the submitter sleeps between two looks, in microseconds.
 const NAP: u64 = 100;
 
-/// A load that is measured with filled queues, and signs that its threads give each other: how many rounds are filled,
-/// and how many times a worker met the others, or has served.
+/// A load that is measured with filled queues, and counters by which its threads wait for each other: how many rounds
+/// are filled, and how many times a worker met the others, or has served.
 #[derive(Drop)]
 struct Filled {
     load: Load,
@@ -36,7 +36,7 @@ struct Filled {
     nanos: AtomicU64,
 }
 
-/// Waits until a sign has come so far.
+/// Waits until a counter has reached `far`.
 fn await_sign<R: Wait>(rt: &R, sign: &AtomicU64, far: u64) {
     for _ in rt.forever() {
         if sign.load(SeqCst) >= far {
@@ -46,7 +46,7 @@ fn await_sign<R: Wait>(rt: &R, sign: &AtomicU64, far: u64) {
     }
 }
 
-/// Waits likewise, and lets others work meanwhile.
+/// Waits likewise, asleep meanwhile.
 fn await_asleep<R: Wait + Clock>(rt: &R, sign: &AtomicU64, far: u64) {
     for _ in rt.forever() {
         if sign.load(SeqCst) >= far {
@@ -57,7 +57,6 @@ fn await_asleep<R: Wait + Clock>(rt: &R, sign: &AtomicU64, far: u64) {
 }
 
 impl Filled {
-    /// The load, which is not measured yet.
     fn new(load: Load, workers: u32) -> Filled {
         Filled {
             load,
@@ -70,7 +69,6 @@ impl Filled {
         }
     }
 
-    /// The load, as it was measured.
     fn measured(&self) -> Load {
         Load {
             served: self.served.load(SeqCst),
@@ -79,14 +77,14 @@ impl Filled {
         }
     }
 
-    /// A worker waits until the queues are filled for a round and all workers are there.
+    /// A worker waits until the queues are filled for a round and all workers have arrived.
     fn meet<R: Wait>(&self, rt: &R, round: u64) {
         await_sign(rt, &self.filled, round);
         self.met.fetch_add(1, SeqCst);
         await_sign(rt, &self.met, self.workers.wrapping_mul(round));
     }
 
-    /// Notes that a worker has served so many events of a round. The first worker adds the time until all have served.
+    /// Notes how many events a worker has served in a round. The first worker adds the time until all have served.
     fn note<R: Wait + Clock>(
         &self,
         rt: &R,
@@ -103,7 +101,6 @@ impl Filled {
         }
     }
 
-    /// Adds the time since then.
     fn add_time<R: Clock>(&self, rt: &R, start: Option<Instant>) {
         if let Some(start) = start {
             if let Ok(spent) = start.elapsed(rt) {
@@ -112,7 +109,7 @@ impl Filled {
         }
     }
 
-    /// Says that all queues are filled for another round, and waits until all workers have served it.
+    /// Reports that all queues are filled for another round, and waits until all workers have served it.
     fn end_round<R: Wait + Clock>(&self, rt: &R) {
         let filled = self.filled.fetch_add(1, SeqCst);
         let all = self.workers.wrapping_mul(filled.wrapping_add(1));
@@ -133,8 +130,8 @@ impl<R: Wait + Clock> Story<R> for Filled {
         }
     }
 
-    /// In each round it serves what its own queue holds. What is answered is given up after the time is taken, as
-    /// whoever reads it would.
+    /// Serves the worker's queue in each round. The outputs are freed after the time is taken, as a reader of them
+    /// would free them.
     fn work<B: Ledgers + Journals>(&self, rt: &R, alloc: Global, hand: &mut Hand<'_, B>) {
         let mut list = Vec::new(alloc);
         for round in 1..self.load.size.saturating_add(1) {
@@ -146,7 +143,7 @@ impl<R: Wait + Clock> Story<R> for Filled {
         }
     }
 
-    /// Fills all queues with data of all stations in turn, again and again.
+    /// Fills all queues, repeatedly, with data of the stations alternating.
     fn operate<B: Ledgers + Journals>(&self, rt: &R, alloc: Global, chief: &mut Chief<'_, B>) {
         let many = self.workers.wrapping_mul(ROOM).max(1);
         for index in 0..self.load.size.saturating_mul(many) {
@@ -161,7 +158,7 @@ impl<R: Wait + Clock> Story<R> for Filled {
     }
 }
 
-/// Measures a load with so many workers.
+/// Measures a load with `workers` workers.
 pub fn measured<R: Threads + Wait + Clock + Sync>(
     rt: &R,
     alloc: Global,

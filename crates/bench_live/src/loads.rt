@@ -1,10 +1,10 @@
-//! What is measured, and what comes of it.
+//! What is measured, and the result.
 
 use crate::programs::Policy;
 use std::time::Duration;
 
-/// A measurement: a policy, and how many rounds or events. What it came to: how many events were served, and in how
-/// many nanoseconds.
+/// A measurement: a policy, and how many rounds or events; and its result: how many events were served, and in how many
+/// nanoseconds.
 #[derive(Clone, Copy)]
 pub struct Load {
     pub policy: Policy,
@@ -14,7 +14,7 @@ pub struct Load {
 }
 
 impl Load {
-    /// A load that is not measured yet.
+    /// A load that isn't yet measured.
     pub fn new(policy: Policy, size: u64) -> Load {
         Load {
             policy,
@@ -24,14 +24,14 @@ impl Load {
         }
     }
 
-    /// How many events a second.
+    /// Events per second.
     pub fn rate(self) -> u64 {
         let events = u128::from(self.served).wrapping_mul(1_000_000_000);
         u64::try_from(events / u128::from(self.nanos.max(1))).unwrap_or(0)
     }
 }
 
-/// How long something took, in nanoseconds.
+/// A duration in nanoseconds.
 pub fn nanos_of(time: Duration) -> u64 {
     u64::try_from(time.as_nanos()).unwrap_or(u64::MAX)
 }

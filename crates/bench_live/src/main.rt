@@ -1,15 +1,15 @@
-//! How many events a second an access point takes that several threads serve, on standard error. Words of the command
-//! line choose what is measured, and without any `filled` and `submitted` are:
+//! How many events a second an access point takes that several threads serve, on standard error. The arguments choose
+//! benchmarks; without any, `filled` and `submitted` are measured:
 //!
-//! - `filled`: queues of 256 events each are filled, and then all workers serve at once, many times over. Behind it
-//!   comes how many times;
-//! - `submitted`: one submitter beside the workers. Behind it comes how many events;
-//! - `soak`: four operators and a publisher beside four workers, as the tests of `uses_workers` have it. Behind it
-//!   comes how much data.
+//! - `filled`: queues of 256 events each are filled, and then all workers serve at once, repeatedly. How many times may
+//!   follow;
+//! - `submitted`: one submitter runs beside the workers. A number of events may follow;
+//! - `soak`: four operators and a publisher run beside four workers, as in the tests of `uses_workers`. A number of
+//!   data frames may follow.
 //!
 //! The events are QoS data of agreements, 100 bytes each, spread over eight shards; there are 1, 2 and 4 workers, and
 //! no program, the port filter, and programs that count in a map that all workers share or that each has for itself.
-//! `quick` makes all that has no number of its own small.
+//! `quick` makes small whatever has no number of its own.
 #![tactic(auto)]
 
 mod asked;
@@ -31,10 +31,10 @@ use std::sync::Wait;
 use std::thread::Threads;
 use std::{env, io};
 
-/// What an unknown word is told.
+/// The reply to an unknown argument.
 const USAGE: &str = "the benchmarks are filled, submitted and soak; quick makes them small";
 
-/// Prints what a task asks for.
+/// Measures what a task requests, and prints it.
 fn perform<R: Threads + Wait + Clock + Eprint + Sync>(
     rt: &R,
     alloc: Global,
@@ -55,7 +55,6 @@ fn perform<R: Threads + Wait + Clock + Eprint + Sync>(
     }
 }
 
-/// Says that a word means nothing here.
 fn refuse<R: Eprint>(rt: &R, unknown: &str) -> io::Result<()> {
     eprintln!(rt; "bench_live: {unknown}: no such word here; {USAGE}")
 }

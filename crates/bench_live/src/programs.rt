@@ -1,4 +1,4 @@
-//! The programs that events are measured under.
+//! The programs under which events are measured.
 
 use bpf_regions::WordWidth;
 use live_scenes::publish;
@@ -13,8 +13,8 @@ pub struct Policy {
     text: Option<&'static str>,
 }
 
-/// R0 is 0 for QoS data with LLC/SNAP, IPv4 and UDP to port 53, with a test of the frame's end first, and else 1. The
-/// events are such data.
+/// R0 is 0 for QoS data with LLC/SNAP, IPv4 and UDP to port 53, and else 1. It tests the frame's end first. The events
+/// are such data.
 const FILTER: &str = "mov r4, r1
 add r4, 58
 jgt r4, r2, +23
@@ -80,7 +80,7 @@ pub const POLICIES: [Policy; 4] = [
 ];
 
 impl Policy {
-    /// Puts the program in force, if there is one. False where it is refused.
+    /// Publishes the program, if there is one. False if it is refused.
     pub fn publish<R: Wait>(self, rt: &R, alloc: Global, publisher: &mut Publisher) -> bool {
         match self.text {
             Some(text) => publish(rt, alloc, publisher, text, WordWidth::Eight),

@@ -1,4 +1,4 @@
-//! How many events a second come to be served, under each program and by 1, 2 and 4 workers.
+//! How many events a second are served, under each program and by 1, 2 and 4 workers.
 
 use crate::loads::Load;
 use crate::programs::POLICIES;
@@ -10,10 +10,10 @@ use std::rt::Clock;
 use std::sync::Wait;
 use std::thread::Threads;
 
-/// How many workers there are in each measurement.
+/// The numbers of workers that are measured.
 const WORKERS: [u32; 3] = [1, 2, 4];
 
-/// How events come into the queues: all before the workers serve them, or by a submitter meanwhile.
+/// How events reach the queues: all before the workers serve them, or by a submitter meanwhile.
 #[derive(Clone, Copy)]
 pub enum Kind {
     Filled,
@@ -21,7 +21,6 @@ pub enum Kind {
 }
 
 impl Kind {
-    /// Its word.
     fn name(self) -> &'static str {
         match self {
             Kind::Filled => "filled",
@@ -29,7 +28,7 @@ impl Kind {
         }
     }
 
-    /// Measures a load with so many workers. None for want of memory.
+    /// Measures a load with `workers` workers. None if an allocation fails.
     fn measured<R: Threads + Wait + Clock + Sync>(
         self,
         rt: &R,
@@ -44,7 +43,6 @@ impl Kind {
     }
 }
 
-/// Prints what a load came to.
 fn print_rate<R: Eprint>(rt: &R, workers: u32, kind: Kind, load: Load) -> io::Result<()> {
     eprintln!(rt;
         "workers {workers}, {}, {}: {} events a second, of {}",
@@ -55,7 +53,7 @@ fn print_rate<R: Eprint>(rt: &R, workers: u32, kind: Kind, load: Load) -> io::Re
     )
 }
 
-/// Measures a load with so many workers, and prints what it came to.
+/// Measures a load with `workers` workers, and prints the result.
 fn report<R: Threads + Wait + Clock + Eprint + Sync>(
     rt: &R,
     alloc: Global,
@@ -69,7 +67,7 @@ fn report<R: Threads + Wait + Clock + Eprint + Sync>(
     }
 }
 
-/// Prints what each measurement came to, of so many rounds or events.
+/// Prints the result of each measurement, of `size` rounds or events.
 pub fn print_rates<R: Threads + Wait + Clock + Eprint + Sync>(
     rt: &R,
     alloc: Global,

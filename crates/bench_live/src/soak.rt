@@ -11,7 +11,7 @@ use std::sync::Wait;
 use std::thread::Threads;
 use std::time::Instant;
 
-/// Runs the soak with so much data. What it found, and the totals after it; None for want of memory.
+/// Runs the soak with `events` data frames. Returns what it found, and the totals; None if an allocation fails.
 fn run_soak<R: Threads + Wait + Clock + Sync>(
     rt: &R,
     alloc: Global,
@@ -23,7 +23,7 @@ fn run_soak<R: Threads + Wait + Clock + Sync>(
     Some((soak.found(rt), totals))
 }
 
-/// Prints what a soak found in so many milliseconds.
+/// Prints what a soak found, and its milliseconds.
 fn report<R: Eprint>(rt: &R, found: &Found, millis: u128) -> io::Result<()> {
     eprintln!(rt;
         "soak: {} events, {} commands, {} publications, {} passed up, {} dropped, {millis} ms",
@@ -35,7 +35,7 @@ fn report<R: Eprint>(rt: &R, found: &Found, millis: u128) -> io::Result<()> {
     )
 }
 
-/// Runs the soak with so much data, and prints what it found.
+/// Runs the soak with `events` data frames, and prints what it found.
 pub fn print_found<R: Threads + Wait + Clock + Eprint + Sync>(
     rt: &R,
     alloc: Global,

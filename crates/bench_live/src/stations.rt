@@ -8,7 +8,7 @@ use live_scenes::{Scene, address, data};
 use std::alloc::Global;
 use std::sync::Wait;
 
-/// Each station comes to its agreement. False for want of memory.
+/// Each station sets up its agreement. False if there is no operator, or an allocation fails.
 pub fn join_all<B: Ledgers + Journals, R: Wait>(
     rt: &R,
     alloc: Global,
@@ -25,7 +25,7 @@ pub fn join_all<B: Ledgers + Journals, R: Wait>(
     list.len() == 24
 }
 
-/// The data with this place in a stream of all eight stations in turn.
+/// Event `index` of a stream of data of all eight stations alternating.
 pub fn event(alloc: Global, index: u64) -> Option<Event> {
     let station = address(0, (index % 8) as u8);
     data(alloc, station, (index / 8 % 4096) as u16).ok()

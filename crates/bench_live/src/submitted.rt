@@ -29,11 +29,11 @@ struct Submitted {
     /// 0 once all is submitted.
     submitting: AtomicU64,
     served: AtomicU64,
-    /// When the last worker had served all, since the submitter began.
+    /// The time from the submitter's start until the last worker had served all.
     nanos: Mutex<u64>,
 }
 
-/// So much data of all stations in turn, the last first.
+/// `count` data frames of all stations alternating, the last first.
 fn events_of(alloc: Global, count: u64) -> Option<Vec<Event>> {
     let mut events = Vec::new(alloc);
     for place in 0..count {
@@ -44,7 +44,6 @@ fn events_of(alloc: Global, count: u64) -> Option<Vec<Event>> {
 }
 
 impl Submitted {
-    /// The load, which is not measured yet.
     fn new(alloc: Global, load: Load) -> Submitted {
         Submitted {
             load,
@@ -56,7 +55,6 @@ impl Submitted {
         }
     }
 
-    /// The load, as it was measured.
     fn measured<R: Wait>(&self, rt: &R) -> Load {
         Load {
             served: self.served.load(SeqCst),
@@ -65,7 +63,7 @@ impl Submitted {
         }
     }
 
-    /// Notes how many events a worker has served. Lets others work where there was none and more comes.
+    /// Notes how many events a worker has served. Yields if there was none and more may come.
     fn note(&self, events: usize, over: bool) {
         self.served.fetch_add(events as u64, SeqCst);
         if events == 0 && !over {
@@ -73,7 +71,7 @@ impl Submitted {
         }
     }
 
-    /// Takes what is to be submitted, and notes that the submitter begins.
+    /// Takes what is to be submitted, and notes the submitter's start.
     fn begin<R: Wait + Clock>(&self, rt: &R, alloc: Global) -> Vec<Event> {
         let events = mem::replace(&mut *self.events.lock(rt), Vec::new(alloc));
         *self.start.lock(rt) = Instant::now(rt).ok();
@@ -109,7 +107,7 @@ impl<R: Wait + Clock> Story<R> for Submitted {
         }
     }
 
-    /// Serves what the queue holds, until nothing more comes.
+    /// Serves the queue until no more events come.
     fn work<B: Ledgers + Journals>(&self, rt: &R, alloc: Global, hand: &mut Hand<'_, B>) {
         let mut list = Vec::new(alloc);
         for _ in rt.forever() {
@@ -125,7 +123,7 @@ impl<R: Wait + Clock> Story<R> for Submitted {
         self.note_end(rt);
     }
 
-    /// Submits all, the last first.
+    /// Submits all events.
     fn operate<B: Ledgers + Journals>(&self, rt: &R, alloc: Global, chief: &mut Chief<'_, B>) {
         let mut events = self.begin(rt, alloc);
         for _ in 0..u32::MAX {
@@ -138,7 +136,7 @@ impl<R: Wait + Clock> Story<R> for Submitted {
     }
 }
 
-/// Measures a load with so many workers.
+/// Measures a load with `workers` workers.
 pub fn measured<R: Threads + Wait + Clock + Sync>(
     rt: &R,
     alloc: Global,

@@ -1,4 +1,4 @@
-//! What the words of the command line ask for.
+//! What the command line's arguments request.
 
 use std::alloc::{AllocError, Global};
 
@@ -12,7 +12,7 @@ pub enum Benchmark {
     Versions,
 }
 
-/// All of them, in the order in which they are measured where no word chooses.
+/// All, in the order in which they are measured if no argument chooses.
 const ALL: [Benchmark; 5] = [
     Benchmark::Text,
     Benchmark::Verifier,
@@ -22,7 +22,7 @@ const ALL: [Benchmark; 5] = [
 ];
 
 impl Benchmark {
-    /// The benchmark that a word chooses.
+    /// The benchmark that an argument names.
     fn named(word: &str) -> Option<Benchmark> {
         match word {
             "text" => Some(Benchmark::Text),
@@ -34,7 +34,7 @@ impl Benchmark {
         }
     }
 
-    /// Whether a word names a program that the benchmark measures.
+    /// Whether an argument names a program that the benchmark measures.
     fn has_program(self, word: &str) -> bool {
         match self {
             Benchmark::Verifier => matches!(word, "loop" | "joins" | "spin"),
@@ -43,7 +43,7 @@ impl Benchmark {
         }
     }
 
-    /// How many numbers the benchmark takes at most.
+    /// The most numbers that the benchmark takes.
     fn most_numbers(self) -> usize {
         match self {
             Benchmark::Verifier => 2,
@@ -53,7 +53,7 @@ impl Benchmark {
     }
 }
 
-/// How much is measured of what has no number of its own.
+/// How much is measured if no number says so.
 #[derive(Clone, Copy)]
 pub enum Size {
     Full,
@@ -70,7 +70,7 @@ impl Size {
     }
 }
 
-/// A benchmark that is asked for, with the programs and the numbers behind its name.
+/// A requested benchmark, with the programs and numbers after its name.
 #[derive(Drop)]
 pub struct Task {
     pub benchmark: Benchmark,
@@ -79,7 +79,7 @@ pub struct Task {
 }
 
 impl Task {
-    /// A benchmark with nothing behind its name yet.
+    /// A benchmark with nothing after its name.
     fn new(alloc: Global, benchmark: Benchmark) -> Task {
         Task {
             benchmark,
@@ -88,7 +88,7 @@ impl Task {
         }
     }
 
-    /// Takes a word behind the benchmark's name, or gives it back where it means nothing there.
+    /// Takes an argument after the benchmark's name, or returns it if it means nothing there.
     fn take(&mut self, word: String) -> Result<Option<String>, AllocError> {
         if self.benchmark.has_program(word.as_str()) {
             self.programs.push(word)?;
@@ -103,13 +103,13 @@ impl Task {
         }
     }
 
-    /// The number in a place, or another one where none is given.
+    /// The number at an index, or `otherwise` if there is none.
     pub fn number_or(&self, place: usize, otherwise: u64) -> u64 {
         self.numbers.get(place).copied().unwrap_or(otherwise)
     }
 }
 
-/// What the words ask for.
+/// What the arguments request.
 #[derive(Drop)]
 pub struct Asked {
     pub size: Size,
@@ -117,7 +117,7 @@ pub struct Asked {
 }
 
 impl Asked {
-    /// What no word asks for: all, in full.
+    /// Nothing requested yet, in full.
     pub fn new(alloc: Global) -> Asked {
         Asked {
             size: Size::Full,
@@ -125,7 +125,7 @@ impl Asked {
         }
     }
 
-    /// Takes another word, or gives it back where it means nothing there.
+    /// Takes another argument, or returns it if it means nothing there.
     pub fn take(&mut self, alloc: Global, word: String) -> Result<Option<String>, AllocError> {
         if word.as_str() == "quick" {
             self.size = Size::Quick;
@@ -141,7 +141,7 @@ impl Asked {
         }
     }
 
-    /// The tasks that were chosen, or each benchmark where none was.
+    /// The requested tasks, or each benchmark if there is none.
     pub fn finish(self, alloc: Global) -> Result<Vec<Task>, AllocError> {
         let mut tasks = self.chosen;
         if tasks.is_empty() {

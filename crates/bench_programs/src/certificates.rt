@@ -12,8 +12,8 @@ use std::io;
 use std::rt::{Clock, Runtime};
 use std::time::Instant;
 
-/// What was measured of one program: how many nanoseconds each call took, the budget, how many bytes the certificate
-/// has, and the budget that the check answered, or the number of its refusal.
+/// What was measured of one program: the nanoseconds of each call, the budget, the certificate's length in bytes, and
+/// the budget that the check returned, or the number of its refusal.
 #[derive(Clone, Copy)]
 struct Measured {
     verify: u128,
@@ -36,7 +36,7 @@ impl Measured {
     }
 }
 
-/// Verifies a program, and answers how many nanoseconds it took. None where the program isn't admitted.
+/// Verifies a program, and returns how many nanoseconds it took. None if the program isn't accepted.
 fn verified<R: Clock>(
     rt: &R,
     alloc: Global,
@@ -48,7 +48,7 @@ fn verified<R: Clock>(
     Ok(accepted.map(|accepted| (accepted, nanos)))
 }
 
-/// Makes its certificate likewise.
+/// Makes its certificate likewise. None if that fails.
 fn certified<R: Clock>(
     rt: &R,
     alloc: Global,
@@ -60,7 +60,7 @@ fn certified<R: Clock>(
     Ok(certificate.map(|certificate| (certificate, nanos)))
 }
 
-/// The budget that the check of a certificate answers, or the number of its refusal.
+/// The budget that the check of a certificate returns, or the number of its refusal.
 fn budget_or_number(alloc: Global, program: Program, certificate: &[u8]) -> u32 {
     match check(alloc, program, Hook::Data, certificate) {
         Ok(accepted) => accepted.budget(),
@@ -68,7 +68,7 @@ fn budget_or_number(alloc: Global, program: Program, certificate: &[u8]) -> u32 
     }
 }
 
-/// Checks a certificate of a code, and answers what the check answered and how many nanoseconds it took.
+/// Checks a certificate of a code, and returns the budget or refusal, and how many nanoseconds it took.
 fn checked<R: Clock>(
     rt: &R,
     alloc: Global,
@@ -83,7 +83,7 @@ fn checked<R: Clock>(
     Ok(Some((checked, begun.elapsed(rt)?.as_nanos())))
 }
 
-/// Makes the certificate of a code that was verified in so many nanoseconds, and checks it. None where it has none.
+/// Makes the certificate of a code that took `verify` nanoseconds to verify, and checks it. None if it has none.
 fn measure_accepted<R: Clock>(
     rt: &R,
     alloc: Global,
@@ -107,7 +107,7 @@ fn measure_accepted<R: Clock>(
     }))
 }
 
-/// Verifies the program of a code, makes its certificate and checks that. None where it isn't admitted.
+/// Verifies the program of a code, makes its certificate and checks that. None if it isn't accepted.
 fn measure<R: Clock>(rt: &R, alloc: Global, code: &Code) -> io::Result<Option<Measured>> {
     match verified(rt, alloc, program_of(alloc, code)?)? {
         Some((accepted, nanos)) => measure_accepted(rt, alloc, code, &accepted, nanos),
@@ -115,7 +115,7 @@ fn measure<R: Clock>(rt: &R, alloc: Global, code: &Code) -> io::Result<Option<Me
     }
 }
 
-/// Measures a code so many times.
+/// Measures a code `times` times, and keeps the least times.
 fn measure_often<R: Clock>(
     rt: &R,
     alloc: Global,
@@ -131,7 +131,6 @@ fn measure_often<R: Clock>(
     Ok(least)
 }
 
-/// Prints what was found of a program.
 fn print_measured<R: Eprint>(rt: &R, name: &str, found: &Measured) -> io::Result<()> {
     eprintln!(rt;
         "{name}: budget {}, checked {}; {} bytes; verify {} ns, certificate {} ns, check {} ns",
@@ -139,7 +138,7 @@ fn print_measured<R: Eprint>(rt: &R, name: &str, found: &Measured) -> io::Result
     )
 }
 
-/// Measures a code so many times, and prints what was found.
+/// Measures a code `times` times, and prints the result.
 fn report<R: Clock + Eprint>(
     rt: &R,
     alloc: Global,
@@ -153,7 +152,7 @@ fn report<R: Clock + Eprint>(
     }
 }
 
-/// Measures the program with a name so many times: a loop and joins have so many turns.
+/// Measures the named program `times` times: a loop and joins have `turns` iterations.
 fn report_named<R: Runtime + AllocGlobal>(
     rt: &R,
     alloc: Global,
@@ -167,7 +166,7 @@ fn report_named<R: Runtime + AllocGlobal>(
     }
 }
 
-/// Measures the programs of a task so many times: a loop and joins, and once, where it doesn't say.
+/// Measures the programs of a task as often as it says. The defaults are a loop and joins, once.
 pub fn print_times<R: Runtime + AllocGlobal>(
     rt: &R,
     alloc: Global,

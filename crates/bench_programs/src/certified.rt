@@ -15,7 +15,7 @@ pub struct Code {
     shapes: Vec<Shape>,
 }
 
-/// A loop of so many turns.
+/// A loop of `turns` iterations.
 fn turns_of_a_loop(alloc: Global, turns: u32) -> Result<String, AllocError> {
     format!(in alloc; "mov r0, 0\nmov r1, {turns}\nadd r0, 1\nsub r1, 1\njne r1, 0, -3\nexit\n")
 }
@@ -28,14 +28,14 @@ fn assembled(alloc: Global, text: &str) -> Option<Code> {
     })
 }
 
-/// The bytes that a file's hex digits spell, with white space between any two.
+/// The bytes in a file's hex digits, which white space may separate. None of them if the digits are wrong.
 fn bytes_of<R: rt::Files + AllocGlobal>(rt: &R, alloc: Global, path: &str) -> io::Result<Vec<u8>> {
     let mut digits = fs::read(rt, path)?;
     digits.retain(|byte| !byte.is_ascii_whitespace());
     Ok(hex::decode(alloc, digits).unwrap_or(Vec::new(alloc)))
 }
 
-/// The shapes of a configuration's maps.
+/// The shapes of a configuration's maps. None of them if it can't be read.
 fn shapes_of<R: rt::Files + AllocGlobal>(
     rt: &R,
     alloc: Global,
@@ -48,7 +48,7 @@ fn shapes_of<R: rt::Files + AllocGlobal>(
     }
 }
 
-/// The code that a file spells, for no maps or those of a configuration behind a plus sign.
+/// The code in a file, for no maps, or those of a configuration after a plus sign.
 fn code_in<R: rt::Files + AllocGlobal>(rt: &R, alloc: Global, name: &str) -> io::Result<Code> {
     match name.split_once('+') {
         None => Ok(Code {
@@ -62,7 +62,7 @@ fn code_in<R: rt::Files + AllocGlobal>(rt: &R, alloc: Global, name: &str) -> io:
     }
 }
 
-/// The text of a loop or of joins with so many turns. None for any other name.
+/// The text of a loop or of joins with `turns` iterations. None for any other name.
 fn text_of(alloc: Global, name: &str, turns: u32) -> Result<Option<String>, AllocError> {
     match name {
         "loop" => Ok(Some(turns_of_a_loop(alloc, turns)?)),
@@ -71,7 +71,7 @@ fn text_of(alloc: Global, name: &str, turns: u32) -> Result<Option<String>, Allo
     }
 }
 
-/// The code with a name, as `main` has it. A loop and joins have so many turns.
+/// The code with a name, as `main` describes it. A loop and joins have `turns` iterations.
 pub fn code_of<R: rt::Files + AllocGlobal>(
     rt: &R,
     alloc: Global,
@@ -84,7 +84,7 @@ pub fn code_of<R: rt::Files + AllocGlobal>(
     }
 }
 
-/// The program of a code.
+/// The program of a code. None if it can't be decoded.
 pub fn program_of(alloc: Global, code: &Code) -> Result<Option<Program>, AllocError> {
     let Some(shapes) = Shapes::new(code.shapes.clone()?) else {
         return Ok(None);

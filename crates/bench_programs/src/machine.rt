@@ -1,5 +1,5 @@
-//! How long `run` takes for the workloads of `bench/peers`, with `probe` and `Bare::enter` beside: the best of several
-//! rounds, in nanoseconds.
+//! How long `run` takes for the workloads of `bench/peers`, and `probe` and `Bare::enter` beside it: the best of
+//! several rounds, in nanoseconds.
 
 use crate::asked::Size;
 use crate::programs::{accepted, of_code};
@@ -16,11 +16,11 @@ const EXIT: u64 = 0x9500000000000000;
 /// `mov r0, 1; exit`.
 const SHORTEST: [u64; 2] = [0xb700000001000000, EXIT];
 
-/// `mov r0, 1; mov r1, 7; mov r2, -3`, with which straight workloads begin.
+/// `mov r0, 1; mov r1, 7; mov r2, -3`, the start of straight workloads.
 const BEGINNING: [u64; 3] = [0xb700000001000000, 0xb701000007000000, 0xb7020000fdffffff];
 
-/// What straight workloads do over and over: `add r0, r1; mul r0, 1103515245; xor r0, r2; lsh r1, 1; sub r2, r0;
-/// and r1, 0x7fffffff; rsh r2, 3; or r1, r0`.
+/// What straight workloads repeat:
+/// `add r0, r1; mul r0, 1103515245; xor r0, r2; lsh r1, 1; sub r2, r0; and r1, 0x7fffffff; rsh r2, 3; or r1, r0`.
 const STRAIGHT: [u64; 8] = [
     0x0f10000000000000,
     0x270000006d4ec641,
@@ -32,12 +32,12 @@ const STRAIGHT: [u64; 8] = [
     0x4f01000000000000,
 ];
 
-/// What sets the counter of a loop: `mov r1, TURNS`.
+/// Sets the counter of a loop: `mov r1, TURNS`.
 fn counter(turns: u32) -> u64 {
     0xb701000000000000 | u64::from(turns.swap_bytes())
 }
 
-/// So many turns of `add r0, 1; sub r1, 1; jne r1, 0, -3`.
+/// `turns` iterations of `add r0, 1; sub r1, 1; jne r1, 0, -3`.
 fn loop_of(turns: u32) -> [u64; 6] {
     [
         0xb700000000000000,
@@ -49,8 +49,8 @@ fn loop_of(turns: u32) -> [u64; 6] {
     ]
 }
 
-/// So many turns of `add r0, r1; mul r0, 1103515245; xor r0, r2; add r2, r1; sub r2, r0; rsh r2, 3; sub r1, 1;
-/// jne r1, 0, -8`.
+/// `turns` iterations of
+/// `add r0, r1; mul r0, 1103515245; xor r0, r2; add r2, r1; sub r2, r0; rsh r2, 3; sub r1, 1; jne r1, 0, -8`.
 fn loop_of_eight(turns: u32) -> [u64; 12] {
     [
         0xb700000000000000,
@@ -68,7 +68,7 @@ fn loop_of_eight(turns: u32) -> [u64; 12] {
     ]
 }
 
-/// R0 is 0 for LLC/SNAP, IPv4 and UDP to port 53, with a test of the frame's end first, and else 1.
+/// R0 is 0 for LLC/SNAP, IPv4 and UDP to port 53, and else 1. It tests the frame's end first.
 const FILTER: [u64; 28] = [
     0xbf14000000000000,
     0x0704000038000000,
@@ -100,7 +100,7 @@ const FILTER: [u64; 28] = [
     EXIT,
 ];
 
-/// What is measured: a whole run, a run on the tagged machine, or the beginning of a run with its first step.
+/// What is measured: a whole run, a run on the tagged machine, or the entry of a run with its first step.
 #[derive(Clone, Copy)]
 enum Work {
     Run,
@@ -108,7 +108,7 @@ enum Work {
     Enter,
 }
 
-/// The code that a workload has.
+/// The code of a workload.
 #[derive(Clone, Copy)]
 enum Code {
     Straight,
@@ -118,7 +118,7 @@ enum Code {
     Shortest,
 }
 
-/// A workload: the works that are measured of it, its code, and how many instructions or turns it has.
+/// A workload: what is measured of it, its code, and how many instructions or iterations it has.
 #[derive(Clone, Copy)]
 struct Workload {
     works: &'static [(&'static str, Work)],
@@ -127,7 +127,6 @@ struct Workload {
     quick: u32,
 }
 
-/// All workloads.
 const WORKLOADS: [Workload; 6] = [
     Workload {
         works: &[("straight64", Work::Run)],
@@ -170,7 +169,7 @@ const WORKLOADS: [Workload; 6] = [
     },
 ];
 
-/// A straight workload of so many instructions.
+/// A straight workload of `count` instructions.
 fn straight(alloc: Global, count: usize) -> Result<Vec<u64>, AllocError> {
     let mut slots = Vec::from_slice(alloc, &BEGINNING)?;
     for at in 4..count {
@@ -180,7 +179,7 @@ fn straight(alloc: Global, count: usize) -> Result<Vec<u64>, AllocError> {
     Ok(slots)
 }
 
-/// The slots of a code with so many instructions or turns, each with its first byte as the highest.
+/// The slots of a code with `count` instructions or iterations, each with its first byte as the highest.
 fn slots_of(alloc: Global, code: Code, count: u32) -> Result<Vec<u64>, AllocError> {
     match code {
         Code::Straight => straight(alloc, count as usize),
@@ -191,7 +190,6 @@ fn slots_of(alloc: Global, code: Code, count: u32) -> Result<Vec<u64>, AllocErro
     }
 }
 
-/// The bytes of slots.
 fn bytes_of(alloc: Global, slots: &[u64]) -> Result<Vec<u8>, AllocError> {
     let mut bytes = Vec::new(alloc);
     for slot in slots {
@@ -200,7 +198,7 @@ fn bytes_of(alloc: Global, slots: &[u64]) -> Result<Vec<u8>, AllocError> {
     Ok(bytes)
 }
 
-/// The admitted program of a code with so many instructions or turns.
+/// The accepted program of a code with `count` instructions or iterations.
 fn admitted(alloc: Global, code: Code, count: u32) -> Result<Option<Accepted>, AllocError> {
     let slots = slots_of(alloc, code, count)?;
     let bytes = bytes_of(alloc, &slots)?;
@@ -248,7 +246,7 @@ fn entered(accepted: &Accepted, frame: &Frame<'_>, context: &Context) -> (u64, u
     (bare.register(0).number, 1)
 }
 
-/// Does a work once, and answers R0 and how many instructions were performed.
+/// Does a work once, and returns R0 and how many instructions were executed.
 fn once(work: Work, accepted: &Accepted, frame: &Frame<'_>, context: &Context) -> (u64, u32) {
     match work {
         Work::Run => ran(accepted, frame, context),
@@ -257,7 +255,7 @@ fn once(work: Work, accepted: &Accepted, frame: &Frame<'_>, context: &Context) -
     }
 }
 
-/// How many nanoseconds it takes to do a work so many times, and the sum of R0.
+/// How many nanoseconds it takes to do a work `times` times, and the sum of R0.
 fn spent<R: Clock>(
     rt: &R,
     work: Work,
@@ -275,8 +273,8 @@ fn spent<R: Clock>(
     Ok((before.elapsed(rt)?.as_nanos(), sum))
 }
 
-/// How many nanoseconds the best round took, how often the work was done in it, how many instructions were performed
-/// each time, and the sum of R0.
+/// The nanoseconds of the best round, how often it did the work, how many instructions were executed each time, and the
+/// sum of R0.
 #[derive(Clone, Copy)]
 struct Best {
     nanos: u128,
@@ -285,7 +283,7 @@ struct Best {
     sum: u64,
 }
 
-/// The best of many short rounds, so that other work on the machine meets few of them.
+/// The best of many short rounds, so that other work on the machine disturbs few of them.
 fn best_of<R: Clock>(
     rt: &R,
     work: Work,
@@ -309,7 +307,7 @@ fn best_of<R: Clock>(
     })
 }
 
-/// Prints what a work took, in hundredths of a nanosecond, and each of its instructions.
+/// Prints how long a work took, and each of its instructions, in hundredths of a nanosecond.
 fn print_best<R: Eprint>(rt: &R, name: &str, best: Best) -> io::Result<()> {
     let each = best.nanos.wrapping_mul(100) / u128::from(best.times.max(1));
     let an_instruction = each / u128::from(best.steps.max(1));
@@ -324,7 +322,6 @@ fn print_best<R: Eprint>(rt: &R, name: &str, best: Best) -> io::Result<()> {
     )
 }
 
-/// Measures a work of a program.
 fn measure<R: Clock + Eprint>(
     rt: &R,
     name: &str,
@@ -340,7 +337,7 @@ fn measure<R: Clock + Eprint>(
     print_best(rt, name, best)
 }
 
-/// Measures the works of a workload, where it is admitted.
+/// Measures the works of a workload, if it is accepted.
 fn measure_all<R: Clock + Eprint>(
     rt: &R,
     alloc: Global,

@@ -1,18 +1,18 @@
-//! How long it takes to write, verify, run, certify and replace eBPF programs, on standard error. The words of the
-//! command line choose benchmarks, and without any all are measured:
+//! How long it takes to write, verify, run, certify and replace eBPF programs, on standard error. The arguments choose
+//! benchmarks; without any, all are measured:
 //!
-//! - `text`: 16384 lines are assembled, decoded and written as text again;
-//! - `verifier`: programs are verified. Behind it come their shapes (`loop`: a loop of three instructions; `joins`: two
-//!   ways that join again, one after another; `spin`: a jump to itself, which is given up after 2^22 states), how many
-//!   turns they have, and how many times they are verified in turn;
+//! - `text`: assembles 16384 lines, decodes them and writes them as text again;
+//! - `verifier`: verifies programs. Shapes may follow (`loop`: a loop of three instructions; `joins`: pairs of branches
+//!   that join again; `spin`: a jump to itself, which is refused after 2^22 states), then how many iterations they
+//!   have, and how many times they are verified in turn;
 //! - `machine`: `run` on the workloads of `bench/peers` and on `mov` and `exit`, `probe` on one of them, and `enter`;
-//! - `certificates`: `verify`, `certificate` and `check`. Behind it come programs (`loop`, `joins`, as above; `FILE` or
-//!   `FILE+CONFIG`: the program that the hex digits of a file spell, which is named `.hex`, for no maps or those of a
-//!   configuration), and how many times each is measured in turn, of which the least is printed;
+//! - `certificates`: `verify`, `certificate` and `check`. Programs may follow (`loop`, `joins`, as above; `FILE` or
+//!   `FILE+CONFIG`: the program in the hex digits of a file, whose name ends in `.hex`, for no maps or those of a
+//!   configuration), and how many times each is measured, of which the least is printed;
 //! - `versions`: readers enter a published set of programs and leave it, by 1, 2 and 4 threads, alone and while a
-//!   publisher publishes about 1000 times a second. Behind it comes how often each thread enters.
+//!   publisher publishes about 1000 times a second. How often each thread enters may follow.
 //!
-//! `quick` makes all that has no number of its own small.
+//! `quick` makes small whatever has no number of its own.
 #![tactic(auto)]
 
 mod asked;
@@ -33,11 +33,11 @@ use std::sync::Wait;
 use std::thread::Threads;
 use std::{env, io};
 
-/// What an unknown word is told.
+/// The reply to an unknown argument.
 const USAGE: &str =
     "the benchmarks are text, verifier, machine, certificates and versions; quick makes them small";
 
-/// Prints how long what a task asks for takes.
+/// Measures what a task requests, and prints it.
 fn perform<R: Threads + Wait + Runtime + Sync + AllocGlobal>(
     rt: &R,
     alloc: Global,
@@ -53,7 +53,6 @@ fn perform<R: Threads + Wait + Runtime + Sync + AllocGlobal>(
     }
 }
 
-/// Says that a word means nothing here.
 fn refuse<R: Eprint>(rt: &R, unknown: &str) -> io::Result<()> {
     eprintln!(rt; "bench_programs: {unknown}: no such word here; {USAGE}")
 }

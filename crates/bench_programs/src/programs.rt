@@ -10,26 +10,26 @@ use bpf_text::assemble;
 use bpf_verifier::verify;
 use std::alloc::{AllocError, Global};
 
-/// The program of a code. None where there is none.
+/// The program of a code. None if it can't be decoded.
 pub fn of_code(alloc: Global, code: &[u8]) -> Option<Program> {
     let shapes = Shapes::new(Vec::new(alloc))?;
     decode(alloc, code, shapes).ok()
 }
 
-/// The program of a text. None where there is none.
+/// The program of a text. None if it can't be assembled or decoded.
 pub fn of_text(alloc: Global, text: &str) -> Option<Program> {
     let code = assemble(alloc, text).ok()?;
     of_code(alloc, code.as_slice())
 }
 
-/// A program that is accepted for data. None where there is none, or it is refused.
+/// The program, accepted for data. None if there is none, or it is refused.
 pub fn accepted(alloc: Global, program: Option<Program>) -> Option<Accepted>
     ensures { IfSome result (λ accepted. accepted.hook ≡ Data) }
 {
     verify(alloc, program?, Hook::Data).ok()
 }
 
-/// Two ways that join again, so many times one after another.
+/// `turns` pairs of branches that join again, one after another.
 pub fn joins(alloc: Global, turns: u64) -> Result<String, AllocError> {
     let mut text = String::new(alloc);
     for _turn in 0..turns {

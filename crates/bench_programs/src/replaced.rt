@@ -49,14 +49,14 @@ impl Pair {
     }
 }
 
-/// How often each thread enters, and whether threads still do: 1 until the last of them has ended, then 0.
+/// How often each thread enters, and 1 while threads still do so, if a publisher is to publish meanwhile; else 0.
 #[derive(Drop)]
 struct Rounds {
     each: u64,
     entering: AtomicU32,
 }
 
-/// Enters and leaves again and again.
+/// Enters and leaves repeatedly.
 fn enter_many<R: Wait>(rt: &R, entrance: &Entrance, reader: Reader, rounds: &Rounds)
     requires { reader.list ≡ entrance.now.list }
 {
@@ -66,7 +66,6 @@ fn enter_many<R: Wait>(rt: &R, entrance: &Entrance, reader: Reader, rounds: &Rou
     }
 }
 
-/// Two threads enter.
 fn enter_by_two<R: Threads + Wait + Sync>(
     rt: &R,
     entrance: &Entrance,
@@ -83,7 +82,6 @@ fn enter_by_two<R: Threads + Wait + Sync>(
     );
 }
 
-/// Four threads enter.
 fn enter_by_four<R: Threads + Wait + Sync>(
     rt: &R,
     entrance: &Entrance,
@@ -128,7 +126,7 @@ fn two_readers(sets: &mut Published, entrance: &Entrance) -> Option<(Reader, Rea
     Some((one, other))
 }
 
-/// Four threads enter, if so many readers are left.
+/// Four threads enter, if four readers are left.
 fn enter_by_all<R: Threads + Wait + Sync>(
     rt: &R,
     sets: &mut Published,
@@ -143,7 +141,7 @@ fn enter_by_all<R: Threads + Wait + Sync>(
     Some(())
 }
 
-/// So many threads enter, 1, 2 or 4. Nobody does where not so many readers are left.
+/// `threads` threads enter, 1, 2 or 4. None does if too few readers are left.
 fn enter_by<R: Threads + Wait + Sync>(
     rt: &R,
     sets: &mut Published,
@@ -159,7 +157,7 @@ fn enter_by<R: Threads + Wait + Sync>(
     Some(())
 }
 
-/// So many threads enter, and nobody is told to wait for them once they have ended.
+/// `threads` threads enter. Then the publisher is told to stop.
 fn enter_to_the_end<R: Threads + Wait + Sync>(
     rt: &R,
     sets: &mut Published,
@@ -171,7 +169,7 @@ fn enter_to_the_end<R: Threads + Wait + Sync>(
     entered
 }
 
-/// Publishes a program. It answers how many were published.
+/// Publishes a program. Returns how many were published, 0 or 1.
 fn publish_once<R: Wait>(rt: &R, publisher: &mut Publisher, program: &Arc<Accepted>) -> u64
     requires { (arc_value program.now).hook ≡ Data }
 {
@@ -181,7 +179,7 @@ fn publish_once<R: Wait>(rt: &R, publisher: &mut Publisher, program: &Arc<Accept
     u64::from(publisher.publish(rt, Hook::Data, Some(another)).is_ok())
 }
 
-/// Publishes two programs in turn, about 1000 times a second, as long as threads enter. It answers how often.
+/// Publishes two programs alternately, about 1000 times a second, while threads enter. Returns how often.
 fn publish_many<R: Wait + Clock>(
     rt: &R,
     publisher: &mut Publisher,
@@ -204,7 +202,7 @@ fn publish_many<R: Wait + Clock>(
     published
 }
 
-/// So many threads enter, and two programs are published meanwhile, if any are. It answers how often they were.
+/// `threads` threads enter, and two programs are published meanwhile, if any are to be. Returns how often.
 fn enter_and_publish<R: Threads + Wait + Clock + Sync>(
     rt: &R,
     alloc: Global,
@@ -223,7 +221,7 @@ fn enter_and_publish<R: Threads + Wait + Clock + Sync>(
     Some(loads)
 }
 
-/// How long so many threads took and how many programs were published meanwhile.
+/// How long `threads` threads took, and how many programs were published meanwhile.
 fn measure<R: Threads + Wait + Clock + Sync>(
     rt: &R,
     alloc: Global,
@@ -237,12 +235,11 @@ fn measure<R: Threads + Wait + Clock + Sync>(
     Ok((spent, loads.ok_or(AllocError)?))
 }
 
-/// Prints what one measurement came to.
 fn report<R: Eprint>(rt: &R, threads: u32, nanos: u128, loads: u64) -> io::Result<()> {
     eprintln!(rt; "{threads} threads: {nanos} ns an entry, {loads} publications")
 }
 
-/// Measures so many threads, each with so many entries, and prints what it came to.
+/// Measures `threads` threads, each with `each` entries, and prints the result.
 fn print_time<R: Threads + Wait + Clock + Eprint + Sync>(
     rt: &R,
     alloc: Global,
@@ -263,7 +260,7 @@ fn print_time<R: Threads + Wait + Clock + Eprint + Sync>(
     )
 }
 
-/// Prints what each measurement came to: as many entries of each thread as the task says.
+/// Prints the result of each measurement: as many entries of each thread as the task says.
 pub fn print_times<R: Threads + Wait + Clock + Eprint + Sync>(
     rt: &R,
     alloc: Global,

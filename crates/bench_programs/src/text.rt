@@ -1,4 +1,4 @@
-//! How long 16384 lines take to be assembled, decoded and written as text again.
+//! How long it takes to assemble 16384 lines, decode them and write them as text again.
 
 use crate::programs::of_code;
 use bpf_decode::Program;
@@ -8,7 +8,7 @@ use std::io;
 use std::rt::Clock;
 use std::time::Instant;
 
-/// Eight lines of as many kinds, a slot each.
+/// Eight lines of different kinds, one slot each.
 const LINES: &str = "mov r0, 1
 add32 r1, -5
 stxdw [r10-8], r2
@@ -19,7 +19,7 @@ fetch_add [r10-8], r2
 exit
 ";
 
-/// The lines so often that they have 16384 slots.
+/// The lines, repeated until they have 16384 slots.
 fn text(alloc: Global) -> Result<String, AllocError> {
     let mut text = String::with_capacity(alloc, 2048 * LINES.len())?;
     for _ in 0..2048 {
@@ -34,7 +34,7 @@ fn report<R: Clock + Eprint>(rt: &R, name: &str, start: Instant) -> io::Result<(
     eprintln!(rt; "{name}: {micros} us")
 }
 
-/// Assembles the lines, and prints how long it takes. None where they aren't assembled.
+/// Assembles the lines, and prints how long it takes. None if that fails.
 fn assembled<R: Clock + Eprint>(rt: &R, alloc: Global, text: &str) -> io::Result<Option<Vec<u8>>> {
     let start = Instant::now(rt)?;
     let code = assemble(alloc, text).ok();
@@ -42,7 +42,7 @@ fn assembled<R: Clock + Eprint>(rt: &R, alloc: Global, text: &str) -> io::Result
     Ok(code)
 }
 
-/// Decodes their code, and prints how long it takes. None where it isn't decoded.
+/// Decodes their code, and prints how long it takes. None if that fails.
 fn decoded<R: Clock + Eprint>(rt: &R, alloc: Global, code: &[u8]) -> io::Result<Option<Program>> {
     let start = Instant::now(rt)?;
     let program = of_code(alloc, code);
@@ -58,13 +58,13 @@ fn written<R: Clock + Eprint>(rt: &R, alloc: Global, program: &Program) -> io::R
     Ok(text)
 }
 
-/// Prints how many slots there were, and whether their text is the one that was assembled.
+/// Prints how many slots there were, and whether the written text is the assembled one.
 fn report_text<R: Eprint>(rt: &R, slots: usize, alike: bool) -> io::Result<()> {
     let outcome = if alike { "again" } else { "differs" };
     eprintln!(rt; "{slots} slots, the text {outcome}")
 }
 
-/// Prints how long the way back takes, from their code to the text.
+/// Prints how long it takes to get from code to text again.
 fn print_way_back<R: Clock + Eprint>(
     rt: &R,
     alloc: Global,

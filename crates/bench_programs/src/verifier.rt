@@ -1,4 +1,4 @@
-//! How long programs take to be verified.
+//! How long the verification of programs takes.
 
 use crate::asked::{Size, Task};
 use crate::programs::{joins, of_text};
@@ -10,12 +10,12 @@ use std::io;
 use std::rt::Clock;
 use std::time::Instant;
 
-/// A loop of so many turns.
+/// A loop of `turns` iterations.
 fn turns_of_a_loop(alloc: Global, turns: u64) -> Result<String, AllocError> {
     format!(in alloc; "mov r0, 0\nlddw r1, {turns}\nadd r0, 1\nsub r1, 1\njne r1, 0, -3\nexit\n")
 }
 
-/// The text with a name, of so many turns. `spin` is a jump to itself.
+/// The named text, with `turns` iterations. `spin` is a jump to itself.
 fn text_of(alloc: Global, name: &str, turns: u64) -> Result<String, AllocError> {
     match name {
         "spin" => String::from_str(alloc, "ja -1\nexit\n"),
@@ -24,8 +24,8 @@ fn text_of(alloc: Global, name: &str, turns: u64) -> Result<String, AllocError> 
     }
 }
 
-/// How many states of it are examined. What R0 is differs on the two ways that join, so that each turn but the first is
-/// gone through twice.
+/// How many states of it are examined. R0 differs on the two branches that join, so each pair but the first is examined
+/// twice.
 fn states_of(name: &str, turns: u64) -> u64 {
     match name {
         "spin" => 4194304,
@@ -34,20 +34,19 @@ fn states_of(name: &str, turns: u64) -> u64 {
     }
 }
 
-/// The program with a name. None where there is none.
+/// The named program. None if there is none.
 fn program(alloc: Global, name: &str, turns: u64) -> Result<Option<Program>, AllocError> {
     let text = text_of(alloc, name, turns)?;
     Ok(of_text(alloc, text.as_str()))
 }
 
-/// What verification says of a program: its budget, or why it is refused.
+/// The result of verification: a budget, or a refusal.
 #[derive(Clone, Copy)]
 enum Answer {
     Budget(u32),
     Refused(Refusal),
 }
 
-/// Verifies a program.
 fn answer_of(alloc: Global, program: Program) -> Answer {
     match verify(alloc, program, Hook::Data) {
         Ok(accepted) => Answer::Budget(accepted.budget()),
@@ -55,7 +54,6 @@ fn answer_of(alloc: Global, program: Program) -> Answer {
     }
 }
 
-/// Prints what verification says of a program.
 fn print_answer<R: Eprint>(rt: &R, name: &str, answer: Answer) -> io::Result<()> {
     match answer {
         Answer::Budget(budget) => eprint!(rt; "{name}: budget {budget}"),
@@ -63,14 +61,14 @@ fn print_answer<R: Eprint>(rt: &R, name: &str, answer: Answer) -> io::Result<()>
     }
 }
 
-/// Prints how long it took, and for each of so many states.
+/// Prints how long verification took, in all and for each state.
 fn print_time<R: Eprint>(rt: &R, nanos: u128, states: u64) -> io::Result<()> {
     let micros = nanos / 1000;
     let each = nanos / u128::from(states.max(1));
     eprintln!(rt; ", {micros} us, {each} ns a state")
 }
 
-/// Verifies the program with a name, and prints how long it takes.
+/// Verifies the named program, and prints how long it takes.
 fn measure<R: Clock + Eprint>(rt: &R, alloc: Global, name: &str, turns: u64) -> io::Result<()> {
     let Some(program) = program(alloc, name, turns)? else {
         return Ok(());
@@ -82,7 +80,7 @@ fn measure<R: Clock + Eprint>(rt: &R, alloc: Global, name: &str, turns: u64) -> 
     print_time(rt, nanos, states_of(name, turns))
 }
 
-/// Verifies the programs of a task once: a loop and joins where it names none.
+/// Verifies the programs of a task once. The defaults are a loop and joins.
 fn measure_all<R: Clock + Eprint>(
     rt: &R,
     alloc: Global,
@@ -99,7 +97,7 @@ fn measure_all<R: Clock + Eprint>(
     Ok(())
 }
 
-/// Verifies the programs of a task so many times, and once where it doesn't say.
+/// Verifies the programs of a task as often as it says, or once.
 pub fn print_times<R: Clock + Eprint>(
     rt: &R,
     alloc: Global,

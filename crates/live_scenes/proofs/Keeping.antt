@@ -1,4 +1,4 @@
--- What changes of tokens keep.
+-- What stays when tokens change.
 use Rattle.std.proofs.Common.{◌≡◌, ◌+◌, ℕ, refl, sym, ap, subst, ◌∙◌, arith}
 use Rattle.ap_books.specs.Holdings.{Holding, HasMerged, HasParts}
 use Rattle.ap_shards.specs.Tokens.{Eight, holding_of}
@@ -8,11 +8,11 @@ use Rattle.ap_live.specs.Tokens.{Operator, IsOperator, Worker, IsWorker}
 use Rattle.bpf_helpers.proofs.Keeping.{keep_all, keep_further}
 use Rattle.live_scenes.specs.Rights.{IsChief, IsHand}
 
--- as many parts as before
+-- a token keeps its number of parts
 keeps_parts : (n : ℕ) (a b : Eight) → KeepParts a b → HasParts n (holding_of a) → HasParts n (holding_of b)
 keeps_parts n a b k h = (k.0 ∙ h.0, k.1 ∙ h.1, k.2 ∙ h.2, k.3 ∙ h.3, k.4 ∙ h.4, k.5 ∙ h.5, k.6 ∙ h.6, k.7 ∙ h.7)
 
--- a worker that served
+-- a worker that has served
 pub hand_served : (a : Live) (w w2 : Worker) → IsHand a w → IsWorker a w2 → KeepParts w.shards w2.shards → IsHand a w2
 hand_served a w w2 h own keep = record { own = own; part = keeps_parts 1 w.shards w2.shards keep h.part }
 
@@ -20,15 +20,15 @@ hand_served a w w2 h own keep = record { own = own; part = keeps_parts 1 w.shard
 chief_still : (a : Live) (o o2 : Operator) → IsChief a o → IsOperator a o2 → o2.shards ≡ o.shards → IsChief a o2
 chief_still a o o2 h own same = record { own = own; part = subst (λ (e : Eight). HasParts 1 (holding_of e)) (sym same) h.part }
 
--- an operator that put something
+-- an operator that has put an item
 pub chief_put : (a : Live) (o o2 : Operator) → IsChief a o → IsOperator a o2 → o2 ≡ record o { lines = o2.lines } → IsChief a o2
 chief_put a o o2 h own same = chief_still a o o2 h own (ap (λ (p : Operator). p.shards) same)
 
--- an operator that used a map
+-- an operator that has used a map
 pub chief_reached : (a : Live) (o o2 : Operator) → IsChief a o → IsOperator a o2 → o2 ≡ record o { seats = o2.seats } → IsChief a o2
 chief_reached a o o2 h own same = chief_still a o o2 h own (ap (λ (p : Operator). p.shards) same)
 
--- an operator whose command was decided
+-- an operator whose command has been decided
 pub chief_acted : (a : Live) (o o2 : Operator) → IsChief a o → o2 ≡ record o { shards = o2.shards } → KeepParts o.shards o2.shards → IsChief a o2
 chief_acted a o o2 h same keep =
     record {
@@ -36,18 +36,18 @@ chief_acted a o o2 h same keep =
       part = keeps_parts 1 o.shards o2.shards keep h.part;
     }
 
--- an operator as it was
+-- an unchanged operator
 pub chief_same : (a : Live) (o o2 : Operator) → IsChief a o → o2 ≡ o → IsChief a o2
 chief_same a o o2 h same = subst (IsChief a) (sym same) h
 
--- tokens stay those of the access point, whatever tokens it gives
+-- a token stays one of the access point when that gives out others
 pub hand_kept : (a b : Live) (w : Worker) → (IsWorker a w → IsWorker b w) → IsHand a w → IsHand b w
 hand_kept a b w kept h = record { own = kept h.own; part = h.part }
 
 pub chief_kept : (a b : Live) (o : Operator) → (IsOperator a o → IsOperator b o) → IsChief a o → IsChief b o
 chief_kept a b o kept h = record { own = kept h.own; part = h.part }
 
--- what an access point is, it stays over two steps
+-- `KeepsLive` is transitive
 pub keeps_on : (a b c : Live) → KeepsLive a b → KeepsLive b c → KeepsLive a c
 keeps_on a b c k l =
     record {

@@ -7,7 +7,7 @@ use Rattle.ap_live.specs.Upholding.{Upholds, UpholdAll, token_at}
 use Rattle.ap_live.proofs.Growing.{by_shard}
 use Rattle.live_scenes.specs.Together.{AllStandTogether, StandTogether}
 
--- at one shard
+-- both tokens at one shard
 both_stand : (s : ℕ) (t u t2 u2 : Token) → KeepsOwn t t2 → KeepsOwn u u2 → t2.seen ≡ u2.seen → Upholds s t2 → Upholds s u2 → StandTogether s t.own u.own
 both_stand s t u t2 u2 k l same h g =
     record {
@@ -20,7 +20,7 @@ both_stand s t u t2 u2 k l same h g =
       other = subst (λ (es : List Entry). IsAmong u.own es) (sym same) (subst (λ (es : List Entry). IsAmong es u2.seen) l.own g.among);
     }
 
--- stand in one journal at each shard
+-- both tokens at each shard
 pub all_stand : (a b a2 b2 : Eight) → KeepOwn a a2 → KeepOwn b b2 → HaveSeenAlike a2 b2 → UpholdAll a2 → UpholdAll b2 → AllStandTogether a b
 all_stand a b a2 b2 k l same h g s low =
     by_shard (λ s. Upholds s (token_at s a2) → Upholds s (token_at s b2) → StandTogether s (token_at s a).own (token_at s b).own)

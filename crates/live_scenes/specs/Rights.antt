@@ -4,12 +4,12 @@ use Rattle.ap_shards.specs.Tokens.{holding_of}
 use Rattle.ap_live.specs.Lives.{Live}
 use Rattle.ap_live.specs.Tokens.{IsOperator, IsWorker, Operator, Worker}
 
--- the token of one of its workers, with one part of each ledger
+-- a token of one of its workers, with one part of each ledger
 pub record IsHand (a : Live) (w : Worker) : Type 0 where
   pub own : IsWorker a w
   pub part : HasParts 1 (holding_of w.shards)
 
--- the token of one of its operators, with one part of each ledger
+-- a token of one of its operators, with one part of each ledger
 pub record IsChief (a : Live) (o : Operator) : Type 0 where
   pub own : IsOperator a o
   pub part : HasParts 1 (holding_of o.shards)

@@ -1,4 +1,4 @@
--- What two tokens have of their own, in one journal.
+-- The own entries of two tokens, in one journal.
 use Rattle.std.specs.Prelude.{◌≡◌, ◌<◌, ℕ, List}
 use Rattle.ap_model.specs.Readings.{Readings, Rules}
 use Rattle.ap_model.specs.Runs.{Entry}
@@ -7,8 +7,8 @@ use Rattle.ap_locked.specs.Tokens.{IsAmong}
 use Rattle.ap_shards.specs.Tokens.{Eight}
 use Rattle.ap_live.specs.Upholding.{token_at}
 
--- What one and another decided at a shard stands in one journal, each entry at a place of its own among those of its
--- list, in its order. The link's half of the headline holds of that journal, from its first entry on.
+-- One journal of a shard contains what one and the other decided there, each entry of a list at a position of its own
+-- and in the list's order. The link's laws hold of that journal from its first entry on.
 pub record StandTogether (shard : ℕ) (ones others : List Entry) : Type 0 where
   pub journal : List Entry
   pub rules : Rules
@@ -18,6 +18,6 @@ pub record StandTogether (shard : ℕ) (ones others : List Entry) : Type 0 where
   pub one : IsAmong ones journal
   pub other : IsAmong others journal
 
--- of each shard, what two tokens have of their own
+-- the same at each shard, for the own entries of two tokens
 abbrev pub AllStandTogether : Eight → Eight → Type 0
 AllStandTogether a b = (s : ℕ) → s < 8 → StandTogether s (token_at s a).own (token_at s b).own

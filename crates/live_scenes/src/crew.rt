@@ -1,4 +1,4 @@
-//! The tokens of an access point, as they are given out.
+//! Gives out the tokens of an access point.
 
 ghost use Rattle.std.specs.Prelude.{◌≡◌, ◌+◌, ◌≤◌, IfOk, OnOk};
 ghost use Rattle.std.specs.List.{All};
@@ -14,7 +14,7 @@ use ap_live::{LeftTokens, LiveAp, OperatorToken, WorkerToken, newcomers_law, tok
 use ap_locked::Journals;
 use std::alloc::{AllocError, Global};
 
-/// The tokens of so many workers, which are all; that of the first is the last.
+/// The tokens of all `count` workers. The first worker's comes last.
 fn hire_workers<B: Ledgers + Journals>(
     ap: &mut LiveAp<B>,
     alloc: Global,
@@ -39,7 +39,7 @@ fn hire_workers<B: Ledgers + Journals>(
     Ok(tokens)
 }
 
-/// The tokens of so many operators.
+/// The tokens of `count` operators.
 fn hire_operators<B: Ledgers + Journals>(
     ap: &mut LiveAp<B>,
     alloc: Global,
@@ -71,7 +71,7 @@ pub(crate) struct Crew<B: Ledgers + Journals> {
     pub operators: Vec<OperatorToken<B>>,
 }
 
-/// The tokens of so many workers, which are all, and of so many operators.
+/// The tokens of all `many.0` workers, and of `many.1` operators.
 fn hire<B: Ledgers + Journals>(
     ap: &mut LiveAp<B>,
     alloc: Global,
@@ -90,8 +90,8 @@ fn hire<B: Ledgers + Journals>(
     Ok(Crew { workers, operators })
 }
 
-/// The tokens of so many workers, which are all, and of so many operators, and the parts of the ledgers that are left.
-/// Nothing was given out before.
+/// The tokens of all `many.0` workers and of `many.1` operators, and the remaining parts of the ledgers. No token may
+/// have been given out yet.
 pub(crate) fn deal<B: Ledgers + Journals>(
     ap: &mut LiveAp<B>,
     alloc: Global,
@@ -108,7 +108,7 @@ pub(crate) fn deal<B: Ledgers + Journals>(
 {
     let mut left = left;
     let Ok(crew) = hire(ap, alloc, &mut left, many) else {
-        // Given up by a call, since eight shards have many parts.
+        // Freed by a call, since eight shards have many parts.
         drop(left);
         return Err(AllocError);
     };
@@ -119,7 +119,7 @@ pub(crate) fn deal<B: Ledgers + Journals>(
     Ok((crew, purse))
 }
 
-/// The workers of an access point, by the order of their numbers.
+/// The workers of an access point, in the order of their numbers.
 pub(crate) fn hands_of<'a, B: Ledgers + Journals>(
     alloc: Global,
     ap: &'a LiveAp<B>,
@@ -137,7 +137,7 @@ pub(crate) fn hands_of<'a, B: Ledgers + Journals>(
     Ok(hands)
 }
 
-/// The operators of an access point, numbered from 0 on.
+/// The operators of an access point, numbered from 0.
 pub(crate) fn chiefs_of<'a, B: Ledgers + Journals>(
     alloc: Global,
     ap: &'a LiveAp<B>,

@@ -6,20 +6,19 @@ use std::alloc::{AllocError, Global};
 
 const BSSID: [u8; 6] = [2, 0, 0, 0, 0, 1];
 
-/// What comes behind the addresses of a data frame: a number and QoS control of 4 bytes, and then a packet to UDP
-/// port 53 of 74 bytes in all.
+/// The body of a data frame: LLC/SNAP and a packet to UDP port 53, 74 bytes in all.
 const PACKET: [u8; 74] = [
     0xaa, 0xaa, 0x03, 0, 0, 0, 0x08, 0, 0x45, 0, 0, 66, 0, 0, 0, 0, 64, 17, 0, 0, 10, 0, 0, 1, 10,
     0, 0, 2, 0x30, 0x39, 0, 53, 0, 46, 0, 0, 1, 2, 3, 4, 5, 6, 7, 8, 9, 10, 11, 12, 13, 14, 15, 16,
     17, 18, 19, 20, 21, 22, 23, 24, 25, 26, 27, 28, 29, 30, 31, 32, 33, 34, 35, 36, 37, 38,
 ];
 
-/// The address of a station of a shard: there are 256 owners, and each has one station in each shard.
+/// The address of a station of a shard. Each of 256 owners has one station in each shard.
 pub fn address(owner: u8, shard: u8) -> [u8; 6] {
     [2, 0, 0, 1, owner, shard % 8]
 }
 
-/// A frame to the access point: its first four bytes, the addresses, and what comes behind them.
+/// A frame to the access point: its first four bytes, the addresses, and the rest.
 fn frame(
     alloc: Global,
     first: [u8; 4],
@@ -35,15 +34,15 @@ fn frame(
     Ok(Event::Frame(Octets::new(bytes)))
 }
 
-/// What an access point of network `lab` is made with.
+/// The configuration of an access point of network `lab`.
 pub fn lab(alloc: Global) -> Option<LinkConfig> {
     let ssid = Octets::copy(alloc, b"lab").ok()?;
     let rates = Octets::copy(alloc, &[0x82, 0x84, 0x8b, 0x96]).ok()?;
     LinkConfig::new(Address::new(BSSID), ssid, rates)
 }
 
-/// A step of a station on its way to an agreement: it authenticates, associates, and asks for an agreement of size 64
-/// for TID 0, from number 0 on, with no timeout.
+/// A step of a station towards an agreement: it authenticates (0), associates (1), or requests an agreement of size 64
+/// for TID 0, from number 0 on, without timeout.
 pub fn joining(alloc: Global, station: [u8; 6], step: u8) -> Result<Event, AllocError> {
     match step {
         0 => frame(
@@ -67,7 +66,7 @@ pub fn joining(alloc: Global, station: [u8; 6], step: u8) -> Result<Event, Alloc
     }
 }
 
-/// QoS data for TID 0 with a number.
+/// QoS data for TID 0 with this number.
 pub fn data(alloc: Global, station: [u8; 6], number: u16) -> Result<Event, AllocError> {
     let [low, high] = (number << 4).to_le_bytes();
     let mut rest = Vec::with_capacity(alloc, 78)?;

@@ -1,4 +1,4 @@
-//! Those who use an access point, each with its token.
+//! The users of an access point, each with its token.
 
 ghost use Rattle.std.specs.Prelude.{◌≡◌, ◌<◌};
 ghost use Rattle.live_scenes.specs.Rights.{IsChief, IsHand};
@@ -27,7 +27,7 @@ pub struct Hand<'a, B: Ledgers + Journals> {
 }
 
 impl<'a, B: Ledgers + Journals> Hand<'a, B> {
-    /// Serves what the worker's queue holds, as `LiveAp::serve`.
+    /// Serves the worker's queue, as `LiveAp::serve`.
     pub fn serve<R: Wait, G: Gate>(
         &mut self,
         rt: &R,
@@ -38,7 +38,7 @@ impl<'a, B: Ledgers + Journals> Hand<'a, B> {
         self.ap.serve(rt, alloc, &mut self.token, gate, list)
     }
 
-    /// Gives its part of each ledger back.
+    /// Returns its part of each ledger.
     pub(crate) fn give_back(self, purse: &mut Purse<B>) {
         let Hand {
             ap: _,
@@ -59,12 +59,12 @@ pub struct Chief<'a, B: Ledgers + Journals> {
 }
 
 impl<'a, B: Ledgers + Journals> Chief<'a, B> {
-    /// Puts an event into its shard's worker's queue, as `LiveAp::submit`.
+    /// Puts an event into the queue of its shard's worker, as `LiveAp::submit`.
     pub fn submit<R: Wait>(&mut self, rt: &R, call: u64, event: Event) -> Result<(), Unserved> {
         self.ap.submit(rt, &mut self.token, call, event)
     }
 
-    /// Goes on with a tick at this shard, as `LiveAp::submit_at`.
+    /// Continues with a tick at this shard, as `LiveAp::submit_at`.
     fn submit_at<R: Wait>(
         &mut self,
         rt: &R,
@@ -78,7 +78,7 @@ impl<'a, B: Ledgers + Journals> Chief<'a, B> {
         self.ap.submit_at(rt, &mut self.token, call, event, shard)
     }
 
-    /// Goes on with an event that was handed back.
+    /// Retries an event that was returned.
     fn go_on<R: Wait>(&mut self, rt: &R, call: u64, back: Unserved) -> Result<(), Unserved> {
         let Unserved { event, shard } = back;
         match event {
@@ -87,7 +87,7 @@ impl<'a, B: Ledgers + Journals> Chief<'a, B> {
         }
     }
 
-    /// Puts an event, and tries again as long as a queue is full.
+    /// Puts an event, and retries while a queue is full.
     pub fn put<R: Wait>(&mut self, rt: &R, call: u64, event: Event) {
         let mut back = match self.submit(rt, call, event) {
             Ok(()) => return,
@@ -103,8 +103,8 @@ impl<'a, B: Ledgers + Journals> Chief<'a, B> {
         unreachable!()
     }
 
-    /// The stations of an owner, one of each shard, come to their agreements: 24 events are put, under call 15. False for
-    /// want of memory.
+    /// The stations of an owner, one of each shard, set up their agreements: puts 24 events, under call 15. False if an
+    /// allocation fails.
     pub fn join<R: Wait>(&mut self, rt: &R, alloc: Global, owner: u8) -> bool {
         for place in 0..24u8 {
             match joining(alloc, address(owner, place / 3), place % 3) {
@@ -115,7 +115,7 @@ impl<'a, B: Ledgers + Journals> Chief<'a, B> {
         true
     }
 
-    /// Sends a station away at once, as `LiveAp::act`.
+    /// Deauthenticates a station at once, as `LiveAp::act`.
     pub fn kick<R: Wait>(
         &mut self,
         rt: &R,
@@ -131,7 +131,7 @@ impl<'a, B: Ledgers + Journals> Chief<'a, B> {
         Ok(outs)
     }
 
-    /// Stores a number in a word of a shared map. False where there is no such word.
+    /// Stores a number in a word of a shared map. False if there is no such word.
     pub fn store(&mut self, map: usize, word: u32, value: u64) -> bool {
         if !self.ap.has_word(Scope::Shared, map, word) {
             return false;
@@ -156,7 +156,7 @@ impl<'a, B: Ledgers + Journals> Chief<'a, B> {
         Some(self.ap.sum(&mut self.token, map, word))
     }
 
-    /// Gives its part of each ledger back.
+    /// Returns its part of each ledger.
     pub(crate) fn give_back(self, purse: &mut Purse<B>) {
         let Chief {
             ap: _,

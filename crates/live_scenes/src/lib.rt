@@ -1,10 +1,9 @@
-//! All tokens of an access point that several threads serve, in use: they are given out, a story is told with them, and
-//! they come back.
+//! Runs a `Story` with all tokens of an access point that several threads serve: hands them out, and takes them back.
 //!
-//! Main calls: `play`, which opens an access point, hands its tokens to a `Story`, and then answers the totals; `Hand`
-//! and `Chief`, by which a story serves and submits; `Soak`, the story that tests and a benchmark run. It stands on
-//! `ap_live`. Promised by the types: a `Hand` has the token of a worker of its access point, a `Chief` that of an
-//! operator, each with one part of each ledger, so that the totals can be read once all came back.
+//! Main calls: `play`, which opens an access point, hands its tokens to a story, and then returns the totals; `Hand`
+//! and `Chief`, by which a story serves and submits; `Soak`, the story that tests and a benchmark run. It depends on
+//! `ap_live`. The types promise that a `Hand` has the token of a worker of its access point, and a `Chief` that of an
+//! operator, each with one part of each ledger. So the totals can be read once all parts are back.
 #![tactic(auto)]
 
 mod crew;

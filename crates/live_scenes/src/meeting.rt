@@ -1,4 +1,4 @@
-//! Workers and operators that meet, as callers of an access point.
+//! Workers and operators exchange what they have seen, as callers of an access point.
 
 ghost use Rattle.ap_shards.specs.Tokens.{HaveSeenAlike, KeepOwn};
 ghost use Rattle.live_scenes.specs.Together.{AllStandTogether};
@@ -7,7 +7,7 @@ use ap_books::Ledgers;
 use ap_live::{OperatorToken, WorkerToken};
 use ap_locked::Journals;
 
-/// Two workers meet: at each shard what both decided stands in one journal.
+/// Two workers meet: one journal of each shard contains what both decided there.
 pub fn meet_workers<B: Ledgers + Journals>(one: &mut WorkerToken<B>, other: &mut WorkerToken<B>)
     ensures together { AllStandTogether one.old.shards other.old.shards }
     ensures one { KeepOwn one.old.shards one.new.shards }
@@ -19,7 +19,7 @@ pub fn meet_workers<B: Ledgers + Journals>(one: &mut WorkerToken<B>, other: &mut
     other.known();
 }
 
-/// A worker and an operator meet: at each shard what both decided stands in one journal.
+/// A worker and an operator meet: one journal of each shard contains what both decided there.
 pub fn meet_operator<B: Ledgers + Journals>(
     worker: &mut WorkerToken<B>,
     operator: &mut OperatorToken<B>,

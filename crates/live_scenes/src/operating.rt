@@ -11,24 +11,24 @@ use std::sync::Wait;
 use std::sync::atomic::AtomicU64;
 use std::sync::atomic::Ordering::SeqCst;
 
-/// After how much data an operator does something else too.
+/// The number of data frames after which an operator does something else too.
 const PAUSE: u64 = 64;
 
 /// What one operator did.
 #[derive(Clone, Copy)]
 pub(crate) struct Diary {
-    /// How many items were put into queues.
+    /// How many items it put into queues.
     pub put: u64,
-    /// What its commands led to that were decided at once.
+    /// The outcome of the commands that it decided at once.
     pub acted: Totals,
-    /// How often memory was refused, or a map read otherwise than it should.
+    /// How often an allocation failed, or a map's word or sum was wrong.
     pub wrong: u64,
-    /// The last sum that was taken.
+    /// The last sum that it took.
     sum: u64,
 }
 
 impl Diary {
-    /// Nothing was done yet.
+    /// An operator that has done nothing.
     pub(crate) fn new() -> Diary {
         Diary {
             put: 0,
@@ -38,7 +38,7 @@ impl Diary {
         }
     }
 
-    /// What two operators did.
+    /// What two operators did together.
     pub(crate) fn and(self, other: Diary) -> Diary {
         Diary {
             put: self.put.wrapping_add(other.put),
@@ -53,7 +53,7 @@ impl Diary {
     }
 }
 
-/// How many items an event is in queues: a tick is one for each shard.
+/// How many queue items an event makes: a tick makes one for each shard.
 fn items_of(event: &Event) -> u64 {
     match event {
         Event::Tick(_) => 8,
@@ -61,7 +61,7 @@ fn items_of(event: &Event) -> u64 {
     }
 }
 
-/// Puts an event that was made.
+/// Puts an event, if it could be made.
 fn put<B: Ledgers + Journals, R: Wait>(
     rt: &R,
     chief: &mut Chief<'_, B>,
@@ -79,12 +79,12 @@ fn put<B: Ledgers + Journals, R: Wait>(
     }
 }
 
-/// The station of the operator that comes and is sent away again and again.
+/// The operator's station that associates and is sent away repeatedly.
 fn guest_of(operator: u8) -> [u8; 6] {
     address(operator.wrapping_add(100), operator)
 }
 
-/// Sends the guest away at once.
+/// Deauthenticates the guest at once.
 fn kick<B: Ledgers + Journals, R: Wait>(
     rt: &R,
     alloc: Global,
@@ -101,7 +101,7 @@ fn kick<B: Ledgers + Journals, R: Wait>(
     }
 }
 
-/// Stores a number in the operator's own word, reads it again, and takes a sum, which never falls.
+/// Stores a number in the operator's own word, reads it back, and takes a sum, which never decreases.
 fn use_maps<B: Ledgers + Journals>(chief: &mut Chief<'_, B>, diary: &mut Diary, number: u64) {
     let word = u32::from(chief.number % 4).wrapping_add(2);
     let stored = chief.store(0, word, number);
@@ -115,7 +115,7 @@ fn use_maps<B: Ledgers + Journals>(chief: &mut Chief<'_, B>, diary: &mut Diary, 
     diary.sum = sum;
 }
 
-/// A guest comes, sends data, and is sent away; time passes; maps are used.
+/// The guest authenticates and associates, sends data, is sent away, and sends more; time passes; maps are used.
 fn do_else<B: Ledgers + Journals, R: Wait>(
     rt: &R,
     alloc: Global,
@@ -146,7 +146,7 @@ fn do_else<B: Ledgers + Journals, R: Wait>(
     use_maps(chief, diary, index);
 }
 
-/// Submits the data with this place.
+/// Submits the data with this index.
 fn step<B: Ledgers + Journals, R: Wait>(
     rt: &R,
     alloc: Global,
@@ -164,7 +164,7 @@ fn step<B: Ledgers + Journals, R: Wait>(
     }
 }
 
-/// Submits so much data, does all else meanwhile, and then says that it is done. It answers what was done.
+/// Submits `events` data frames, and does all else meanwhile. It then reports that it is done, and returns what it did.
 pub(crate) fn operate_on<B: Ledgers + Journals, R: Wait>(
     rt: &R,
     alloc: Global,

@@ -13,7 +13,7 @@ use std::alloc::Global;
 use std::sync::{Arc, Wait};
 use versions::Publisher;
 
-/// Map 0, which all workers share, and map 1, which each worker has for itself: one entry of 8 words each.
+/// Map 0, which all workers share, and map 1, of which each worker has its own: each one entry of 8 words.
 pub(crate) fn shapes(alloc: Global, width: WordWidth) -> Option<Shapes> {
     let mut shapes = Vec::with_capacity(alloc, 2).ok()?;
     for scope in [Scope::Shared, Scope::Worker] {
@@ -38,7 +38,7 @@ fn accepted(alloc: Global, text: &str, width: WordWidth) -> Option<Arc<Accepted>
     Arc::new(alloc, accepted).ok()
 }
 
-/// Puts the program of a text in force for data, over maps of this width. False where it is refused, or memory is.
+/// Publishes the program of a text for data, over maps of this width. False if it is refused, or an allocation fails.
 pub fn publish<R: Wait>(
     rt: &R,
     alloc: Global,

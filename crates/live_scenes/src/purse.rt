@@ -1,4 +1,4 @@
-//! Parts of the ledgers that come back.
+//! Parts of the ledgers that are returned.
 
 ghost use Rattle.std.specs.Prelude.{◌≡◌};
 ghost use Rattle.ap_books.specs.Holdings.{HasParts};
@@ -8,10 +8,10 @@ use ap_live::LiveAp;
 use ap_locked::Journals;
 use std::sync::Wait;
 
-/// Into how many parts each ledger of an access point is cut.
+/// The number of parts of each ledger of an access point.
 pub(crate) const PARTS: u64 = 17;
 
-/// So many parts of each ledger.
+/// This many parts of each ledger.
 #[derive(Drop)]
 pub(crate) struct Purse<B: Ledgers> {
     pub shares: Portions<B>,
@@ -20,7 +20,7 @@ pub(crate) struct Purse<B: Ledgers> {
 }
 
 impl<B: Ledgers> Purse<B> {
-    /// Takes a part of each ledger in, with what it has counted. There are never more parts than `PARTS`.
+    /// Merges one part of each ledger, with what it has counted. There are never more than `PARTS` parts.
     pub(crate) fn take(&mut self, part: Portions<B>)
         requires { HasParts 1 part }
     {
@@ -28,13 +28,13 @@ impl<B: Ledgers> Purse<B> {
             self.shares.merge(part);
             self.parts += 1;
         } else {
-            // Given up by a call, since eight shards have many parts.
+            // Freed by a call, since eight shards have many parts.
             drop(part);
         }
     }
 }
 
-/// What all have counted. None where a part is missing.
+/// The totals. None if a part is missing.
 pub(crate) fn total<B: Ledgers + Journals, R: Wait>(
     rt: &R,
     ap: &LiveAp<B>,

@@ -1,4 +1,4 @@
-//! Stories that are told with all tokens of an access point.
+//! Runs stories with all tokens of an access point.
 
 ghost use Rattle.std.specs.Prelude.{◌≡◌, ◌<◌, ◌≤◌, length};
 ghost use Rattle.std.specs.List.{All};
@@ -22,10 +22,10 @@ use std::thread;
 use std::thread::Threads;
 use versions::Publisher;
 
-/// How many use an access point at once at most: 8 workers, 8 operators and the publisher.
+/// The most users of an access point at once: 8 workers, 8 operators and the publisher.
 const MOST: usize = 17;
 
-/// The workers of an access point, by the order of their numbers, and operators of it.
+/// The workers of an access point, in the order of their numbers, and operators of it.
 #[derive(Drop)]
 pub struct Scene<'a, B: Ledgers + Journals> {
     pub hands: Vec<Hand<'a, B>>,
@@ -33,7 +33,8 @@ pub struct Scene<'a, B: Ledgers + Journals> {
 }
 
 impl<'a, B: Ledgers + Journals> Scene<'a, B> {
-    /// Each worker serves what its queue holds, one after the other. What was served till a refusal stands in the list.
+    /// One after another, each worker serves its queue. If an allocation fails, the list has what that worker served
+    /// until then.
     pub fn serve<R: Wait, G: Gate>(
         &mut self,
         rt: &R,
@@ -47,10 +48,10 @@ impl<'a, B: Ledgers + Journals> Scene<'a, B> {
     }
 }
 
-/// What is done with an access point, step by step: first by one thread with all who use it, then by all at once, each
-/// in a thread of its own, and in the end by one thread again.
+/// What is done with an access point: first by one thread with all its users, then by all users at once, each in its
+/// own thread, and last by one thread again.
 pub trait Story<R: Wait> {
-    /// What is done first.
+    /// Runs first.
     fn prepare<B: Ledgers + Journals>(
         &mut self,
         rt: &R,
@@ -68,11 +69,11 @@ pub trait Story<R: Wait> {
     /// What the publisher does.
     fn publish(&self, _rt: &R, _alloc: Global, _publisher: &mut Publisher) {}
 
-    /// What is done in the end.
+    /// Runs last.
     fn finish<B: Ledgers + Journals>(&mut self, _rt: &R, _scene: &mut Scene<'_, B>) {}
 }
 
-/// One of those who use an access point.
+/// A user of an access point.
 #[derive(Drop)]
 enum Player<'x, 'a, B: Ledgers + Journals> {
     Hand(&'x mut Hand<'a, B>),
@@ -101,21 +102,21 @@ fn scene_of<'a, B: Ledgers + Journals>(
     Ok(Scene { hands, chiefs })
 }
 
-/// Takes the parts of workers back.
+/// Takes back the parts of workers.
 fn take_hands<B: Ledgers + Journals>(purse: &mut Purse<B>, hands: Vec<Hand<'_, B>>) {
     for hand in hands {
         hand.give_back(purse);
     }
 }
 
-/// Takes the parts of operators back.
+/// Takes back the parts of operators.
 fn take_chiefs<B: Ledgers + Journals>(purse: &mut Purse<B>, chiefs: Vec<Chief<'_, B>>) {
     for chief in chiefs {
         chief.give_back(purse);
     }
 }
 
-/// Takes the parts of all back, and reads the totals.
+/// Takes back all parts, and reads the totals.
 fn totals_of<B: Ledgers + Journals, R: Wait>(
     rt: &R,
     ap: &LiveAp<B>,
@@ -133,7 +134,7 @@ fn totals_of<B: Ledgers + Journals, R: Wait>(
     totals
 }
 
-/// Workers, operators and the publisher, each in a place from which its thread takes it.
+/// Workers, operators and the publisher, each in a slot from which its thread takes it.
 fn players_of<'x, 'a, B: Ledgers + Journals>(
     alloc: Global,
     scene: &'x mut Scene<'a, B>,
@@ -152,7 +153,6 @@ fn players_of<'x, 'a, B: Ledgers + Journals>(
     Ok(players)
 }
 
-/// What one of them does.
 fn play_part<B: Ledgers + Journals, R: Wait, S: Story<R>>(
     rt: &R,
     alloc: Global,
@@ -166,7 +166,7 @@ fn play_part<B: Ledgers + Journals, R: Wait, S: Story<R>>(
     }
 }
 
-/// All do what they do at once, each in a thread of its own.
+/// All users do their parts at once, each in its own thread.
 fn run_all<B, R, S>(rt: &R, alloc: Global, players: &mut [Option<Player<'_, '_, B>>], story: &S)
 where
     B: Ledgers + Journals + Send + Sync,
@@ -185,7 +185,7 @@ where
     );
 }
 
-/// Tells a story up to its end. False for want of memory.
+/// Runs a story to its end. False if an allocation fails.
 fn tell<B, R, S>(
     rt: &R,
     alloc: Global,
@@ -207,7 +207,7 @@ where
     true
 }
 
-/// Tells the story with all tokens, and reads the totals.
+/// Runs a story with all tokens, and reads the totals.
 fn told<B, R, S>(
     rt: &R,
     alloc: Global,
@@ -234,7 +234,7 @@ where
     if told { totals } else { None }
 }
 
-/// Gives all tokens of workers out, and so many of operators, and tells the story with them.
+/// Gives out all tokens of workers and `many.1` of operators, and runs the story with them.
 fn opened_to<B, R, S>(
     rt: &R,
     alloc: Global,
@@ -262,13 +262,13 @@ where
         Ok(tokens) => told(rt, alloc, &ap, tokens, &mut publisher, story),
         Err(_) => None,
     };
-    // Given up by a call, since eight shards have many parts.
+    // Freed by a call, since eight shards have many parts.
     drop(ap);
     publisher.close(rt);
     totals
 }
 
-/// The same with new shards.
+/// Opens an access point with new shards, and runs the story with it.
 fn play_with<B, R, S>(
     rt: &R,
     alloc: Global,
@@ -294,8 +294,8 @@ where
     opened_to(rt, alloc, opened, (workers, operators), story)
 }
 
-/// Opens an access point, gives the tokens of all its workers and of so many operators to a story, and answers what all
-/// have counted after it. None for want of memory, for no worker, and for more than 8 workers or operators.
+/// Opens an access point, gives the tokens of all its workers and of `operators` operators to a story, and then returns
+/// the totals. None if an allocation fails, if there is no worker, and for more than 8 workers or operators.
 pub fn play<R: Threads + Wait + Sync, S: Story<R> + Sync>(
     rt: &R,
     alloc: Global,

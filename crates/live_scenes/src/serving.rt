@@ -1,4 +1,4 @@
-//! Workers that serve as long as operators submit.
+//! Workers that serve while operators submit.
 
 use crate::hands::Hand;
 use crate::tallying::Tally;
@@ -11,7 +11,7 @@ use std::sync::atomic::AtomicU64;
 use std::sync::atomic::Ordering::SeqCst;
 use std::thread;
 
-/// Serves what the queue holds. True where nobody submits any more, and nothing was left, or memory was refused.
+/// Serves the queue. True if no operator submits any more and the queue was empty, or if an allocation failed.
 fn turn<B: Ledgers + Journals, R: Wait>(
     rt: &R,
     alloc: Global,
@@ -30,7 +30,7 @@ fn turn<B: Ledgers + Journals, R: Wait>(
     refused || (over && none)
 }
 
-/// Serves until nobody submits any more, and nothing is left in the queue. It answers what was handed on.
+/// Serves until no operator submits any more and the queue is empty, or an allocation fails. Returns the tally.
 pub(crate) fn serve_on<B: Ledgers + Journals, R: Wait>(
     rt: &R,
     alloc: Global,

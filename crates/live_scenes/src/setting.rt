@@ -1,4 +1,4 @@
-//! What the access points of the tests are made with.
+//! The settings of the tests' access points.
 
 ghost use Rattle.std.specs.Prelude.{◌≡◌, IfSome};
 
@@ -8,7 +8,7 @@ use ap_live::Settings;
 use bpf_regions::WordWidth;
 use std::alloc::Global;
 
-/// The network `lab`, the maps of the tests, and so many workers.
+/// The network `lab`, the maps of the tests, and this many workers.
 pub fn settings(alloc: Global, workers: u32, width: WordWidth) -> Option<Settings>
     ensures { IfSome result (λ s. s.workers ≡ workers) }
 {

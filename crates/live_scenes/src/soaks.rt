@@ -1,4 +1,4 @@
-//! Operators, workers and a publisher, all beside each other.
+//! Operators, workers and a publisher, all at once.
 
 use crate::hands::{Chief, Hand};
 use crate::operating::{Diary, operate_on};
@@ -37,29 +37,27 @@ mov r0, 1
 exit
 ";
 
-/// How often the publisher lets others go on before it publishes again.
+/// How often the publisher yields before it publishes again.
 const YIELDS: u32 = 200;
 
 /// What a soak found.
 #[derive(Clone, Copy)]
 pub struct Found {
-    /// How many items operators put, and what their commands led to.
+    /// How many items operators put, and the outcome of their commands.
     pub put: u64,
     pub acted: Totals,
-    /// What workers handed on.
+    /// What workers reported.
     pub served: Totals,
-    /// How much was otherwise than it should be.
+    /// How many things were wrong.
     wrong: u64,
     /// How often a program was published.
     pub published: u64,
-    /// What the counters of the shared map and of the workers' map are in the end: of data that was passed up, and of
-    /// data that was dropped.
+    /// The final counters of the shared map, and the sums of the workers' map: data passed up, and data dropped.
     shared: [u64; 2],
     summed: [u64; 2],
 }
 
 impl Found {
-    /// Nothing was found yet.
     fn new() -> Found {
         Found {
             put: 0,
@@ -72,20 +70,18 @@ impl Found {
         }
     }
 
-    /// What a worker handed on.
     fn add_tally(&mut self, tally: &Tally) {
         self.served = self.served.and(tally.totals);
         self.wrong = self.wrong.wrapping_add(tally.wrong);
     }
 
-    /// What an operator did.
     fn add_diary(&mut self, diary: Diary) {
         self.put = self.put.wrapping_add(diary.put);
         self.acted = self.acted.and(diary.acted);
         self.wrong = self.wrong.wrapping_add(diary.wrong);
     }
 
-    /// What is first found not to be as it should, in words, where these are the totals of all.
+    /// The first fault found, in words, given the totals.
     pub fn fault(&self, totals: Totals) -> Option<&'static str> {
         if self.published < 2 {
             return Some("nothing was published while events were served");
@@ -110,14 +106,13 @@ impl Found {
     }
 }
 
-/// Lets others go on.
 fn pause() {
     for _ in 0..YIELDS {
         yield_now();
     }
 }
 
-/// A soak: so much data of each of four operators.
+/// A soak: each of four operators submits `events` data frames.
 #[derive(Drop)]
 pub struct Soak {
     events: u64,
@@ -127,7 +122,7 @@ pub struct Soak {
 }
 
 impl Soak {
-    /// A soak that is not done yet. Its access point has four operators and maps of 8 bytes a word.
+    /// A soak that hasn't run. It needs an access point with four operators and maps of 8-byte words.
     pub fn new(events: u64) -> Soak {
         Soak {
             events,
@@ -136,13 +131,13 @@ impl Soak {
         }
     }
 
-    /// What was found so far.
+    /// What it has found so far.
     pub fn found<R: Wait>(&self, rt: &R) -> Found {
         *self.found.lock(rt)
     }
 }
 
-/// Publishes the two programs in turn, as long as there are operators. It answers how often it did.
+/// Publishes the two programs alternately while there are operators. Returns how many it published.
 fn publish_on<R: Wait>(
     rt: &R,
     alloc: Global,
@@ -173,7 +168,7 @@ fn read_counters<B: Ledgers + Journals>(chief: &mut Chief<'_, B>, found: &mut Fo
     }
 }
 
-/// Eight stations of each of four operators come to their agreements.
+/// Eight stations of each of four operators set up their agreements.
 fn join_all<B: Ledgers + Journals, R: Wait>(
     rt: &R,
     alloc: Global,

@@ -1,4 +1,4 @@
-//! What is told of events, added up and compared with what was put.
+//! Adds up the reports of events, and compares them with what was submitted.
 
 ghost use Rattle.std.specs.Prelude.{◌<◌};
 
@@ -7,16 +7,16 @@ use ap_books::Totals;
 use ap_model::{Out, Up};
 use ap_tagged::{Fate, Tagged};
 
-/// How many ways from an operator to a shard there are in a soak.
+/// How many pairs of an operator and a shard a soak has.
 const WAYS: usize = 32;
 
-/// The call of an operator's data: its place among all that the operator submits, and the operator's number of 0 to 3.
-/// Data number n goes to the operator's station in shard n mod 8.
+/// The call of an operator's data: its index among the data that the operator submits, and the operator's number, 0 to
+/// 3. Data n goes to the operator's station in shard n mod 8.
 pub(crate) fn call_of(index: u64, operator: u8) -> u64 {
     index.wrapping_mul(16).wrapping_add(u64::from(operator))
 }
 
-/// What an event led to, counted.
+/// The counts of one event's outcome.
 pub(crate) fn counts_of(outs: &[Out], dropped: bool) -> Totals {
     let mut counts = Totals {
         events: 1,
@@ -35,19 +35,19 @@ pub(crate) fn counts_of(outs: &[Out], dropped: bool) -> Totals {
     counts
 }
 
-/// What one worker handed on.
+/// What one worker reported.
 #[derive(Clone, Copy)]
 pub(crate) struct Tally {
-    /// What it led to.
+    /// The totals of the reports.
     pub totals: Totals,
-    /// How many events were refused, or not handled; and how much data came out of its order, or not once, or led to
-    /// something else than that it alone was passed up or dropped.
+    /// How many events were refused or not handled; and how many data frames came out of order, or not exactly once, or
+    /// had another outcome than being passed up alone or dropped.
     pub wrong: u64,
-    /// How much data of each operator came to each shard.
+    /// How many data frames of each operator came to each shard.
     came: [u64; 32],
 }
 
-/// The way that data takes.
+/// The pair of operator and shard of a call.
 fn way(call: u64) -> usize
     ensures { result < 32 }
 {
@@ -61,7 +61,7 @@ fn is_of(up: &Up, call: u64) -> bool {
     up.source.octets() == station && u64::from(up.number.number()) == index / 8 % 4096
 }
 
-/// Whether the data with this call alone was passed up, or nothing where it was dropped.
+/// Whether exactly the data with this call was passed up, or nothing if it was dropped.
 fn is_right(outs: &[Out], dropped: bool, call: u64) -> bool {
     if dropped {
         return outs.is_empty();
@@ -76,7 +76,7 @@ fn is_right(outs: &[Out], dropped: bool, call: u64) -> bool {
 }
 
 impl Tally {
-    /// Nothing came yet.
+    /// Nothing reported yet.
     pub(crate) fn new() -> Tally {
         Tally {
             totals: Totals::new(),
@@ -85,7 +85,7 @@ impl Tally {
         }
     }
 
-    /// Whether the data is the next one on its way, and led to what it should.
+    /// Whether the data is its pair's next, with the right outcome.
     fn is_next(&mut self, call: u64, outs: &[Out], dropped: bool) -> bool {
         let way = way(call);
         let place = self.came[way];
@@ -93,7 +93,6 @@ impl Tally {
         call / 16 / 8 == place && is_right(outs, dropped, call)
     }
 
-    /// Counts what an event led to.
     fn count(&mut self, call: u64, outs: &[Out], dropped: bool) {
         self.totals = self.totals.and(counts_of(outs, dropped));
         if call % 16 < 4 && !self.is_next(call, outs, dropped) {
@@ -101,7 +100,6 @@ impl Tally {
         }
     }
 
-    /// Counts what was handed on of one event.
     fn take_one(&mut self, tagged: &Tagged) {
         match &tagged.fate {
             Fate::Decided { outs, dropped } => self.count(tagged.call, outs.as_slice(), *dropped),
@@ -109,7 +107,7 @@ impl Tally {
         }
     }
 
-    /// Counts what was handed on, and empties the list.
+    /// Counts the reports, and empties the list.
     pub(crate) fn take(&mut self, list: &mut Vec<Tagged>) {
         for tagged in list.iter() {
             self.take_one(tagged);

@@ -12,13 +12,12 @@ use bpf_regions::Hook;
 use bpf_verifier::verify;
 use std::alloc::{AllocError, Global};
 
-/// How many steps a run may have before its program is put aside: what is verified is verified turn by turn.
+/// The most steps that a run may have before its program is put aside: verification follows each iteration.
 const LONG: u32 = 1024;
 
-/// How often slots may be reached in all, each once for every way to it.
+/// The most paths to slots, summed over the slots, before code counts as heavy.
 const MOST: u64 = 16384;
 
-/// One of the hooks.
 fn hook(numbers: &mut Numbers) -> Hook {
     match numbers.below(3) {
         0 => Hook::Association,
@@ -27,7 +26,7 @@ fn hook(numbers: &mut Numbers) -> Hook {
     }
 }
 
-/// What is said of code that is no program.
+/// The result for code that doesn't decode.
 pub fn undecoded(fault: DecodeFault) -> Judged {
     match fault.number() {
         1..=3 | 10..=19 => Judged::Refused,
@@ -35,7 +34,7 @@ pub fn undecoded(fault: DecodeFault) -> Judged {
     }
 }
 
-/// What is said of a program that is not let in.
+/// The result for a program that is refused.
 fn refused(number: u8) -> Judged {
     match number {
         30..=38 => Judged::Refused,
@@ -43,7 +42,7 @@ fn refused(number: u8) -> Judged {
     }
 }
 
-/// Whether a program is spelled by these bytes.
+/// Whether a program is encoded as these bytes.
 fn is_spelled(alloc: Global, program: &Program, code: &[u8]) -> Result<bool, AllocError> {
     let again = encode(alloc, program)?;
     Ok(again.as_slice() == code)
@@ -57,7 +56,7 @@ fn is_checked(alloc: Global, program: Program, hook: Hook, bytes: &[u8]) -> bool
     }
 }
 
-/// Whether a certificate is accepted for code that was let in.
+/// Whether a certificate is accepted for accepted code.
 fn is_checked_code(
     alloc: Global,
     accepted: &Accepted,
@@ -71,7 +70,7 @@ fn is_checked_code(
     }
 }
 
-/// Whether the certificate of what was let in, if it has one, is accepted for it.
+/// Whether the certificate of an accepted program, if it has one, is accepted.
 fn is_certified(alloc: Global, accepted: &Accepted, code: &[u8]) -> Result<bool, AllocError> {
     match certificate(alloc, accepted) {
         Ok(bytes) => is_checked_code(alloc, accepted, code, &bytes),
@@ -79,7 +78,7 @@ fn is_certified(alloc: Global, accepted: &Accepted, code: &[u8]) -> Result<bool,
     }
 }
 
-/// What becomes of what was let in, after runs that were seen.
+/// The result for an accepted program.
 fn judged_accepted(
     alloc: Global,
     numbers: &mut Numbers,
@@ -93,7 +92,7 @@ fn judged_accepted(
     Ok(judged_runs(accepted, inputs))
 }
 
-/// Verifies a program for a hook, and runs it where it is let in.
+/// Verifies a program for a hook, and runs it if it is accepted.
 fn judged_program(
     alloc: Global,
     numbers: &mut Numbers,
@@ -107,7 +106,7 @@ fn judged_program(
     }
 }
 
-/// What is wrong with a program that was seen to meet a fault, once it is verified.
+/// The result for a program of which a run met a fault, once it is verified.
 fn judged_faulty(judged: Judged) -> Judged {
     match judged {
         Judged::Admitted { .. } => Judged::Wrong("let in, and a run meets a fault"),
@@ -115,8 +114,8 @@ fn judged_faulty(judged: Judged) -> Judged {
     }
 }
 
-/// Whether code is verified: where jumps lead back, or there are too many ways, once in eight times, since that may take
-/// long.
+/// Whether to verify code: always, but once in eight times if jumps lead back or there are too many paths, since that
+/// may take long.
 fn is_light(alloc: Global, numbers: &mut Numbers, code: &[u8]) -> Result<bool, AllocError> {
     let weight = weigh(alloc, code)?;
     if weight.turns || weight.states > MOST {
@@ -125,7 +124,7 @@ fn is_light(alloc: Global, numbers: &mut Numbers, code: &[u8]) -> Result<bool, A
     Ok(true)
 }
 
-/// Looks at the runs of a program, and verifies it unless one is long.
+/// Runs a program, and verifies it unless a run is long.
 fn judged_runs_first(
     alloc: Global,
     numbers: &mut Numbers,
@@ -143,7 +142,6 @@ fn judged_runs_first(
     }
 }
 
-/// What becomes of a program.
 fn judged_whole(
     alloc: Global,
     numbers: &mut Numbers,
@@ -157,7 +155,7 @@ fn judged_whole(
     judged_runs_first(alloc, numbers, program, code, &inputs)
 }
 
-/// Decodes code, writes it again, looks at its runs, verifies it for a hook, and runs what is let in.
+/// Decodes code, writes it again, runs it, verifies it for a hook, and runs it on both machines if it is accepted.
 pub fn judged(alloc: Global, numbers: &mut Numbers, code: &[u8]) -> Result<Judged, AllocError> {
     let shapes = some_shapes(alloc, numbers)?;
     match decode(alloc, code, shapes) {

@@ -4,7 +4,6 @@ use crate::tally::Judged;
 use capture::{CaptureFault, Packet, read_capture};
 use std::alloc::{AllocError, Global};
 
-/// Whether two packets are the same.
 fn are_same(one: &Packet<'_>, other: &Packet<'_>) -> bool {
     if one.time != other.time {
         return false;
@@ -16,7 +15,7 @@ fn are_same(one: &Packet<'_>, other: &Packet<'_>) -> bool {
     }
 }
 
-/// How many packets two lists have in common from the first on.
+/// The length of the common prefix of two lists of packets.
 fn count_same(one: &[Packet<'_>], other: &[Packet<'_>]) -> usize {
     let mut count = 0usize;
     for (packet, again) in one.iter().zip(other) {
@@ -28,7 +27,7 @@ fn count_same(one: &[Packet<'_>], other: &[Packet<'_>]) -> usize {
     count
 }
 
-/// What is said of packets that were read twice.
+/// The result for packets that were read twice.
 fn judged_packets(one: &[Packet<'_>], other: &[Packet<'_>]) -> Judged {
     let count = count_same(one, other);
     if count != one.len() || count != other.len() {
@@ -37,7 +36,7 @@ fn judged_packets(one: &[Packet<'_>], other: &[Packet<'_>]) -> Judged {
     Judged::Admitted { runs: count as u64 }
 }
 
-/// What is said of two refusals of a capture.
+/// The result for two refusals of a capture.
 fn unread(one: CaptureFault, other: CaptureFault) -> Judged {
     match one {
         CaptureFault::NoMemory => Judged::Wrong("out of memory"),
@@ -46,7 +45,7 @@ fn unread(one: CaptureFault, other: CaptureFault) -> Judged {
     }
 }
 
-/// Reads a capture twice: both times it says the same. Its packets count as runs.
+/// Reads a capture twice, which must give the same result. Its packets count as runs.
 pub fn judged(alloc: Global, file: &[u8]) -> Result<Judged, AllocError> {
     let first = read_capture(alloc, file);
     let second = read_capture(alloc, file);

@@ -1,6 +1,6 @@
-//! Captures from which inputs are made. Numbers hold eight bytes each, the first as the highest.
+//! Captures from which inputs are made. Each number holds eight bytes, the first as the highest.
 
-/// Captures of either byte order and of both forms, each with its length.
+/// Captures of both byte orders and both forms, each with its length.
 pub const CAPTURES: [(usize, &[u64]); 7] = [
     (
         76,

@@ -13,7 +13,7 @@ use bpf_regions::Hook;
 use bpf_verifier::verify;
 use std::alloc::{AllocError, Global};
 
-/// The certificate of what is let in, or nothing where it has none.
+/// The certificate of an accepted program, or nothing if it has none.
 fn certificate_or_nothing(alloc: Global, program: Program) -> Vec<u8> {
     match verify(alloc, program, Hook::Data) {
         Ok(accepted) => certificate(alloc, &accepted).unwrap_or(Vec::new(alloc)),
@@ -21,7 +21,7 @@ fn certificate_or_nothing(alloc: Global, program: Program) -> Vec<u8> {
     }
 }
 
-/// The certificate of code, or nothing where it has none.
+/// The certificate of code, or nothing if it has none.
 pub fn certificate_of(alloc: Global, code: &[u8]) -> Result<Vec<u8>, AllocError> {
     match decode(alloc, code, shapes(alloc)?) {
         Ok(program) => Ok(certificate_or_nothing(alloc, program)),
@@ -29,7 +29,7 @@ pub fn certificate_of(alloc: Global, code: &[u8]) -> Result<Vec<u8>, AllocError>
     }
 }
 
-/// The code in a certificate: behind four letters and the hook the number of its slots, and they.
+/// The code in a certificate: after four letters and the hook comes the number of its slots, then the slots.
 fn code_in(bytes: &[u8]) -> &[u8] {
     if bytes.len() < 7 {
         return &[];
@@ -42,7 +42,6 @@ fn code_in(bytes: &[u8]) -> &[u8] {
     &rest[..size]
 }
 
-/// The hook that a certificate names.
 fn hook_in(bytes: &[u8]) -> Hook {
     match bytes.get(4) {
         Some(1) => Hook::Association,
@@ -51,7 +50,7 @@ fn hook_in(bytes: &[u8]) -> Hook {
     }
 }
 
-/// What is said of a certificate that is refused.
+/// The result for a certificate that is refused.
 fn refused(fault: CertFault) -> Judged {
     match fault.number() {
         70..=72 => Judged::Refused,
@@ -59,7 +58,7 @@ fn refused(fault: CertFault) -> Judged {
     }
 }
 
-/// Checks a certificate for a program, and runs what is let in.
+/// Checks a certificate for a program, and runs it if it is accepted.
 fn judged_program(
     alloc: Global,
     numbers: &mut Numbers,
@@ -73,7 +72,7 @@ fn judged_program(
     }
 }
 
-/// Checks a certificate for the code that it names, and runs what is let in.
+/// Checks a certificate for the code that it names, and runs that if it is accepted.
 pub fn judged(alloc: Global, numbers: &mut Numbers, bytes: &[u8]) -> Result<Judged, AllocError> {
     match decode(alloc, code_in(bytes), shapes(alloc)?) {
         Ok(program) => judged_program(alloc, numbers, program, bytes),

@@ -1,21 +1,21 @@
-//! Bytes that are changed at random.
+//! Random changes of bytes.
 
 ghost use Rattle.std.specs.Prelude.{◌<◌, ◌≤◌, ◌+◌, length};
 
 use crate::numbers::Numbers;
 use std::alloc::{AllocError, Global};
 
-/// Numbers that stand at limits.
+/// Boundary values.
 const EDGES: [u8; 8] = [0, 1, 2, 0x7f, 0x80, 0xfe, 0xff, 0x20];
 
-/// Places from one up to another.
+/// A range of positions, without `to`.
 #[derive(Clone, Copy)]
 pub struct Span {
     pub from: usize,
     pub to: usize,
 }
 
-/// Some of so many places, mostly few.
+/// A random nonempty range of the positions below `length`, mostly short.
 pub fn some_of(numbers: &mut Numbers, length: usize) -> Span
     requires { 0 < length }
     ensures order { result.from < result.to }
@@ -34,7 +34,7 @@ pub fn some_of(numbers: &mut Numbers, length: usize) -> Span
     }
 }
 
-/// The bytes with a piece in the place of those from one place up to another.
+/// The bytes with a piece in place of a range.
 pub fn spliced(alloc: Global, bytes: &[u8], span: Span, piece: &[u8]) -> Result<Vec<u8>, AllocError>
     requires order { span.from ≤ span.to }
     requires within { span.to ≤ length bytes.now }
@@ -46,7 +46,7 @@ pub fn spliced(alloc: Global, bytes: &[u8], span: Span, piece: &[u8]) -> Result<
     Ok(out)
 }
 
-/// Random bytes, fewer than a limit.
+/// Fewer random bytes than `limit`.
 pub fn random_bytes(alloc: Global, numbers: &mut Numbers, limit: u64) -> Result<Vec<u8>, AllocError>
     requires { 0 < limit }
 {
@@ -57,7 +57,7 @@ pub fn random_bytes(alloc: Global, numbers: &mut Numbers, limit: u64) -> Result<
     Ok(out)
 }
 
-/// Sets a byte anew.
+/// Changes a byte.
 fn set_byte(numbers: &mut Numbers, bytes: &mut [u8])
     requires { 0 < length bytes.old }
 {
@@ -70,7 +70,7 @@ fn set_byte(numbers: &mut Numbers, bytes: &mut [u8])
     };
 }
 
-/// Turns a bit.
+/// Flips a bit.
 fn turn_bit(numbers: &mut Numbers, bytes: &mut [u8])
     requires { 0 < length bytes.old }
 {
@@ -78,7 +78,7 @@ fn turn_bit(numbers: &mut Numbers, bytes: &mut [u8])
     bytes[at] ^= numbers.one_of(&[1u8, 2, 4, 8, 16, 32, 64, 128]);
 }
 
-/// The bytes with some of them once more, at another place.
+/// The bytes with a range of them inserted again elsewhere.
 fn repeated(alloc: Global, numbers: &mut Numbers, bytes: &[u8]) -> Result<Vec<u8>, AllocError>
     requires { 0 < length bytes.now }
 {
@@ -88,7 +88,7 @@ fn repeated(alloc: Global, numbers: &mut Numbers, bytes: &[u8]) -> Result<Vec<u8
     spliced(alloc, bytes, here, &bytes[piece.from..piece.to])
 }
 
-/// The bytes with a word in the place of some of them, or between two.
+/// The bytes with a word in place of a range, or between two bytes.
 fn worded(
     alloc: Global,
     numbers: &mut Numbers,
@@ -107,7 +107,8 @@ fn worded(
     spliced(alloc, bytes, span, word)
 }
 
-/// The bytes with one change that leaves other ones: some gone, some twice, or a word.
+/// The bytes with one change that may alter their number: a range removed or repeated, a word, a cut, or random bytes
+/// inserted.
 fn reshaped(
     alloc: Global,
     numbers: &mut Numbers,
@@ -137,7 +138,7 @@ fn reshaped(
     }
 }
 
-/// The bytes with one change, or random bytes where there are none.
+/// The bytes with one change, or random bytes if there are none.
 fn changed(
     alloc: Global,
     numbers: &mut Numbers,
@@ -155,7 +156,7 @@ fn changed(
     Ok(bytes)
 }
 
-/// The bytes with no change or some. `words` may stand anywhere in them.
+/// The bytes with at most four changes. `words` may appear anywhere in them.
 pub fn mutated(
     alloc: Global,
     numbers: &mut Numbers,

@@ -1,4 +1,4 @@
-//! Code for the verifier: samples that are changed slot by slot, grown programs, and random slots.
+//! Code for the verifier: samples with changed slots, grown programs, and random slots.
 
 ghost use Rattle.std.specs.Prelude.{◌<◌, ◌≤◌, ◌*◌, ◌+◌, length};
 
@@ -8,7 +8,7 @@ use crate::numbers::Numbers;
 use crate::slots::{OPCODES, offset, random_slot, value};
 use std::alloc::{AllocError, Global};
 
-/// Some slots of code, as places of bytes.
+/// Some slots of code, as a range of bytes.
 fn slots(numbers: &mut Numbers, code: &[u8]) -> Span
     requires { 8 ≤ length code.now }
     ensures order { result.from < result.to }
@@ -21,7 +21,7 @@ fn slots(numbers: &mut Numbers, code: &[u8]) -> Span
     }
 }
 
-/// The place of a slot's first byte.
+/// The position of a slot's first byte.
 fn slot(numbers: &mut Numbers, code: &[u8]) -> usize
     requires { 8 ≤ length code.now }
     ensures { result + 8 ≤ length code.now }
@@ -73,7 +73,7 @@ fn set_value(numbers: &mut Numbers, code: &mut [u8])
     code[at + 7] = d;
 }
 
-/// The value or the offset one more or one less.
+/// Adds or subtracts 1 at the value or the offset.
 fn nudge(numbers: &mut Numbers, code: &mut [u8])
     requires { 8 ≤ length code.old }
 {
@@ -86,7 +86,7 @@ fn nudge(numbers: &mut Numbers, code: &mut [u8])
     };
 }
 
-/// The code with slots gone, twice, or random ones between others.
+/// The code with slots removed or repeated, or a random slot inserted.
 fn reshaped(alloc: Global, numbers: &mut Numbers, code: &[u8]) -> Result<Vec<u8>, AllocError>
     requires { 8 ≤ length code.now }
 {
@@ -101,7 +101,6 @@ fn reshaped(alloc: Global, numbers: &mut Numbers, code: &[u8]) -> Result<Vec<u8>
     }
 }
 
-/// The code with one change.
 fn changed(alloc: Global, numbers: &mut Numbers, mut code: Vec<u8>) -> Result<Vec<u8>, AllocError> {
     if code.len() < 8 {
         return Ok(code);
@@ -117,7 +116,7 @@ fn changed(alloc: Global, numbers: &mut Numbers, mut code: Vec<u8>) -> Result<Ve
     Ok(code)
 }
 
-/// The code with no change or some.
+/// The code with at most three changes.
 fn with_changes(alloc: Global, numbers: &mut Numbers, code: &[u8]) -> Result<Vec<u8>, AllocError> {
     let mut out = Vec::from_slice(alloc, code)?;
     for _ in 0..numbers.below(4) {
@@ -135,7 +134,7 @@ fn random_slots(alloc: Global, numbers: &mut Numbers) -> Result<Vec<u8>, AllocEr
     Ok(code)
 }
 
-/// Code: mostly a sample with changes, or a grown program with changes or without.
+/// Code: mostly a sample with changes, or a grown program with or without changes.
 pub fn code(alloc: Global, numbers: &mut Numbers, sample: &[u8]) -> Result<Vec<u8>, AllocError> {
     match numbers.below(32) {
         0 => random_bytes(alloc, numbers, 129),

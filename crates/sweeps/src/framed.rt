@@ -6,7 +6,7 @@ use crate::tally::Judged;
 use mac_frame::{FrameFault, MacFrame, parse, write};
 use std::alloc::{AllocError, Global};
 
-/// What is said of bytes that are no frame.
+/// The result for bytes that are no frame.
 fn refused(fault: FrameFault) -> Judged {
     match fault {
         FrameFault::Memory => Judged::Wrong("out of memory"),
@@ -17,7 +17,6 @@ fn refused(fault: FrameFault) -> Judged {
     }
 }
 
-/// Whether two frames have the same fields.
 fn are_alike(one: &MacFrame, other: &MacFrame) -> bool {
     one.flags() == other.flags()
         && one.duration() == other.duration()
@@ -31,7 +30,7 @@ fn are_alike(one: &MacFrame, other: &MacFrame) -> bool {
         && one.bssid() == other.bssid()
 }
 
-/// Parses a frame; what is parsed is written again, and that is parsed.
+/// Parses a frame, writes it again, and parses that.
 pub fn judged(alloc: Global, bytes: &[u8]) -> Result<Judged, AllocError> {
     let frame = match parse(alloc, bytes) {
         Ok(frame) => frame,
@@ -67,7 +66,7 @@ fn edges(bytes: &[u8]) -> usize {
     bytes.len().saturating_mul(257)
 }
 
-/// Each sample cut at each length and with each byte set to each value, by number; then the first.
+/// Each sample cut at each length and with each byte set to each value, by number. No bytes after the last.
 pub fn edge_of(alloc: Global, samples: &[Vec<u8>], number: usize) -> Result<Vec<u8>, AllocError> {
     let mut left = number;
     for sample in samples {

@@ -1,4 +1,4 @@
-//! Programs that are grown at random from parts of which most are let in.
+//! Programs grown at random from parts, most of which are accepted.
 
 use crate::numbers::Numbers;
 use crate::slots::{EXIT, Slot, offset, value, with_registers, with_value};
@@ -7,33 +7,31 @@ use std::alloc::{AllocError, Global};
 /// Registers that hold numbers. R6 holds the start of the frame, R7 that of the context.
 const PLAIN: [u8; 8] = [0, 1, 2, 3, 4, 5, 8, 9];
 
-/// How many bytes of the frame are there.
+/// The least lengths of a frame that programs test for.
 const LENGTHS: [u32; 8] = [0, 1, 14, 24, 26, 64, 100, 1500];
 
 /// Operations: add, sub, mul, div, or, and, mod, xor, mov.
 const OPERATIONS: [u8; 9] = [0x00, 0x10, 0x20, 0x30, 0x40, 0x50, 0x90, 0xa0, 0xb0];
 
-/// Shifts: left, right, and right with the sign.
+/// Shifts: left, logical right, and arithmetic right.
 const SHIFTS: [u8; 3] = [0x60, 0x70, 0xc0];
 
-/// Conditions.
 const CONDITIONS: [u8; 11] = [
     0x10, 0x20, 0x30, 0x40, 0x50, 0x60, 0x70, 0xa0, 0xb0, 0xc0, 0xd0,
 ];
 
-/// Atomic operations: add, or, and, xor, each without and with what was there; swap, compare and
-/// swap.
+/// Atomic operations: add, or, and, xor, each without and with fetch; exchange, compare and exchange.
 const ATOMICS: [u32; 10] = [0x00, 0x40, 0x50, 0xa0, 0x01, 0x41, 0x51, 0xa1, 0xe1, 0xf1];
 
-/// Loads of one, two, four and eight bytes, and of one, two and four with their sign.
+/// Loads of one, two, four and eight bytes, and sign-extending loads of one, two and four.
 const LOADS: [u8; 7] = [0x71, 0x69, 0x61, 0x79, 0x91, 0x89, 0x81];
 
-/// One of the registers with numbers.
+/// A register with a number.
 fn plain(numbers: &mut Numbers) -> u8 {
     numbers.one_of(&PLAIN)
 }
 
-/// Makes R1 to R5 numbers.
+/// Sets R1 to R5 to numbers.
 fn push_arguments(code: &mut Vec<u8>, numbers: &mut Numbers) -> Result<(), AllocError> {
     for register in 1..6u8 {
         with_value(0xb7, register, value(numbers)).push_to(code)?;
@@ -41,7 +39,7 @@ fn push_arguments(code: &mut Vec<u8>, numbers: &mut Numbers) -> Result<(), Alloc
     Ok(())
 }
 
-/// Makes four words of the stack numbers.
+/// Sets four words of the stack to numbers.
 fn push_stack(code: &mut Vec<u8>, numbers: &mut Numbers) -> Result<(), AllocError> {
     for place in 1..5u16 {
         Slot {
@@ -56,7 +54,6 @@ fn push_stack(code: &mut Vec<u8>, numbers: &mut Numbers) -> Result<(), AllocErro
     Ok(())
 }
 
-/// Appends slots.
 fn push_all(code: &mut Vec<u8>, slots: &[Slot]) -> Result<(), AllocError> {
     for slot in slots {
         slot.push_to(code)?;
@@ -64,7 +61,7 @@ fn push_all(code: &mut Vec<u8>, slots: &[Slot]) -> Result<(), AllocError> {
     Ok(())
 }
 
-/// Keeps the start of the frame and that of the context, and ends where the frame is shorter than this.
+/// Keeps the start of the frame and that of the context, and exits if the frame is shorter than `length`.
 fn push_test(code: &mut Vec<u8>, length: u32) -> Result<(), AllocError> {
     let slots = [
         with_registers(0xbf, 6, 1, 0),
@@ -78,7 +75,7 @@ fn push_test(code: &mut Vec<u8>, length: u32) -> Result<(), AllocError> {
     push_all(code, &slots)
 }
 
-/// The beginning: a test of the frame's length, and what each register holds.
+/// The start: a test of the frame's length, and a number for each register.
 fn push_start(code: &mut Vec<u8>, numbers: &mut Numbers, length: u32) -> Result<(), AllocError> {
     push_test(code, length)?;
     for register in [0u8, 8, 9] {
@@ -126,7 +123,7 @@ fn shift(numbers: &mut Numbers) -> Slot {
     with_value(code, plain(numbers), numbers.word() & 31)
 }
 
-/// Bytes in another order, a number with its sign, or its negative.
+/// A byte order, a sign extension, or a negation.
 fn turn(numbers: &mut Numbers) -> Slot {
     let register = plain(numbers);
     match numbers.below(4) {
@@ -159,7 +156,7 @@ fn load(numbers: &mut Numbers, length: u32) -> Slot {
     }
 }
 
-/// The place of one of the four words of the stack.
+/// The offset of one of the four words of the stack.
 fn stacked(numbers: &mut Numbers) -> u16 {
     numbers.one_of(&[0xfff8u16, 0xfff0, 0xffe8, 0xffe0])
 }
@@ -196,14 +193,14 @@ fn branch(numbers: &mut Numbers) -> Slot {
     }
 }
 
-/// A helper, and numbers in the registers that it leaves unset.
+/// A helper call, and numbers for the registers that it leaves unset.
 fn push_call(code: &mut Vec<u8>, numbers: &mut Numbers) -> Result<(), AllocError> {
     let helper = 2 + (numbers.word() & 3);
     with_value(0x85, 0, helper).push_to(code)?;
     push_arguments(code, numbers)
 }
 
-/// A byte of the frame behind a part that varies.
+/// A byte of the frame after a part of variable length.
 fn push_window(code: &mut Vec<u8>, numbers: &mut Numbers) -> Result<(), AllocError> {
     let mask = numbers.one_of(&[3u32, 7, 15, 31, 63]);
     with_value(0x57, 8, mask).push_to(code)?;
@@ -215,7 +212,7 @@ fn push_window(code: &mut Vec<u8>, numbers: &mut Numbers) -> Result<(), AllocErr
     with_registers(0xbf, 9, 0, 0).push_to(code)
 }
 
-/// A loop of some turns around an operation.
+/// A loop of at most 8 iterations around an operation.
 fn push_loop(code: &mut Vec<u8>, numbers: &mut Numbers) -> Result<(), AllocError> {
     let slots = [
         with_value(0xb7, 8, 1 + (numbers.word() & 7)),
@@ -226,12 +223,12 @@ fn push_loop(code: &mut Vec<u8>, numbers: &mut Numbers) -> Result<(), AllocError
     push_all(code, &slots)
 }
 
-/// A store to the word to which R0 points, or a sum there.
+/// A store to the word to which R0 points, or an atomic addition there.
 fn at_entry(numbers: &mut Numbers, place: u16) -> Slot {
     with_registers(numbers.one_of(&[0xdbu8, 0x7b]), 0, 9, place)
 }
 
-/// A word of map 0, and what is done there, where there is an entry.
+/// A word of an entry of map 0 is written and read, if there is an entry.
 fn push_entry(code: &mut Vec<u8>, numbers: &mut Numbers) -> Result<(), AllocError> {
     let place = numbers.one_of(&[0u16, 8, 8, 12]);
     let slots = [
@@ -248,7 +245,6 @@ fn push_entry(code: &mut Vec<u8>, numbers: &mut Numbers) -> Result<(), AllocErro
     push_arguments(code, numbers)
 }
 
-/// One more part.
 fn push_part(code: &mut Vec<u8>, numbers: &mut Numbers, length: u32) -> Result<(), AllocError> {
     match numbers.below(32) {
         0..=11 => operation(numbers).push_to(code),
@@ -264,7 +260,7 @@ fn push_part(code: &mut Vec<u8>, numbers: &mut Numbers, length: u32) -> Result<(
     }
 }
 
-/// A program of a beginning and some parts, with place for the jumps of the last.
+/// A program: a start, some parts, and room for the last part's jumps.
 pub fn grown(alloc: Global, numbers: &mut Numbers) -> Result<Vec<u8>, AllocError> {
     let mut code = Vec::new(alloc);
     let length = numbers.one_of(&LENGTHS);

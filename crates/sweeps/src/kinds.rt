@@ -1,4 +1,4 @@
-//! Kinds of input: how each is made, and what is to become of it.
+//! Kinds of input: how each is made and tested.
 
 use crate::captures::CAPTURES;
 use crate::changes::{mutated, random_bytes};
@@ -40,7 +40,7 @@ pub const ALL: [Kind; 8] = [
     Kind::Captures,
 ];
 
-/// What may stand in a program's text.
+/// What may appear in a program's text.
 const ASSEMBLER: [&str; 40] = [
     "r0",
     "r1",
@@ -84,7 +84,7 @@ const ASSEMBLER: [&str; 40] = [
     "atomic_xor",
 ];
 
-/// What may stand in a configuration.
+/// What may appear in a configuration.
 const TOML: [&str; 28] = [
     "bssid",
     "ssid",
@@ -116,7 +116,7 @@ const TOML: [&str; 28] = [
     "1979-05-27T07:32:00Z",
 ];
 
-/// What may stand in a script.
+/// What may appear in a script.
 const SCRIPT: [&str; 24] = [
     "frame",
     "tick",
@@ -144,7 +144,7 @@ const SCRIPT: [&str; 24] = [
     "a/b",
 ];
 
-/// The first bytes of these numbers, so many.
+/// The first `size` bytes of these numbers.
 fn bytes_of(alloc: Global, size: usize, words: &[u64]) -> Result<Vec<u8>, AllocError> {
     let mut bytes = Vec::new(alloc);
     for word in words {
@@ -200,7 +200,7 @@ fn of_certificates(alloc: Global) -> Result<Vec<Vec<u8>>, AllocError> {
 }
 
 impl Kind {
-    /// The kind of a word.
+    /// The kind with a name.
     pub fn named(word: &str) -> Option<Kind> {
         match word {
             "code" => Some(Kind::Code),
@@ -215,7 +215,7 @@ impl Kind {
         }
     }
 
-    /// Its word.
+    /// Its name.
     pub fn name(self) -> &'static str {
         match self {
             Kind::Code => "code",
@@ -243,7 +243,7 @@ impl Kind {
         }
     }
 
-    /// What its inputs are made from.
+    /// The samples from which its inputs are made.
     pub fn samples(self, alloc: Global) -> Result<Vec<Vec<u8>>, AllocError> {
         match self {
             Kind::Code => of_programs(alloc),
@@ -275,7 +275,7 @@ impl Kind {
         }
     }
 
-    /// What becomes of an input.
+    /// Tests an input.
     pub fn judged(
         self,
         alloc: Global,

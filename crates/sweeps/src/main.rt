@@ -1,19 +1,18 @@
-//! Sweeps the libraries of the access point with inputs that are random, or samples with random changes, and prints how
-//! many were let in and refused. What the libraries promise is looked at again in each run: this is evidence against
-//! wrong tools.
+//! Sweeps the access point's libraries with random inputs, or samples with random changes, and prints how many were
+//! accepted and refused. Each run tests again what the libraries prove: this is evidence against faulty tools.
 //!
-//! `sweeps` has a few inputs of each kind, `sweeps KIND` some of one, and `sweeps KIND COUNT SEED` as many as one likes,
-//! of a seed. Input N of a seed is the first of the seed that is N greater. The kinds:
+//! `sweeps` makes a few inputs of each kind, `sweeps KIND` some of one, and `sweeps KIND COUNT SEED` any number, from a
+//! seed. Input N of a seed is the first input of the seed that is N greater. The kinds:
 //!
-//! - `code`: decoded, written again, and verified; what is let in runs on eight frames by both machines, which come to the
-//!   same within the budget, and no run of it meets a fault. Code that may take long to verify is put aside;
-//! - `frames`: parsed, written again, and parsed again. `octets`: each kind of frame cut at each length, and with each
-//!   byte set to each value;
-//! - `texts`: assembled; what is a program has a text that gives the same code. These count as runs;
-//! - `configurations`, `scripts`, `captures`: read twice, with the same outcome;
-//! - `certificates`: checked for the code that they name; what is let in runs as above.
+//! - `code`: is decoded, written again, and verified; accepted code runs on eight frames on both machines, whose
+//!   results agree within the budget, and no run of it meets a fault. Code that may take long to verify is put aside;
+//! - `frames`: are parsed, written again, and parsed again. `octets`: each kind of frame, cut at each length, and with
+//!   each byte set to each value;
+//! - `texts`: are assembled; the text of each program gives the same code again. These count as runs;
+//! - `configurations`, `scripts`, `captures`: are read twice, with the same result;
+//! - `certificates`: are checked for the code that they name; accepted code runs as above.
 //!
-//! Where something is wrong, it prints the kind, the seed and the input, and ends with status 1.
+//! If something is wrong, it prints the kind, the seed and the input, and exits with status 1.
 #![tactic(auto)]
 
 mod admitted;
@@ -42,12 +41,12 @@ use std::process::ExitCode;
 use std::{env, io};
 use sweep::{Task, print_counts};
 
-/// What unknown words are told.
+/// The reply to unknown arguments.
 const USAGE: &str =
     "usage: sweeps [KIND [COUNT [SEED]]]; the kinds are code, frames, octets, texts, configurations, \
 scripts, certificates and captures";
 
-/// The number that a word spells, or another one without a word. None where it spells none.
+/// The number that an argument spells, or `otherwise` if there is no argument. None if it spells none.
 fn number_or(word: Option<&String>, otherwise: u64) -> Option<u64> {
     match word {
         None => Some(otherwise),
@@ -55,7 +54,7 @@ fn number_or(word: Option<&String>, otherwise: u64) -> Option<u64> {
     }
 }
 
-/// What words ask for. None where they mean nothing.
+/// What the arguments request. None if they mean nothing.
 fn task_of(words: &[String]) -> Option<Task> {
     let kind = Kind::named(words.first()?.as_str())?;
     if words.len() > 3 {
@@ -68,7 +67,7 @@ fn task_of(words: &[String]) -> Option<Task> {
     })
 }
 
-/// A short sweep of each kind. False where something is wrong.
+/// A short sweep of each kind. False if something is wrong.
 fn print_all<R: Print + Eprint>(rt: &R, alloc: Global) -> io::Result<bool> {
     let mut right = true;
     for kind in ALL {
@@ -82,7 +81,7 @@ fn print_all<R: Print + Eprint>(rt: &R, alloc: Global) -> io::Result<bool> {
     Ok(right)
 }
 
-/// The status: 0 where all is right.
+/// The exit status: 0 if nothing is wrong.
 fn status(right: bool) -> ExitCode {
     ExitCode::from(if right { 0 } else { 1 })
 }

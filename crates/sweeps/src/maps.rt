@@ -4,7 +4,7 @@ use crate::numbers::Numbers;
 use bpf_regions::{Scope, Shape, Shapes, WordWidth};
 use std::alloc::{AllocError, Global};
 
-/// A map of 8-byte words, whose first 9 entries of 2 words the policies use.
+/// A map of 8-byte words. The policies use its first 9 entries of 2 words.
 const SHARED: Shape = Shape {
     entries: 2008,
     words: 2,
@@ -41,7 +41,7 @@ pub fn shapes(alloc: Global) -> Result<Shapes, AllocError> {
     shapes_of(Vec::from_slice(alloc, &[SHARED, LONG, NARROW])?)
 }
 
-/// The same shapes, or rarely that of one map.
+/// These shapes, or rarely that of one map.
 pub fn some_shapes(alloc: Global, numbers: &mut Numbers) -> Result<Shapes, AllocError> {
     if numbers.is_one_in(16) {
         return shapes_of(Vec::from_slice(alloc, &[NARROW])?);
@@ -49,7 +49,7 @@ pub fn some_shapes(alloc: Global, numbers: &mut Numbers) -> Result<Shapes, Alloc
     shapes(alloc)
 }
 
-/// The same shapes again.
+/// A copy of shapes.
 pub fn copied(alloc: Global, shapes: &Shapes) -> Result<Shapes, AllocError> {
     shapes_of(Vec::from_slice(alloc, shapes.as_slice())?)
 }

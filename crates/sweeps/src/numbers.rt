@@ -1,4 +1,4 @@
-//! Numbers from a seed.
+//! Numbers determined by a seed.
 
 ghost use Rattle.std.specs.Prelude.{◌<◌, length};
 
@@ -22,7 +22,7 @@ impl Numbers {
         twice ^ (twice >> 31)
     }
 
-    /// A number below a limit.
+    /// A number below `limit`.
     pub fn below(&mut self, limit: u64) -> u64
         requires { 0 < limit }
         ensures { result < limit }
@@ -30,14 +30,14 @@ impl Numbers {
         self.next() % limit
     }
 
-    /// Whether what happens once in so many times happens now.
+    /// Whether an event that is to happen once in `times` times happens.
     pub fn is_one_in(&mut self, times: u64) -> bool
         requires { 0 < times }
     {
         self.below(times) == 0
     }
 
-    /// A place in a list of this length.
+    /// An index into a list of this length.
     pub fn place_in(&mut self, length: usize) -> usize
         requires { 0 < length }
         ensures { result < length }
@@ -46,7 +46,7 @@ impl Numbers {
         place as usize
     }
 
-    /// One of a list.
+    /// An item of a list.
     pub fn one_of<T: Copy>(&mut self, items: &[T]) -> T
         requires { 0 < length items.now }
     {

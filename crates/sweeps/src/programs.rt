@@ -1,4 +1,4 @@
-//! Programs from which code is made. Numbers hold eight bytes each, the first as the highest.
+//! Programs from which code is made. Each number holds eight bytes, the first as the highest.
 
 /// The policies, and programs with loops, local calls, helpers, maps, and atomic operations.
 pub const PROGRAMS: [&[u64]; 42] = [

@@ -1,4 +1,4 @@
-//! Runs of programs, by the machine of bare words and by the tagged one.
+//! Runs of programs, on the machine of bare words and on the tagged one.
 
 ghost use Rattle.std.specs.Prelude.{◌≡◌, ◌<◌};
 
@@ -10,7 +10,7 @@ use bpf_machine::{Accepted, ListPort, Outcome, Probe, run};
 use bpf_regions::{Context, Frame};
 use std::alloc::{AllocError, Global};
 
-/// What runs are given: the frames, the context, and what maps and helpers answer.
+/// The inputs of runs: the frames, the context, and what maps and helpers return.
 #[derive(Drop)]
 pub struct Inputs {
     frames: Vec<Vec<u8>>,
@@ -24,7 +24,7 @@ const DATAGRAM: [u8; 56] = [
     8, 0, 0x45, 7, 7, 7, 7, 7, 0, 0, 7, 17, 7, 7, 7, 7, 7, 7, 7, 7, 7, 7, 7, 7, 0, 53,
 ];
 
-/// A frame of random bytes, whose beginning is a datagram's or not.
+/// A frame of random bytes after `start`.
 fn frame(
     alloc: Global,
     numbers: &mut Numbers,
@@ -39,7 +39,7 @@ fn frame(
     Ok(bytes)
 }
 
-/// Frames of 0, 24, 26, 64, 100 and 2400 bytes and of a random length, the longest with a datagram.
+/// Random frames of 0, 24, 26, 64 and 100 bytes; and datagrams of 100, 2400 and a random number of bytes.
 fn frames(alloc: Global, numbers: &mut Numbers) -> Result<Vec<Vec<u8>>, AllocError> {
     let mut frames = Vec::new(alloc);
     for size in [0usize, 24, 26, 64, 100] {
@@ -52,7 +52,7 @@ fn frames(alloc: Global, numbers: &mut Numbers) -> Result<Vec<Vec<u8>>, AllocErr
     Ok(frames)
 }
 
-/// Random numbers, of which half are small.
+/// Random numbers, about half of them small.
 fn answers(alloc: Global, numbers: &mut Numbers) -> Result<Vec<u64>, AllocError> {
     let mut answers = Vec::new(alloc);
     for _ in 0..32 {
@@ -66,7 +66,6 @@ fn answers(alloc: Global, numbers: &mut Numbers) -> Result<Vec<u64>, AllocError>
     Ok(answers)
 }
 
-/// 32 random bytes.
 fn context(numbers: &mut Numbers) -> [u8; 32] {
     let mut bytes = [0u8; 32];
     for byte in bytes.iter_mut() {
@@ -76,7 +75,7 @@ fn context(numbers: &mut Numbers) -> [u8; 32] {
 }
 
 impl Inputs {
-    /// What a seed determines.
+    /// The inputs of a seed.
     pub fn new(alloc: Global, seed: u64) -> Result<Inputs, AllocError> {
         let mut numbers = Numbers::new(seed);
         Ok(Inputs {
@@ -87,18 +86,17 @@ impl Inputs {
     }
 }
 
-/// What any program does on all frames within a limit of steps.
+/// What a program does on all frames within a limit of steps.
 #[derive(Clone, Copy, PartialEq, Eq)]
 pub enum Seen {
     /// Each run ended.
     Ended,
     /// A run met a fault.
     Faulted,
-    /// No run met a fault, but one did not end.
+    /// No run met a fault, but one didn't end.
     Long,
 }
 
-/// What a program does on a frame.
 fn seen_on(program: &Program, inputs: &Inputs, bytes: &[u8], limit: u32) -> Seen {
     let Some(frame) = Frame::new(bytes) else {
         return Seen::Ended;
@@ -125,7 +123,7 @@ pub fn look(program: &Program, inputs: &Inputs, limit: u32) -> Seen {
     seen
 }
 
-/// Whether two runs came to the same, within a budget.
+/// Whether two runs had the same result, within a budget.
 fn are_alike(ran: &Outcome, probed: &Outcome, budget: u32) -> bool {
     ran.r0 == probed.r0
         && ran.steps == probed.steps
@@ -133,7 +131,7 @@ fn are_alike(ran: &Outcome, probed: &Outcome, budget: u32) -> bool {
         && ran.notes.as_slice() == probed.notes.as_slice()
 }
 
-/// Whether both machines come to the same on a frame, within the budget.
+/// Whether both machines have the same result on a frame, within the budget.
 fn agree_on(accepted: &Accepted, inputs: &Inputs, bytes: &[u8]) -> bool {
     let Some(frame) = Frame::new(bytes) else {
         return false;
@@ -149,7 +147,7 @@ fn agree_on(accepted: &Accepted, inputs: &Inputs, bytes: &[u8]) -> bool {
     }
 }
 
-/// Runs what was let in on each frame, by both machines.
+/// Runs an accepted program on each frame, on both machines.
 pub fn judged_runs(accepted: &Accepted, inputs: &Inputs) -> Judged {
     let mut runs = 0u64;
     for bytes in &inputs.frames {

@@ -1,4 +1,4 @@
-//! Frames and texts from which inputs are made. Numbers hold eight bytes each, the first as the highest.
+//! Frames and texts from which inputs are made. Each number holds eight bytes, the first as the highest.
 
 /// A frame of each kind, and another association request, each with its length.
 pub const FRAMES: [(usize, &[u64]); 17] = [

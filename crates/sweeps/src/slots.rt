@@ -59,7 +59,7 @@ pub const EXIT: Slot = Slot {
     immediate: 0,
 };
 
-/// All opcodes.
+/// Opcodes of each class.
 pub const OPCODES: [u8; 104] = [
     // arithmetic of 64 bits: with a value, with a register
     0x07, 0x17, 0x27, 0x37, 0x47, 0x57, 0x67, 0x77, 0x87, 0x97, 0xa7, 0xb7, 0xc7, 0xd7, 0x0f, 0x1f,
@@ -75,7 +75,7 @@ pub const OPCODES: [u8; 104] = [
     0xdb, 0x18, 0x79,
 ];
 
-/// Values at which something changes.
+/// Boundary values.
 const EDGES: [u32; 16] = [
     0xffff_ffff,
     0x7fff_ffff,
@@ -95,7 +95,7 @@ const EDGES: [u32; 16] = [
     0xffff_fe00,
 ];
 
-/// An immediate value: small, at an edge, a power of two, or any.
+/// An immediate value: small, a boundary value, a power of two, or any.
 pub fn value(numbers: &mut Numbers) -> u32 {
     match numbers.below(8) {
         0..=3 => numbers.word() & 15,
@@ -105,7 +105,7 @@ pub fn value(numbers: &mut Numbers) -> u32 {
     }
 }
 
-/// An offset: mostly some slots or bytes forward or back.
+/// An offset: mostly a few slots or bytes forward or back.
 pub fn offset(numbers: &mut Numbers) -> u16 {
     match numbers.below(8) {
         0..=3 => numbers.half() & 15,

@@ -1,4 +1,4 @@
-//! A sweep: inputs of a kind, made from a seed, and what becomes of them.
+//! A sweep: inputs of a kind, made from a seed, and their results.
 
 use crate::framed::edge_of;
 use crate::kinds::Kind;
@@ -7,7 +7,7 @@ use crate::tally::{Judged, Tally};
 use std::alloc::{AllocError, Global};
 use std::io;
 
-/// What a sweep has: the kind, how many inputs, and the seed of the first. The next has the next.
+/// A sweep: the kind, how many inputs, and the seed of the first. Each next input has the next seed.
 #[derive(Clone, Copy)]
 pub struct Task {
     pub kind: Kind,
@@ -15,7 +15,7 @@ pub struct Task {
     pub seed: u64,
 }
 
-/// An input that something is wrong with.
+/// An input for which something is wrong.
 #[derive(Drop)]
 struct Found {
     seed: u64,
@@ -41,7 +41,7 @@ fn input_of(
     kind.input(alloc, numbers, sample)
 }
 
-/// Makes the inputs and counts what becomes of them, up to the first with which something is wrong.
+/// Makes and tests the inputs, and counts the results, up to the first wrong one.
 fn swept<R: Eprint>(
     rt: &R,
     alloc: Global,
@@ -65,7 +65,6 @@ fn swept<R: Eprint>(
     Ok((tally, None))
 }
 
-/// Prints bytes as hex digits.
 fn print_digits<R: Print>(rt: &R, bytes: &[u8]) -> io::Result<()> {
     for byte in bytes {
         print!(rt; "{byte:02x}")?;
@@ -73,7 +72,8 @@ fn print_digits<R: Print>(rt: &R, bytes: &[u8]) -> io::Result<()> {
     println!(rt; "")
 }
 
-/// Makes a sweep and prints its counts. False where something is wrong: then it prints the seed and the input.
+/// Makes a sweep and prints its counts. If something is wrong, it prints the seed and the input instead, and returns
+/// false.
 pub fn print_counts<R: Print + Eprint>(rt: &R, alloc: Global, task: Task) -> io::Result<bool> {
     let samples = task.kind.samples(alloc)?;
     let (tally, found) = swept(rt, alloc, task, &samples)?;

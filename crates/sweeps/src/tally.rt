@@ -1,23 +1,23 @@
-//! What becomes of inputs, counted.
+//! Counts the results of inputs.
 
 ghost use Rattle.std.specs.Prelude.{◌≡◌, ◌+◌, ◌-◌, ◌<◌, ◌^◌};
 
 use std::fmt;
 
-/// What became of an input.
+/// The result of testing an input.
 #[derive(Clone, Copy)]
 pub enum Judged {
-    /// It was let in, and so many runs of it agreed.
+    /// It was accepted, and `runs` runs of it agreed.
     Admitted { runs: u64 },
-    /// It was refused as it has to be.
+    /// It was refused, by a known refusal.
     Refused,
-    /// It was put aside: its runs are long.
+    /// It was put aside: its runs or its verification may be long.
     Long,
-    /// Something is wrong, in these words.
+    /// Something is wrong, as this says.
     Wrong(&'static str),
 }
 
-/// How many inputs were let in, refused and put aside, and how many runs agreed.
+/// How many inputs were accepted, refused and put aside, and how many runs agreed.
 #[derive(Clone, Copy)]
 pub struct Tally {
     pub admitted: u64,
@@ -34,7 +34,7 @@ impl Tally {
         runs: 0,
     };
 
-    /// Counts an input. What is wrong counts as refused.
+    /// Counts an input. A wrong one counts as refused.
     pub fn count(&mut self, judged: Judged)
         requires { self.old.admitted + self.old.refused + self.old.long < 2 ^ 64 - 1 }
         ensures { self.new.admitted + self.new.refused + self.new.long

@@ -9,13 +9,12 @@ use bpf_text::{AsmFault, assemble, disassemble};
 use std::alloc::{AllocError, Global};
 use std::str;
 
-/// How many lines a text has.
 fn count_lines(text: &[u8]) -> u64 {
     let feeds = text.iter().filter(|byte| **byte == b'\n').count();
     (feeds as u64).saturating_add(1)
 }
 
-/// What is said of a text that is not assembled.
+/// The result for a text that doesn't assemble.
 fn unassembled(fault: AsmFault, lines: u64) -> Judged {
     match fault {
         AsmFault::NoMemory => Judged::Wrong("out of memory"),
@@ -28,7 +27,7 @@ fn unassembled(fault: AsmFault, lines: u64) -> Judged {
     }
 }
 
-/// The text of code, or nothing where it is no program.
+/// The text of code, or nothing if it is no program.
 pub fn text_of(alloc: Global, code: &[u8]) -> Result<Vec<u8>, AllocError> {
     match decode(alloc, code, shapes(alloc)?) {
         Ok(program) => Ok(disassemble(alloc, &program)?.into_bytes()),
@@ -36,7 +35,7 @@ pub fn text_of(alloc: Global, code: &[u8]) -> Result<Vec<u8>, AllocError> {
     }
 }
 
-/// Whether the text of a program is that of the same code.
+/// Whether the text of a program gives the same code.
 fn is_again(alloc: Global, program: &Program, code: &[u8]) -> Result<bool, AllocError> {
     let text = disassemble(alloc, program)?;
     match assemble(alloc, text.as_str()) {
@@ -45,7 +44,7 @@ fn is_again(alloc: Global, program: &Program, code: &[u8]) -> Result<bool, Alloc
     }
 }
 
-/// Code that was assembled: where it is a program, its text gives the same code.
+/// The result for assembled code: if it is a program, its text must give the same code.
 fn judged_code(alloc: Global, code: &[u8]) -> Result<Judged, AllocError> {
     match decode(alloc, code, shapes(alloc)?) {
         Err(_) => Ok(Judged::Admitted { runs: 0 }),
@@ -54,7 +53,7 @@ fn judged_code(alloc: Global, code: &[u8]) -> Result<Judged, AllocError> {
     }
 }
 
-/// Assembles a text; the text of what is assembled gives the same code. Such texts count as runs.
+/// Assembles a text. The text of each program must give the same code; such texts count as runs.
 pub fn judged_text(alloc: Global, bytes: &[u8]) -> Result<Judged, AllocError> {
     let Ok(text) = str::from_utf8(bytes) else {
         return Ok(Judged::Refused);
@@ -65,7 +64,6 @@ pub fn judged_text(alloc: Global, bytes: &[u8]) -> Result<Judged, AllocError> {
     }
 }
 
-/// Whether two configurations are the same.
 fn are_alike(one: &Configuration, other: &Configuration) -> bool {
     one.bssid == other.bssid
         && one.ssid.as_slice() == other.ssid.as_slice()
@@ -74,14 +72,14 @@ fn are_alike(one: &Configuration, other: &Configuration) -> bool {
         && one.maps.as_slice() == other.maps.as_slice()
 }
 
-/// Whether two faults say the same, and something.
+/// Whether two faults have the same text, and some.
 fn say_the_same(alloc: Global, one: &ConfigFault, other: &ConfigFault) -> Result<bool, AllocError> {
     let said = format!(in alloc; "{one}")?;
     let again = format!(in alloc; "{other}")?;
     Ok(said.as_str() == again.as_str() && !said.is_empty())
 }
 
-/// What is said of configurations that were read twice.
+/// The result for configurations that were read twice.
 fn judged_twice(one: &Configuration, other: &Configuration) -> Judged {
     if are_alike(one, other) {
         Judged::Admitted { runs: 0 }
@@ -90,7 +88,7 @@ fn judged_twice(one: &Configuration, other: &Configuration) -> Judged {
     }
 }
 
-/// What is said of two refusals of a configuration.
+/// The result for two refusals of a configuration.
 fn refused_twice(
     alloc: Global,
     one: &ConfigFault,
@@ -105,7 +103,7 @@ fn refused_twice(
     Ok(Judged::Wrong("read twice it is not the same"))
 }
 
-/// Reads a configuration twice: both times it says the same.
+/// Reads a configuration twice, which must give the same result.
 pub fn judged_configuration(alloc: Global, bytes: &[u8]) -> Result<Judged, AllocError> {
     let first = read_configuration(alloc, bytes);
     let second = read_configuration(alloc, bytes);
@@ -116,7 +114,7 @@ pub fn judged_configuration(alloc: Global, bytes: &[u8]) -> Result<Judged, Alloc
     }
 }
 
-/// Whether commands stand at lines of the text, in order.
+/// Whether commands are at lines of the text, in order.
 fn are_in_order(commands: &[Numbered<'_>], lines: u64) -> bool {
     let mut before = 0u64;
     for command in commands {
@@ -128,7 +126,6 @@ fn are_in_order(commands: &[Numbered<'_>], lines: u64) -> bool {
     true
 }
 
-/// Whether lists of commands are the same.
 fn are_same(one: &[Numbered<'_>], other: &[Numbered<'_>]) -> bool {
     if one.len() != other.len() {
         return false;
@@ -141,7 +138,7 @@ fn are_same(one: &[Numbered<'_>], other: &[Numbered<'_>]) -> bool {
     true
 }
 
-/// What is said of commands that were read twice.
+/// The result for commands that were read twice.
 fn judged_commands(one: &[Numbered<'_>], other: &[Numbered<'_>], lines: u64) -> Judged {
     if !are_same(one, other) {
         return Judged::Wrong("read twice it is not the same");
@@ -152,7 +149,7 @@ fn judged_commands(one: &[Numbered<'_>], other: &[Numbered<'_>], lines: u64) -> 
     Judged::Admitted { runs: 0 }
 }
 
-/// What is said of two refusals of a script.
+/// The result for two refusals of a script.
 fn unread(one: ScriptFault, other: ScriptFault, lines: u64) -> Judged {
     match one {
         ScriptFault::Line(line) if one == other && 1 <= line && line <= lines => Judged::Refused,
@@ -160,7 +157,7 @@ fn unread(one: ScriptFault, other: ScriptFault, lines: u64) -> Judged {
     }
 }
 
-/// Reads a script twice: both times it says the same, of lines that it has.
+/// Reads a script twice, which must give the same result, for lines that it has.
 pub fn judged_script(alloc: Global, bytes: &[u8]) -> Result<Judged, AllocError> {
     let shapes = shapes(alloc)?;
     let lines = count_lines(bytes);

@@ -1,8 +1,8 @@
-//! How far the verification of a program goes at most, seen from its code alone.
+//! An estimate of how long a program's verification may take, from its code alone.
 
 use std::alloc::{AllocError, Global};
 
-/// Where control goes from a slot. Distances are those from the next slot, and 2^31 or more where they lead back.
+/// Where control goes from a slot. Distances count from the next slot, and are 2^31 or more if they lead back.
 #[derive(Clone, Copy)]
 enum Next {
     /// Nowhere.
@@ -11,9 +11,9 @@ enum Next {
     Plain,
     /// Over the next slot.
     Over,
-    /// That far.
+    /// By this distance.
     Jump(u32),
-    /// That far, or to the next slot.
+    /// By this distance, or to the next slot.
     Branch(u32),
 }
 
@@ -43,16 +43,16 @@ fn next_of(slot: [u8; 8]) -> Next {
     }
 }
 
-/// How often a slot is reached, and those behind it.
+/// How many forward paths lead to each slot.
 #[derive(Drop)]
 struct Ways {
     ways: Vec<u64>,
-    /// Whether control leads back somewhere.
+    /// Whether control leads back anywhere.
     turns: bool,
 }
 
 impl Ways {
-    /// The first slot is reached once.
+    /// One path leads to the first slot.
     fn new(alloc: Global, slots: usize) -> Result<Ways, AllocError> {
         let mut ways = vec![in alloc; 0u64; slots]?;
         if let Some(first) = ways.first_mut() {
@@ -61,19 +61,19 @@ impl Ways {
         Ok(Ways { ways, turns: false })
     }
 
-    /// How often a slot is reached.
+    /// How many paths lead to a slot.
     fn at(&self, slot: usize) -> u64 {
         self.ways.get(slot).copied().unwrap_or(0)
     }
 
-    /// Leads so many ways more to a slot.
+    /// Adds paths to a slot.
     fn lead(&mut self, slot: usize, more: u64) {
         if slot < self.ways.len() {
             self.ways[slot] = self.ways[slot].saturating_add(more);
         }
     }
 
-    /// Leads so many ways more that far from a slot.
+    /// Adds paths to the slot at a distance.
     fn lead_far(&mut self, next: usize, distance: u32, more: u64) {
         if 0x8000_0000 <= distance {
             self.turns = true;
@@ -82,7 +82,7 @@ impl Ways {
         self.lead(next.saturating_add(distance as usize), more);
     }
 
-    /// Leads the ways to a slot on to those behind it.
+    /// Extends the paths to a slot to its successors.
     fn follow(&mut self, slot: usize, next: Next) {
         let more = self.at(slot);
         let behind = slot.saturating_add(1);
@@ -98,7 +98,7 @@ impl Ways {
         }
     }
 
-    /// How often slots are reached in all.
+    /// How many paths lead to all slots.
     fn sum(&self) -> u64 {
         let mut sum = 0u64;
         for ways in &self.ways {
@@ -108,10 +108,10 @@ impl Ways {
     }
 }
 
-/// What is seen of code.
+/// An estimate from the code.
 #[derive(Clone, Copy)]
 pub struct Weight {
-    /// How often its slots are reached in all, each once for every way to it that leads forward alone.
+    /// How many forward paths lead to its slots, summed over the slots.
     pub states: u64,
     /// Whether a jump, branch or local call leads back.
     pub turns: bool,

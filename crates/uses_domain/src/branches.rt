@@ -1,4 +1,4 @@
-//! Refinements of abstract numbers: what is left of both sides where a comparison holds, and where it doesn't.
+//! Refinements of abstract numbers: what remains of both operands if a comparison holds, and if it doesn't.
 
 use crate::numbers::Known::{One, Within};
 use crate::numbers::{BYTE, FULL, Known, LARGE, MOST, NEAR_ZERO, OFFSET, SOME, number};
@@ -6,7 +6,7 @@ use crate::same::same;
 use bpf_insn::Compare;
 use std::process::Abort;
 
-/// A number, a comparison, whether on 64 bits, whether it holds, the other number, and what is left of both.
+/// A number, a comparison, whether on 64 bits, whether it holds, the other number, and what remains of both.
 type Way = (Known, Compare, bool, bool, Known, Option<(Known, Known)>);
 
 fn are_refined(rt: &impl Abort, ways: &[Way]) {

@@ -14,7 +14,7 @@ fn number() -> AbsVal {
     AbsVal::Number(AbsNum::full())
 }
 
-/// A state at a slot, in which R0 holds such values and R1 may hold anything.
+/// A state at a slot: R0 holds `value`, R1 anything.
 fn state(rt: &impl Abort, alloc: Global, pc: usize, value: AbsVal) -> AbsState {
     let mut state = AbsState::entry(alloc).expect(rt, "memory");
     state.set_register(Reg::new(0), value).expect(rt, "memory");

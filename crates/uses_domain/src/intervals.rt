@@ -5,7 +5,7 @@ use bpf_interval::{Interval, SignedInterval};
 
 const MOST: u64 = u64::MAX;
 
-/// The word of a negative number, `size` below 0.
+/// The word that is `size` below 0.
 fn minus(size: u64) -> u64 {
     0u64.wrapping_sub(size)
 }

@@ -1,5 +1,5 @@
-//! The verifier's domain by rows: words, tristate numbers, intervals, abstract numbers by tables of operands, values,
-//! stacks, states with calls, and finished states.
+//! Tests the verifier's domain by rows: words, tristate numbers, intervals, abstract numbers by tables of operands,
+//! values, stacks, states with calls, and finished states.
 #![tactic(auto)]
 
 #[cfg(test)]

@@ -1,4 +1,4 @@
-//! Abstract numbers: tables of operands with what each operation makes of them.
+//! Abstract numbers: tables of operands, with the result of each operation.
 
 use crate::same::{all_same, same};
 use bpf_absnum::AbsNum;
@@ -9,11 +9,11 @@ use std::process::Abort;
 
 pub const MOST: u64 = u64::MAX;
 
-/// An abstract number as it stands in a table.
+/// An abstract number, as in a table.
 #[derive(Clone, Copy, Debug)]
 pub enum Known {
     One(u64),
-    /// Its ends, its value and mask, and its signed ends.
+    /// Its bounds, its value and mask, and its signed bounds.
     Within((u64, u64), (u64, u64), (i64, i64)),
 }
 
@@ -39,7 +39,7 @@ const NEGATIVE: Known = Within(
     (-20, -4),
 );
 
-/// Round 2^32.
+/// Around 2^32.
 pub const LARGE: Known = Within(
     (0xfffffffe, 0x100000005),
     (0, 0x1ffffffff),

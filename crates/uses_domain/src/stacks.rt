@@ -1,4 +1,4 @@
-//! Stacks of a call frame, as far as they are known.
+//! The known part of a call frame's stack.
 
 use crate::same::{all_same, same};
 use bpf_absnum::AbsNum;

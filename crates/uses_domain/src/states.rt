@@ -1,4 +1,4 @@
-//! What a run begins with, changes of a copy, calls and returns, labels, and inclusion.
+//! The entry state, changes of a copy, calls and returns, labels, and inclusion.
 
 use crate::same::{holds, same};
 use bpf_absnum::AbsNum;
@@ -18,7 +18,7 @@ fn stored(value: u64) -> AbsSlot {
     AbsSlot::Stored(number(value))
 }
 
-/// A pointer that far into a region.
+/// A pointer at this offset into a region.
 fn pointer(region: AbsRegion, offset: u64) -> AbsVal {
     AbsVal::Pointer {
         region,
@@ -26,7 +26,7 @@ fn pointer(region: AbsRegion, offset: u64) -> AbsVal {
     }
 }
 
-/// A frame pointer, at some offset, that lies behind the label's place.
+/// A frame pointer at some offset, 3 bytes after the label's position.
 fn behind(label: u16) -> AbsVal {
     AbsVal::Frame {
         offset: AbsNum::full(),
@@ -42,7 +42,7 @@ fn anywhere() -> AbsVal {
     }
 }
 
-/// The entry, with the register's own number in each of R0 to R9.
+/// The entry state, with each of R0 to R9 holding its own number.
 fn numbered(rt: &impl Abort, alloc: Global) -> AbsState {
     let mut state = AbsState::entry(alloc).expect(rt, "memory");
     for register in 0..10 {
@@ -66,7 +66,7 @@ fn in_a_call(rt: &impl Abort, alloc: Global) -> AbsState {
     state
 }
 
-/// What each register holds, from R0 on.
+/// The registers from R0 on hold these values.
 fn registers_hold(rt: &impl Abort, state: &AbsState, wanted: &[AbsVal]) {
     for register in 0..wanted.len().min(11) {
         let found = state.register(Reg::new(register as u8));
@@ -229,7 +229,7 @@ fn eight_functions_are_called(rt: HostRuntime) {
     );
 }
 
-/// R1, R6 and a slot behind label 8, and R7 behind label 9, each with a room of 5 bytes, in a call.
+/// In a call: R1, R6 and a slot after label 8, and R7 after label 9, each label with 5 bytes known to follow.
 fn labelled(rt: &impl Abort, alloc: Global) -> AbsState {
     let mut state = AbsState::entry(alloc).expect(rt, "memory");
     state
@@ -271,7 +271,7 @@ fn a_label_is_forgotten_everywhere(rt: HostRuntime) {
     same(&rt, state.register(Reg::new(7)), behind(9), "state");
 }
 
-/// Whether a state lies in another, and the other in it.
+/// Whether each of two states is included in the other.
 fn inclusions(state: &AbsState, other: AbsState) -> (bool, bool) {
     (state.is_included(&other), other.is_included(state))
 }

@@ -1,4 +1,4 @@
-//! Abstract values and slots: when one lies in another, and what is known behind a label.
+//! Abstract values and slots: inclusion, and the bytes known to follow a label.
 
 use crate::same::{holds, same};
 use bpf_absnum::AbsNum;
@@ -6,7 +6,7 @@ use bpf_absval::{AbsRegion, AbsSlot, AbsVal, Label, Room, Rooms};
 use std::alloc::Global;
 use std::process::Abort;
 
-/// A frame pointer somewhere, that many bytes behind the label's place.
+/// A frame pointer somewhere, `distance` bytes after the label's position.
 fn behind(label: u16, distance: u16) -> AbsVal {
     AbsVal::Frame {
         offset: AbsNum::full(),
@@ -37,7 +37,7 @@ fn any_number() -> AbsVal {
     AbsVal::Number(AbsNum::full())
 }
 
-/// Label 8 has a room of that size.
+/// `size` bytes are known to follow label 8.
 fn room_of_8(rt: &impl Abort, alloc: Global, size: u16) -> Rooms {
     let mut rooms = Rooms::new(alloc);
     rooms.raise(8, size).expect(rt, "memory");

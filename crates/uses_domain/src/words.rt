@@ -1,4 +1,4 @@
-//! Operations on words, at their ends.
+//! Operations on words, at their limits.
 
 use crate::same::{all_same, holds, same};
 use bpf_words::*;

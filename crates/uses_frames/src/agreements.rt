@@ -1,4 +1,4 @@
-//! Agreements of stations that end in octets 1 to 3, for TIDs 0 and 5.
+//! Agreements of stations whose addresses end in octets 1 to 3, for TIDs 0 and 5.
 
 use crate::same::{counts, holds, same};
 use ap_agreements::{Agreements, Entry, Released};

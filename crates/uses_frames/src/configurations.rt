@@ -15,7 +15,7 @@ fn octets(rt: &impl Abort, alloc: Global, bytes: &[u8]) -> Octets {
     Octets::copy(alloc, bytes).expect(rt, "memory")
 }
 
-/// A configuration of so long a name, and so many rates.
+/// Whether a configuration may have a name of this length, and this many rates.
 fn is_configured(rt: &impl Abort, alloc: Global, name: usize, rates: usize) -> bool {
     let ssid = octets(rt, alloc, &[7; 33][..name.min(33)]);
     let rates = octets(rt, alloc, &[1; 9][..rates.min(9)]);

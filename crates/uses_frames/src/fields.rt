@@ -1,4 +1,4 @@
-//! Fields of frames that were spelled apart from this code.
+//! Fields of independently spelled frames.
 
 use crate::same::{holds, same};
 use mac_types::*;
@@ -6,7 +6,7 @@ use std::alloc::Global;
 use std::fmt::Display;
 use std::process::Abort;
 
-/// A value is shown as this text.
+/// A value is displayed as this text.
 fn shows<T: Display + Copy>(rt: &impl Abort, alloc: Global, value: T, text: &str) {
     let shown = value.to_string(alloc).expect(rt, "memory");
     same(rt, shown.as_str(), text, "shown");

@@ -1,4 +1,4 @@
-//! Frames that were spelled apart from this code.
+//! Independently spelled frames.
 
 use crate::same::{counts, holds, same};
 use mac_frame::{
@@ -9,7 +9,7 @@ use mac_frame::{
 use std::alloc::Global;
 use std::process::Abort;
 
-/// One frame of each kind. The elements and data are longer than nothing where there may be some.
+/// One frame of each kind. Elements and data are nonempty if the kind may have some.
 const KINDS: [&str; 16] = [
     "0000aed6 a2d60169b8b7 02000000001d a2d60169b8b7 70aa 0300 0500 0003 6c6162 0104 82848b96",
     "10000000 02000000000a 020000000001 020000000001 0000 0100 0000 02c0 0104 82848b96",
@@ -29,7 +29,7 @@ const KINDS: [&str; 16] = [
     "c839d586 020000000001 1e36653f636e ffffffffffff 908a 0000",
 ];
 
-/// The bytes of hexadecimal digits, whatever stands between them.
+/// The bytes of hexadecimal digits, ignoring all between them.
 fn hex(rt: &impl Abort, alloc: Global, digits: &str) -> Vec<u8> {
     let mut bytes = Vec::new(alloc);
     let mut upper: Option<u8> = None;
@@ -51,7 +51,7 @@ fn hex(rt: &impl Abort, alloc: Global, digits: &str) -> Vec<u8> {
     bytes
 }
 
-/// The number of the fault, 0 where there is a frame.
+/// The number of the fault, 0 if the bytes are a frame.
 fn number_of(alloc: Global, bytes: &[u8]) -> u8 {
     match parse(alloc, bytes) {
         Ok(_) => 0,
@@ -73,14 +73,15 @@ fn address(rt: &impl Abort, alloc: Global, digits: &str) -> Address {
     }
 }
 
-/// What is written of a frame.
+/// The encoding of a frame.
 fn spelling(rt: &impl Abort, alloc: Global, frame: &MacFrame) -> Vec<u8> {
     let mut out = Vec::new(alloc);
     write(frame, &mut out).expect(rt, "memory");
     out
 }
 
-/// Bytes are refused by a number, or read and written again as they are.
+/// Bytes are refused with a number of 50 to 55, or read and written again unchanged. Whether they
+/// are read.
 fn is_read_or_refused(rt: &impl Abort, alloc: Global, bytes: &[u8]) -> bool {
     match parse(alloc, bytes) {
         Ok(frame) => {
@@ -119,7 +120,7 @@ fn an_association_request_cut_at_every_length(rt: HostRuntime) {
     }
 }
 
-/// Frames, each with one thing wrong, by the number of the fault.
+/// Frames with one thing wrong each, by the number of the fault.
 const REFUSED: [(u8, &[&str]); 5] = [
     (
         50,
@@ -200,7 +201,7 @@ fn the_first_fault_is_named(rt: HostRuntime) {
     }
 }
 
-/// Data frames: from where, to where, the TID or 255, the number, the data.
+/// Data frames: source, destination, TID or 255, number, data.
 const DATA: [(&str, &str, &str, u8, u16, &str); 8] = [
     (
         "881937f8 6e44818c50ef a422c03bb1eb ffffffffffff d0dd 0700 d0a5",
@@ -268,7 +269,7 @@ const DATA: [(&str, &str, &str, u8, u16, &str); 8] = [
     ),
 ];
 
-/// Who sent a frame of data, whether its receiver is the access point, and where it goes.
+/// The source of a data frame, whether its receiver is the access point, and the destination.
 fn ends_of(rt: &impl Abort, alloc: Global, digits: &str) -> (Address, bool, Address) {
     let read = frame(rt, alloc, digits);
     let destination = match read.content() {
@@ -282,7 +283,7 @@ fn ends_of(rt: &impl Abort, alloc: Global, digits: &str) -> (Address, bool, Addr
     )
 }
 
-/// Its TID, or 255, its number, and whether its data are these.
+/// Its TID or 255, its number, and whether it has these data.
 fn data_of(
     rt: &impl Abort,
     alloc: Global,
@@ -596,7 +597,7 @@ fn block_acknowledgements_are_spelled(rt: HostRuntime) {
     );
 }
 
-/// A frame is written, and read again as it is.
+/// A frame is written, and read again unchanged.
 fn is_written_and_read(rt: &impl Abort, alloc: Global, digits: &str) {
     let mut out = Vec::new(alloc);
     let read = written_is_read(&frame(rt, alloc, digits), &mut out).expect(rt, digits);
@@ -605,7 +606,7 @@ fn is_written_and_read(rt: &impl Abort, alloc: Global, digits: &str) {
     is_spelled(rt, alloc, read, digits);
 }
 
-/// Of each kind: how long its header is, how long it is with its fixed fields, and at which lengths
+/// For each kind: the length of its header, that with its fixed fields, and the lengths at which
 /// the frame above ends with an element or within its data.
 const CUTS: [(usize, usize, &[usize]); 16] = [
     (24, 28, &[28, 33, 39]),
@@ -652,7 +653,7 @@ fn every_kind_is_written_and_read_and_cut_at_every_length(rt: HostRuntime) {
     }
 }
 
-/// In how many ways a frame is read with one byte set to each value.
+/// Sets each byte of a frame to each value, and counts how often the result is read.
 fn count_read(rt: &impl Abort, alloc: Global, digits: &str) -> u64 {
     let mut bytes = hex(rt, alloc, digits);
     let mut read = 0u64;
@@ -689,7 +690,7 @@ fn a_frame_has_2400_bytes_at_most(rt: HostRuntime) {
     same(&rt, number_of(rt.alloc(), &bytes), 55, "number of");
 }
 
-/// A fault is told with this text.
+/// A fault has this text.
 fn is_told(rt: &impl Abort, alloc: Global, fault: FrameFault, text: &str) {
     let told = fault.to_string(alloc).expect(rt, "memory");
     same(rt, told.as_str(), text, "told");

@@ -1,5 +1,5 @@
-//! Frames, stations and verdicts by rows from outside: frames that were spelled apart from this code, cut and changed;
-//! stations that come and go; the tables of verdicts and the bytes of contexts; configurations, windows and agreements.
+//! Tests of frames, stations and verdicts against outside rows: independently spelled frames, cut and changed; stations
+//! that come and go; the tables of verdicts and the bytes of contexts; configurations, windows and agreements.
 #![tactic(auto)]
 
 #[cfg(test)]

@@ -1,4 +1,4 @@
-//! What an agreement takes and hands up, number by number.
+//! What an agreement takes and releases, number by number.
 ghost use Rattle.std.specs.Prelude.{◌<◌};
 
 use crate::same::{holds, same};
@@ -7,10 +7,10 @@ use blockack::{Agreement, Placed, order_law, reading_law, unwrap_law, window_law
 
 type Frames = ArrayVec<(u16, u8), 64>;
 
-/// What was handed back, if the item was not taken.
+/// The returned item, if it wasn't taken.
 type Back = Option<Option<u8>>;
 
-/// Data: what became of the item, and what was handed up.
+/// Data: the returned item, and the released frames.
 fn data(agreement: &mut Agreement<u8>, number: u16, item: Option<u8>) -> (Back, Frames)
     requires { number < 4096 }
 {
@@ -21,7 +21,7 @@ fn data(agreement: &mut Agreement<u8>, number: u16, item: Option<u8>) -> (Back, 
     }
 }
 
-/// A request: what was handed up.
+/// A request: the released frames.
 fn request(agreement: &mut Agreement<u8>, start: u16) -> Frames
     requires { start < 4096 }
 {
@@ -222,7 +222,7 @@ fn end_hands_up_all_that_is_held(rt: HostRuntime) {
     );
 }
 
-// 0 comes first, with nothing behind it; then 2 is held, so that 1 isn't alone.
+// 0 comes first, with nothing after it; then 2 is held, so that 1 isn't alone.
 #[test]
 fn next_number_passes_alone(rt: HostRuntime) {
     let mut agreement: Agreement<u8> = Agreement::open(4095, 1);

@@ -1,4 +1,4 @@
--- What callers conclude, from the one law.
+-- What callers conclude from the one law.
 use Rattle.std.proofs.Common.{ℕ, ◌<◌, Option, List, [], sym, subst}
 use Rattle.std.proofs.Math.Logic.{∥∥₁_map}
 use Rattle.ap_model.specs.declared.event.Event.{Event}
@@ -59,7 +59,7 @@ module _ {S : Type 0} (R : S → Ask → ℕ → S → Type 0) where
         holds = law (ruled old) (reads old) (reads later) h.entries event j j2 outs h.run handled;
       })
 
-  -- two, side by side
+  -- two access points compared
   pub side_by_side : LinkWindowsStandApart → (config : Config) (events : List Event) (j j2 k k2 : S) (results others : List (Option (List Out))) →
       (one : HoldsFromNobody R config events j results j2) (other : HoldsFromNobody R config events k others k2) →
       ((s : ℕ) → s < 8 → Alongside (entries_of s one.holds.turns) (entries_of s other.holds.turns)) →

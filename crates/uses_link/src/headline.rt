@@ -9,11 +9,11 @@ use ap_core::{Event, Judge, LinkConfig, Out, Shard, handle_all, known_shards, ne
 use ap_laws::{appending_law, link_law};
 use std::alloc::{AllocError, Global};
 
-/// Handles a list of events at an access point that began with nobody. Whatever the events and the
-/// verdicts are: what came out is told by a run of the link for each of eight shards, from the
-/// opening on; each frame that is passed up has a source that was associated from its arrival on
-/// without a break; of each agreement exactly the accepted numbers below its window have been passed
-/// up, once each, in rising order; and no two stations hold one identifier.
+/// Handles a list of events at a new access point. If it succeeds, then for all events and verdicts: turns give the
+/// outputs of each event that was not refused, and the judge's verdicts; for each of eight shards they are a run of the
+/// link from the opening; each frame that is passed up has a source that was associated without interruption since its
+/// arrival; each agreement has passed up exactly the accepted numbers below its window, once each, in increasing order;
+/// and no two stations hold one identifier. If it fails, the judge is unchanged.
 pub fn serve<J: Judge>(
     alloc: Global,
     config: &LinkConfig,
@@ -31,8 +31,8 @@ pub fn serve<J: Judge>(
     Ok(results)
 }
 
-/// Handles a list of events at any eight shards in their places: the same of their entries, after
-/// those of some history.
+/// Handles a list of events at any eight shards, each at the index of its number, where they stay. If it succeeds, the
+/// same holds of their entries, after those of some history.
 pub fn go_on<J: Judge>(
     alloc: Global,
     shards: &mut [Shard; 8],
@@ -52,7 +52,7 @@ pub fn go_on<J: Judge>(
     Ok(results)
 }
 
-/// Handles an event at any one shard: the same of its entries.
+/// Handles an event at any one shard. If it succeeds, the same holds of its entries.
 pub fn decide<J: Judge>(
     alloc: Global,
     shard: &mut Shard,
@@ -69,12 +69,12 @@ pub fn decide<J: Judge>(
     Ok(outs)
 }
 
-/// What came out under each of two judges.
+/// The results under each of two judges.
 type Twice = (Vec<Option<Vec<Out>>>, Vec<Option<Vec<Out>>>);
 
-/// Handles a list of events at two access points that began with nobody, under two judges. Where the
-/// events that were not refused are the same, shard by shard, and so are all verdicts but those on
-/// data, the agreements are the same and their windows start at the same numbers.
+/// Handles a list of events at two new access points, under two judges. If it succeeds, the same holds of each; and if
+/// the events that were not refused are the same, shard by shard, and so are all verdicts except those on data, then
+/// the agreements are the same and their windows have the same starts.
 pub fn compare<J: Judge>(
     alloc: Global,
     config: &LinkConfig,

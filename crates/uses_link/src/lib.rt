@@ -1,6 +1,6 @@
-//! The link as its callers use it: what they may conclude of it, proved of functions that only call
-//! `ap_core` and the laws, and what frames and commands lead to, shown by tests. It stands on
-//! `ap_core` and `ap_laws`; its functions promise the link's half of the headline.
+//! What callers of the link may conclude, as contracts of functions that only call `ap_core` and
+//! the laws; and tests of what frames and commands lead to. It depends on `ap_core` and `ap_laws`.
+//! Its functions promise the link's half of the main theorem.
 #![tactic(auto)]
 
 mod headline;

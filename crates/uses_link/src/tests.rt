@@ -1,5 +1,5 @@
-//! What comes to the access point `020000000001`, mostly from station `02000000000a`, and what each
-//! event leads to. Frames are hex digits, with spaces for reading.
+//! Events at the access point `020000000001`, mostly of station `02000000000a`, and what each leads to. Frames are hex
+//! digits, with spaces for reading.
 
 ghost use Rattle.std.specs.Prelude.{◌<◌};
 ghost use Rattle.ap_model.specs.AccessPoint.{InPlace};
@@ -29,23 +29,23 @@ const ASSOCIATED: &str =
 /// Data with number 3.
 const DATA: &str = "08010000 020000000001 02000000000a 0200000000ff 3000 68656c6c6f";
 
-/// For TID 0, an immediate policy and size 8, from number 100 on, with no timeout.
+/// For TID 0, an immediate policy and size 8, from number 100 on, without timeout.
 const SETUP: &str = "d0000000 020000000001 02000000000a 020000000001 4000 0300 07 0202 0000 4006";
 
 const SET_UP: &str = "d0000000 02000000000a 020000000001 020000000001 0000 0301 07 0000 0202 0000";
 
-/// A line of a transcript: an event, or what comes out of the last event above.
+/// A line of a transcript: an event, or an output of the last event above.
 #[derive(Clone, Copy)]
 enum Line<'a> {
-    /// A frame comes.
+    /// A frame is received.
     Frame(&'a str),
-    /// QoS data for TID 0 comes, with this number.
+    /// QoS data for TID 0 with this number is received.
     Qos(u16, &'a str),
-    /// A BlockAckReq for TID 0 comes, with this start.
+    /// A BlockAckReq for TID 0 with this start is received.
     Request(u16),
     /// Time passes.
     Tick(u32),
-    /// The operator sends station `02000000000a` away.
+    /// The operator deauthenticates station `02000000000a`.
     Kick(u16),
     /// The operator ends its agreement for a TID.
     Close(u8),
@@ -139,7 +139,7 @@ fn events(rt: &impl Abort, alloc: Global, transcript: &[Line<'_>]) -> Vec<Event>
     events
 }
 
-/// Whether a line tells what came out.
+/// Whether a line describes an output.
 fn tells(rt: &impl Abort, alloc: Global, line: Line<'_>, out: &Out) -> bool {
     match (line, out) {
         (Sends(digits), Out::Send(sent)) => {
@@ -167,7 +167,7 @@ fn is_event(line: Line<'_>) -> bool {
     }
 }
 
-/// How many lines tell what came out of the event above them. None where one doesn't.
+/// How many lines describe the outputs of the event above them. None if one doesn't.
 fn told(rt: &impl Abort, alloc: Global, lines: &[Line<'_>], outs: &[Out]) -> Option<usize> {
     let mut at = 0;
     for out in outs {
@@ -180,8 +180,7 @@ fn told(rt: &impl Abort, alloc: Global, lines: &[Line<'_>], outs: &[Out]) -> Opt
     Some(at)
 }
 
-/// Whether this came out of the events of a transcript: each of them is handled, and below it stands
-/// what came out.
+/// Whether these are the results of a transcript: each event was handled, and the lines below it describe its outputs.
 fn is_told(
     rt: &impl Abort,
     alloc: Global,
@@ -228,7 +227,7 @@ fn shards(rt: &impl Abort, alloc: Global) -> [Shard; 8]
     new_shards(alloc, &config).expect(rt, "memory")
 }
 
-/// What comes out of these events, at an access point that has handled nothing.
+/// The results of these events at a new access point.
 fn handled(
     rt: &impl Abort,
     alloc: Global,
@@ -238,13 +237,13 @@ fn handled(
     let mut shards = shards(rt, alloc);
     let mut judge = ListJudge::new(answers);
     let results = handle_all(alloc, &mut shards, events, &mut judge);
-    // Given up by a call, since eight shards have many parts.
+    // Freed by a call, since eight shards have many parts.
     drop(shards);
     results.expect(rt, "memory")
 }
 
-/// At an access point that has handled nothing, the events of a transcript lead to what it says,
-/// where the verdicts have these answers.
+/// At a new access point, the events of a transcript lead to the outputs that it describes, if queries have these
+/// answers.
 fn leads(rt: &impl Abort, alloc: Global, answers: &[u64], transcript: &[Line<'_>]) {
     let events = events(rt, alloc, transcript);
     let results = handled(rt, alloc, answers, &events);
@@ -256,12 +255,12 @@ const STATIONS_AUTHENTICATE_AND_ASSOCIATE: &[Line<'_>] = &[
     Sends(AUTHENTICATED),
     Frame(ASSOCIATION),
     Sends(ASSOCIATED),
-    // It gives its identifier back, and gets it again.
+    // It releases its identifier, and gets it again.
     Frame(AUTHENTICATION),
     Sends(AUTHENTICATED),
     Frame(ASSOCIATION),
     Sends(ASSOCIATED),
-    // So it does with one that it holds.
+    // It keeps one that it holds.
     Frame(ASSOCIATION),
     Sends(ASSOCIATED),
 ];
@@ -271,13 +270,13 @@ fn stations_authenticate_and_associate(rt: HostRuntime) {
     leads(&rt, rt.alloc(), &[], STATIONS_AUTHENTICATE_AND_ASSOCIATE);
 }
 
-// The shortest one, of 28 bytes: it has no elements, and so no rates. The station stays in State 2.
+// The shortest request, of 28 bytes, has no elements, and so no rates. The station stays in State 2.
 const A_REQUEST_WITHOUT_ELEMENTS_IS_REFUSED: &[Line<'_>] = &[
     Frame(AUTHENTICATION),
     Sends(AUTHENTICATED),
     Frame("00000000 020000000001 02000000000a 020000000001 2000 0100 0a00"),
     Sends("10000000 02000000000a 020000000001 020000000001 0000 0100 0a00 0000 0104 82848b96"),
-    // Data is of class 3: it isn't associated.
+    // Data is of class 3, and the station isn't associated.
     Frame(DATA),
     Sends(DISASSOCIATED_7),
     Frame(ASSOCIATION),
@@ -289,7 +288,7 @@ fn a_request_without_elements_is_refused(rt: HostRuntime) {
     leads(&rt, rt.alloc(), &[], A_REQUEST_WITHOUT_ELEMENTS_IS_REFUSED);
 }
 
-/// A frame, from the station whose address ends so.
+/// A frame, from the station whose address has these last octets.
 fn from(rt: &impl Abort, alloc: Global, digits: &str, fifth: u8, last: u8) -> Event {
     let mut bytes = spelled(rt, alloc, digits);
     if bytes.len() > 15 {
@@ -299,7 +298,7 @@ fn from(rt: &impl Abort, alloc: Global, digits: &str, fifth: u8, last: u8) -> Ev
     Event::Frame(Octets::new(bytes))
 }
 
-/// The station whose address ends so authenticates and associates.
+/// The station whose address has these last octets authenticates and associates.
 fn enter(rt: &impl Abort, alloc: Global, events: &mut Vec<Event>, fifth: u8, last: u8) {
     let one = from(rt, alloc, AUTHENTICATION, fifth, last);
     events.push(one).expect(rt, "memory");
@@ -307,7 +306,7 @@ fn enter(rt: &impl Abort, alloc: Global, events: &mut Vec<Event>, fifth: u8, las
     events.push(other).expect(rt, "memory");
 }
 
-/// The field at this byte of the one frame that is sent.
+/// The field at this byte of the only frame that is sent.
 fn field(outs: &Option<Vec<Out>>, at: usize) -> Option<u16> {
     let outs = outs.as_ref()?;
     let [Out::Send(sent)] = outs.as_slice() else {
@@ -319,7 +318,7 @@ fn field(outs: &Option<Vec<Out>>, at: usize) -> Option<u16> {
     }
 }
 
-/// The field at this byte of the one frame that is sent at a place of the results.
+/// The field at this byte of the only frame that is sent, in the result at an index.
 fn field_at(results: &[Option<Vec<Out>>], place: usize, at: usize) -> Option<u16> {
     field(results.get(place)?, at)
 }
@@ -395,7 +394,7 @@ fn identifiers_are_given_by_shard_and_back(rt: HostRuntime) {
 }
 
 const AUTHENTICATIONS_ARE_REFUSED: &[Line<'_>] = &[
-    // Another algorithm, and another transaction.
+    // Another algorithm, and another transaction number.
     Frame("b0000000 020000000001 02000000000a 020000000001 1000 0100 0100 0000"),
     Sends("b0000000 02000000000a 020000000001 020000000001 0000 0100 0200 0d00"),
     Frame("b0000000 020000000001 02000000000a 020000000001 1000 0000 0200 0000"),
@@ -410,7 +409,7 @@ fn authentications_are_refused(rt: HostRuntime) {
 const ASSOCIATIONS_ARE_REFUSED: &[Line<'_>] = &[
     Frame(AUTHENTICATION),
     Sends(AUTHENTICATED),
-    // No elements at all: its 28 bytes end with the listen interval.
+    // No elements: its 28 bytes end with the listen interval.
     Frame("00000000 020000000001 02000000000a 020000000001 2000 0100 0a00"),
     Sends("10000000 02000000000a 020000000001 020000000001 0000 0100 0a00 0000 0104 82848b96"),
     // No infrastructure network, no rates, another network.
@@ -424,7 +423,7 @@ const ASSOCIATIONS_ARE_REFUSED: &[Line<'_>] = &[
         "00000000 020000000001 02000000000a 020000000001 2000 0100 0a00 0003 6c6163 0104 82848b96",
     ),
     Sends("10000000 02000000000a 020000000001 020000000001 0000 0100 0c00 0000 0104 82848b96"),
-    // Two verdicts that refuse, and one that admits.
+    // Two verdicts that refuse, and one that accepts.
     Frame(ASSOCIATION),
     Sends("10000000 02000000000a 020000000001 020000000001 0000 0100 0100 0000 0104 82848b96"),
     Frame(ASSOCIATION),
@@ -440,7 +439,7 @@ fn associations_are_refused(rt: HostRuntime) {
     leads(&rt, rt.alloc(), &[5, 37, 0], ASSOCIATIONS_ARE_REFUSED);
 }
 
-/// What answers a frame that its sender's state does not permit, by its type and its reason.
+/// The answers to a frame whose class isn't permitted, by type and reason.
 const DEAUTHENTICATED_6: &str = "c0000000 02000000000a 020000000001 020000000001 0000 0600";
 
 const DEAUTHENTICATED_7: &str = "c0000000 02000000000a 020000000001 020000000001 0000 0700";
@@ -488,7 +487,7 @@ const DATA_IS_MARKED_OR_DROPPED: &[Line<'_>] = &[
     Frame(DATA),
     PassesUp(None, 3, 0, "68656c6c6f"),
     Frame(DATA),
-    // Without an agreement a duplicate is passed up, too. A frame with no data is not.
+    // Without an agreement duplicates are passed up too. A frame without data isn't.
     Qos(7, "61"),
     PassesUp(Some(0), 7, 2, "61"),
     Qos(7, "61"),
@@ -540,7 +539,7 @@ const AGREEMENTS_ARE_GRANTED_BY_THEIR_VERDICTS: &[Line<'_>] = &[
     Sends(AUTHENTICATED),
     Frame(ASSOCIATION),
     Sends(ASSOCIATED),
-    // A delayed policy, of which no verdict is asked.
+    // A delayed policy, for which no verdict is requested.
     Frame("d0000000 020000000001 02000000000a 020000000001 4000 0300 07 0002 0000 4006"),
     Sends(DECLINED),
     // Declined, and so no agreement.
@@ -549,7 +548,7 @@ const AGREEMENTS_ARE_GRANTED_BY_THEIR_VERDICTS: &[Line<'_>] = &[
     Request(100),
     Qos(105, "61"),
     PassesUp(Some(0), 105, 0, "61"),
-    // 64 of 64 that are asked, and 4 of 4.
+    // 64 of 64 requested, and 4 of 4.
     Frame("d0000000 020000000001 02000000000a 020000000001 4000 0300 07 0210 0000 4006"),
     Sends("d0000000 02000000000a 020000000001 020000000001 0000 0301 07 0000 0210 0000"),
     Frame("d0000000 020000000001 02000000000a 020000000001 4000 0300 07 0201 0000 4006"),
@@ -596,13 +595,13 @@ const FAR_NUMBERS_MOVE_A_WINDOW_OR_ARE_DISCARDED: &[Line<'_>] = &[
     Sends(AUTHENTICATED),
     Frame(ASSOCIATION),
     Sends(ASSOCIATED),
-    // 2148 is too far ahead, and so old; 100 is still awaited.
+    // 2148 is too far ahead, and so counts as old; 100 is still awaited.
     Frame(SETUP),
     Sends(SET_UP),
     Qos(2148, "61"),
     Qos(100, "62"),
     PassesUp(Some(0), 100, 0, "62"),
-    // 2148 is now the last that moves the window. It is held, and passed up when that ends.
+    // 2148 is the last number that moves the window. It is held, and passed up when the agreement is replaced.
     Qos(2148, "63"),
     Frame(SETUP),
     PassesUp(Some(0), 2148, 0, "63"),
@@ -639,7 +638,7 @@ const REQUESTS_AND_DROPPED_FRAMES_LEAVE_NO_GAP: &[Line<'_>] = &[
     PassesUp(Some(0), 104, 0, "62"),
     Qos(105, "64"),
     PassesUp(Some(0), 105, 0, "64"),
-    // 100 is dropped, and keeps its place.
+    // 100 is dropped, but its number counts.
     Frame(SETUP),
     Sends(SET_UP),
     Qos(101, "65"),
@@ -659,7 +658,7 @@ fn requests_and_dropped_frames_leave_no_gap(rt: HostRuntime) {
     );
 }
 
-/// What ends an agreement for TID 0: the station is its originator, or it is not.
+/// A DELBA for TID 0: the station is the originator, or it isn't.
 const ENDS_OWN: &str = "d0000000 020000000001 02000000000a 020000000001 7000 0302 0008 2500";
 
 const ENDS_OTHER: &str = "d0000000 020000000001 02000000000a 020000000001 7000 0302 0000 2500";
@@ -680,14 +679,14 @@ const AGREEMENTS_END: &[Line<'_>] = &[
     Frame(ENDS_OWN),
     PassesUp(Some(0), 102, 0, "61"),
     Frame(ENDS_OWN),
-    // The operator does.
+    // The operator ends it.
     Frame(SETUP),
     Sends(SET_UP),
     Qos(103, "62"),
     Close(0),
     PassesUp(Some(0), 103, 0, "62"),
     Sends("d0000000 02000000000a 020000000001 020000000001 0000 0302 0000 2500"),
-    // It is discarded with what it holds.
+    // It is discarded with the frames that it holds.
     Frame(SETUP),
     Sends(SET_UP),
     Qos(104, "63"),
@@ -730,13 +729,13 @@ fn agreements_time_out(rt: HostRuntime) {
     leads(&rt, rt.alloc(), &[0, 8], AGREEMENTS_TIME_OUT);
 }
 
-/// What a shard counts.
+/// A shard has this many stations, and this clock.
 fn counted(rt: &impl Abort, shard: &Shard, stations: u16, clock: u64) {
     same(rt, shard.stations(), stations, "stations");
     same(rt, shard.clock(), clock, "clock");
 }
 
-/// A station comes, time passes, and the station is sent away.
+/// A station associates, and time passes.
 const COUNTED: &[Line<'_>] = &[Frame(AUTHENTICATION), Frame(ASSOCIATION), Tick(7), Tick(5)];
 
 #[test]
@@ -755,6 +754,6 @@ fn a_shard_counts_its_stations_and_its_time(rt: HostRuntime) {
     };
     drop(shard.handle(alloc, &kick, &mut judge).expect(&rt, "memory"));
     counted(&rt, &shard, 0, 12);
-    // Given up by a call, since a shard has many parts.
+    // Freed by a call, since a shard has many parts.
     drop(shard);
 }

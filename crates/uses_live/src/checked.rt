@@ -1,4 +1,4 @@
-//! Programs that are published by their certificates, and certificates that are refused.
+//! Programs that are published with their certificates, and refused certificates.
 
 ghost use Rattle.std.specs.Prelude.{◌≡◌};
 
@@ -21,7 +21,7 @@ const ONE: &str = "mov r0, 1\nexit";
 /// R0 is 2.
 const TWO: &str = "mov r0, 2\nexit";
 
-/// R0 is 7, after a loop of 7 turns.
+/// R0 is 7, after a loop of 7 iterations.
 const SEVEN: &str = "mov r0, 0\nmov r1, 7\nadd r0, 1\nsub r1, 1\njne r1, 0, -3\nexit";
 
 /// A map of four entries.
@@ -32,7 +32,7 @@ const MAP: Shape = Shape {
     scope: Scope::Shared,
 };
 
-/// The certificate for data of the program of a text, and the budget that it is verified with.
+/// The certificate for data of the program of a text, and the budget with which it is verified.
 fn certified(rt: &impl Abort, alloc: Global, text: &str, maps: &[Shape]) -> (u32, Vec<u8>) {
     let program = program_of(rt, alloc, text, maps);
     let accepted = verify(alloc, program, Hook::Data).ok().expect(rt, text);
@@ -40,7 +40,7 @@ fn certified(rt: &impl Abort, alloc: Global, text: &str, maps: &[Shape]) -> (u32
     (accepted.budget(), bytes)
 }
 
-/// The budget of a program that is published for data by a certificate, or the number of the refusal.
+/// The budget of a program that is published for data with a certificate, or the number of the refusal.
 fn offered<R: Wait>(
     rt: &R,
     alloc: Global,
@@ -61,7 +61,7 @@ fn offered<R: Wait>(
     }
 }
 
-/// A program is published by its certificate, with the budget that it is verified with.
+/// A program is published with its certificate and its verified budget.
 fn is_published<R: Wait + Abort>(rt: &R, alloc: Global, text: &str, answer: u64) {
     let (budget, bytes) = certified(rt, alloc, text, &[]);
     let program = program_of(rt, alloc, text, &[]);
@@ -80,8 +80,8 @@ fn a_certificate_publishes_its_program(rt: HostRuntime) {
     is_published(&rt, rt.alloc(), SEVEN, 7);
 }
 
-/// Once a program was published by its certificate, another with these bytes is refused with this number, and the first
-/// one stays.
+/// After a program is published with its certificate, another with these bytes is refused with this number, and the
+/// first one stays in force.
 fn is_refused<R: Wait + Abort>(rt: &R, alloc: Global, other: Program, bytes: &[u8], number: u8) {
     let (_budget, own) = certified(rt, alloc, ONE, &[]);
     let first = program_of(rt, alloc, ONE, &[]);
@@ -101,7 +101,7 @@ fn a_damaged_certificate_is_refused(rt: HostRuntime) {
     let (_budget, mut bytes) = certified(&rt, alloc, TWO, &[]);
     let cut = &bytes[..bytes.len().saturating_sub(1)];
     is_refused(&rt, alloc, program_of(&rt, alloc, TWO, &[]), cut, 70);
-    // The lowest byte of the budget of its only entry: 1 where 2 instructions are run.
+    // The lowest byte of the only entry's budget: 1, for 2 instructions.
     if let Some(budget) = bytes.get_mut(29) {
         *budget = 1;
     }

@@ -7,7 +7,7 @@ use bpf_helpers::HookPort;
 use bpf_regions::{Helper, MapOp};
 use bpf_tagged::Port;
 
-/// Right after the first access, the other port stores the number in word 0 of map 0.
+/// After the first access, the other port stores the number in word 0 of map 0.
 #[derive(Drop)]
 pub struct Interrupted<'t, 's, 'u, 'o> {
     pub port: HookPort<'t, 's>,
@@ -21,7 +21,7 @@ impl Port for Interrupted<'_, '_, '_, '_> {
 
     ghost shapes = { λ p. shapes_of p.port.view.maps.now };
 
-    // nothing is said of what is answered
+    // the answers are unconstrained
     ghost gives = { λ p ask answer q. Unit {0} };
 
     fn access(&mut self, map: u32, word: u32, op: MapOp) -> u64 {

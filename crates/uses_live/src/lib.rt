@@ -1,5 +1,5 @@
-//! Programs over the tables of maps that workers share, and program sets that are published while they run: what their
-//! runs come to, shown by tests.
+//! Tests of programs over the tables of maps that workers share, and of program sets that are published while programs
+//! run.
 #![tactic(auto)]
 
 #[cfg(test)]

@@ -42,7 +42,7 @@ fn one_map(rt: &impl Abort, alloc: Global, shape: Shape) -> [MapTables; 1]
     [MapTables::new(alloc, shape, 2, 3).expect(rt, "tables")]
 }
 
-/// The program of this text, over one map of this shape.
+/// The accepted program of this text, over one map of this shape.
 fn admitted(rt: &impl Abort, alloc: Global, text: &str, shape: Shape) -> Accepted
     ensures shapes { result.code.shapes ≡ shape ∷ [] }
 {
@@ -91,7 +91,7 @@ struct Two {
     ghost other_fits: { IsFitting maps 1 other.seats },
 }
 
-/// What a worker has who draws from this word on.
+/// The state of a worker whose draws start from this word.
 fn seated(
     rt: &impl Abort,
     alloc: Global,
@@ -106,7 +106,7 @@ fn seated(
     WorkerState::seated(alloc, maps, worker, draw).expect(rt, "seats")
 }
 
-/// Two workers with one map, who draw from these words on.
+/// Two workers with one map, whose draws start from these words.
 fn two_workers(rt: &impl Abort, alloc: Global, shape: Shape, draws: (u64, u64)) -> Two
     requires valid { IsShape shape }
     ensures shapes { shapes_of result.maps ≡ shape ∷ [] }
@@ -119,7 +119,7 @@ fn two_workers(rt: &impl Abort, alloc: Global, shape: Shape, draws: (u64, u64)) 
 }
 
 impl Two {
-    /// The R0 of a program that the one runs.
+    /// The R0 of a program that worker 0 runs.
     fn by_one(&mut self, rt: &impl Abort, alloc: Global, shape: Shape, text: &str) -> u64
         requires { shapes_of self.old.maps ≡ shape ∷ [] }
         ensures { shapes_of self.new.maps ≡ shape ∷ [] }
@@ -129,7 +129,7 @@ impl Two {
         answer_of(rt, &accepted, view, &mut self.one)
     }
 
-    /// The R0 of a program that the other runs.
+    /// The R0 of a program that worker 1 runs.
     fn by_other(&mut self, rt: &impl Abort, alloc: Global, shape: Shape, text: &str) -> u64
         requires { shapes_of self.old.maps ≡ shape ∷ [] }
         ensures { shapes_of self.new.maps ≡ shape ∷ [] }
@@ -170,7 +170,7 @@ const COUNT: &str = "lddw r1, value 0 0\nmov r2, 1\natomic_add [r1+0], r2\nmov r
 
 const LOAD: &str = "lddw r1, value 0 0\nldxdw r0, [r1+0]\nexit";
 
-/// Two workers, of which the one counted three times, the other twice.
+/// Two workers: worker 0 has counted three times, worker 1 twice.
 fn counted(rt: &impl Abort, alloc: Global, shape: Shape) -> Two
     requires valid { IsShape shape }
     ensures shapes { shapes_of result.maps ≡ shape ∷ [] }
@@ -194,7 +194,7 @@ fn sum_of(rt: &impl Abort, alloc: Global, maps: [MapTables; 1], shape: Shape) ->
     maps[0].sum(&mut seats, 0)
 }
 
-/// What each of the two loads then, and the sum of their word over the tables.
+/// What each of the two then loads, and the sum of the word over the tables.
 fn counts(rt: &impl Abort, alloc: Global, scope: Scope) -> (u64, u64, u64) {
     let shape = shape_of(1, WordWidth::Eight, scope);
     let mut two = counted(rt, alloc, shape);
@@ -220,7 +220,7 @@ fn each_worker_counts_in_its_own_table(rt: HostRuntime) {
 const FILL: &str =
     "lddw r1, value 0 0\nmov r2, 7\nstxdw [r1+0], r2\nmov r2, 55\nstxdw [r1+56], r2\nmov r0, 0\nexit";
 
-/// The R0 of a program, where another worker stores 9 in word 0 right after the program's first load.
+/// The R0 of a program, if another worker stores 9 in word 0 right after the program's first load.
 fn interrupted_run(rt: &impl Abort, accepted: &Accepted, two: Two) -> u64
     requires shapes { shapes_of two.maps ≡ accepted.now.code.shapes }
     requires words { 0 < words_in (slice_get (shapes_of two.maps) 0) }
@@ -256,7 +256,7 @@ fn interrupted(rt: &impl Abort, alloc: Global, text: &str) -> u64 {
     interrupted_run(rt, &accepted, two)
 }
 
-/// Loads word 0, and then the word whose index that is.
+/// Loads word 0, and then the word with that index.
 const INDEXED: &str = "lddw r6, value 0 0
 ldxdw r2, [r6+0]
 jlt r2, 8, +2
@@ -299,7 +299,7 @@ fn worker_map(rt: &impl Abort, alloc: Global, width: WordWidth) -> (MapTables, V
     (map, seats)
 }
 
-/// The sums of both words, the second of which one worker stored, and the other.
+/// The sums of both words, after one worker stores `first` and the other `second` in the second word.
 fn sums_of(map: &MapTables, seats: &mut [MapSeat], first: u64, second: u64) -> (u64, u64)
     requires seated { AreSeated map.now.tables seats.old }
     requires two { (map.now.shape.scope ≡ Worker) × (length map.now.tables ≡ 2) }
@@ -327,7 +327,7 @@ fn sums_are_taken_in_the_width_of_the_words(rt: HostRuntime) {
     }
 }
 
-/// The number of a fault, 0 where there is none.
+/// The number of a fault, 0 if there is none.
 fn refused<T: Drop>(answer: Result<T, MapFault>) -> u8 {
     match answer {
         Ok(_) => 0,

@@ -1,4 +1,4 @@
-//! Programs for the tests, and runs by the programs of a set.
+//! Programs for the tests, and runs of a set's programs.
 
 ghost use Rattle.std.specs.Prelude.{◌≡◌};
 ghost use Rattle.std.specs.Arc.{arc_value};
@@ -41,7 +41,7 @@ pub fn accepted(
     Arc::new(alloc, accepted).expect(rt, "memory")
 }
 
-/// What a run of a hook's program on an empty frame comes to; None where the hook has no program.
+/// The outcome of a run of a hook's program on an empty frame; None if the hook has no program.
 pub fn outcome_of(set: &ProgramSet, hook: Hook) -> Option<Outcome> {
     let accepted = set.program(hook)?;
     let frame = Frame::new(&[])?;
@@ -49,7 +49,7 @@ pub fn outcome_of(set: &ProgramSet, hook: Hook) -> Option<Outcome> {
     Some(run(accepted, &frame, &Context::new([0; 32]), &mut port))
 }
 
-/// The R0 of a run of a hook's program; None where the hook has no program.
+/// The R0 of a run of a hook's program; None if the hook has no program.
 pub fn answer_of(set: &ProgramSet, hook: Hook) -> Option<u64> {
     Some(outcome_of(set, hook)?.r0)
 }

@@ -1,4 +1,4 @@
-//! One publisher and its readers on one thread.
+//! One publisher and its readers, on one thread.
 
 ghost use Rattle.std.specs.Prelude.{◌≡◌};
 ghost use Rattle.std.specs.Arc.{arc_value};
@@ -18,7 +18,7 @@ const ONE: &str = "mov r0, 1\nexit";
 
 const ZERO: &str = "mov r0, 0\nexit";
 
-/// The set that a reader has after it learned all loads so far.
+/// The set that a reader enters after it has learned all loads so far.
 pub fn enter_after<R: Wait>(
     rt: &R,
     publisher: &mut Publisher,
@@ -35,7 +35,7 @@ pub fn enter_after<R: Wait>(
     sets.enter(rt, reader)
 }
 
-/// A publisher of no program yet, and the way to its sets for so many readers.
+/// A publisher without a program, and its sets for `readers` readers.
 pub fn opened<R: Wait + Abort>(
     rt: &R,
     alloc: Global,
@@ -58,7 +58,7 @@ fn load<R: Wait + Abort>(rt: &R, publisher: &mut Publisher, hook: Hook, program:
         .expect(rt, "a publication");
 }
 
-/// The R0 of each hook's program in the set that a reader has. It gives the set back.
+/// The R0 of each hook's program in the set that a reader enters. The reader leaves the set again.
 pub fn answers_for<R: Wait>(rt: &R, sets: &Published, reader: Reader) -> ([Option<u64>; 3], Reader)
     requires { reader.list ≡ sets.now.list }
     ensures { result.1.list ≡ sets.now.list }
@@ -68,7 +68,7 @@ pub fn answers_for<R: Wait>(rt: &R, sets: &Published, reader: Reader) -> ([Optio
     (answers, held.leave())
 }
 
-/// The programs of the set that a reader has after it learned all loads so far have this R0.
+/// The programs of the set that a reader enters after it has learned all loads so far have this R0.
 pub fn shows<R: Wait + Abort>(
     rt: &R,
     publisher: &mut Publisher,
@@ -134,7 +134,7 @@ const OWN: Shape = Shape {
     scope: Scope::Shared,
 };
 
-/// Maps that differ from it in one thing each.
+/// Maps that differ from `OWN` in one thing each.
 const OTHERS: [Shape; 4] = [
     Shape { entries: 5, ..OWN },
     Shape { words: 1, ..OWN },
@@ -148,7 +148,7 @@ const OTHERS: [Shape; 4] = [
     },
 ];
 
-/// A program for another map is refused by a publisher for the own one, and the program of before stays.
+/// A publisher for `OWN` refuses a program for another map, and the earlier program stays in force.
 fn check_refused<R: Wait + Abort>(rt: &R, alloc: Global, other: Shape) {
     let one = accepted(rt, alloc, ONE, Hook::Data, &[OWN]);
     let zero = accepted(rt, alloc, ZERO, Hook::Data, &[other]);
@@ -171,12 +171,12 @@ fn other_shapes_are_refused(rt: HostRuntime) {
     same(&rt, PublishFault::NoMemory.number(), 40, "no memory");
 }
 
-/// Whether one more reader is given.
+/// Whether another reader is given out.
 fn gives(sets: &mut Published) -> bool {
     sets.reader().is_ok()
 }
 
-/// With so many readers, so many are given, and no more.
+/// Exactly `count` readers are given out.
 fn check_readers<R: Wait + Abort>(rt: &R, alloc: Global, count: u32) {
     let (publisher, mut sets) = opened(rt, alloc, &[], count);
     for _ in 0..count {

@@ -1,4 +1,4 @@
-//! A publisher and its readers on threads of their own.
+//! A publisher and its readers, each on its own thread.
 
 ghost use Rattle.std.specs.Prelude.{◌≡◌};
 ghost use Rattle.std.specs.Arc.{arc_value};
@@ -41,7 +41,7 @@ fn side_of(rt: &impl Abort, alloc: Global, text: &str) -> Side {
     }
 }
 
-/// Whether the program was published.
+/// Publishes a program. False if that fails.
 fn load<R: Wait>(rt: &R, publisher: &mut Publisher, hook: Hook, program: &Arc<Accepted>) -> bool
     requires { (arc_value program.now).hook ≡ hook }
     ensures { publisher.new.list ≡ publisher.old.list }
@@ -52,7 +52,7 @@ fn load<R: Wait>(rt: &R, publisher: &mut Publisher, hook: Hook, program: &Arc<Ac
     }
 }
 
-/// Whether the programs of all three hooks were published, one after the other.
+/// Publishes the programs of all three hooks, one after the other. False if one fails.
 fn load_all<R: Wait>(rt: &R, publisher: &mut Publisher, side: &Side) -> bool
     ensures { publisher.new.list ≡ publisher.old.list }
 {
@@ -61,7 +61,7 @@ fn load_all<R: Wait>(rt: &R, publisher: &mut Publisher, side: &Side) -> bool
         && load(rt, publisher, Hook::Data, &side.frames)
 }
 
-/// Whether each exchange of one side's programs for the other's was published, as long as there are readers.
+/// Exchanges one side's programs for the other's and back, while there are readers. False if a publication fails.
 fn exchange<R: Wait>(
     rt: &R,
     publisher: &mut Publisher,
@@ -78,7 +78,7 @@ fn exchange<R: Wait>(
     right
 }
 
-/// Whether the notes are those of a set that was published: the hooks' programs change in the order of the hooks.
+/// Whether a published set can have these notes: the hooks' programs are exchanged in the order of the hooks.
 fn is_published(notes: [Option<u64>; 3]) -> bool {
     let [association, addba, frames] = notes;
     let known = [association, addba, frames]
@@ -87,7 +87,7 @@ fn is_published(notes: [Option<u64>; 3]) -> bool {
     known && !(association == frames && association != addba)
 }
 
-/// Whether each set that a reader enters is one that was published.
+/// Whether each set that a reader enters may have been published.
 fn read_many<R: Wait>(rt: &R, entrance: &Entrance, reader: Reader, reading: &AtomicU32) -> bool
     requires { reader.list ≡ entrance.now.list }
 {
@@ -143,7 +143,7 @@ fn read_by_four<R: Threads + Wait + Sync>(
     first && second
 }
 
-/// A reader that learned all loads so far.
+/// A reader that has learned all loads so far.
 fn told_reader(
     rt: &impl Abort,
     publisher: &mut Publisher,
@@ -206,7 +206,7 @@ fn read_beside<R: Threads + Wait + Sync>(
     )
 }
 
-/// Publishes a program for data. It answers whether it did, and tells of the loads so far.
+/// Publishes a program for data. Returns whether it did, and the news of the loads so far.
 fn load_and_tell<R: Wait>(
     rt: &R,
     publisher: &mut Publisher,

@@ -1,4 +1,4 @@
-//! The machine of bare words beside the tagged one, which knows the kind of each value.
+//! The machine of bare words compared with the tagged one, which knows the kind of each value.
 
 use crate::same::same;
 use bpf_machine::probing::probe;
@@ -6,7 +6,7 @@ use bpf_machine::{Accepted, ListPort, Probe, run};
 use bpf_regions::{Context, Frame};
 use std::process::Abort;
 
-/// `run` comes to what `probe` does on this frame: the same R0, steps and notes.
+/// `run` has the same R0, steps and notes as `probe` on this frame.
 fn compare(rt: &impl Abort, accepted: &Accepted, bytes: &[u8], name: &str) {
     let frame = Frame::new(bytes).expect(rt, "a frame");
     let context = Context::new([0x5a; 32]);
@@ -30,7 +30,7 @@ const DATAGRAM: [u8; 56] = [
     8, 0, 0x45, 7, 7, 7, 7, 7, 0, 0, 7, 17, 7, 7, 7, 7, 7, 7, 7, 7, 7, 7, 7, 7, 0, 53,
 ];
 
-/// Both machines come to the same on frames of 0, 24, 26 and 2400 bytes, all ones or a datagram.
+/// Both machines have the same results on frames of 0, 24, 26 and 2400 bytes, all ones or a datagram.
 pub fn compare_on_frames(rt: &impl Abort, accepted: &Accepted, name: &str) {
     let ones = [1; 2400];
     let mut datagram = [7; 2400];

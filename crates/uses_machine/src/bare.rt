@@ -1,5 +1,5 @@
-//! The machine of bare words: single steps, and the same outcomes as the tagged machine's with
-//! policies.
+//! The machine of bare words: single steps, and the same results with policies as the tagged
+//! machine's.
 
 use crate::alike::compare_on_frames;
 use crate::policies::POLICIES;
@@ -10,9 +10,9 @@ use bpf_regions::{Context, Frame};
 use bpf_verifier::verify;
 use std::process::Abort;
 
-/// More programs that are admitted.
+/// More accepted programs.
 const PROGRAMS: &[&str] = &[
-    // a spilled pointer, filled again
+    // a spilled pointer, reloaded
     "stxdw [r10-8], r3\nldxdw r4, [r10-8]\nldxw r0, [r4+4]\nexit",
     // eighteen notes, of which sixteen are kept
     "mov r6, 18\nmov r1, r6\ncall 5\nsub r6, 1\njne r6, 0, -4\nmov r0, 3\nexit",
@@ -34,7 +34,7 @@ fn both_machines_come_to_the_same(rt: HostRuntime) {
     }
 }
 
-/// Where R3 points, and R1, and the number of R3, after two steps.
+/// After two steps: the pointers of R3 and R1, and the number of R3.
 fn moved_and_added(rt: &impl Abort, accepted: &Accepted) -> (u32, u32, u64) {
     let frame = Frame::new(&[0; 26]).expect(rt, "a short frame");
     let context = Context::new([0; 32]);

@@ -1,4 +1,4 @@
-//! A certificate that says less than one that is made, and is accepted.
+//! A certificate that proves a weaker bound than a generated one, and is accepted.
 
 use crate::making::{certified, program};
 use crate::same::{holds, same};
@@ -12,12 +12,12 @@ use bpf_text::assemble;
 use std::alloc::Global;
 use std::process::Abort;
 
-/// Two ways that join again at slot 3, with different numbers in R0. From there one is shorter than
+/// Two branches that join at slot 3, with different numbers in R0. From there one is shorter than
 /// the other.
 const TEXT: &str =
     "call 4\njgt r0, 7, +1\nmov r0, 0\njeq r0, 0, +3\nmov r0, 1\nmov r0, 1\nmov r0, 1\nexit";
 
-/// All states at a slot in the main function in which R0 holds this.
+/// All states at a slot in the main function in which R0 holds `first`.
 fn all_states(rt: &impl Abort, alloc: Global, pc: u16, budget: u32, first: AbsVal) -> Entry {
     let mut values = [AbsVal::Unset; 10];
     values[0] = first;
@@ -39,8 +39,8 @@ fn add(rt: &impl Abort, entries: &mut Vec<Leaf>, entry: Entry) {
     entries.push(Leaf::read(entry)).ok().expect(rt, "memory");
 }
 
-/// One entry for the start, one for both ways, and one for their ends. For all numbers in R0 the
-/// longer way is possible, so this shows one instruction more than there can be.
+/// One entry for the start, one for both branches, and one for their ends. For all numbers in R0
+/// the longer branch is possible, so the budget is one above the verified one.
 fn by_hand(rt: &impl Abort, alloc: Global) -> Vec<u8> {
     let mut entries = Vec::new(alloc);
     add(rt, &mut entries, all_states(rt, alloc, 0, 8, AbsVal::Unset));

@@ -1,4 +1,4 @@
-//! One certificate of one entry, checked.
+//! Checks of one certificate of one entry.
 
 use crate::same::same;
 use crate::small::{no_maps, small, with_byte};
@@ -8,13 +8,13 @@ use bpf_regions::Hook;
 use std::alloc::Global;
 use std::process::Abort;
 
-/// R0 is a number, and EXIT.
+/// A number in R0, and EXIT.
 fn program(rt: &impl Abort, alloc: Global, number: u8) -> Program {
     let code = [0xb7, 0, 0, 0, number, 0, 0, 0, 0x95, 0, 0, 0, 0, 0, 0, 0];
     decode(alloc, &code, no_maps(rt, alloc)).expect(rt, "a program")
 }
 
-/// What a check answers where R0 is this number: a budget, or the number of a refusal.
+/// The result of a check if R0 is `number`: a budget, or the number of a refusal.
 fn answered(rt: &impl Abort, alloc: Global, number: u8, hook: Hook, bytes: &[u8]) -> u32 {
     match check(alloc, program(rt, alloc, number), hook, bytes) {
         Ok(accepted) => accepted.budget(),
@@ -22,7 +22,7 @@ fn answered(rt: &impl Abort, alloc: Global, number: u8, hook: Hook, bytes: &[u8]
     }
 }
 
-/// What is answered for the certificate with another byte at a place.
+/// The result for the certificate with another byte at a position.
 fn changed(rt: &impl Abort, alloc: Global, at: usize, byte: u8) -> u32 {
     let bytes = with_byte(rt, alloc, at, byte);
     answered(rt, alloc, 2, Hook::Data, &bytes)
@@ -61,7 +61,7 @@ fn budgets_and_entries_are_checked(rt: HostRuntime) {
         (29, 1, 72),
         // above 2^22
         (32, 1, 72),
-        // the only entry is at the second slot; it is behind the code
+        // the only entry is at the second slot, or after the code
         (27, 1, 72),
         (27, 2, 72),
     ] {

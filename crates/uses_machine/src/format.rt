@@ -1,4 +1,4 @@
-//! The bytes of certificates, read and written.
+//! Reading and writing of certificates.
 
 use crate::same::{counts, holds, same};
 use crate::small::{CODE, no_maps, small, with_byte};
@@ -12,7 +12,7 @@ fn is_malformed(alloc: Global, shapes: &Shapes, bytes: &[u8]) -> bool {
     matches!(read(alloc, shapes, bytes), Err(ReadFault::Malformed))
 }
 
-/// The states in which a run begins, with a budget of 2.
+/// The start states of a run, with a budget of 2.
 fn is_start(rt: &impl Abort, entry: &Entry) {
     same(rt, entry.pc(), 0, "pc");
     same(rt, entry.budget(), 2, "budget");
@@ -85,7 +85,7 @@ fn no_beginning_is_a_certificate(rt: HostRuntime) {
     holds(&rt, is_malformed(alloc, &shapes, &bytes), "malformed");
 }
 
-/// It is read, and written as it was.
+/// It is read, and written unchanged.
 fn is_read_and_written(rt: &impl Abort, alloc: Global, shapes: &Shapes, bytes: &[u8]) {
     let read = read(alloc, shapes, bytes).ok();
     let certificate = read.expect(rt, "the bytes are a certificate");
@@ -99,7 +99,7 @@ fn fields_have_limits(rt: HostRuntime) {
     let alloc = rt.alloc();
     let shapes = no_maps(&rt, alloc);
     // The magic, hook 0 and 4, a main function that returns, nine call frames, a stack frame and a
-    // map that are not there, low above high, a distance without a label, a tag that means nothing.
+    // map that don't exist, low above high, a distance without a label, an unknown tag.
     let wrong = [
         (0, 0x42),
         (4, 0),
@@ -118,7 +118,7 @@ fn fields_have_limits(rt: HostRuntime) {
         let malformed = is_malformed(alloc, &shapes, &bytes);
         same(&rt, (at, byte, malformed), (at, byte, true), "malformed");
     }
-    // Another budget, another slot, a stack frame that is there: read and written as they are.
+    // Another budget, another slot, an existing stack frame: read, and written unchanged.
     for (at, byte) in [(29, 7), (27, 1), (97, 16)] {
         let bytes = with_byte(&rt, alloc, at, byte);
         is_read_and_written(&rt, alloc, &shapes, &bytes);

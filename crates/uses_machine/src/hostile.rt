@@ -1,5 +1,5 @@
-//! Certificates with a byte changed, or without their end: each is refused, or accepted with a
-//! budget within which the program's runs end on three frames.
+//! Certificates with a changed byte, or truncated: each is refused, or accepted with a budget
+//! within which the program's runs on three frames end.
 
 use crate::making::{certified, program};
 use crate::same::holds;
@@ -14,15 +14,15 @@ use std::process::Abort;
 /// R0 is 2, and EXIT.
 const PLAIN: &str = "mov r0, 2\nexit";
 
-/// Three turns that add up what a byte of the frame allows.
+/// Three iterations that add a byte of the frame, if it exists.
 const LOOP: &str =
     "mov r3, r1\nadd r3, 26\nmov r0, 0\njgt r3, r2, +5\nldxb r4, [r1+24]\nmov r5, 3\nadd r0, r4\nsub r5, 1\njne r5, 0, -3\nexit";
 
-/// A place in the frame behind a variable part, kept on the stack over a local call.
+/// A position in the frame after a part of variable length, kept on the stack over a local call.
 const ROOMS: &str =
     "mov r4, r1\nadd r4, 26\nmov r0, 0\njgt r4, r2, +11\nldxb r5, [r1+24]\nand r5, 7\nadd r4, r5\nstxdw [r10-8], r4\nmov r6, r4\nadd r6, 1\njgt r6, r2, +4\ncall local +4\nldxdw r4, [r10-8]\nldxb r1, [r4+0]\nadd r0, r1\nexit\nmov r0, 1\nexit";
 
-/// Whether a run on a frame of these bytes ends within so many steps.
+/// Whether a run on this frame ends within `budget` steps.
 fn ends_within(program: &Program, bytes: &[u8], budget: u32) -> bool {
     let Some(frame) = Frame::new(bytes) else {
         return false;
@@ -32,14 +32,14 @@ fn ends_within(program: &Program, bytes: &[u8], budget: u32) -> bool {
     matches!(came_to, Probe::Ended(_))
 }
 
-/// Whether runs on three frames do: one without bytes, one of a header alone, and a longer one.
+/// Whether runs end on three frames: an empty one, a header alone, and a longer one.
 fn all_end(program: &Program, budget: u32) -> bool {
     ends_within(program, &[], budget)
         && ends_within(program, &[0xff; 26], budget)
         && ends_within(program, &[0x03; 64], budget)
 }
 
-/// Whether bytes are accepted as a certificate of a program, whose runs end then.
+/// Whether bytes are accepted as a program's certificate. If so, its runs end.
 fn is_accepted(rt: &impl Abort, alloc: Global, text: &str, bytes: &[u8]) -> bool {
     match check(alloc, program(rt, alloc, text, None), Hook::Data, bytes) {
         Err(_) => false,
@@ -50,7 +50,7 @@ fn is_accepted(rt: &impl Abort, alloc: Global, text: &str, bytes: &[u8]) -> bool
     }
 }
 
-/// Sets each byte of a program's certificate to each value, and answers how often it is accepted.
+/// Sets each byte of a program's certificate to each value, and counts how often it is accepted.
 fn count_accepted(rt: &impl Abort, alloc: Global, text: &str) -> u32 {
     let (_budget, mut bytes) = certified(rt, alloc, text, None);
     let mut accepted = 0u32;
@@ -67,7 +67,7 @@ fn count_accepted(rt: &impl Abort, alloc: Global, text: &str) -> u32 {
     accepted
 }
 
-/// A program's certificate is accepted, and none of its beginnings.
+/// A program's certificate is accepted, and none of its proper prefixes.
 fn is_accepted_whole(rt: &impl Abort, alloc: Global, text: &str) {
     let (_budget, bytes) = certified(rt, alloc, text, None);
     for end in 0..bytes.len() {

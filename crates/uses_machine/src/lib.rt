@@ -1,10 +1,10 @@
-//! Programs on the machine: what whole runs come to, and their certificates, shown by tests.
+//! Tests of programs on the machine: the results of whole runs, and certificates.
 //!
-//! Worked programs are decoded, probed, verified, certified, run and traced, and compared with rows. It stands on
-//! `bpf_verifier`, `bpf_cert`, `bpf_text` and `bpf_helpers`. The tests stand here and not below, since a crate with tests
-//! is proved twice. They show that calls succeed, the numbers and slots of faults and refusals, and budgets, of which no
-//! clause speaks: that `certificate` succeeds on what `verify` admits, with the same budget; that a certificate with a byte
-//! changed is refused or shows a budget that runs keep.
+//! Worked programs are decoded, probed, verified, certified, run and traced, and compared with rows. It depends on
+//! `bpf_verifier`, `bpf_cert`, `bpf_text` and `bpf_helpers`. The tests are here and not in those crates, since a crate
+//! with tests is proved twice. They show what no contract says: that calls succeed, the numbers and slots of faults and
+//! refusals, and budgets; that `certificate` succeeds on what `verify` accepts, with the same budget; that a
+//! certificate with a changed byte is refused, or has a budget that runs keep.
 #![tactic(auto)]
 
 #[cfg(test)]

@@ -1,4 +1,4 @@
-//! Certificates that are made of programs, by their text.
+//! Certificates generated for programs, by their text.
 
 use crate::same::same;
 use bpf_cert::{certificate, check};
@@ -36,7 +36,7 @@ pub(crate) fn program(
     decode(alloc, &code, shapes).expect(rt, text)
 }
 
-/// The certificate of a program, which is verified with this budget.
+/// The budget with which a program is verified, and its certificate.
 pub(crate) fn certified(
     rt: &impl Abort,
     alloc: Global,
@@ -49,7 +49,7 @@ pub(crate) fn certified(
     (accepted.budget(), bytes)
 }
 
-/// The budget that a check answers, or the number of its refusal.
+/// The budget that a check returns, or the number of its refusal.
 fn checked(alloc: Global, program: Program, hook: Hook, bytes: &[u8]) -> u32 {
     match check(alloc, program, hook, bytes) {
         Ok(accepted) => accepted.budget(),
@@ -57,7 +57,7 @@ fn checked(alloc: Global, program: Program, hook: Hook, bytes: &[u8]) -> u32 {
     }
 }
 
-/// A program is verified with this budget, and its certificate, which is for its hook alone, shows
+/// A program is verified with this budget, and its certificate, which is for its hook alone, has
 /// the same.
 fn is_certified(rt: &impl Abort, alloc: Global, text: &str, map: Option<(u32, u32)>, budget: u32) {
     let (verified, bytes) = certified(rt, alloc, text, map);
@@ -75,19 +75,19 @@ fn is_certified(rt: &impl Abort, alloc: Global, text: &str, map: Option<(u32, u3
 
 /// Programs, the entries and words of their map, and their budgets.
 const PROGRAMS: &[(&str, Option<(u32, u32)>, u32)] = &[
-    // a byte of the frame, where it is long enough
+    // a byte of the frame, if it is long enough
     (
         "mov r3, r1\nadd r3, 26\nmov r0, 0\njgt r3, r2, +1\nldxb r0, [r1+24]\nexit",
         None,
         6,
     ),
-    // a loop of 64 turns
+    // a loop of 64 iterations
     (
         "mov r0, 0\nmov r1, 64\nadd r0, 1\nsub r1, 1\njne r1, 0, -3\nexit",
         None,
         195,
     ),
-    // a place in the frame with a variable part
+    // a position in the frame after a variable part
     (
         "mov r4, r1\nadd r4, 26\nmov r0, 0\njgt r4, r2, +7\nldxb r5, [r1+24]\nand r5, 7\nadd r4, r5\nmov r6, r4\nadd r6, 1\njgt r6, r2, +1\nldxb r0, [r4+0]\nexit",
         None,
@@ -104,7 +104,7 @@ const PROGRAMS: &[(&str, Option<(u32, u32)>, u32)] = &[
         Some((1, 8)),
         10,
     ),
-    // the callee spills its argument; the caller keeps r6 and a stack slot; then a loop within the
+    // the callee spills its argument; the caller keeps r6 and a stack slot, over a loop in the
     // callee
     (
         "mov r1, 5\ncall local +2\nadd r0, 1\nexit\nstxdw [r10-8], r1\nldxdw r0, [r10-8]\nmul r0, r0\nexit",
@@ -125,10 +125,10 @@ fn programs_are_certified(rt: HostRuntime) {
     }
 }
 
-/// Calls whose answers are cut to at most 7: each time both ways come to one state.
+/// A call whose result is limited to at most 7. Both branches join in one state.
 const TURN: &str = "call 4\njgt r0, 7, +1\nmov r0, 0\n";
 
-/// The program of so many such calls.
+/// The program of `count` such calls.
 fn calls(rt: &impl Abort, alloc: Global, count: usize) -> String {
     let mut text = String::new(alloc);
     for _ in 0..count {

@@ -1,9 +1,9 @@
-//! The policies and examples that are admitted, as slots, each with its first byte as the highest.
-//! They are what `policies/*.hex` and `examples/` hold; a test reads no files.
+//! The accepted policies and examples, as slots, each with its first byte as the highest. They
+//! equal `policies/*.hex` and the files in `examples/`, which a test can't read.
 
 use bpf_regions::{Hook, Scope, Shape, WordWidth};
 
-/// A program, what it is verified for, and its maps.
+/// A program, its hook, and its maps.
 #[derive(Clone, Copy, Drop)]
 pub struct Policy {
     pub name: &'static str,
@@ -505,8 +505,8 @@ const MARK_AND_COUNT: [u64; 11] = [
     0x9500000000000000,
 ];
 
-/// All of them that are admitted, but two in the assembler's language: `texts` has the loop and the
-/// header of variable length.
+/// All accepted ones but two in the assembler's language: `texts` has the loop and the header of
+/// variable length.
 pub const POLICIES: [Policy; 19] = [
     Policy {
         name: "agreements",

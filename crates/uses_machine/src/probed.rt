@@ -1,5 +1,5 @@
-//! Programs of slots, admitted or not, and what the tagged machine makes of them: R0 and the steps,
-//! or the number and the slot of a fault. What is admitted comes to the same on both machines.
+//! Programs of slots, accepted or not, and their results on the tagged machine: R0 and the steps,
+//! or the slot and number of a fault. Accepted programs have the same results on both machines.
 
 use crate::alike::compare_on_frames;
 use crate::programs::of_slots;
@@ -65,7 +65,8 @@ const TEST: u64 = 0x5500010000000000;
 
 const LOAD: u64 = 0x7900000000000000;
 
-/// What a program comes to: R0 and the steps, or the slot and the number of a fault.
+/// The result of a program: R0 and the steps, or the slot and the number of a fault, or that the
+/// limit cut the run.
 #[derive(Clone, Copy, Debug, PartialEq)]
 enum End {
     Ends(u64, u32),
@@ -83,7 +84,7 @@ fn end_of(answer: &Probe) -> End {
     }
 }
 
-/// What a probe is given: the shape of a map, a frame, the answers to what it asks, and a limit of
+/// The inputs of a probe: the shape of a map, a frame, the answers to queries, and a limit of
 /// steps.
 #[derive(Clone, Copy, Drop)]
 struct Given<'a> {
@@ -93,7 +94,7 @@ struct Given<'a> {
     limit: u32,
 }
 
-/// A program that is admitted comes to the same on both machines.
+/// If a program is accepted, its results on both machines are the same.
 fn compare_admitted(rt: &impl Abort, alloc: Global, slots: &[u64], map: Option<Shape>) {
     let program = of_slots(rt, alloc, slots, map);
     if let Ok(accepted) = verify(alloc, program, Hook::Data) {
@@ -115,14 +116,14 @@ fn probed(rt: &impl Abort, alloc: Global, slots: &[u64], given: Given<'_>) -> Pr
     )
 }
 
-/// The program comes to this end.
+/// The program has this result.
 fn is_probed(rt: &impl Abort, alloc: Global, slots: &[u64], given: Given<'_>, end: End) {
     compare_admitted(rt, alloc, slots, given.map);
     let answer = probed(rt, alloc, slots, given);
     same(rt, (slots, end_of(&answer)), (slots, end), "slots, end");
 }
 
-/// A program without a map, and its end on an empty frame.
+/// A program without a map, and its result on an empty frame.
 type Row = (&'static [u64], End);
 
 fn are_probed(rt: &impl Abort, alloc: Global, rows: &[Row]) {
@@ -169,7 +170,7 @@ const WORDS: &[Row] = &[
     ),
 ];
 
-/// Each fault has its number, and is met at its slot.
+/// Each fault has its number, at its slot.
 const FAULTS: &[Row] = &[
     (&[EXIT], Faults(0, 30)),
     (&[0x71a0ffff00000000, EXIT], Faults(0, 30)),
@@ -199,7 +200,7 @@ const FAULTS: &[Row] = &[
     ),
 ];
 
-/// A store of a part unsets the rest of a slot with a spilled pointer.
+/// A partial store unsets the rest of a slot with a spilled pointer.
 const SPILLED: &[Row] = &[
     (
         &[SPILL_R1, FIVE, LOW_BYTE, 0x71a0f8ff00000000, EXIT],
@@ -211,7 +212,7 @@ const SPILLED: &[Row] = &[
     ),
 ];
 
-/// A fetch gives the old number; a compare and exchange stores where they are equal.
+/// A fetch returns the old number; a compare and exchange stores if they are equal.
 const ATOMICS: &[Row] = &[
     (
         &[
@@ -325,7 +326,7 @@ fn programs_without_maps_come_to_their_ends(rt: HostRuntime) {
     are_probed(&rt, rt.alloc(), CALLS);
 }
 
-/// 64 turns of a loop.
+/// 64 iterations of a loop.
 const TURNS: &[u64] = &[
     0xb700000000000000,
     0xb701000040000000,
@@ -335,7 +336,8 @@ const TURNS: &[u64] = &[
     EXIT,
 ];
 
-/// Programs, each with a limit of steps: it cuts a run, and shows a fault ahead.
+/// Programs, each with a limit of steps. At the limit the run is cut, or the fault of the next step
+/// is found.
 const LIMITS: &[(&[u64], u32, End)] = &[
     (&[0x0500ffff00000000, EXIT], 10, Cut),
     (&[ONE, EXIT], 0, Cut),
@@ -347,7 +349,7 @@ const LIMITS: &[(&[u64], u32, End)] = &[
     (TURNS, 194, Cut),
 ];
 
-/// Reads the frame's 25th byte where there are 26 bytes.
+/// Reads the frame's 25th byte if the frame has 26 bytes.
 const TESTED_LOAD: &[u64] = &[
     0xbf13000000000000,
     0x070300001a000000,
@@ -402,7 +404,7 @@ const SHORT_WORD: Option<Shape> = Some(Shape {
     scope: Scope::Shared,
 });
 
-/// Programs with a map whose words are all 9: lookups find entries, and accesses keep to words.
+/// Programs with a map whose words are all 9: lookups find entries, and accesses stay within words.
 const OF_NINE: &[(&[u64], Option<Shape>, End)] = &[
     (
         &[
@@ -454,7 +456,8 @@ const OF_NINE: &[(&[u64], Option<Shape>, End)] = &[
     ),
 ];
 
-/// Programs with a map of one short word, and a list that answers within the ranges.
+/// Programs with a map of one 4-byte word, and a list of answers, which are reduced to their
+/// ranges.
 const LISTED: &[(&[u64], &[u64], End)] = &[
     (&[NOW, EXIT], &[u64::MAX], Ends(u64::MAX, 2)),
     (&[STATIONS, EXIT], &[2010], Ends(2, 2)),
@@ -537,8 +540,8 @@ const WIDE: Option<Shape> = Some(Shape {
     scope: Scope::Shared,
 });
 
-/// Programs over plain maps that hold what was stored, the first number that they draw, and their
-/// end.
+/// Programs over plain maps that keep what is stored, the first number that they draw, and their
+/// result.
 const PLAIN: &[(&[u64], Option<Shape>, u64, End)] = &[
     (&[NOW, EXIT], None, 0, Ends(11, 2)),
     (&[STATIONS, EXIT], None, 0, Ends(2007, 2)),
@@ -588,7 +591,7 @@ const PLAIN: &[(&[u64], Option<Shape>, u64, End)] = &[
     ),
 ];
 
-/// The end of a program over plain maps, at clock 11 with 2007 stations.
+/// The result of a program over plain maps, at clock 11 with 2007 stations.
 fn plain_end(rt: &impl Abort, alloc: Global, slots: &[u64], map: Option<Shape>, draw: u64) -> End {
     let program = of_slots(rt, alloc, slots, map);
     let frame = Frame::new(&[]).expect(rt, "a short frame");

@@ -42,20 +42,20 @@ pub fn of_text(rt: &impl Abort, alloc: Global, text: &str, map: Option<Shape>) -
     }
 }
 
-/// That program, admitted for data frames.
+/// That program, accepted for data frames.
 pub fn admitted(rt: &impl Abort, alloc: Global, text: &str, map: Option<Shape>) -> Accepted {
     let program = of_text(rt, alloc, text, map);
     verify(alloc, program, Hook::Data).ok().expect(rt, text)
 }
 
-/// What admission says: a budget, or the number and the slot of the refusal.
+/// The result of verification: a budget, or the number and the slot of the refusal.
 #[derive(Clone, Copy, Debug, PartialEq)]
 pub enum Said {
     Budget(u32),
     Refused(u8, usize),
 }
 
-/// What it says of a program for data frames.
+/// The result for a program for data frames.
 pub fn said_of(alloc: Global, program: Program) -> Said {
     match verify(alloc, program, Hook::Data) {
         Ok(accepted) => Said::Budget(accepted.budget()),
@@ -63,7 +63,7 @@ pub fn said_of(alloc: Global, program: Program) -> Said {
     }
 }
 
-/// Parts of a text, each so many times.
+/// Parts of a text, each repeated this often.
 pub fn repeated(rt: &impl Abort, alloc: Global, parts: &[(&str, u32)]) -> String {
     let mut text = String::new(alloc);
     for (part, times) in parts {

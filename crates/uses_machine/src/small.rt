@@ -7,11 +7,12 @@ use std::process::Abort;
 /// R0 is 2, and EXIT.
 pub(crate) const CODE: [u8; 16] = [0xb7, 0, 0, 0, 2, 0, 0, 0, 0x95, 0, 0, 0, 0, 0, 0, 0];
 
-/// A certificate for that code with one entry at slot 0, as a run begins, within two instructions.
+/// A certificate for that code with one entry: the start states at slot 0, with a budget of two
+/// instructions.
 const SMALL: &[&[u8]] = &[
     &[0x41, 0x50, 0x43, 0x32, 3, 2, 0],
     &CODE,
-    // One entry: slot 0, budget 2, least length 0, no rooms, one call frame that returns to no
+    // One entry: slot 0, budget 2, least length 0, no labels, one call frame that returns to no
     // slot.
     &[1, 0, 0, 0, 0, 0, 2, 0, 0, 0, 0, 0, 0, 0, 1, 0, 0],
     // R0 is unset, R1 points to the start of the frame.
@@ -36,7 +37,7 @@ pub(crate) fn no_maps(rt: &impl Abort, alloc: Global) -> Shapes {
     Shapes::new(Vec::new(alloc)).expect(rt, "no maps are valid")
 }
 
-/// The certificate with another byte at a place.
+/// The certificate with another byte at a position.
 pub(crate) fn with_byte(rt: &impl Abort, alloc: Global, at: usize, byte: u8) -> Vec<u8> {
     let mut bytes = small(rt, alloc);
     if at < bytes.len() {

@@ -1,5 +1,5 @@
-//! Programs by their text: what admission says of them, and what runs of the admitted ones come to,
-//! on both machines.
+//! Programs by their text: the results of verification, and those of runs of accepted programs on
+//! both machines.
 
 use crate::alike::compare_on_frames;
 use crate::programs::{Said, admitted, of_text, repeated, said_of};
@@ -10,8 +10,8 @@ use bpf_verifier::verify;
 use std::alloc::Global;
 use std::process::Abort;
 
-/// R0 and the steps of a run of an admitted program, on this frame, with these answers to what it
-/// asks.
+/// R0 and the steps of a run of an accepted program, on this frame, with these answers to its
+/// queries.
 fn end_of(rt: &impl Abort, accepted: &Accepted, frame: &[u8], answers: &[u64]) -> (u64, u32) {
     let frame = Frame::new(frame).expect(rt, "a short frame");
     let mut port = ListPort::new(accepted.program().shapes(), answers);
@@ -19,10 +19,10 @@ fn end_of(rt: &impl Abort, accepted: &Accepted, frame: &[u8], answers: &[u64]) -
     (outcome.r0, outcome.steps)
 }
 
-/// A run: a frame, the answers to what is asked, R0 and the steps.
+/// A run: a frame, the answers to queries, R0 and the steps.
 type Run = (&'static [u8], &'static [u64], (u64, u32));
 
-/// The program is admitted with this budget, and comes to these ends, and to the same on both
+/// The program is accepted with this budget. Its runs end so, and have the same results on both
 /// machines.
 fn is_run(
     rt: &impl Abort,
@@ -106,24 +106,24 @@ const ADMITTED: &[Admitted] = &[
         3,
         &[(&[], &[], (1, 3))],
     ),
-    // the fall-through is longer; the jump is longer
+    // the fall-through is longer; then the jump is longer
     ("call 2\njeq r0, 0, +2\nja +0\nja +0\nexit", None, 5, &[]),
     ("call 2\njeq r0, 0, +1\nexit\nja +0\nexit", None, 4, &[]),
-    // a test with the frame's end permits a load
+    // a comparison with the frame's end permits a load
     (
         "mov r3, r1\nadd r3, 26\nmov r0, 0\njgt r3, r2, +1\nldxb r0, [r1+24]\nexit",
         None,
         6,
         &[(&SEVENTY_SEVEN, &[], (77, 6)), (&[0; 24], &[], (0, 5))],
     ),
-    // a loop, followed turn by turn
+    // a loop, followed through each iteration
     (
         "mov r0, 0\nmov r1, 64\nadd r0, 1\nsub r1, 1\njne r1, 0, -3\nexit",
         None,
         195,
         &[(&[], &[], (64, 195))],
     ),
-    // a null test opens a looked-up value; the index is inside, and outside
+    // a null test permits access to a looked-up value; the index is inside, then outside
     (
         "lddw r1, map 0\nmov r2, 3\ncall 1\njne r0, 0, +1\nexit\nldxdw r0, [r0+0]\nexit",
         FOUR,
@@ -143,7 +143,7 @@ const ADMITTED: &[Admitted] = &[
         7,
         &[(&[], &[61, 5], (5, 7))],
     ),
-    // a word that is loaded once
+    // a word that is loaded once bounds an index
     (
         "lddw r6, value 0 0\nldxdw r2, [r6+0]\njlt r2, 8, +2\nmov r0, 0\nexit\nlsh r2, 3\nadd r6, r2\nldxdw r0, [r6+0]\nexit",
         ONE,
@@ -164,7 +164,7 @@ const ADMITTED: &[Admitted] = &[
         10,
         &[(&[], &[3, 70], (70, 10)), (&[], &[4, 70], (0, 6))],
     ),
-    // a header of variable length is passed over
+    // a header of variable length is skipped
     (
         "mov r4, r1\nadd r4, 26\nmov r0, 0\njgt r4, r2, +7\nldxb r5, [r1+24]\nand r5, 7\nadd r4, r5\nmov r6, r4\nadd r6, 1\njgt r6, r2, +1\nldxb r0, [r4+0]\nexit",
         None,
@@ -184,7 +184,7 @@ fn admitted_programs_have_their_budgets_and_ends(rt: HostRuntime) {
     }
 }
 
-/// Programs in parts, each so many times.
+/// Programs in parts, each repeated this often; the budget, and runs.
 type Built = (&'static [(&'static str, u32)], u32, &'static [Run]);
 
 const BUILT: &[Built] = &[
@@ -197,13 +197,13 @@ const BUILT: &[Built] = &[
         74,
         &[(&[], &[], (0, 74)), (&[], &[8; 24], (0, 50))],
     ),
-    // conditional jumps of which both ways lead to the next slot: finished states spare ways
+    // conditional jumps with both successors at the next slot: finished states cut the exploration
     (
         &[("call 2\n", 1), ("jeq r0, 0, +0\n", 200), ("exit\n", 1)],
         202,
         &[],
     ),
-    // long codes are followed to their ends
+    // long code is followed to its end
     (
         &[("mov r0, 0\n", 4096), ("exit\n", 1)],
         4097,
@@ -211,8 +211,8 @@ const BUILT: &[Built] = &[
     ),
     // the longest code
     (&[("mov r0, 1\n", 16383), ("exit\n", 1)], 16384, &[]),
-    // each jump leaves one of eight registers unset, so that no state covers another: 256 ways, all
-    // explored
+    // each jump leaves one of eight registers unset, so that no state covers another: 256 paths,
+    // all explored
     (
         &[
             ("call 2\n", 1),
@@ -242,13 +242,12 @@ fn long_programs_have_their_budgets_and_ends(rt: HostRuntime) {
     }
 }
 
-/// Both ways of a jump read a register that is unset.
+/// Both successors of a jump read an unset register.
 const FALL_THROUGH: &str = "call 2\njeq r0, 0, +2\nmov r0, r4\nexit\nmov r0, r5\nexit";
 
 /// Programs that are refused: the text, a map, the number and the slot.
 const REFUSED: &[(&str, Option<Shape>, u8, usize)] = &[
-    // R0 is unset at the end; so is R4 where it is moved, and R0 where R1 is added, which is asked
-    // first
+    // R0 is unset at the end; R4 is unset if moved, and R0 if R1 is added, which is tested first
     ("exit", None, 30, 0),
     ("exit\nexit", None, 30, 0),
     ("mov r0, r4\nexit", None, 30, 0),
@@ -257,7 +256,7 @@ const REFUSED: &[(&str, Option<Shape>, u8, usize)] = &[
     // the sum of two pointers; a pointer as the result
     ("add r1, r1\nexit", None, 31, 0),
     ("mov r0, r1\nexit", None, 38, 1),
-    // no byte of the frame is known to be there
+    // no byte of the frame is known to exist
     ("ldxb r0, [r1+0]\nexit", None, 32, 0),
     (
         "mov r3, r1\nadd r3, 26\nmov r0, 0\nldxb r0, [r1+24]\nexit",
@@ -265,13 +264,13 @@ const REFUSED: &[(&str, Option<Shape>, u8, usize)] = &[
         32,
         3,
     ),
-    // jumps and calls without end
+    // endless jumps and calls
     ("ja -1\nexit", None, 36, 0),
     ("call local -1\nexit", None, 35, 0),
     // a byte of the stack that is unset, and one of a pointer
     ("ldxb r0, [r10-1]\nexit", None, 30, 0),
     ("stxdw [r10-8], r1\nldxb r0, [r10-8]\nexit", None, 31, 1),
-    // a slot of the stack that the callee leaves unset
+    // a slot of the callee's stack that is unset
     (
         "mov r1, 5\ncall local +2\nadd r0, 1\nexit\nstxdw [r10-8], r1\nldxdw r0, [r10-16]\nmul r0, r0\nexit",
         None,
@@ -303,7 +302,7 @@ const REFUSED: &[(&str, Option<Shape>, u8, usize)] = &[
     ),
 ];
 
-/// The refusal of a program is told with this text.
+/// The refusal of a program has this text.
 fn is_told(rt: &impl Abort, alloc: Global, text: &str, told: &str) {
     match verify(alloc, of_text(rt, alloc, text, None), Hook::Data) {
         Ok(_) => holds(rt, false, text),

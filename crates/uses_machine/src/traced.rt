@@ -1,4 +1,4 @@
-//! Traces: the steps of runs, in order, behind what a log held.
+//! Traces: the steps of runs, in order, appended to a log.
 
 use crate::programs::of_slots;
 use crate::same::{holds, same};
@@ -44,7 +44,7 @@ fn ends_of(rt: &impl Abort, accepted: &Accepted, log: &mut Vec<Step>) -> [(u64, 
     [(ran.r0, ran.steps), (traced.r0, traced.steps), probed]
 }
 
-/// Programs, with R0 and the number of steps, and the slots where the steps are made.
+/// Programs, with R0 and the number of steps, and the slots of the steps.
 const RUNS: &[(&[u64], (u64, u32), &[usize])] = &[
     (&[MOVE_1, EXIT], (1, 2), &[0, 1]),
     (&[MOVE_7, MOVE_0_TO_R1, DIVIDE, EXIT], (0, 4), &[0, 1, 2, 3]),
@@ -71,7 +71,7 @@ const BEFORE: Step = Step {
     note: Some(5),
 };
 
-/// The log of a run over plain maps, which held a step.
+/// The log of a run over plain maps, which held one step.
 fn logged(rt: &impl Abort, alloc: Global) -> Vec<Step> {
     let accepted = admitted(rt, alloc, &[MOVE_1, EXIT]);
     let frame = Frame::new(&[1, 2, 3]).expect(rt, "a short frame");

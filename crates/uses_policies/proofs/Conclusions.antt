@@ -25,14 +25,14 @@ JudgesSo =
     (j k : SetJudge) (asked : List (Ask × ℕ)) → Answered Judges j asked k →
     Keeps j k × Answered (GivesVerdict (given_by j.view) (judges.programs_of j)) j.state.now asked k.state.now
 
--- the seats fit as before
+-- the seats still fit
 pub fits_after : (p : Policies) (j k : SetJudge) → j.view.maps ≡ p.maps → j.view.worker ≡ p.worker → Keeps j k → (h' : Held) →
     (j.state.ghost_name ≡ k.state.ghost_name → h' ≡ k.state.now) → IsFitting p.maps.now p.worker h'.seats
 fits_after p j k maps worker keeps h' last =
     subst (λ (h : Held). IsFitting p.maps.now p.worker h.seats) (sym (last (sym keeps.state)))
     (rw (keeps.view, maps, worker) at k.fitting)
 
--- what a judge was asked, by the policies that it was made of
+-- the queries of a judge, by the policies of which it was made
 pub at_one : EventsHold Judges → JudgesSo → (p : Policies) (old new : Shard) (event : Event) (j k : SetJudge) (outs : List Out) (h h' : Held) →
     ∥ History (ruled old) (reads old) ∥₁ → Handles Judges old event j outs new k →
     judges.programs_of j ≡ programs_of p → IsGiven p (reads old) (given_by j.view) → j.state.now ≡ h → (j.state.ghost_name ≡ k.state.ghost_name → h' ≡ k.state.now) →

@@ -49,7 +49,7 @@ no_turns (at_its_shard e s es rs ts f t) q = absurd (not_nil e.event es q)
 no_turns (ticked n outs es rs ts t) q = absurd (not_nil (event.Tick n) es q)
 
 module _ (p : Policies) (g : Given) where
-  -- verdicts of the programs on these readings
+  -- the verdicts of the programs on these readings
   pub verdicts : (r : Readings) → IsGiven p r g → (h h' : Held) (asked : List (Ask × ℕ)) → Answered (GivesVerdict g (programs_of p)) h asked h' → AreVerdicts p r asked
   verdicts r given h h' [] same = All-nil (λ (x : Ask × ℕ). IsVerdict p r x.0 x.1)
   verdicts r given h h' (a ∷ asked) answered =
@@ -97,7 +97,7 @@ module _ (p : Policies) (g : Given) where
         (ap (λ (x : List Turn). entries_of s x) (no_turns t (tail_is (event.Tick n) e es [] q)))
         (All-nil (λ (x : Ask × ℕ). IsVerdict p (r s) x.0 x.1)) run
 
--- ---- one after another
+-- ---- appending
 
 module _ (p : Policies) where
   policed_append : (c : Rules) {r mid r2 : Readings} {es fs : List Entry} → PolicedRun p c r es mid → PolicedRun p c mid fs r2 → PolicedRun p c r (es ++ fs) r2
@@ -131,7 +131,7 @@ one_of [] d one = absurd (omega (arith, one))
 one_of (x ∷ []) d one = refl
 one_of (x ∷ y ∷ xs) d one = absurd (omega (arith, one))
 
--- what one event led to
+-- what one event leads to
 pub one_policed : JudgesSo → (p : Policies) (old new : List Shard) (events : List Event) (e : Event) (j k : SetJudge) (results : List (Option (List Out))) →
     length events ≡ 1 → e ≡ get_or events 0 e → RunsAll Judges old events j results new k → judges.programs_of j ≡ programs_of p →
     ((s : ℕ) → shard_of e ≡ Some s → IsGiven p (readings_of old s) (given_by j.view)) → EventsPoliced p old events results new
@@ -160,7 +160,7 @@ module _ {S : Type 0} (R : S → Ask → ℕ → S → Type 0) (law : AccessPoin
         h.identifiers,
       )
 
-  -- shards that had handled nothing
+  -- shards that have handled nothing
   pub from_nobody : (p : Policies) (config : Config) (old new : List Shard) (events : List Event) (results : List (Option (List Out))) →
       AreFresh config old → EventsPoliced p old events results new → HeadlineHolds p config events results
   from_nobody p config old new events results fresh went =

@@ -12,23 +12,22 @@ use Rattle.ap_core.specs.AccessPoints.{rules_of, readings_of}
 use Rattle.uses_policies.specs.declared.policies.Policies.{Policies}
 use Rattle.uses_policies.specs.Policed.{PolicedRun}
 
--- what these events led to at eight shards is told by turns, whose entries are, shard by shard, a link run under the
--- policies
+-- turns give the results of these events at eight shards; the entries of each shard are a link run under the policies
 pub record EventsPoliced (p : Policies) (old : List Shard) (events : List Event) (results : List (Option (List Out))) (new : List Shard) : Type 0 where
   pub turns : List Turn
   pub are : AreTurns events results turns
   pub runs : (s : ℕ) → s < 8 → PolicedRun p (rules_of old s) (readings_of old s) (entries_of s turns) (readings_of new s)
   pub rules : (s : ℕ) → rules_of new s ≡ rules_of old s
 
--- shard s of an access point with this configuration
+-- the rules of shard s of this configuration
 abbrev pub rules_by : Config → ℕ → Rules
 rules_by config s = record { shard = s; config = config }
 
--- The headline of an access point that began with nobody. What came out of each event that was not refused is told by
--- turns. Of each shard the entries are a link run in which each verdict is the R0 of a run, within its budget, of the
--- program accepted for the hook, or the number of the verdict tables. Each frame that is passed up has a source that was
--- associated from its arrival on without a break; of each agreement exactly the accepted numbers below its window were
--- passed up, once each, in rising order; no two stations hold one identifier.
+-- The main theorem of an access point that began with no stations. Turns give the outputs of each event that was not
+-- refused. The entries of each shard are a link run in which each verdict is the R0 of a run, within its budget, of the
+-- program accepted for the hook, or the number of the verdict tables. Each frame that is passed up has a source that
+-- was associated without interruption since its arrival; each agreement has passed up exactly the accepted numbers
+-- below its window, once each, in increasing order; no two stations hold one identifier.
 pub record HeadlineHolds (p : Policies) (config : Config) (events : List Event) (results : List (Option (List Out))) : Type 0 where
   pub turns : List Turn
   pub are : AreTurns events results turns

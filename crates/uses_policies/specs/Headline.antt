@@ -12,10 +12,10 @@ use Rattle.hook_judge.specs.Verdicts.{GivesVerdict}
 use Rattle.uses_policies.specs.declared.policies.Policies.{Policies}
 use Rattle.uses_policies.specs.Policed.{programs_of, IsGiven}
 
--- The headline of an event at a shard that had handled these entries. Each verdict of the new entry is the R0 of a run,
--- within its budget, of the program accepted for the hook, or the number of the verdict tables; over the worker's seats
--- and draw word, which it leaves so; by the clock and the stations of the shard before the event. All the link's laws
--- hold of the entries.
+-- The main theorem of an event at a shard that had handled these entries. Each verdict of the new entry is the R0 of a
+-- run, within its budget, of the program accepted for the hook, or the number of the verdict tables. The programs read
+-- the clock and the stations of the shard before the event, and take the worker's seats and draw word from `h` to `h'`.
+-- All laws of the link hold of the entries.
 pub record EventHolds (p : Policies) (old : Shard) (event : Event) (h : Held) (outs : List Out) (new : Shard) (h' : Held) : Type 0 where
   pub entries : List Entry
   pub before : Run (ruled old) opening entries (reads old)

@@ -14,16 +14,16 @@ use Rattle.uses_policies.specs.declared.policies.Policies.{Policies}
 abbrev pub programs_of : Policies → Programs
 programs_of p = set_of p.set.now.loads
 
--- What the programs read is the worker's: its tables, and of the shard, before the event, the clock and the number of
--- associated stations.
+-- What the programs read: the worker's tables, and the clock and number of associated stations of the shard before the
+-- event.
 pub record IsGiven (p : Policies) (r : Readings) (g : Given) : Type 0 where
   pub maps : g.maps ≡ p.maps.now
   pub worker : g.worker ≡ p.worker
   pub clock : g.clock ≡ r.clock
   pub stations : AreAssociated r.standing g.stations
 
--- The verdict is the R0 of a run, within its budget, of the program that was accepted for the hook, on the frame and
--- the context of the ask; or the number of the verdict tables, where the set has no program for the hook.
+-- The verdict is the R0 of a run, within its budget, of the program accepted for the hook, on the query's frame and
+-- context; or the number of the verdict tables, if the set has no program for the hook.
 pub record IsVerdict (p : Policies) (r : Readings) (ask : Ask) (verdict : ℕ) : Type 0 where
   pub given : Given
   pub is : IsGiven p r given
@@ -31,13 +31,13 @@ pub record IsVerdict (p : Policies) (r : Readings) (ask : Ask) (verdict : ℕ) :
   pub after : Held
   pub gives : GivesVerdict given (programs_of p) before ask verdict after
 
--- each of these verdicts is
+-- each of these is such a verdict
 abbrev pub AreVerdicts : Policies → Readings → List (Ask × ℕ) → Type 0
 AreVerdicts p r asked = All (λ x. IsVerdict p r x.0 x.1) asked
 
 module _ (p : Policies) (c : Rules) where
-  -- the link run of a shard under these policies: entries of which each is a step after those before it, with the
-  -- verdicts of the policies
+  -- the link run of a shard under these policies: each entry is a step after those before it, with the policies'
+  -- verdicts
   pub data PolicedRun : Readings → List Entry → Readings → Type 0 where
     no_entry : (r : Readings) → PolicedRun r [] r
     policed : (r mid r2 : Readings) (e : Entry) (later : List Entry) →

@@ -16,7 +16,7 @@ use bpf_helpers::{WorkerState, WorkerView};
 use hook_judge::{SetJudge, judging_law};
 use std::alloc::{AllocError, Global};
 
-/// What a worker's programs read, of the shard that an event concerns.
+/// What a worker's programs read of the shard that an event concerns.
 fn view_at<'t>(shards: &[Shard; 8], event: &Event, policies: Policies<'_, 't>) -> WorkerView<'t>
     ensures maps { result.maps ≡ policies.entry.maps }
     ensures worker { result.worker ≡ policies.entry.worker }
@@ -29,7 +29,7 @@ fn view_at<'t>(shards: &[Shard; 8], event: &Event, policies: Policies<'_, 't>) -
     }
 }
 
-/// Handles one event, which is in a list of its own, at the shards that it concerns.
+/// Handles one event, in a list of its own, at the shards that it concerns.
 fn decide_at(
     alloc: Global,
     shards: &mut [Shard; 8],
@@ -53,9 +53,9 @@ fn decide_at(
     Ok(results)
 }
 
-/// Handles a list of events at any eight shards in their places, judged by a worker's policies, whatever other seats do
-/// to the maps meanwhile: their entries are link runs in which each verdict is that of the policies. The policies are
-/// one set for the whole list.
+/// Handles a list of events at any eight shards, each at the index of its number, where they stay, judged by a worker's
+/// policies. If it succeeds, then whatever other seats do to the maps meanwhile, the entries of each shard are a link
+/// run in which each verdict is that of the policies. One set judges the whole list.
 pub fn go_on(
     alloc: Global,
     shards: &mut [Shard; 8],
@@ -79,12 +79,12 @@ pub fn go_on(
     Ok(results)
 }
 
-/// Handles a list of events at an access point that began with nobody, judged by a worker's policies. Whatever the
-/// events are, and whatever other seats do to the maps meanwhile, the whole headline holds: no program meets a fault or
-/// passes its budget; what came out is that of the link under these verdicts; no data of a station that was not
-/// associated is passed up; each agreement passes up exactly its accepted numbers below its window, once each, in
-/// rising order. One set judges the whole list. Where programs are loaded between events, or where the worker's draw
-/// word and accesses are followed from event to event, `decide` handles one event by the set of its own.
+/// Handles a list of events at a new access point, judged by a worker's policies. If it succeeds, then for all events,
+/// and whatever other seats do to the maps meanwhile, the main theorem holds: no program faults or exceeds its budget;
+/// the outputs are the link's under these verdicts; no data of a station that was not associated is passed up; each
+/// agreement has passed up exactly its accepted numbers below its window, once each, in increasing order; and no two
+/// stations hold one identifier. One set judges the whole list. To load programs between events, or to follow the
+/// worker's draw word and accesses from event to event, call `decide`, which handles one event by its own set.
 pub fn serve(
     alloc: Global,
     config: &LinkConfig,

@@ -1,5 +1,5 @@
-//! The access point under verified programs, as its callers use it: what they may conclude of programs and link
-//! together, proved of functions that only call the crates below.
+//! What callers of the access point may conclude of verified programs and link together, as contracts of functions that
+//! only call lower crates.
 #![tactic(auto)]
 
 mod eight;

@@ -13,7 +13,7 @@ use bpf_helpers::{WorkerState, WorkerView};
 use hook_judge::{SetJudge, judging_law};
 use std::alloc::{AllocError, Global};
 
-/// What a worker's programs read, of this shard.
+/// What a worker's programs read of this shard.
 pub fn view_of<'t>(shard: &Shard, policies: Policies<'_, 't>) -> WorkerView<'t>
     ensures maps { result.maps ≡ policies.entry.maps }
     ensures worker { result.worker ≡ policies.entry.worker }
@@ -28,9 +28,10 @@ pub fn view_of<'t>(shard: &Shard, policies: Policies<'_, 't>) -> WorkerView<'t>
     }
 }
 
-/// Handles an event at any one shard, judged by a worker's policies: the whole headline of its entries, whatever other
-/// seats do to the maps meanwhile. Each event may have a set of its own, so loads may come between them; the worker's
-/// state goes on from event to event. An event that is refused for memory changes nothing and asks nothing.
+/// Handles an event at any one shard, judged by a worker's policies. If it succeeds, the main theorem holds of the
+/// shard's entries, whatever other seats do to the maps meanwhile. Each event may have its own set, so programs may be
+/// loaded between events; the worker's state continues from event to event. An event that is refused for lack of memory
+/// leaves shard and state unchanged.
 pub fn decide(
     alloc: Global,
     shard: &mut Shard,

@@ -1,4 +1,4 @@
-//! What comes of events under programs: rows by `serve`, and by `decide` where something happens between two events.
+//! Results of events under programs: rows by `serve`, and by `decide` if something happens between two events.
 
 ghost use Rattle.std.specs.Prelude.{◌≡◌};
 ghost use Rattle.bpf_helpers.specs.Hooked.{IsFitting};
@@ -17,7 +17,7 @@ use std::alloc::Global;
 use std::process::Abort;
 use std::sync::Wait;
 
-/// What each event of a list led to, or None where it was refused.
+/// The outputs of each event of a list, or None if it was refused.
 type Results = Vec<Option<Vec<Out>>>;
 
 /// The station authenticates, associates, sets up an agreement and sends data.
@@ -30,7 +30,7 @@ fn events(rt: &impl Abort, alloc: Global) -> [Event; 4] {
     ]
 }
 
-/// What these events lead to under a worker's policies.
+/// The results of these events under a worker's policies.
 fn served(
     rt: &impl Abort,
     alloc: Global,
@@ -44,7 +44,7 @@ fn served(
     serve(alloc, &config, &events, policies, state).expect(rt, "memory")
 }
 
-/// What these events lead to under the programs of these texts.
+/// The results of these events under the programs of these texts.
 fn led<R: Wait + Abort>(rt: &R, alloc: Global, texts: Texts<'_>) -> Results {
     let Seated {
         maps: tables,
@@ -63,12 +63,12 @@ fn led<R: Wait + Abort>(rt: &R, alloc: Global, texts: Texts<'_>) -> Results {
     results
 }
 
-/// The outs of the event at this place.
+/// The outputs of the event at this index.
 fn outs_at(results: &[Option<Vec<Out>>], place: usize) -> Option<&[Out]> {
     Some(results.get(place)?.as_ref()?.as_slice())
 }
 
-/// The field at this byte of the one frame that is sent after the event at this place.
+/// The field at this byte of the only frame that is sent after the event at this index.
 fn field(results: &[Option<Vec<Out>>], place: usize, at: usize) -> Option<u16> {
     let [Out::Send(sent)] = outs_at(results, place)? else {
         return None;
@@ -79,7 +79,7 @@ fn field(results: &[Option<Vec<Out>>], place: usize, at: usize) -> Option<u16> {
     }
 }
 
-/// The one frame that is passed up.
+/// The only frame that is passed up.
 fn passed(outs: &[Out]) -> Option<&Up> {
     match outs {
         [Out::Up(up)] => Some(up),
@@ -87,12 +87,12 @@ fn passed(outs: &[Out]) -> Option<&Up> {
     }
 }
 
-/// The mark of the one frame that is passed up.
+/// The mark of the only frame that is passed up.
 fn mark_of(outs: &[Out]) -> Option<u8> {
     Some(passed(outs)?.mark)
 }
 
-/// The same, after the event at this place.
+/// The same, after the event at this index.
 fn mark_at(results: &[Option<Vec<Out>>], place: usize) -> Option<u8> {
     mark_of(outs_at(results, place)?)
 }
@@ -116,7 +116,7 @@ fn data_is_passed_up_with_its_mark(rt: HostRuntime) {
     same(&rt, up.body.bytes(), b"hello".as_slice(), "body");
 }
 
-/// What the events lead to: the status of the association; the status and the parameters of the agreement, with the
+/// The results of the events: the status of the association; the status and the parameters of the agreement, with the
 /// size from bit 6 on; and the mark of the data.
 #[derive(Clone, Copy)]
 struct Answers {
@@ -125,7 +125,7 @@ struct Answers {
     mark: Option<u8>,
 }
 
-/// What the events lead to under the programs of these texts.
+/// The same, under the programs of these texts.
 fn answered<R: Wait + Abort>(rt: &R, alloc: Global, texts: Texts<'_>) -> Answers {
     let results = led(rt, alloc, texts);
     Answers {
@@ -190,7 +190,7 @@ fn addba_programs_give_sizes(rt: HostRuntime) {
     }
 }
 
-/// Data programs, and the mark that each gives, None where it drops.
+/// Data programs, and the mark that each gives, None if it drops.
 const MARKS: &[(&str, Option<u8>)] = &[
     ("mov r0, 0\nexit", Some(0)),
     ("mov r0, 1280\nexit", Some(0)),
@@ -211,13 +211,13 @@ fn data_programs_mark_and_drop(rt: HostRuntime) {
     }
 }
 
-/// Answers the number in word 0 of map 0.
+/// Returns the number in word 0 of map 0.
 const LOAD: &str = "lddw r1, value 0 0\nldxdw r0, [r1+0]\nexit";
 
 /// Adds 1 to word 0 of map 0.
 const COUNT: &str = "lddw r1, value 0 0\nmov r2, 1\natomic_add [r1+0], r2\nmov r0, 0\nexit";
 
-/// A frame comes to a shard, which is asked for no verdict but those of the tables.
+/// Handles a frame at a shard, with the verdicts of the tables.
 fn comes(rt: &impl Abort, alloc: Global, shard: &mut Shard, digits: &str) {
     let event = frame(rt, alloc, digits);
     let mut judge = ListJudge::new(&[]);
@@ -264,8 +264,8 @@ fn count(rt: &impl Abort, alloc: Global, maps: &[MapTables], state: &mut WorkerS
     run_hook(&count, &received, &Context::new([0; 32]), view, state);
 }
 
-/// The mark of a data frame under a set of no more than this data program, and of another one after a second seat added
-/// 1 to word 0 of map 0.
+/// The marks of two data frames under a set with this data program alone. Between them, a second seat adds 1 to word 0
+/// of map 0.
 fn marks<R: Wait + Abort>(
     rt: &R,
     alloc: Global,
@@ -300,7 +300,7 @@ fn a_store_between_two_events_changes_the_verdict(rt: HostRuntime) {
     let mut shard = joined(&rt, rt.alloc());
     let marks = marks(&rt, rt.alloc(), &mut shard, Some(LOAD));
     same(&rt, marks, [Some(0), None], "marks");
-    // Given up by a call, since a shard has many parts.
+    // Freed by a call, since a shard has many parts.
     drop(shard);
 }
 
@@ -311,6 +311,6 @@ fn a_shard_goes_on_under_another_set(rt: HostRuntime) {
     same(&rt, marked, [Some(5); 2], "marked");
     let plain = marks(&rt, rt.alloc(), &mut shard, None);
     same(&rt, plain, [Some(0); 2], "without a program");
-    // Given up by a call, since a shard has many parts.
+    // Freed by a call, since a shard has many parts.
     drop(shard);
 }

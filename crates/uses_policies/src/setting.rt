@@ -1,4 +1,4 @@
-//! What the tests begin with: frames of station `02000000000a` to the access point `020000000001`, a worker's seat at a
+//! The setting of the tests: frames of station `02000000000a` to the access point `020000000001`, a worker's seats of a
 //! map, and sets of programs for that map.
 
 ghost use Rattle.std.specs.Prelude.{◌≡◌};
@@ -25,7 +25,7 @@ pub const AUTHENTICATION: &str =
 pub const ASSOCIATION: &str =
     "00000000 020000000001 02000000000a 020000000001 2000 0100 0a00 0003 6c6162 0104 82848b96";
 
-/// For TID 0, an immediate policy and size 8, from number 100 on, with no timeout.
+/// For TID 0, an immediate policy and size 8, from number 100 on, without timeout.
 pub const SETUP: &str =
     "d0000000 020000000001 02000000000a 020000000001 4000 0300 07 0202 0000 4006";
 
@@ -88,7 +88,7 @@ fn one_map(rt: &impl Abort, alloc: Global) -> Vec<MapTables>
     vec![in alloc; map].expect(rt, "memory")
 }
 
-/// The next two seats of worker 0 at each of its tables.
+/// The next two seats of worker 0 at each table of these maps.
 fn seats_at(rt: &impl Abort, alloc: Global, maps: &mut [MapTables]) -> (WorkerState, WorkerState)
     requires there { HaveTables maps.old 0 }
     ensures one { IsFitting maps.new 0 result.0.seats }
@@ -118,7 +118,7 @@ fn shapes_of(rt: &impl Abort, alloc: Global, maps: &[MapTables]) -> Shapes
     Shapes::new(shapes).expect(rt, "maps within the limits")
 }
 
-/// The program of this text, over these maps.
+/// The accepted program of this text, over these maps.
 pub fn admitted(
     rt: &impl Abort,
     alloc: Global,
@@ -134,7 +134,7 @@ pub fn admitted(
     verify(alloc, program, hook).expect(rt, text)
 }
 
-/// The programs' texts, by their hooks.
+/// The programs' texts, by hook.
 #[derive(Clone, Copy)]
 pub struct Texts<'a> {
     pub association: Option<&'a str>,
@@ -148,7 +148,7 @@ pub const NO_TEXTS: Texts<'static> = Texts {
     frames: None,
 };
 
-/// Publishes the program of a text for its hook, over these maps, or none where there is no text.
+/// Publishes the program of a text for its hook, over these maps; if there is no text, removes the hook's program.
 fn publish<R: Wait + Abort>(
     rt: &R,
     alloc: Global,
@@ -171,7 +171,7 @@ fn publish<R: Wait + Abort>(
     holds(rt, published.is_ok(), "the program is published");
 }
 
-/// A set of the programs of these texts, over these maps, that a reader holds, and its publisher.
+/// A set of the programs of these texts, over these maps, entered by a reader, and its publisher.
 pub fn entered<R: Wait + Abort>(
     rt: &R,
     alloc: Global,
@@ -196,7 +196,7 @@ pub fn entered<R: Wait + Abort>(
     (publisher, held)
 }
 
-/// The reader leaves, and then the publisher ends.
+/// The reader leaves, and then the publisher closes.
 pub fn end<R: Wait>(rt: &R, publisher: Publisher, held: Entered) {
     drop(held.leave());
     drop(publisher.close(rt));

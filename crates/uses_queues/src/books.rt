@@ -10,8 +10,8 @@ use std::alloc::Global;
 use std::marker::Brand;
 use std::process::Abort;
 
-/// What the books of shard 3 have counted after one holder counted these outs, and the other the same
-/// with a drop and then an event without outs.
+/// What the books of shard 3 have counted after one holder counts these outputs, and the other the same with a drop,
+/// and then an event without outputs.
 fn counted<B: Ledgers>(blanks: Blanks, outs: &[Out]) -> Totals
     requires named { AreNamed (B.name_of 3) blanks }
     requires parts { AreInParts B.shares blanks }

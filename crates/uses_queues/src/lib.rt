@@ -1,4 +1,4 @@
-//! The queues of all workers, the tables of their maps and the books of a shard in use, shown by tests.
+//! Tests of the workers' queues, the tables of their maps and the books of a shard.
 #![tactic(auto)]
 
 #[cfg(test)]

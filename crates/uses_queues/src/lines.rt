@@ -18,7 +18,7 @@ fn frame(rt: &impl Abort, alloc: Global) -> Event {
     Event::Frame(Octets::copy(alloc, &[9; 16]).expect(rt, "memory"))
 }
 
-/// Whether so many frames for shard 1 were put, one after the other.
+/// Whether `count` frames for shard 1 could be put.
 fn put_frames<R: Wait + Abort>(
     rt: &R,
     alloc: Global,
@@ -37,7 +37,7 @@ fn put_frames<R: Wait + Abort>(
     right
 }
 
-/// Whether a frame came back, with 61 and this shard.
+/// Whether a frame was returned, with 61 and this shard.
 fn is_back(answer: Result<(), Unserved>, shard: u16) -> bool {
     let Some(back) = answer.err() else {
         return false;
@@ -45,7 +45,7 @@ fn is_back(answer: Result<(), Unserved>, shard: u16) -> bool {
     matches!(back.event, Event::Frame(_)) && back.number() == 61 && back.shard == shard
 }
 
-/// Whether a tick of so many units came back, with this shard as the first that was not told of it.
+/// Whether a tick of `units` units was returned, with this shard as the first that did not get it.
 fn is_left(answer: Result<(), Unserved>, units: u32, shard: u16) -> bool {
     let Some(left) = answer.err() else {
         return false;
@@ -53,7 +53,7 @@ fn is_left(answer: Result<(), Unserved>, units: u32, shard: u16) -> bool {
     matches!(left.event, Event::Tick(number) if number == units) && left.shard == shard
 }
 
-/// Whether so many items come from the queue, which then is empty.
+/// Whether the queue has exactly `count` items.
 fn has<R: Wait>(rt: &R, queue: &EventQueue, worker: &mut WorkerPass, count: u64) -> bool
     requires { IsWorkerOf queue.now worker.old }
     ensures { IsWorkerOf queue.now worker.new }
@@ -65,7 +65,7 @@ fn has<R: Wait>(rt: &R, queue: &EventQueue, worker: &mut WorkerPass, count: u64)
     right && queue.take(rt, worker).is_none()
 }
 
-/// How many operators get passes, of ten that ask.
+/// How many of ten operators get queue handles, and the last refusal.
 fn count_operators(
     alloc: Global,
     lines: &EventLines,
@@ -85,7 +85,7 @@ fn count_operators(
     (count, last)
 }
 
-/// The queues of so many workers, and all their passes.
+/// The queues of `workers` workers, and all their handles.
 fn opened(rt: &impl Abort, alloc: Global, workers: usize) -> (EventLines, LinePasses)
     requires { 0 < workers }
     ensures workers { length result.0 ≡ workers }
@@ -94,7 +94,7 @@ fn opened(rt: &impl Abort, alloc: Global, workers: usize) -> (EventLines, LinePa
     EventLines::open(alloc, workers).expect(rt, "queues")
 }
 
-/// The queues of two workers, with the passes of an operator, by whom 256 frames for shard 1 were put.
+/// The queues of two workers, and the handles of an operator that has put 256 frames for shard 1.
 fn filled<R: Wait + Abort>(rt: &R, alloc: Global) -> (EventLines, LinePasses, OperatorLines)
     ensures workers { length result.0 ≡ 2 }
     ensures left { ArePassesOf result.0 result.1 }

@@ -13,7 +13,7 @@ use std::thread::{Threads, join, yield_now};
 /// How many events go from one thread to the other.
 const EVENTS: u64 = 100_000;
 
-/// A tick for a shard, as many units as its call's number.
+/// A tick for a shard, with as many units as its call's number.
 fn item(call: u64) -> Item {
     Item {
         call,
@@ -22,7 +22,7 @@ fn item(call: u64) -> Item {
     }
 }
 
-/// Whether each call was put, one after the other, as long as the queue took them.
+/// Whether each call could be put, one after the other.
 fn put_all<R: Wait>(rt: &R, queue: &EventQueue, operator: &mut OperatorPass, calls: u64) -> bool
     requires { IsOperatorOf queue.now operator.old }
     ensures { IsOperatorOf queue.now operator.new }
@@ -72,7 +72,7 @@ fn takes<R: Wait>(
     is_item(queue.take(rt, worker), operator, call)
 }
 
-/// Whether as many items of the first operator come in their order, from call 1 on.
+/// Whether `calls` items of the first operator come in order, from call 1 on.
 fn takes_all<R: Wait>(rt: &R, queue: &EventQueue, worker: &mut WorkerPass, calls: u64) -> bool
     requires { IsWorkerOf queue.now worker.old }
     ensures { IsWorkerOf queue.now worker.new }
@@ -84,7 +84,7 @@ fn takes_all<R: Wait>(rt: &R, queue: &EventQueue, worker: &mut WorkerPass, calls
     right
 }
 
-/// The operators of a queue that are left.
+/// How many operators the queue has left, of at most ten.
 fn count_operators(queue: &EventQueue, maker: &mut PassMaker) -> u32
     requires { IsMakerOf queue.now maker.old }
     ensures { IsMakerOf queue.now maker.new }
@@ -98,7 +98,7 @@ fn count_operators(queue: &EventQueue, maker: &mut PassMaker) -> u32
     count
 }
 
-/// A queue, what makes its operators, and its worker's pass.
+/// A queue, the maker of its operators' handles, and its worker's handle.
 fn opened(rt: &impl Abort, alloc: Global) -> (EventQueue, PassMaker, WorkerPass)
     ensures maker { IsMakerOf result.0 result.1 }
     ensures worker { IsWorkerOf result.0 result.2 }
@@ -106,7 +106,7 @@ fn opened(rt: &impl Abort, alloc: Global) -> (EventQueue, PassMaker, WorkerPass)
     EventQueue::open(alloc).expect(rt, "a queue")
 }
 
-/// The pass of the next operator.
+/// The handle of the next operator.
 fn operator(rt: &impl Abort, queue: &EventQueue, maker: &mut PassMaker) -> OperatorPass
     requires { IsMakerOf queue.now maker.old }
     ensures maker { IsMakerOf queue.now maker.new }
@@ -139,7 +139,7 @@ fn take<R: Wait + Abort>(
     holds(rt, is_taken, "an item is taken");
 }
 
-/// What comes back where an item isn't put: the number of the refusal, the call, the shard and the units.
+/// What is returned if an item can't be put: the number of the refusal, the call, the shard and the units.
 fn handed_back<R: Wait>(
     rt: &R,
     queue: &EventQueue,
@@ -187,7 +187,7 @@ fn there_are_eight_operators(rt: HostRuntime) {
     same(&rt, count_operators(&queue, &mut maker), 8, "operators");
 }
 
-/// Puts each call in turn, and tries again while the queue is full.
+/// Puts each call in order, and retries while the queue is full.
 fn put_patiently<R: Wait>(rt: &R, queue: &EventQueue, operator: &mut OperatorPass)
     requires { IsOperatorOf queue.now operator.old }
 {
@@ -203,7 +203,7 @@ fn put_patiently<R: Wait>(rt: &R, queue: &EventQueue, operator: &mut OperatorPas
     }
 }
 
-/// Whether the calls come in their order.
+/// Whether the calls come in order.
 fn take_patiently<R: Wait>(rt: &R, queue: &EventQueue, worker: &mut WorkerPass) -> bool
     requires { IsWorkerOf queue.now worker.old }
 {
@@ -224,7 +224,7 @@ fn take_patiently<R: Wait>(rt: &R, queue: &EventQueue, worker: &mut WorkerPass) 
     right
 }
 
-/// Whether what one thread puts another takes in its order.
+/// Whether one thread takes in order what another puts.
 fn goes_through<R: Threads + Wait + Sync>(
     rt: &R,
     queue: &EventQueue,

@@ -33,7 +33,7 @@ fn two_maps(rt: &impl Abort, alloc: Global) -> ApTables
     ApTables::new(alloc, &shapes, 2).expect(rt, "memory")
 }
 
-/// Stores a number in a word of a shared map, and loads it.
+/// Stores a number in a word of a shared map, and loads it again.
 fn stored(tables: &ApTables, operator: &mut OperatorSeats, value: u64) -> Option<u64>
     requires { AreOperators tables.now.maps operator.old }
     ensures { AreOperators tables.now.maps operator.new }
@@ -45,7 +45,7 @@ fn stored(tables: &ApTables, operator: &mut OperatorSeats, value: u64) -> Option
     Some(tables.read(operator, 0, 0))
 }
 
-/// A worker's program stores a number in the word of the worker's map.
+/// A worker's program stores a number in the word of the worker map.
 fn put(tables: &ApTables, worker: usize, state: &mut WorkerState, value: u64)
     requires fitting { IsFitting tables.now.maps worker state.old.seats }
     requires there { Names scopes.Worker tables.now.maps 1 0 }
@@ -60,7 +60,7 @@ fn put(tables: &ApTables, worker: usize, state: &mut WorkerState, value: u64)
     port.access(1, 0, MapOp::Store(value));
 }
 
-/// The sum of the word of the worker's map, after both workers stored a number there.
+/// The sum of the word of the worker map, after both workers stored a number there.
 fn summed(
     tables: &ApTables,
     operator: &mut OperatorSeats,
@@ -79,7 +79,7 @@ fn summed(
     Some(tables.sum(operator, 1, 0))
 }
 
-/// What a worker of the tables has.
+/// The state of a worker of the tables.
 fn worker(rt: &impl Abort, alloc: Global, tables: &mut ApTables, number: usize) -> WorkerState
     requires there { number < tables.old.workers }
     ensures tables { KeepTables tables.old.maps tables.new.maps }

@@ -9,7 +9,7 @@ use std::process::Abort;
 
 const ZEROS: [u8; 8] = [0; 8];
 
-/// Whether an opcode is known: its slot of zeros is read, or has a width of 0 bits.
+/// Whether an opcode is known: with zero fields it is an instruction, or lacks only a width.
 fn is_known(opcode: u8) -> bool {
     match Insn::from_slots([opcode, 0, 0, 0, 0, 0, 0, 0], Some(ZEROS)) {
         Ok(_) => true,
@@ -38,7 +38,7 @@ fn opcodes_are_119_or_unknown(rt: HostRuntime) {
     );
 }
 
-/// A slot is read as its instruction, and what was read is written as that slot.
+/// A slot is read as this instruction, which is written as that slot.
 fn is_read(rt: &impl Abort, slot: [u8; 8], insn: Insn) {
     let read = Insn::from_slots(slot, None);
     same(rt, (slot, read), (slot, Ok(insn)), "read");
@@ -267,10 +267,10 @@ fn wide_loads_are_read_as_the_tables_say(rt: HostRuntime) {
 fn the_lowest_fault_is_named(rt: HostRuntime) {
     let faults = [
         ([0x00, 0, 0, 0, 0, 0, 0, 0], FieldFault::UnknownOpcode),
-        // Register 11, with an unused field set.
+        // Register 11, with an unused field set as well.
         ([0x0f, 0x0b, 1, 0, 0, 0, 0, 0], FieldFault::HighRegister),
         ([0x0f, 0x00, 1, 0, 0, 0, 0, 0], FieldFault::UnusedSet),
-        // A move of a number with an offset, and of a register with one that means nothing.
+        // A move of a number with an offset, and of a register with an undefined offset.
         ([0xb7, 0x00, 8, 0, 0, 0, 0, 0], FieldFault::UnusedSet),
         ([0xbf, 0x00, 9, 0, 0, 0, 0, 0], FieldFault::Undefined),
         // 32 bits aren't extended to 32.
@@ -283,7 +283,7 @@ fn the_lowest_fault_is_named(rt: HostRuntime) {
         let read = Insn::from_slots(slot, None);
         same(&rt, (slot, read), (slot, Err(fault)), "fault");
     }
-    // A map whose second half has a number, and one that begins with an opcode.
+    // A map whose second half has a number, and one whose second half has an opcode.
     let map = [0x18, 0x50, 0, 0, 0, 0, 0, 0];
     same(
         &rt,

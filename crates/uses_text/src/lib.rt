@@ -1,4 +1,5 @@
-//! Instructions, code and text of programs, by rows from outside: the tables of RFC 9669, code with faults, and lines.
+//! Tests of instructions, code and text of programs against outside rows: the tables of RFC 9669, code with faults, and
+//! lines.
 #![tactic(auto)]
 
 #[cfg(test)]

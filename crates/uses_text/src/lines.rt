@@ -1,12 +1,12 @@
-//! Lines that are read and written again, and lines with faults.
+//! Lines that are read and written again, and faulty lines.
 
 use crate::same::same;
 use bpf_line::{InsnText, LineFault, read_line};
 use std::alloc::Global;
 use std::process::Abort;
 
-/// The line is written as this text, once it is read: empty where it says nothing, `?` where it is
-/// not in the grammar, `#` where a number is out of range.
+/// The line is read, and then written as this text: empty if it has no instruction, `?` if it isn't
+/// in the grammar, `#` if a number is out of range.
 fn is_again(rt: &impl Abort, alloc: Global, line: &str, text: &str) {
     match read_line(line) {
         Ok(Some(insn)) => {
@@ -19,7 +19,7 @@ fn is_again(rt: &impl Abort, alloc: Global, line: &str, text: &str) {
     }
 }
 
-/// Each form, written as it is read.
+/// Each form, as it is written.
 const FORMS: [&str; 31] = [
     "add r0, r1",
     "add32 r10, -5",
@@ -54,7 +54,7 @@ const FORMS: [&str; 31] = [
     "lddw r1, value 0 8",
 ];
 
-/// Spaces, comments and other spellings, and what they are written as.
+/// Spaces, comments and other spellings, and how they are written again.
 const SPELLINGS: [(&str, &str); 10] = [
     ("", ""),
     ("   # a comment", ""),

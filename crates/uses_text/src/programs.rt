@@ -1,4 +1,4 @@
-//! Decoding and encoding, on code from outside.
+//! Decoding and encoding of outside code.
 
 use crate::same::same;
 use bpf_decode::{DecodeFault, Program, SlotFault, decode, encode, jump_target};
@@ -13,8 +13,8 @@ const NUMBER: [u8; 8] = [0x18, 0, 0, 0, 1, 0, 0, 0];
 
 const HALF: [u8; 8] = [0; 8];
 
-/// A load from the frame behind a test of the frame's end: mov r3, r1; add r3, 26; mov r0, 0; jgt r3, r2, +1;
-/// ldxb r0, [r1+24]; exit.
+/// A load from the frame after a test of the frame's end: mov r3, r1; add r3, 26; mov r0, 0; jgt r3, r2, +1; ldxb r0,
+/// [r1+24]; exit.
 const GUARDED_LOAD: [[u8; 8]; 6] = [
     [0xbf, 0x13, 0, 0, 0, 0, 0, 0],
     [0x07, 0x03, 0, 0, 0x1a, 0, 0, 0],
@@ -42,7 +42,7 @@ fn two_maps(rt: &impl Abort, alloc: Global) -> Shapes {
     Shapes::new(two).expect(rt, "two maps")
 }
 
-/// Slots one after the other.
+/// The bytes of slots.
 fn joined(rt: &impl Abort, alloc: Global, slots: &[[u8; 8]]) -> Vec<u8> {
     let mut code = Vec::new(alloc);
     for slot in slots {
@@ -57,13 +57,13 @@ fn program_of(rt: &impl Abort, alloc: Global, slots: &[[u8; 8]]) -> Program {
     decode(alloc, &code, two_maps(rt, alloc)).expect(rt, "a program")
 }
 
-/// What its encoding is.
+/// The encoding of that program.
 fn encoded(rt: &impl Abort, alloc: Global, slots: &[[u8; 8]]) -> Vec<u8> {
     let program = program_of(rt, alloc, slots);
     encode(alloc, &program).expect(rt, "memory")
 }
 
-/// The number and the slot of the fault of bytes; (0, 0) if they have none.
+/// The number and the slot of the fault of code; (0, 0) if it has none.
 fn fault_in(rt: &impl Abort, alloc: Global, code: &[u8]) -> (u8, usize) {
     match decode(alloc, code, two_maps(rt, alloc)) {
         Ok(_) => (0, 0),
@@ -127,7 +127,7 @@ fn the_longest_code_has_16384_slots(rt: HostRuntime) {
     same(&rt, fault_in(&rt, rt.alloc(), &code), (0, 0), "fault");
     code.extend_from_slice(&EXIT).expect(&rt, "memory");
     same(&rt, fault_in(&rt, rt.alloc(), &code), (3, 0), "fault");
-    // A length that is no multiple of 8 comes first.
+    // A length that isn't a multiple of 8 is found first.
     let _ = code.pop();
     same(&rt, fault_in(&rt, rt.alloc(), &code), (1, 0), "fault");
 }
@@ -139,7 +139,7 @@ const FOUR_SLOTS: [([[u8; 8]; 4], (u8, usize)); 18] = [
     ([EXIT, EXIT, EXIT, [0x05, 0, 0, 0, 0, 0, 0, 0]], (15, 3)),
     // A wide load in the last slot.
     ([EXIT, EXIT, EXIT, [0x18, 0, 0, 0, 0, 0, 0, 0]], (14, 3)),
-    // A wide load of R10, a move to R10, an exchange with R10; a compare and exchange may name it.
+    // A wide load of R10, a move to R10, an exchange with R10. A compare and exchange may name R10.
     ([[0x18, 0x0a, 0, 0, 0, 0, 0, 0], HALF, EXIT, EXIT], (17, 0)),
     ([EXIT, [0xb7, 0x0a, 0, 0, 0, 0, 0, 0], EXIT, EXIT], (17, 1)),
     (
@@ -157,7 +157,7 @@ const FOUR_SLOTS: [([[u8; 8]; 4], (u8, usize)); 18] = [
         [[0x85, 0, 0, 0, 0xff, 0xff, 0xff, 0xff], EXIT, EXIT, EXIT],
         (18, 0),
     ),
-    // Map 2, and in map 0 byte 8; byte 7 is there.
+    // Map 2, and byte 8 of map 0, which don't exist; byte 7 exists.
     ([[0x18, 0x51, 0, 0, 2, 0, 0, 0], HALF, EXIT, EXIT], (19, 0)),
     (
         [
@@ -177,10 +177,11 @@ const FOUR_SLOTS: [([[u8; 8]; 4], (u8, usize)); 18] = [
         ],
         (0, 0),
     ),
-    // Two faults at one slot, the lowest counts: a write to R10 by a load that names no map; past the end.
+    // Two faults at one slot, of which the lower number counts: a write to R10 by a load of an unknown map; a jump past
+    // the end.
     ([EXIT, EXIT, [0x18, 0x5a, 0, 0, 2, 0, 0, 0], HALF], (16, 2)),
     ([[0x18, 0x5a, 0, 0, 2, 0, 0, 0], HALF, EXIT, EXIT], (17, 0)),
-    // A fault at a low slot comes before one with a low number further on.
+    // A fault at a lower slot comes before one with a lower number.
     (
         [[0x85, 0, 0, 0, 6, 0, 0, 0], [0xff; 8], EXIT, EXIT],
         (18, 0),
@@ -207,7 +208,7 @@ fn the_lowest_slot_then_the_lowest_number_decides(rt: HostRuntime) {
 
 #[test]
 fn a_local_call_may_not_end_the_code(rt: HostRuntime) {
-    // A call of itself with nothing after it, and with an exit.
+    // A call of itself, with nothing after it, and with an exit.
     let itself = [0x85, 0x10, 0, 0, 0xff, 0xff, 0xff, 0xff];
     same(&rt, fault_of(&rt, rt.alloc(), &[itself]), (16, 0), "fault");
     same(
@@ -262,7 +263,7 @@ fn jumps_count_from_the_next_slot(rt: HostRuntime) {
     same(&rt, jump_target(3, -5), None, "jump target");
 }
 
-/// A fault is told with this text.
+/// A fault has this text.
 fn is_told(rt: &impl Abort, alloc: Global, fault: DecodeFault, text: &str) {
     let told = fault.to_string(alloc).expect(rt, "memory");
     same(rt, told.as_str(), text, "told");

@@ -1,4 +1,4 @@
-//! Each constructor once, at the ends of its limits.
+//! Calls each constructor at its limits.
 
 use crate::same::{holds, same};
 use bpf_regions::{Context, Frame, Hook, Scope, Shape, Shapes, Value, WordWidth};
@@ -14,7 +14,7 @@ fn shape(entries: u32, words: u32) -> Shape {
     }
 }
 
-/// Whether these are the shapes of a program's maps.
+/// Whether these shapes can be a program's maps.
 fn are_shapes(rt: &impl Abort, alloc: Global, shapes: &[Shape]) -> bool {
     Shapes::new(Vec::from_slice(alloc, shapes).expect(rt, "memory")).is_some()
 }

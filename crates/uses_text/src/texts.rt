@@ -7,7 +7,7 @@ use bpf_text::{AsmFault, assemble, disassemble};
 use std::alloc::Global;
 use std::process::Abort;
 
-/// A test whether a frame has 26 bytes, before its byte 24 is read.
+/// A test that a frame has 26 bytes, before its byte 24 is read.
 const FRAME_TEST: [u8; 48] = [
     0xbf, 0x13, 0, 0, 0, 0, 0, 0, 0x07, 0x03, 0, 0, 0x1a, 0, 0, 0, 0xb7, 0, 0, 0, 0, 0, 0, 0, 0x2d,
     0x23, 0x01, 0, 0, 0, 0, 0, 0x71, 0x10, 0x18, 0, 0, 0, 0, 0, 0x95, 0, 0, 0, 0, 0, 0, 0,

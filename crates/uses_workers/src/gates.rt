@@ -1,31 +1,31 @@
-//! Gates that hold and stop workers, and the signs that threads give each other.
+//! Gates that hold and stop workers, and the signals between threads.
 
 use ap_tagged::Gate;
 use std::sync::atomic::AtomicU64;
 use std::sync::atomic::Ordering::SeqCst;
 use std::thread;
 
-/// A sign that one thread gives another.
+/// A signal from one thread to another.
 #[derive(Drop)]
 pub struct Sign(AtomicU64);
 
 impl Sign {
-    /// A sign that was not given yet.
+    /// A signal that isn't given yet.
     pub fn new() -> Sign {
         Sign(AtomicU64::new(0))
     }
 
-    /// Gives the sign.
+    /// Gives the signal.
     pub fn give(&self) {
         self.0.store(1, SeqCst);
     }
 
-    /// Whether it was given.
+    /// Whether it has been given.
     pub fn is_given(&self) -> bool {
         self.0.load(SeqCst) != 0
     }
 
-    /// Waits for the sign.
+    /// Waits for the signal.
     pub fn wait(&self) {
         for _ in 0..u64::MAX {
             if self.is_given() {
@@ -36,7 +36,7 @@ impl Sign {
     }
 }
 
-/// Holds the worker that begins call 3 until it is let go.
+/// Holds the worker that begins call 3 until it is released.
 #[derive(Drop)]
 pub struct Turnstile {
     pub begun: Sign,

@@ -1,5 +1,5 @@
-//! An access point that several threads serve, in use, shown by tests: frames that are held while operators act, workers
-//! that are stopped, full queues, refused memory, and a soak.
+//! Tests of an access point that several threads serve: frames that are held while operators act, stopped workers, full
+//! queues, failing allocations, and a soak.
 #![tactic(auto)]
 
 #[cfg(test)]

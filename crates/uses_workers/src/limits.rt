@@ -14,8 +14,8 @@ use std::sync::Wait;
 use std::test::Fail;
 use versions::Publisher;
 
-/// How many workers and operators there are; how many frames of one station a queue takes; and whether the next came
-/// back as it should.
+/// How many workers and operators there are, how many frames of one station a queue takes, and whether the next was
+/// returned as it should be.
 #[derive(Clone, Copy)]
 struct Full {
     workers: usize,
@@ -24,12 +24,12 @@ struct Full {
     came_back: bool,
 }
 
-/// The frame that is put again and again, of a station of shard 5.
+/// The frame that is put repeatedly, of a station of shard 5.
 fn frame(alloc: Global) -> Option<Event> {
     joining(alloc, address(0, 5), 0).ok()
 }
 
-/// Whether it is that frame that came back, with 61 and its shard.
+/// Whether that frame was returned, with 61 and its shard.
 fn is_frame(alloc: Global, back: &Unserved) -> bool {
     let Some(wanted) = frame(alloc) else {
         return false;
@@ -42,7 +42,7 @@ fn is_frame(alloc: Global, back: &Unserved) -> bool {
     }
 }
 
-/// Puts the frame until it comes back.
+/// Puts the frame until it is returned.
 fn fill<L: Ledgers + Journals, R: Wait>(
     rt: &R,
     alloc: Global,

@@ -1,4 +1,4 @@
-//! Events that are refused for memory and come again. With any one allocation refused, all that is asked here holds.
+//! Events that are refused for lack of memory, and retried. All assertions here hold if any one allocation fails.
 
 use crate::same::same;
 use crate::scene::{puts, serve};
@@ -23,8 +23,8 @@ struct Again {
     kicked: bool,
 }
 
-/// Whether the event of a step is put and decided: a station comes to its agreement, and then sends data three times.
-/// Where a worker's list can't grow, its event stays in the queue, and is served by the next call.
+/// Whether the event of a step is put and decided: a station sets up its agreement, and then sends data three times. If
+/// a worker's list can't grow, its event stays in the queue, and the next call serves it.
 fn comes<L: Ledgers + Journals, R: Wait>(
     rt: &R,
     alloc: Global,
@@ -66,7 +66,7 @@ impl<R: Wait> Story<R> for Again {
     }
 }
 
-/// Tells the story with a new access point, and again where memory is refused before or after it.
+/// Runs the story with a new access point, and retries if an allocation fails before or after it.
 fn told_again<R: Threads + Wait + Sync>(rt: &R, alloc: Global) -> Option<(Again, Totals)> {
     for _ in 0..TRIES {
         let mut story = Again {

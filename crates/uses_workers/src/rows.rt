@@ -1,4 +1,4 @@
-//! Frames that are held while operators act, workers that are stopped, and sums over workers.
+//! Frames that are held while operators act, stopped workers, and sums over workers.
 
 use crate::gates::{Meeting, Sign, StopAtThird, Turnstile};
 use crate::same::same;
@@ -19,7 +19,7 @@ const A: [u8; 6] = [2, 0, 0, 0, 0, 0x0a];
 
 const B: [u8; 6] = [2, 0, 0, 0, 0, 0x0b];
 
-/// So many events, of which so many sent a frame and passed data up.
+/// These numbers of events, of frames sent and of data passed up.
 fn counts(events: u64, sent: u64, up: u64) -> Totals {
     Totals {
         events,
@@ -30,7 +30,7 @@ fn counts(events: u64, sent: u64, up: u64) -> Totals {
     }
 }
 
-/// A station comes to be associated.
+/// A station associates.
 fn associates<L: Ledgers + Journals, R: Wait>(
     rt: &R,
     alloc: Global,
@@ -41,7 +41,7 @@ fn associates<L: Ledgers + Journals, R: Wait>(
     put && serve(rt, alloc, scene, &OpenGate) == 11
 }
 
-/// Whether A is sent away for a reason, and nothing else comes out.
+/// Whether A is deauthenticated for this reason, and there is no other output.
 fn sends_away(outs: &[Out], reason: u8) -> bool {
     let wanted = [
         0xc0, 0, 0, 0, 2, 0, 0, 0, 0, 0x0a, 2, 0, 0, 0, 0, 1, 2, 0, 0, 0, 0, 1, 0, 0, reason, 0,
@@ -52,7 +52,7 @@ fn sends_away(outs: &[Out], reason: u8) -> bool {
     }
 }
 
-/// Whether an event was decided so that A is sent away for having sent data.
+/// Whether an event was decided so that A is deauthenticated for having sent data.
 fn is_sent_away(list: &[Tagged]) -> bool {
     let Some(tagged) = list.first() else {
         return false;
@@ -63,7 +63,7 @@ fn is_sent_away(list: &[Tagged]) -> bool {
     }
 }
 
-/// A worker is held at data of A, which an operator sends away meanwhile.
+/// A worker is held at a data frame of A. Meanwhile an operator sends A away.
 #[derive(Drop)]
 struct KickedMeanwhile {
     gate: Turnstile,
@@ -161,7 +161,7 @@ fn a_frame_is_held_until_another_shard_has_served(rt: HostRuntime) -> Result<(),
     Ok(())
 }
 
-/// A worker is stopped at the third of five calls, and goes on later or not.
+/// A worker is stopped at the third of five calls, and continues later or not.
 #[derive(Clone, Copy)]
 struct Stopped {
     goes_on: bool,
@@ -205,7 +205,7 @@ fn a_worker_is_stopped_and_goes_on(rt: HostRuntime) -> Result<(), Fail> {
     Ok(())
 }
 
-/// So much data of A and of B, under a program for either, over maps of a width.
+/// Some data of A and of B, each under a program, over maps of a width.
 #[derive(Clone, Copy)]
 struct Sent {
     width: WordWidth,
@@ -220,7 +220,7 @@ struct Summed {
     sum: u64,
 }
 
-/// So much data of a station, under a program.
+/// Some data of a station, under a program.
 fn sends_under<L: Ledgers + Journals, R: Wait>(
     rt: &R,
     alloc: Global,
@@ -261,7 +261,7 @@ const STORES_MOST: &str = "lddw r1, value 1 0\nmov r2, -1\nstxw [r1+0], r2\nmov 
 
 const STORES_2: &str = "lddw r1, value 1 0\nmov r2, 2\nstxw [r1+0], r2\nmov r0, 0\nexit\n";
 
-/// Each row with its sum: of words of 4 bytes it is taken mod 2^32.
+/// Each row with its sum, which is mod 2^32 for words of 4 bytes.
 const SENT: [(Sent, u64); 2] = [
     (
         Sent {

@@ -10,7 +10,7 @@ use std::process::Abort;
 use std::sync::Wait;
 use std::thread::Threads;
 
-/// Tells a story with so many workers and operators, over maps of this width, and answers the totals.
+/// Runs a story with this many workers and operators, over maps of this width, and returns the totals.
 pub fn tell<R: Threads + Wait + Abort + Sync, S: Story<R> + Sync>(
     rt: &R,
     alloc: Global,
@@ -22,8 +22,8 @@ pub fn tell<R: Threads + Wait + Abort + Sync, S: Story<R> + Sync>(
     play(rt, alloc, settings, many.1, story).expect(rt, "totals")
 }
 
-/// One operator puts a frame of a station under a call: steps 0 to 2 bring it to its agreement, and 3 is data, whose
-/// number is that of the call. False for want of memory, or where its queue is full.
+/// One operator puts a frame of a station under a call: steps 0 to 2 set up its agreement, and step 3 is data, whose
+/// number is the call's. False if an allocation fails, or the queue is full.
 pub fn puts<L: Ledgers + Journals, R: Wait>(
     rt: &R,
     alloc: Global,
@@ -42,8 +42,7 @@ pub fn puts<L: Ledgers + Journals, R: Wait>(
     }
 }
 
-/// What became of all that was handed on, a digit each, the first in front: 1 where it was decided, 2 where it was
-/// refused, and 3 where it wasn't handled.
+/// The fates of these reports, a digit each, the first in front: 1 for decided, 2 for refused, 3 for not handled.
 pub fn fates(list: &[Tagged]) -> u64 {
     let mut digits = 0u64;
     for tagged in list {
@@ -57,7 +56,7 @@ pub fn fates(list: &[Tagged]) -> u64 {
     digits
 }
 
-/// Each worker serves what its queue holds, one after the other. It answers what became of it, as `fates`.
+/// Each worker serves its queue, one after another. Returns the fates, as `fates`.
 pub fn serve<L: Ledgers + Journals, R: Wait, G: Gate>(
     rt: &R,
     alloc: Global,

@@ -1,4 +1,4 @@
-//! The soak of `Soak`, a short one.
+//! A short run of `Soak`.
 
 use crate::same::same;
 use crate::scene::tell;
@@ -6,7 +6,7 @@ use bpf_regions::WordWidth;
 use live_scenes::Soak;
 use std::test::Fail;
 
-/// How much data each of four operators submits. `bench_live soak` does the same with as much as is asked for.
+/// How many data frames each of four operators submits. `bench_live soak` runs the same with any number.
 const EVENTS: u64 = 5000;
 
 #[test]

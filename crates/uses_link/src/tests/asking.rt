@@ -1,4 +1,4 @@
-//! What a judge is asked: the hook, the frame's bytes and the context of each ask.
+//! The queries to a judge: the hook, the frame's bytes and the context of each.
 
 ghost use Rattle.std.specs.Prelude.{◌≡◌};
 
@@ -10,8 +10,8 @@ use mac_frame::{Address, Reason};
 use std::alloc::Global;
 use std::process::Abort;
 
-/// An ask that is expected, and its answer: the bytes of the context from 6 on, and 0 in all others
-/// but the station's.
+/// An expected query, and its answer. `context` is bytes 6 to 17 of the query's, which begins with the station and ends
+/// with zeros.
 #[derive(Clone, Copy)]
 struct Expected {
     hook: Hook,
@@ -19,7 +19,7 @@ struct Expected {
     answer: u64,
 }
 
-/// Expects asks about one frame, and remembers whether each was as expected.
+/// Expects queries about one frame, and records whether each is as expected.
 #[derive(Drop)]
 struct Watching<'a> {
     frame: &'a [u8],
@@ -29,7 +29,7 @@ struct Watching<'a> {
 }
 
 impl Watching<'_> {
-    /// The next ask that is expected is this one: its answer.
+    /// The answer to the next expected query, which is to be this one.
     fn answer(&mut self, hook: Hook, frame: &[u8], context: &[u8; 32]) -> u64
         ensures { self.new.asked ≡ self.old.asked }
     {
@@ -63,9 +63,8 @@ impl Judge for Watching<'_> {
     }
 }
 
-/// Frames of station `02000000000a` to shard 2, and what is asked about each: the hook, and from byte
-/// 6 on its number, the state, the identifier, the TID, nothing, and the hook's three numbers, the
-/// low byte first.
+/// Frames of station `02000000000a` to shard 2, and the query about each: the hook, and from byte 6 on its number, the
+/// state, the identifier, the TID, a zero, and the hook's three numbers, low byte first; and the answer.
 const ASKED: [(&str, Option<(Hook, [u8; 12], u64)>); 12] = [
     (AUTHENTICATION, None),
     (
@@ -132,7 +131,7 @@ const REQUEST_103: &str = "84000000 020000000001 02000000000a 0400 7006";
 
 const FOREIGN: &str = "08010000 030000000001 02000000000a 0200000000ff 3000 68656c6c6f";
 
-/// A frame that comes to a shard leads to what is expected.
+/// A frame to a shard leads to the expected query.
 fn asks(
     rt: &impl Abort,
     alloc: Global,
@@ -165,12 +164,12 @@ fn judges_are_asked_about_each_frame(rt: HostRuntime) {
     for (digits, ask) in ASKED.iter() {
         asks(&rt, alloc, &mut shard, digits, *ask);
     }
-    // Given up by a call, since a shard has many parts.
+    // Freed by a call, since a shard has many parts.
     drop(shard);
 }
 
-/// Which shard an event concerns: the last octet of its station modulo 8, 0 for bytes that name none,
-/// and all for a tick.
+/// The shard that an event concerns: the last octet of its station modulo 8, 0 if the bytes name none, and all for a
+/// tick.
 #[test]
 fn events_concern_shards(rt: HostRuntime) {
     let alloc = rt.alloc();
@@ -193,6 +192,6 @@ fn shards_are_sent(rt: HostRuntime) {
     let shard = shard(&rt, rt.alloc(), 0);
     is_sent(&shard);
     same(&rt, shard.stations(), 0, "stations");
-    // Given up by a call, since a shard has many parts.
+    // Freed by a call, since a shard has many parts.
     drop(shard);
 }

@@ -1,4 +1,4 @@
-//! Events that are refused for memory and come again.
+//! Events that are refused for lack of memory, and retried.
 
 ghost use Rattle.ap_model.specs.AccessPoint.{InPlace};
 ghost use Rattle.ap_core.specs.AccessPoints.{rules_of};
@@ -13,7 +13,7 @@ use ap_core::{Event, ListJudge, Out, Shard, handle_all};
 use std::alloc::Global;
 use std::process::Abort;
 
-/// What an event leads to. Where it is refused for memory, it comes again.
+/// The outputs of an event, which is retried if an allocation fails.
 fn again(
     rt: &impl Abort,
     alloc: Global,
@@ -27,8 +27,8 @@ fn again(
     shard.handle(alloc, event, judge).expect(rt, "memory")
 }
 
-/// The events of a transcript lead to what it says at a shard that has handled nothing, where each
-/// that is refused for memory comes again.
+/// At a new shard, the events of a transcript lead to the outputs that it describes, if each that
+/// is refused for lack of memory is retried.
 fn leads_again(rt: &impl Abort, alloc: Global, answers: &[u64], transcript: &[Line<'_>]) {
     let events = events(rt, alloc, transcript);
     let mut shard = shard(rt, alloc, 2);
@@ -38,7 +38,7 @@ fn leads_again(rt: &impl Abort, alloc: Global, answers: &[u64], transcript: &[Li
         let outs = again(rt, alloc, &mut shard, event, &mut judge);
         results.push(Some(outs)).expect(rt, "memory");
     }
-    // Given up by a call, since a shard has many parts.
+    // Freed by a call, since a shard has many parts.
     drop(shard);
     holds(rt, is_told(rt, alloc, transcript, &results), "told");
 }
@@ -57,7 +57,8 @@ const SET_UP_5: &str =
 /// Data for TID 5, with number 102.
 const QOS_5: &str = "88010000 020000000001 02000000000a 0200000000ff 6006 0500 61";
 
-/// What the access point sends where it ends one of them: the operator's command, and the timeouts.
+/// What the access point sends when it ends one of them: on the operator's command, and on
+/// timeouts.
 const CLOSED: &str = "d0000000 02000000000a 020000000001 020000000001 0000 0302 0000 2500";
 
 const TIMED_OUT_0: &str = "d0000000 02000000000a 020000000001 020000000001 0000 0302 0000 2700";
@@ -66,9 +67,8 @@ const TIMED_OUT_5: &str = "d0000000 02000000000a 020000000001 020000000001 0000 
 
 const KICKED: &str = "c0000000 02000000000a 020000000001 020000000001 0000 0300";
 
-// In the tests below each frame of data has a mark of its own, so that each verdict shows. With any
-// one allocation of an event refused, the event is handled when it comes again, and so are those
-// after it.
+// In the tests below each data frame has its own mark, so that each verdict shows. If any one
+// allocation of an event fails, the event is handled when it is retried, and so are those after it.
 
 const REFUSED_EXCHANGES_MAY_COME_AGAIN: &[Line<'_>] = &[
     Frame("b0"),
@@ -87,7 +87,7 @@ const REFUSED_EXCHANGES_MAY_COME_AGAIN: &[Line<'_>] = &[
     Sends(AUTHENTICATED),
     Frame(DATA),
     Sends(DISASSOCIATED_7),
-    // Another network; a verdict that refuses, and one that admits.
+    // Another network; a verdict that refuses, and one that accepts.
     Frame(
         "00000000 020000000001 02000000000a 020000000001 2000 0100 0a00 0003 6c6163 0104 82848b96",
     ),
@@ -115,7 +115,7 @@ const REFUSED_EXCHANGES_MAY_COME_AGAIN: &[Line<'_>] = &[
     Frame("c0000000 020000000001 02000000000a 020000000001 6000 0300"),
     Frame(ASSOCIATION),
     Sends(DEAUTHENTICATED_6),
-    // The operator sends it away.
+    // The operator deauthenticates it.
     Frame(AUTHENTICATION),
     Sends(AUTHENTICATED),
     Frame(ASSOCIATION),
@@ -152,7 +152,7 @@ const REFUSED_EVENTS_OF_AGREEMENTS_MAY_COME_AGAIN: &[Line<'_>] = &[
     Qos(100, "62"),
     PassesUp(Some(0), 100, 2, "62"),
     PassesUp(Some(0), 101, 1, "61"),
-    // A request moves the window over 102, and over 103 that is held.
+    // A request moves the window past 102, and past 103, which is held.
     Qos(103, "63"),
     Request(104),
     PassesUp(Some(0), 103, 3, "63"),
@@ -176,7 +176,7 @@ const REFUSED_EVENTS_OF_AGREEMENTS_MAY_COME_AGAIN: &[Line<'_>] = &[
     Close(0),
     PassesUp(Some(0), 102, 7, "68"),
     Sends(CLOSED),
-    // It is discarded with what it holds.
+    // It is discarded with the frames that it holds.
     Frame(ASSOCIATION),
     Sends(ASSOCIATED),
     Frame(SETUP),
@@ -228,7 +228,7 @@ fn refused_ticks_may_come_again(rt: HostRuntime) {
     );
 }
 
-/// What this one event leads to at all shards. Where it is refused for memory, it comes again.
+/// The outputs of one event at all shards, which is retried if an allocation fails.
 fn again_at_all(
     rt: &impl Abort,
     alloc: Global,
@@ -293,7 +293,7 @@ fn refused_events_at_all_shards_may_come_again(rt: HostRuntime) {
         let outs = again_at_all(&rt, alloc, &mut shards, event, &mut judge);
         results.push(outs).expect(&rt, "memory");
     }
-    // Given up by a call, since eight shards have many parts.
+    // Freed by a call, since eight shards have many parts.
     drop(shards);
     holds(&rt, is_told(&rt, alloc, REFUSED_AT_ALL, &results), "told");
 }

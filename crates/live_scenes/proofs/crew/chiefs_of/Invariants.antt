@@ -3,7 +3,7 @@ use Rattle.std.specs.List.{All}
 use Rattle.live_scenes.specs.Rights.{IsChief}
 use Rattle.live_scenes.proofs.crew.chiefs_of.Given as goal
 
--- those that are left, and room for them
+-- the remaining tokens, and capacity for them
 abbrev pub invariant-tokens : goal.invariant-tokens
 invariant-tokens g l =
     record {

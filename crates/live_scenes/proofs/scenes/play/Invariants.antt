@@ -1,7 +1,7 @@
 use Rattle.ap_shards.specs.Opening.{names_of, journals_of}
 use Rattle.live_scenes.proofs.scenes.play.Given as goal
 
--- the ledgers and the journals of the shards that are new
+-- the ledgers and journals of the new shards
 abbrev pub ghosts-play_with-B-Ledgers : goal.ghosts-play_with-B-Ledgers
 ghosts-play_with-B-Ledgers g a = record { name_of = names_of a.new; shares = 17 }
 
