@@ -1,4 +1,4 @@
-//! Fields of a frame, by their places.
+//! Fields of a frame, by position.
 
 ghost use Rattle.std.specs.Prelude.{◌≡◌, ◌+◌, ◌≤◌, ◌++◌, ◌∷◌, ◌<◌, ◌^◌, length, drop, slice_index, is_some, IfSome};
 ghost use Rattle.std.specs.Int.{w64, to_le_bytes};
@@ -101,7 +101,7 @@ pub(crate) fn address_from(bytes: &[u8], at: usize) -> Address
     ])
 }
 
-/// The sequence number at `at`. None where there is a fragment number.
+/// The sequence number at `at`. None if there is a fragment number.
 pub(crate) fn sequence_from(bytes: &[u8], at: usize) -> Option<SequenceNumber>
     requires { at + 2 ≤ length bytes.now }
     ensures variant { is_some result ≡ is_sequence_control (word_at bytes.now at) }
@@ -112,7 +112,7 @@ pub(crate) fn sequence_from(bytes: &[u8], at: usize) -> Option<SequenceNumber>
     SequenceNumber::from_control(word_from(bytes, at))
 }
 
-/// The QoS control at `at`, if it may be so.
+/// The QoS control at `at`, if valid.
 pub(crate) fn qos_from(bytes: &[u8], at: usize) -> Option<QosControl>
     requires { at + 2 ≤ length bytes.now }
     ensures variant { is_some result ≡ is_qos_control (word_at bytes.now at) }
@@ -123,7 +123,7 @@ pub(crate) fn qos_from(bytes: &[u8], at: usize) -> Option<QosControl>
     QosControl::from_field(word_from(bytes, at))
 }
 
-/// The parameters of an ADDBA frame at `at`, if they may be so.
+/// The parameters of an ADDBA frame at `at`, if valid.
 pub(crate) fn parameters_from(bytes: &[u8], at: usize) -> Option<BlockAckParameters>
     requires { at + 2 ≤ length bytes.now }
     ensures variant { is_some result ≡ are_block_ack_parameters (word_at bytes.now at) }
@@ -134,7 +134,7 @@ pub(crate) fn parameters_from(bytes: &[u8], at: usize) -> Option<BlockAckParamet
     BlockAckParameters::from_field(word_from(bytes, at))
 }
 
-/// The parameters of a DELBA frame at `at`, if they may be so.
+/// The parameters of a DELBA frame at `at`, if valid.
 pub(crate) fn delba_parameters_from(bytes: &[u8], at: usize) -> Option<DelbaParameters>
     requires { at + 2 ≤ length bytes.now }
     ensures variant { is_some result ≡ are_delba_parameters (word_at bytes.now at) }
@@ -145,7 +145,7 @@ pub(crate) fn delba_parameters_from(bytes: &[u8], at: usize) -> Option<DelbaPara
     DelbaParameters::from_field(word_from(bytes, at))
 }
 
-/// The TID of a block acknowledgement frame's control at `at`, if the control may be so.
+/// The TID in a block acknowledgement frame's control at `at`, if the control is valid.
 pub(crate) fn block_ack_tid_from(bytes: &[u8], at: usize) -> Option<Tid>
     requires { at + 2 ≤ length bytes.now }
     ensures variant { is_some result ≡ is_block_ack_control (word_at bytes.now at) }

@@ -98,7 +98,7 @@ pub struct QosControl {
 }
 
 impl QosControl {
-    /// What the field encodes. None if the TID is 8 or more, or A-MSDU Present is set.
+    /// What the field spells. None if the TID is 8 or more, or A-MSDU Present is set.
     pub fn from_field(field: u16) -> Option<Self>
         ensures variant { is_some result ≡ is_qos_control field }
         ensures spelled { IfSome result (λ q. field ≡ qos_control q) }
@@ -116,7 +116,7 @@ impl QosControl {
         })
     }
 
-    /// The field that encodes it.
+    /// The field that spells it.
     pub fn field(self) -> u16
         ensures value { result ≡ qos_control self }
         ensures fits { IsQosControl self }
@@ -178,7 +178,7 @@ impl BlockAckParameters {
         }
     }
 
-    /// What the field encodes. None if the TID is 8 or more.
+    /// What the field spells. None if the TID is 8 or more.
     pub fn from_field(field: u16) -> Option<Self>
         ensures variant { is_some result ≡ are_block_ack_parameters field }
         ensures spelled { IfSome result (λ p. field ≡ block_ack_parameters p) }
@@ -194,7 +194,7 @@ impl BlockAckParameters {
         })
     }
 
-    /// The field that encodes it.
+    /// The field that spells it.
     pub fn field(self) -> u16
         ensures value { result ≡ block_ack_parameters self }
         ensures fits { IsBlockAckParameters self }
@@ -220,7 +220,7 @@ pub struct DelbaParameters {
 }
 
 impl DelbaParameters {
-    /// What the field encodes. None if the TID is 8 or more, or a reserved bit is set.
+    /// What the field spells. None if the TID is 8 or more, or a reserved bit is set.
     pub fn from_field(field: u16) -> Option<Self>
         ensures variant { is_some result ≡ are_delba_parameters field }
         ensures spelled { IfSome result (λ p. field ≡ delba_parameters p) }
@@ -236,7 +236,7 @@ impl DelbaParameters {
         })
     }
 
-    /// The field that encodes it.
+    /// The field that spells it.
     pub fn field(self) -> u16
         ensures value { result ≡ delba_parameters self }
         ensures fits { IsDelbaParameters self }

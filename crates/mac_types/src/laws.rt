@@ -1,4 +1,4 @@
-//! Laws of the fields: a field passes its test if and only if a value encodes it, and then exactly one does.
+//! Laws of the fields: a field passes its test if and only if a value spells it, and then exactly one does.
 
 ghost use Rattle.std.specs.Prelude.{Bool};
 ghost use Rattle.mac_types.specs.Numbers.{IsTid, IsSequenceNumber, sequence_control, is_sequence_control, block_ack_control, is_block_ack_control};

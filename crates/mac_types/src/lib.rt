@@ -2,9 +2,9 @@
 //!
 //! Main calls: `from_field` and `field` of each parameter field, `new` of each number. It depends on std alone.
 //! Reserved
-//! bits of parameter fields are refused, and ignored bits kept, so each value has one encoding. Six laws relate the
+//! bits of parameter fields are refused, and ignored bits kept, so each value has one spelling. Six laws relate the
 //! test
-//! of a field's bits to the values that it encodes. `known` gives proofs a type's invariant.
+//! of a field's bits to the values that it spells. `known` gives proofs a type's invariant.
 #![tactic(auto)]
 
 mod address;
