@@ -1,10 +1,8 @@
 //! Ports, which answer the queries of programs.
 //!
 //! Main calls: `PlainPort::new` and `PlainMap::new`. It depends on `bpf_tagged`. A plain map returns what a plain
-//! array
-//! of numbers would, all 0 at first; the port also serves the clock, the number of stations, and the draw. Each
-//! answer
-//! lies in its range. Traced programs and tests use this port.
+//! array of numbers would, all 0 at first; the port also serves the clock, the number of stations, and the draw. Each
+//! answer lies in its range. Traced programs and tests use this port.
 #![tactic(auto)]
 
 mod draws;

@@ -102,9 +102,8 @@ impl MapTables {
         &self.tables[place_of(self.shape.scope, worker)]
     }
 
-    /// The next seat of the table that a worker's programs use. Fault 62, the only one, comes once all are handed
-    /// out, and
-    /// changes nothing. No contract promises that a remaining seat is given: only tests show it.
+    /// The next seat of the table that a worker's programs use. Fault 62, the only one, comes once all are handed out,
+    /// and changes nothing. No contract promises that a remaining seat is given: only tests show it.
     pub fn seat(&mut self, worker: usize) -> Result<MapSeat, MapFault>
         requires there { place_of self.old.shape.scope worker < length self.old.tables }
         ensures given { IfOk result (λ seat. GaveSeat self.old worker seat self.new) }
@@ -115,8 +114,7 @@ impl MapTables {
     }
 
     /// The next seat of each table, in worker order. After an error the seats given until then are lost. No clause
-    /// says
-    /// which error comes when: fault 62 if a table has no seat left, fault 40 for lack of memory.
+    /// says which error comes when: fault 62 if a table has no seat left, fault 40 for lack of memory.
     pub fn seat_each(&mut self, alloc: Global) -> Result<Vec<MapSeat>, MapFault>
         ensures seated { IfOk result (λ seats. AreSeated self.new.tables seats.items) }
         ensures tables { KeepsTables self.old self.new }

@@ -50,10 +50,8 @@ impl WorkerState {
     }
 
     /// With the next seat of each of a worker's tables, and the first word to draw. After an error the seats given
-    /// until
-    /// then are lost. No clause says which error comes when: fault 62 if a table has no seat left, fault 40 for lack
-    /// of
-    /// memory.
+    /// until then are lost. No clause says which error comes when: fault 62 if a table has no seat left, fault 40 for
+    /// lack of memory.
     pub fn seated(
         alloc: Global,
         maps: &mut [MapTables],
