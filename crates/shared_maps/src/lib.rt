@@ -6,9 +6,8 @@
 //! after `meet` both seats have seen the same history.
 //!
 //! Neither `access` nor `meet` takes a `Wait`, and each returns whatever other threads do. A lock round the words
-//! would
-//! not do: `Mutex::lock` needs a `Wait`, so a body with it doesn't compile, and if `try_lock` finds the lock taken,
-//! there is no value to return.
+//! would not do: `Mutex::lock` needs a `Wait`, so a body with it doesn't compile, and if `try_lock` finds the lock
+//! taken, there is no value to return.
 #![tactic(auto)]
 
 mod fault;

@@ -43,8 +43,7 @@ impl Model for MapTable {
         × IsNumbering t.table.shared.table_id t.root t.given × (t.given ≤ t.seats) };
 }
 
-/// One user's handle on a table: what it has seen of the table's history, and its own accesses. It may move to
-/// another
+/// One user's handle on a table: what it has seen of the table's history, and its own accesses. It may move to another
 /// thread.
 #[derive(Drop)]
 pub struct MapSeat {
