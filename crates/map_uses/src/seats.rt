@@ -128,8 +128,7 @@ fn seats_read_what_is_stored(rt: HostRuntime) {
     same(&rt, met(&rt, alloc), 12, "a store of another seat");
 }
 
-/// Consecutive operations on a word that is 0 at first, and what each returns in a word of eight bytes. A shorter
-/// word
+/// Consecutive operations on a word that is 0 at first, and what each returns in a word of eight bytes. A shorter word
 /// returns the low bits.
 const OPERATIONS: &[(MapOp, u64)] = &[
     (MapOp::Load, 0),
