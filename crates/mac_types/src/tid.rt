@@ -46,8 +46,7 @@ impl Tid {
     }
 
     /// The TID of a BAR Control or BA Control field (9.3.1.8, 9.3.1.9). None if it is 8 or more, Compressed Bitmap
-    /// isn't
-    /// set, or another bit is.
+    /// isn't set, or another bit is.
     pub fn from_block_ack_control(field: u16) -> Option<Self>
         ensures variant { is_some result ≡ is_block_ack_control field }
         ensures spelled { IfSome result (λ t. field ≡ block_ack_control t) }
