@@ -34,7 +34,7 @@ answer_to (And x) n = n
 answer_to (Xor x) n = n
 answer_to (CompareExchange x y) n = n
 
--- the answers an operation may get
+-- the values an operation may return
 abbrev pub IsAnswer : WordWidth → MapOp → ℕ → Type 0
 IsAnswer width (Store x) answer = answer ≡ 0
 IsAnswer width operation answer = answer < modulus width
