@@ -99,8 +99,7 @@ fn stored_and_loaded(rt: &impl Abort, alloc: Global) -> (u64, u64) {
     (stored, table.access(&mut seat, 0, MapOp::Load))
 }
 
-/// What is returned for storing the greatest short number in word 0 and adding 1, and then both words; the second was
-/// 7.
+/// What storing the greatest short number in word 0 and adding 1 return, and then both words; the second was 7.
 fn carried(rt: &impl Abort, alloc: Global) -> (u64, u64, u64, u64) {
     let (table, mut one, _other) = table_of(rt, alloc, WordWidth::Four);
     table.access(&mut one, 1, MapOp::Store(7));
