@@ -10,7 +10,7 @@ abbrev pub words_from : ℕ → ℕ → List ℕ
 words_from x zero = []
 words_from x (suc n) = x ∷ words_from (next_draw x) n
 
--- the word after those
+-- the word after those n
 abbrev pub word_after : ℕ → ℕ → ℕ
 word_after x zero = x
 word_after x (suc n) = word_after (next_draw x) n

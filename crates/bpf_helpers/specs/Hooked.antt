@@ -15,7 +15,7 @@ use Rattle.bpf_helpers.specs.Draws.{next_draw, words_from, word_after}
 use Rattle.bpf_helpers.specs.Tables.{Tables, KeepsTables, place_of, table_of}
 
 -- what a worker's programs read: its tables of the maps, by their numbers; and the clock and the number of associated
--- stations of the shard that judges the frame
+-- stations of the shard that handles the frame
 pub record Given : Type 0 where
   pub maps : List Tables
   pub worker : ℕ
@@ -54,7 +54,7 @@ pub record KeepTables (maps maps' : List Tables) : Type 0 where
   pub as_many : length maps' ≡ length maps
   pub each : (at : ℕ) (m m' : Tables) → slice_get maps at ≡ Some m → slice_get maps' at ≡ Some m' → KeepsTables m m'
 
--- one access to that table by the seat with number `at`
+-- one access to that table by the seat at index `at`
 pub record AccessedBy (table : Map) (seats : List Place) (at word : ℕ) (operation : MapOp) (answer : ℕ) (seats' : List Place) : Type 0 where
   pub before : Place
   pub after : Place

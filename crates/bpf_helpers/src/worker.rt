@@ -16,7 +16,7 @@ use std::alloc::Global;
 use std::marker::Model;
 
 /// What the programs of a worker read: the maps, of which they use that worker's tables; and the clock and the number
-/// of associated stations, at most 2007, of the shard that judges the frame.
+/// of associated stations, at most 2007, of the shard that handles the frame.
 #[derive(Clone, Copy)]
 pub struct WorkerView<'t> {
     pub maps: &'t [MapTables],
@@ -26,8 +26,7 @@ pub struct WorkerView<'t> {
     pub ghost few: { stations ≤ 2007 },
 }
 
-/// What the programs of a worker change: a seat at each of its tables, in the order of the maps, and the word drawn
-/// next.
+/// What the programs of a worker change: a seat at each of its tables, in map order, and the word drawn next.
 #[derive(Drop)]
 pub struct WorkerState {
     seats: Vec<MapSeat>,
@@ -81,7 +80,7 @@ impl WorkerState {
         word
     }
 
-    /// One access to a word of a table by the seat of that number.
+    /// One access to a word of a table by the seat at index `at`.
     pub(crate) fn access(&mut self, at: usize, table: &MapTable, word: u32, operation: MapOp) -> u64
         requires there { at < length self.old.seats }
         requires own { (s : Place) →
