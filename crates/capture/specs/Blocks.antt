@@ -1,5 +1,5 @@
 -- Blocks of a pcapng file (draft-ietf-opsawg-pcapng, 3.1): type 4, total length 4, body, and the total length again,
--- 4. Numbers have the byte order of their section.
+-- 4. Numbers have their section's byte order.
 use Rattle.std.specs.Prelude.{ℕ, ◌-◌, ◌%◌, ◌==◌, ◌||◌, nat_lt, Bool, List, [], ◌∷◌, length, take, drop, Option, Some, None, Result, Ok, Err, if◌then◌else◌}
 use Rattle.std.specs.Str.{bytes_eq}
 use Rattle.capture.specs.declared.fault.CaptureFault.{CaptureFault}
