@@ -3,8 +3,7 @@ use Rattle.std.specs.Prelude.{◌≡◌, ◌≢◌, ℕ, ◌+◌, ◌*◌, ◌/�
 use Rattle.assoc.specs.declared.standing.Known.TheVariants.{Associated}
 use Rattle.assoc.specs.Standings.{Standings, IsOwn}
 
--- at most 512 stations; associated ones have identifiers of their shard, each held in the table by exactly that
--- station
+-- at most 512 stations; associated ones have identifiers of their shard, each held in the table by just that station
 pub record IsSound
     (s : ℕ) (f : Standings) (count : ℕ) (holders : List (Option (List ℕ))) : Type 0 where
   pub shard : s < 8
