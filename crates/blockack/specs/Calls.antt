@@ -45,8 +45,7 @@ module _ {F : Type 0} where
         RequestStep number old mid → Run size events mid taken new →
         Run size (RequestCame number ∷ events) old taken new
 
-  -- the frames are those of the taken items below this number that weren't dropped, each once, and their numbers
-  -- increase
+  -- the frames are those of the taken items below this number that weren't dropped, once each, by increasing number
   pub record IsInOrder (taken : List (ℕ × Option F)) (below : ℕ) (frames : List (ℕ × F)) : Type 0 where
     pub once : AllPairs (λ p q. p.0 ≢ q.0) taken
     pub rising : AllPairs (λ p q. p.0 < q.0) frames

@@ -1,5 +1,4 @@
--- What a window passes up (IEEE 802.11-2016, 10.24.7.6.1): the frames of the numbers below its start, in increasing
--- order.
+-- What a window passes up (IEEE 802.11-2016, 10.24.7.6.1): the frames of numbers below its start, in increasing order.
 use Rattle.std.specs.Prelude.{◌≡◌, ℕ, zero, suc, ◌%◌, Option, None, Some, List, [], ◌∷◌, ◌++◌, map}
 use Rattle.blockack.specs.Window.{Items, Window}
 

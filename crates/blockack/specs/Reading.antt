@@ -43,8 +43,8 @@ module _ {F : Type 0} where
   unfoldable pub numbers_held : Reading F → ℕ
   numbers_held v = count_by is_some v.held
 
-  -- the most frames that data with this sequence number passes up: none if it is in the window after the first number,
-  -- for which it waits
+  -- a bound on the frames that data with this sequence number passes up: 0 if it is in the window after the first
+  -- number, for which it waits, otherwise one more than are held
   abbrev pub most_passed : Reading F → ℕ → ℕ
   most_passed v number =
       cond (nat_lt 0 (ahead v.start number) && nat_lt (ahead v.start number) v.size) 0 (numbers_held v + 1)

@@ -57,11 +57,11 @@ pub record Keeps (size number : ℕ) (old new : Scoreboard) : Type 0 where
   pub other : (n : ℕ) → IsUnwrapped (first_number size old) number n → first_number size old < n → ⊥
   pub stays : new ≡ old
 
--- the step that data is to a scoreboard of this size
+-- the step of a scoreboard of this size at data
 abbrev pub DataMark : ℕ → ℕ → Scoreboard → Scoreboard → Type 0
 DataMark size number old new = Marks size number old new ⊎ Ignores size number old new
 
--- the step that a BlockAckReq is to it
+-- its step at a BlockAckReq
 abbrev pub RequestMark : ℕ → ℕ → Scoreboard → Scoreboard → Type 0
 RequestMark size number old new = Begins size number old new ⊎ Keeps size number old new
 

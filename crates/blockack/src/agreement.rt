@@ -94,7 +94,8 @@ impl<F: Drop> Agreement<F> {
         self.slots[(number % 64) as usize].is_none()
     }
 
-    /// The most frames that data with this sequence number passes up: 0 if it waits for an earlier number.
+    /// A bound on the frames that data with this sequence number passes up: 0 if it waits for an earlier number,
+    /// otherwise one more than are held.
     pub fn most_passed(&self, number: u16) -> usize
         requires { number < 4096 }
         ensures { result ≡ most_passed self.now number }

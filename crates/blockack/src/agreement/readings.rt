@@ -23,8 +23,7 @@ impl<F: Drop> Agreement<F> {
         self.size
     }
 
-    /// How many numbers are held, including those of dropped frames: the most frames that a
-    /// BlockAckReq or the end passes up.
+    /// How many numbers are held, including those of dropped frames. No BlockAckReq or end passes up more frames.
     pub fn held(&self) -> usize
         ensures is { result ≡ numbers_held self.now }
         ensures fits { result ≤ 64 }
