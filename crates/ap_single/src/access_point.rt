@@ -103,8 +103,8 @@ impl AccessPoint {
     }
 
     /// Handles an event at the shards that it concerns, as `ap_core::handle_all` does, judged by the programs over
-    /// these maps. None if it is refused for lack of memory, which changes neither the readings, nor the programs, nor
-    /// `state`.
+    /// these maps. None if it is refused for lack of memory, which leaves the readings, the programs and `state`
+    /// unchanged.
     pub fn handle(
         &mut self,
         alloc: Global,
