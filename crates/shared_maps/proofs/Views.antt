@@ -68,7 +68,6 @@ module _ (shape : Shape) where
         (at_set views id j x b there);
   }
 
-  -- a view is added
   abbrev added : (words : List ℕ) (views : List View) (x : View) → (kept : IsKept shape words views) → Fits kept.log kept.places (length views) x → IsKept shape words (views ++ x ∷ [])
   added words views x kept fits = record {
     log = kept.log;
