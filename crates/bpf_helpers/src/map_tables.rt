@@ -51,7 +51,6 @@ fn place_of(scope: Scope, worker: usize) -> usize
     }
 }
 
-/// The next seat of each table.
 fn seat_each(alloc: Global, tables: &mut [MapTable]) -> Result<Vec<MapSeat>, MapFault>
     ensures seated { IfOk result (λ seats. AreSeated tables.new seats.items) }
     ensures tables { AreSameTables tables.old tables.new }
