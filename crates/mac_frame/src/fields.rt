@@ -13,7 +13,6 @@ use mac_types::{
     SequenceNumber, Status, Tid,
 };
 
-/// The bytes from `at` on.
 pub(crate) fn tail_from(bytes: &[u8], at: usize) -> &[u8]
     requires { at ≤ length bytes.now }
     ensures { result.now ≡ drop at bytes.now }
@@ -21,7 +20,6 @@ pub(crate) fn tail_from(bytes: &[u8], at: usize) -> &[u8]
     &bytes[at..]
 }
 
-/// The byte at `at`.
 pub(crate) fn byte_from(bytes: &[u8], at: usize) -> u8
     requires { at < length bytes.now }
     ensures value { result ≡ slice_index bytes.now at }
@@ -40,7 +38,6 @@ pub(crate) fn word_from(bytes: &[u8], at: usize) -> u16
     LittleEndian::read_u16(tail_from(bytes, at))
 }
 
-/// The capability information at `at`.
 pub(crate) fn capability_from(bytes: &[u8], at: usize) -> Capability
     requires { at + 2 ≤ length bytes.now }
     ensures fits { IsWord result }
@@ -49,7 +46,6 @@ pub(crate) fn capability_from(bytes: &[u8], at: usize) -> Capability
     Capability::new(word_from(bytes, at))
 }
 
-/// The status at `at`.
 pub(crate) fn status_from(bytes: &[u8], at: usize) -> Status
     requires { at + 2 ≤ length bytes.now }
     ensures fits { IsWord result }
@@ -58,7 +54,6 @@ pub(crate) fn status_from(bytes: &[u8], at: usize) -> Status
     Status::new(word_from(bytes, at))
 }
 
-/// The association identifier at `at`.
 pub(crate) fn aid_from(bytes: &[u8], at: usize) -> AidField
     requires { at + 2 ≤ length bytes.now }
     ensures fits { IsWord result }
@@ -67,7 +62,6 @@ pub(crate) fn aid_from(bytes: &[u8], at: usize) -> AidField
     AidField::new(word_from(bytes, at))
 }
 
-/// The reason at `at`.
 pub(crate) fn reason_from(bytes: &[u8], at: usize) -> Reason
     requires { at + 2 ≤ length bytes.now }
     ensures fits { IsWord result }
@@ -85,7 +79,6 @@ pub(crate) fn bitmap_from(bytes: &[u8], at: usize) -> u64
     LittleEndian::read_u64(tail_from(bytes, at))
 }
 
-/// The address at `at`.
 pub(crate) fn address_from(bytes: &[u8], at: usize) -> Address
     requires { at + 6 ≤ length bytes.now }
     ensures fits { IsAddress result }

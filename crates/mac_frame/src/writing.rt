@@ -9,7 +9,6 @@ ghost use Rattle.mac_frame.specs.declared.subtype.Subtype.TheVariants as subtype
 use crate::content::{Content, Control, DataKind, Management};
 use mac_types::Address;
 
-/// Appends bytes.
 pub(crate) fn put(out: &mut Vec<u8>, bytes: &[u8])
     requires { vec_len out.old + length bytes.now ≤ vec_capacity out.old }
     ensures { Puts out.old out.new bytes.now }
