@@ -29,7 +29,6 @@ none endian options = refl
 says_few : (endian : Endian) (options : List ℕ) (later : Option ℕ) → length options < 4 → says endian options later ≡ Some 6
 says_few endian options later short = search (rules, tests, nat_tests)
 
--- no option
 pub few : (n : ℕ) (endian : Endian) (options : List ℕ) → length options < 4 → resolution_in n endian options ≡ Some 6
 few zero endian options short = none endian options
 few (suc n) endian options short = step n endian options ∙ says_few endian options (resolution_in n endian (after endian options)) short
@@ -49,7 +48,6 @@ stepped zero endian options some short = absurd (omega arith)
 stepped (suc n) endian options some short =
     step n endian options ∙ ap (says endian options) (enough n (length (after endian options)) endian (after endian options) (after_short n endian options short) (omega arith))
 
--- the first option
 pub first : (endian : Endian) (options : List ℕ) → 4 ≤ length options → resolution_in (length options) endian options ≡ says endian options (resolution_in (length (after endian options)) endian (after endian options))
 first endian options some = stepped (length options) endian options some (omega arith)
 
@@ -64,11 +62,9 @@ next endian options rest long code whole other follows =
     rw follows (first endian options long ∙ says_later endian options _ long code whole other)
 
 module _ (endian : Endian) (options : List ℕ) (long : 4 ≤ length options) where
-  -- the options end here
   pub ends : number_at endian 2 0 options ≡ 0 → resolution_in (length options) endian options ≡ Some 6
   ends code = first endian options long ∙ search (rules, tests, nat_tests)
 
-  -- the first option is cut
   pub cut : number_at endian 2 0 options ≢ 0 → length (drop 4 options) < padded (number_at endian 2 2 options) → resolution_in (length options) endian options ≡ None
   cut code short = first endian options long ∙ search (rules, tests, nat_tests)
 
