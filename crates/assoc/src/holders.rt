@@ -35,14 +35,12 @@ impl Holders {
         }
     }
 
-    /// How many indices are held.
     pub(crate) fn count(&self) -> u16
         ensures { result ≡ count_by is_some self.now }
     {
         self.held
     }
 
-    /// Who holds an index.
     pub(crate) fn get(&self, place: usize) -> Option<Address>
         requires { place < 251 }
         ensures is { result ≡ slice_index_or self.now place None }
@@ -51,7 +49,6 @@ impl Holders {
         self.places[place]
     }
 
-    /// Frees an index.
     pub(crate) fn free(&mut self, place: usize)
         requires { place < 251 }
         ensures { self.new ≡ slice_set self.old place None }
@@ -62,7 +59,6 @@ impl Holders {
         self.places[place] = None;
     }
 
-    /// Gives an index to a station.
     pub(crate) fn give(&mut self, place: usize, station: Address)
         requires { place < 251 }
         ensures is { self.new ≡ slice_set self.old place (Some station) }
