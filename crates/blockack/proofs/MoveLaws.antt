@@ -168,7 +168,6 @@ module _ {F : Type 0} where
             rest i ∙ with_other (ring_at slots start) (ahead start number) item (j + i) ne ∙ sound.past (j + i) far;
       }
 
-  -- a move is short
   pub short_after : (slots : List (Option (Option F))) (start size number j : ℕ) (item : Option F) → IsSoundRing slots start size → ahead start number < 2048 →
       IsNextFree (with_item (ring_at slots start) (ahead start number) item) (ahead start number + 1 - size) j → j ≤ 2112
   short_after slots start size number j item sound near next =
@@ -182,7 +181,6 @@ module _ {F : Type 0} where
       (λ le. le)
       (cases_lt 2112 j)
 
-  -- an empty ring
   pub ring_none : (slots : List (Option (Option F))) (start i : ℕ) → ((k : ℕ) → get_or slots k None ≡ None) → ring_at slots start i ≡ None
   ring_none slots start i none = ⊎_elim (λ lt. ring_in slots start i lt ∙ none ((start + i) % 64)) (λ out. ring_out slots start i out) (cases_lt i 64)
 

@@ -27,7 +27,6 @@ module _ {F : Type 0} where
       let s = same.start in let low = p.low in let high = p.high in
       record { residue = p.residue; low = omega arith; high = omega arith }
 
-  -- neither window changed
   stay_same : (one other one2 other2 : Window F) → TookTheSame one other → one2 ≡ one → other2 ≡ other → TookTheSame one2 other2
   stay_same one other one2 other2 same p q =
       let P : Window F → Type 0 = λ w. TookTheSame w other2 in

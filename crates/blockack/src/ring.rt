@@ -23,7 +23,6 @@ pub(crate) fn empty_slots<F>() -> [Slot<F>; 64]
     array::from_fn(|_| None)
 }
 
-/// How many slots are held.
 pub(crate) fn held_slots<F>(slots: &[Slot<F>; 64]) -> usize
     ensures is { result ≡ count_by is_some slots.now }
     ensures of { length slots.now ≡ 64 }
