@@ -29,7 +29,6 @@ tail_is x y xs ys = λ (same : x ∷ xs ≡ y ∷ ys). cc
 head_is : {A : Type 0} (x y : A) (xs ys : List A) → x ∷ xs ≡ y ∷ ys → x ≡ y
 head_is x y xs ys = λ (same : x ∷ xs ≡ y ∷ ys). cc
 
--- each event has a result
 pub as_many : {es : List Event} {rs : List (Option (List Out))} {ts : List Turn} → AreTurns es rs ts → length rs ≡ length es
 as_many no_event = refl
 as_many (refused e es rs ts t) = ap suc (as_many t)
@@ -42,7 +41,7 @@ no_turns (refused e es rs ts t) q = absurd (not_nil e es q)
 no_turns (at_its_shard e s es rs ts f t) q = absurd (not_nil e.event es q)
 no_turns (ticked n outs es rs ts t) q = absurd (not_nil (event.Tick n) es q)
 
--- one event that was refused has no turn
+-- one refused event has no turn
 none_there : {es : List Event} {rs : List (Option (List Out))} {ts : List Turn} → (e : Event) → AreTurns es rs ts → es ≡ e ∷ [] → rs ≡ None ∷ [] → ts ≡ []
 none_there e no_event q n = refl
 none_there e (refused e2 es rs ts t) q n = no_turns t (tail_is e2 e es [] q)
@@ -54,7 +53,7 @@ stays q (rests r) = refl
 stays q (goes_on r mid r2 e later step t) = absurd (not_nil e later q)
 
 module _ {S : Type 0} (R : S → Ask → ℕ → S → Type 0) (c : ℕ → Rules) (r r2 : ℕ → Readings) (e : Event) (j k : S) where
-  -- an event that was refused leaves the readings
+  -- a refused event leaves the readings
   pub readings_stay : EventsLead R c r (e ∷ []) j (None ∷ []) r2 k → (s : ℕ) → s < 8 → r2 s ≡ r s
   readings_stay led s low = stays (ap (λ (ts : List Turn). entries_of s ts) (none_there e led.are refl refl)) (led.run s low)
 
@@ -63,7 +62,7 @@ module _ {S : Type 0} (R : S → Ask → ℕ → S → Type 0) (c : ℕ → Rule
   judge_stays led = subst (λ (ts : List Turn). Answered R j (asked_of ts) k) (none_there e led.are refl refl) led.listed
 
 module _ (a a' : Parts) (e : Event) where
-  -- an event that was refused leaves all as it was
+  -- a refused event changes nothing
   pub like_by : (j k : ProgramJudge) (rs : List (Option (List Out))) → RunsAll Judges a.shards (e ∷ []) j rs a'.shards k → rs ≡ None ∷ [] → a'.programs ≡ a.programs → IsLike a a' × (k ≡ j)
   like_by j k rs ran none kept =
       let led = subst (λ (x : List (Option (List Out))). EventsLead Judges (rules_of a.shards) (readings_of a.shards) (e ∷ []) j x (readings_of a'.shards) k) none ran.leads in (
@@ -75,7 +74,7 @@ module _ (a a' : Parts) (e : Event) where
         judge_stays Judges (rules_of a.shards) (readings_of a.shards) (readings_of a'.shards) e j k led,
       )
 
-  -- and is told so
+  -- and is reported as refused
   pub refused_led : (maps : List Tables) (h h' : Held) (g : Given) → ((s : ℕ) → shard_of e ≡ Some s → IsGiven maps (readings_of a.shards s) g) → IsLike a a' → h' ≡ h → Leads a e maps h None a' h'
   refused_led maps h h' g given like same =
       record {

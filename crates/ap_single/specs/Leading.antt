@@ -17,7 +17,7 @@ pub record Parts : Type 0 where
   pub shards : List Shard
   pub programs : Programs
 
--- What programs read: the tables of the maps, and of a shard, before the event, the clock and the number of associated
+-- What programs read: the tables of the maps, and, of a shard before the event, the clock and the number of associated
 -- stations.
 pub record IsGiven (maps : List Tables) (r : Readings) (g : Given) : Type 0 where
   pub tables : g.maps ≡ maps
@@ -25,15 +25,15 @@ pub record IsGiven (maps : List Tables) (r : Readings) (g : Given) : Type 0 wher
   pub clock : g.clock ≡ r.clock
   pub stations : AreAssociated r.standing g.stations
 
--- it stands as it stood
+-- a' has the readings, rules and programs of a
 pub record IsLike (a a' : Parts) : Type 0 where
   pub readings : (s : ℕ) → s < 8 → readings_of a'.shards s ≡ readings_of a.shards s
   pub rules : (s : ℕ) → rules_of a'.shards s ≡ rules_of a.shards s
   pub programs : a'.programs ≡ a.programs
 
--- What the event led to, or that it was refused, is told by turns of the shards, whose entries are a link run. Each verdict
--- is that of the programs, over the caller's seats and draw word, which it leaves so; by the clock and the stations of the
--- shard that the event concerns.
+-- The event's result, or its refusal, comes from turns of the shards, whose entries are a link run. Each verdict is
+-- that of the programs over the caller's seats and draw word, which end as h', and by the clock and the stations of
+-- the shard that the event concerns.
 pub record Leads (a : Parts) (event : Event) (maps : List Tables) (h : Held) (result : Option (List Out)) (a' : Parts) (h' : Held) : Type 0 where
   pub given : Given
   pub is_given : (s : ℕ) → shard_of event ≡ Some s → IsGiven maps (readings_of a.shards s) given

@@ -18,7 +18,7 @@ use program_judge::{ProgramJudge, Programs, judged_law};
 use std::alloc::{AllocError, Global};
 use std::marker::Model;
 
-/// Eight shards, each at the place of its number, and for each hook a program or none.
+/// Eight shards, each at the index of its number, and for each hook a program or none.
 #[derive(Drop)]
 pub struct AccessPoint {
     shards: [Shard; 8],
@@ -37,7 +37,7 @@ impl Model for AccessPoint {
     ghost invariant = { λ a. InPlace (rules_of a.shards) };
 }
 
-/// What programs read, of this shard.
+/// What programs read of this shard.
 fn view_of<'t>(shard: &Shard, maps: &'t [MapTables]) -> WorkerView<'t>
     ensures maps { result.maps ≡ maps.entry }
     ensures given { IsGiven maps.now (reads shard.now) (given_by result) }
@@ -50,7 +50,7 @@ fn view_of<'t>(shard: &Shard, maps: &'t [MapTables]) -> WorkerView<'t>
     }
 }
 
-/// What programs read, of the shard that an event concerns.
+/// What programs read of the shard that an event concerns.
 fn view_at<'t>(shards: &[Shard; 8], event: &Event, maps: &'t [MapTables]) -> WorkerView<'t>
     ensures maps { result.maps ≡ maps.entry }
     ensures worker { result.worker ≡ 0 }
@@ -63,7 +63,7 @@ fn view_at<'t>(shards: &[Shard; 8], event: &Event, maps: &'t [MapTables]) -> Wor
     }
 }
 
-/// The one result of a list.
+/// The only result of a list.
 fn only(results: Vec<Option<Vec<Out>>>) -> Option<Vec<Out>>
     requires { length (outs_in results.items) ≡ 1 }
     ensures { outs_in results.items ≡ option_map (λ outs. outs.items) result ∷ [] }
@@ -76,7 +76,7 @@ fn only(results: Vec<Option<Vec<Out>>>) -> Option<Vec<Out>>
 }
 
 impl AccessPoint {
-    /// An access point that has handled nothing and has no programs yet, for maps of these shapes.
+    /// An access point that has handled nothing and has no programs, for maps of these shapes.
     pub fn new(alloc: Global, config: &LinkConfig, shapes: Shapes) -> Result<Self, AllocError>
         ensures fresh { IfOk result (λ a. AreFresh config.now a.shards) }
         ensures programs { IfOk result (λ a. a.programs ≡ no_programs shapes) }
@@ -93,7 +93,7 @@ impl AccessPoint {
         self.programs.shapes()
     }
 
-    /// Has this program for a hook, or none, in place of the one that was there.
+    /// Puts this program, or none, in place of a hook's program.
     pub fn put(&mut self, hook: Hook, program: Option<Accepted>)
         requires fits { IfSome program (IsFor self.old.programs.shapes hook) }
         ensures programs { self.new.programs ≡ replaced hook self.old.programs program }
@@ -102,8 +102,9 @@ impl AccessPoint {
         self.programs.put(hook, program);
     }
 
-    /// Handles an event at the shards that it concerns, as `ap_core::handle_all` does, judged by the programs over these
-    /// maps. None where it is refused for memory, which leaves all as it was.
+    /// Handles an event at the shards that it concerns, as `ap_core::handle_all` does, judged by the programs over
+    /// these maps. None if it is refused for lack of memory, which leaves the readings, the programs and `state`
+    /// unchanged.
     pub fn handle(
         &mut self,
         alloc: Global,

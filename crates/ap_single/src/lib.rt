@@ -1,8 +1,8 @@
 //! The access point of one caller: eight shards, and the programs by which they judge.
 //!
-//! Main calls: `AccessPoint::new` and `handle`. It stands on `ap_core` and `program_judge`. Promised: what comes out of an
-//! event is a step of the link whose verdicts are those of the caller's programs, over the caller's maps; an event that is
-//! refused for memory changes nothing and asks nothing. It waits for nothing.
+//! Main calls: `AccessPoint::new` and `handle`. It depends on `ap_core` and `program_judge`. An event is a step of the
+//! link whose verdicts are those of the caller's programs, over the caller's maps; an event refused for lack of memory
+//! changes nothing and queries nothing. No call waits.
 #![tactic(auto)]
 
 mod access_point;

@@ -17,7 +17,7 @@ use Rattle.std.proofs.lemmas.Map.Entries.{length-keys_of}
 use Rattle.std.proofs.lemmas.Map.Steps.{length-le_from_keys}
 use Rattle.std.proofs.lemmas.Option.{none-some}
 
--- two addresses are one or two
+-- two addresses are equal or not
 pub address_tells : (a b : List ℕ) → ((same_address a b ≡ true) × (a ≡ b)) ⊎ ((same_address a b ≡ false) × (a ≢ b))
 address_tells a b =
     let d = bytes_eq-Decides a b in
@@ -28,7 +28,7 @@ address_tells a b =
     ] in
     go (same_address a b) refl
 
--- what stands so after a move: the station that moved, or another as before
+-- a standing after a move: that of the station that moved, or another's as before
 module _ (f : Standings) (a : List ℕ) (s : Standing) (g : Standings) (m : IsMoved f a s g) where
   pub moved_here : g a ≡ s
   moved_here = m a ∙ ap (λ b. cond b s (f a)) ((bytes_eq-Decides a a).1 refl)
@@ -54,7 +54,7 @@ same_number v m n p q = cc
 pub twice_none : (s : ℕ) (f : Standings) (c : ℕ) (H : List (Option (List ℕ))) → IsSound s f c H → NoneTwice f
 twice_none s f c H i a b n p q = same_station H (n / 8) a b (i.holds a n p) (i.holds b n q)
 
--- a station that has no identifier moves to where it has none
+-- a station without an identifier moves to a standing without one
 pub plain_sound : (s : ℕ) (f : Standings) (c : ℕ) (H : List (Option (List ℕ))) (a : List ℕ) (c2 : ℕ) (v : Standing) (g : Standings) →
     IsSound s f c H → ((n : ℕ) → f a ≡ Some (Associated n) → ⊥) → ((n : ℕ) → v ≡ Some (Associated n) → ⊥) → IsMoved f a v g → c2 ≤ 512 → IsSound s g c2 H
 plain_sound s f c H a c2 v g i old new m few =
@@ -162,7 +162,7 @@ free_from s f c H a k i low high here =
       free = λ b e. here b (subst (λ t. slice_index_or H t None ≡ Some b) (sym (place k s (8 * k + s) l refl)) (i.holds b (8 * k + s) e));
     }
 
--- where each place is taken no identifier is free
+-- if each index is taken, no identifier is free
 pub none_free : (s : ℕ) (f : Standings) (c : ℕ) (H : List (Option (List ℕ))) (a : List ℕ) →
     IsSound s f c H → ((k : ℕ) → k < 251 → IsTaken s H a k) → (n : ℕ) → IsFree s f a n → ⊥
 none_free s f c H a i taken n w =
@@ -172,7 +172,7 @@ none_free s f c H a i taken n w =
     let t = taken (n / 8) (omega arith) (subst (λ x. IsOwn s x) (sym e) w.own) in
     t.2 (w.free t.0 (subst (λ x. f t.0 ≡ Some (Associated x)) e (i.held (n / 8) t.0 t.1)))
 
--- where each place below this one is taken, no lesser identifier is free
+-- if each index below this one is taken, no lesser identifier is free
 pub least_from : (s : ℕ) (f : Standings) (c : ℕ) (H : List (Option (List ℕ))) (a : List ℕ) (k : ℕ) →
     IsSound s f c H → ((j : ℕ) → j < k → IsTaken s H a j) → IsFree s f a (8 * k + s) → IsLeastFree s f a (8 * k + s)
 least_from s f c H a k i taken free =

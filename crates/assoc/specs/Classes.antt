@@ -8,7 +8,7 @@ use Rattle.assoc.specs.declared.class.ClassAnswer.{ClassAnswer}
 use Rattle.assoc.specs.declared.class.ClassAnswer.TheVariants.{Permitted, Deauthenticate, Disassociate}
 use Rattle.assoc.specs.Standings.{Standing, state_of}
 
--- the class of each kind of frame; of block acknowledgement frames by our own rule
+-- the class of each kind of frame; that of block acknowledgement frames is our own rule
 abbrev pub class_of : Subtype → Class
 class_of frames.Authentication = One
 class_of frames.Deauthentication = One
@@ -31,8 +31,8 @@ class_number One = 1
 class_number Two = 2
 class_number Three = 3
 
--- what answers a frame that is not permitted: in State 1 a deauthentication, in State 2 a disassociation; reason 6 is
--- 'class 2 frame from a nonauthenticated station', 7 'class 3 frame from a nonassociated station' (Table 9-45)
+-- the response to a frame that isn't permitted: in State 1 a deauthentication, in State 2 a disassociation; reason 6
+-- is 'class 2 frame from a nonauthenticated station', 7 'class 3 frame from a nonassociated station' (Table 9-45)
 abbrev pub rejection : ℕ → ℕ → ClassAnswer
 rejection state class =
     if state == 1 then Deauthenticate (if class == 2 then 6 else 7) else Disassociate 7

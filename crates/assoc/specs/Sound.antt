@@ -3,7 +3,7 @@ use Rattle.std.specs.Prelude.{◌≡◌, ◌≢◌, ℕ, ◌+◌, ◌*◌, ◌/�
 use Rattle.assoc.specs.declared.standing.Known.TheVariants.{Associated}
 use Rattle.assoc.specs.Standings.{Standings, IsOwn}
 
--- at most 512 stations; those associated have identifiers of their shard, each held in the table by just that one
+-- at most 512 stations; associated ones have identifiers of their shard, each held in the table by just that station
 pub record IsSound
     (s : ℕ) (f : Standings) (count : ℕ) (holders : List (Option (List ℕ))) : Type 0 where
   pub shard : s < 8
@@ -14,7 +14,7 @@ pub record IsSound
   pub held : (k : ℕ) (a : List ℕ) → slice_index_or holders k None ≡ Some a →
       f a ≡ Some (Associated (8 * k + s))
 
--- the identifier at place k is none that the shard may grant, or another station than a has it
+-- the identifier at index k isn't one that the shard may grant, or another station than a has it
 abbrev pub IsTaken : ℕ → List (Option (List ℕ)) → List ℕ → ℕ → Type 0
 IsTaken s holders a k =
     IsOwn s (8 * k + s) → (b : List ℕ) × (slice_index_or holders k None ≡ Some b) × (b ≢ a)

@@ -14,18 +14,17 @@ pub enum Class {
     Three,
 }
 
-/// Whether a frame is permitted; if not, it is discarded and answered so.
+/// Whether a frame is permitted; if not, it is discarded, and this is the response.
 #[derive(Clone, Copy, Debug, PartialEq, Eq)]
 pub enum ClassAnswer {
     Permitted,
-    /// By a deauthentication with this reason.
+    /// A deauthentication with this reason.
     Deauthenticate(Reason),
-    /// By a disassociation with this reason.
+    /// A disassociation with this reason.
     Disassociate(Reason),
 }
 
-/// The class of a kind of frames. That all block acknowledgement frames are of class 3 is this access
-/// point's own rule.
+/// The class of a kind of frame. That all block acknowledgement frames are of class 3 is this access point's own rule.
 pub fn class_of(subtype: Subtype) -> Class
     ensures { result ≡ class_of subtype }
 {
@@ -47,7 +46,7 @@ pub fn class_of(subtype: Subtype) -> Class
     }
 }
 
-/// What becomes of a frame of this class from a station that stands so (11.3.3): 6 and 7 are the
+/// What happens to a frame of this class from a station with this standing (11.3.3): 6 and 7 are the
 /// reasons of Table 9-45 for class 2 and class 3 frames.
 pub fn class_check(standing: Standing, class: Class) -> ClassAnswer
     ensures { result ≡ class_answer standing class }

@@ -6,7 +6,7 @@ ghost use Rattle.std.specs.Option.{is_some};
 use mac_frame::Address;
 use std::marker::Model;
 
-/// At place k the station that has the identifier 8 k + s of shard s, and how many places are held.
+/// At index k the station that has identifier 8 k + s of shard s, and how many indices are held.
 #[derive(Drop)]
 pub(crate) struct Holders {
     places: [Option<Address>; 251],
@@ -35,14 +35,12 @@ impl Holders {
         }
     }
 
-    /// How many places are held.
     pub(crate) fn count(&self) -> u16
         ensures { result ≡ count_by is_some self.now }
     {
         self.held
     }
 
-    /// Who holds a place.
     pub(crate) fn get(&self, place: usize) -> Option<Address>
         requires { place < 251 }
         ensures is { result ≡ slice_index_or self.now place None }
@@ -51,7 +49,6 @@ impl Holders {
         self.places[place]
     }
 
-    /// Nobody holds a place any more.
     pub(crate) fn free(&mut self, place: usize)
         requires { place < 251 }
         ensures { self.new ≡ slice_set self.old place None }
@@ -62,7 +59,6 @@ impl Holders {
         self.places[place] = None;
     }
 
-    /// A station holds a place from now on.
     pub(crate) fn give(&mut self, place: usize, station: Address)
         requires { place < 251 }
         ensures is { self.new ≡ slice_set self.old place (Some station) }

@@ -23,7 +23,7 @@ const GREATEST_AID: u16 = 2007;
 pub struct Link {
     shard: u16,
     stations: HashMap<Address, Known>,
-    /// At place k the station that has the identifier 8 k + shard.
+    /// At index k the station that has identifier 8 k + shard.
     holders: Holders,
 }
 
@@ -74,14 +74,14 @@ impl Link {
         self.shard
     }
 
-    /// Where a station stands.
+    /// A station's standing.
     pub fn standing(&self, station: Address) -> Standing
         ensures { result ≡ standing self.now station }
     {
         self.stations.get(&station).copied()
     }
 
-    /// Whether no further station can be known: 512 are.
+    /// Whether no further station can be known, since 512 are.
     pub fn is_full(&self) -> bool
         ensures { IsTrue result ↔ IsFull (standing self.now) }
     {
@@ -95,8 +95,7 @@ impl Link {
         self.holders.count()
     }
 
-    /// Tells a proof that the identifiers are held as the stations stand, each once, and does
-    /// nothing.
+    /// Gives proofs that the identifiers are held exactly as the standings say, each once; does nothing.
     pub fn known(&self)
         ensures holds { HoldsAsTheyStand self.now }
         ensures once { NoneTwice (standing self.now) }
@@ -104,7 +103,7 @@ impl Link {
         let _ = &self.shard;
     }
 
-    /// The station is disassociated (IEEE 802.11-2016, 11.3.5.8): an associated one goes to State 2
+    /// The station is disassociated (IEEE 802.11-2016, 11.3.5.8): an associated one goes to State 2,
     /// and its identifier is free. Nothing else changes.
     pub fn on_disassoc(&mut self, station: Address)
         ensures shard { self.new.shard ≡ self.old.shard }
@@ -130,7 +129,7 @@ impl Link {
     }
 
     /// The station is authenticated (11.3.4.3): it goes to State 2 from any state, and keeps no
-    /// identifier. Where memory runs out nothing changes; a known station needs none.
+    /// identifier. An error, which only an unknown station meets, changes nothing.
     pub fn on_auth(&mut self, station: Address) -> Result<(), AllocError>
         requires { IsSome (standing self.old station) ⊎ (IsFull (standing self.old) → ⊥) }
         ensures moves { OnOk result
@@ -164,8 +163,7 @@ impl Link {
         }
     }
 
-    /// The station is deauthenticated (11.3.4.5): it is unknown from now on, and its identifier is
-    /// free.
+    /// The station is deauthenticated (11.3.4.5): it becomes unknown, and its identifier is free.
     pub fn on_deauth(&mut self, station: Address)
         ensures shard { self.new.shard ≡ self.old.shard }
         ensures moves { IsMoved (standing self.old) station None (standing self.new) }
@@ -182,7 +180,7 @@ impl Link {
         let _ = self.stations.remove(&station);
     }
 
-    /// The least identifier that may be granted to the station; its own counts as free. None where
+    /// The least identifier that may be granted to the station; its own counts as free. None if
     /// others have all.
     pub fn free_aid(&self, station: Address) -> Option<u16>
         ensures { MatchOption result ((n : ℕ) → IsFree self.now.shard (standing self.now) station
@@ -200,8 +198,7 @@ impl Link {
         None
     }
 
-    /// The station is associated (11.3.5.3, 11.3.5.5): it has this identifier from now on, and no
-    /// other.
+    /// The station is associated (11.3.5.3, 11.3.5.5): this becomes its only identifier.
     pub fn on_assoc(&mut self, station: Address, aid: u16)
         requires known { IsSome (standing self.old station) }
         requires free { IsFree self.old.shard (standing self.old) station aid }

@@ -3,7 +3,7 @@
 ghost use Rattle.std.specs.Prelude.{◌≡◌};
 ghost use Rattle.assoc.specs.Standings.{state_of, aid_of};
 
-/// How a known station stands (IEEE 802.11-2016, 11.3.1). There is no RSN, so States 3 and 4 are one.
+/// The standing of a known station (IEEE 802.11-2016, 11.3.1). There is no RSN, so States 3 and 4 are one.
 #[derive(Clone, Copy, Debug, PartialEq, Eq)]
 pub enum Known {
     /// State 2.
@@ -12,7 +12,7 @@ pub enum Known {
     Associated(u16),
 }
 
-/// Where a station stands. None is State 1: the station is unknown.
+/// A station's standing. None is State 1: the station is unknown.
 pub type Standing = Option<Known>;
 
 /// The number of a standing's state, 1 to 3.

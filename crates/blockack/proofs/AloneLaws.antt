@@ -1,4 +1,4 @@
--- Data that is handed up at once, and nothing behind it.
+-- Data that is passed up at once and alone.
 use Rattle.std.proofs.Common.{◌≡◌, ℕ, ◌+◌, ◌-◌, ◌%◌, ◌<◌, ◌≤◌, ◌≢◌, ◌++◌, ⊎_elim, Option, None, Some, List, length, get_or, sym, ap, ◌∙◌, arith}
 use Rattle.std.specs.Prelude.{is_some, IsSome}
 use Rattle.std.proofs.lemmas.Bool.{cases_lt}
@@ -12,7 +12,7 @@ use Rattle.blockack.proofs.MoveLaws.{with_same, with_other, slot_free}
 use Rattle.blockack.proofs.ReadingLaws.{seen, held_seen, wanted_in}
 
 module _ {F : Type 0} (slots : List (Option (Option F))) (start size : ℕ) (sound : IsSoundRing slots start size) where
-  -- the ring after its first slot, which is empty, was passed
+  -- the ring after its first slot, which is empty, is passed
   pub ring_passed : (i : ℕ) → ring_at slots ((start + 1) % 4096) i ≡ ring_at slots start (1 + i)
   ring_passed i =
       ⊎_elim
@@ -65,7 +65,7 @@ module _ {F : Type 0} (slots : List (Option (Option F))) (start size : ℕ) (sou
         ∙ ap (λ o. frame_of ((start + 0) % 4096) o) (with_same (ring_at slots start) (ahead start number) item 0 e)
         ∙ ap (λ x. frame_of x (Some item)) n)
 
-    -- the test of the slot behind it is right
+    -- the test of the next slot is right
     module _ (bitmap : Bitmap) where
       behind : ring_at slots start 1 ≡ get_or slots ((number + 1) % 64) None
       behind =

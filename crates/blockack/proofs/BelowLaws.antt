@@ -19,7 +19,7 @@ module _ {F : Type 0} where
   frame_in n (Some (Some frame)) p c =
       ⊎_elim (λ none. absurd (none_in_none p none)) (λ e. (sym (ap (λ x. x.0) e), ap (λ x. Some (Some x.1)) e)) (Contains-push_cases [] (n, frame) p c)
 
-  -- what is passed up lies below the window, and was taken
+  -- what is passed up is below the window, and was taken
   pub in_below : (taken : Items F) (w : ℕ) (p : ℕ × F) → Contains (frames_below taken w) p → (p.0 < w) × (taken p.0 ≡ Some (Some p.1))
   in_below taken zero p c = absurd (none_in_none p c)
   in_below taken (suc w) p c =

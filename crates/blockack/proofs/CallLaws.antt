@@ -1,4 +1,4 @@
--- What whole lists of calls hand up.
+-- What whole lists of calls pass up.
 use Rattle.std.proofs.Common.{◌≡◌, ℕ, ◌%◌, ◌<◌, ◌≢◌, ◌⊎◌, inl, inr, ⊎_elim, Bool, true, false, Option, None, Some, List, [], ◌∷◌, ◌++◌, get_or, refl, sym, ap, ◌∙◌, subst, arith, append_assoc}
 use Rattle.std.specs.Prelude.{is_some, AllPairs, Contains}
 use Rattle.std.proofs.lemmas.Bool.{cases_eq}
@@ -22,7 +22,7 @@ module _ {F : Type 0} where
         sent = ap (λ xs. xs ++ rest) p.sent ∙ ap (λ xs. numbered p.frames ++ xs) q.sent ∙ sym (map-append (λ x. (x.0 % 4096, x.1)) p.frames q.frames);
       }
 
-  -- what was taken between two windows: the list has each item once, and the second window has them and the first's
+  -- what was taken between two windows: the list has each item once, and the second window has these and the first's
   record Gains (old : Items F) (taken : List (ℕ × Option F)) (new : Items F) : Type 0 where
     kept : (n : ℕ) (item : Option F) → old n ≡ Some item → new n ≡ Some item
     gained : (n : ℕ) (item : Option F) → Contains taken (n, item) → (new n ≡ Some item) × (old n ≡ None)
@@ -95,7 +95,7 @@ module _ {F : Type 0} where
   gains (leaves number item events taken old mid new step rest) = gains_same old.taken mid.taken new.taken taken (ap (λ w. w.taken) step.stays) (gains rest)
   gains (asks number events taken old mid new step rest) = gains_same old.taken mid.taken new.taken taken (asks_same number old mid step) (gains rest)
 
-  -- calls, as a run of whichever window the first reading is of
+  -- calls, as a run of any window with the first reading
   record Chain (size : ℕ) (events : List (Event F)) (window : Window F) (new : Reading F) (out : List (ℕ × F)) : Type 0 where
     taken : List (ℕ × Option F)
     next : Window F

@@ -16,7 +16,7 @@ use Rattle.blockack.proofs.MoveLaws.{with_other, not_some}
 use Rattle.blockack.proofs.ReadingLaws.{seen}
 
 module _ {F : Type 0} (slots : List (Option (Option F))) (start : ℕ) (len : length slots ≡ 64) where
-  -- the ring from its start on: the slots from there, and then those before it
+  -- the ring from its start on: the slots from there, then those before it
   turned : map (ring_at slots start) (range_with_len 0 64) ≡ drop (start % 64) slots ++ take (start % 64) slots
   turned =
       let k : ℕ = start % 64 in
@@ -55,7 +55,7 @@ module _ {F : Type 0} (slots : List (Option (Option F))) (start : ℕ) (len : le
   held_counted size bitmap = sym (held_in_all size bitmap)
 
 module _ {F : Type 0} (slots : List (Option (Option F))) (start size number : ℕ) (item : Option F) (sound : IsSoundRing slots start size) where
-  -- data behind the first number, within the window, is held alone
+  -- data after the first number, within the window, is only held
   waits : 0 < ahead start number → ahead start number < size → (passed : ℕ) →
       IsNextFree (with_item (ring_at slots start) (ahead start number) item) (ahead start number + 1 - size) passed → passed ≡ 0
   waits behind within passed next =

@@ -8,7 +8,7 @@ use Rattle.blockack.specs.Passed.{frame_of}
 use Rattle.blockack.specs.Ring.{ring_at, held_count, gathered, ahead, IsSoundRing}
 use Rattle.blockack.proofs.SlotLaws.{ring_in, ring_out, held_set, held_le, none_some, weight}
 
--- a sequence number means no two numbers
+-- a sequence number means at most one number
 pub one_number : (start number n m : ℕ) → IsUnwrapped start number n → IsUnwrapped start number m → n ≡ m
 one_number start number n m p q =
     let a = p.residue in let b = p.low in let d = p.high in let e = q.residue in let f = q.low in let h = q.high in
@@ -35,7 +35,7 @@ module _ {F : Type 0} where
       (λ ne. let f : j + i ≢ d = λ p. ne (omega arith) in with_other h1 (d - j) item i ne ∙ same i ∙ sym (with_other h d item (j + i) f))
       (cases_eq i (d - j))
 
-  -- the window does not pass a number that is to be taken
+  -- the window doesn't pass a number that is to be taken
   pub stops_before : (h : Items F) (size d j : ℕ) → 1 ≤ size → h d ≡ None → IsNextFree h (d + 1 - size) j → j ≤ d
   stops_before h size d j some free next =
       ⊎_elim (λ lt. let from : d + 1 - size ≤ d = omega arith in absurd (not_some (h d) free (next.full d from lt))) (λ le. le) (cases_lt d j)
@@ -168,7 +168,6 @@ module _ {F : Type 0} where
             rest i ∙ with_other (ring_at slots start) (ahead start number) item (j + i) ne ∙ sound.past (j + i) far;
       }
 
-  -- a move is short
   pub short_after : (slots : List (Option (Option F))) (start size number j : ℕ) (item : Option F) → IsSoundRing slots start size → ahead start number < 2048 →
       IsNextFree (with_item (ring_at slots start) (ahead start number) item) (ahead start number + 1 - size) j → j ≤ 2112
   short_after slots start size number j item sound near next =
@@ -182,7 +181,6 @@ module _ {F : Type 0} where
       (λ le. le)
       (cases_lt 2112 j)
 
-  -- an empty ring
   pub ring_none : (slots : List (Option (Option F))) (start i : ℕ) → ((k : ℕ) → get_or slots k None ≡ None) → ring_at slots start i ≡ None
   ring_none slots start i none = ⊎_elim (λ lt. ring_in slots start i lt ∙ none ((start + i) % 64)) (λ out. ring_out slots start i out) (cases_lt i 64)
 

@@ -1,4 +1,4 @@
--- The readings of an agreement suffice: what holds of them holds of every window that they are readings of.
+-- The readings of an agreement suffice: what holds for them holds for every window with these readings.
 use Rattle.std.proofs.Common.{◌≡◌, ℕ, zero, suc, ◌+◌, ◌-◌, ◌%◌, ◌<◌, ◌≤◌, ◌≢◌, ◌↔◌, inl, inr, ⊎_elim, Bool, true, false, not, Option, None, Some, List, [], get_or, refl, sym, ap, ◌∙◌, subst, arith, map}
 use Rattle.std.specs.Prelude.{is_some, IsSome, IsTrue, max}
 use Rattle.std.specs.List.{range_with_len}
@@ -23,7 +23,7 @@ module _ {F : Type 0} where
       (λ past. get_or_past (map h (range_with_len 0 64)) i None (let e = length-map-range_with_len h 0 64 in omega (arith, e)) ∙ sym (out i past))
       (cases_lt i 64)
 
-  -- the least free place is the least free number
+  -- the least free index is the least free number
   pub next_from : (h a : Items F) (w m j : ℕ) → ((i : ℕ) → a (w + i) ≡ h i) → IsNextFree h m j → IsNextFree a (w + m) (w + j)
   next_from h a w m j same next =
       record {
@@ -97,7 +97,7 @@ module _ {F : Type 0} where
         passes = subst Q (sym sent) (passes_up h2 window taken v.start j same (λ k lt. with_other window.taken n item k (λ e. omega arith)) r);
       }
 
-  -- data that is not
+  -- data that isn't taken
   pub does_leave : (v v2 : Reading F) (number : ℕ) (item : Option F) (out : List (ℕ × F)) → number < 4096 → (IsWanted v number → ⊥) → ((i : ℕ) → held_at v2 i ≡ held_at v i) → v2.start ≡ v.start → out ≡ [] → (window : Window F) → Reads window v → AfterData false v.size number item window v2 out
   does_leave v v2 number item out fits not same start none window reads =
       record {
@@ -153,7 +153,7 @@ module _ {F : Type 0} where
         passes = record { frames = []; grows = sym (append-nil (passed window)); sent = none };
       }
 
-  -- the place after the last that is held
+  -- the index after the last one held
   pub record Last (h : Items F) (n : ℕ) : Type 0 where
     pub e : ℕ
     pub within : e ≤ n
@@ -237,7 +237,7 @@ module _ {F : Type 0} where
       let place : (start + ahead start number) % 64 ≡ number % 64 = omega arith in
       ap (λ x. get_or slots x None) (sym place) ∙ sym (ring_in slots start (ahead start number) in64) ∙ sym (held_seen slots start size bitmap (ahead start number)) ∙ wanted.free
 
-  -- what `is_none` answers
+  -- what `is_none` returns
   pub none_is : (o : Option (Option F)) (r : Bool) → is_some o ≡ not r → r ≡ true → o ≡ None
   none_is None r h t = refl
   none_is (Some x) r h t = absurd (none_some (sym (h ∙ ap not t)))

@@ -1,4 +1,4 @@
--- Where a window starts does not depend on its items.
+-- A window's start doesn't depend on its items.
 use Rattle.std.proofs.Common.{◌≡◌, ℕ, ◌+◌, ◌-◌, ◌%◌, ◌<◌, ◌≤◌, ⊎_elim, inl, inr, true, false, cond, Option, None, refl, sym, ap, ◌∙◌, subst, arith}
 use Rattle.std.specs.Prelude.{is_some, IsSome, max, nat_lt}
 use Rattle.std.proofs.lemmas.Bool.{cases_lt, cases_eq}
@@ -27,14 +27,13 @@ module _ {F : Type 0} where
       let s = same.start in let low = p.low in let high = p.high in
       record { residue = p.residue; low = omega arith; high = omega arith }
 
-  -- neither window changed
   stay_same : (one other one2 other2 : Window F) → TookTheSame one other → one2 ≡ one → other2 ≡ other → TookTheSame one2 other2
   stay_same one other one2 other2 same p q =
       let P : Window F → Type 0 = λ w. TookTheSame w other2 in
       let Q : Window F → Type 0 = λ w. TookTheSame one w in
       subst P (sym p) (subst Q (sym q) same)
 
-  -- the least free number is one
+  -- the least free number is unique
   next_le : (one other : Window F) (from n m : ℕ) → ((k : ℕ) → is_some (one.taken k) ≡ is_some (other.taken k)) → IsNextFree one.taken from n → IsNextFree other.taken from m → m ≤ n
   next_le one other from n m same p q =
       ⊎_elim
@@ -82,7 +81,7 @@ module _ {F : Type 0} where
       let P : ℕ → Type 0 = λ m. IsNextFree other2.taken m other2.start in
       next_same one2 other2 p.n alike p.next (subst P e q.next)
 
-  -- one moves and the other stays: that can't be
+  -- it can't be that one moves and the other stays
   only_one_moves : (number : ℕ) (one other one2 other2 : Window F) → TookTheSame one other → MovesTo number one one2 → Stays number other other2 → ⊥
   only_one_moves number one other one2 other2 same p q =
       let s = same.start in let beyond = p.beyond in

@@ -1,4 +1,4 @@
--- The bitmap of a scoreboard suffices: what holds of it holds of every scoreboard that it is a reading of.
+-- The bitmap of a scoreboard suffices: what holds for it holds for every scoreboard with this reading.
 use Rattle.std.proofs.Common.{◌≡◌, ℕ, ◌+◌, ◌-◌, ◌*◌, ◌/◌, ◌^◌, ◌%◌, ◌<◌, ◌≤◌, ◌≢◌, inl, ⊎_elim, Bool, true, false, cond, refl, sym, ap, ◌∙◌, arith}
 use Rattle.std.specs.Prelude.{◌==◌, nat_lt, max, bit_or}
 use Rattle.std.specs.Int.{bit_at, w64}

@@ -89,7 +89,7 @@ module _ {F : Type 0} where
   pub read_is : (xs : List (Option (Option F))) (i : ℕ) (x : Option (Option F)) → i < length xs → x ≡ get_or xs i x → get_or xs i None ≡ x
   read_is xs i x h e = grind (arith, common_steps)
 
-  -- the slot at the front is the one that was moved to
+  -- the slot at the front is the one moved to
   pub front_is : (slots init : List (Option (Option F))) (at start moved : ℕ) → ((i : ℕ) → ring_at slots at i ≡ ring_at init start (moved + i)) → ring_at init start moved ≡ get_or slots (at % 64) None
   front_is slots init at start moved h =
       let lt : 0 < 64 = omega arith in

@@ -1,10 +1,10 @@
--- Whole lists of calls on one agreement, and what they handed up in all.
+-- Whole lists of calls on one agreement, and all that they passed up.
 use Rattle.std.specs.Prelude.{◌≡◌, ◌≢◌, ℕ, ◌<◌, ◌↔◌, Bool, true, false, Option, Some, List, [], ◌∷◌, ◌++◌, AllPairs, Contains}
 use Rattle.blockack.specs.Window.{Window, opening, TakesData, LeavesData, RequestStep, EndStep}
 use Rattle.blockack.specs.Passed.{numbered}
 use Rattle.blockack.specs.Reading.{Reading, Reads, DataMovesWindow, RequestMovesWindow, EndPassesUp, DataMarksScoreboard, RequestMovesScoreboard}
 
--- what came to an agreement: data with its item, which was taken or not, or a request
+-- what came to an agreement: data with its item, taken or not, or a request
 pub data Event (F : Type 0) : Type 0 where
   DataCame : (number : ℕ) (item : Option F) (took : Bool) → Event F
   RequestCame : (number : ℕ) → Event F
@@ -26,13 +26,13 @@ module _ {F : Type 0} where
   Call (DataCame number item took) old new out = DataCall took number item old new out
   Call (RequestCame number) old new out = RequestCall number old new out
 
-  -- calls one after another, and the list of all that they handed up
+  -- calls one after another, and the list of all that they passed up
   pub data Calls : List (Event F) → Reading F → Reading F → List (ℕ × F) → Type 0 where
     no_call : (v : Reading F) → Calls [] v v []
     next_call : (e : Event F) (events : List (Event F)) (old mid new : Reading F) (first rest : List (ℕ × F)) →
         Call e old mid first → Calls events mid new rest → Calls (e ∷ events) old new (first ++ rest)
 
-  -- the same events over whole numbers: the steps of a window, and the list of what it took, each with its number
+  -- the same events over whole numbers: the steps of a window, and the list of items it took, each with its number
   pub data Run (size : ℕ) : List (Event F) → Window F → List (ℕ × Option F) → Window F → Type 0 where
     no_event : (window : Window F) → Run size [] window [] window
     takes : (number : ℕ) (item : Option F) (events : List (Event F)) (taken : List (ℕ × Option F)) (old mid new : Window F) →
@@ -45,13 +45,13 @@ module _ {F : Type 0} where
         RequestStep number old mid → Run size events mid taken new →
         Run size (RequestCame number ∷ events) old taken new
 
-  -- the frames are those of the taken items below this number that weren't dropped, each once, and their numbers rise
+  -- the frames are those of the taken items below this number that weren't dropped, once each, by increasing number
   pub record IsInOrder (taken : List (ℕ × Option F)) (below : ℕ) (frames : List (ℕ × F)) : Type 0 where
     pub once : AllPairs (λ p q. p.0 ≢ q.0) taken
     pub rising : AllPairs (λ p q. p.0 < q.0) frames
     pub exact : (n : ℕ) (frame : F) → Contains frames (n, frame) ↔ ((n < below) × Contains taken (n, Some frame))
 
-  -- what an agreement of this start and size handed up while it went through the events
+  -- what an agreement with this start and size passed up during these events
   pub record HandsUp (start size : ℕ) (events : List (Event F)) (v : Reading F) (out : List (ℕ × F)) : Type 0 where
     pub taken : List (ℕ × Option F)
     pub window : Window F
@@ -61,7 +61,7 @@ module _ {F : Type 0} where
     pub order : IsInOrder taken window.start frames
     pub sent : out ≡ numbered frames
 
-  -- and once it has ended: then all that was taken lies below the window
+  -- the same once it has ended: all that was taken is below the window
   pub record HandsUpAll (start size : ℕ) (events : List (Event F)) (out : List (ℕ × F)) : Type 0 where
     pub taken : List (ℕ × Option F)
     pub window : Window F
@@ -73,14 +73,14 @@ module _ {F : Type 0} where
     pub whole : (n : ℕ) (item : Option F) → Contains taken (n, item) → n < last.start
     pub sent : out ≡ numbered frames
 
--- What was handed up in all are the taken items that aren't `None`, below the window, each once, in rising order of
--- their whole numbers: over any list of calls for data and requests on an agreement, and its end
+-- Over any list of calls for data and requests, an agreement passes up exactly the taken items below the window that
+-- aren't `None`, each once, in increasing order of their whole numbers.
 abbrev pub HandsUpInOrder : Type 0 → Type 0
 HandsUpInOrder F =
     (start : ℕ) (events : List (Event F)) (first last : Reading F) (out : List (ℕ × F)) →
     Reads (opening start) first → Calls events first last out → HandsUp start first.size events last out
 
--- calls from an opened window hand up all accepted data once each, in the order of its numbers
+-- with its end, it passes up all taken items that aren't `None`, each once, in increasing order
 abbrev pub HandsUpAllInOrder : Type 0 → Type 0
 HandsUpAllInOrder F =
     (start : ℕ) (events : List (Event F)) (first last : Reading F) (out more : List (ℕ × F)) →

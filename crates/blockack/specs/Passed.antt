@@ -1,9 +1,9 @@
--- What a window passes up (IEEE 802.11-2016, 10.24.7.6.1): the frames of the numbers below its start, in rising order.
+-- What a window passes up (IEEE 802.11-2016, 10.24.7.6.1): the frames of numbers below its start, in increasing order.
 use Rattle.std.specs.Prelude.{◌≡◌, ℕ, zero, suc, ◌%◌, Option, None, Some, List, [], ◌∷◌, ◌++◌, map}
 use Rattle.blockack.specs.Window.{Items, Window}
 
 module _ {F : Type 0} where
-  -- the frame of an item, with its number; an item that was dropped has none
+  -- the frame of an item, with its number; a dropped item has none
   abbrev pub frame_of : ℕ → Option (Option F) → List (ℕ × F)
   frame_of n None = []
   frame_of n (Some None) = []
@@ -18,7 +18,7 @@ module _ {F : Type 0} where
   abbrev pub passed : Window F → List (ℕ × F)
   passed window = frames_below window.taken window.start
 
-  -- frames with their sequence numbers, which are their numbers modulo 4096
+  -- frames with their sequence numbers: their numbers modulo 4096
   abbrev pub numbered : List (ℕ × F) → List (ℕ × F)
   numbered frames = map (λ p. (p.0 % 4096, p.1)) frames
 

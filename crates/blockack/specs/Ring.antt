@@ -1,4 +1,4 @@
--- The ring of 64 slots that a window is kept in: the slot of number n is n modulo 64.
+-- The ring of 64 slots that holds a window: the slot of number n is n modulo 64.
 use Rattle.std.specs.Prelude.{◌≡◌, ℕ, zero, suc, ◌+◌, ◌-◌, ◌%◌, ◌<◌, ◌≤◌, nat_lt, cond, Option, None, List, [], ◌++◌, is_some, slice_index_or}
 use Rattle.std.specs.List.{sum_by}
 use Rattle.blockack.specs.Window.{Items, with_item}
@@ -9,7 +9,7 @@ abbrev pub ahead : ℕ → ℕ → ℕ
 ahead start number = (number + 4096 - start) % 4096
 
 module _ {F : Type 0} where
-  -- the slot i places after the one of `start`
+  -- the slot i after that of `start`
   unfoldable pub ring_at : List (Option (Option F)) → ℕ → Items F
   ring_at slots start i = cond (nat_lt i 64) (slice_index_or slots ((start + i) % 64) None) None
 
@@ -26,11 +26,11 @@ module _ {F : Type 0} where
   gathered slots start zero = []
   gathered slots start (suc n) = gathered slots start n ++ frame_of ((start + n) % 4096) (slots n)
 
-  -- what a ring holds from `start` on, and the item at its number as well
+  -- what a ring holds from `start` on, with the item at its number
   abbrev pub stored : List (Option (Option F)) → ℕ → ℕ → Option F → Items F
   stored slots start number item = with_item (ring_at slots start) (ahead start number) item
 
-  -- the ring of a window: its first number isn't held, nor is any after its last
+  -- the ring of a window: its first number isn't held, nor any after its last
   pub record IsSoundRing (slots : List (Option (Option F))) (start size : ℕ) : Type 0 where
     pub start_fits : start < 4096
     pub some_size : 1 ≤ size

@@ -1,10 +1,10 @@
--- Two windows that took the same numbers, with whatever items.
+-- Two windows that took the same numbers, whatever their items.
 use Rattle.std.specs.Prelude.{◌≡◌, ℕ, ◌<◌, ◌≤◌, Bool, Option, List, is_some}
 use Rattle.blockack.specs.Window.{Window, DataStep, RequestStep, EndStep}
 use Rattle.blockack.specs.Scoreboard.{ReadsScoreboard, scoreboard_of}
 use Rattle.blockack.specs.Reading.{Reading, Reads, window_of, held_at, DataMovesWindow, RequestMovesWindow}
 
--- they start at the same number, and took the same numbers
+-- they have the same start, and took the same numbers
 pub record TookTheSame {F : Type 0} (one other : Window F) : Type 0 where
   pub start : one.start ≡ other.start
   pub numbers : (n : ℕ) → is_some (one.taken n) ≡ is_some (other.taken n)
@@ -22,26 +22,26 @@ DataLeavesTheSame F =
     TookTheSame one other → DataStep took size number item one one2 → DataStep took2 size number item2 other other2 →
     (took ≡ took2) × TookTheSame one2 other2
 
--- so does the same request
+-- the same request leaves them the same
 abbrev pub RequestLeavesTheSame : Type 0 → Type 0
 RequestLeavesTheSame F =
     (number : ℕ) (one other one2 other2 : Window F) →
     TookTheSame one other → RequestStep number one one2 → RequestStep number other other2 → TookTheSame one2 other2
 
--- and the end
+-- so does the end
 abbrev pub EndLeavesTheSame : Type 0 → Type 0
 EndLeavesTheSame F =
     (one other one2 other2 : Window F) → TookTheSame one other → EndStep one one2 → EndStep other other2 → TookTheSame one2 other2
 
--- each reading is one of some window
+-- each reading belongs to some window
 abbrev pub HaveWindows : Type 0 → Type 0
 HaveWindows F = (v : Reading F) → v.start < 4096 → Reads (window_of v) v
 
--- so is each first number and bitmap one of some scoreboard
+-- each first number and bitmap belong to some scoreboard
 abbrev pub HaveScoreboards : Type 0
 HaveScoreboards = (size start bits : ℕ) → 1 ≤ size → start < 4096 → ReadsScoreboard (scoreboard_of size start bits) size start bits
 
--- the same of agreements, by their readings
+-- the same for agreements, by their readings
 abbrev pub DataReadsTheSame : Type 0 → Type 0
 DataReadsTheSame F =
     (number : ℕ) (item item2 : Option F) (took took2 : Bool) (one other one2 other2 : Reading F) (out out2 : List (ℕ × F)) →

@@ -1,29 +1,29 @@
 -- The receive reordering buffer of an agreement, over whole numbers that never wrap (IEEE 802.11-2016, 10.24.7.6):
--- what it took, where its window starts, and the step that each event is to it.
+-- what it took, where its window starts, and its step at each event.
 use Rattle.std.specs.Prelude.{◌≡◌, ℕ, ◌+◌, ◌-◌, ◌%◌, ◌<◌, ◌≤◌, max, Option, None, Some, IsSome, cond, ◌==◌, ◌⊎◌, Bool, true, false}
 
--- what was taken: at each number the item that was taken there. The item is `None` where its verdict dropped the frame
+-- what was taken: for each number the item taken there, `None` if its verdict dropped the frame
 abbrev pub Items : Type 0 → Type 0
 Items F = ℕ → Option (Option F)
 
--- all that was taken so far, and the first number of the window
+-- all that was taken, and the first number of the window
 pub record Window (F : Type 0) : Type 0 where
   pub taken : Items F
   pub start : ℕ
 
--- n is the whole number that a sequence number means to a window that starts here: no other number that ends in it,
--- modulo 4096, lies from 2048 before the start to 2047 after it
+-- n is the whole number that a sequence number means to a window that starts here: the only one with this residue
+-- modulo 4096 from 2048 before the start to 2047 after it
 pub record IsUnwrapped (start number n : ℕ) : Type 0 where
   pub residue : n % 4096 ≡ number
   pub low : start ≤ n + 2048
   pub high : n < start + 2048
 
 module _ {F : Type 0} where
-  -- a window that has taken nothing yet
+  -- a window that has taken nothing
   abbrev pub opening : ℕ → Window F
   opening start = record { taken = λ _. None; start = start }
 
-  -- what was taken, and at n the item as well
+  -- what was taken, with the item at n
   abbrev pub with_item : Items F → ℕ → Option F → Items F
   with_item taken n item k = cond (k == n) (Some item) (taken k)
 
@@ -33,30 +33,30 @@ module _ {F : Type 0} where
     pub free : taken n ≡ None
     pub full : (k : ℕ) → from ≤ k → k < n → IsSome (taken k)
 
-  -- data with this sequence number brings n to the window: it lies in the window or after it, and wasn't taken before
+  -- data with this sequence number brings n to the window: it is in the window or after it, and wasn't taken
   pub record Brings (window : Window F) (number n : ℕ) : Type 0 where
     pub is : IsUnwrapped window.start number n
     pub from_start : window.start ≤ n
     pub new : window.taken n ≡ None
 
-  -- data that is taken: the window moves on as far as n has to lie in it, and then to the first number that is missing
+  -- data that is taken: the window moves far enough to contain n, and then to the first missing number
   pub record TakesData (size number : ℕ) (item : Option F) (old new : Window F) : Type 0 where
     pub n : ℕ
     pub brings : Brings old number n
     pub gains : new.taken ≡ with_item old.taken n item
     pub next : IsNextFree new.taken (max old.start (n + 1 - size)) new.start
 
-  -- data that is left: it is old, or a duplicate
+  -- data that isn't taken: it is old, or a duplicate
   pub record LeavesData (number : ℕ) (old new : Window F) : Type 0 where
     pub other : (n : ℕ) → Brings old number n → ⊥
     pub stays : new ≡ old
 
-  -- the step that data is to a window of this size (10.24.7.6.2); the first argument says whether its item is taken
+  -- the step of a window of this size at data (10.24.7.6.2); the first argument says whether the item is taken
   abbrev pub DataStep : Bool → ℕ → ℕ → Option F → Window F → Window F → Type 0
   DataStep true size number item old new = TakesData size number item old new
   DataStep false size number item old new = LeavesData number old new
 
-  -- a request beyond the start: the window moves there, and then to the first number that is missing
+  -- a request beyond the start: the window moves there, and then to the first missing number
   pub record MovesTo (number : ℕ) (old new : Window F) : Type 0 where
     pub n : ℕ
     pub is : IsUnwrapped old.start number n
@@ -69,11 +69,11 @@ module _ {F : Type 0} where
     pub other : (n : ℕ) → IsUnwrapped old.start number n → old.start < n → ⊥
     pub stays : new ≡ old
 
-  -- the step that a BlockAckReq with this starting sequence number is (10.24.7.6.3)
+  -- the step at a BlockAckReq with this starting sequence number (10.24.7.6.3)
   abbrev pub RequestStep : ℕ → Window F → Window F → Type 0
   RequestStep number old new = MovesTo number old new ⊎ Stays number old new
 
-  -- the step that the end of the agreement is: the window moves past the last number that was taken, and no further
+  -- the step at the end of the agreement: the window moves just past the last taken number, if it isn't past it
   pub record EndStep (old new : Window F) : Type 0 where
     pub same : new.taken ≡ old.taken
     pub above : old.start ≤ new.start

@@ -16,21 +16,21 @@ use crate::scoreboard::Bitmap;
 use arrayvec::ArrayVec;
 use std::marker::Model;
 
-/// What became of an item: the window took it, or it is handed back, since its number is old or
-/// taken already.
+/// What happened to an item: the window took it, or it is returned, since its number is old or
+/// already taken.
 #[derive(Debug, Drop, PartialEq, Eq)]
 pub enum Placed<F> {
     Taken,
     Back(Option<F>),
 }
 
-/// A block acknowledgement agreement, as its recipient keeps it (IEEE 802.11-2016, 10.24.7): the
-/// window with the items that are held in it, and the scoreboard. The two move apart.
+/// A block acknowledgement agreement at its recipient (IEEE 802.11-2016, 10.24.7): the window with
+/// the items held in it, and the scoreboard. The two move independently.
 ///
 /// Sequence numbers count modulo 4096. The window has 1 to 64 numbers, and nothing is allocated.
 /// A contract sees the readings of an agreement: the window's start and size, what is held from the
-/// start on, and the scoreboard. What it says of them holds of each window and each scoreboard over
-/// whole numbers that they are readings of.
+/// start on, and the scoreboard. What it says of them holds for every window and scoreboard over
+/// whole numbers with these readings.
 #[derive(Drop)]
 pub struct Agreement<F> {
     slots: [Slot<F>; 64],
@@ -60,8 +60,7 @@ impl<F> Model for Agreement<F> {
 }
 
 impl<F: Drop> Agreement<F> {
-    /// An agreement that has taken nothing yet, from the starting sequence number and the buffer
-    /// size that were agreed on (10.24.2).
+    /// An agreement that has taken nothing, with the agreed starting sequence number and buffer size (10.24.2).
     pub fn open(start: u16, size: u16) -> Self
         requires start_fits { start < 4096 }
         requires some_size { 1 ≤ size }
@@ -79,7 +78,7 @@ impl<F: Drop> Agreement<F> {
         }
     }
 
-    /// Whether data with this sequence number would be taken: it isn't old, and not taken already.
+    /// Whether data with this sequence number would be taken: it is neither old nor already taken.
     pub fn wants(&self, number: u16) -> bool
         requires { number < 4096 }
         ensures reading { IsTrue result ↔ IsWanted self.now number }
@@ -95,8 +94,8 @@ impl<F: Drop> Agreement<F> {
         self.slots[(number % 64) as usize].is_none()
     }
 
-    /// How many frames data with this sequence number hands up, at most: none where it only waits
-    /// for a number before it.
+    /// A bound on the frames that data with this sequence number passes up: 0 if it waits for an earlier number,
+    /// otherwise one more than are held.
     pub fn most_passed(&self, number: u16) -> usize
         requires { number < 4096 }
         ensures { result ≡ most_passed self.now number }
@@ -108,8 +107,8 @@ impl<F: Drop> Agreement<F> {
         self.held() + 1
     }
 
-    /// Whether data with this sequence number would be handed up at once, and nothing behind it: it
-    /// is the first of the window, and nothing is held for the number after it.
+    /// Whether data with this sequence number would be passed up at once and alone: it is the window's first number,
+    /// and nothing is held for the next one.
     pub fn passes_alone(&self, number: u16) -> bool
         requires { number < 4096 }
         ensures { IsTrue result ↔ IsAlone self.now number }
@@ -117,9 +116,8 @@ impl<F: Drop> Agreement<F> {
         number == self.start && self.slots[((number + 1) % 64) as usize].is_none()
     }
 
-    /// Data came (10.24.7.6.2) that is handed up at once, and nothing behind it. The window holds
-    /// nothing of it: whatever its item is, who calls this hands it up. The scoreboard (10.24.7.3)
-    /// marks its number.
+    /// Data came (10.24.7.6.2) that is passed up at once and alone. The window doesn't store its item: the caller
+    /// passes it up. The scoreboard (10.24.7.3) marks its number, unless that is before the scoreboard's window.
     pub fn pass_alone(&mut self, number: u16)
         requires number_fits { number < 4096 }
         requires alone { IsAlone self.old number }
@@ -133,10 +131,10 @@ impl<F: Drop> Agreement<F> {
         self.start = (number + 1) % NUMBERS;
     }
 
-    /// Data came (10.24.7.6.2): takes `item` at `number` if it is wanted, and hands up in `out`
-    /// what the window passes up then, each frame with its sequence number. An item `None`, a frame
-    /// that was dropped, holds its place and is never handed up. An item that isn't wanted is handed
-    /// back. The scoreboard (10.24.7.3) marks the number whether it is wanted or not.
+    /// Data came (10.24.7.6.2): takes `item` at `number` if it is wanted, and puts into `out` the frames
+    /// that the window then passes up, each with its sequence number. An item `None`, a dropped frame,
+    /// occupies its number and is never passed up. An unwanted item is returned. Wanted or not, the
+    /// scoreboard (10.24.7.3) marks the number, unless that is before the scoreboard's window.
     pub fn on_data<A>(
         &mut self,
         number: u16,
@@ -163,9 +161,8 @@ impl<F: Drop> Agreement<F> {
         Placed::Taken
     }
 
-    /// A BlockAckReq came (10.24.7.6.3): moves the window to `start` if that lies ahead, and hands
-    /// up in `out` what is older, and then what is in order. The scoreboard (10.24.7.3) moves there
-    /// likewise.
+    /// A BlockAckReq came (10.24.7.6.3): moves the window to `start` if that is ahead, and passes up in
+    /// `out` what is older, then what follows in order. The scoreboard (10.24.7.3) moves likewise.
     pub fn on_bar<A>(&mut self, start: u16, out: &mut ArrayVec<(u16, F), 64, A>)
         requires start_fits { start < 4096 }
         requires empty { array_vec_len out.old ≡ 0 }
@@ -183,9 +180,9 @@ impl<F: Drop> Agreement<F> {
         self.start = (self.start + passed) % NUMBERS;
     }
 
-    /// The agreement ends (10.24.5): hands up all that is held, in order, which moves the window past
-    /// the last of it. The standard has the recipient release its buffer then; that it hands up what
-    /// it held first is this access point's own rule.
+    /// The agreement ends (10.24.5): passes up in `out` all that is held, in order, which moves the window past the
+    /// last held number. The standard has the recipient release its buffer; that it first passes up what it held is
+    /// this access point's own rule.
     pub fn close<A>(self, out: &mut ArrayVec<(u16, F), 64, A>)
         requires empty { array_vec_len out.old ≡ 0 }
         ensures passes { EndPassesUp self out.new.items }

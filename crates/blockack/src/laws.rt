@@ -5,8 +5,8 @@ ghost use Rattle.blockack.specs.Calls.{HandsUpInOrder, HandsUpAllInOrder};
 ghost use Rattle.blockack.specs.Same.{DataLeavesTheSame, RequestLeavesTheSame, EndLeavesTheSame};
 ghost use Rattle.blockack.specs.Same.{HaveWindows, HaveScoreboards, DataReadsTheSame, RequestReadsTheSame};
 
-/// A sequence number means no two whole numbers to one window, and it means one to each window that
-/// starts at 2048 or later. (To an earlier one it may mean a number below 0, which is old.)
+/// A sequence number means at most one whole number to a window, and exactly one to a window that starts at 2048 or
+/// later. (To an earlier one it may mean a number below 0, which is old.)
 pub fn unwrap_law()
     ensures one { (start number n m : ℕ) → IsUnwrapped start number n → IsUnwrapped start number m →
         n ≡ m }
@@ -14,26 +14,26 @@ pub fn unwrap_law()
         ((n : ℕ) × IsUnwrapped start number n) }
 {}
 
-/// What an agreement hands up (IEEE 802.11-2016, 10.24.7.6.1). Over any list of calls for data and
-/// requests, what was handed up in all are the taken items that aren't `None`, below the window,
-/// each once, in rising order of their whole numbers. Once the agreement has ended, all taken items
-/// lie below the window.
+/// What an agreement passes up (IEEE 802.11-2016, 10.24.7.6.1). Over any list of calls for data and
+/// requests, this is exactly the taken items below the window that aren't `None`, each once, in
+/// increasing order of their whole numbers. Once the agreement has ended, all taken items are below
+/// the window.
 pub fn order_law<F>()
     ensures going_on { HandsUpInOrder F }
     ensures ended { HandsUpAllInOrder F }
 {}
 
-/// Two windows that start at the same number and took the same numbers do so again after the same
-/// event, whatever their items are: a verdict on data never moves a window.
+/// Two windows that start at the same number and took the same numbers still do after the same
+/// event, whatever their items: no verdict on data moves a window.
 pub fn window_law<F>()
     ensures at_data { DataLeavesTheSame F }
     ensures at_request { RequestLeavesTheSame F }
     ensures at_end { EndLeavesTheSame F }
 {}
 
-/// What holds of windows and scoreboards holds of agreements by their readings: each reading is one
-/// of some window, and its first number and bits are those of some scoreboard; and two agreements that hold the same numbers do so again after the same call, whatever their
-/// items are.
+/// What holds for windows and scoreboards holds for agreements by their readings: each reading belongs to some window,
+/// and its first number and bits to some scoreboard. Two agreements that hold the same numbers still do after the same
+/// call, whatever their items.
 pub fn reading_law<F>()
     ensures windows { HaveWindows F }
     ensures scoreboards { HaveScoreboards }

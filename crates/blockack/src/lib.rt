@@ -1,9 +1,9 @@
 //! The recipient's side of a block acknowledgement agreement (IEEE 802.11-2016, 10.24.7): its
 //! receive reordering buffer (10.24.7.6) and its scoreboard (10.24.7.3).
 //!
-//! Main calls: `Agreement::on_data`, `on_bar` and `bitmap`. It stands on `arrayvec`. Each call is its
-//! step of the window and of the scoreboard. By its laws each accepted number is passed up once, in
-//! rising order, and windows don't depend on what frames hold.
+//! Main calls: `Agreement::on_data`, `on_bar` and `bitmap`. It depends on `arrayvec`. Each call is its step of the
+//! window and of the scoreboard. By its laws each accepted number is passed up once, in increasing order, and windows
+//! don't depend on what frames hold.
 #![tactic(auto)]
 
 mod agreement;

@@ -1,4 +1,4 @@
-//! The ring of 64 slots that holds what lies in the window.
+//! The ring of 64 slots for what the window holds.
 ghost use Rattle.std.specs.Prelude.{◌≡◌, ℕ, ◌+◌, ◌-◌, ◌%◌, ◌<◌, ◌≤◌, ◌++◌, None, is_some, count_by, length, slice_index_or};
 ghost use Rattle.arrayvec.specs.ArrayVec.{array_vec_len};
 ghost use Rattle.blockack.specs.Window.{IsNextFree};
@@ -10,10 +10,10 @@ use std::array;
 /// How many sequence numbers there are (IEEE 802.11-2016, 9.2.4.4.2: they count modulo 4096).
 pub(crate) const NUMBERS: u16 = 4096;
 
-/// A number that is as far ahead as this, or further, is an old one (10.24.7.6.2 and 10.24.7.6.3).
+/// A number this far ahead, or further, is old (10.24.7.6.2 and 10.24.7.6.3).
 pub(crate) const HALF: u16 = 2048;
 
-/// What is held for a number: nothing, or its item, which is `None` where its verdict dropped the frame.
+/// What is held for a number: nothing, or its item, which is `None` if its verdict dropped the frame.
 pub(crate) type Slot<F> = Option<Option<F>>;
 
 /// A ring that holds nothing.
@@ -23,7 +23,6 @@ pub(crate) fn empty_slots<F>() -> [Slot<F>; 64]
     array::from_fn(|_| None)
 }
 
-/// How many slots are held.
 pub(crate) fn held_slots<F>(slots: &[Slot<F>; 64]) -> usize
     ensures is { result ≡ count_by is_some slots.now }
     ensures of { length slots.now ≡ 64 }
@@ -40,8 +39,8 @@ pub(crate) fn distance(start: u16, number: u16) -> u16
     (number + NUMBERS - start) % NUMBERS
 }
 
-/// Empties the first `least` slots from `start` on, and then the slots up to the first that is
-/// empty. Appends their frames to `out`, and answers how many slots it passed.
+/// Empties the first `least` slots from `start` on, and then the slots up to the first empty one.
+/// Appends their frames to `out`, and returns how many slots it passed.
 pub(crate) fn advance<F: Drop, A>(
     slots: &mut [Slot<F>; 64],
     start: u16,
@@ -74,7 +73,7 @@ pub(crate) fn advance<F: Drop, A>(
     moved
 }
 
-/// As `advance`, with nothing passed up before.
+/// As `advance`, if nothing was passed up before.
 pub(crate) fn skip<F: Drop, A>(
     slots: &mut [Slot<F>; 64],
     start: u16,
@@ -94,8 +93,8 @@ pub(crate) fn skip<F: Drop, A>(
     advance(slots, start, least, out)
 }
 
-/// Holds `item` for `number`, and moves the window as far as that needs, and then to the first
-/// number that is missing. Answers how many slots it passed.
+/// Stores `item` for `number`, moves the window as far as that needs, and then to the first missing number. Returns
+/// how many slots it passed.
 pub(crate) fn store<F: Drop, A>(
     slots: &mut [Slot<F>; 64],
     start: u16,

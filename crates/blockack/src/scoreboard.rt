@@ -1,12 +1,11 @@
-//! The scoreboard of an agreement: which numbers came, as a bitmap over a window of its own.
+//! The scoreboard of an agreement: which numbers came, as a bitmap over its own window.
 ghost use Rattle.std.specs.Prelude.{◌≡◌, ℕ, ◌+◌, ◌^◌, ◌<◌, ◌≤◌, ◌==◌, cond};
 ghost use Rattle.std.specs.Int.{bit_at};
 ghost use Rattle.blockack.specs.Scoreboard.{ReadsScoreboard, DataMarks, RequestMarks, IsSoundBitmap, blank};
 
 use crate::ring::{HALF, NUMBERS, distance};
 
-/// The full-state scoreboard of IEEE 802.11-2016, 10.24.7.3: bit i says whether the number i places
-/// after `start` came.
+/// The full-state scoreboard of IEEE 802.11-2016, 10.24.7.3: bit i says whether number `start` + i came.
 #[derive(Clone, Copy)]
 pub(crate) struct Bitmap {
     pub(crate) start: u16,
@@ -14,7 +13,7 @@ pub(crate) struct Bitmap {
 }
 
 impl Bitmap {
-    /// A scoreboard that nothing came to yet.
+    /// A scoreboard to which nothing came.
     pub(crate) fn new(start: u16, size: u16) -> Self
         requires start_fits { start < 4096 }
         requires some_size { 1 ≤ size }
@@ -70,7 +69,7 @@ fn shifted(bits: u64, by: u16) -> u64
     if by < 64 { bits >> by } else { 0 }
 }
 
-/// The bits, and bit `at` as well.
+/// The bits, with bit `at` set.
 fn marked(bits: u64, at: u16) -> u64
     requires { at < 64 }
     ensures fits { (size : ℕ) → bits < 2 ^ size → at < size → result < 2 ^ size }

@@ -1,4 +1,4 @@
--- What comes of asks that were answered one after another.
+-- What follows from queries answered one after another.
 use Rattle.std.proofs.Common.{◌≡◌, ◌≢◌, ◌⊎◌, ◌<◌, ℕ, eq-eqb, ne_eqb, cond, Bool, List, [], ◌∷◌, ◌++◌, length, set, slice_get, slice_set, Option, Some, None, option_and_then, refl, sym, ap, ◌∙◌, subst, append_assoc, inl, inr, ⊎_elim}
 use Rattle.std.specs.List.{All}
 use Rattle.std.proofs.lemmas.List.{append-nil, length-set, get_or-set_same, get_or-set_other}
@@ -27,16 +27,16 @@ use Rattle.bpf_helpers.specs.declared.worker.WorkerView.{WorkerView}
 use Rattle.bpf_helpers.specs.declared.hook_port.HookPort.{HookPort}
 use Rattle.bpf_helpers.specs.HookPorts.{given_by, Keeps, PortGives}
 
--- no two values stand in one place
+-- no index has two values
 pub same_value : {A : Type 0} (o : Option A) (a b : A) → o ≡ Some a → o ≡ Some b → a ≡ b
 same_value None a b here there = cc
 same_value (Some x) a b here there = cc
 
--- what stands where it was put
+-- what is at the index written
 pub put_here : {A : Type 0} (xs : List A) (at : ℕ) (a : A) → at < length xs → slice_get (slice_set xs at a) at ≡ Some a
 put_here xs at a low = slice_get-get_or (set xs at a) at a (subst (λ (n : ℕ). at < n) (sym (length-set xs at a)) low) ∙ ap (λ (x : _). Some x) (get_or-set_same xs at a a low)
 
--- and what stands beside it
+-- and at another index
 put_elsewhere : {A : Type 0} (xs : List A) (at other : ℕ) (a b : A) → other ≢ at → slice_get xs other ≡ Some b → slice_get (slice_set xs at a) other ≡ Some b
 put_elsewhere xs at other a b apart there =
     slice_get-get_or (set xs at a) other b (subst (λ (n : ℕ). other < n) (sym (length-set xs at a)) (slice_get_within xs other b there))
@@ -53,7 +53,7 @@ nothing_new shape v = record {
   witnessed = λ w. ⊎_elim (λ (some : _). absurd (some refl)) (λ (h : Witnesses shape v). h) w;
 }
 
--- where something is in one of two lists, it is in the first or in the second
+-- if the join of two lists isn't empty, one of them isn't
 some_of_both : (first then : List Entry) → first ++ then ≢ [] → (first ≢ []) ⊎ (then ≢ [])
 some_of_both [] then some = inr some
 some_of_both (e ∷ first) then some = inl (λ (none : e ∷ first ≡ []). cc)
@@ -85,7 +85,7 @@ module _ (g : Given) where
   abbrev at_table : ℕ → Option Map
   at_table at = table_at g.maps g.worker at
 
-  -- where one ask leaves the seat at a table
+  -- where one query leaves the seat at a table
   record Left (shape : Shape) (at : ℕ) (s : Place) (ask : Ask) (answer : ℕ) (seats : List Place) : Type 0 where
     seat : Place
     there : slice_get seats at ≡ Some seat
@@ -162,7 +162,7 @@ module _ (g : Given) where
     draws : words ≡ words_from x (length words)
     draw : y ≡ word_after x (length words)
 
-  -- an ask that draws nothing
+  -- a query that draws nothing
   undrawn : (x mid y : ℕ) (words : List ℕ) → mid ≡ x → Drawn mid words y → Drawn x words y
   undrawn x mid y words same d = subst (λ (z : ℕ). Drawn z words y) same d
 
@@ -201,7 +201,7 @@ asked_of_state p q (a ∷ asks) given =
       (mid.state.now, given.1.1, subst (λ (v : _). Answered (Gives (given_by v)) mid.state.now asks q.state.now) first.view rest.1),
     )
 
--- What a run asked of a port over a state, it asked of the state; `after` is what the state is once the port is gone.
+-- What a run asked a port over a state, it asked the state; `after` is the state once the port is gone.
 pub ran_by_state : (setting : Setting) (p q : HookPort) (outcome : Outcome) → Ran PortGives setting p q outcome → (after : Held) → (p.state.ghost_name ≡ q.state.ghost_name → after ≡ q.state.now)
     → Ran (Gives (given_by p.view)) setting p.state.now after outcome
 ran_by_state setting p q outcome ran after written =
@@ -214,7 +214,7 @@ ran_by_state setting p q outcome ran after written =
       first = ran.first;
     }
 
--- and the state's seats fit as before
+-- and the state's seats still fit
 pub fitting_after : (setting : Setting) (p q : HookPort) (outcome : Outcome) → Ran PortGives setting p q outcome → (after : Held) → (p.state.ghost_name ≡ q.state.ghost_name → after ≡ q.state.now)
     → IsFitting p.view.maps.now p.view.worker after.seats
 fitting_after setting p q outcome ran after written =

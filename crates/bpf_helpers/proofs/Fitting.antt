@@ -37,7 +37,7 @@ seated_cons t s ts ss own rest = (let many : length ss ≡ length ts = rest.0 in
     sits zero x y here there = ap (λ (z : Place). z.table) (sym (same_value (Some s) s y refl there)) ∙ (own ∙ ap (λ (z : Map). z.table) (same_value (Some t) t x refl here))
     sits (suc at) x y here there = rest.1 at x y here there
 
--- after loads the seats are those of the tables still
+-- after loads the seats still belong to the tables
 pub still_seated : (word : ℕ) (tables : List Map) (seats : List Place) (answers : List ℕ) (seats' : List Place) → Loads word tables seats answers seats' → AreSeated tables seats → AreSeated tables seats'
 still_seated word [] [] [] [] loads seated = seated
 still_seated word (t ∷ ts) (s ∷ ss) (n ∷ ns) (s' ∷ ss') loads seated =
@@ -45,14 +45,14 @@ still_seated word (t ∷ ts) (s ∷ ss) (n ∷ ns) (s' ∷ ss') loads seated =
     seated_cons t s' ts ss' (loads.0 ∙ seated.1 0 t s refl refl) (still_seated word ts ss ns ss' loads.2 (omega arith, λ at. seated.1 (suc at)))
 still_seated word _ _ _ _ loads seated = absurd loads
 
--- what stands beside what was put stood there before
+-- another index than the one written is unchanged
 pub untouched : {A : Type 0} (xs : List A) (at other : ℕ) (a b : A) → other ≢ at → slice_get (slice_set xs at a) other ≡ Some b → slice_get xs other ≡ Some b
 untouched xs at other a b apart there =
     slice_get-get_or xs other b (subst (λ (n : ℕ). other < n) (length-set xs at a) (slice_get_within (set xs at a) other b there))
     ∙ ap (λ (x : _). Some x) (sym (get_or-set_other xs at other a b apart) ∙ get_or_from_slice_get (set xs at a) other b b there)
 
 module _ (maps : List Tables) (worker : ℕ) where
-  -- a map that has a word is there
+  -- a map that has a word exists
   pub map_found : (at word : ℕ) (d : Tables) → word < words_in (slice_get (shapes_of maps) at) → slice_get maps at ≡ Some (get_or maps at d)
   map_found at word d low = ⊎_elim
       (λ (here : (x : Tables) × (at < length maps) × (slice_get maps at ≡ Some x) × (get_or maps at x ≡ x)). slice_get-get_or maps at d here.1)
@@ -61,7 +61,7 @@ module _ (maps : List Tables) (worker : ℕ) where
       absurd (omega arith))
       (slice_get_cases maps at).1
 
-  -- the table of a map that is there
+  -- the table of a map that exists
   pub table_found : (at : ℕ) (m : Tables) (t : Map) → slice_get maps at ≡ Some m → table_of m worker ≡ Some t → table_at maps worker at ≡ Some t
   table_found at m t here is = ap (λ (o : Option Tables). option_and_then (λ (x : Tables). table_of x worker) o) here ∙ is
 
@@ -89,7 +89,7 @@ module _ (maps : List Tables) (worker : ℕ) where
       subst (λ (o : Option Shape). AccessAnswer o operation answer) (sym (words_of_map at m here))
       (answers m.shape operation answer (subst (λ (s : Shape). IsAnswer s.width operation answer) same is))
 
-  -- after an access the seats fit as before
+  -- after an access the seats still fit
   pub fit_still : (seats seats' : List Place) (t : Map) (at word : ℕ) (operation : MapOp) (answer : ℕ) → IsFitting maps worker seats → AccessedBy t seats at word operation answer seats' → IsFitting maps worker seats'
   fit_still seats seats' t at word operation answer fitting by = (
     fitting.0,
@@ -106,7 +106,7 @@ module _ (maps : List Tables) (worker : ℕ) where
     ),
   )
 
--- tables with the same parts
+-- tables with the same parts are equal
 same_table : (a b : Map) → a.table ≡ b.table → a.shape ≡ b.shape → a.seats ≡ b.seats → a.given ≡ b.given → a ≡ b
 same_table a b table shape seats given =
     ap (λ (x : _). record a { table = x }) table
@@ -114,7 +114,7 @@ same_table a b table shape seats given =
     ∙ (ap (λ (n : ℕ). record a { table = b.table; shape = b.shape; seats = n }) seats
     ∙ ap (λ (n : ℕ). record b { given = n }) given))
 
--- no seat was given: the tables are as they were
+-- if no seat was given, the tables are unchanged
 pub none_given : {A E : Type 0} (r : Result A E) (tables : List Map) (place : ℕ) (old new : Map) (P : E → Type 0) (m m' : Tables)
     → old ≡ get_or tables place old → (new.table ≡ old.table) × (new.shape ≡ old.shape) × (new.seats ≡ old.seats)
     → MatchResult r (λ _. new.given ≡ old.given + 1) (λ _. new.given ≡ old.given)

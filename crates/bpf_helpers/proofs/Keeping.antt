@@ -12,7 +12,7 @@ use Rattle.bpf_helpers.specs.Hooked.{table_at, shapes_of, HaveTables, AreSeats, 
 use Rattle.bpf_helpers.proofs.Asked.{same_value, put_here}
 use Rattle.bpf_helpers.proofs.Fitting.{untouched}
 
--- as many elements, so one stands in the other list too
+-- lists of equal length have the same indices
 there_too : {A B : Type 0} (xs : List A) (ys : List B) (at : ℕ) (y : B) → length ys ≡ length xs → slice_get ys at ≡ Some y → (x : A) × (slice_get xs at ≡ Some x)
 there_too {A} {B} xs ys at y same here = ⊎_elim
     (λ (there : (x : A) × (at < length xs) × (slice_get xs at ≡ Some x) × (get_or xs at x ≡ x)). (there.0, there.2))
@@ -20,7 +20,7 @@ there_too {A} {B} xs ys at y same here = ⊎_elim
     (slice_get_cases xs at).1
 
 module _ (maps maps' : List Tables) (keep : KeepTables maps maps') where
-  -- the map as it was
+  -- the map before
   before : (at : ℕ) (m' : Tables) → slice_get maps' at ≡ Some m' → (m : Tables) × (slice_get maps at ≡ Some m)
   before at m' here = there_too maps maps' at m' keep.as_many here
 
@@ -33,7 +33,7 @@ module _ (maps maps' : List Tables) (keep : KeepTables maps maps') where
       let many : length m'.tables ≡ length was.0.tables = kept.tables.as_many in
       omega (arith, low', many)
 
-  -- the table as it was
+  -- the table before
   table_before : (worker at : ℕ) (t' : Map) → table_at maps' worker at ≡ Some t' → (t : Map) × (table_at maps worker at ≡ Some t) × (t'.table ≡ t.table)
   table_before worker at t' here = ⊎_elim
       (λ (there : (x : Tables) × (at < length maps') × (slice_get maps' at ≡ Some x) × (get_or maps' at x ≡ x)).
@@ -60,7 +60,7 @@ module _ (maps maps' : List Tables) (keep : KeepTables maps maps') where
     ),
   )
 
--- maps whose shapes agree at each place
+-- maps whose shapes agree at each index
 same_shapes : (maps maps' : List Tables) → length maps' ≡ length maps → ((at : ℕ) (m m' : Tables) → slice_get maps at ≡ Some m → slice_get maps' at ≡ Some m' → m'.shape ≡ m.shape) → shapes_of maps' ≡ shapes_of maps
 same_shapes [] [] many each = refl
 same_shapes (m ∷ maps) (m' ∷ maps') many each =
@@ -121,7 +121,7 @@ changed_at {A} R xs at a b here changed same k x y stood stands = dite (ℕ_disc
     subst (λ (z : A). R z y) x_is (subst (λ (z : A). R a z) y_is changed))
     (λ ne. subst (λ (z : A). R x z) (same_value (slice_get xs k) x y stood (untouched xs at k b y ne stands)) (same x))
 
--- where one table changed into the same one
+-- if one table changed into the same one
 pub same_but_one : (tables : List Map) (at : ℕ) (t t' : Map) → slice_get tables at ≡ Some t → IsSameTable t t' → AreSameTables tables (slice_set tables at t')
 same_but_one tables at t t' here same = record {
   as_many = length-set tables at t';
@@ -146,7 +146,7 @@ gave_keep maps at m m' worker seat here gave = record {
 pub record Seated (maps : List Tables) (worker : ℕ) (seats : List Place) : Type 0 where
   pub own : (at : ℕ) (t : Map) (s : Place) → table_at maps worker at ≡ Some t → slice_get seats at ≡ Some s → s.table ≡ t.table
 
--- an element of a longer list is the last one, or stood there before
+-- an element of a longer list is the last one, or was there before
 pushed : {A P : Type 0} (xs ys : List A) (a : A) (k : ℕ) (y : A) → ys ≡ xs ++ a ∷ [] → slice_get ys k ≡ Some y → (k ≡ length xs → y ≡ a → P) → (slice_get xs k ≡ Some y → P) → P
 pushed {A} {P} xs ys a k y are stands last before =
     let stands' : slice_get (xs ++ a ∷ []) k ≡ Some y = subst (λ (zs : List A). slice_get zs k ≡ Some y) are stands in

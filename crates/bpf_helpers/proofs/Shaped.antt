@@ -1,4 +1,4 @@
--- The shapes of maps that are all zeros.
+-- The shapes of maps of zeros.
 use Rattle.std.proofs.Common.{◌≡◌, ℕ, List, [], ◌∷◌, map, refl, ap, ◌∙◌}
 use Rattle.bpf_regions.specs.declared.maps.Shape.{Shape}
 use Rattle.bpf_regions.specs.declared.maps.MapOp.{MapOp}

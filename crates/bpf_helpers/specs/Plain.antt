@@ -22,7 +22,7 @@ pub record Table : Type 0 where
 abbrev pub word_limit : Shape → ℕ
 word_limit s = 2 ^ (8 * bytes_of s.width)
 
--- as many words as the shape says, each within its width
+-- as many words as the shape says, each within the width
 pub record IsTable (t : Table) : Type 0 where
   pub count : length t.words ≡ word_count t.shape
   pub fit : All (λ x. x < word_limit t.shape) t.words
@@ -31,7 +31,7 @@ pub record IsTable (t : Table) : Type 0 where
 abbrev pub zeros : Shape → Table
 zeros s = record { shape = s; words = replicate (word_count s) 0 }
 
--- a store answers 0, every other access the old number
+-- a store returns 0, every other access the old number
 abbrev pub answer_to : MapOp → ℕ → ℕ
 answer_to (Store y) x = 0
 answer_to op x = x
@@ -40,7 +40,7 @@ answer_to op x = x
 abbrev pub after : Table → ℕ → MapOp → Table
 after t word op = record t { words = slice_set t.words word (number_after (word_limit t.shape) op (slice_index t.words word)) }
 
--- the maps by their numbers, the clock, how many stations are associated, and the word that is drawn next
+-- the maps by number, the clock, how many stations are associated, and the word drawn next
 pub record Plain : Type 0 where
   pub tables : List Table
   pub clock : ℕ
@@ -55,18 +55,18 @@ shape_of t = t.shape
 abbrev pub shapes_of : Plain → List Shape
 shapes_of p = map shape_of p.tables
 
--- a map that is not there has no words
+-- a missing map has no words
 abbrev pub table_of : Plain → ℕ → Table
 table_of p k = slice_index_or p.tables k (record { shape = record { entries = 0; words = 0; width = Eight; scope = Shared }; words = [] })
 
--- what an ask is answered
+-- what a query is answered
 abbrev pub answer_of : Plain → Ask → ℕ
 answer_of p (Access k word op) = answer_to op (slice_index (table_of p k).words word)
 answer_of p (Help Now) = p.clock
 answer_of p (Help Stations) = p.stations
 answer_of p (Help Draw) = p.draw
 
--- what an ask leaves
+-- the port after a query
 abbrev pub left_after : Plain → Ask → Plain
 left_after p (Access k word op) = record p { tables = slice_set p.tables k (after (table_of p k) word op) }
 left_after p (Help Now) = p

@@ -12,13 +12,13 @@ AreSeated tables seats =
     (length seats ≡ length tables)
     × ((at : ℕ) (t : Map) (s : Place) → slice_get tables at ≡ Some t → slice_get seats at ≡ Some s → s.table ≡ t.table)
 
--- the same of tables that all have this word, table by table
+-- the same for tables that all have this word, table by table
 abbrev pub HaveWord : ℕ → List Map → List Place → Type 0
 HaveWord word [] [] = Unit {0}
 HaveWord word (t ∷ ts) (s ∷ ss) = (s.table ≡ t.table) × (word < word_count t.shape) × HaveWord word ts ss
 HaveWord word _ _ = ⊥
 
--- each table answered one load of its seat, in order
+-- each table answered one load by its seat, in order
 abbrev pub Loads : ℕ → List Map → List Place → List ℕ → List Place → Type 0
 Loads word [] [] [] [] = Unit {0}
 Loads word (t ∷ ts) (s ∷ ss) (n ∷ ns) (s' ∷ ss') = (s'.table ≡ s.table) × Extends t.shape s.known word Load n s'.known × Loads word ts ss ns ss'

@@ -18,7 +18,7 @@ pub record AreTables (m : Tables) : Type 0 where
   pub valid : IsShape m.shape
   pub each : All (λ t. t.shape ≡ m.shape) m.tables
 
--- how many tables a map has for so many workers
+-- how many tables a map has for `workers` workers
 abbrev pub table_count : Scope → ℕ → ℕ
 table_count Shared workers = 1
 table_count Worker workers = workers
@@ -32,16 +32,16 @@ place_of Worker worker = worker
 abbrev pub table_of : Tables → ℕ → Option Map
 table_of m worker = slice_get m.tables (place_of m.shape.scope worker)
 
--- a new table with so many seats, of which none was given out
+-- a new table with `count` seats, none of them handed out
 pub record IsNew (count : ℕ) (t : Map) : Type 0 where
   pub seats : t.seats ≡ count
   pub given : t.given ≡ 0
 
--- the table after one more of its seats was given out
+-- the table after handing out one more seat
 abbrev pub seated : Map → Map
 seated t = record t { given = t.given + 1 }
 
--- a table is the same one, whatever seats it gave
+-- the same table, whatever seats it handed out
 pub record IsSameTable (t t' : Map) : Type 0 where
   pub table : t'.table ≡ t.table
   pub shape : t'.shape ≡ t.shape
@@ -56,7 +56,7 @@ pub record KeepsTables (m m' : Tables) : Type 0 where
   pub shape : m'.shape ≡ m.shape
   pub tables : AreSameTables m.tables m'.tables
 
--- The seat is the next one of the table that the worker's programs use; all else is as it was.
+-- The seat is the next one of the table that the worker's programs use; all else is unchanged.
 pub record GaveSeat (m : Tables) (worker : ℕ) (seat : Place) (m' : Tables) : Type 0 where
   pub table : Map
   pub table_is : table_of m worker ≡ Some table

@@ -3,7 +3,7 @@
 ghost use Rattle.std.specs.Prelude.{◌≡◌};
 ghost use Rattle.bpf_helpers.specs.Draws.{next_draw};
 
-/// The word that is drawn after this one.
+/// The word drawn after this one.
 pub(crate) fn drawn_after(word: u64) -> u64
     ensures is { result ≡ next_draw word }
 {

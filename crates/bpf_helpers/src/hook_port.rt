@@ -1,4 +1,4 @@
-//! A port over lent tables of maps.
+//! A port over borrowed tables of maps.
 
 ghost use Rattle.std.specs.Prelude.{ℕ, List};
 ghost use Rattle.bpf_regions.specs.declared.asks.Ask.{Ask};
@@ -9,9 +9,9 @@ use crate::worker::{WorkerState, WorkerView};
 use bpf_regions::{Helper, MapOp};
 use bpf_tagged::Port;
 
-/// Answers a program's accesses by its worker's tables, with one access of the seat there, `now` by the clock,
-/// `stations` by the number of associated stations, and `draw` by the draw word, which then becomes the next one.
-/// It is made anew for each run, of nothing but what is lent, and takes no memory.
+/// Answers a program's accesses from its worker's tables, with one access of the seat there; `now` with the clock,
+/// `stations` with the number of associated stations, and `draw` with the draw word, which then becomes the next one.
+/// It is made anew for each run, only of borrowed values, and allocates nothing.
 #[derive(Drop)]
 pub struct HookPort<'t, 's> {
     pub view: WorkerView<'t>,
@@ -43,8 +43,8 @@ impl Port for HookPort<'_, '_> {
     }
 }
 
-/// The laws of asks that were answered by tables: whatever the list of asks, the accesses are the seats' new
-/// accesses, each once, in order, `now` and `stations` the readings, and the draws the words from the first on.
+/// For every list of queries answered from tables: the accesses are the seats' new accesses, each once, in order;
+/// `now` and `stations` return the readings; the draws are consecutive draw words, from the held one on.
 pub fn served_law()
     ensures served { (g : Given) (h h' : Held) (asks : List (Ask × ℕ)) →
         Answered (Gives g) h asks h' → Served g h asks h' }

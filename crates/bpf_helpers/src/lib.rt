@@ -1,9 +1,8 @@
-//! Ports: what answers the asks of programs.
+//! Ports, which answer the queries of programs.
 //!
-//! Main calls: `PlainPort::new` and `PlainMap::new`. It stands on `bpf_tagged`. A plain map answers
-//! as a plain array of numbers would, all 0 at first; the port also answers the clock, the number
-//! of stations, and the draw. Each answer lies in its range. It is the port of traced programs and
-//! of tests.
+//! Main calls: `PlainPort::new` and `PlainMap::new`. It depends on `bpf_tagged`. A plain map returns what a plain
+//! array of numbers would, all 0 at first; the port also serves the clock, the number of stations, and the draw. Each
+//! answer lies in its range. Traced programs and tests use this port.
 #![tactic(auto)]
 
 mod draws;

@@ -51,7 +51,6 @@ fn place_of(scope: Scope, worker: usize) -> usize
     }
 }
 
-/// The next seat of each table.
 fn seat_each(alloc: Global, tables: &mut [MapTable]) -> Result<Vec<MapSeat>, MapFault>
     ensures seated { IfOk result (λ seats. AreSeated tables.new seats.items) }
     ensures tables { AreSameTables tables.old tables.new }
@@ -65,8 +64,8 @@ fn seat_each(alloc: Global, tables: &mut [MapTable]) -> Result<Vec<MapSeat>, Map
 }
 
 impl MapTables {
-    /// Tables of zeros for so many workers, each table with so many seats.
-    /// Fault 62 comes unless the seats are 1 to 16, fault 40 only for want of memory.
+    /// Tables of zeros for `workers` workers, each table with `seats` seats.
+    /// Fault 62 if the seats aren't 1 to 16; otherwise the only fault is 40, lack of memory.
     pub fn new(alloc: Global, shape: Shape, workers: usize, seats: u32) -> Result<Self, MapFault>
         requires valid { IsShape shape }
         requires some_worker { 0 < workers }
@@ -102,8 +101,8 @@ impl MapTables {
         &self.tables[place_of(self.shape.scope, worker)]
     }
 
-    /// The next seat of the table that a worker's programs use. Fault 62 comes once all are given out;
-    /// nothing is changed then. Nothing is said of a seat that is left: only tests show that it is given.
+    /// The next seat of the table that a worker's programs use. Fault 62, the only one, comes once all are handed out,
+    /// and changes nothing. No contract promises that a remaining seat is given: only tests show it.
     pub fn seat(&mut self, worker: usize) -> Result<MapSeat, MapFault>
         requires there { place_of self.old.shape.scope worker < length self.old.tables }
         ensures given { IfOk result (λ seat. GaveSeat self.old worker seat self.new) }
@@ -113,8 +112,8 @@ impl MapTables {
         self.tables[place].seat()
     }
 
-    /// The next seat of each table, by rising worker. Fault 62 comes where a table has no seat left, fault 40 only
-    /// for want of memory; the seats that were given till then are gone.
+    /// The next seat of each table, in worker order. After an error the seats given until then are lost. No clause
+    /// says which error comes when: fault 62 if a table has no seat left, fault 40 for lack of memory.
     pub fn seat_each(&mut self, alloc: Global) -> Result<Vec<MapSeat>, MapFault>
         ensures seated { IfOk result (λ seats. AreSeated self.new.tables seats.items) }
         ensures tables { KeepsTables self.old self.new }
@@ -122,8 +121,8 @@ impl MapTables {
         seat_each(alloc, self.tables.as_mut_slice())
     }
 
-    /// Loads a word once from each table, by rising worker, and answers the sum mod 2^(8 * width).
-    /// It never waits and takes no memory.
+    /// Loads a word once from each table, in worker order, and returns the sum mod 2^(8 * width).
+    /// It never waits and allocates nothing.
     pub fn sum(&self, seats: &mut [MapSeat], word: u32) -> u64
         requires seated { AreSeated self.now.tables seats.old }
         requires inside { word < word_count self.now.shape }

@@ -11,7 +11,7 @@ use bpf_values::map_words::new_number;
 use std::alloc::{AllocError, Global};
 use std::marker::Model;
 
-/// The words of a map, as numbers below 2^32 or 2^64 by its width.
+/// The words of a map, as numbers below 2^32 or 2^64, by its width.
 #[derive(Drop)]
 pub struct PlainMap {
     shape: Shape,
@@ -53,7 +53,7 @@ fn changed(shape: Shape, op: MapOp, old: u64) -> u64
 }
 
 impl PlainMap {
-    /// All words 0.
+    /// A map with all words 0.
     pub fn new(alloc: Global, shape: Shape) -> Result<Self, AllocError>
         ensures is { IfOk result (λ map. map ≡ zeros shape) }
     {
@@ -61,7 +61,7 @@ impl PlainMap {
         Ok(PlainMap { shape, words })
     }
 
-    /// One access to a word: what a plain array of numbers answers and holds then.
+    /// One access to a word: returns, and then holds, what a plain array of numbers would.
     pub fn access(&mut self, word: u32, op: MapOp) -> u64
         requires there { word < word_count self.old.shape }
         ensures answer { result ≡ answer_to op (slice_index self.old.words word) }

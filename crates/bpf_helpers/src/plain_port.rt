@@ -11,7 +11,7 @@ use std::alloc::{AllocError, Global};
 use std::marker::Model;
 
 /// Answers accesses from plain maps, `now` and `stations` with fixed numbers, and `draw` with a word that changes
-/// at each draw. Its answers take no memory.
+/// at each draw. Answering allocates nothing.
 #[derive(Drop)]
 pub struct PlainPort {
     tables: Vec<PlainMap>,

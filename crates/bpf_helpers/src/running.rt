@@ -1,4 +1,4 @@
-//! Runs over the tables of maps.
+//! Runs over tables of maps.
 
 ghost use Rattle.std.specs.Prelude.{◌≡◌, ◌≤◌};
 ghost use Rattle.bpf_machine.specs.Runs.{Ran, setting_of};
@@ -10,9 +10,9 @@ use crate::worker::{WorkerState, WorkerView};
 use bpf_machine::{Accepted, Outcome, run};
 use bpf_regions::{Context, Frame};
 
-/// Runs a program of a worker on a frame and a context, over its tables. The state comes back with what the run
-/// made of it: each seat with the accesses that the run asked of its map, and the draw word past those drawn.
-/// It never waits and takes no memory.
+/// Runs a worker's program on a frame and a context, over that worker's tables, within its budget. Then each seat has
+/// the accesses that the run made to its map, and the draw word is the one after those drawn.
+/// It never waits and allocates nothing.
 pub fn run_hook(
     accepted: &Accepted,
     frame: &Frame,

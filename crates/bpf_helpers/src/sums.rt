@@ -7,7 +7,7 @@ ghost use Rattle.bpf_helpers.specs.Sums.{HaveWord, Loads};
 use bpf_regions::{MapOp, WordWidth};
 use shared_maps::{MapSeat, MapTable};
 
-/// Loads the word once from each table, in order, and answers the sum, mod 2^(8 * width).
+/// Loads the word once from each table, in order, and returns the sum, mod 2^(8 * width).
 pub(crate) fn sum_of_word(
     tables: &[MapTable],
     seats: &mut [MapSeat],

@@ -15,8 +15,8 @@ use shared_maps::{MapFault, MapSeat, MapTable};
 use std::alloc::Global;
 use std::marker::Model;
 
-/// What the programs of a worker read: the maps, of which they use that worker's tables, and of the shard whose
-/// frame is judged the clock and how many stations are associated, at most 2007.
+/// What the programs of a worker read: the maps, of which they use that worker's tables; and the clock and the number
+/// of associated stations, at most 2007, of the shard that handles the frame.
 #[derive(Clone, Copy)]
 pub struct WorkerView<'t> {
     pub maps: &'t [MapTables],
@@ -26,8 +26,7 @@ pub struct WorkerView<'t> {
     pub ghost few: { stations ≤ 2007 },
 }
 
-/// What the programs of a worker change: a seat at each of its tables, in the order of the maps, and the word that
-/// is drawn next.
+/// What the programs of a worker change: a seat at each of its tables, in map order, and the word drawn next.
 #[derive(Drop)]
 pub struct WorkerState {
     seats: Vec<MapSeat>,
@@ -49,8 +48,9 @@ impl WorkerState {
         WorkerState { seats, draw }
     }
 
-    /// With the next seat of each of a worker's tables, and the first word to draw. Fault 62 comes where a table has
-    /// no seat left, fault 40 only for want of memory; the seats that were given till then are gone.
+    /// With the next seat of each of a worker's tables, and the first word to draw. After an error the seats given
+    /// until then are lost. No clause says which error comes when: fault 62 if a table has no seat left, fault 40 for
+    /// lack of memory.
     pub fn seated(
         alloc: Global,
         maps: &mut [MapTables],
@@ -70,7 +70,7 @@ impl WorkerState {
         Ok(WorkerState { seats, draw })
     }
 
-    /// The word that is drawn, and the next one in its place.
+    /// Returns the drawn word, and puts the next one in its place.
     pub(crate) fn drawn(&mut self) -> u64
         ensures is { result ≡ self.old.draw }
         ensures next { self.new ≡ record self.old { draw = next_draw self.old.draw } }
@@ -80,7 +80,7 @@ impl WorkerState {
         word
     }
 
-    /// One access to a word of a table by the seat of that number.
+    /// One access to a word of a table by the seat at index `at`.
     pub(crate) fn access(&mut self, at: usize, table: &MapTable, word: u32, operation: MapOp) -> u64
         requires there { at < length self.old.seats }
         requires own { (s : Place) →
@@ -94,7 +94,7 @@ impl WorkerState {
     }
 }
 
-/// While the tables stay the same ones, the maps keep their shapes, and a worker's seats fit them.
+/// As long as the tables stay the same ones, the maps keep their shapes, and a worker's seats fit them.
 pub fn tables_law()
     ensures shapes { (maps maps' : List Tables) →
         KeepTables maps maps' → shapes_of maps' ≡ shapes_of maps }

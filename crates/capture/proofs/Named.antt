@@ -15,7 +15,7 @@ lent : (r : Option (Bor Interface)) → option_map described_of (option_map (λ 
 lent None = refl
 lent (Some i) = refl
 
--- the interface that a look-up lends
+-- the interface that a look-up returns
 got : (interfaces : List Interface) (n : ℕ) (r : Option (Bor Interface)) → IsItemAt interfaces n r → slice_get (map described_of interfaces) n ≡ option_map (λ i. described_of i.now) r
 got interfaces n r h = slice_get-map described_of interfaces n ∙ ap (option_map described_of) (sym (item_copied interfaces n r h)) ∙ lent r
 

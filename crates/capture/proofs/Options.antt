@@ -1,4 +1,4 @@
--- The options of an interface, the first one taken off.
+-- The options of an interface, with the first one split off.
 use Rattle.std.proofs.Common.{◌≡◌, ◌≢◌, ◌≤◌, ◌<◌, ◌==◌, ◌||◌, ℕ, zero, suc, List, length, drop, slice_index, nat_lt, Some, None, if◌then◌else◌, Option, refl, sym, ◌∙◌, ap, arith, rules, tests, length-drop}
 use Rattle.std.proofs.lemmas.Bool.Decides.{nat_tests}
 use Rattle.capture.specs.declared.fields.Endian.{Endian}
@@ -9,7 +9,7 @@ use Rattle.capture.specs.Interfaces.{padded, resolution_in}
 abbrev after : Endian → List ℕ → List ℕ
 after endian options = drop (padded (number_at endian 2 2 options)) (drop 4 options)
 
--- what the first option says, and `later` if nothing
+-- what the first option says, or `later` if nothing
 abbrev says : Endian → List ℕ → Option ℕ → Option ℕ
 says endian options later =
     (if nat_lt (length options) 4 || number_at endian 2 0 options == 0 then Some 6 else
@@ -29,7 +29,6 @@ none endian options = refl
 says_few : (endian : Endian) (options : List ℕ) (later : Option ℕ) → length options < 4 → says endian options later ≡ Some 6
 says_few endian options later short = search (rules, tests, nat_tests)
 
--- no option
 pub few : (n : ℕ) (endian : Endian) (options : List ℕ) → length options < 4 → resolution_in n endian options ≡ Some 6
 few zero endian options short = none endian options
 few (suc n) endian options short = step n endian options ∙ says_few endian options (resolution_in n endian (after endian options)) short
@@ -37,7 +36,7 @@ few (suc n) endian options short = step n endian options ∙ says_few endian opt
 after_short : (n : ℕ) (endian : Endian) (options : List ℕ) → length options ≤ suc n → length (after endian options) ≤ n
 after_short n endian options short = omega (arith, length-drop 4 options, length-drop (padded (number_at endian 2 2 options)) (drop 4 options))
 
--- as many as there are bytes are enough
+-- as many options as bytes are enough
 enough : (n m : ℕ) (endian : Endian) (options : List ℕ) → length options ≤ n → length options ≤ m → resolution_in n endian options ≡ resolution_in m endian options
 enough zero m endian options short long = none endian options ∙ sym (few m endian options (omega arith))
 enough (suc n) zero endian options long short = few (suc n) endian options (omega arith) ∙ sym (none endian options)
@@ -49,7 +48,6 @@ stepped zero endian options some short = absurd (omega arith)
 stepped (suc n) endian options some short =
     step n endian options ∙ ap (says endian options) (enough n (length (after endian options)) endian (after endian options) (after_short n endian options short) (omega arith))
 
--- the first option
 pub first : (endian : Endian) (options : List ℕ) → 4 ≤ length options → resolution_in (length options) endian options ≡ says endian options (resolution_in (length (after endian options)) endian (after endian options))
 first endian options some = stepped (length options) endian options some (omega arith)
 
@@ -64,11 +62,9 @@ next endian options rest long code whole other follows =
     rw follows (first endian options long ∙ says_later endian options _ long code whole other)
 
 module _ (endian : Endian) (options : List ℕ) (long : 4 ≤ length options) where
-  -- the options end here
   pub ends : number_at endian 2 0 options ≡ 0 → resolution_in (length options) endian options ≡ Some 6
   ends code = first endian options long ∙ search (rules, tests, nat_tests)
 
-  -- the first option is cut
   pub cut : number_at endian 2 0 options ≢ 0 → length (drop 4 options) < padded (number_at endian 2 2 options) → resolution_in (length options) endian options ≡ None
   cut code short = first endian options long ∙ search (rules, tests, nat_tests)
 
@@ -77,6 +73,6 @@ module _ (endian : Endian) (options : List ℕ) (long : 4 ≤ length options) wh
     pub found : number_at endian 2 2 options ≡ 1 → resolution_in (length options) endian options ≡ Some (slice_index options 4)
     found one = first endian options long ∙ search (rules, tests, nat_tests)
 
-    -- it has no one byte
+    -- it isn't one byte
     pub wrong : number_at endian 2 2 options ≢ 1 → resolution_in (length options) endian options ≡ None
     wrong other = first endian options long ∙ search (rules, tests, nat_tests)

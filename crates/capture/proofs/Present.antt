@@ -44,7 +44,7 @@ pub flags_of-words : (header : List ℕ) (words : ℕ) → words_len (drop 4 hea
     → flags_of header ≡ slice_get header (flags_place (slice_index header 4 % 2 == 1) (4 + words))
 flags_of-words header words is there = rw is (search (rules, tests, nat_tests))
 
--- the byte that a look-up lends
+-- the byte that a look-up returns
 pub item_copied : {A : Type 0} (bytes : List A) (place : ℕ) (r : Option (Bor A)) → IsItemAt bytes place r → option_map (λ byte. byte.now) r ≡ slice_get bytes place
 item_copied bytes place None h = sym (slice_get_past bytes place h.3)
 item_copied bytes place (Some byte) h = sym (slice_get_read bytes (length bytes) place byte.now refl h.3.0 h.1)

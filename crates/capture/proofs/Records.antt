@@ -7,19 +7,16 @@ use Rattle.capture.specs.declared.form.Form.{Form}
 use Rattle.capture.specs.Form.{form_of, IsOfHeader}
 use Rattle.capture.specs.Packets.{Seen, packet_at, after, BeginWith, HoldsRecords, IsCutAfter, RefusesRecord}
 
--- one more record
 pub BeginWith-push : (form : Form) (bytes : List ℕ) (packets : List Seen) (rest : List ℕ) (packet : Seen) (last : List ℕ)
     → BeginWith form bytes packets rest → packet_at form rest ≡ Some packet → last ≡ after form rest → BeginWith form bytes (packets ++ packet ∷ []) last
 BeginWith-push form bytes [] rest packet last h is follows = (rw h at is, rw h at follows)
 BeginWith-push form bytes (p ∷ packets) rest packet last h is follows = (h.0, BeginWith-push form (after form bytes) packets rest packet last h.1 is follows)
 
--- all records are read
 pub HoldsRecords-read : (file : List ℕ) (form : Form) (packets : List Seen) (rest : List ℕ)
     → form_of file ≡ Ok form → BeginWith form (drop 24 file) packets rest → length rest ≡ 0 → HoldsRecords file packets
 HoldsRecords-read file form packets [] header records none = record { form = form; header = header; records = records; cut = λ some. absurd (omega (arith, some)) }
 HoldsRecords-read file form packets (b ∷ rest) header records none = absurd (omega (arith, none))
 
--- a record is cut
 pub IsCutAfter-read : (file : List ℕ) (form : Form) (packets : List Seen) (rest : List ℕ) (count : ℕ)
     → form_of file ≡ Ok form → BeginWith form (drop 24 file) packets rest → 0 < length rest → packet_at form rest ≡ None → length packets ≡ count → IsCutAfter file count
 IsCutAfter-read file form packets rest count header records some none many = record {

@@ -9,6 +9,6 @@ abbrev pub number : Endian → ℕ → List ℕ → ℕ
 number Little n bytes = little_number n bytes
 number Big n bytes = big_number n bytes
 
--- the number of n bytes at a place
+-- the number in the n bytes at a position
 abbrev pub number_at : Endian → ℕ → ℕ → List ℕ → ℕ
 number_at endian n place bytes = number endian n (drop place bytes)

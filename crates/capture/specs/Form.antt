@@ -13,7 +13,7 @@ use Rattle.capture.specs.declared.form.Link.TheVariants.{Plain, Radiotap}
 use Rattle.capture.specs.declared.form.Form.{Form}
 use Rattle.capture.specs.Fields.{number_at}
 
--- the bytes at the start of a file
+-- whether a file begins with these four bytes
 abbrev pub begins : List ℕ → List ℕ → Bool
 begins bytes file = bytes_eq (take 4 file) bytes
 
@@ -25,7 +25,7 @@ magic_of file =
     (if begins (0x4d ∷ 0x3c ∷ 0xb2 ∷ 0xa1 ∷ []) file then Some (Little, Nanosecond) else
     (if begins (0xa1 ∷ 0xb2 ∷ 0x3c ∷ 0x4d ∷ []) file then Some (Big, Nanosecond) else None))))
 
--- 105 is IEEE 802.11, 127 the same behind a radiotap header
+-- 105 is IEEE 802.11, 127 the same after a radiotap header
 abbrev pub link_of : ℕ → Result Link CaptureFault
 link_of number =
     (if number == 105 then Ok Plain else
@@ -55,7 +55,7 @@ versioned file endian unit =
     then with_link endian unit (link_of (number_at endian 4 20 file))
     else Err (Version (number_at endian 2 4 file) (number_at endian 2 6 file)))
 
--- the form, by the magic number; a file without a known one is no capture
+-- the form, by the magic number; a file without a known one isn't a capture
 abbrev pub with_magic : List ℕ → Option (Endian × TimeUnit) → Result Form CaptureFault
 with_magic file None = Err NoCapture
 with_magic file (Some magic) =

@@ -16,8 +16,7 @@ use Rattle.capture.specs.Fields.{number_at}
 use Rattle.capture.specs.Form.{form_of}
 use Rattle.capture.specs.Radiotap.{bytes_in, radiotap_frame}
 
--- a packet: its time in nanoseconds since the start of 1970, if it has one, and its frame, or why it
--- has none
+-- a packet: its time in nanoseconds since the start of 1970, if it has one, and its frame, or why it has none
 pub record Seen : Type 0 where
   pub time : Option ℕ
   pub frame : Result (List ℕ) LeftOut
@@ -36,7 +35,7 @@ abbrev pub linked_frame : Link → List ℕ → Result (List ℕ) LeftOut
 linked_frame Plain bytes = Ok bytes
 linked_frame Radiotap bytes = radiotap_frame bytes
 
--- the frame of captured bytes, where the packet had `original` bytes
+-- the frame in captured bytes of a packet of `original` bytes
 abbrev pub frame_of : Link → ℕ → List ℕ → Result (List ℕ) LeftOut
 frame_of link original bytes =
     (if nat_lt (length bytes) original then Err out.Cut else linked_frame link bytes)
@@ -54,7 +53,7 @@ packet_of form bytes = record {
       (take (captured form bytes) (drop 16 bytes));
 }
 
--- the same, None where the record is cut
+-- the same; None if the record is cut
 abbrev pub packet_at : Form → List ℕ → Option Seen
 packet_at form bytes =
     (if nat_lt (length bytes) 16 || nat_lt (length (drop 16 bytes)) (captured form bytes) then None
@@ -70,13 +69,13 @@ First form bytes None = packet_at form bytes ≡ None
 First form bytes (Some (packet, rest)) =
     (packet_at form bytes ≡ Some (seen_of packet)) × (rest.now ≡ after form bytes)
 
--- bytes begin with the records of these packets, and `rest` follows
+-- the bytes begin with the records of these packets, and `rest` follows
 abbrev pub BeginWith : Form → List ℕ → List Seen → List ℕ → Type 0
 BeginWith form bytes [] rest = rest ≡ bytes
 BeginWith form bytes (packet ∷ packets) rest =
     (packet_at form bytes ≡ Some packet) × BeginWith form (after form bytes) packets rest
 
--- behind its header a file has the records of these packets, and `rest` follows
+-- after its header a file has the records of these packets, and `rest` follows
 pub record HoldsThen (file : List ℕ) (packets : List Seen) (rest : List ℕ) : Type 0 where
   pub form : Form
   pub header : form_of file ≡ Ok form

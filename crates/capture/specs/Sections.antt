@@ -1,5 +1,5 @@
--- The packets of a pcapng file (draft-ietf-opsawg-pcapng, 4.1 to 4.4): sections, in each of them
--- interfaces and the packets that these captured. Blocks of other types are passed over.
+-- The packets of a pcapng file (draft-ietf-opsawg-pcapng, 4.1 to 4.4): sections, each with interfaces and the packets
+-- that these captured. Blocks of other types are skipped.
 use Rattle.std.specs.Prelude.{◌≡◌, ◌<◌, ℕ, ◌+◌, ◌-◌, ◌*◌, ◌/◌, ◌^◌, ◌==◌, ◌&&◌, ◌||◌, Bool, nat_lt, min, List, [], ◌∷◌, ◌++◌, length, take, drop, map, slice_get, Option, Some, None, Result, Ok, Err, if◌then◌else◌}
 use Rattle.capture.specs.declared.fault.CaptureFault.{CaptureFault}
 use Rattle.capture.specs.declared.fault.CaptureFault.TheVariants.{Version, BadBlock}
@@ -12,16 +12,16 @@ use Rattle.capture.specs.Packets.{Seen, seen_of, frame_of}
 use Rattle.capture.specs.Blocks.{Framed, section, block_at}
 use Rattle.capture.specs.Interfaces.{Described, described_of, interface_of}
 
--- a packet where there is one
+-- a packet, for a result
 abbrev pub seen_in : Result Packet CaptureFault → Result Seen CaptureFault
 seen_in (Ok packet) = Ok (seen_of packet)
 seen_in (Err fault) = Err fault
 
--- a time in nanoseconds, at most what 64 bits count
+-- a time in nanoseconds, at most what 64 bits can count
 abbrev pub stamp_of : ℕ → ℕ → ℕ
 stamp_of units count = min (count * 1000000000 / units) (2 ^ 64 - 1)
 
--- the time of an enhanced packet block: 8 bytes, the upper 4 of them first in either byte order
+-- the time of an enhanced packet block: 8 bytes, the upper 4 first in either byte order
 abbrev pub stamp_in : Described → Framed → ℕ
 stamp_in i b =
     stamp_of i.units (number_at b.endian 4 4 b.body * 2 ^ 32 + number_at b.endian 4 8 b.body)
@@ -38,13 +38,13 @@ enhanced_of place b (Some i) =
           (take (number_at b.endian 4 12 b.body) (drop 20 b.body));
     }))
 
--- the same, by the section's interfaces, which are counted from 0
+-- the same, by the section's interfaces, counted from 0
 abbrev pub enhanced : ℕ → List Described → Framed → Result Seen CaptureFault
 enhanced place interfaces b =
     (if nat_lt (length b.body) 20 then Err (BadBlock place)
     else enhanced_of place b (slice_get interfaces (number_at b.endian 4 0 b.body)))
 
--- how many bytes an interface captures of a packet of so many
+-- how many of a packet's bytes an interface captures
 abbrev pub kept : ℕ → ℕ → ℕ
 kept most original = (if most == 0 then original else min original most)
 
@@ -52,8 +52,8 @@ kept most original = (if most == 0 then original else min original most)
 abbrev pub simply_kept : Framed → Described → ℕ
 simply_kept b i = kept i.most (number_at b.endian 4 0 b.body)
 
--- the packet of a simple packet block (4.4): bytes of the packet 4, and the captured bytes. The
--- section's first interface captured it, at a time that isn't known.
+-- the packet of a simple packet block (4.4): bytes of the packet 4, and the captured bytes. The section's first
+-- interface captured it, at an unknown time.
 abbrev pub simple_of : ℕ → Framed → List Described → Result Seen CaptureFault
 simple_of place b [] = Err (BadBlock place)
 simple_of place b (i ∷ interfaces) =
@@ -64,7 +64,7 @@ simple_of place b (i ∷ interfaces) =
           (take (simply_kept b i) (drop 4 b.body));
     }))
 
--- the same, if the block has the length
+-- the same, if the block is long enough
 abbrev pub simple : ℕ → List Described → Framed → Result Seen CaptureFault
 simple place interfaces b =
     (if nat_lt (length b.body) 4 then Err (BadBlock place) else simple_of place b interfaces)
@@ -87,8 +87,8 @@ state_of r = record {
 abbrev pub is_section_version : ℕ → ℕ → Bool
 is_section_version major minor = major == 1 && (minor == 0 || minor == 2)
 
--- after a section header (4.1): byte order 4, major and minor version 2 each, length 8. A section
--- begins without interfaces; its length isn't needed.
+-- after a section header (4.1): byte order 4, major and minor version 2 each, length 8. A section begins without
+-- interfaces; its length is ignored.
 abbrev pub begun : ℕ → State → Framed → Result State CaptureFault
 begun place s b =
     (if nat_lt (length b.body) 16 then Err (BadBlock place) else
@@ -106,7 +106,7 @@ abbrev pub with_packet : State → Result Seen CaptureFault → Result State Cap
 with_packet s (Err fault) = Err fault
 with_packet s (Ok packet) = Ok (record s { packets = s.packets ++ packet ∷ [] })
 
--- after a block at this place of the file, by its type
+-- after a block at this position in the file, by its type
 abbrev pub after_block : ℕ → State → Framed → Result State CaptureFault
 after_block place s b =
     (if b.kind == section then begun place s b else
@@ -114,7 +114,7 @@ after_block place s b =
     (if b.kind == 3 then with_packet s (simple place s.interfaces b) else
     (if b.kind == 6 then with_packet s (enhanced place s.interfaces b) else Ok s))))
 
--- where in the file the rest of it stands
+-- the position in the file at which its rest begins
 abbrev pub place_of : List ℕ → List ℕ → ℕ
 place_of file rest = length file - length rest
 
@@ -135,7 +135,7 @@ pub record HoldsBlocks (file : List ℕ) (packets : List Seen) : Type 0 where
   pub reached : Reached file state []
   pub are : packets ≡ state.packets
 
--- the first block of the rest has this fault, by its lengths or by what it says
+-- the first block of the rest has this fault, in its lengths or its contents
 pub data IsFaulty (place : ℕ) (s : State) (rest : List ℕ) (fault : CaptureFault) : Type 0 where
   Unframed : block_at place s.endian rest ≡ Err fault → IsFaulty place s rest fault
   Misread : (block : Framed) → block_at place s.endian rest ≡ Ok block

@@ -6,7 +6,7 @@ ghost use Rattle.capture.specs.Blocks.{framed_in, endian_shown, endian_of, whole
 use crate::fault::CaptureFault;
 use crate::fields::{Endian, u32_at};
 
-/// The type of a section header, which reads the same in either byte order.
+/// The type of a section header, the same in either byte order.
 pub(crate) const SECTION: u32 = 0x0a0d_0d0a;
 
 /// A block: its byte order, type and body, and what follows it.
@@ -30,7 +30,7 @@ fn endian_shown(block: &[u8]) -> Option<Endian>
     }
 }
 
-/// The byte order of a block in a section of this one.
+/// The byte order of a block in a section with this one.
 fn endian_of(endian: Endian, block: &[u8]) -> Option<Endian>
     requires { 8 ≤ length block.now }
     ensures is { result ≡ endian_of endian block.now }
@@ -65,7 +65,7 @@ fn whole_block(place: u64, endian: Endian, bytes: &[u8]) -> Result<Block<'_>, Ca
     })
 }
 
-/// The first block of the bytes that stand at a place of the file, in a section of this byte order.
+/// The first block of the bytes at a position in the file, in a section with this byte order.
 pub(crate) fn first_block(
     place: u64,
     endian: Endian,

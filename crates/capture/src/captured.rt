@@ -13,7 +13,7 @@ use crate::interface::Interface;
 use crate::packet::{Packet, frame};
 use std::num::NonZeroU64;
 
-/// A count of units of time in nanoseconds, at most what 64 bits count.
+/// A count of units of time, in nanoseconds, at most what 64 bits can count.
 fn stamp(units: NonZeroU64, count: u64) -> u64
     ensures is { result ≡ stamp_of (non_zero_u64_get units) count }
 {
@@ -52,7 +52,7 @@ fn enhanced_packet<'a>(
     })
 }
 
-/// The packet of an enhanced packet block at a place of the file.
+/// The packet of an enhanced packet block at a position in the file.
 pub(crate) fn enhanced<'a>(
     place: u64,
     interfaces: &[Interface],
@@ -71,7 +71,7 @@ pub(crate) fn enhanced<'a>(
     }
 }
 
-/// How many bytes an interface captures of a packet of so many.
+/// How many of a packet's bytes an interface captures.
 fn kept(most: u32, original: u32) -> u32
     ensures is { result ≡ kept most original }
 {
@@ -102,7 +102,7 @@ fn simple_packet<'a>(
     })
 }
 
-/// The packet of a simple packet block at a place of the file.
+/// The packet of a simple packet block at a position in the file.
 pub(crate) fn simple<'a>(
     place: u64,
     interfaces: &[Interface],

@@ -1,4 +1,4 @@
-//! Why a file is no capture, and why a packet is no frame.
+//! Why a file isn't a capture, and why a packet isn't a frame.
 
 ghost use Rattle.std.specs.Prelude.{◌≡◌};
 ghost use Rattle.capture.specs.declared.fault.CaptureFault.TheVariants.{NoMemory};
@@ -6,31 +6,31 @@ ghost use Rattle.capture.specs.declared.fault.CaptureFault.TheVariants.{NoMemory
 use std::alloc::{AllocError, AllocFailed};
 use thiserror::Error;
 
-/// Why a file is no capture.
+/// Why a file isn't a capture.
 #[derive(Clone, Copy, Debug, PartialEq, Eq, Error)]
 pub enum CaptureFault {
-    /// The first four bytes are no magic number of a capture file.
+    /// The first four bytes aren't a capture file's magic number.
     #[error("not a capture file")]
     NoCapture,
     #[error("the header is cut")]
     CutHeader,
-    /// Not version 2.4, the only one of pcap in use, nor 1.0 or 1.2, which are those of pcapng.
+    /// Not version 2.4, the only one of pcap in use, or, in pcapng, neither 1.0 nor 1.2.
     #[error("unknown version {major}.{minor}")]
     Version { major: u16, minor: u16 },
-    /// Neither 105, IEEE 802.11, nor 127, IEEE 802.11 behind a radiotap header.
+    /// Neither 105, IEEE 802.11, nor 127, IEEE 802.11 after a radiotap header.
     #[error("link type {0} is neither 105 (802.11) nor 127 (802.11 with radiotap)")]
     LinkType(u32),
-    /// What follows so many whole records is no whole record.
+    /// The record after this many whole records is cut.
     #[error("the file is cut after {0} records")]
     CutRecord(u64),
-    /// A second has more units of time than 64 bits count (pcapng 4.2, `if_tsresol`).
+    /// A second has more units of time than 64 bits can count (pcapng 4.2, `if_tsresol`).
     #[error("unknown time resolution {0}")]
     Resolution(u8),
-    /// The file ends within the block that begins behind so many bytes.
+    /// The file ends within the block that begins at this byte.
     #[error("the file is cut in the block at byte {0}")]
     CutBlock(u64),
-    /// The block that begins behind so many bytes has lengths that don't fit, or names an interface that
-    /// its section hasn't described.
+    /// The block that begins at this byte has lengths that don't fit, or names an interface that its section hasn't
+    /// described.
     #[error("the block at byte {0} is damaged")]
     BadBlock(u64),
     #[error("out of memory")]
@@ -54,7 +54,7 @@ pub enum LeftOut {
     /// The radiotap header is damaged, or of a version other than 0.
     #[error("the radiotap header is damaged")]
     Radiotap,
-    /// There are fewer bytes than a frame check sequence has.
+    /// There are fewer bytes than a frame check sequence takes.
     #[error("the frame check sequence is cut")]
     CheckSequence,
 }

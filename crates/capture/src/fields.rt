@@ -5,7 +5,7 @@ ghost use Rattle.capture.specs.Fields.{number, number_at};
 
 use byteorder::{BigEndian, ByteOrder, LittleEndian};
 
-/// Which byte of a number stands first.
+/// Which byte of a number comes first.
 #[derive(Clone, Copy, Debug, PartialEq, Eq)]
 pub(crate) enum Endian {
     /// The lowest.
@@ -21,7 +21,7 @@ fn tail(bytes: &[u8], at: usize) -> &[u8]
     bytes.split_at(at).1
 }
 
-/// The number of two bytes at a place.
+/// The number in the two bytes at `at`.
 pub(crate) fn u16_at(endian: Endian, bytes: &[u8], at: usize) -> u16
     requires { at + 2 ≤ length bytes.now }
     ensures { result ≡ number_at endian 2 at bytes.now }
@@ -32,7 +32,7 @@ pub(crate) fn u16_at(endian: Endian, bytes: &[u8], at: usize) -> u16
     }
 }
 
-/// The number of four bytes at a place.
+/// The number in the four bytes at `at`.
 pub(crate) fn u32_at(endian: Endian, bytes: &[u8], at: usize) -> u32
     requires { at + 4 ≤ length bytes.now }
     ensures { result ≡ number_at endian 4 at bytes.now }

@@ -6,7 +6,7 @@ ghost use Rattle.capture.specs.Form.{magic_of, link_of, form_of, IsOfHeader};
 use crate::fault::CaptureFault;
 use crate::fields::{Endian, u16_at, u32_at};
 
-/// In what the times of records count the parts of a second.
+/// The unit of the parts of a second in records' times.
 #[derive(Clone, Copy, Debug, PartialEq, Eq)]
 pub(crate) enum TimeUnit {
     Microsecond,
@@ -22,7 +22,7 @@ pub(crate) enum Link {
     Radiotap,
 }
 
-/// What the header of a file says of its records.
+/// What a file's header says of its records.
 #[derive(Clone, Copy, Debug, PartialEq, Eq)]
 pub(crate) struct Form {
     pub(crate) endian: Endian,
@@ -42,7 +42,7 @@ fn magic(file: &[u8]) -> Option<(Endian, TimeUnit)>
     }
 }
 
-/// The kind of packet that a link type stands for.
+/// The kind of packet that a link type means.
 pub(crate) fn link_named(number: u32) -> Result<Link, CaptureFault>
     ensures is { result ≡ link_of number }
     ensures fault { IfErr result IsOfHeader }
@@ -54,7 +54,7 @@ pub(crate) fn link_named(number: u32) -> Result<Link, CaptureFault>
     }
 }
 
-/// What the header of a file says.
+/// What a file's header says.
 pub(crate) fn read_form(file: &[u8]) -> Result<Form, CaptureFault>
     ensures is { result ≡ form_of file.now }
     ensures fault { IfErr result IsOfHeader }

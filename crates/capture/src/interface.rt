@@ -17,11 +17,11 @@ pub(crate) struct Interface {
     pub(crate) link: Link,
     /// How many units of time a second has.
     pub(crate) units: NonZeroU64,
-    /// How many bytes are captured of a packet at most, 0 where all are.
+    /// The most bytes captured of a packet, 0 for all.
     pub(crate) most: u32,
 }
 
-/// The bytes of an option's value, and of what fills it up.
+/// The length of an option's value with its padding.
 fn padded(count: usize) -> usize
     requires { count < 2 ^ 16 }
     ensures is { result ≡ padded count }
@@ -29,7 +29,7 @@ fn padded(count: usize) -> usize
     (count + 3) / 4 * 4
 }
 
-/// The time resolution of an interface's options, 6 where none says it. None: they are damaged.
+/// The time resolution in an interface's options, 6 if none gives it. None if they are damaged.
 fn resolution_in(endian: Endian, options: &[u8]) -> Option<u8>
     ensures is { result ≡ resolution_in (length options.now) endian options.now }
 {
@@ -52,7 +52,7 @@ fn resolution_in(endian: Endian, options: &[u8]) -> Option<u8>
     Some(6)
 }
 
-/// How many units of time of this resolution a second has. None: more than 64 bits count.
+/// How many units of this resolution a second has. None if 64 bits can't count them.
 fn units(resolution: u8) -> Option<u64>
     ensures is { result ≡ counted_units resolution }
 {
@@ -62,7 +62,7 @@ fn units(resolution: u8) -> Option<u64>
     2u64.checked_pow(u32::from(resolution - 128))
 }
 
-/// The same, of which it is known that it isn't 0.
+/// The same, as a number that isn't 0.
 fn counted_units(resolution: u8) -> Option<NonZeroU64>
     ensures is { option_map non_zero_u64_get result ≡ counted_units resolution }
 {
@@ -70,7 +70,7 @@ fn counted_units(resolution: u8) -> Option<NonZeroU64>
     NonZeroU64::new(units)
 }
 
-/// The interface that a block at a place of the file describes.
+/// The interface that a block at a position in the file describes.
 pub(crate) fn interface_in(place: u64, block: Block<'_>) -> Result<Interface, CaptureFault>
     ensures is { described_in result ≡ interface_of place (framed_of block.entry) }
 {

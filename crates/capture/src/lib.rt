@@ -1,8 +1,8 @@
 //! The frames of a capture file: classic pcap in either byte order, with times in microseconds or
 //! nanoseconds, or pcapng, of IEEE 802.11 frames with or without a radiotap header.
 //!
-//! Main call: `read_capture`. It stands on `byteorder`. It answers the packets that a file holds, each
-//! with its time and its frame, or why it is left out; or the file's first fault.
+//! Main call: `read_capture`. It depends on `byteorder`. It returns the packets that a file holds, each with its time
+//! and its frame, or why it is left out; or the file's first fault.
 #![tactic(auto)]
 
 mod block;

@@ -27,7 +27,7 @@ fn time(unit: TimeUnit, seconds: u32, part: u32) -> u64
     1_000_000_000 * u64::from(seconds) + part
 }
 
-/// The frame of captured bytes, where the packet had `original` bytes.
+/// The frame in captured bytes of a packet of `original` bytes.
 pub(crate) fn frame(link: Link, original: usize, bytes: &[u8]) -> Result<&[u8], LeftOut>
     ensures is { bytes_in result ≡ frame_of link original bytes.now }
 {
@@ -40,7 +40,7 @@ pub(crate) fn frame(link: Link, original: usize, bytes: &[u8]) -> Result<&[u8], 
     }
 }
 
-/// The packet of the first record, and what follows the record. None where it is cut.
+/// The packet of the first record, and what follows the record. None if the record is cut.
 pub(crate) fn first_packet(form: Form, bytes: &[u8]) -> Option<(Packet<'_>, &[u8])>
     ensures first { First form bytes.now result }
     ensures shorter { IfSome result (λ x. length x.1.now < length bytes.now) }

@@ -1,4 +1,4 @@
-//! Frames behind a radiotap header.
+//! Frames after a radiotap header.
 
 ghost use Rattle.std.specs.Prelude.{◌≡◌, ◌≤◌, ◌+◌, ◌^◌, ◌<◌, length, IfSome};
 ghost use Rattle.capture.specs.Radiotap.{bytes_in, words_len, flags_place, flags_of, without_check, radiotap_frame};
@@ -6,7 +6,7 @@ ghost use Rattle.capture.specs.Radiotap.{bytes_in, words_len, flags_place, flags
 use crate::fault::LeftOut;
 use crate::fields::{Endian, u16_at};
 
-/// How many bytes the words of present fields have: the last one lacks its highest bit.
+/// How many bytes the words of present fields have: the last one lacks its highest bit. None if they are cut.
 #[tactic(auto, using(crate::proofs::Present::step, crate::proofs::Present::short, crate::proofs::Present::add_zero))]
 fn words_len(bytes: &[u8]) -> Option<usize>
     ensures is { result ≡ words_len bytes.now }
@@ -24,7 +24,7 @@ fn words_len(bytes: &[u8]) -> Option<usize>
     None
 }
 
-/// Where the flags stand in a header that has them, behind the present words at `start` and the
+/// The index of the flags in a header that has them: after the present words, which end at `start`, and after the
 /// time, if the header has one.
 fn flags_place(has_time: bool, start: usize) -> usize
     requires { start < 2 ^ 32 }
@@ -37,7 +37,7 @@ fn flags_place(has_time: bool, start: usize) -> usize
     }
 }
 
-/// The flags of a header, 0 where it has none.
+/// The flags of a header, 0 if it has none. None if they are cut.
 fn flags(header: &[u8]) -> Option<u8>
     requires long { 8 ≤ length header.now }
     requires short { length header.now < 2 ^ 16 }
@@ -64,7 +64,7 @@ fn without_check(flags: u8, frame: &[u8]) -> Result<&[u8], LeftOut>
     Ok(frame.split_at(frame.len() - 4).0)
 }
 
-/// The frame behind a radiotap header.
+/// The frame after a radiotap header.
 pub(crate) fn radiotap_frame(packet: &[u8]) -> Result<&[u8], LeftOut>
     ensures is { bytes_in result ≡ radiotap_frame packet.now }
 {

@@ -10,11 +10,10 @@ use crate::packet::{Packet, first_packet};
 use crate::section::read_sections;
 use std::alloc::Global;
 
-/// The packets of a capture file, in their order: of a classic one, or of one in the form pcapng
-/// (draft-ietf-opsawg-pcapng). A packet whose frame can't be told says why. A simple packet block has no
-/// time. A header that is no capture's, a record or a block that is cut, and a block that is damaged
-/// refuse the file. Blocks of other types than section header, interface description, enhanced and simple
-/// packet are passed over, and of an interface's options only `if_tsresol` is read.
+/// The packets of a capture file, in order, from classic pcap or pcapng (draft-ietf-opsawg-pcapng). A packet without a
+/// readable frame says why. A simple packet block has no time. Blocks other than section header, interface
+/// description, enhanced and simple packet are skipped, as are an interface's options other than `if_tsresol`. An
+/// error is `NoMemory`, or the file's first fault: in its header, a record or a block.
 pub fn read_capture<'a>(alloc: Global, file: &'a [u8]) -> Result<Vec<Packet<'a>>, CaptureFault>
     ensures packets { IfOk result (λ packets. Holds file.entry.now (map seen_of packets.items)) }
     ensures fault { IfErr result (Refuses file.entry.now) }

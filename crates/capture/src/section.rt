@@ -58,7 +58,7 @@ impl<'a> Reading<'a> {
         Ok(())
     }
 
-    /// Takes in a block at a place of the file.
+    /// Processes a block at a position in the file.
     fn pass(&mut self, place: u64, block: Block<'a>) -> Result<(), CaptureFault>
         ensures ok { IfOk result (λ _.
             after_block place (state_of self.old) (framed_of block.entry) ≡ Ok (state_of self.new)) }
@@ -87,7 +87,7 @@ impl<'a> Reading<'a> {
     }
 }
 
-/// The packets of a pcapng file, in their order.
+/// The packets of a pcapng file, in order.
 pub(crate) fn read_sections<'a>(
     alloc: Global,
     file: &'a [u8],

@@ -1,4 +1,4 @@
--- What a judge was asked, one ask after another.
+-- What a judge was asked, one query after another.
 use Rattle.std.proofs.Common.{ℕ, List, [], ◌∷◌, ap, ◌∙◌, subst, Bor}
 use Rattle.bpf_helpers.specs.declared.worker.WorkerView.{WorkerView}
 use Rattle.bpf_helpers.specs.HookPorts.{given_by}

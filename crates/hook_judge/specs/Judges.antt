@@ -1,4 +1,4 @@
--- What a judge by programs gives, by the references that it was lent.
+-- What a judge by programs gives, by the references that it borrowed.
 use Rattle.std.specs.Prelude.{◌≡◌, ◌+◌, ◌%◌, ◌^◌, ◌++◌, ◌∷◌, ℕ, []}
 use Rattle.ap_model.specs.Asks.{Ask}
 use Rattle.versions.specs.Sets.{Programs, set_of}
@@ -10,13 +10,13 @@ use Rattle.hook_judge.specs.Verdicts.{GivesIn}
 abbrev pub programs_of : SetJudge → Programs
 programs_of j = set_of j.set.now.loads
 
--- it has what it was lent
+-- k borrows what j does
 pub record Keeps (j k : SetJudge) : Type 0 where
   pub set : k.set ≡ j.set
   pub view : k.view ≡ j.view
   pub state : k.state.ghost_name ≡ j.state.ghost_name
 
--- It keeps what it was lent, gives the verdict of its programs, counts the steps and lists the ask.
+-- It keeps what it borrowed, gives the verdict of its programs, counts the steps and lists the query.
 pub record Judges (j : SetJudge) (ask : Ask) (verdict : ℕ) (k : SetJudge) : Type 0 where
   pub keeps : Keeps j k
   pub steps : ℕ

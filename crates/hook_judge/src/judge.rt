@@ -9,15 +9,15 @@ use bpf_regions::{Context, Frame, Hook};
 use hooks::no_program;
 use versions::ProgramSet;
 
-/// Judges by one set of programs, over one worker's tables: the verdict on a hook is the R0 of a run of the set's
-/// program for that hook, or the number of the verdict tables where it has none. It is made anew for each event, of
-/// nothing but what is lent, and takes no memory. What programs note is given up.
+/// Judges by one set of programs, over one worker's tables: a hook's verdict is R0 of a run of the set's program for
+/// that hook, or, if it has none, the number of the verdict tables. It is made anew for each event, only of borrowed
+/// values, and allocates nothing. What programs note is dropped.
 #[derive(Drop)]
 pub struct SetJudge<'p, 't, 's> {
     pub set: &'p ProgramSet,
     pub view: WorkerView<'t>,
     pub state: &'s mut WorkerState,
-    /// How many steps its runs took, mod 2^64.
+    /// How many steps its runs executed, mod 2^64.
     pub steps: u64,
     pub asked: AskLog,
     pub ghost for_maps: { set.now.shapes ≡ shapes_of view.maps.now },
@@ -25,7 +25,7 @@ pub struct SetJudge<'p, 't, 's> {
 }
 
 impl<'p, 't, 's> SetJudge<'p, 't, 's> {
-    /// A judge by this set, that was asked nothing yet. The set is one for the maps in use.
+    /// A judge by this set, which must be one for the maps in use. Nothing has been asked of it.
     pub fn new(set: &'p ProgramSet, view: WorkerView<'t>, state: &'s mut WorkerState) -> Self
         requires for_maps { set.now.shapes ≡ shapes_of view.maps.now }
         requires fitting { IsFitting view.maps.now view.worker state.old.seats }

@@ -1,4 +1,4 @@
--- The 32 bytes that tell a program of a station and its frame; numbers of two bytes have the low one first. The layout
+-- The 32 bytes that tell a program about a station and its frame; numbers of two bytes are little-endian. The layout
 -- is our own.
 use Rattle.std.specs.Prelude.{ℕ, List, [], ◌∷◌, ◌++◌, Bool, true, false, Option, Some, None}
 use Rattle.std.specs.Int.{w16, to_le_bytes}
@@ -11,7 +11,7 @@ use Rattle.assoc.specs.Standings.{Standing, state_of, aid_of}
 abbrev pub word : ℕ → List ℕ
 word n = to_le_bytes w16 n
 
--- 1 where it holds
+-- 1 if it holds
 abbrev pub flag : Bool → ℕ
 flag true = 1
 flag false = 0
@@ -27,22 +27,22 @@ context asks station standing tid first second third =
     station ++ (number_of asks ∷ state_of standing ∷ (word (aid_of standing)
     ++ (tid ∷ 0 ∷ (word first ++ (word second ++ (word third ++ unused))))))
 
--- of a (re)association request: 12 the capability, 14 the listen interval, 16 whether it is a reassociation
+-- for a (re)association request: 12 the capability, 14 the listen interval, 16 whether it is a reassociation
 abbrev pub association_context : List ℕ → Standing → ℕ → ℕ → Bool → List ℕ
 association_context station standing capability listen_interval reassociation =
     context hook.Association station standing 255 capability listen_interval (flag reassociation)
 
--- of an ADDBA request: 12 the asked size as it was sent, 14 the timeout, 16 the starting sequence number
+-- for an ADDBA request: 12 the asked size as sent, 14 the timeout, 16 the starting sequence number
 abbrev pub addba_context : List ℕ → Standing → ℕ → ℕ → ℕ → ℕ → List ℕ
 addba_context station standing tid asked timeout start =
     context hook.Addba station standing tid asked timeout start
 
--- the TID; 255 where there is none
+-- the TID, or 255 for none
 abbrev pub tid_or_none : Option ℕ → ℕ
 tid_or_none None = 255
 tid_or_none (Some tid) = tid
 
--- the window's start; 0 where there is none
+-- the window's start, or 0 for none
 abbrev pub start_or_zero : Option ℕ → ℕ
 start_or_zero None = 0
 start_or_zero (Some start) = start
@@ -52,7 +52,7 @@ abbrev pub is_there : Option ℕ → Bool
 is_there None = false
 is_there (Some start) = true
 
--- of data: 12 its sequence number, 14 the start of its agreement's window or 0, 16 whether there is an agreement
+-- for data: 12 its sequence number, 14 the start of its agreement's window or 0, 16 whether there is an agreement
 abbrev pub data_context : List ℕ → Standing → Option ℕ → ℕ → Option ℕ → List ℕ
 data_context station standing tid number window =
     context hook.Data station standing (tid_or_none tid) number

@@ -5,8 +5,8 @@ use Rattle.bpf_regions.specs.declared.hooks.Hook.TheVariants.{Association, Addba
 use Rattle.hooks.specs.declared.verdicts.DataVerdict.{DataVerdict}
 use Rattle.hooks.specs.declared.verdicts.DataVerdict.TheVariants.{Pass, Discard}
 
--- on a (re)association request: 0 admits; the statuses 1, 10, 12, 17 and 37 refuse with that status, and any other
--- number refuses with 1
+-- on a (re)association request: 0 admits; the statuses 1, 10, 12, 17 and 37 refuse with that status, any other number
+-- with 1
 abbrev pub association_status : ℕ → ℕ
 association_status r = if r == 0 || r == 1 || r == 10 || r == 12 || r == 17 || r == 37 then r else 1
 
@@ -14,7 +14,7 @@ association_status r = if r == 0 || r == 1 || r == 10 || r == 12 || r == 17 || r
 abbrev pub wanted_size : ℕ → ℕ
 wanted_size asked = if asked == 0 then 64 else asked
 
--- on an ADDBA request: 0 declines, any other number grants at most as many
+-- on an ADDBA request: 0 declines, any other number grants at most that size
 abbrev pub agreement_size : ℕ → ℕ → Option ℕ
 agreement_size r asked = if r == 0 then None else Some (min (min r (wanted_size asked)) 64)
 
@@ -23,7 +23,7 @@ abbrev pub data_verdict : ℕ → DataVerdict
 data_verdict r =
     if r % 4 == 0 then Pass 0 else (if r % 4 == 2 then Pass (r / 256 % 256) else Discard)
 
--- what counts as R0 where a hook has no program
+-- what counts as R0 if a hook has no program
 abbrev pub no_program : Hook → ℕ
 no_program Association = 0
 no_program Addba = 64

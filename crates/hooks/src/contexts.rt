@@ -1,4 +1,4 @@
-//! What a program is told: 32 bytes. The layout is this access point's own.
+//! What a program reads of a station and its frame: 32 bytes. The layout is this access point's own.
 
 ghost use Rattle.std.specs.Prelude.{◌≡◌};
 ghost use Rattle.bpf_regions.specs.declared.hooks.Hook.{Hook};
@@ -8,17 +8,17 @@ use assoc::{Standing, aid_of, state_of};
 use bpf_regions::{Context, Hook};
 use mac_types::{Address, BufferSize, Capability, SequenceNumber, Tid};
 
-/// The TID of a frame that has none.
+/// The TID byte for a frame without a TID.
 const NO_TID: u8 = 255;
 
-/// The station whose frame is judged, and where it stands before the frame.
+/// The station whose frame is judged, and its standing before the frame.
 #[derive(Clone, Copy)]
 pub struct Asker {
     pub station: Address,
     pub standing: Standing,
 }
 
-/// What each hook tells beside the station: a TID, and three numbers of its own.
+/// What each hook adds to the station: a TID, and three numbers of its own.
 #[derive(Clone, Copy)]
 struct Told {
     tid: u8,
@@ -73,7 +73,7 @@ fn context(hook: Hook, asker: Asker, told: Told) -> Context
     ])
 }
 
-/// Of an association or reassociation request.
+/// The context of an association or reassociation request.
 pub fn association_context(
     asker: Asker,
     capability: Capability,
@@ -92,7 +92,7 @@ pub fn association_context(
     context(Hook::Association, asker, told)
 }
 
-/// Of an ADDBA request, with the size as it was sent.
+/// The context of an ADDBA request, with the size as sent.
 pub fn addba_context(
     asker: Asker,
     tid: Tid,
@@ -111,8 +111,7 @@ pub fn addba_context(
     context(Hook::Addba, asker, told)
 }
 
-/// Of data: its TID, if it has one, its sequence number, and the start of its agreement's window, if
-/// it has an agreement.
+/// The context of data: its TID, if any, its sequence number, and its agreement's window start, if any.
 pub fn data_context(
     asker: Asker,
     tid: Option<Tid>,

@@ -1,9 +1,8 @@
-//! The hook points of the link: what a program is told, and what its answer means.
+//! The hooks of the link: what a program reads, and what its verdict means.
 //!
-//! Main calls: `assoc_verdict`, `addba_verdict` and `data_verdict`, and a context for each hook. It
-//! stands on `assoc` and `bpf_regions`. Verdicts are the tables of `specs/Verdicts.antt`, contexts
-//! the 32 bytes of `specs/Contexts.antt`, byte by byte. `no_program` is the number that stands for
-//! a hook without one. No call takes memory.
+//! Main calls: `assoc_verdict`, `addba_verdict` and `data_verdict`, and a context for each hook. It depends on `assoc`
+//! and `bpf_regions`. Verdicts are the tables of `specs/Verdicts.antt`, contexts the 32 bytes of
+//! `specs/Contexts.antt`. `no_program` is the number used for a hook without a program. No call allocates.
 #![tactic(auto)]
 
 mod contexts;

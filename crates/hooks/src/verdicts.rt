@@ -1,5 +1,4 @@
-//! What the number that a program leaves in R0 means to the link. These tables are this access
-//! point's own.
+//! What the number that a program leaves in R0 means to the link. These tables are this access point's own.
 
 ghost use Rattle.std.specs.Prelude.{◌≡◌, ◌≤◌, IfSome, Some};
 ghost use Rattle.bpf_regions.specs.declared.hooks.Hook.{Hook};
@@ -11,17 +10,17 @@ use mac_types::{BufferSize, Status};
 /// The most numbers that the window of an agreement may have.
 pub const LARGEST_WINDOW: u8 = 64;
 
-/// What becomes of a data frame.
+/// What happens to a data frame.
 #[derive(Clone, Copy, Debug, PartialEq, Eq)]
 pub enum DataVerdict {
     /// It is passed up with this mark.
     Pass(u8),
-    /// It is not passed up.
+    /// It isn't passed up.
     Discard,
 }
 
 /// The status that answers a (re)association request: 0 admits; 1, 10, 12, 17 and 37 refuse with
-/// that status, and any other number with 1.
+/// that status, any other number with 1.
 pub fn assoc_verdict(r0: u64) -> Status
     ensures { result ≡ association_status r0 }
 {
@@ -35,8 +34,8 @@ pub fn assoc_verdict(r0: u64) -> Status
     }
 }
 
-/// The size of the agreement that an ADDBA request is granted, of 1 to 64 numbers: the least of R0,
-/// what was asked for, where 0 counts as 64, and 64. None where R0 is 0: the request is declined.
+/// The window size granted to an ADDBA request, 1 to 64: the least of R0, the size asked for (0 counts as 64), and 64.
+/// None if R0 is 0: the request is declined.
 pub fn addba_verdict(r0: u64, asked: BufferSize) -> Option<u8>
     ensures is { result ≡ agreement_size r0 asked }
     ensures some { IfSome result (λ size. 1 ≤ size) }
@@ -53,7 +52,7 @@ pub fn addba_verdict(r0: u64, asked: BufferSize) -> Option<u8>
     Some(size as u8)
 }
 
-/// What becomes of a data frame, by the low two bits of R0: 0 passes it with mark 0, 2 passes it with
+/// What happens to a data frame, by the low two bits of R0: 0 passes it with mark 0, 2 passes it with
 /// bits 8 to 15 as its mark, 1 and 3 discard it.
 pub fn data_verdict(r0: u64) -> DataVerdict
     ensures { result ≡ data_verdict r0 }
@@ -65,8 +64,7 @@ pub fn data_verdict(r0: u64) -> DataVerdict
     }
 }
 
-/// What stands for R0 where a hook has no program: it admits, it grants what is asked, it passes with
-/// mark 0.
+/// What counts as R0 if a hook has no program: it admits, grants what is asked, and passes with mark 0.
 pub fn no_program(hook: Hook) -> u64
     ensures { result ≡ no_program hook }
 {

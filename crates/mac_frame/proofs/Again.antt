@@ -1,4 +1,4 @@
--- What a frame spells has no fault.
+-- The spelling of a frame has no fault.
 use Rattle.std.proofs.Common.{◌≡◌, ℕ, ◌+◌, ◌*◌, ◌/◌, ◌%◌, ◌≤◌, true, false, List, [], ◌∷◌, ◌++◌, length, get_or, slice_index, drop, Some, None, refl, sym, ap, ◌∙◌, arith}
 use Rattle.std.specs.Prelude.{nat_lt}
 use Rattle.std.proofs.lemmas.Bool.{le-ltb}
@@ -23,7 +23,7 @@ use Rattle.mac_frame.specs.Spelling.{Frame, IsFrame, IsManagement, IsControl, Is
 use Rattle.mac_frame.proofs.Cutting.{not_cut}
 use Rattle.mac_frame.proofs.Order.{first_after, at_header}
 
--- ---- places after others
+-- ---- fields after others
 
 byte_there : (b t : List ℕ) (n i : ℕ) → drop n b ≡ t → slice_index b (n + i) ≡ slice_index t i
 byte_there b t n i e = sym (get_or-drop n b i 0) ∙ ap (λ (x : List ℕ). get_or x i 0) e
@@ -43,7 +43,7 @@ not_below m n le = le-ltb m n le
 empty : (tail : List ℕ) → tail ≡ [] → length tail ≡ 0
 empty tail e = ap (λ (x : List ℕ). length x) e
 
--- a sequence control, where it is spelled
+-- a sequence control, if it is spelled there
 number_there : (b t : List ℕ) (n i s : ℕ) → drop n b ≡ t → word_at t i ≡ sequence_control s % 256 + 256 * (sequence_control s / 256 % 256) → IsSequenceNumber s → is_sequence_control (word_at b (n + i)) ≡ true
 number_there b t n i s e spelled fits =
     ap is_sequence_control (word_there b t n i (sequence_control s) e spelled (sequence_controls.below s fits)) ∙ sequence_controls.passes s fits
@@ -140,7 +140,7 @@ kind_is subtypes.Null = refl
 kind_is subtypes.QosData = refl
 kind_is subtypes.QosNull = refl
 
--- the header and the body, where the first sixteen bytes are known
+-- the header and the body, if the first sixteen bytes are known
 content_free : (x : Content) (b tail : List ℕ) → drop 16 b ≡ content_text x tail → length b ≡ 16 + length (content_text x tail) → are_flags (to_ds x) (slice_index b 1) ≡ true → IsContent x tail
     → (header_length (header_of (content_subtype x)) ≤ length b) × (first (header_tests (header_of (content_subtype x)) b) ≡ None) × (first (body_tests (content_subtype x) b) ≡ None)
 content_free (content.Management (a0 ∷ a1 ∷ a2 ∷ a3 ∷ a4 ∷ a5 ∷ []) s m) b tail d l flags fits =
@@ -172,7 +172,7 @@ pub six : (xs rest : List ℕ) → length xs ≡ 6 → drop 6 (xs ++ rest) ≡ r
 six (a0 ∷ a1 ∷ a2 ∷ a3 ∷ a4 ∷ a5 ∷ []) rest e = refl
 six _ rest e = absurd (omega (arith, e))
 
--- what stands behind the first two addresses
+-- what follows the first two addresses
 pub past_addresses : (f : Frame) → IsAddress f.receiver → IsAddress f.sender → drop 16 (spelling f) ≡ content_text f.content f.tail
 past_addresses f r s =
     let one : drop 6 (f.receiver ++ (f.sender ++ content_text f.content f.tail)) ≡ f.sender ++ content_text f.content f.tail = six f.receiver (f.sender ++ content_text f.content f.tail) r in

@@ -1,4 +1,4 @@
--- No other frame is spelled so.
+-- No other frame has this spelling.
 use Rattle.std.proofs.Common.{◌≡◌, ℕ, ◌+◌, ◌*◌, ◌/◌, ◌%◌, ◌^◌, ◌<◌, List, [], ◌∷◌, ◌++◌, length, slice_index, take, drop, Option, Some, None, refl, sym, ap, ◌∙◌, arith}
 use Rattle.std.specs.Prelude.{◌==◌, if◌then◌else◌, Result, Ok, Err, IfOk, IfErr, MatchResult}
 use Rattle.std.specs.Int.{w64, to_le_bytes, from_le_bytes}
@@ -44,7 +44,7 @@ word_back x lt = omega arith
 sequence_back : (s : ℕ) → IsSequenceNumber s → sequence_number_in (sequence_control s % 256 + 256 * (sequence_control s / 256 % 256)) ≡ s
 sequence_back s fits = ap sequence_number_in (word_back (sequence_control s) (sequence_controls.below s fits)) ∙ sequence_number_back s fits
 
--- ---- a frame by the places of its fields
+-- ---- a frame by the positions of its fields
 
 abbrev management_in : Subtype → List ℕ → Management × List ℕ
 management_in subtypes.AssociationRequest t = (management.AssociationRequest (word_at t 0) (word_at t 2), drop 4 t)
@@ -85,7 +85,7 @@ frame_with b x = record { flags = flags_in (slice_index b 1); duration = word_at
 abbrev frame_in : List ℕ → Frame
 frame_in b = frame_with b (content_by (subtype_of (slice_index b 0)) (drop 16 b))
 
--- ---- what a frame spells has its fields there
+-- ---- the spelling of a frame has its fields there
 
 parameters_back : (p : BlockAckParameters) → IsBlockAckParameters p → block_ack_parameters_in (block_ack_parameters p % 256 + 256 * (block_ack_parameters p / 256 % 256)) ≡ p
 parameters_back p fits = ap block_ack_parameters_in (word_back (block_ack_parameters p) (block_ack_parameter_sets.below p fits)) ∙ block_ack_parameters_back p fits
@@ -163,7 +163,7 @@ some_fault x = Some x
 differ : (x : Fault) → some_fault x ≡ None → ⊥
 differ x e = cc
 
--- ---- what reading answers where a frame is spelled so
+-- ---- what reading returns for the spelling of a frame
 
 pub only_this : (r : Result Frame FrameFault) (b : List ℕ) → IfOk r (λ f. IsFrame f × (b ≡ spelling f) × (first_fault b ≡ None)) → IfErr r (λ e. IsFault e (first_fault b))
     → (f : Frame) → IsFrame f → b ≡ spelling f → MatchResult r (λ g. g ≡ f) (λ e. e ≡ answers.Memory)

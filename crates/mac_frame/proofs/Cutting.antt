@@ -1,4 +1,4 @@
--- Going over elements.
+-- Walking over elements.
 use Rattle.std.proofs.Common.{◌≡◌, ℕ, zero, suc, ◌+◌, ◌<◌, ◌≤◌, true, false, not, eqb, List, [], ◌∷◌, ◌++◌, length, take, drop, slice_index, refl, sym, ap, ◌∙◌, arith, inl, inr}
 use Rattle.std.proofs.lemmas.Bool.{cases_lt}
 use Rattle.std.proofs.lemmas.List.{length-take-le, length-drop, take-append-drop}
@@ -9,7 +9,7 @@ differs e = cc
 
 -- ---- the test
 
--- bytes of an element are skipped
+-- the bytes of an element are skipped
 skips : (n : ℕ) (xs : List ℕ) → n ≤ length xs → cut_after n xs ≡ cut_after 0 (drop n xs)
 skips zero xs le = refl
 skips (suc n) [] le = absurd (omega arith)
@@ -40,7 +40,7 @@ at_end [] lt = refl
 at_end (x ∷ []) lt = refl
 at_end (x ∷ y ∷ rest) lt = absurd (omega arith)
 
--- ---- bytes in which nothing is cut are elements
+-- ---- bytes in which no element is cut are elements
 
 take_back : (n : ℕ) (xs : List ℕ) → n ≤ length xs → n ∷ xs ≡ length (take n xs) ∷ (take n xs ++ drop n xs)
 take_back n xs le = rw (length-take-le n xs le, take-append-drop n xs) refl
@@ -83,7 +83,7 @@ are_elements bytes e = (cuts_none bytes).0 e
 pub not_cut : (bytes : List ℕ) → AreElements bytes → is_cut bytes ≡ false
 not_cut bytes h = (cuts_none bytes).1 h
 
--- ---- what elements spell is read as these
+-- ---- reading what elements spell gives these
 
 front_of : (bs rest : List ℕ) → take (length bs) (bs ++ rest) ≡ bs
 front_of [] rest = refl
@@ -109,7 +109,7 @@ pub reads_elements : ReadsElements
 unfolding elements_in
 reads_elements es = reads_within (length (elements_text es)) es (omega arith)
 
--- ---- one element after the other
+-- ---- one element after another
 
 -- the first element of bytes that elements spell
 pub record Peels (xs : List ℕ) (es : List Element) : Type 0 where

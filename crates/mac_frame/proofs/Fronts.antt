@@ -1,4 +1,4 @@
--- Bytes whose fields are read are those of a frame.
+-- Bytes whose fields are read spell a frame.
 use Rattle.std.proofs.Common.{◌≡◌, ℕ, ◌≤◌, List, [], ◌∷◌, ◌++◌, length, slice_index, drop, refl, ap, ◌∙◌, subst, arith}
 use Rattle.mac_types.specs.declared.fields.FrameFlags.{FrameFlags}
 use Rattle.mac_types.specs.Numbers.{IsWord, IsAddress}

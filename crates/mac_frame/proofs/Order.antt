@@ -12,26 +12,26 @@ use Rattle.mac_frame.specs.Kinds.{subtype_of, first_byte, header_of, header_leng
 use Rattle.mac_frame.specs.Faults.{Test, first, tests_of, header_tests, body_tests, first_fault}
 use Rattle.mac_frame.specs.Reading.{IsContentBody, IsWhole}
 
--- tests that find nothing are passed over
+-- tests that find nothing are skipped
 pub first_after : (h r : List Test) → first h ≡ None → first (h ++ r) ≡ first r
 first_after [] r e = refl
 first_after ((true, f) ∷ h) r e = absurd cc
 first_after ((false, f) ∷ h) r e = first_after h r e
 
--- each header has sixteen bytes at least
+-- each header has at least sixteen bytes
 header_at_least : (k : HeaderKind) → 16 ≤ header_length k
 header_at_least headers.Management = omega arith
 header_at_least headers.Control = omega arith
 header_at_least headers.Data = omega arith
 header_at_least headers.QosData = omega arith
 
--- where a test has found something, the later ones don't count
+-- once a test has found something, later ones don't count
 pub first_found : (h r : List Test) (f : Fault) → first h ≡ Some f → first (h ++ r) ≡ Some f
 first_found [] r f e = absurd cc
 first_found ((true, g) ∷ h) r f e = e
 first_found ((false, g) ∷ h) r f e = first_found h r f e
 
--- where nothing is wrong before the header
+-- if nothing is wrong before the header
 pub at_header : (b : List ℕ) (k : Subtype) → length b ≤ 2400 → 2 ≤ length b → slice_index b 0 % 4 ≡ 0 → subtype_of (slice_index b 0) ≡ Some k → header_length (header_of k) ≤ length b
     → first_fault b ≡ first (header_tests (header_of k) b ++ body_tests k b)
 at_header b k short two version kind long =
@@ -44,7 +44,7 @@ pub err_along : {X : Type 0} (r : Result X Fault) (p q : Option Fault) → p ≡
 err_along (Ok x) p q e h = tt
 err_along (Err f) p q e h = e ∙ h
 
--- where the header and the body are read
+-- if the header and the body are read
 pub whole : (b : List ℕ) (k : Subtype) (flags : FrameFlags) (body : Content) (tail : List ℕ) → length b ≤ 2400 → 2 ≤ length b → slice_index b 0 % 4 ≡ 0 → subtype_of (slice_index b 0) ≡ Some k
     → slice_index b 0 ≡ first_byte k → header_length (header_of k) ≤ length b → IsContentBody k b flags body tail → IsWhole b flags body tail
 whole b k flags body tail short two version kind start long read = record {

@@ -1,7 +1,7 @@
 -- Elements (IEEE 802.11-2016, 9.4.2.1), and their one spelling.
 use Rattle.std.specs.Prelude.{◌≡◌, ◌≤◌, ℕ, zero, suc, ◌==◌, if◌then◌else◌, Bool, true, false, List, [], ◌∷◌, ◌++◌, length, take, drop, Option, Some, None, ◌↔◌}
 
--- an identifier and what stands after its length
+-- an identifier, and what follows its length
 pub record Element : Type 0 where
   pub id : ℕ
   pub bytes : List ℕ
@@ -16,7 +16,7 @@ pub record AreElements (bytes : List ℕ) : Type 0 where
   pub elements : List Element
   pub text : bytes ≡ elements_text elements
 
--- whether bytes end within an element, where the next `skipped` bytes are of an element
+-- whether bytes end within an element, if the next `skipped` bytes belong to an element
 abbrev pub cut_after : ℕ → List ℕ → Bool
 cut_after zero [] = false
 cut_after (suc skipped) [] = true
@@ -28,7 +28,7 @@ cut_after zero (id ∷ len ∷ rest) = cut_after len rest
 unfoldable pub is_cut : List ℕ → Bool
 is_cut bytes = cut_after 0 bytes
 
--- the elements at the front of bytes, `most` of them at most
+-- the first elements of bytes, at most `most`
 abbrev pub elements_within : ℕ → List ℕ → List Element
 elements_within zero bytes = []
 elements_within (suc most) [] = []
@@ -40,7 +40,7 @@ elements_within (suc most) (id ∷ len ∷ rest) =
 unfoldable pub elements_in : List ℕ → List Element
 elements_in bytes = elements_within (length bytes) bytes
 
--- the bytes of the first element with an id
+-- the bytes of the first element with this id
 abbrev pub first_with : ℕ → List Element → Option (List ℕ)
 first_with id [] = None
 first_with id (e ∷ es) = if e.id == id then Some e.bytes else first_with id es
@@ -50,7 +50,7 @@ abbrev pub nonempty : List Element → List Element
 nonempty [] = []
 nonempty (e ∷ es) = if length e.bytes == 0 then nonempty es else e ∷ nonempty es
 
--- elements that fit each frame that has some
+-- elements short enough for each frame that has elements
 pub record IsSendable (bytes : List ℕ) : Type 0 where
   pub spelled : AreElements bytes
   pub short : length bytes ≤ 2366
@@ -59,10 +59,10 @@ pub record IsSendable (bytes : List ℕ) : Type 0 where
 abbrev pub rates_text : List ℕ → List ℕ
 rates_text rates = elements_text (record { id = 1; bytes = rates } ∷ [])
 
--- bytes in which no element is cut are spelled by elements, and no others are
+-- bytes are spelled by elements if and only if no element in them is cut
 abbrev pub CutsNone : Type 0
 CutsNone = (bytes : List ℕ) → (is_cut bytes ≡ false) ↔ AreElements bytes
 
--- what elements spell is read as these elements
+-- reading what elements spell gives these elements
 abbrev pub ReadsElements : Type 0
 ReadsElements = (es : List Element) → elements_in (elements_text es) ≡ es

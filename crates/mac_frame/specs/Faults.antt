@@ -1,4 +1,4 @@
--- What can be wrong with bytes: a list of tests, in the order in which they count.
+-- What can be wrong with bytes: a list of tests, whose first fault counts.
 use Rattle.std.specs.Prelude.{ℕ, ◌+◌, ◌*◌, ◌%◌, Bool, true, false, not, ◌&&◌, List, [], ◌∷◌, ◌++◌, length, drop, slice_index, Option, Some, None, nat_lt, ◌==◌, if◌then◌else◌}
 use Rattle.mac_types.specs.Numbers.{is_sequence_control, is_block_ack_control}
 use Rattle.mac_types.specs.Fields.{are_flags, is_qos_control, are_block_ack_parameters, are_delba_parameters}
@@ -15,7 +15,7 @@ use Rattle.mac_frame.specs.Kinds.{subtype_of, header_of, header_length}
 abbrev pub word_at : List ℕ → ℕ → ℕ
 word_at b i = slice_index b i + 256 * slice_index b (i + 1)
 
--- a test that finds a fault, and the fault
+-- whether a test finds a fault, and the fault
 abbrev pub Test : Type 0
 Test = Bool × Fault
 
@@ -26,7 +26,7 @@ first (test ∷ tests) = if test.0 then Some test.1 else first tests
 
 -- ---- in the header: the flags of byte 1, the sequence control, the QoS control
 
--- the tests of a header, by its kind
+-- the tests of a header, by kind
 abbrev pub header_tests : HeaderKind → List ℕ → List Test
 header_tests headers.Management b =
     (not (are_flags false (slice_index b 1)), ReservedUse)
@@ -50,7 +50,7 @@ is_block_ack_action b = (slice_index b 24 == 3) && nat_lt (slice_index b 25) 3
 abbrev pub action_length : ℕ → ℕ
 action_length action = if action == 2 then 30 else 33
 
--- the fields of an action that may not hold each number: an ADDBA request's parameters and start, an ADDBA
+-- the fields of an action that may not hold every number: an ADDBA request's parameters and start, an ADDBA
 -- response's parameters, a DELBA's parameters
 abbrev pub are_action_fields : ℕ → List ℕ → Bool
 are_action_fields action b =
@@ -90,7 +90,7 @@ body_tests QosNull b = (not (length b == 26), BodyLength) ∷ []
 
 -- ---- all
 
--- once the first byte is known
+-- the tests, by the subtype of the first byte
 abbrev pub tests_of : Option Subtype → List ℕ → List Test
 tests_of None b = (true, Unsupported) ∷ []
 tests_of (Some kind) b =

@@ -1,4 +1,4 @@
--- What is read of a frame, and the frames that an access point sends.
+-- What is read from a frame, and the frames that an access point sends.
 use Rattle.std.specs.Prelude.{ℕ, Bool, true, false, if◌then◌else◌, List, [], Option, Some, None}
 use Rattle.mac_types.specs.declared.fields.FrameFlags.{FrameFlags}
 use Rattle.mac_types.specs.declared.fields.BlockAckParameters.{BlockAckParameters}
@@ -15,17 +15,17 @@ use Rattle.mac_frame.specs.Spelling.{Frame}
 
 -- ---- what is read
 
--- the BSSID, where a frame names it: address 3 of management frames, address 1 of data frames
+-- the BSSID, if a frame names it: address 3 of management frames, address 1 of data frames
 abbrev pub bssid_by : Content → List ℕ → Option (List ℕ)
 bssid_by (content.Management bssid sequence body) receiver = Some bssid
 bssid_by (content.Control body) receiver = None
 bssid_by (content.Data destination sequence kind) receiver = Some receiver
 
--- the BSSID of a frame, if it tells one
+-- the BSSID of a frame, if it names one
 abbrev pub bssid_of : Frame → Option (List ℕ)
 bssid_of f = bssid_by f.content f.receiver
 
--- the sequence number, which control frames have none of
+-- the sequence number, which control frames don't have
 abbrev pub sequence_number_of : Content → Option ℕ
 sequence_number_of (content.Management bssid sequence body) = Some sequence
 sequence_number_of (content.Control body) = None
@@ -43,14 +43,14 @@ parameters_of (content.Management bssid sequence body) = parameters_by body
 parameters_of (content.Control body) = None
 parameters_of (content.Data destination sequence kind) = None
 
--- the TID: of QoS data, of a block acknowledgement frame or action
+-- the TID of a block acknowledgement action
 abbrev pub management_tid : Management → Option ℕ
 management_tid (management.AddbaRequest token parameters timeout start) = Some parameters.tid
 management_tid (management.AddbaResponse token status parameters timeout) = Some parameters.tid
 management_tid (management.Delba parameters reason) = Some parameters.tid
 management_tid _ = None
 
--- the TID that a control frame is about
+-- the TID of a control frame
 abbrev pub control_tid : Control → ℕ
 control_tid (control.BlockAckReq tid start) = tid
 control_tid (control.BlockAck tid start bitmap) = tid
@@ -62,13 +62,13 @@ data_tid kinds.Null = None
 data_tid (kinds.QosData qos) = Some qos.tid
 data_tid (kinds.QosNull qos) = Some qos.tid
 
--- the TID of a frame, if it tells one
+-- the TID of a frame, if it has one
 abbrev pub tid_of : Content → Option ℕ
 tid_of (content.Management bssid sequence body) = management_tid body
 tid_of (content.Control body) = Some (control_tid body)
 tid_of (content.Data destination sequence kind) = data_tid kind
 
--- the elements, which only (re)association requests and responses have
+-- only (re)association requests and responses have elements
 abbrev pub has_elements : Management → Bool
 has_elements (management.AssociationRequest capability interval) = true
 has_elements (management.AssociationResponse capability status aid) = true
@@ -76,7 +76,7 @@ has_elements (management.ReassociationRequest capability interval current) = tru
 has_elements (management.ReassociationResponse capability status aid) = true
 has_elements _ = false
 
--- the elements behind a management frame's fixed fields; other frames have none
+-- the elements after a management frame's fixed fields; other frames have none
 abbrev pub elements_by : Content → List ℕ → List Element
 elements_by (content.Management bssid sequence body) tail =
     if has_elements body then elements_in tail else []
@@ -91,7 +91,7 @@ elements_of f = elements_by f.content f.tail
 abbrev pub ssid_of : Frame → Option (List ℕ)
 ssid_of f = first_with 0 (elements_of f)
 
--- the first Supported Rates element, id 1, that is not empty (9.4.2.3)
+-- the first nonempty Supported Rates element, id 1 (9.4.2.3)
 abbrev pub rates_of : Frame → Option (List ℕ)
 rates_of f = first_with 1 (nonempty (elements_of f))
 

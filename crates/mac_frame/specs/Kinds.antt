@@ -6,7 +6,7 @@ use Rattle.mac_frame.specs.declared.subtype.HeaderKind.TheVariants as headers
 use Rattle.mac_frame.specs.declared.subtype.Subtype.{Subtype}
 use Rattle.mac_frame.specs.declared.subtype.Subtype.TheVariants.{AssociationRequest, AssociationResponse, ReassociationRequest, ReassociationResponse, Disassociation, Authentication, Deauthentication, Action, BlockAckReq, BlockAck, Data, Null, QosData, QosNull}
 
--- the first byte of each kind that is supported
+-- the first byte of each supported kind
 abbrev pub subtypes : List (ℕ × Subtype)
 subtypes =
     (0x00, AssociationRequest) ∷ (0x10, AssociationResponse) ∷ (0x20, ReassociationRequest)
@@ -15,7 +15,7 @@ subtypes =
     ∷ (0x84, BlockAckReq) ∷ (0x94, BlockAck)
     ∷ (0x08, Data) ∷ (0x48, Null) ∷ (0x88, QosData) ∷ (0xc8, QosNull) ∷ []
 
--- the kind of a first byte, if it stands in the table
+-- the kind of a first byte, if it is in the table
 abbrev pub in_table : List (ℕ × Subtype) → ℕ → Option Subtype
 in_table [] byte = None
 in_table (row ∷ rows) byte = if byte == row.0 then Some row.1 else in_table rows byte
@@ -41,7 +41,7 @@ first_byte Null = 0x48
 first_byte QosData = 0x88
 first_byte QosNull = 0xc8
 
--- the header that it has (9.3.1, 9.3.2.1, 9.3.3.2)
+-- the header of a kind (9.3.1, 9.3.2.1, 9.3.3.2)
 abbrev pub header_of : Subtype → HeaderKind
 header_of AssociationRequest = headers.Management
 header_of AssociationResponse = headers.Management

@@ -1,4 +1,4 @@
--- What reading answers.
+-- What reading returns.
 use Rattle.std.specs.Prelude.{◌≡◌, ℕ, Bool, List, ◌++◌, slice_index, length, ◌≤◌, drop, Option, Some, None}
 use Rattle.mac_types.specs.declared.fields.FrameFlags.{FrameFlags}
 use Rattle.mac_types.specs.declared.fields.QosControl.{QosControl}
@@ -18,7 +18,7 @@ use Rattle.mac_frame.specs.Kinds.{first_byte, header_of}
 use Rattle.mac_frame.specs.Faults.{first, header_tests, body_tests, first_fault}
 use Rattle.mac_frame.specs.Spelling.{word, management_subtype, management_text, IsManagement, control_subtype, control_text, IsControl, data_subtype, data_text, IsData, content_subtype, content_text, IsContent, to_ds}
 
--- the header of bytes is this, as a frame that has to have this To DS has it
+-- this is the header of the bytes, in a frame with this To DS
 pub record IsHeader (kind : HeaderKind) (to_ds : Bool) (b : List ℕ) (header : Header) : Type 0 where
   pub faultless : first (header_tests kind b) ≡ None
   pub octet : slice_index b 1 ≡ flags_octet to_ds header.flags
@@ -31,7 +31,7 @@ pub record IsQosHeader (b : List ℕ) (qos : QosControl) : Type 0 where
   pub fits : IsQosControl qos
   pub spelled : drop 24 b ≡ word (qos_control qos) ++ drop 26 b
 
--- the body of bytes is this, with this tail
+-- this is the body of the bytes, with this tail
 pub record IsBody (kind : Subtype) (b : List ℕ) (body : Management) (tail : List ℕ) : Type 0 where
   pub faultless : first (body_tests kind b) ≡ None
   pub subtype : management_subtype body ≡ kind
@@ -46,14 +46,14 @@ pub record IsControlBody
   pub spelled : drop 16 b ≡ control_text body tail
   pub fits : IsControl body tail
 
--- the bytes after a data frame's header spell this body, likewise
+-- the same after a data frame's header
 pub record IsDataBody (kind : Subtype) (b : List ℕ) (body : DataKind) (tail : List ℕ) : Type 0 where
   pub faultless : first (body_tests kind b) ≡ None
   pub subtype : data_subtype body ≡ kind
   pub spelled : drop 24 b ≡ data_text body tail
   pub fits : IsData body tail
 
--- the header and the body
+-- the same for the header and the body
 pub record IsContentBody (kind : Subtype) (b : List ℕ) (flags : FrameFlags) (body : Content)
     (tail : List ℕ) : Type 0 where
   pub faultless : first (header_tests (header_of kind) b ++ body_tests kind b) ≡ None
@@ -72,7 +72,7 @@ pub record IsWhole (b : List ℕ) (flags : FrameFlags) (body : Content) (tail : 
   pub spelled : drop 16 b ≡ content_text body tail
   pub fits : IsContent body tail
 
--- why there is no frame: the first fault, or want of memory, which says nothing of the bytes
+-- why there is no frame: the first fault, or lack of memory, which says nothing about the bytes
 abbrev pub IsFault : FrameFault → Option Fault → Type 0
 IsFault answers.Memory found = Unit {0}
 IsFault (answers.Fault f) found = found ≡ Some f

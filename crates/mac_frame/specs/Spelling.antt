@@ -17,7 +17,7 @@ use Rattle.mac_frame.specs.declared.content.Content.TheVariants as content
 use Rattle.mac_frame.specs.Elements.{AreElements}
 use Rattle.mac_frame.specs.Kinds.{first_byte}
 
--- a frame without where it lies in memory: `tail` is its elements or its data
+-- a frame, wherever it is in memory: `tail` is its elements or its data
 pub record Frame : Type 0 where
   pub flags : FrameFlags
   pub duration : ℕ
@@ -28,7 +28,7 @@ pub record Frame : Type 0 where
 
 -- ---- the kinds of frames
 
--- the kind of a management frame; block acknowledgement is agreed by Action frames
+-- the kind of a management frame; Action frames set up and end block acknowledgement
 abbrev pub management_subtype : Management → Subtype
 management_subtype (management.AssociationRequest capability interval) = subtypes.AssociationRequest
 management_subtype (management.AssociationResponse capability status aid) =
@@ -63,7 +63,7 @@ content_subtype (content.Management bssid sequence body) = management_subtype bo
 content_subtype (content.Control body) = control_subtype body
 content_subtype (content.Data destination sequence kind) = data_subtype kind
 
--- To DS is set in data frames alone
+-- To DS is set in data frames only
 abbrev pub to_ds : Content → Bool
 to_ds (content.Management bssid sequence body) = false
 to_ds (content.Control body) = false
@@ -113,7 +113,7 @@ data_text kinds.Null tail = tail
 data_text (kinds.QosData qos) tail = word (qos_control qos) ++ tail
 data_text (kinds.QosNull qos) tail = word (qos_control qos) ++ tail
 
--- what stands behind the first two addresses: address 3 and the sequence control, where there are any, and the body
+-- what follows the first two addresses: address 3 and the sequence control, if any, and the body
 abbrev pub content_text : Content → List ℕ → List ℕ
 content_text (content.Management bssid sequence body) tail =
     bssid ++ (word (sequence_control sequence) ++ management_text body tail)
@@ -127,9 +127,9 @@ spelling f =
     first_byte (content_subtype f.content) ∷ flags_octet (to_ds f.content) f.flags
     ∷ (word f.duration ++ (f.receiver ++ (f.sender ++ content_text f.content f.tail)))
 
--- ---- the grammar: which frames are spelled
+-- ---- the grammar
 
--- the values of a management body and what stands behind its fixed fields
+-- the values of a management body, and what follows its fixed fields
 abbrev pub IsManagement : Management → List ℕ → Type 0
 IsManagement (management.AssociationRequest capability interval) tail =
     IsWord capability × IsWord interval × AreElements tail
@@ -150,7 +150,7 @@ IsManagement (management.AddbaResponse token status parameters timeout) tail =
 IsManagement (management.Delba parameters reason) tail =
     IsDelbaParameters parameters × IsWord reason × (tail ≡ [])
 
--- the values of a control body, behind which nothing stands
+-- the values of a control body, which nothing follows
 abbrev pub IsControl : Control → List ℕ → Type 0
 IsControl (control.BlockAckReq tid start) tail = IsTid tid × IsSequenceNumber start × (tail ≡ [])
 IsControl (control.BlockAck tid start bitmap) tail =
@@ -171,7 +171,7 @@ IsContent (content.Control body) tail = IsControl body tail
 IsContent (content.Data destination sequence kind) tail =
     IsAddress destination × IsSequenceNumber sequence × IsData kind tail
 
--- what the frame grammar spells
+-- a frame of the frame grammar
 pub record IsFrame (f : Frame) : Type 0 where
   pub duration : IsWord f.duration
   pub receiver : IsAddress f.receiver
@@ -179,7 +179,7 @@ pub record IsFrame (f : Frame) : Type 0 where
   pub content : IsContent f.content f.tail
   pub short : length (spelling f) ≤ 2400
 
--- bytes that some frame of the grammar spells
+-- bytes that spell some frame of the grammar
 pub record AreSpelled (bytes : List ℕ) : Type 0 where
   pub frame : Frame
   pub grammar : IsFrame frame

@@ -14,7 +14,7 @@ fault_text ReservedUse = codes "53: a field holds a reserved value"
 fault_text ElementCut = codes "54: an element is cut"
 fault_text BodyLength = codes "55: the body has the wrong length"
 
--- why no frame is read, in words
+-- why there is no frame, in words
 abbrev pub frame_fault_text : FrameFault → List ℕ
 frame_fault_text answers.Memory = codes "out of memory"
 frame_fault_text (answers.Fault fault) = fault_text fault

@@ -1,4 +1,4 @@
-//! What the kinds of frames consist of.
+//! What each kind of frame consists of.
 
 ghost use Rattle.std.specs.Prelude.{◌≡◌};
 ghost use Rattle.mac_frame.specs.Frames.{has_elements, parameters_by, management_tid, control_tid, data_tid};
@@ -13,19 +13,19 @@ use mac_types::{
 /// The fixed fields of a management frame's body (IEEE 802.11-2016, 9.3.3 and 9.6.5).
 #[derive(Clone, Copy, Debug, PartialEq, Eq)]
 pub enum Management {
-    /// 9.3.3.6, with elements behind it.
+    /// 9.3.3.6, followed by elements.
     AssociationRequest {
         capability: Capability,
         /// In beacon intervals (9.4.1.6).
         listen_interval: u16,
     },
-    /// 9.3.3.7, with elements behind it.
+    /// 9.3.3.7, followed by elements.
     AssociationResponse {
         capability: Capability,
         status: Status,
         aid: AidField,
     },
-    /// 9.3.3.8, with elements behind it.
+    /// 9.3.3.8, followed by elements.
     ReassociationRequest {
         capability: Capability,
         /// In beacon intervals (9.4.1.6).
@@ -33,7 +33,7 @@ pub enum Management {
         /// The access point that the station is associated with (9.4.1.5).
         current_ap: Address,
     },
-    /// 9.3.3.9, with elements behind it.
+    /// 9.3.3.9, followed by elements.
     ReassociationResponse {
         capability: Capability,
         status: Status,
@@ -57,7 +57,7 @@ pub enum Management {
     },
     /// 9.6.5.2.
     AddbaRequest {
-        /// 9.4.1.12: the answer has the same.
+        /// 9.4.1.12: the response has the same.
         dialog_token: u8,
         parameters: BlockAckParameters,
         /// In time units; 0 is none (9.4.1.15).
@@ -80,7 +80,7 @@ pub enum Management {
     },
 }
 
-/// A block acknowledgement frame, of the compressed form.
+/// A block acknowledgement frame in compressed form.
 #[derive(Clone, Copy, Debug, PartialEq, Eq)]
 pub enum Control {
     /// 9.3.1.8.
@@ -88,7 +88,7 @@ pub enum Control {
         tid: Tid,
         start: SequenceNumber,
     },
-    /// 9.3.1.9: bit n of the bitmap stands for the frame with the number start + n.
+    /// 9.3.1.9: bit n of the bitmap means the frame with number start + n.
     BlockAck {
         tid: Tid,
         start: SequenceNumber,
@@ -127,7 +127,7 @@ pub enum Content {
 }
 
 impl Management {
-    /// Whether elements stand behind the fixed fields.
+    /// Whether elements follow the fixed fields.
     pub fn has_elements(self) -> bool
         ensures { result ≡ has_elements self }
     {
@@ -228,7 +228,7 @@ impl DataKind {
 }
 
 impl Content {
-    /// What the first byte of the frame says.
+    /// The subtype that the frame's first byte gives.
     pub fn subtype(self) -> Subtype
         ensures { result ≡ content_subtype self }
     {

@@ -18,7 +18,7 @@ use crate::management_bodies::{
 use crate::subtype::{HeaderKind, Subtype};
 use mac_types::{FrameFlags, QosControl};
 
-/// The flags and the content of a frame, and what stands behind its fixed fields.
+/// The flags and the content of a frame, and what follows its fixed fields.
 type Parts<'a> = (FrameFlags, Content, &'a [u8]);
 
 fn management_body(subtype: Subtype, bytes: &[u8]) -> Result<(Management, &[u8]), Fault>

@@ -14,7 +14,7 @@ pub const SSID: u8 = 0;
 /// The id of the Supported Rates element (9.4.2.3).
 pub const SUPPORTED_RATES: u8 = 1;
 
-/// Elements, in the bytes that spell them. A clause sees the list of the elements.
+/// Elements, as the bytes that spell them. A clause sees the list of elements.
 #[derive(Drop)]
 pub struct Elements<'a> {
     bytes: &'a [u8],
@@ -32,7 +32,7 @@ impl<'a> Model for Elements<'a> {
 }
 
 impl<'a> Elements<'a> {
-    /// The elements that the bytes spell. None where one is cut.
+    /// The elements that the bytes spell. None if one is cut.
     #[tactic(auto, using(crate::proofs::Cutting::are_elements, crate::proofs::Cutting::not_cut))]
     pub fn read(bytes: &'a [u8]) -> Option<Self>
         ensures spelled { IsSome result ↔ AreElements bytes.now }
@@ -44,7 +44,7 @@ impl<'a> Elements<'a> {
         Some(Elements { bytes })
     }
 
-    /// The elements that these bytes spell, which do.
+    /// The elements that these bytes spell.
     pub fn new(bytes: &'a [u8]) -> Self
         requires { AreElements bytes.now }
         ensures { result ≡ elements_in bytes.now }
@@ -60,14 +60,14 @@ impl<'a> Elements<'a> {
         Elements { bytes: &[] }
     }
 
-    /// The bytes of the first element with an id.
+    /// The bytes of the first element with this id.
     pub fn first(&self, id: u8) -> Option<&'a [u8]>
         ensures { option_copied result ≡ first_with id self.now }
     {
         first_in(self.bytes, id)
     }
 
-    /// The bytes of the first element with an id that has any.
+    /// The bytes of the first nonempty element with this id.
     pub fn first_nonempty(&self, id: u8) -> Option<&'a [u8]>
         ensures { option_copied result ≡ first_with id (nonempty self.now) }
     {
@@ -75,8 +75,7 @@ impl<'a> Elements<'a> {
     }
 }
 
-/// Elements that own their bytes, to be sent: at most 2366, so that they fit each frame. A clause
-/// sees the bytes.
+/// Elements to be sent, which own their bytes: at most 2366, so that they fit each frame. A clause sees the bytes.
 #[derive(Debug, Drop)]
 pub struct ElementsBuf {
     bytes: Vec<u8>,
@@ -131,7 +130,7 @@ pub(crate) fn ends_within(bytes: &[u8]) -> bool
     !rest.is_empty()
 }
 
-/// The id and the bytes of the first element, and the bytes behind it.
+/// The id and the bytes of the first element, and the bytes after it.
 #[tactic(auto, using(crate::proofs::Cutting::room_for, crate::proofs::Cutting::none_left, crate::proofs::Cutting::first_left, crate::proofs::Cutting::others_left))]
 fn split_first(bytes: &[u8]) -> Option<(u8, &[u8], &[u8])>
     requires { AreElements bytes.now }

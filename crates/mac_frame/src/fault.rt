@@ -1,4 +1,4 @@
-//! Why bytes are no frame.
+//! Why bytes aren't a frame.
 
 ghost use Rattle.std.specs.Prelude.{◌≡◌, Some};
 ghost use Rattle.mac_frame.specs.Faults.{number_of_fault};
@@ -11,22 +11,22 @@ use std::fmt;
 /// What is wrong with the bytes: the first fault.
 #[derive(Clone, Copy, Debug, PartialEq, Eq)]
 pub enum Fault {
-    /// 50: the bytes end before the header does.
+    /// 50: the bytes end within the header.
     TooShort,
     /// 51: the protocol version is not 0.
     WrongVersion,
-    /// 52: a type, subtype, category or action that the link does not have.
+    /// 52: the link has no such type, subtype, category or action.
     Unsupported,
-    /// 53: a field holds what it may not.
+    /// 53: a field holds a reserved value.
     ReservedUse,
-    /// 54: an element ends behind the frame.
+    /// 54: an element extends past the frame.
     ElementCut,
-    /// 55: the body is longer or shorter than its kind, or the frame longer than 2400 bytes.
+    /// 55: the body is longer or shorter than its kind allows, or the frame is longer than 2400 bytes.
     BodyLength,
 }
 
 impl Fault {
-    /// The number that stands for it in what is printed.
+    /// The number printed for it.
     pub fn number(self) -> u8
         ensures { result ≡ number_of_fault self }
     {
@@ -63,9 +63,9 @@ impl Error for Fault {}
 /// Why there is no frame.
 #[derive(Clone, Copy, Debug, PartialEq, Eq)]
 pub enum FrameFault {
-    /// There was no memory for the frame. Nothing is said of the bytes.
+    /// There was no memory for the frame. This says nothing about the bytes.
     Memory,
-    /// The bytes are no frame.
+    /// The bytes aren't a frame.
     Fault(Fault),
 }
 

@@ -1,4 +1,4 @@
-//! Fields of a frame, by their places.
+//! Fields of a frame, by position.
 
 ghost use Rattle.std.specs.Prelude.{◌≡◌, ◌+◌, ◌≤◌, ◌++◌, ◌∷◌, ◌<◌, ◌^◌, length, drop, slice_index, is_some, IfSome};
 ghost use Rattle.std.specs.Int.{w64, to_le_bytes};
@@ -13,7 +13,6 @@ use mac_types::{
     SequenceNumber, Status, Tid,
 };
 
-/// The bytes from `at` on.
 pub(crate) fn tail_from(bytes: &[u8], at: usize) -> &[u8]
     requires { at ≤ length bytes.now }
     ensures { result.now ≡ drop at bytes.now }
@@ -21,7 +20,6 @@ pub(crate) fn tail_from(bytes: &[u8], at: usize) -> &[u8]
     &bytes[at..]
 }
 
-/// The byte at `at`.
 pub(crate) fn byte_from(bytes: &[u8], at: usize) -> u8
     requires { at < length bytes.now }
     ensures value { result ≡ slice_index bytes.now at }
@@ -40,7 +38,6 @@ pub(crate) fn word_from(bytes: &[u8], at: usize) -> u16
     LittleEndian::read_u16(tail_from(bytes, at))
 }
 
-/// The capability information at `at`.
 pub(crate) fn capability_from(bytes: &[u8], at: usize) -> Capability
     requires { at + 2 ≤ length bytes.now }
     ensures fits { IsWord result }
@@ -49,7 +46,6 @@ pub(crate) fn capability_from(bytes: &[u8], at: usize) -> Capability
     Capability::new(word_from(bytes, at))
 }
 
-/// The status at `at`.
 pub(crate) fn status_from(bytes: &[u8], at: usize) -> Status
     requires { at + 2 ≤ length bytes.now }
     ensures fits { IsWord result }
@@ -58,7 +54,6 @@ pub(crate) fn status_from(bytes: &[u8], at: usize) -> Status
     Status::new(word_from(bytes, at))
 }
 
-/// The association identifier at `at`.
 pub(crate) fn aid_from(bytes: &[u8], at: usize) -> AidField
     requires { at + 2 ≤ length bytes.now }
     ensures fits { IsWord result }
@@ -67,7 +62,6 @@ pub(crate) fn aid_from(bytes: &[u8], at: usize) -> AidField
     AidField::new(word_from(bytes, at))
 }
 
-/// The reason at `at`.
 pub(crate) fn reason_from(bytes: &[u8], at: usize) -> Reason
     requires { at + 2 ≤ length bytes.now }
     ensures fits { IsWord result }
@@ -85,7 +79,6 @@ pub(crate) fn bitmap_from(bytes: &[u8], at: usize) -> u64
     LittleEndian::read_u64(tail_from(bytes, at))
 }
 
-/// The address at `at`.
 pub(crate) fn address_from(bytes: &[u8], at: usize) -> Address
     requires { at + 6 ≤ length bytes.now }
     ensures fits { IsAddress result }
@@ -101,7 +94,7 @@ pub(crate) fn address_from(bytes: &[u8], at: usize) -> Address
     ])
 }
 
-/// The sequence number at `at`. None where there is a fragment number.
+/// The sequence number at `at`. None if there is a fragment number.
 pub(crate) fn sequence_from(bytes: &[u8], at: usize) -> Option<SequenceNumber>
     requires { at + 2 ≤ length bytes.now }
     ensures variant { is_some result ≡ is_sequence_control (word_at bytes.now at) }
@@ -112,7 +105,7 @@ pub(crate) fn sequence_from(bytes: &[u8], at: usize) -> Option<SequenceNumber>
     SequenceNumber::from_control(word_from(bytes, at))
 }
 
-/// The QoS control at `at`, if it may be so.
+/// The QoS control at `at`, if valid.
 pub(crate) fn qos_from(bytes: &[u8], at: usize) -> Option<QosControl>
     requires { at + 2 ≤ length bytes.now }
     ensures variant { is_some result ≡ is_qos_control (word_at bytes.now at) }
@@ -123,7 +116,7 @@ pub(crate) fn qos_from(bytes: &[u8], at: usize) -> Option<QosControl>
     QosControl::from_field(word_from(bytes, at))
 }
 
-/// The parameters of an ADDBA frame at `at`, if they may be so.
+/// The parameters of an ADDBA frame at `at`, if valid.
 pub(crate) fn parameters_from(bytes: &[u8], at: usize) -> Option<BlockAckParameters>
     requires { at + 2 ≤ length bytes.now }
     ensures variant { is_some result ≡ are_block_ack_parameters (word_at bytes.now at) }
@@ -134,7 +127,7 @@ pub(crate) fn parameters_from(bytes: &[u8], at: usize) -> Option<BlockAckParamet
     BlockAckParameters::from_field(word_from(bytes, at))
 }
 
-/// The parameters of a DELBA frame at `at`, if they may be so.
+/// The parameters of a DELBA frame at `at`, if valid.
 pub(crate) fn delba_parameters_from(bytes: &[u8], at: usize) -> Option<DelbaParameters>
     requires { at + 2 ≤ length bytes.now }
     ensures variant { is_some result ≡ are_delba_parameters (word_at bytes.now at) }
@@ -145,7 +138,7 @@ pub(crate) fn delba_parameters_from(bytes: &[u8], at: usize) -> Option<DelbaPara
     DelbaParameters::from_field(word_from(bytes, at))
 }
 
-/// The TID of a block acknowledgement frame's control at `at`, if the control may be so.
+/// The TID in a block acknowledgement frame's control at `at`, if the control is valid.
 pub(crate) fn block_ack_tid_from(bytes: &[u8], at: usize) -> Option<Tid>
     requires { at + 2 ≤ length bytes.now }
     ensures variant { is_some result ≡ is_block_ack_control (word_at bytes.now at) }

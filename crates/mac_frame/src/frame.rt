@@ -21,8 +21,8 @@ use mac_types::{
 use std::alloc::{AllocError, Global};
 use std::marker::Model;
 
-/// A frame that the frame grammar spells. A clause sees its fields as a `Frame`, whose `tail` is what
-/// stands behind the fixed fields: elements or data.
+/// A frame of the frame grammar. A clause sees its fields as a `Frame`, whose `tail` is what follows
+/// the fixed fields: elements or data.
 #[derive(Drop)]
 pub struct MacFrame {
     flags: FrameFlags,
@@ -77,25 +77,25 @@ fn read(alloc: Global, bytes: &[u8]) -> Result<MacFrame, FrameFault>
     })
 }
 
-/// The frame that the bytes spell, or the first of their faults, or want of memory.
+/// The frame that the bytes spell, or the first of their faults, or lack of memory.
 pub fn parse(alloc: Global, bytes: &[u8]) -> Result<MacFrame, FrameFault>
-    // What is read is in the grammar and spelled so, and the bytes have no fault.
+    // What is read is in the grammar and has these bytes as its spelling, and the bytes have no fault.
     ensures found { IfOk result
         (λ f. IsFrame f × (bytes.now ≡ spelling f) × (first_fault bytes.now ≡ None)) }
-    // What is in the grammar and spelled so is read, unless memory runs out.
+    // A frame of the grammar with this spelling is read, unless memory runs out.
     ensures only { (f : Frame) → IsFrame f → bytes.now ≡ spelling f →
         MatchResult result (λ g. g ≡ f) (λ e. e ≡ FrameFault.Memory) }
-    // Which fault it is.
+    // The fault is the first one.
     ensures fault { IfErr result (λ e. IsFault e (first_fault bytes.now)) }
 {
     read(alloc, bytes)
 }
 
-/// The longest that a frame is without its elements or data: a reassociation request is so long.
+/// The most bytes that a frame has before its elements or data: a reassociation request has so many.
 pub const LONGEST_HEAD: usize = 34;
 
-/// Appends the spelling of the frame. It takes no memory where there is room for `LONGEST_HEAD` bytes
-/// and the frame's tail. Where memory runs out, the vector stays as it was.
+/// Appends the frame's spelling. It succeeds if there is capacity for `LONGEST_HEAD` bytes and the frame's tail.
+/// After an error the vector holds what it held.
 pub fn write(frame: &MacFrame, out: &mut Vec<u8>) -> Result<(), AllocError>
     ensures ok { OnOk result (out.new.items ≡ out.old.items ++ spelling frame.now) }
     ensures room { vec_len out.old + (LONGEST_HEAD + length frame.now.tail) ≤ vec_capacity out.old →
@@ -115,7 +115,7 @@ pub fn write(frame: &MacFrame, out: &mut Vec<u8>) -> Result<(), AllocError>
 }
 
 impl MacFrame {
-    /// Tells a proof that the grammar spells each frame, and does nothing.
+    /// Gives proofs that the grammar has each frame; does nothing.
     pub fn known(&self)
         ensures { IsFrame self.now }
     {
@@ -143,7 +143,7 @@ impl MacFrame {
         self.receiver
     }
 
-    /// Address 2, which of data frames is the source.
+    /// Address 2, which in data frames is the source.
     pub fn sender(&self) -> Address
         ensures { result ≡ self.now.sender }
     {
@@ -157,7 +157,7 @@ impl MacFrame {
         self.content
     }
 
-    /// What the first byte says.
+    /// The subtype that the first byte gives.
     pub fn subtype(&self) -> Subtype
         ensures { result ≡ content_subtype self.now.content }
     {
@@ -165,8 +165,8 @@ impl MacFrame {
         content.subtype()
     }
 
-    /// What stands behind the fixed fields: the elements of a (re)association frame, the data of a
-    /// data frame. Other frames have nothing there.
+    /// What follows the fixed fields: the elements of a (re)association frame, the data of a data frame,
+    /// otherwise nothing.
     pub fn tail(&self) -> &[u8]
         ensures { result.now ≡ self.now.tail }
     {
@@ -180,8 +180,7 @@ impl MacFrame {
         self.tail
     }
 
-    /// The BSSID, where the frame names it: address 3 of management frames, address 1 of data
-    /// frames.
+    /// The BSSID, if the frame names it: address 3 of management frames, address 1 of data frames.
     pub fn bssid(&self) -> Option<Address>
         ensures { result ≡ bssid_of self.now }
     {
@@ -192,7 +191,7 @@ impl MacFrame {
         }
     }
 
-    /// The sequence number, which control frames have none of.
+    /// The sequence number, which control frames don't have.
     pub fn sequence_number(&self) -> Option<SequenceNumber>
         ensures { result ≡ sequence_number_of self.now.content }
     {
@@ -236,14 +235,14 @@ impl MacFrame {
         }
     }
 
-    /// The text of the first SSID element.
+    /// The bytes of the first SSID element.
     pub fn ssid(&self) -> Option<&[u8]>
         ensures { option_copied result ≡ ssid_of self.now }
     {
         self.elements().first(SSID)
     }
 
-    /// The rates of the first Supported Rates element that has any.
+    /// The rates of the first nonempty Supported Rates element.
     pub fn rates(&self) -> Option<&[u8]>
         ensures { option_copied result ≡ rates_of self.now }
     {
@@ -251,7 +250,7 @@ impl MacFrame {
     }
 }
 
-/// A management frame to a station: no flags, no duration, sequence number 0.
+/// A management frame to a station: no flags, duration 0, sequence number 0.
 fn sent(station: Address, bssid: Address, body: Management, tail: Vec<u8>) -> MacFrame
     requires grammar { IsManagement body tail.items }
     requires short { vec_len tail ≤ 2366 }
@@ -295,7 +294,7 @@ impl MacFrame {
         sent(station, bssid, body, Vec::new(alloc))
     }
 
-    /// The answer to an association request.
+    /// The response to an association request.
     pub fn association_response(
         station: Address,
         bssid: Address,
@@ -316,7 +315,7 @@ impl MacFrame {
         sent(station, bssid, body, elements.into_bytes())
     }
 
-    /// The answer to a reassociation request.
+    /// The response to a reassociation request.
     pub fn reassociation_response(
         station: Address,
         bssid: Address,
@@ -353,7 +352,7 @@ impl MacFrame {
         sent(station, bssid, body, Vec::new(alloc))
     }
 
-    /// The answer to an ADDBA request.
+    /// The response to an ADDBA request.
     pub fn addba_response(
         alloc: Global,
         station: Address,
@@ -393,7 +392,7 @@ impl MacFrame {
         sent(station, bssid, body, Vec::new(alloc))
     }
 
-    /// The answer to a BlockAckReq: bit n of the bitmap stands for the number start + n.
+    /// The response to a BlockAckReq: bit n of the bitmap means number start + n.
     pub fn block_ack(
         alloc: Global,
         station: Address,

@@ -1,4 +1,4 @@
-//! What the headers of management and data frames hold beside duration and the first two addresses.
+//! What the headers of management and data frames hold besides duration and the first two addresses.
 
 use mac_types::{Address, FrameFlags, SequenceNumber};
 

@@ -1,4 +1,4 @@
-//! The headers of frames, read.
+//! Reading the headers of frames.
 
 ghost use Rattle.std.specs.Prelude.{◌≡◌, ◌≤◌, length, slice_index, true, false, Some, None, IfSome, IfNone};
 ghost use Rattle.mac_types.specs.Fields.{flags_octet};
@@ -11,7 +11,7 @@ use crate::fields::{address_from, qos_from, sequence_from};
 use crate::header::Header;
 use mac_types::{FrameFlags, QosControl};
 
-/// The header of a management frame. None where it holds what it may not.
+/// The header of a management frame. None if a field holds a reserved value.
 pub(crate) fn management_header(bytes: &[u8]) -> Option<Header>
     requires { 24 ≤ length bytes.now }
     ensures none { IfNone result

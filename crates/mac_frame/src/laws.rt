@@ -10,13 +10,12 @@ use crate::fault::FrameFault;
 use crate::fields::{address_from, word_from};
 use crate::frame::{MacFrame, parse, write};
 
-/// What the grammar spells has no fault.
+/// The spelling of a frame of the grammar has no fault.
 pub fn spelled_without_fault()
     ensures { (f : Frame) → IsFrame f → first_fault (spelling f) ≡ None }
 {}
 
-/// Bytes without a fault are the spelling of a frame of the grammar. Its calls are those that find the
-/// frame's fields.
+/// Bytes without a fault are the spelling of a frame of the grammar. The calls in its body find the frame's fields.
 pub fn faultless_is_spelled(bytes: &[u8])
     ensures { first_fault bytes.now ≡ None → AreSpelled bytes.now }
 {
@@ -28,7 +27,7 @@ pub fn faultless_is_spelled(bytes: &[u8])
     let _sender = address_from(bytes, 10);
 }
 
-/// What is read of the bytes that `write` appended is the frame that was written.
+/// Reading the bytes that `write` appended gives the frame that was written, unless memory runs out.
 pub fn written_is_read(frame: &MacFrame, out: &mut Vec<u8>) -> Result<MacFrame, FrameFault>
     ensures appended { OnOk result (out.new.items ≡ out.old.items ++ spelling frame.now) }
     ensures read { MatchResult result (λ read. read ≡ frame.now) (λ e. e ≡ FrameFault.Memory) }
@@ -40,17 +39,17 @@ pub fn written_is_read(frame: &MacFrame, out: &mut Vec<u8>) -> Result<MacFrame, 
     parse(alloc, &out[start..])
 }
 
-/// No two frames have one spelling.
+/// No two frames have the same spelling.
 pub fn one_frame()
     ensures { (f g : Frame) → IsFrame f → IsFrame g → spelling f ≡ spelling g → f ≡ g }
 {}
 
-/// Bytes in which no element is cut are spelled by elements, and no others are.
+/// Bytes are spelled by elements if and only if no element in them is cut.
 pub fn cut_where_not_elements()
     ensures { CutsNone }
 {}
 
-/// What elements spell is read as these elements.
+/// Reading what elements spell gives these elements.
 pub fn elements_are_read()
     ensures { ReadsElements }
 {}

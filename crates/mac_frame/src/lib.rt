@@ -1,10 +1,9 @@
-//! The frames of an access point's link: the grammar of IEEE 802.11-2016, clause 9, for the kinds
-//! that the link has, read and written.
+//! The frames of an access point's link, read and written: the grammar of IEEE 802.11-2016, clause 9, for the kinds
+//! that the link has.
 //!
-//! Main calls: `parse` and `write`. It stands on `mac_types` and `byteorder`. `parse` answers Ok
-//! exactly for the frames of the grammar, with the frame that the bytes spell, and otherwise the
-//! first fault of an ordered list of tests on the bytes. `write` appends exactly the frame's
-//! spelling, or leaves the vector as it was. Accessors and constructors are their definitions in
+//! Main calls: `parse` and `write`. It depends on `mac_types` and `byteorder`. If memory suffices, `parse` returns the
+//! frame of the grammar that the bytes spell, or if there is none, the first fault of an ordered list of tests on the
+//! bytes. `write` appends exactly the frame's spelling, or nothing. Accessors and constructors are defined in
 //! `specs/Frames.antt`.
 #![tactic(auto)]
 

@@ -1,4 +1,4 @@
-//! The bodies of management frames, each kind by a function of its own.
+//! The bodies of management frames, a function for each kind.
 
 ghost use Rattle.std.specs.Prelude.{◌≡◌, ◌≤◌, ◌∷◌, length, drop, slice_index, true, false, IfOk, IfErr, OnOk, OnErr, Some};
 ghost use Rattle.mac_frame.specs.declared.fault.Fault.TheVariants.{ElementCut};
@@ -15,7 +15,7 @@ use crate::fields::{
     reason_from, sequence_from, status_from, tail_from, word_from,
 };
 
-/// The elements from `at` on, where none is cut.
+/// The elements from `at` on, if none is cut.
 #[tactic(auto, using(crate::proofs::Cutting::are_elements))]
 fn elements_from(bytes: &[u8], at: usize) -> Result<&[u8], Fault>
     requires { at ≤ length bytes.now }
@@ -220,7 +220,7 @@ fn delba(bytes: &[u8]) -> Result<(Management, &[u8]), Fault>
     Ok((body, tail_from(bytes, 30)))
 }
 
-/// An action frame's body: category 3, which is block acknowledgement, and one of its actions.
+/// An action frame's body: category 3 (block acknowledgement) and one of its actions.
 pub(crate) fn action(bytes: &[u8]) -> Result<(Management, &[u8]), Fault>
     requires { 24 ≤ length bytes.now }
     ensures fault { IfErr result (λ f. first (body_tests subtypes.Action bytes.now) ≡ Some f) }

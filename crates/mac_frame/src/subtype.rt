@@ -23,8 +23,8 @@ pub enum Subtype {
     QosNull,
 }
 
-/// The headers that frames have: of management frames (9.3.3.2), of block acknowledgement frames
-/// (9.3.1.8, 9.3.1.9), of data frames without and with a QoS Control field (9.3.2.1).
+/// The headers of management frames (9.3.3.2), of block acknowledgement frames (9.3.1.8, 9.3.1.9),
+/// and of data frames without and with a QoS Control field (9.3.2.1).
 #[derive(Clone, Copy, Debug, PartialEq, Eq)]
 pub enum HeaderKind {
     Management,
@@ -34,7 +34,7 @@ pub enum HeaderKind {
 }
 
 impl Subtype {
-    /// What a first byte means. None where the version is not 0, or the link has no such frames.
+    /// What a first byte means. None if the version isn't 0, or the link has no such frames.
     pub fn from_first_byte(byte: u8) -> Option<Self>
         ensures subtype { result ≡ subtype_of byte }
         ensures byte { IfSome result (λ kind. byte ≡ first_byte kind) }

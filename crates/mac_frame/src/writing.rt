@@ -1,4 +1,4 @@
-//! The spelling of frames, appended where there is room for it.
+//! The spelling of frames, appended within the capacity.
 
 ghost use Rattle.std.specs.Prelude.{◌≡◌, ◌+◌, ◌≤◌, ◌++◌, ◌∷◌, [], length, vec_len, vec_capacity};
 ghost use Rattle.std.specs.Int.{w64, to_le_bytes};
@@ -9,7 +9,6 @@ ghost use Rattle.mac_frame.specs.declared.subtype.Subtype.TheVariants as subtype
 use crate::content::{Content, Control, DataKind, Management};
 use mac_types::Address;
 
-/// Appends bytes.
 pub(crate) fn put(out: &mut Vec<u8>, bytes: &[u8])
     requires { vec_len out.old + length bytes.now ≤ vec_capacity out.old }
     ensures { Puts out.old out.new bytes.now }
@@ -48,7 +47,7 @@ pub(crate) fn put_address(out: &mut Vec<u8>, address: Address)
     put(out, &address.octets());
 }
 
-/// The category and the action of block acknowledgement (9.4.1.11, 9.6.5.1), and the dialog token.
+/// Appends the category and the action of block acknowledgement (9.4.1.11, 9.6.5.1), and the dialog token.
 fn put_action(out: &mut Vec<u8>, action: u8, dialog_token: u8)
     requires { vec_len out.old + 3 ≤ vec_capacity out.old }
     ensures { Puts out.old out.new (3 ∷ action ∷ dialog_token ∷ []) }
@@ -89,7 +88,7 @@ fn put_action_body(out: &mut Vec<u8>, body: Management)
     }
 }
 
-/// Appends a management frame's body up to its elements.
+/// Appends a management frame's body without its elements.
 fn put_management(out: &mut Vec<u8>, body: Management)
     requires { vec_len out.old + 10 ≤ vec_capacity out.old }
     ensures { Puts out.old out.new (management_text body []) }
@@ -136,7 +135,7 @@ fn put_block_ack(out: &mut Vec<u8>, control: u16, start: u16, bitmap: u64)
     put(out, &bitmap.to_le_bytes());
 }
 
-/// Appends what a block acknowledgement frame has behind its two addresses.
+/// Appends what follows the two addresses of a block acknowledgement frame.
 fn put_control(out: &mut Vec<u8>, body: Control)
     requires { vec_len out.old + 12 ≤ vec_capacity out.old }
     ensures { Puts out.old out.new (control_text body []) }
@@ -164,7 +163,7 @@ fn put_data(out: &mut Vec<u8>, kind: DataKind)
     }
 }
 
-/// Appends what stands between the first two addresses and the elements or data.
+/// Appends what a frame has between the first two addresses and the elements or data.
 pub(crate) fn put_content(out: &mut Vec<u8>, content: Content)
     requires { vec_len out.old + 18 ≤ vec_capacity out.old }
     ensures { Puts out.old out.new (content_text content []) }

@@ -1,4 +1,4 @@
--- Fields of several parts: the number that the parts make, and which numbers parts make.
+-- Fields of several parts: which number the parts make, and which numbers are made of parts.
 use Rattle.std.specs.Prelude.{ℕ, ◌+◌, ◌*◌, ◌<◌, Bool, false, ◌&&◌, ◌==◌, nat_lt}
 use Rattle.mac_types.specs.declared.fields.FrameFlags.{FrameFlags}
 use Rattle.mac_types.specs.declared.fields.AckPolicy.{AckPolicy}
@@ -19,11 +19,11 @@ abbrev pub flags_octet : Bool → FrameFlags → ℕ
 flags_octet to_ds f =
     bit_of to_ds + 8 * bit_of f.retry + 16 * bit_of f.power_management + 32 * bit_of f.more_data
 
--- any three flags
+-- any flags
 abbrev pub IsFrameFlags : FrameFlags → Type 0
 IsFrameFlags f = Unit {0}
 
--- To DS as it has to be, and no From DS, More Fragments, Protected Frame or Order
+-- this To DS, and no From DS, More Fragments, Protected Frame or Order
 abbrev pub are_flags : Bool → ℕ → Bool
 are_flags to_ds octet =
     (bits octet 0 1 == bit_of to_ds) && ((bits octet 1 1 == 0)
@@ -93,6 +93,6 @@ delba_parameters p = 2048 * bit_of p.initiator + 4096 * p.tid
 abbrev pub IsDelbaParameters : DelbaParameters → Type 0
 IsDelbaParameters p = IsTid p.tid
 
--- a TID below 8, and nothing in what is reserved
+-- a TID below 8, and no reserved bit
 abbrev pub are_delba_parameters : ℕ → Bool
 are_delba_parameters field = nat_lt (bits field 12 4) 8 && (bits field 0 11 == 0)

@@ -1,7 +1,8 @@
 -- Values and the fields that spell them.
 use Rattle.std.specs.Prelude.{◌≡◌, ℕ, ◌<◌, Bool, true}
 
--- a field passes the test where it spells a value, and then it spells just one
+-- each value's field is below `limit` and passes the test; a field below `limit` that passes spells exactly one
+-- value
 pub record IsSpelling
     {V : Type 0} (limit : ℕ) (Fits : V → Type 0) (field_of : V → ℕ) (test : ℕ → Bool) : Type 0 where
   pub below : (v : V) → Fits v → field_of v < limit

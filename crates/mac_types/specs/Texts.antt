@@ -7,6 +7,6 @@ use Rattle.std.specs.Fmt.{digit_glyph}
 abbrev pub octet_text : ℕ → List ℕ
 octet_text octet = digit_glyph false (octet / 16) ∷ digit_glyph false (octet % 16) ∷ []
 
--- the six octets, one after the other
+-- the six octets, one after another
 abbrev pub address_text : List ℕ → List ℕ
 address_text octets = flat_map octet_text octets

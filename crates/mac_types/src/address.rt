@@ -38,7 +38,7 @@ impl Address {
         self.octets
     }
 
-    /// Whether it is the address of a group: the first bit that is sent is 1 (9.2.4.3.2).
+    /// Whether it is a group's address: the first bit sent is 1 (9.2.4.3.2).
     pub fn is_group(self) -> bool
         ensures { result ≡ (slice_index self 0 % 2 == 1) }
     {
@@ -46,7 +46,7 @@ impl Address {
         first % 2 == 1
     }
 
-    /// Tells a proof what each value of the type keeps, and does nothing.
+    /// Gives proofs the type's invariant; does nothing.
     pub fn known(self)
         ensures { IsAddress self }
     {}

@@ -1,4 +1,4 @@
-//! Association identifiers, as frames have them.
+//! Association identifiers, as in frames.
 
 ghost use Rattle.std.specs.Prelude.{◌≡◌, ◌+◌, ◌≤◌, ℕ, Some};
 ghost use Rattle.std.specs.Fmt.{decimal};
@@ -27,14 +27,14 @@ impl AidField {
     /// No identifier: 0.
     pub const NONE: AidField = AidField { field: 0 };
 
-    /// Any field.
+    /// The AID with this field, whatever it is.
     pub fn new(field: u16) -> Self
         ensures { result ≡ field }
     {
         AidField { field }
     }
 
-    /// The field for an association identifier: the identifier, and the two top bits 1.
+    /// The field for an association identifier: the identifier, with the two top bits 1.
     pub fn granted(identifier: u16) -> Self
         requires low { 1 ≤ identifier }
         requires high { identifier ≤ 2007 }
@@ -60,7 +60,7 @@ impl AidField {
         bits(self.field, 0, 14)
     }
 
-    /// Tells a proof what each value of the type keeps, and does nothing.
+    /// Gives proofs the type's invariant; does nothing.
     pub fn known(self)
         ensures { IsWord self }
     {}

@@ -7,7 +7,7 @@ ghost use Rattle.mac_types.specs.Numbers.{IsBufferSize};
 use std::fmt;
 use std::marker::Model;
 
-/// How many frames a reorder buffer has room for, below 1024 (IEEE 802.11-2016, 9.4.1.14).
+/// How many frames a reorder buffer can hold, below 1024 (IEEE 802.11-2016, 9.4.1.14).
 #[derive(Clone, Copy, Debug, PartialEq, Eq, PartialOrd, Ord, Hash)]
 pub struct BufferSize {
     number: u16,
@@ -24,7 +24,7 @@ impl Model for BufferSize {
 }
 
 impl BufferSize {
-    /// None where the number is 1024 or more.
+    /// None if the number is 1024 or more.
     pub fn new(number: u16) -> Option<Self>
         ensures valid { IsSome result ↔ IsBufferSize number }
         ensures value { IfSome result (λ s. s ≡ number) }
@@ -36,7 +36,7 @@ impl BufferSize {
         }
     }
 
-    /// The number, below 1024. As asked for, 0 leaves it to the one who answers.
+    /// The number, below 1024. In a request, 0 leaves the choice to the recipient.
     pub fn number(self) -> u16
         ensures value { result ≡ self }
         ensures fits { IsBufferSize self }
@@ -44,7 +44,7 @@ impl BufferSize {
         self.number
     }
 
-    /// Tells a proof what each value of the type keeps, and does nothing.
+    /// Gives proofs the type's invariant; does nothing.
     pub fn known(self)
         ensures { IsBufferSize self }
     {}

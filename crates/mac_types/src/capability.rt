@@ -22,7 +22,7 @@ impl Model for Capability {
 }
 
 impl Capability {
-    /// An access point's, or a station's that wants one: bit 0, and nothing else.
+    /// An access point's, or that of a station that wants one: bit 0 alone.
     pub const ESS: Capability = Capability { field: 1 };
 
     /// The capabilities of this field.
@@ -40,7 +40,7 @@ impl Capability {
         self.field
     }
 
-    /// Bit 0: an access point has it, and a station that asks for one.
+    /// Whether bit 0 is set, as by an access point, or by a station that wants one.
     pub fn is_ess(self) -> bool
         ensures { result ≡ (bits self 0 1 == 1) }
     {

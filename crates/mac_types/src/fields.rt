@@ -8,8 +8,7 @@ use crate::bits::{bit, bits};
 use crate::buffer_size::BufferSize;
 use crate::tid::Tid;
 
-/// The flags of a frame's second octet that any frame may have (IEEE 802.11-2016, 9.2.4.1.6 to
-/// 9.2.4.1.8).
+/// The flags of a frame's second octet that any frame may have (IEEE 802.11-2016, 9.2.4.1.6 to 9.2.4.1.8).
 #[derive(Clone, Copy, Debug, PartialEq, Eq)]
 pub struct FrameFlags {
     pub retry: bool,
@@ -25,8 +24,8 @@ impl FrameFlags {
         more_data: false,
     };
 
-    /// The flags that the octet spells, in a frame that has to have this To DS. None where To DS
-    /// differs, or where From DS, More Fragments, Protected Frame or Order is set.
+    /// The flags in the second octet of a frame with this To DS. None if To DS differs, or if From DS,
+    /// More Fragments, Protected Frame or Order is set.
     pub fn from_octet(octet: u8, to_ds: bool) -> Option<Self>
         ensures variant { is_some result ≡ are_flags to_ds octet }
         ensures spelled { IfSome result (λ f. octet ≡ flags_octet to_ds f) }
@@ -87,11 +86,11 @@ impl AckPolicy {
     }
 }
 
-/// The QoS Control field of a data frame (9.2.4.5) that is no A-MSDU and has a TID below 8.
+/// The QoS Control field of a data frame (9.2.4.5) that isn't an A-MSDU and has a TID below 8.
 #[derive(Clone, Copy, Debug, PartialEq, Eq)]
 pub struct QosControl {
     pub tid: Tid,
-    /// Bit 4: the end of a service period, or, from a station, what the upper bits tell.
+    /// Bit 4: the end of a service period, or, from a station, how to read the upper bits.
     pub end_of_service_period: bool,
     pub ack_policy: AckPolicy,
     /// Bits 8 to 15, on transmission opportunities and queues.
@@ -99,7 +98,7 @@ pub struct QosControl {
 }
 
 impl QosControl {
-    /// What the field spells. None where the TID is 8 or more, or A-MSDU Present is set.
+    /// What the field spells. None if the TID is 8 or more, or A-MSDU Present is set.
     pub fn from_field(field: u16) -> Option<Self>
         ensures variant { is_some result ≡ is_qos_control field }
         ensures spelled { IfSome result (λ q. field ≡ qos_control q) }
@@ -179,7 +178,7 @@ impl BlockAckParameters {
         }
     }
 
-    /// What the field spells. None where the TID is 8 or more.
+    /// What the field spells. None if the TID is 8 or more.
     pub fn from_field(field: u16) -> Option<Self>
         ensures variant { is_some result ≡ are_block_ack_parameters field }
         ensures spelled { IfSome result (λ p. field ≡ block_ack_parameters p) }
@@ -206,7 +205,7 @@ impl BlockAckParameters {
             + 64 * self.buffer_size.number()
     }
 
-    /// Tells a proof what each value of the type keeps, and does nothing.
+    /// Gives proofs the type's invariant; does nothing.
     pub fn known(self)
         ensures { IsBlockAckParameters self }
     {}
@@ -215,13 +214,13 @@ impl BlockAckParameters {
 /// The DELBA Parameter Set field (9.4.1.16) with a TID below 8.
 #[derive(Clone, Copy, Debug, PartialEq, Eq)]
 pub struct DelbaParameters {
-    /// Whether the sender is the originator of the data, and not its recipient.
+    /// Whether the sender is the originator of the data, not its recipient.
     pub initiator: bool,
     pub tid: Tid,
 }
 
 impl DelbaParameters {
-    /// What the field spells. None where the TID is 8 or more, or a reserved bit is set.
+    /// What the field spells. None if the TID is 8 or more, or a reserved bit is set.
     pub fn from_field(field: u16) -> Option<Self>
         ensures variant { is_some result ≡ are_delba_parameters field }
         ensures spelled { IfSome result (λ p. field ≡ delba_parameters p) }

@@ -1,12 +1,11 @@
-//! Laws of the fields: what passes a field's test is spelled by one value, and what no value spells
-//! does not pass.
+//! Laws of the fields: a field passes its test if and only if a value spells it, and then exactly one does.
 
 ghost use Rattle.std.specs.Prelude.{Bool};
 ghost use Rattle.mac_types.specs.Numbers.{IsTid, IsSequenceNumber, sequence_control, is_sequence_control, block_ack_control, is_block_ack_control};
 ghost use Rattle.mac_types.specs.Fields.{IsFrameFlags, flags_octet, are_flags, qos_control, IsQosControl, is_qos_control, block_ack_parameters, IsBlockAckParameters, are_block_ack_parameters, delba_parameters, IsDelbaParameters, are_delba_parameters};
 ghost use Rattle.mac_types.specs.Spelled.{IsSpelling};
 
-/// The second octet of Frame Control, where To DS has to be this.
+/// The second octet of Frame Control, for this To DS.
 pub fn flags_are_spelled()
     ensures { (to_ds : Bool) → IsSpelling 256 IsFrameFlags (flags_octet to_ds) (are_flags to_ds) }
 {}

@@ -1,9 +1,8 @@
 //! The addresses, numbers, codes and fields that IEEE 802.11 frames consist of.
 //!
-//! Main calls: `from_field` and `field` of each parameter field, `new` of each number. It stands on
-//! nothing but std. A value can't hold what the standard reserves; what is ignored is kept, so each
-//! value has one spelling. Six laws tie the test of a field's bits to the values that spell it.
-//! `known` hands out a type's invariant.
+//! Main calls: `from_field` and `field` of each parameter field, `new` of each number. It depends on std alone.
+//! Reserved bits of parameter fields are refused, and ignored bits kept, so each value has one spelling. Six laws
+//! relate the test of a field's bits to the values that it spells. `known` gives proofs a type's invariant.
 #![tactic(auto)]
 
 mod address;

@@ -23,13 +23,13 @@ impl Model for Reason {
 }
 
 impl Reason {
-    /// 6: a class 2 frame came from a station that is not authenticated.
+    /// 6: a class 2 frame came from a station that isn't authenticated.
     pub const INVALID_CLASS2_FRAME: Reason = Reason { code: 6 };
-    /// 7: a class 3 frame came from a station that is not associated.
+    /// 7: a class 3 frame came from a station that isn't associated.
     pub const INVALID_CLASS3_FRAME: Reason = Reason { code: 7 };
     /// 37: the sender no longer uses the agreement.
     pub const END_BA: Reason = Reason { code: 37 };
-    /// 39: the agreement was not used for as long as its timeout says.
+    /// 39: the agreement was unused for the length of its timeout.
     pub const TIMEOUT: Reason = Reason { code: 39 };
 
     /// The reason with this code.
@@ -47,7 +47,7 @@ impl Reason {
         self.code
     }
 
-    /// Tells a proof what each value of the type keeps, and does nothing.
+    /// Gives proofs the type's invariant; does nothing.
     pub fn known(self)
         ensures { IsWord self }
     {}

@@ -25,10 +25,10 @@ impl Model for SequenceNumber {
 }
 
 impl SequenceNumber {
-    /// The number of all frames that an access point sends.
+    /// The number of every frame that an access point sends.
     pub const ZERO: SequenceNumber = SequenceNumber { number: 0 };
 
-    /// None where the number is 4096 or more.
+    /// None if the number is 4096 or more.
     pub fn new(number: u16) -> Option<Self>
         ensures valid { IsSome result ↔ IsSequenceNumber number }
         ensures value { IfSome result (λ n. n ≡ number) }
@@ -48,8 +48,8 @@ impl SequenceNumber {
         self.number
     }
 
-    /// The number of a Sequence Control or Block Ack Starting Sequence Control field (9.2.4.4,
-    /// 9.3.1.8). None where it has a fragment number.
+    /// The number in a Sequence Control or Block Ack Starting Sequence Control field (9.2.4.4, 9.3.1.8).
+    /// None if the field has a fragment number.
     pub fn from_control(field: u16) -> Option<Self>
         ensures variant { is_some result ≡ is_sequence_control field }
         ensures spelled { IfSome result (λ n. field ≡ sequence_control n) }
@@ -61,7 +61,7 @@ impl SequenceNumber {
         SequenceNumber::new(bits(field, 4, 12))
     }
 
-    /// The Sequence Control field of the number and no fragment.
+    /// The Sequence Control field of this number, without a fragment number.
     pub fn control(self) -> u16
         ensures value { result ≡ sequence_control self }
         ensures fits { IsSequenceNumber self }
@@ -69,7 +69,7 @@ impl SequenceNumber {
         16 * self.number
     }
 
-    /// Tells a proof what each value of the type keeps, and does nothing.
+    /// Gives proofs the type's invariant; does nothing.
     pub fn known(self)
         ensures { IsSequenceNumber self }
     {}

@@ -7,8 +7,8 @@ ghost use Rattle.mac_types.specs.Numbers.{IsWord};
 use std::fmt;
 use std::marker::Model;
 
-/// A status code: what was answered to a request (IEEE 802.11-2016, 9.4.1.9). The constants
-/// have the names of Table 9-46. A clause sees the code.
+/// A status code: the answer to a request (IEEE 802.11-2016, 9.4.1.9). The constants have the names
+/// of Table 9-46. A clause sees the code.
 #[derive(Clone, Copy, Debug, PartialEq, Eq)]
 pub struct Status {
     code: u16,
@@ -23,21 +23,21 @@ impl Model for Status {
 }
 
 impl Status {
-    /// 0: what was asked is granted.
+    /// 0: the request is granted.
     pub const SUCCESS: Status = Status { code: 0 };
-    /// 1: for a reason that is not said.
+    /// 1: refused for an unspecified reason.
     pub const REFUSED_REASON_UNSPECIFIED: Status = Status { code: 1 };
     /// 10: the station lacks a capability.
     pub const REFUSED_CAPABILITIES_MISMATCH: Status = Status { code: 10 };
-    /// 12: for a reason that the standard does not know.
+    /// 12: denied for a reason outside the standard.
     pub const DENIED_OTHER_REASON: Status = Status { code: 12 };
-    /// 13: the authentication algorithm is not supported.
+    /// 13: the authentication algorithm isn't supported.
     pub const UNSUPPORTED_AUTH_ALGORITHM: Status = Status { code: 13 };
-    /// 14: the transaction sequence number is not the expected one.
+    /// 14: the transaction sequence number isn't the expected one.
     pub const TRANSACTION_SEQUENCE_ERROR: Status = Status { code: 14 };
-    /// 17: there is no room for another station.
+    /// 17: no further station can be admitted.
     pub const DENIED_NO_MORE_STAS: Status = Status { code: 17 };
-    /// 37: what was asked is declined.
+    /// 37: the request is declined.
     pub const REQUEST_DECLINED: Status = Status { code: 37 };
 
     /// The status with this code.
@@ -62,7 +62,7 @@ impl Status {
         self == Status::SUCCESS
     }
 
-    /// Tells a proof what each value of the type keeps, and does nothing.
+    /// Gives proofs the type's invariant; does nothing.
     pub fn known(self)
         ensures { IsWord self }
     {}

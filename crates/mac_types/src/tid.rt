@@ -25,7 +25,7 @@ impl Model for Tid {
 }
 
 impl Tid {
-    /// None where the number is 8 or more.
+    /// None if the number is 8 or more.
     pub fn new(number: u8) -> Option<Self>
         ensures valid { IsSome result ↔ IsTid number }
         ensures value { IfSome result (λ t. t ≡ number) }
@@ -45,8 +45,8 @@ impl Tid {
         self.number
     }
 
-    /// The TID of a BAR Control or BA Control field (9.3.1.8, 9.3.1.9). None where it is 8 or more,
-    /// Compressed Bitmap is not set, or another bit is.
+    /// The TID of a BAR Control or BA Control field (9.3.1.8, 9.3.1.9). None if it is 8 or more, Compressed Bitmap
+    /// isn't set, or another bit is.
     pub fn from_block_ack_control(field: u16) -> Option<Self>
         ensures variant { is_some result ≡ is_block_ack_control field }
         ensures spelled { IfSome result (λ t. field ≡ block_ack_control t) }
@@ -66,7 +66,7 @@ impl Tid {
         4 + 4096 * u16::from(self.number)
     }
 
-    /// Tells a proof what each value of the type keeps, and does nothing.
+    /// Gives proofs the type's invariant; does nothing.
     pub fn known(self)
         ensures { IsTid self }
     {}

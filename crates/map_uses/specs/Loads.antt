@@ -5,7 +5,7 @@ use Rattle.bpf_regions.specs.Maps.{word_count}
 use Rattle.shared_maps.specs.Seats.{Extends}
 use Rattle.shared_maps.specs.Tables.{Map, Place}
 
--- the seat is of that table, which has the word
+-- the seat belongs to table `at`, which has the word
 pub record IsSeatAt (tables : List Map) (at word : ℕ) (seat : Place) : Type 0 where
   pub table : Map
   pub table_is : slice_get tables at ≡ Some table

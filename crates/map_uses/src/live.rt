@@ -1,4 +1,4 @@
-//! Tables that threads share by reference, while each has a seat of its own.
+//! Tables that threads share by reference, while each has its own seat.
 
 ghost use Rattle.map_uses.specs.Loads.{IsSeatAt, Loaded};
 
@@ -13,7 +13,7 @@ pub struct Live {
 }
 
 impl Live {
-    /// One load by a seat, which comes back.
+    /// One load by a seat, which is returned.
     pub fn load(&self, map: usize, word: u32, mut seat: MapSeat) -> (u64, MapSeat)
         requires own { IsSeatAt self.now.maps.items map word seat }
         ensures loaded { Loaded self.now.maps.items map word seat result.0 result.1 }

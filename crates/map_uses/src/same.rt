@@ -1,15 +1,14 @@
-//! Assertions as calls: they are proved once, where a macro of its own is proved anew in each
-//! function.
+//! Assertions as calls, which are proved once; a macro is proved anew in each function.
 
 use std::fmt::Debug;
 use std::process::Abort;
 
-/// Fails where what was found isn't what was wanted.
+/// Fails if `found` isn't `wanted`.
 pub fn same<T: PartialEq + Debug + Copy>(rt: &impl Abort, found: T, wanted: T, what: &str) {
     assert_eq!(rt; found, wanted, "{what}");
 }
 
-/// Fails where it is not so.
+/// Fails if `is_so` is false.
 pub fn holds(rt: &impl Abort, is_so: bool, what: &str) {
     assert!(rt; is_so, "{what}");
 }

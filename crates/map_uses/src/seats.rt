@@ -1,4 +1,4 @@
-//! What two seats answer, in one thread and in two.
+//! What two seats return, in one thread and in two.
 
 ghost use Rattle.std.specs.Prelude.{◌≡◌, ◌<◌};
 ghost use Rattle.bpf_regions.specs.Maps.{word_count, IsShape};
@@ -46,7 +46,7 @@ fn add_a_thousand(rt: &impl Abort, alloc: Global, table: &MapTable, mut seat: Ma
     answers
 }
 
-/// The answers of two threads that do so, in ascending order.
+/// The same in two threads; all answers in ascending order.
 fn add_in_two_threads<R: Threads + Sync + Abort>(
     rt: &R,
     alloc: Global,
@@ -67,8 +67,7 @@ fn add_in_two_threads<R: Threads + Sync + Abort>(
     answers
 }
 
-/// A thousand adds in each of two threads, whose answers are all there once; what a third seat
-/// loads then.
+/// What a third seat loads after a thousand adds in each of two threads, whose answers are all there once.
 fn loaded_after_two_threads<R: Threads + Sync + Abort>(
     rt: &R,
     alloc: Global,
@@ -92,7 +91,7 @@ fn adds_of_two_threads_are_each_there_once(rt: HostRuntime) {
     }
 }
 
-/// What a seat answers to a store of 9 in word 0, and then loads.
+/// What a store of 9 in word 0 returns, and what the seat then loads.
 fn stored_and_loaded(rt: &impl Abort, alloc: Global) -> (u64, u64) {
     let (table, mut seat, _other) = table_of(rt, alloc, WordWidth::Eight);
     same(rt, seat.number(), 1, "the number of a first seat");
@@ -100,8 +99,7 @@ fn stored_and_loaded(rt: &impl Abort, alloc: Global) -> (u64, u64) {
     (stored, table.access(&mut seat, 0, MapOp::Load))
 }
 
-/// What is answered to the greatest short number in word 0 and to 1 more, and what the two words
-/// are then, of which the second was 7.
+/// What storing the greatest short number in word 0 and adding 1 return, and then both words; the second was 7.
 fn carried(rt: &impl Abort, alloc: Global) -> (u64, u64, u64, u64) {
     let (table, mut one, _other) = table_of(rt, alloc, WordWidth::Four);
     table.access(&mut one, 1, MapOp::Store(7));
@@ -111,7 +109,7 @@ fn carried(rt: &impl Abort, alloc: Global) -> (u64, u64, u64, u64) {
     (stored, added, first, table.access(&mut one, 1, MapOp::Load))
 }
 
-/// What the second seat loads from a word, once it has met the first, which stored 12 there.
+/// What the second seat loads from a word after meeting the first, which stored 12 there.
 fn met(rt: &impl Abort, alloc: Global) -> u64 {
     let (table, mut one, mut other) = table_of(rt, alloc, WordWidth::Eight);
     table.access(&mut one, 1, MapOp::Store(12));
@@ -123,14 +121,14 @@ fn met(rt: &impl Abort, alloc: Global) -> u64 {
 fn seats_read_what_is_stored(rt: HostRuntime) {
     let alloc = rt.alloc();
     same(&rt, stored_and_loaded(&rt, alloc), (0, 9), "a store");
-    // a short number does not carry on
+    // a short number doesn't carry out of its word
     let wanted = (0, 4294967295, 0, 7);
     same(&rt, carried(&rt, alloc), wanted, "a sum that wraps");
     same(&rt, met(&rt, alloc), 12, "a store of another seat");
 }
 
-/// Operations on a word that is 0, one after the other, and what each answers in a word of eight
-/// bytes. A shorter word answers the low bits.
+/// Consecutive operations on a word that is 0 at first, and what each returns in a word of eight bytes. A shorter word
+/// returns the low bits.
 const OPERATIONS: &[(MapOp, u64)] = &[
     (MapOp::Load, 0),
     (MapOp::Store(u64::MAX), 0),
@@ -156,7 +154,7 @@ const OPERATIONS: &[(MapOp, u64)] = &[
     (MapOp::Load, 1),
 ];
 
-/// Each operation is answered in word 1, of so many bits, and word 0 stays as it was.
+/// Does each operation in word 1, whose numbers have these `bits`; word 0 is unchanged.
 fn operate(rt: &impl Abort, alloc: Global, width: WordWidth, bits: u64) {
     let (table, mut seat, _other) = table_of(rt, alloc, width);
     for (operation, answer) in OPERATIONS {
@@ -184,8 +182,7 @@ const LARGEST: Shape = Shape {
     scope: Scope::Worker,
 };
 
-/// What a swap with 3 answers in the last word of the largest map, and what is loaded from there
-/// and from the word before.
+/// What a swap with 3 returns in the last word of the largest map, and then that word and the one before it.
 fn swapped_last(rt: &impl Abort, alloc: Global) -> (u64, u64, u64) {
     let mut table = MapTable::new(alloc, LARGEST, 1).expect(rt, "a table");
     holds(rt, table.shape() == LARGEST, "the shape");
@@ -200,7 +197,7 @@ fn the_last_word_of_the_largest_map(rt: HostRuntime) {
     same(&rt, swapped_last(&rt, rt.alloc()), (0, 3, 0), "last words");
 }
 
-/// The number of a fault, 0 where there is none.
+/// The number of a fault, 0 if there is none.
 fn refused<T: Drop>(answer: Result<T, MapFault>) -> u8 {
     match answer {
         Ok(_) => 0,
@@ -208,7 +205,7 @@ fn refused<T: Drop>(answer: Result<T, MapFault>) -> u8 {
     }
 }
 
-/// A table gives so many seats, with their numbers, and none after them.
+/// A table gives `seats` seats, numbered in order, and none after them.
 fn gives(rt: &impl Abort, alloc: Global, seats: u32) {
     let shape = two_words(WordWidth::Eight);
     let mut table = MapTable::new(alloc, shape, seats).expect(rt, "a table");
@@ -243,7 +240,7 @@ fn seats_are_limited(rt: HostRuntime) {
     }
 }
 
-/// The text of a fault.
+/// A fault prints this text.
 fn is_told(rt: &impl Abort, alloc: Global, fault: MapFault, text: &str) {
     let told = fault.to_string(alloc).expect(rt, "memory");
     same(rt, told.as_str(), text, "text");

@@ -1,4 +1,4 @@
-//! How many accesses a second threads make. It is measured, and no test depends on it.
+//! Measures how many accesses a second threads make; no test depends on it.
 
 ghost use Rattle.std.specs.Prelude.{◌≡◌, ◌*◌, ◌<◌, ◌≤◌};
 ghost use Rattle.std.specs.Thread.{IsSync};
@@ -77,7 +77,7 @@ fn rate(threads: u32, spent: Duration) -> u128 {
     u128::from(threads) * u128::from(ACCESSES) * 1_000_000 / micros
 }
 
-/// Two seats that are left.
+/// Two more seats.
 fn two_seats(rt: &impl Abort, table: &mut MapTable) -> (MapSeat, MapSeat)
     ensures table { (table.new.table ≡ table.old.table) × (table.new.shape ≡ table.old.shape) }
     ensures own { (result.0.table ≡ table.old.table) × (result.1.table ≡ table.old.table) }
@@ -87,7 +87,7 @@ fn two_seats(rt: &impl Abort, table: &mut MapTable) -> (MapSeat, MapSeat)
     (one, other)
 }
 
-/// The rates of 1, 2 and 4 threads on words that lie so far apart.
+/// The rates of 1, 2 and 4 threads on words this far apart.
 fn rates_on_words<R: Threads + Clock + Sync + Abort>(
     rt: &R,
     alloc: Global,

@@ -10,7 +10,7 @@ use shared_maps::{MapSeat, MapTable};
 use std::alloc::Global;
 use std::process::Abort;
 
-/// A table of two words, the second of which holds that number, with its two seats.
+/// A table of two words, of which the second holds `number`, with its two seats.
 fn table_of(
     rt: &impl Abort,
     alloc: Global,

@@ -1,17 +1,17 @@
--- What a judge by programs gives, by the references that it was lent.
+-- What a judge by programs gives, by the references that it borrowed.
 use Rattle.std.specs.Prelude.{◌≡◌, ◌+◌, ◌%◌, ◌^◌, ◌++◌, ◌∷◌, ℕ, []}
 use Rattle.ap_model.specs.Asks.{Ask}
 use Rattle.bpf_helpers.specs.HookPorts.{given_by}
 use Rattle.program_judge.specs.declared.judge.ProgramJudge.{ProgramJudge}
 use Rattle.program_judge.specs.Verdicts.{GivesIn}
 
--- it has what it was lent
+-- k borrows what j does
 pub record Keeps (j k : ProgramJudge) : Type 0 where
   pub programs : k.programs ≡ j.programs
   pub view : k.view ≡ j.view
   pub state : k.state.ghost_name ≡ j.state.ghost_name
 
--- It keeps what it was lent, gives the verdict of its programs, counts the steps and lists the ask.
+-- It keeps what it borrowed, gives the verdict of its programs, counts the steps and lists the query.
 pub record Judges (j : ProgramJudge) (ask : Ask) (verdict : ℕ) (k : ProgramJudge) : Type 0 where
   pub keeps : Keeps j k
   pub steps : ℕ

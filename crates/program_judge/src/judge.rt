@@ -9,15 +9,15 @@ use bpf_helpers::{WorkerState, WorkerView, run_hook};
 use bpf_regions::{Context, Frame, Hook};
 use hooks::no_program;
 
-/// Judges by programs that are lent, over one worker's tables: the verdict on a hook is the R0 of a run of that hook's
-/// program, or the number of the verdict tables where there is none. It is made anew for each event, of nothing but what
-/// is lent, and takes no memory. What programs note is given up.
+/// Judges by borrowed programs, over one worker's tables: a hook's verdict is R0 of a run of that hook's program, or,
+/// if there is none, the number of the verdict tables. It is made anew for each event, only of borrowed values, and
+/// allocates nothing. What programs note is dropped.
 #[derive(Drop)]
 pub struct ProgramJudge<'p, 't, 's> {
     pub programs: &'p Programs,
     pub view: WorkerView<'t>,
     pub state: &'s mut WorkerState,
-    /// How many steps its runs took, mod 2^64.
+    /// How many steps its runs executed, mod 2^64.
     pub steps: u64,
     pub asked: AskLog,
     pub ghost for_maps: { programs.now.shapes ≡ shapes_of view.maps.now },
@@ -25,7 +25,7 @@ pub struct ProgramJudge<'p, 't, 's> {
 }
 
 impl<'p, 't, 's> ProgramJudge<'p, 't, 's> {
-    /// A judge by these programs, that was asked nothing yet. The programs are for the maps that they run over.
+    /// A judge by these programs, which must be for the maps in use. Nothing has been asked of it.
     pub fn new(programs: &'p Programs, view: WorkerView<'t>, state: &'s mut WorkerState) -> Self
         requires for_maps { programs.now.shapes ≡ shapes_of view.maps.now }
         requires fitting { IsFitting view.maps.now view.worker state.old.seats }

@@ -1,4 +1,4 @@
-//! What comes of lists of asks.
+//! What follows from lists of queries.
 
 ghost use Rattle.std.specs.Prelude.{ℕ, List};
 ghost use Rattle.ap_model.specs.Asks.{Ask, Answered};
@@ -7,8 +7,8 @@ ghost use Rattle.program_judge.specs.declared.judge.ProgramJudge.{ProgramJudge};
 ghost use Rattle.program_judge.specs.Judges.{Judges, Keeps};
 ghost use Rattle.program_judge.specs.Verdicts.{GivesVerdict};
 
-/// Whatever a judge was asked, one ask after another: it keeps what it was lent, and each verdict is that of its
-/// programs on the frame and the context of its ask, over the seats and the draw word that the verdict before left.
+/// For any queries, one after another, a judge keeps what it borrowed, and each verdict is that of its programs on the
+/// query's frame and context, over the seats and the draw word that the previous verdict left.
 pub fn judged_law()
     ensures judged { (j k : ProgramJudge) (asked : List (Ask × ℕ)) → Answered Judges j asked k →
         Keeps j k × Answered (GivesVerdict (given_by j.view) j.programs.now) j.state.now asked k.state.now }

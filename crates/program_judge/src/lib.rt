@@ -1,8 +1,8 @@
 //! Verdicts by programs that nobody replaces meanwhile.
 //!
-//! Main calls: `Programs::put` and `ProgramJudge::new`. It stands on `bpf_helpers` and `ap_model`. A `ProgramJudge`
-//! answers R0 of the run of the hook's program, on that frame and context, through its port; or 0, 64 and 0 where there
-//! is none (`judged_law`).
+//! Main calls: `Programs::put` and `ProgramJudge::new`. It depends on `bpf_helpers` and `ap_model`. A `ProgramJudge`
+//! returns R0 of a run of the hook's program, on that frame and context; or 0, 64 and 0 for hooks without one
+//! (`judged_law`).
 #![tactic(auto)]
 
 mod judge;

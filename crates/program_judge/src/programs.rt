@@ -47,7 +47,7 @@ impl Programs {
         &self.shapes
     }
 
-    /// Has this program, or none, for a hook in place of the one that was there.
+    /// Puts this program, or none, in place of a hook's program.
     pub fn put(&mut self, hook: Hook, program: Option<Accepted>)
         requires fits { IfSome program (IsFor self.old.shapes hook) }
         ensures { self.new ≡ replaced hook self.old program }
@@ -59,7 +59,7 @@ impl Programs {
         }
     }
 
-    /// A hook's program, which was accepted for that hook and for maps of these shapes. None where the hook has none.
+    /// A hook's program, which was accepted for that hook and for maps of these shapes. None if the hook has none.
     pub fn program(&self, hook: Hook) -> Option<&Accepted>
         ensures is { option_copied result ≡ program_at hook self.now }
         ensures own { IfSome result (λ p. IsFor self.now.shapes hook p.now) }

@@ -117,7 +117,8 @@ module _ (shape : Shape) where
       → IsLegal shape (log ++ entry number word op (answer_to op (get_or (array log) word 0)) ∷ [])
   legal_after log word number op legal low = Answers-append M (zeros shape) log (entry number word op (answer_to op (get_or (array log) word 0)) ∷ []) legal (subst (λ (k : ℕ). word < k) (sym (count_is log)) low, refl, tt)
 
-  -- One case for all operations: the word's change f puts the new number for the old one, and what the step tells is the old number where it is answered
+  -- One case for all operations: f replaces the word's old number by the new one, and the step shows the old number
+  -- if the operation returns it
   pub accesses : (slots id word a b : ℕ) (x : Option Unit) (me : Me Unit View) (op : MapOp) (f told : ℕ → ℕ)
       → word < word_count shape → 0 < me.0.number
       → ((n : ℕ) → n < M → f (placed n) ≡ placed (number_after M op n))
@@ -148,7 +149,7 @@ module _ (shape : Shape) where
         (refl, subst (λ (answer : ℕ). Extends shape (known v) word op answer (known (after_access v kept.log e))) (sym told_n) made),
       )
 
--- the same, at what the function is asked
+-- the same for the function's arguments
 pub asked : (key shape shape' : Shape) (op' op : MapOp) (words shift : ℕ) → key ≡ shape → shape' ≡ shape → op' ≡ op → word_count shape ≡ words → shift ≡ shift_of shape.width
     → (slots id word a b : ℕ) (x : Option Unit) (me : Me Unit View) (f told : ℕ → ℕ) → word < words → 0 < me.0.number
     → ((n : ℕ) → f (n * 2 ^ shift) ≡ number_after (modulus shape.width) op n * 2 ^ shift)

@@ -1,4 +1,4 @@
--- Histories that grow at their end.
+-- Histories with accesses appended.
 use Rattle.std.proofs.Common.{◌≡◌, ℕ, zero, suc, eqb, eq-eqb, ne_eqb, ◌<◌, ◌≢◌, Bool, true, false, cond, List, [], ◌∷◌, ◌++◌, length, slice_index, refl, sym, ap, ◌∙◌, subst, append_assoc, arith}
 use Rattle.std.proofs.lemmas.List.{append-nil, length-set}
 use mathlib.Core.Option.{some, some-ne-none}
@@ -65,7 +65,7 @@ is_answer width (And x) n answer is low = low
 is_answer width (Xor x) n answer is low = low
 is_answer width (CompareExchange x y) n answer is low = low
 
--- an access is answered as its operation may be
+-- an answer in range is one that its operation may get
 pub answers_in_range : (shape : Shape) (v : Known) (word : ℕ) (operation : MapOp) (answer : ℕ) (w : Known) → Extends shape v word operation answer w → answer < modulus shape.width → IsAnswer shape.width operation answer
 answers_in_range shape v word operation answer w made low =
     let es : List Entry = v.seen ++ made.between in

@@ -1,4 +1,4 @@
--- What else keeps the rule: looks, new seats, and what one seat tells another.
+-- What else keeps the rule: reads, new seats, and what one seat tells another.
 use Rattle.std.proofs.Common.{◌≡◌, ◌≢◌, ◌⊎◌, ℕ, zero, suc, ◌+◌, ◌*◌, ◌^◌, List, [], ◌∷◌, ◌++◌, length, map, get_or, set, replicate, refl, sym, ap, ◌∙◌, subst, inl, inr, ⊎_elim, arith}
 use Rattle.std.proofs.lemmas.List.{length-append, set-get_or}
 use mathlib.Core.Option.{some, some-injective, some-ne-none}
@@ -17,14 +17,14 @@ append_nil : {A : Type 0} (xs : List A) → xs ++ [] ≡ xs
 append_nil [] = refl
 append_nil (x ∷ xs) = ap (λ (ys : List _). x ∷ ys) (append_nil xs)
 
--- the last place, or another
+-- the last index, or an earlier one
 at_end : {A : Type 0} (xs : List A) (a b : A) (j : ℕ) → get_elem? (xs ++ a ∷ []) j ≡ some b → (get_elem? xs j ≡ some b) ⊎ ((j ≡ length xs) × (a ≡ b))
 at_end [] a b zero e = inr (refl, some-injective a b e)
 at_end [] a b (suc j) e = absurd (some-ne-none b (sym e))
 at_end (x ∷ xs) a b zero e = inl e
 at_end (x ∷ xs) a b (suc j) e = ⊎_elim inl (λ t. inr (omega (arith, t.0), t.1)) (at_end xs a b j e)
 
--- of a history that goes on and has no more accesses of a seat, no part between has any
+-- if a history has no more accesses of a seat than its prefix v, nor has any prefix w between them
 own_between : (seat : ℕ) (log w v own : List Entry) → StartsWith log w → StartsWith w v → accesses_by seat log ≡ own → accesses_by seat v ≡ own → accesses_by seat w ≡ own
 own_between seat log w v own long short all some_own =
     let r : List Entry = short.0 in
@@ -68,7 +68,6 @@ module _ (shape : Shape) where
         (at_set views id j x b there);
   }
 
-  -- a view is added
   abbrev added : (words : List ℕ) (views : List View) (x : View) → (kept : IsKept shape words views) → Fits kept.log kept.places (length views) x → IsKept shape words (views ++ x ∷ [])
   added words views x kept fits = record {
     log = kept.log;
@@ -87,7 +86,7 @@ module _ (shape : Shape) where
   same_words : (words : List ℕ) (views : List View) (i : ℕ) → IsKept shape words views → IsKept shape (set words i (get_or words i 0)) views
   same_words words views i kept = subst (λ (ws : List ℕ). IsKept shape ws views) (sym (set-get_or words i 0)) kept
 
-  -- a look sees the history so far
+  -- a read sees the history so far
   pub learns : (slots id word : ℕ) (me : Me Unit View) → Allows (Kept shape) slots id me word (λ n. n) (λ n after. Learned shape me after)
   learns slots id word me s kept len at small =
       let v : View = me.0 in
@@ -96,7 +95,7 @@ module _ (shape : Shape) where
       let fw : Fits kept.log kept.places id w = record { seen = ([], sym (append_nil kept.log)); told = fv.told; own = fv.own; mine = fv.own; placed = fv.placed; numbers = fv.numbers } in
       (w, keeps, tt, same_words s.words (set s.views id w) word (replaced s.words s.views id w kept fw), record { slots = refl; number = refl; seen = fv.seen; told = fv.told; own = refl; witnessed = record { legal = kept.legal; own = fv.own } })
 
-  -- a look that changes nothing shows what the rule says of the seat
+  -- a read that changes nothing shows what the rule says of the seat
   pub confirms : (slots id word : ℕ) (me : Me Unit View) → Allows (Kept shape) slots id me word (λ n. n) (λ n after. Confirmed shape me after)
   confirms slots id word me s kept len at small =
       let v : View = me.0 in
@@ -110,7 +109,7 @@ module _ (shape : Shape) where
       let kept' = replaced s.words s.views id v kept fv in
       added s.words (set s.views id v) (note v.seen) kept' (no_note kept.log kept.places (length (set s.views id v)) v.seen fv.seen kept.nobody)
 
-  -- what the note w is, which is another seat's than id's
+  -- what the rule says of the note w, of another seat than `id`
   noted : (views : List View) (id other : ℕ) (x w : View) (log : List Entry) (places : List ℕ) → ((j : ℕ) (b : View) → get_elem? views j ≡ some b → Fits log places j b)
       → ¬ (other ≡ id) → get_elem? (set views id x) other ≡ some w → Fits log places other w
   noted views id other x w log places each apart there = ⊎_elim

@@ -1,4 +1,4 @@
--- A number lies in its word, shifted up.
+-- A number is shifted left in its word.
 use Rattle.std.proofs.Common.{◌≡◌, ℕ, refl, eqb, eq-eqb, ne_eqb, ◌+◌, ◌*◌, ◌/◌, ◌%◌, ◌^◌, ◌<◌, ◌≤◌, cond, Bool, bit_and, bit_or, bit_xor, sym, ap, ◌∙◌, subst, arith}
 use Rattle.std.proofs.Math.Nat.{mul-div_cancel, lt_of_mul-lt-mul_left, eq_of_mul-eq-mul_right, mul_comm, mul-mod_left, add-mod, div-lt_iff_lt-mul}
 use Rattle.std.proofs.Math.Arith.{mod-mul}
@@ -27,7 +27,7 @@ pub below : (n m k : ℕ) → m * 2 ^ k ≡ 18446744073709551616 → n * 2 ^ k <
 below n m k is h = let h' : n * 2 ^ k < m * 2 ^ k = subst (λ (z : ℕ). n * 2 ^ k < z) (sym is) h in
     lt_of_mul-lt-mul_left (2 ^ k) (subst (λ (z : ℕ). z < 2 ^ k * m) (mul_comm n (2 ^ k)) (subst (λ (z : ℕ). n * 2 ^ k < z) (mul_comm m (2 ^ k)) h'))
 
--- what is shifted up loses its upper part
+-- a shift left drops the upper bits
 pub shifted : (x m k : ℕ) → 0 < m → m * 2 ^ k ≡ 18446744073709551616 → (x * 2 ^ k) % 18446744073709551616 ≡ x % m * 2 ^ k
 shifted x m k pos is = ap (λ (z : ℕ). (x * 2 ^ k) % z) (sym is) ∙ (mod-mul (x * 2 ^ k) pos (pow_pos k) ∙ ends)
   where
@@ -69,7 +69,7 @@ exchanges n x y k = dite (ℕ_discrete n x)
     (λ e. ap (λ (b : Bool). either b (y * 2 ^ k) (n * 2 ^ k)) (eq-eqb _ _ (ap (λ (z : ℕ). z * 2 ^ k) e)) ∙ ap (λ (b : Bool). cond b y n * 2 ^ k) (sym (eq-eqb n x e)))
     (λ ne. ap (λ (b : Bool). either b (y * 2 ^ k) (n * 2 ^ k)) (ne_eqb _ _ (λ e. ne (eq_of_mul-eq-mul_right (2 ^ k) (pow_pos k) n x e))) ∙ ap (λ (b : Bool). cond b y n * 2 ^ k) (sym (ne_eqb n x ne)))
 
--- what each operation's step makes of a word
+-- what each operation's step does to a word
 module _ (w k : ℕ) (is : 8 * w + k ≡ 64) where
   abbrev M : ℕ
   M = 2 ^ (8 * w)

@@ -3,7 +3,7 @@ use Rattle.std.specs.Prelude.{ℕ, ◌≤◌}
 use Rattle.shared_maps.specs.declared.fault.MapFault.{MapFault}
 use Rattle.shared_maps.specs.declared.fault.MapFault.TheVariants.{NoMemory, NoSeat}
 
--- the number that stands for it in what is printed
+-- the number printed for a fault
 abbrev pub number_of : MapFault → ℕ
 number_of NoMemory = 40
 number_of NoSeat = 62

@@ -1,4 +1,4 @@
--- Legal map histories: what a plain array of numbers answers to a list of accesses.
+-- Legal map histories: what a plain array of numbers returns for a list of accesses.
 use Rattle.std.specs.Prelude.{◌≡◌, ℕ, ◌+◌, ◌*◌, ◌%◌, ◌^◌, ◌<◌, ◌==◌, if◌then◌else◌, List, [], ◌∷◌, ◌++◌, length, slice_index, slice_set, replicate, bit_and, bit_or, bit_xor}
 use Rattle.bpf_regions.specs.declared.maps.Shape.{Shape}
 use Rattle.bpf_regions.specs.declared.maps.WordWidth.{WordWidth}
@@ -7,11 +7,12 @@ use Rattle.bpf_regions.specs.declared.maps.MapOp.TheVariants.{Load, Store, Swap,
 use Rattle.bpf_regions.specs.Maps.{bytes_of, word_count}
 use Rattle.shared_maps.specs.declared.seen.Entry.{Entry}
 
--- how many numbers a word of this width has
+-- how many numbers a word of this width can hold
 abbrev pub modulus : WordWidth → ℕ
 modulus width = 2 ^ (8 * bytes_of width)
 
--- what an operation makes of a number below m; add, or, and, xor, exchange and compare with exchange are those of RFC 9669, section 5.3
+-- the number after an operation, from n below m; add, or, and, xor, exchange and compare-and-exchange are those of
+-- RFC 9669, section 5.3
 abbrev pub number_after : ℕ → MapOp → ℕ → ℕ
 number_after m Load n = n
 number_after m (Store x) n = x % m
@@ -22,7 +23,7 @@ number_after m (And x) n = bit_and n (x % m)
 number_after m (Xor x) n = bit_xor n (x % m)
 number_after m (CompareExchange x y) n = if n == x % m then y % m else n
 
--- what it answers: 0 to a store, and else the old number
+-- what it returns: 0 for a store, otherwise the old number
 abbrev pub answer_to : MapOp → ℕ → ℕ
 answer_to Load n = n
 answer_to (Store x) n = 0
@@ -33,7 +34,7 @@ answer_to (And x) n = n
 answer_to (Xor x) n = n
 answer_to (CompareExchange x y) n = n
 
--- the answers that an operation may get
+-- the values an operation may return
 abbrev pub IsAnswer : WordWidth → MapOp → ℕ → Type 0
 IsAnswer width (Store x) answer = answer ≡ 0
 IsAnswer width operation answer = answer < modulus width
@@ -53,7 +54,7 @@ abbrev pub array_of : ℕ → List ℕ → List Entry → List ℕ
 array_of m array [] = array
 array_of m array (e ∷ es) = array_of m (array_after m array e) es
 
--- each answer is what the array gives at that point
+-- each access is to a word of the array, and its answer is what the array gives at that point
 abbrev pub Answers : ℕ → List ℕ → List Entry → Type 0
 Answers m array [] = Unit {0}
 Answers m array (e ∷ es) =
@@ -73,6 +74,6 @@ abbrev pub accesses_by : ℕ → List Entry → List Entry
 accesses_by seat [] = []
 accesses_by seat (e ∷ es) = if e.seat == seat then e ∷ accesses_by seat es else accesses_by seat es
 
--- what was seen is a beginning of the history
+-- `seen` is a prefix of the history
 abbrev pub StartsWith : List Entry → List Entry → Type 0
 StartsWith history seen = (more : List Entry) × (history ≡ seen ++ more)

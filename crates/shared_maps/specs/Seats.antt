@@ -15,12 +15,12 @@ pub record Known : Type 0 where
 abbrev pub newcomer : ℕ → Known
 newcomer number = record { number = number; seen = []; own = [] }
 
--- what has been seen is a legal history, with just the seat's own accesses, each once, in the order made
+-- `seen` is a legal history, in which this seat's accesses are exactly `own`, each once, in the order made
 pub record Witnesses (shape : Shape) (v : Known) : Type 0 where
   pub legal : IsLegal shape v.seen
   pub own : accesses_by v.number v.seen ≡ v.own
 
--- After an access the seat has seen a history that begins with what it had seen and ends with this access.
+-- After an access the seat has seen a history that extends what it had seen and ends with this access.
 pub record Extends (shape : Shape) (v : Known) (word : ℕ) (operation : MapOp) (answer : ℕ)
     (w : Known) : Type 0 where
   pub between : List Entry
@@ -29,7 +29,7 @@ pub record Extends (shape : Shape) (v : Known) (word : ℕ) (operation : MapOp) 
   pub own : w.own ≡ v.own ++ entry v.number word operation answer ∷ []
   pub witnessed : Witnesses shape w
 
--- after two seats met, one of them has seen a history that begins with what each had seen
+-- after two seats met, one of them has seen a history that extends what each had seen
 pub record Shares (shape : Shape) (v other w : Known) : Type 0 where
   pub number : w.number ≡ v.number
   pub seen : StartsWith w.seen v.seen
@@ -37,7 +37,7 @@ pub record Shares (shape : Shape) (v other w : Known) : Type 0 where
   pub own : w.own ≡ v.own
   pub witnessed : Witnesses shape w
 
--- both have seen one history
+-- both have seen the same history
 pub record Meets (shape : Shape) (v w v' w' : Known) : Type 0 where
   pub same : w'.seen ≡ v'.seen
   pub one : Shares shape v w v'

@@ -9,7 +9,7 @@ use Rattle.shared_maps.specs.declared.seen.View.{View}
 use Rattle.shared_maps.specs.Seats.{Known}
 use Rattle.shared_maps.specs.Kept.{numbering}
 
--- which table it is, its shape, how many seats it has, and how many of them were given out
+-- which table it is, its shape, how many seats it has, and how many of them are handed out
 pub record Map : Type 0 where
   pub table : TableId
   pub shape : Shape
@@ -28,12 +28,12 @@ pub record IsLaid (z : TableId) (key shape : Shape) : Type 0 where
   pub words : word_count shape ≡ z.words
   pub some_words : 0 < z.words
 
--- the perch is for the seat that numbers the others, after so many
+-- the perch is for the seat that numbers the others, after `given` of them
 pub record IsNumbering (z : TableId) (root : Roost View) (given : ℕ) : Type 0 where
   pub table : root.table_id ≡ z
   pub view : root.view ≡ numbering (given + 1)
 
--- the seat holds no slot, and has the number that its view has
+-- the seat holds no slot; its number is its view's, and not 0
 pub record IsNumbered (me : Me Unit View) (number : ℕ) : Type 0 where
   pub empty : me.1 ≡ []
   pub some_number : 0 < number

@@ -1,4 +1,4 @@
-//! Why there is no table, or no seat.
+//! Why a table or a seat is refused.
 
 ghost use Rattle.std.specs.Prelude.{◌≡◌};
 ghost use Rattle.shared_maps.specs.Faults.{number_of};
@@ -10,12 +10,12 @@ use std::fmt;
 #[derive(Clone, Copy, Debug, PartialEq, Eq)]
 pub enum MapFault {
     NoMemory,
-    /// All seats are given out, or their number is not from 1 to 16.
+    /// All seats are handed out, or their number isn't 1 to 16.
     NoSeat,
 }
 
 impl MapFault {
-    /// 40 for want of memory, 62 for want of a seat.
+    /// 40 for lack of memory, 62 for lack of a seat.
     pub fn number(self) -> u8
         ensures is { result ≡ number_of self }
     {

@@ -1,12 +1,12 @@
 //! Tables of map words that threads share: each access is one atomic step of one legal history.
 //!
-//! Main calls: `MapTable::access` and `MapTable::meet`. It stands on `atomic_table` and
-//! `bpf_regions`. After each access, what a seat has seen begins with what it had seen, ends with
-//! this access, and is a legal history; after `meet` both seats have seen one.
+//! Main calls: `MapTable::access` and `MapTable::meet`. It depends on `atomic_table` and `bpf_regions`. After an
+//! access, what the seat has seen is a legal history, which extends what it had seen and ends with this access; after
+//! `meet` both seats have seen the same history.
 //!
-//! Neither `access` nor `meet` takes a `Wait`, and each returns whatever other threads do. A lock
-//! round the words could not stand in their place: `Mutex::lock` asks for a `Wait`, so a body with
-//! it doesn't compile, and where `try_lock` finds the lock taken there is no answer to give.
+//! Neither `access` nor `meet` takes a `Wait`, and each returns whatever other threads do. A lock round the words
+//! would not do: `Mutex::lock` needs a `Wait`, so a body with it doesn't compile, and if `try_lock` finds the lock
+//! taken, there is no value to return.
 #![tactic(auto)]
 
 mod fault;

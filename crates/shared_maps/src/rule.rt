@@ -17,7 +17,7 @@ impl TableRule<(), View, Shape> for Mapped {
     ghost first = { λ _. numbering 1 };
 }
 
-/// What is asked, and of a map of which shape. Each call picks it.
+/// The operation and shape of an access. Each call chooses them.
 pub trait Asking {
     ghost use Rattle.bpf_regions.specs.declared.maps.MapOp.{MapOp};
     ghost use Rattle.bpf_regions.specs.declared.maps.Shape.{Shape};
@@ -48,7 +48,7 @@ impl<J: Asking> Play<(), View> for Makes<J> {
     ghost then = { Made J.shape J.operation };
 }
 
-/// A look at the history so far, which begins with what was told too.
+/// A read of the history so far, which also extends what the seat was told.
 pub struct Learns<J> {
     asking: PhantomData<J>,
 }
@@ -59,7 +59,7 @@ impl<J: Asking> Play<(), View> for Learns<J> {
     ghost then = { λ _ me _ after. Learned J.shape me after };
 }
 
-/// A look that changes nothing.
+/// A read that changes nothing.
 pub struct Confirms<J> {
     asking: PhantomData<J>,
 }
@@ -81,7 +81,7 @@ impl Split<View> for Numbers {
     ghost right = { seated };
 }
 
-/// What a seat has seen, for another.
+/// A note for another seat of what one has seen.
 pub struct Tells;
 
 impl Split<View> for Tells {
@@ -104,7 +104,7 @@ impl Join<View> for Hears {
     ghost spent = { note [] };
 }
 
-/// A seat takes over what another has seen, which begins with all that it has seen itself.
+/// A seat takes over what another has seen, which extends what it has seen itself.
 pub struct Follows;
 
 impl Join<View> for Follows {

@@ -1,9 +1,9 @@
-//! What the proofs know of a seat. Nothing of it is there when the code runs.
+//! What the proofs know of a seat. None of it exists at run time.
 
 use bpf_regions::MapOp;
 use std::collections::LinkedList;
 
-/// One access, with the number of the seat that made it. No value of it is made.
+/// One access, with the number of its seat. Never constructed.
 pub struct Entry {
     pub seat: u32,
     pub word: u32,
@@ -11,8 +11,8 @@ pub struct Entry {
     pub answer: u64,
 }
 
-/// What a seat knows. No value of it is made.
-/// The number is 0 for a note, and for the view that numbers the seats, which alone has a `following` that is not 0.
+/// What a seat knows. Never constructed.
+/// `number` is 0 in a note, and in the view that numbers the seats; only the latter has a `following` other than 0.
 pub struct View {
     pub number: u32,
     pub following: u32,

@@ -13,10 +13,10 @@ use atomic_table::{Seat, Table};
 use bpf_regions::{MapOp, Shape, WordWidth};
 use std::alloc::Global;
 
-/// The words of a map. A word of four bytes keeps its number in the upper half, its lower half is 0.
+/// The words of a map. A word of four bytes holds its number in the upper half; the lower half is 0.
 pub type Words = Table<(), View, Shape, Mapped, Global>;
 
-/// The seat looks at the history so far.
+/// The seat reads the history so far.
 pub fn learn<J: Asking>(table: &Words, seat: &mut Seat<(), View>)
     requires asked { J.shape ≡ table.now.shared.key }
     requires own { seat.old.table_id ≡ table.now.shared.table_id }
@@ -27,7 +27,7 @@ pub fn learn<J: Asking>(table: &Words, seat: &mut Seat<(), View>)
     table.shared.load::<Learns<J>>(seat, 0);
 }
 
-/// The seat makes sure of what it has seen.
+/// The seat confirms what it has seen.
 pub fn confirm<J: Asking>(table: &Words, seat: &mut Seat<(), View>)
     requires asked { J.shape ≡ table.now.shared.key }
     requires own { seat.old.table_id ≡ table.now.shared.table_id }
@@ -38,7 +38,7 @@ pub fn confirm<J: Asking>(table: &Words, seat: &mut Seat<(), View>)
     table.shared.load::<Confirms<J>>(seat, 0);
 }
 
-/// One access of the seat, in one atomic step that is never tried again.
+/// One access of the seat: one atomic step, never retried.
 pub fn step<J: Asking>(
     table: &Words,
     shape: Shape,
@@ -76,7 +76,7 @@ pub fn step<J: Asking>(
     number_in(found, shape.width)
 }
 
-/// How far a number is shifted up in its word.
+/// How many bits a number is shifted left in its word.
 fn shift_of(width: WordWidth) -> u32
     ensures is { result ≡ shift_of width }
     ensures whole { 8 * bytes_of width + result ≡ 64 }

@@ -1,4 +1,4 @@
-//! A table of map words, and the seats at it.
+//! A table of map words, and its seats.
 
 ghost use Rattle.std.specs.Prelude.{◌≡◌, ◌+◌, ◌<◌, ◌≤◌, ◌⊎◌, IfOk, IfErr, MatchResult, Err};
 ghost use Rattle.bpf_regions.specs.Maps.{word_count, IsShape};
@@ -25,7 +25,7 @@ pub struct MapTable {
     shape: Shape,
     seats: u32,
     given: u32,
-    // The seat that numbers the others rests here, since threads share the table and may not share a seat.
+    // The seat that numbers the others is kept here: threads share the table, but can't share a seat.
     root: Perch<(), View>,
 }
 
@@ -43,10 +43,11 @@ impl Model for MapTable {
         × IsNumbering t.table.shared.table_id t.root t.given × (t.given ≤ t.seats) };
 }
 
-/// One user's place at a table: what it has seen of the table's history, and its own accesses. It may move to another thread.
+/// One user's handle on a table: what it has seen of the table's history, and its own accesses. It may move to another
+/// thread.
 #[derive(Drop)]
 pub struct MapSeat {
-    // It gives the struct a size: an element with no bytes cannot be lent out of a slice.
+    // Gives the struct a size: an element of zero bytes can't be borrowed from a slice.
     number: u32,
     seat: Seat<(), View>,
 }
@@ -60,7 +61,7 @@ impl Model for MapSeat {
 }
 
 impl MapSeat {
-    /// Each seat of a table has a number of its own, from 1 on.
+    /// The seat's number, at least 1; `MapTable::seat` numbers seats in order.
     pub fn number(&self) -> u32
         ensures is { result ≡ self.now.known.number }
         ensures some_number { 0 < result }
@@ -70,7 +71,8 @@ impl MapSeat {
 }
 
 impl MapTable {
-    /// A table of zeros, for so many seats. Fault 62 comes unless they are 1 to 16, fault 40 only for want of memory.
+    /// A table of zeros for `seats` seats. Fault 62 unless they are 1 to 16; otherwise the only fault is 40, lack of
+    /// memory.
     pub fn new(alloc: Global, shape: Shape, seats: u32) -> Result<MapTable, MapFault>
         requires valid { IsShape shape }
         ensures shape { IfOk result (λ table. table.shape ≡ shape) }
@@ -102,8 +104,8 @@ impl MapTable {
         self.shape
     }
 
-    /// The next seat. Fault 62 comes once all are given out.
-    /// Nothing is said of a seat that is left: only tests show that it is given.
+    /// The next seat. Fault 62, the only one, comes once all are handed out.
+    /// No contract promises that a remaining seat is given: only tests show it.
     pub fn seat(&mut self) -> Result<MapSeat, MapFault>
         ensures same { (self.new.table ≡ self.old.table) × (self.new.shape ≡ self.old.shape)
             × (self.new.seats ≡ self.old.seats) }
@@ -132,8 +134,8 @@ impl MapTable {
         Ok(MapSeat { number, seat })
     }
 
-    /// One access to a word of the table by a seat of it: one atomic step, which is never tried again.
-    /// A store answers 0, every other access the old number. Numbers count mod 2^(8 * width).
+    /// One access to a word of the table by one of its seats: one atomic step, never retried.
+    /// A store returns 0, every other access the old number. Numbers count mod 2^(8 * width).
     pub fn access(&self, seat: &mut MapSeat, word: u32, operation: MapOp) -> u64
         requires own { seat.old.table ≡ self.now.table }
         requires inside { word < word_count self.now.shape }
@@ -145,8 +147,8 @@ impl MapTable {
         step::<Brand>(&self.table, self.shape, &mut seat.seat, at, operation)
     }
 
-    /// Both seats then have seen one history, which begins with what each had seen.
-    /// So what one stored before is what the other reads, where no one else stores.
+    /// Afterwards both seats have seen the same history, which extends what each had seen.
+    /// So either reads what the other stored, if no one else stores.
     pub fn meet(&self, one: &mut MapSeat, other: &mut MapSeat)
         requires own { (one.old.table ≡ self.now.table) × (other.old.table ≡ self.now.table) }
         ensures tables { (one.new.table ≡ one.old.table) × (other.new.table ≡ other.old.table) }

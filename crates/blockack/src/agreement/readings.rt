@@ -1,4 +1,4 @@
-//! What can be read off an agreement.
+//! What can be read from an agreement.
 ghost use Rattle.std.specs.Prelude.{◌≡◌, ◌^◌, ◌<◌, ◌≤◌};
 ghost use Rattle.blockack.specs.Reading.{numbers_held};
 
@@ -23,8 +23,7 @@ impl<F: Drop> Agreement<F> {
         self.size
     }
 
-    /// How many numbers are held, those of dropped frames among them: as many frames as a
-    /// BlockAckReq or the end hands up, at most.
+    /// How many numbers are held, including those of dropped frames. No BlockAckReq or end passes up more frames.
     pub fn held(&self) -> usize
         ensures is { result ≡ numbers_held self.now }
         ensures fits { result ≤ 64 }
@@ -33,7 +32,7 @@ impl<F: Drop> Agreement<F> {
     }
 
     /// What a BlockAck says (10.24.7.5): the scoreboard's first number modulo 4096, and a bit for each
-    /// number from there on. Bit 0 is the first number, and no bit is set beyond the last.
+    /// number from there on. Bit 0 is the first number; no bit beyond the last is set.
     pub fn bitmap(&self) -> (u16, u64)
         ensures start { result.0 ≡ self.now.scoreboard_start }
         ensures start_fits { result.0 < 4096 }

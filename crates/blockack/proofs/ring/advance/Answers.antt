@@ -42,7 +42,7 @@ goes g c =
       | else-moved-least+then-is_some w ↦ inr (ap is_some (front ∙ read_is c.loop-moved.slots (c.loop-moved.at % 64) w.index-slots-at.result lt w.index-slots-at.is ∙ w.index-slots-at.is) ∙ sym w.is_some.ensures ∙ w.if-is_some.true)
     ]
 
--- what this turn appends
+-- what this iteration appends
 appends : (g : _) (c : goal.Joined-take g) → c.match-take.out.items ≡ c.loop-moved.out.items ++ frame_of c.loop-moved.at c.take.result
 appends g c =
     elim c.match-take.branch [

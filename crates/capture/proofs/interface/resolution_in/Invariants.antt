@@ -1,4 +1,4 @@
--- As many options as there are bytes are enough for the rest too.
+-- As many options as bytes are enough for the rest too.
 use Rattle.std.proofs.Common.{◌≡◌, length}
 use Rattle.capture.specs.Interfaces.{resolution_in}
 use Rattle.capture.proofs.interface.resolution_in.Given as goal

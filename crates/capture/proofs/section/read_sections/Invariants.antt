@@ -1,4 +1,4 @@
--- The blocks so far have led here.
+-- The blocks so far led here.
 use Rattle.std.proofs.Common.{◌≤◌, length}
 use Rattle.capture.specs.Sections.{state_of, Reached}
 use Rattle.capture.proofs.section.read_sections.Given as goal
