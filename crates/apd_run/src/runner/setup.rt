@@ -1,4 +1,4 @@
-//! What an access point is made with, from a configuration.
+//! The settings of an access point, from a configuration.
 
 ghost use Rattle.std.specs.Prelude.{◌≡◌, ◌<◌, ◌≤◌, IfOk};
 
@@ -11,7 +11,6 @@ use bpf_regions::Shapes;
 use mac_types::Address;
 use std::alloc::{AllocError, Global};
 
-/// The bytes of a file of this kind.
 pub(crate) fn read<F: Files>(
     alloc: Global,
     path: &str,
@@ -24,7 +23,6 @@ pub(crate) fn read<F: Files>(
     }
 }
 
-/// The configuration in a file.
 pub(crate) fn configuration<F: Files>(
     alloc: Global,
     path: &str,
@@ -37,7 +35,6 @@ pub(crate) fn configuration<F: Files>(
     }
 }
 
-/// A copy of the shapes of maps.
 pub(crate) fn copy_of(alloc: Global, shapes: &Shapes) -> Result<Shapes, AllocError>
     ensures is { IfOk result (λ copy. copy ≡ shapes.now) }
 {
@@ -49,7 +46,7 @@ pub(crate) fn copy_of(alloc: Global, shapes: &Shapes) -> Result<Shapes, AllocErr
     }
 }
 
-/// What an access point with so many workers is made with.
+/// The settings of an access point with `workers` workers.
 pub(crate) fn settings(configuration: Configuration, workers: u8) -> Settings
     ensures workers { result.workers ≡ workers }
     ensures shapes { result.shapes ≡ configuration.maps }
