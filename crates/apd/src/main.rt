@@ -1,4 +1,4 @@
-//! The program `apd`: a programmable access point that runs scripts, and programs of its hooks, from the command line.
+//! The program `apd`: a programmable access point that runs scripts, and programs for its hooks, from the command line.
 #![tactic(auto)]
 
 use apd_files::RealFiles;
@@ -26,21 +26,21 @@ fn main(rt: HostRuntime) -> ExitCode {
     }
 }
 
-/// Half of how far down the main thread's stack is touched, in bytes.
+/// Half of the depth to which the main thread's stack is touched, in bytes.
 const HALF: usize = 1 << 18;
 
-/// Touches the main thread's stack further down than the program uses it, so that it doesn't grow later: a stack that finds
-/// no memory to grow ends the program by a signal. Err: there is no memory for so much of it.
+/// Touches the main thread's stack deeper than the program uses it, so that it doesn't grow later: a stack that can't
+/// grow ends the program by a signal. Err: there is too little memory for that depth.
 fn reach_down(rt: &impl Env, alloc: Global) -> Result<(), AllocError> {
-    // What is asked for here and given back is what the stack takes next.
+    // The stack then takes the memory that is allocated and freed here.
     let room: Vec<u8> = Vec::with_capacity(alloc, 2 * HALF)?;
     drop(room);
     touch(rt);
     Ok(())
 }
 
-/// Goes down by a frame of half the depth, and by another below it, and writes the first letter of the program's name to
-/// the lowest byte of each.
+/// Uses a stack frame of half the depth, and another below it, and writes the first letter of the program's name to the
+/// lowest byte of each.
 #[inline(never)]
 fn touch(rt: &impl Env) {
     let mut frame = [0; HALF];
@@ -54,7 +54,7 @@ fn touch_lower(rt: &impl Env) {
     let _ = rt.arg(0, &mut frame);
 }
 
-/// Runs the program on its words, and answers its status.
+/// Runs the program on its words, and returns its exit status.
 fn run<R, O, E>(rt: &R, alloc: Global, out: O, messages: Messages<'_, E>) -> io::Result<u8>
 where
     R: Threads + Wait + Sync + Clock + Input + Eprint + Env + rt::Files + AllocGlobal,
@@ -72,13 +72,13 @@ where
     Ok(status)
 }
 
-/// The words that the program was started with, its own name first.
+/// The words of the command line, the program's own name first.
 fn given_words(rt: &(impl Env + AllocGlobal)) -> io::Result<Vec<String>> {
     let words = env::args(rt)?.collect(rt.alloc())?;
     Ok(words)
 }
 
-/// Tells why the words weren't gathered, and answers the status: 3 for want of memory, else 2.
+/// Says why the words weren't read, and returns the exit status: 3 for lack of memory, otherwise 2.
 fn failed<E: Write>(rt: &impl Env, err: &mut E, error: &io::Error) -> u8 {
     match error.kind() {
         ErrorKind::OutOfMemory => {
@@ -95,8 +95,7 @@ fn failed<E: Write>(rt: &impl Env, err: &mut E, error: &io::Error) -> u8 {
     }
 }
 
-/// The place of the first word that isn't UTF-8, among those that are no longer than a path; the program's own name is
-/// word 0.
+/// The index of the first word that isn't UTF-8, among those no longer than a path; the program's own name is word 0.
 fn no_text(rt: &impl Env) -> Option<usize> {
     let mut word = [0; 4096];
     for place in 0..4096 {

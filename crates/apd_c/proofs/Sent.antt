@@ -1,4 +1,4 @@
--- What a handle owns says the same to every thread.
+-- What a handle owns is the same to every thread.
 use Rattle.std.specs.Prelude.{Bool, true, false}
 use mir.Raw.{raw}
 use base.Shift.{Keyless}

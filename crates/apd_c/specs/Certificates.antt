@@ -1,4 +1,4 @@
--- What certificates come to, as C sees them.
+-- Certificates, as C sees them.
 use Rattle.std.specs.Prelude.{◌≡◌, ◌⊎◌, ℕ, List, [], map, Option, Some}
 use Rattle.bpf_regions.specs.declared.hooks.Hook.{Hook}
 use Rattle.bpf_regions.specs.declared.maps.Shape.{Shape}
@@ -19,12 +19,12 @@ use Rattle.apd_c.specs.Answers.{answer, Perhaps, Unless, UnlessNone, UnlessSome}
 use Rattle.apd_c.specs.Given.{IsAskable, shape_of}
 use Rattle.apd_c.specs.Code.{IsUndecoded, code_of}
 
--- the bytes that are held; none of all else
+-- the bytes that are held; none if the content is something else
 abbrev pub bytes_of : Option Content → List ℕ
 bytes_of (Some (content.Bytes v)) = v.items
 bytes_of _ = []
 
--- within some budget the bytes show that the program is safe
+-- the content is a program, which the bytes show safe within some budget
 abbrev pub Certifies : Option Content → List ℕ → Type 0
 Certifies code bytes = (a : Verified) × (code ≡ Some (content.Code a)) × (b : ℕ) × Covered a.code a.hook bytes b
 
@@ -32,7 +32,7 @@ Certifies code bytes = (a : Verified) × (code ≡ Some (content.Code a)) × (b 
 abbrev pub HoldsCertificate : Option Content → Option Content → Type 0
 HoldsCertificate code o = Certifies code (bytes_of o)
 
--- The program that these bytes spell, for maps of these shapes and for a hook, with a budget that the certificate shows.
+-- The program that these bytes spell, for maps of these shapes and a hook, with a budget that the certificate shows.
 pub record IsShown (hook : Hook) (bytes : List ℕ) (shapes : List Shape) (certificate : List ℕ) (a : Verified) : Type 0 where
   pub spells : Spells bytes a.code
   pub shapes_are : a.code.shapes ≡ shapes
@@ -40,12 +40,13 @@ pub record IsShown (hook : Hook) (bytes : List ℕ) (shapes : List Shape) (certi
   pub covered : Covered a.code hook certificate a.budget
   pub safe : Safe a.code.slots a.code.shapes a.budget
 
--- the content is a program that is shown
+-- the content is such a program
 abbrev pub HoldsShown : ℕ → List ℕ → List MapShape → List ℕ → Option Content → Type 0
 HoldsShown hook bytes shapes certificate o =
     (a : Verified) × (h : Hook) × (o ≡ Some (content.Code a)) × (hook ≡ number_of h) × IsShown h bytes (map shape_of shapes) certificate a
 
--- The certificate doesn't show the program that the bytes spell, by the first of its faults, or memory was refused.
+-- The certificate doesn't show safe the program that the bytes spell, for the first of its faults, or an allocation
+-- failed.
 pub record IsUnshown (hook : Hook) (bytes : List ℕ) (shapes : List Shape) (certificate : List ℕ) (answer : Answer) : Type 0 where
   pub program : Code
   pub spells : Spells bytes program
@@ -54,13 +55,14 @@ pub record IsUnshown (hook : Hook) (bytes : List ℕ) (shapes : List Shape) (cer
   pub refuses : Refuses program hook certificate fault
   pub number : answer.number ≡ faults.number_of fault
 
--- 0, or why the program isn't let in
+-- 0, or why the program isn't admitted
 abbrev pub IsShownOr : ℕ → List ℕ → List Shape → List ℕ → Answer → Type 0
 IsShownOr hook bytes shapes certificate a =
     (a ≡ answer 0) ⊎ IsUndecoded bytes shapes a ⊎ ((h : Hook) × (hook ≡ number_of h) × IsUnshown h bytes shapes certificate a)
 
--- The answer where an empty handle is to be filled by a certificate: 92 exactly where it isn't empty; else perhaps 40; else
--- 90 exactly where there is no such hook or a shape is out of its limits; else 0, or why the program isn't let in.
+-- The answer of filling an empty handle by a certificate: 92 exactly if it isn't empty; otherwise perhaps 40; otherwise
+-- 90 exactly if there is no such hook or the shapes are out of their limits; otherwise 0, or why the program isn't
+-- admitted.
 abbrev pub IsCheckVerdict : ℕ → List ℕ → List MapShape → List ℕ → Option Content → Answer → Type 0
 IsCheckVerdict hook bytes shapes certificate o =
     UnlessNone o (answer 92) (Perhaps (answer 40) (Unless (IsAskable hook shapes) (answer 90) (IsShownOr hook bytes (map shape_of shapes) certificate)))
@@ -75,7 +77,7 @@ pub record IsUncertified (program : Verified) (answer : Answer) : Type 0 where
 abbrev pub IsCertifiedOr : Verified → Answer → Type 0
 IsCertifiedOr program = Perhaps (answer 40) (λ a. (a ≡ answer 0) ⊎ IsUncertified program a)
 
--- The answer where an empty handle is to be filled with a certificate: 92 exactly where it isn't empty; else 91 exactly where
--- the other handle holds no program; else 0, or why there is none.
+-- The answer of filling an empty handle with a certificate: 92 exactly if it isn't empty; otherwise 91 exactly if the
+-- other handle holds no program; otherwise 0, or why there is none.
 abbrev pub IsCertifyAnswer : Option Content → Option Content → Answer → Type 0
 IsCertifyAnswer code o = UnlessNone o (answer 92) (UnlessSome (code_of code) (answer 91) IsCertifiedOr)

@@ -1,4 +1,4 @@
--- What the verdict on code comes to.
+-- Verdicts on code.
 use Rattle.std.specs.Prelude.{◌≡◌, ◌≢◌, ◌≤◌, ◌^◌, ◌⊎◌, ◌==◌, if◌then◌else◌, ℕ, List, map, Option, Some, None}
 use Rattle.bpf_regions.specs.declared.hooks.Hook.{Hook}
 use Rattle.bpf_regions.specs.declared.maps.Shape.{Shape}
@@ -24,12 +24,12 @@ use Rattle.apd_c.specs.declared.shapes.MapShape.{MapShape}
 use Rattle.apd_c.specs.Answers.{answer, Perhaps, Unless, UnlessNone}
 use Rattle.apd_c.specs.Given.{IsAskable, shape_of}
 
--- how many states C lets the verifier examine; 0 stands for as many as it ever does
+-- the limit of states that C passes; 0 stands for the verifier's own
 abbrev pub limit_of : ℕ → ℕ
 limit_of states = if states == 0 then 2 ^ 22 else nearest states
 
--- The program that these bytes spell, for maps of these shapes and for a hook, safe within its budget, which is no more than
--- the limit of states.
+-- The program that these bytes spell, for maps of these shapes and a hook, safe within its budget, which is at most the
+-- limit of states.
 pub record IsAdmitted (hook : Hook) (bytes : List ℕ) (shapes : List Shape) (limit : ℕ) (a : Verified) : Type 0 where
   pub spells : Spells bytes a.code
   pub shapes_are : a.code.shapes ≡ shapes
@@ -37,7 +37,7 @@ pub record IsAdmitted (hook : Hook) (bytes : List ℕ) (shapes : List Shape) (li
   pub safe : Safe a.code.slots a.code.shapes a.budget
   pub small : a.budget ≤ limit
 
--- The bytes are no well-formed code, or memory was refused.
+-- The bytes aren't well-formed code, or an allocation failed.
 pub record IsUndecoded (bytes : List ℕ) (shapes : List Shape) (answer : Answer) : Type 0 where
   pub fault : DecodeFault
   pub refuses : Refuses bytes shapes fault
@@ -45,8 +45,9 @@ pub record IsUndecoded (bytes : List ℕ) (shapes : List Shape) (answer : Answer
   pub number : answer.number ≡ fault_number fault
   pub slot : answer.slot ≡ fault_slot fault
 
--- The verifier refuses the program that the bytes spell, at a slot that begins an instruction. A program that is clear by
--- the rules within the limit of states is refused for memory alone; so is a plain one, where the limit is the greatest.
+-- The verifier refuses the program that the bytes spell, at a slot that begins an instruction. A program that is clear
+-- by the rules within the limit of states is refused only for lack of memory; so is a plain one, if the limit is the
+-- greatest.
 pub record IsUnsafe (bytes : List ℕ) (shapes : List Shape) (limit : ℕ) (answer : Answer) : Type 0 where
   pub program : Code
   pub spells : Spells bytes program
@@ -61,7 +62,7 @@ pub record IsUnsafe (bytes : List ℕ) (shapes : List Shape) (limit : ℕ) (answ
 abbrev pub IsRefused : List ℕ → List Shape → ℕ → Answer → Type 0
 IsRefused bytes shapes limit answer = IsUndecoded bytes shapes answer ⊎ IsUnsafe bytes shapes limit answer
 
--- the content is a program that is admitted
+-- the content is an admitted program
 abbrev pub HoldsAdmitted : ℕ → List ℕ → List MapShape → ℕ → Option Content → Type 0
 HoldsAdmitted hook bytes shapes limit o =
     (a : Verified) × (h : Hook) × (o ≡ Some (content.Code a)) × (hook ≡ number_of h) × IsAdmitted h bytes (map shape_of shapes) limit a
@@ -71,7 +72,7 @@ abbrev pub code_of : Option Content → Option Verified
 code_of (Some (content.Code a)) = Some a
 code_of _ = None
 
--- the budget of a program; 0 of all else
+-- the budget of a program; 0 if the content is something else
 abbrev pub budget_of : Option Content → ℕ
 budget_of (Some (content.Code a)) = a.budget
 budget_of _ = 0
@@ -80,8 +81,9 @@ budget_of _ = 0
 abbrev pub IsAdmittedOr : List ℕ → List Shape → ℕ → Answer → Type 0
 IsAdmittedOr bytes shapes limit a = (a ≡ answer 0) ⊎ IsRefused bytes shapes limit a
 
--- The answer where an empty handle is to be filled with a program: 92 exactly where it isn't empty; else perhaps 40; else 90
--- exactly where there is no such hook or a shape is out of its limits; else 0, or why the program isn't admitted.
+-- The answer of filling an empty handle with a program: 92 exactly if it isn't empty; otherwise perhaps 40; otherwise
+-- 90 exactly if there is no such hook or the shapes are out of their limits; otherwise 0, or why the program isn't
+-- admitted.
 abbrev pub IsVerdict : ℕ → List ℕ → List MapShape → ℕ → Option Content → Answer → Type 0
 IsVerdict hook bytes shapes limit o =
     UnlessNone o (answer 92) (Perhaps (answer 40) (Unless (IsAskable hook shapes) (answer 90) (IsAdmittedOr bytes (map shape_of shapes) limit)))

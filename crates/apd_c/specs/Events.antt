@@ -1,4 +1,4 @@
--- What events lead to at access points that C has.
+-- Events at access points that C keeps.
 use Rattle.std.specs.Prelude.{◌≡◌, ◌≢◌, ◌≤◌, ◌<◌, ℕ, List, length, Option, Some}
 use Rattle.ap_model.specs.declared.event.Event.{Event}
 use Rattle.ap_model.specs.declared.event.Out.{Out}
@@ -11,63 +11,65 @@ use Rattle.apd_c.specs.Link.{link_of}
 use Rattle.apd_c.specs.Outs.{outs_of}
 use Rattle.apd_c.specs.Words.{maps_of}
 
--- the maps have what they had
+-- the maps are the same
 pub record IsSame (m m' : Maps) : Type 0 where
   pub shapes : m'.shapes ≡ m.shapes
   pub tables : m'.tables ≡ m.tables
   pub state : m'.state ≡ m.state
   pub hand : m'.hand ≡ m.hand
 
--- The event is a step of the link, whose verdicts are those of the access point's programs, over the words of the maps, by
--- the clock, the stations and the draws.
+-- The event is a step of the link. Its verdicts are those of the access point's programs over the words of the maps,
+-- with the clock, the stations and the draws.
 pub record IsLed (a : Parts) (m : Maps) (event : Event) (outs : List Out) (a' : Parts) (m' : Maps) : Type 0 where
   pub leads : Leads a event m.tables.maps m.state (Some outs) a' m'.state
   pub shapes : m'.shapes ≡ m.shapes
   pub tables : m'.tables ≡ m.tables
   pub hand : m'.hand ≡ m.hand
 
--- the same where the content is an access point
+-- the same if the content is an access point
 abbrev pub HasLed : Option Content → Maps → Event → List Out → Option Content → Maps → Type 0
 HasLed o m event outs o' m' = (a : Parts) × (a' : Parts) × (link_of o ≡ Some a) × (link_of o' ≡ Some a') × IsLed a m event outs a' m'
 
--- the same over the maps that a handle holds
+-- the same if a handle holds the maps
 abbrev pub HasLedTo : Event → Option Content → Option Content → List Out → Option Content → Option Content → Type 0
 HasLedTo event o maps outs o' maps' = (m : Maps) × (m' : Maps) × (maps ≡ Some (content.Maps m)) × (maps' ≡ Some (content.Maps m')) × HasLed o m event outs o' m'
 
--- the same, and a handle holds what came out
+-- the same, and a handle holds the outputs
 abbrev pub LeadsTo : Event → Option Content → Option Content → Option Content → Option Content → Option Content → Type 0
 LeadsTo event o maps outs o' maps' = HasLedTo event o maps (outs_of outs) o' maps'
 
--- An access point reads what it read, and maps have what they had; all else is the same.
+-- An access point has the same readings, maps are the same, and any other content is unchanged.
 pub data Stays (o o' : Option Content) : Type 0 where
   same : o' ≡ o → Stays o o'
   like : (a a' : Parts) → link_of o ≡ Some a → link_of o' ≡ Some a' → IsLike a a' → Stays o o'
   kept : (m m' : Maps) → o ≡ Some (content.Maps m) → o' ≡ Some (content.Maps m') → IsSame m m' → Stays o o'
 
--- What an event comes to, at the access point of one handle and over the maps of another: 0 fills a third with what came
--- out, and what is refused leaves all as it was.
+-- The result of an event at the access point of one handle, over the maps of another: 0 fills a third with the outputs;
+-- a refusal leaves readings, maps and the third unchanged.
 pub record Serves (event : Event) (o maps outs : Option Content) (number : ℕ) (o' maps' outs' : Option Content) : Type 0 where
   pub led : number ≡ 0 → LeadsTo event o maps outs' o' maps'
   pub link : number ≢ 0 → Stays o o'
   pub maps_stay : number ≢ 0 → Stays maps maps'
   pub outs_stay : number ≢ 0 → outs' ≡ outs
 
--- 0, or 93 exactly where the access point's programs are for maps of other shapes; 40 for want of memory
+-- 93 exactly if the access point's programs are for maps of other shapes; otherwise perhaps 40, for lack of memory;
+-- otherwise 0
 abbrev pub IsNumberOver : Maps → Parts → ℕ → Type 0
 IsNumberOver m a = Unless (a.programs.shapes ≡ m.shapes) 93 (Perhaps 40 IsDone)
 
--- the same of two handles: 91 exactly where one doesn't hold what it is asked for
+-- the same of two handles: 91 exactly if one doesn't hold an access point or maps
 abbrev pub IsNumberAt : Option Content → Option Content → ℕ → Type 0
 IsNumberAt link maps = UnlessSome (maps_of maps) 91 (λ m. UnlessSome (link_of link) 91 (IsNumberOver m))
 
--- The number of an event: 92 exactly where the handle of the outs isn't empty; else perhaps 40; else that of the other two.
+-- The number of an event: 92 exactly if the handle for the outputs isn't empty; otherwise perhaps 40; otherwise that of
+-- the other two.
 abbrev pub IsEventNumber : Option Content → Option Content → Option Content → ℕ → Type 0
 IsEventNumber link maps outs = UnlessNone outs 92 (Perhaps 40 (IsNumberAt link maps))
 
--- The number of a frame: 90 exactly where it is longer than 2400 bytes; else perhaps 40; else that of the event.
+-- The number of a frame: 90 exactly if it is longer than 2400 bytes; otherwise perhaps 40; otherwise that of the event.
 abbrev pub IsFrameNumber : List ℕ → Option Content → Option Content → Option Content → ℕ → Type 0
 IsFrameNumber bytes link maps outs = Unless (length bytes ≤ 2400) 90 (Perhaps 40 (IsEventNumber link maps outs))
 
--- The number of the end of an agreement: 90 exactly where the TID isn't below 8; else that of the event.
+-- The number of ending an agreement: 90 exactly if the TID isn't below 8; otherwise that of the event.
 abbrev pub IsCloseNumber : ℕ → Option Content → Option Content → Option Content → ℕ → Type 0
 IsCloseNumber tid link maps outs = Unless (tid < 8) 90 (IsEventNumber link maps outs)

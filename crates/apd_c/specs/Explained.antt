@@ -1,7 +1,7 @@
--- What the numbers that calls answer mean, in a few words.
+-- What the numbers that calls return mean, in a few words.
 use Rattle.std.specs.Prelude.{◌≡◌, ◌⊎◌, ◌==◌, if◌then◌else◌, ℕ, List, [], ◌∷◌, length, min, take, codes}
 
--- each number with its text
+-- each number and its text
 abbrev pub sentences : List (ℕ × List ℕ)
 sentences =
     (1, codes "the code is cut within a slot") ∷
@@ -47,7 +47,7 @@ sentences =
     (95, codes "the program is for another hook") ∷
     []
 
--- the text beside a number, none where the number isn't listed
+-- the text of a number; empty if the number isn't listed
 abbrev pub text_beside : ℕ → List (ℕ × List ℕ) → List ℕ
 text_beside number [] = []
 text_beside number (row ∷ more) = if number == row.0 then row.1 else text_beside number more
@@ -56,11 +56,11 @@ text_beside number (row ∷ more) = if number == row.0 then row.1 else text_besi
 abbrev pub sentence_of : ℕ → List ℕ
 sentence_of number = text_beside number sentences
 
--- what a number means, or nothing
+-- what a number means, or an empty text
 abbrev pub IsSentence : ℕ → List ℕ → Type 0
 IsSentence number text = (text ≡ []) ⊎ (text ≡ sentence_of number)
 
--- What a number means is copied as far as there is room, and its length is told.
+-- As much as fits of what a number means is copied, and its length is returned.
 pub record Explains (number count : ℕ) (into into' : List ℕ) : Type 0 where
   pub text : List ℕ
   pub is : IsSentence number text

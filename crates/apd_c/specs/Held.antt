@@ -4,6 +4,6 @@ use Rattle.apd_c.specs.declared.handle.Content.{Content}
 use Rattle.apd_c.specs.declared.handle.Handle.{Handle}
 use Rattle.apd_c.specs.Holding.{held_by}
 
--- what it holds; none where it is empty
+-- its content, if it is full
 abbrev pub held : Handle → Option Content
 held h = held_by h.full h.content

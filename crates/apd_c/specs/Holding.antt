@@ -16,12 +16,12 @@ heap = record { memory = record { seal = tt } }
 abbrev pub freeable : Ty → Ptr → Fml
 freeable = ghosts.dealloc_token heap
 
--- a handle that is full owns the block at its pointer, in which this value stands
+-- a full handle owns the block at its pointer, which holds this value
 abbrev pub holds : (R : RattleType) → Bool → Ptr → R.Denot → Fml
 holds R true at value = box_owns freeable R at value
 holds R false at value = ftrue
 
--- what it holds
+-- its content, if it is full
 abbrev pub held_by : {X : Type 0} → Bool → X → Option X
 held_by true value = Some value
 held_by false value = None

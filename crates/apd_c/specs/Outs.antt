@@ -1,4 +1,4 @@
--- What came out of an event, as C reads it.
+-- The outputs of an event, as C reads them.
 use Rattle.std.specs.Prelude.{ℕ, List, [], ◌∷◌, length, Option, Some, None}
 use Rattle.ap_model.specs.declared.event.Out.{Out}
 use Rattle.ap_model.specs.declared.event.Out.TheVariants as out
@@ -7,7 +7,7 @@ use Rattle.apd_c.specs.declared.handle.Content.{Content}
 use Rattle.apd_c.specs.declared.handle.Content.TheVariants as content
 use Rattle.apd_c.specs.declared.outs.OutHead.{OutHead}
 
--- the outs that are held; none of all else
+-- the outputs that are held; none if the content is something else
 abbrev pub outs_of : Option Content → List Out
 outs_of (Some (content.Outs v)) = v.items
 outs_of _ = []
@@ -16,7 +16,7 @@ outs_of _ = []
 abbrev pub nowhere : List ℕ
 nowhere = 0 ∷ 0 ∷ 0 ∷ 0 ∷ 0 ∷ 0 ∷ []
 
--- the head of nothing
+-- the head for no output
 abbrev pub nothing_out : OutHead
 nothing_out = record { kind = 0; length = 0; source = nowhere; destination = nowhere; number = 0; tid = 0; mark = 0; note = 0 }
 
@@ -25,18 +25,18 @@ abbrev pub tid_of : Option ℕ → ℕ
 tid_of None = 255
 tid_of (Some tid) = tid
 
--- the head of data that is passed up
+-- the head of data passed up
 abbrev pub up_head : Up → OutHead
 up_head up = record { kind = 2; length = length up.body; source = up.source; destination = up.destination; number = up.number; tid = tid_of up.tid; mark = up.mark; note = 0 }
 
--- what came out, but for its bytes
+-- an output without its bytes
 abbrev pub head_of : Option Out → OutHead
 head_of None = nothing_out
 head_of (Some (out.Send bytes)) = record { kind = 1; length = length bytes; source = nowhere; destination = nowhere; number = 0; tid = 0; mark = 0; note = 0 }
 head_of (Some (out.Up up)) = up_head up
 head_of (Some (out.Note number)) = record { kind = 3; length = 0; source = nowhere; destination = nowhere; number = 0; tid = 0; mark = 0; note = number }
 
--- the bytes of what came out
+-- the bytes of an output
 abbrev pub body_of : Option Out → List ℕ
 body_of None = []
 body_of (Some (out.Send bytes)) = bytes

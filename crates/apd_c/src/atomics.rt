@@ -1,4 +1,4 @@
-//! Operations on words of maps that read and write at once.
+//! Read-modify-write operations on words of maps.
 
 ghost use Rattle.bpf_regions.specs.declared.maps.MapOp.TheVariants.{Swap, Add, Or, And, Xor, CompareExchange};
 ghost use Rattle.apd_c.specs.Held.{held};
@@ -9,10 +9,9 @@ use crate::words::{Loaded, access_at};
 use bpf_regions::MapOp;
 use std::alloc::Global;
 
-/// Puts a number, mod 2^(8 * width), in a word of a map.
+/// Stores a number, mod 2^(8 * width), in a word of a map.
 ///
-/// 0: the value is what the word held before. 90: there is no such word. 91: the handle holds no maps. It takes no
-/// memory.
+/// 0: the value is the word's old one. 90: there is no such word. 91: the handle holds no maps. It allocates nothing.
 #[unsafe(no_mangle)]
 pub extern "C" fn apd_c_exchange(
     alloc: Global,
@@ -28,8 +27,7 @@ pub extern "C" fn apd_c_exchange(
 
 /// Adds a number to a word of a map, mod 2^(8 * width).
 ///
-/// 0: the value is what the word held before. 90: there is no such word. 91: the handle holds no maps. It takes no
-/// memory.
+/// 0: the value is the word's old one. 90: there is no such word. 91: the handle holds no maps. It allocates nothing.
 #[unsafe(no_mangle)]
 pub extern "C" fn apd_c_fetch_add(
     alloc: Global,
@@ -43,10 +41,9 @@ pub extern "C" fn apd_c_fetch_add(
     access_at(alloc, maps, map, word, MapOp::Add(value))
 }
 
-/// Sets the bits of a number in a word of a map.
+/// Combines a word of a map with a number by OR.
 ///
-/// 0: the value is what the word held before. 90: there is no such word. 91: the handle holds no maps. It takes no
-/// memory.
+/// 0: the value is the word's old one. 90: there is no such word. 91: the handle holds no maps. It allocates nothing.
 #[unsafe(no_mangle)]
 pub extern "C" fn apd_c_fetch_or(
     alloc: Global,
@@ -60,10 +57,9 @@ pub extern "C" fn apd_c_fetch_or(
     access_at(alloc, maps, map, word, MapOp::Or(value))
 }
 
-/// Leaves the bits of a number in a word of a map.
+/// Combines a word of a map with a number by AND.
 ///
-/// 0: the value is what the word held before. 90: there is no such word. 91: the handle holds no maps. It takes no
-/// memory.
+/// 0: the value is the word's old one. 90: there is no such word. 91: the handle holds no maps. It allocates nothing.
 #[unsafe(no_mangle)]
 pub extern "C" fn apd_c_fetch_and(
     alloc: Global,
@@ -77,10 +73,9 @@ pub extern "C" fn apd_c_fetch_and(
     access_at(alloc, maps, map, word, MapOp::And(value))
 }
 
-/// Turns the bits of a number in a word of a map.
+/// Combines a word of a map with a number by XOR.
 ///
-/// 0: the value is what the word held before. 90: there is no such word. 91: the handle holds no maps. It takes no
-/// memory.
+/// 0: the value is the word's old one. 90: there is no such word. 91: the handle holds no maps. It allocates nothing.
 #[unsafe(no_mangle)]
 pub extern "C" fn apd_c_fetch_xor(
     alloc: Global,
@@ -94,10 +89,10 @@ pub extern "C" fn apd_c_fetch_xor(
     access_at(alloc, maps, map, word, MapOp::Xor(value))
 }
 
-/// Puts `new` in a word of a map where it holds `expected`, both mod 2^(8 * width).
+/// Stores `new` in a word of a map if it holds `expected`, both mod 2^(8 * width).
 ///
-/// 0: the value is what the word held before; it is `expected`, mod 2^(8 * width), exactly where `new` was put. 90: there
-/// is no such word. 91: the handle holds no maps. It takes no memory.
+/// 0: the value is the word's old one, which is `expected`, mod 2^(8 * width), exactly if `new` was stored. 90: there
+/// is no such word. 91: the handle holds no maps. It allocates nothing.
 #[unsafe(no_mangle)]
 pub extern "C" fn apd_c_compare_exchange(
     alloc: Global,

@@ -1,4 +1,4 @@
-//! Certificates made and checked.
+//! Making and checking certificates.
 
 ghost use Rattle.std.specs.Prelude.{◌≡◌, ◌≢◌, ◌⊎◌, map, Some, None, OnOk, IfOk, IfErr, IsSome, length, min, take};
 ghost use Rattle.bpf_regions.specs.declared.hooks.Hook.{Hook as AHook};
@@ -39,7 +39,7 @@ fn certified(alloc: Global, content: &Content) -> Result<Vec<u8>, Answer>
     }
 }
 
-/// The certificate of what a handle holds.
+/// The same if a handle holds a program.
 fn certificate_of(alloc: Global, code: &mut Handle) -> Result<Vec<u8>, Answer>
     ensures ok { IfOk result (λ bytes. Certifies (held code.old) bytes.items) }
     ensures err { IfErr result (λ e. e.number ≢ 0) }
@@ -58,9 +58,9 @@ fn certificate_of(alloc: Global, code: &mut Handle) -> Result<Vec<u8>, Answer>
 
 /// Fills an empty handle with the certificate of a program: bytes, which `apd_c_read` reads.
 ///
-/// 0: the handle holds it. 30 to 38: the verifier refuses the program, as it may one that came in through `apd_c_check`, or
-/// its states don't fit a certificate. 40: memory was refused. 91: the other handle holds no program. 92: the handle
-/// isn't empty. All but 0 leave both handles as they were.
+/// 0: the handle holds it. 30 to 38: the verifier refuses the program, which may happen if `apd_c_check` admitted it,
+/// or its states don't fit in a certificate. 40: an allocation failed. 91: the other handle holds no program. 92: the
+/// handle isn't empty. All but 0 leave both handles unchanged.
 #[unsafe(no_mangle)]
 pub extern "C" fn apd_c_certify(
     alloc: Global,
@@ -85,7 +85,7 @@ pub extern "C" fn apd_c_certify(
     }
 }
 
-/// The program that the bytes spell, if a certificate shows within how many instructions it ends.
+/// The program that the bytes spell, if a certificate shows it safe within a budget.
 fn shown(
     alloc: Global,
     hook: Hook,
@@ -115,7 +115,7 @@ fn shown(
     }
 }
 
-/// The same for a hook and maps as C tells them.
+/// The same for a hook and maps as C describes them.
 fn shown_for(
     alloc: Global,
     hook: u32,
@@ -142,12 +142,13 @@ fn shown_for(
     }
 }
 
-/// Fills an empty handle with a program, as `apd_c_verify` does, where a certificate shows within how many instructions it
-/// ends. The program isn't explored.
+/// Fills an empty handle with a program, as `apd_c_verify` does, if a certificate shows it safe within a budget. The
+/// program isn't explored.
 ///
-/// 0: the handle holds it. 1 to 3 and 10 to 19: the bytes are no well-formed code. 70: the certificate's bytes spell
-/// none. 71: it is for another hook or another code. 72: it doesn't show it. 40: memory was refused. 90: no such hook, or
-/// a shape out of its limits. 92: the handle isn't empty. All but 0 leave the handle as it was.
+/// 0: the handle holds it. 1 to 3 and 10 to 19: the bytes aren't well-formed code. 70: the certificate is malformed.
+/// 71: it is for another hook or other code. 72: it doesn't show the program safe. 40: an allocation failed. 90: there
+/// is no such hook, or the shapes are out of their limits. 92: the handle isn't empty. All but 0 leave the handle
+/// unchanged.
 #[unsafe(no_mangle)]
 pub extern "C" fn apd_c_check(
     alloc: Global,
@@ -175,7 +176,7 @@ pub extern "C" fn apd_c_check(
     }
 }
 
-/// Copies as many bytes as there is room for.
+/// Copies as many bytes as fit.
 pub(crate) fn copied(bytes: &[u8], into: &mut [u8])
     ensures copied { take (min (length bytes.now) (length into.old)) into.new ≡
         take (min (length bytes.now) (length into.old)) bytes.now }
@@ -184,7 +185,7 @@ pub(crate) fn copied(bytes: &[u8], into: &mut [u8])
     into[..count].copy_from_slice(&bytes[..count]);
 }
 
-/// Copies the bytes of a content.
+/// Copies as many bytes of a content as fit, and returns how many it has.
 fn read(content: &Content, into: &mut [u8]) -> usize
     ensures count { result ≡ length (bytes_of (Some content.now)) }
     ensures copied { take (min result (length into.old)) into.new ≡
@@ -199,8 +200,7 @@ fn read(content: &Content, into: &mut [u8]) -> usize
     }
 }
 
-/// Copies the bytes that a handle holds, as many as there is room for, and answers how many it holds; 0 where it holds
-/// none.
+/// Copies as many of the bytes that a handle holds as fit, and returns how many it holds; 0 if it holds none.
 #[unsafe(no_mangle)]
 pub extern "C" fn apd_c_read(alloc: Global, bytes: &mut Handle, into: &mut [u8]) -> usize
     ensures count { result ≡ length (bytes_of (held bytes.old)) }

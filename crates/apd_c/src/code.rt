@@ -1,4 +1,4 @@
-//! Programs that are verified.
+//! Verification of programs.
 
 ghost use Rattle.std.specs.Prelude.{◌≡◌, ◌≢◌, ◌⊎◌, ◌↔◌, ◌^◌, map, Some, None, IsSome, OnOk, IfOk, IfErr, IfSome};
 ghost use Rattle.bpf_regions.specs.declared.hooks.Hook.{Hook as AHook};
@@ -16,7 +16,6 @@ use bpf_regions::{Hook, Shapes};
 use bpf_verifier::{StateLimit, verify_within};
 use std::alloc::Global;
 
-/// The hook of that number.
 pub(crate) fn hook_of(number: u32) -> Option<Hook>
     ensures is { IfSome result (λ hook. number ≡ number_of hook) }
     ensures limits { IsSome result ↔ IsHook number }
@@ -29,7 +28,7 @@ pub(crate) fn hook_of(number: u32) -> Option<Hook>
     }
 }
 
-/// How many states the verifier may examine, as C says it; 0 for as many as it ever does.
+/// The limit of states that C passes; 0 stands for the verifier's own.
 fn limit_of(states: u32) -> StateLimit
     ensures { result ≡ limit_of states }
 {
@@ -71,7 +70,7 @@ fn admitted(
     }
 }
 
-/// The program that the bytes spell, for maps as C tells them.
+/// The same for a hook and maps as C describes them.
 fn asked(
     alloc: Global,
     hook: u32,
@@ -95,13 +94,13 @@ fn asked(
     }
 }
 
-/// Verifies code for a hook (1 association, 2 addba, 3 data) and maps of these shapes, and fills an empty handle with
-/// the program. At most `states` states are examined, which bounds the time and the memory that it takes; 0 is for no limit
-/// but the verifier's own, of 4194304.
+/// Verifies code for a hook (1 association, 2 ADDBA, 3 data) and maps of these shapes, and fills an empty handle with
+/// the program. The verifier examines at most `states` states, so the budget is at most that. 0 and larger numbers
+/// stand for its own limit of 4194304.
 ///
-/// 0: the handle holds it. 1 to 3 and 10 to 19: the bytes are no well-formed code. 30 to 38: the verifier refuses it, with
-/// 36 where it has more states. 40: memory was refused. 90: no such hook, or a shape out of its limits. 92: the handle isn't
-/// empty. All but 0 leave the handle as it was.
+/// 0: the handle holds it. 1 to 3 and 10 to 19: the bytes aren't well-formed code. 30 to 38: the verifier refuses it,
+/// with 36 if it has more states. 40: an allocation failed. 90: there is no such hook, or the shapes are out of their
+/// limits. 92: the handle isn't empty. All but 0 leave the handle unchanged.
 #[unsafe(no_mangle)]
 pub extern "C" fn apd_c_verify_within(
     alloc: Global,
@@ -129,7 +128,7 @@ pub extern "C" fn apd_c_verify_within(
     }
 }
 
-/// The same without a limit of the caller's.
+/// `apd_c_verify_within` with the verifier's own limit of states.
 #[unsafe(no_mangle)]
 pub extern "C" fn apd_c_verify(
     alloc: Global,
@@ -146,7 +145,7 @@ pub extern "C" fn apd_c_verify(
     apd_c_verify_within(alloc, code, hook, bytes, shapes, 0)
 }
 
-/// The budget of the program that a handle holds; 0 where it holds none.
+/// The budget of the program that a handle holds; 0 if it holds none.
 #[unsafe(no_mangle)]
 pub extern "C" fn apd_c_budget(alloc: Global, code: &mut Handle) -> u32
     ensures is { result ≡ budget_of (held code.old) }

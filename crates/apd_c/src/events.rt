@@ -1,4 +1,4 @@
-//! Events at access points that C has.
+//! Events at access points that C keeps.
 
 ghost use Rattle.std.specs.Prelude.{◌≡◌, ◌≢◌, Some, IfOk, IfErr, OnErr};
 ghost use Rattle.ap_model.specs.declared.event.Event.TheVariants as event;
@@ -24,7 +24,7 @@ pub struct Station {
     pub octets: [u8; 6],
 }
 
-/// An event, judged over these maps.
+/// Handles an event, with verdicts over these maps.
 fn lead(
     alloc: Global,
     access_point: &mut AccessPoint,
@@ -47,7 +47,7 @@ fn lead(
     }
 }
 
-/// The same where a content is an access point.
+/// The same if a content is an access point.
 fn lead_in(
     alloc: Global,
     content: &mut Content,
@@ -71,7 +71,7 @@ fn lead_in(
     }
 }
 
-/// The same where a handle holds an access point.
+/// The same if a handle holds an access point.
 fn lead_at(alloc: Global, link: &mut Handle, maps: &mut Maps, event: Event) -> Result<Vec<Out>, u32>
     ensures ok { IfOk result (λ outs.
         HasLed (held link.old) maps.old event outs.items (held link.new) maps.new) }
@@ -91,7 +91,7 @@ fn lead_at(alloc: Global, link: &mut Handle, maps: &mut Maps, event: Event) -> R
     }
 }
 
-/// The same over a content that is maps.
+/// The same if a content is maps.
 fn lead_on(
     alloc: Global,
     link: &mut Handle,
@@ -114,7 +114,7 @@ fn lead_on(
     }
 }
 
-/// The same over the maps that a handle holds.
+/// The same if a handle holds maps.
 fn lead_over(
     alloc: Global,
     link: &mut Handle,
@@ -138,7 +138,7 @@ fn lead_over(
     }
 }
 
-/// The same; an empty handle is filled with what came out. Its box is made first.
+/// The same; an empty handle is filled with the outputs. Its box is allocated first.
 fn lead_to(
     alloc: Global,
     link: &mut Handle,
@@ -167,11 +167,12 @@ fn lead_to(
     }
 }
 
-/// A frame of at most 2400 bytes, without its FCS, comes to an access point. Its programs run over the maps that a handle
-/// holds. An empty handle is filled with what comes out.
+/// An access point receives a frame of at most 2400 bytes, without its FCS. Its programs run over the maps of the
+/// second handle. The outputs fill the third, which must be empty.
 ///
-/// 0: the outs are there. 40: memory was refused. 90: the frame is longer. 91: a handle doesn't hold what it is asked for.
-/// 92: the handle of the outs isn't empty. 93: the access point is for maps of other shapes. All but 0 leave all as it was.
+/// 0: the outputs are in the third handle. 40: an allocation failed. 90: the frame is longer. 91: one of the first two
+/// handles doesn't hold an access point or maps. 92: the third isn't empty. 93: the access point is for maps of other
+/// shapes. All but 0 leave the access point's readings, the maps and the third handle unchanged.
 #[unsafe(no_mangle)]
 pub extern "C" fn apd_c_link_frame(
     alloc: Global,
@@ -198,7 +199,7 @@ pub extern "C" fn apd_c_link_frame(
     }
 }
 
-/// As many units of time pass at all eight shards, or at none. The rest is as of `apd_c_link_frame`.
+/// `units` units of time pass at all eight shards, or at none. The rest is as for `apd_c_link_frame`.
 #[unsafe(no_mangle)]
 pub extern "C" fn apd_c_link_tick(
     alloc: Global,
@@ -215,7 +216,7 @@ pub extern "C" fn apd_c_link_tick(
     lead_to(alloc, link, maps, outs, Event::Tick(units))
 }
 
-/// The operator sends a station away with a reason code. The rest is as of `apd_c_link_frame`.
+/// The operator deauthenticates a station with a reason code. The rest is as for `apd_c_link_frame`.
 #[unsafe(no_mangle)]
 pub extern "C" fn apd_c_link_kick(
     alloc: Global,
@@ -237,7 +238,7 @@ pub extern "C" fn apd_c_link_kick(
     lead_to(alloc, link, maps, outs, kick)
 }
 
-/// The operator ends a station's agreement for a TID below 8; 90 where it isn't below. The rest is as of
+/// The operator ends a station's agreement for a TID below 8. 90: the TID isn't below 8. The rest is as for
 /// `apd_c_link_frame`.
 #[unsafe(no_mangle)]
 pub extern "C" fn apd_c_link_close(

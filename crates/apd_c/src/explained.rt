@@ -1,4 +1,4 @@
-//! What the numbers that calls answer mean.
+//! What the numbers that calls return mean.
 
 ghost use Rattle.apd_c.specs.Explained.{Explains, IsSentence};
 
@@ -81,7 +81,7 @@ fn of_call(number: u32) -> &'static str
     }
 }
 
-/// What a number means, in a few words; nothing where no call answers it. Only tests show that each number has its text.
+/// What a number means, in a few words; empty if no call returns it.
 fn sentence(number: u32) -> &'static str
     ensures { IsSentence number result.now }
 {
@@ -93,8 +93,8 @@ fn sentence(number: u32) -> &'static str
     }
 }
 
-/// Copies what a number means, in a few words and as far as there is room, and answers how many bytes that has; 0 where no
-/// call answers the number.
+/// Copies as much as fits of what a number means, in a few words, and returns how many bytes that has; 0 if no call
+/// returns the number. Only tests show that every other number has its text.
 #[unsafe(no_mangle)]
 pub extern "C" fn apd_c_explain(number: u32, into: &mut [u8]) -> usize
     ensures { Explains number result into.old into.new }

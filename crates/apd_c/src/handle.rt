@@ -17,7 +17,7 @@ use std::marker::Model;
 /// What a handle may hold.
 #[derive(Drop)]
 pub enum Content {
-    /// No handle holds this: it stands for the content of an empty one.
+    /// The content of an empty handle, and of a box before it has another. No full handle holds it.
     Nothing,
     /// An admitted program.
     Code(Accepted),
@@ -25,21 +25,21 @@ pub enum Content {
     Maps(Maps),
     /// Bytes that C reads by `apd_c_read`.
     Bytes(Vec<u8>),
-    /// Eight shards and their programs. They have a box of their own, so that the others are small.
+    /// Eight shards and their programs, boxed so that a `Content` stays small.
     Link(Box<AccessPoint>),
-    /// What came out of an event.
+    /// The outputs of an event.
     Outs(Vec<Out>),
 }
 
-/// What C sees of a content: an address.
+/// What C sees of a content: its address.
 #[repr(C)]
 #[derive(Drop)]
 pub struct Hidden {
     byte: u8,
 }
 
-/// What C keeps: it is empty, or owns a value. A handle of zeros is empty. C changes neither field, copies no full
-/// handle, makes one call at a time on a handle, and frees it by `apd_c_free`.
+/// A handle, which C keeps. It is empty or owns a content; a handle of zeros is empty. C changes neither field, copies
+/// no full handle, makes one call at a time on a handle, and frees it by `apd_c_free`.
 #[repr(C)]
 #[derive(Drop)]
 pub struct Handle {

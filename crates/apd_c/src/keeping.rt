@@ -1,4 +1,4 @@
-//! What handles are filled with, and what is taken from them.
+//! How handles are filled and emptied.
 
 ghost use Rattle.std.specs.Prelude.{◌≡◌, ◌≢◌, ◌⊎◌, Some, None};
 ghost use Rattle.std.specs.Option.{option_map};
@@ -12,7 +12,7 @@ use std::alloc::Global;
 use std::mem::replace;
 
 impl Handle {
-    /// What it holds, of which it is emptied.
+    /// Takes its content out, which leaves it empty.
     pub(crate) fn take(&mut self, alloc: Global) -> Option<Box<Content>>
         ensures taken { option_map (λ b. b.value) result ≡ held self.old }
         ensures empty { held self.new ≡ None }
@@ -23,14 +23,14 @@ impl Handle {
         }
     }
 
-    /// Holds this content. What it held before is never freed, so callers take that first.
+    /// Holds this content. A content that it held is never freed, so callers take that first.
     pub(crate) fn put(&mut self, content: Box<Content>)
         ensures { held self.new ≡ Some content.value }
     {
         *self = Handle::sealed(Loose::of(content));
     }
 
-    /// Fills an empty handle. 40: memory was refused, and it stays empty.
+    /// Fills an empty handle. 40: an allocation failed, and it stays empty.
     pub(crate) fn fill(&mut self, alloc: Global, content: Content) -> Answer
         requires empty { held self.old ≡ None }
         ensures filled { result.number ≡ 0 → held self.new ≡ Some content }
@@ -47,7 +47,7 @@ impl Handle {
     }
 }
 
-/// Frees what a handle holds, and leaves it empty. An empty one stays so.
+/// Frees the content of a handle, and leaves it empty. An empty one stays empty.
 #[unsafe(no_mangle)]
 pub extern "C" fn apd_c_free(alloc: Global, handle: &mut Handle)
     ensures empty { held handle.new ≡ None }

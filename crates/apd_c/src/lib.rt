@@ -1,9 +1,10 @@
-//! The library for C programs: exports, which `include/apd.h` declares.
+//! The exports for C programs, which `include/apd.h` declares.
 //!
-//! Main calls: `apd_c_verify`, `apd_c_run`, `apd_c_certify`, `apd_c_check` and `apd_c_link_frame`. It stands on
-//! `bpf_verifier`, `bpf_cert`, `bpf_machine`, `ap_tables` and `ap_single`. Each export calls a function of those and states
-//! its clauses again. C keeps what it is given in a `Handle`, which is empty or owns one value; a call that finds another
-//! value in it than it asks for answers 91 and leaves it.
+//! Main calls: `apd_c_verify`, `apd_c_run`, `apd_c_certify`, `apd_c_check` and `apd_c_link_frame`. It depends on
+//! `bpf_verifier`, `bpf_cert`, `bpf_machine`, `ap_tables` and `ap_single`. Each export calls a function of those and
+//! restates its clauses. C keeps values in a `Handle`, which is empty or owns one value. A call that finds a value of
+//! another kind in it leaves it unchanged and returns 91; `apd_c_budget`, `apd_c_read` and the calls on outputs return
+//! 0.
 #![tactic(auto)]
 
 mod answer;

@@ -1,4 +1,4 @@
-//! Access points that C has.
+//! Access points that C keeps.
 
 ghost use Rattle.std.specs.Prelude.{◌≡◌, ◌≢◌, ◌↔◌, Some, IsSome, IfOk, IfErr, IfSome};
 ghost use Rattle.apd_c.specs.Held.{held};
@@ -13,8 +13,8 @@ use ap_single::AccessPoint;
 use mac_types::Address;
 use std::alloc::{AllocError, Global};
 
-/// What an access point is made with: its address, the name of its network, of at most 32 bytes, and 1 to 8 supported
-/// rates.
+/// The configuration of an access point: its address, the name of its network, of at most 32 bytes, and 1 to 8
+/// supported rates.
 #[repr(C)]
 #[derive(Clone, Copy)]
 pub struct Network {
@@ -25,7 +25,7 @@ pub struct Network {
     pub rates: [u8; 8],
 }
 
-/// The configuration. None where it is out of its limits.
+/// The configuration; `None` if it is out of its limits.
 fn config_from(alloc: Global, network: &Network) -> Result<Option<LinkConfig>, AllocError>
     ensures is { IfOk result (λ o. IfSome o (λ c. c ≡ config_of network.now)) }
     ensures limits { IfOk result (λ o. IsSome o ↔ IsNetwork network.now) }
@@ -63,10 +63,10 @@ fn made(alloc: Global, network: &Network, shapes: &[MapShape]) -> Result<Box<Acc
     }
 }
 
-/// Fills an empty handle with an access point that has handled nothing and has no programs yet, for maps of these shapes.
+/// Fills an empty handle with an access point that has handled nothing and has no programs, for maps of these shapes.
 ///
-/// 0: the handle holds it. 40: memory was refused. 90: the name, the rates or a shape are out of their limits. 92: the
-/// handle isn't empty. All but 0 leave the handle as it was.
+/// 0: the handle holds it. 40: an allocation failed. 90: the name, the rates or the shapes are out of their limits. 92:
+/// the handle isn't empty. All but 0 leave the handle unchanged.
 #[unsafe(no_mangle)]
 pub extern "C" fn apd_c_link(
     alloc: Global,

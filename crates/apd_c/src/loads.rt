@@ -1,4 +1,4 @@
-//! Programs by which access points judge.
+//! The programs of access points.
 
 ghost use Rattle.std.specs.Prelude.{◌≡◌, ◌≢◌, Some, None, IfSome, OnOk, IfErr, OnErr};
 ghost use Rattle.std.specs.Option.{option_map};
@@ -20,7 +20,7 @@ use bpf_machine::Accepted;
 use bpf_regions::Hook;
 use std::alloc::Global;
 
-/// The program that a handle holds, and the box in which it stood; the handle is empty then.
+/// Takes a program and its box out of the handle that holds them, which is then empty.
 fn take_code(alloc: Global, handle: &mut Handle) -> Option<(Box<Content>, Accepted)>
     ensures some { IfSome result (λ t. held handle.old ≡ Some (CodeContent t.1)) }
     ensures emptied { IfSome result (λ t. held handle.new ≡ None) }
@@ -40,7 +40,7 @@ fn take_code(alloc: Global, handle: &mut Handle) -> Option<(Box<Content>, Accept
     }
 }
 
-/// Has the program, if it is for that hook and for the access point's maps.
+/// Loads the program, if it is for that hook and for the access point's maps.
 fn put(
     access_point: &mut AccessPoint,
     hook: Hook,
@@ -64,7 +64,7 @@ fn put(
     return Ok(());
 }
 
-/// The same where a content is an access point.
+/// The same if a content is an access point.
 fn put_in(content: &mut Content, hook: Hook, accepted: Accepted) -> Result<(), (u32, Accepted)>
     ensures ok { OnOk result (HasPut hook accepted (Some content.old) (Some content.new)) }
     ensures err { OnErr result (content.new ≡ content.old) }
@@ -82,7 +82,7 @@ fn put_in(content: &mut Content, hook: Hook, accepted: Accepted) -> Result<(), (
     }
 }
 
-/// The same where a handle holds an access point.
+/// The same if a handle holds an access point.
 fn put_at(
     alloc: Global,
     link: &mut Handle,
@@ -108,12 +108,12 @@ fn put_at(
     }
 }
 
-/// Takes the program out of a handle, and has an access point judge by it on this hook (1 association, 2 addba, 3 data),
-/// in place of the program that was there.
+/// Moves a program from a handle to a hook (1 association, 2 ADDBA, 3 data) of an access point, in place of the hook's
+/// old one.
 ///
-/// 0: it judges by it, and the program's handle is empty. 90: no such hook. 91: a handle doesn't hold what it is asked for.
-/// 93: the program is for maps of other shapes. 95: it was verified for another hook. All but 0 leave both handles as they
-/// were. It takes no memory.
+/// 0: the access point has it, and the program's handle is empty. 90: there is no such hook. 91: a handle doesn't hold
+/// a program or an access point. 93: the program is for maps of other shapes. 95: it was verified for another hook. All
+/// but 0 leave both handles unchanged. It allocates nothing.
 #[unsafe(no_mangle)]
 pub extern "C" fn apd_c_link_load(
     alloc: Global,
@@ -142,7 +142,7 @@ pub extern "C" fn apd_c_link_load(
     }
 }
 
-/// Where a content is an access point, it has no program for a hook.
+/// Removes the program of a hook, if a content is an access point.
 fn unload_in(content: &mut Content, hook: Hook) -> u32
     ensures unloaded { result ≡ 0 → HasUnloaded hook (Some content.old) (Some content.new) }
     ensures kept { result ≢ 0 → content.new ≡ content.old }
@@ -157,11 +157,11 @@ fn unload_in(content: &mut Content, hook: Hook) -> u32
     }
 }
 
-/// Has an access point judge by no program on this hook (1 association, 2 addba, 3 data): associations are admitted,
-/// agreements get what they ask for, and data passes with mark 0. The program that was there is freed.
+/// Removes and frees the program of a hook (1 association, 2 ADDBA, 3 data) of an access point. Without programs,
+/// associations are admitted, agreements get what they request, and data passes with mark 0.
 ///
-/// 0: it is so. 90: no such hook. 91: the handle holds no access point. All but 0 leave the handle as it was. It takes no
-/// memory.
+/// 0: the hook has no program. 90: there is no such hook. 91: the handle holds no access point. All but 0 leave the
+/// handle unchanged. It allocates nothing.
 #[unsafe(no_mangle)]
 pub extern "C" fn apd_c_link_unload(alloc: Global, link: &mut Handle, hook: u32) -> u32
     ensures unloaded { result ≡ 0 →

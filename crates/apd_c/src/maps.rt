@@ -22,7 +22,7 @@ pub struct Maps {
 }
 
 impl Maps {
-    /// Words of zeros, and the first word to draw.
+    /// Words that are all 0, and the first number that programs draw.
     pub(crate) fn new(alloc: Global, shapes: Shapes, draw: u64) -> Result<Maps, MapFault>
         ensures shapes { IfOk result (λ m. m.shapes ≡ shapes) }
         ensures draw { IfOk result (λ m. m.state.draw ≡ draw) }

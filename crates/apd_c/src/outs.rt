@@ -1,4 +1,4 @@
-//! What came out of an event, as C reads it.
+//! The outputs of an event, as C reads them.
 
 ghost use Rattle.std.specs.Prelude.{◌≡◌, Some, length, min, slice_get, take};
 ghost use Rattle.apd_c.specs.Held.{held};
@@ -9,13 +9,13 @@ use crate::handle::{Content, Handle};
 use ap_core::{Out, Up};
 use std::alloc::Global;
 
-/// What came out, but for its bytes. The kind is 1 for a frame to be sent, 2 for data to be passed up, 3 for a note, and 0
-/// where there is nothing. What a kind doesn't have is 0; the TID is 255 where the data has none.
+/// An output without its bytes. The kind is 1 for a frame to send, 2 for data passed up, 3 for a note, and 0 for no
+/// output. Fields that a kind doesn't have are 0. The TID of data without one is 255.
 #[repr(C)]
 #[derive(Clone, Copy)]
 pub struct OutHead {
     pub kind: u32,
-    /// How many bytes the frame or the data has.
+    /// The length of the frame or the data.
     pub length: usize,
     pub source: [u8; 6],
     pub destination: [u8; 6],
@@ -26,7 +26,7 @@ pub struct OutHead {
     pub note: u8,
 }
 
-/// The head of nothing.
+/// The head for no output.
 fn nothing() -> OutHead
     ensures { result ≡ nothing_out }
 {
@@ -42,7 +42,7 @@ fn nothing() -> OutHead
     }
 }
 
-/// The head of data that is passed up.
+/// The head of data passed up.
 fn head_of_up(up: &Up) -> OutHead
     ensures { result ≡ up_head up.now }
 {
@@ -62,7 +62,7 @@ fn head_of_up(up: &Up) -> OutHead
     }
 }
 
-/// The head of one of a list.
+/// The head of an element of a list.
 fn head_in(outs: &[Out], at: usize) -> OutHead
     ensures { result ≡ head_of (slice_get outs.now at) }
 {
@@ -86,7 +86,7 @@ fn head_in(outs: &[Out], at: usize) -> OutHead
     }
 }
 
-/// The bytes of one of a list.
+/// The bytes of an element of a list.
 fn body_in(outs: &[Out], at: usize) -> &[u8]
     ensures { result.now ≡ body_of (slice_get outs.now at) }
 {
@@ -100,7 +100,7 @@ fn body_in(outs: &[Out], at: usize) -> &[u8]
     }
 }
 
-/// The list of a content; none where it is something else.
+/// The list that a content is; empty if it is something else.
 fn list(content: &Content) -> &[Out]
     ensures { result.now ≡ outs_of (Some content.now) }
 {
@@ -110,7 +110,7 @@ fn list(content: &Content) -> &[Out]
     }
 }
 
-/// How many outs a handle holds; 0 where it holds none.
+/// The number of outputs that a handle holds; 0 if it holds none.
 #[unsafe(no_mangle)]
 pub extern "C" fn apd_c_outs(alloc: Global, outs: &mut Handle) -> usize
     ensures count { result ≡ length (outs_of (held outs.old)) }
@@ -126,7 +126,7 @@ pub extern "C" fn apd_c_outs(alloc: Global, outs: &mut Handle) -> usize
     }
 }
 
-/// One of the outs that a handle holds, but for its bytes; of kind 0 where there is none at that place.
+/// The output at an index, without its bytes. Its kind is 0 if there is none at that index.
 #[unsafe(no_mangle)]
 pub extern "C" fn apd_c_out(alloc: Global, outs: &mut Handle, at: usize) -> OutHead
     ensures is { result ≡ head_of (slice_get (outs_of (held outs.old)) at) }
@@ -142,7 +142,7 @@ pub extern "C" fn apd_c_out(alloc: Global, outs: &mut Handle, at: usize) -> OutH
     }
 }
 
-/// Copies the bytes of one of the outs, as many as there is room for, and answers how many it has.
+/// Copies as many bytes of the output at an index as fit, and returns how many it has.
 #[unsafe(no_mangle)]
 pub extern "C" fn apd_c_out_bytes(
     alloc: Global,

@@ -1,4 +1,4 @@
-//! Programs that run.
+//! Runs of programs.
 
 ghost use Rattle.std.specs.Prelude.{◌≡◌, ◌≢◌, ◌↔◌, Some, IsTrue, take};
 ghost use Rattle.apd_c.specs.Held.{held};
@@ -12,8 +12,8 @@ use bpf_machine::{Accepted, Outcome};
 use bpf_regions::{Context, Frame, Shape};
 use std::alloc::Global;
 
-/// What a program is given beside its frame and its maps: the clock, how many stations are associated (at most 2007),
-/// and the 32 bytes of its context.
+/// A program's inputs besides its frame and its maps: the clock, how many stations are associated (at most 2007), and
+/// the 32 bytes of its context.
 #[repr(C)]
 #[derive(Clone, Copy)]
 pub struct Given {
@@ -22,7 +22,7 @@ pub struct Given {
     pub context: [u8; 32],
 }
 
-/// What a run came to, where the number is 0: R0, the steps, how many notes there are, at most 16, and the notes.
+/// The result of a run, if the number is 0: R0, the steps, how many notes there are, at most 16, and the notes.
 #[repr(C)]
 #[derive(Clone, Copy)]
 pub struct Report {
@@ -33,7 +33,7 @@ pub struct Report {
     pub notes: [u64; 16],
 }
 
-/// Reports a run, but for its number. Notes beyond those of the run stay as they were.
+/// Reports a run, without its number. The array beyond the run's notes is unchanged.
 fn tell(outcome: &Outcome, report: &mut Report)
     ensures r0 { report.new.r0 ≡ outcome.now.r0 }
     ensures steps { report.new.steps ≡ outcome.now.steps }
@@ -56,14 +56,14 @@ pub(crate) fn are_alike(shapes: &[Shape], others: &[Shape]) -> bool
     shapes == others
 }
 
-/// Whether a context is for the hook that a program was verified for.
+/// Whether a context is for the hook for which a program was verified.
 fn is_for_hook(accepted: &Accepted, given: &Given) -> bool
     ensures { IsTrue result ↔ IsForHook accepted.now given.now }
 {
     given.context[6] == accepted.hook().number()
 }
 
-/// The run of a program on a frame, over its maps. Answers its number.
+/// Runs a program on a frame over its maps, and returns the number.
 fn run_on(
     accepted: &Accepted,
     maps: &mut Maps,
@@ -103,7 +103,7 @@ fn run_on(
     return 0;
 }
 
-/// The same of contents.
+/// The same for contents.
 fn run_contents(
     program: &Content,
     words: &mut Content,
@@ -129,12 +129,12 @@ fn run_contents(
 }
 
 /// Runs a program on a frame of at most 2400 bytes, over the maps that a handle holds, and reports it. The frame and
-/// what is given need to stand only while it runs; it waits for nothing and takes no memory. Notes beyond those of the run
-/// stay as they were.
+/// `given` need be valid only during the call, which waits for nothing and allocates nothing. The array beyond the
+/// run's notes is unchanged.
 ///
 /// 0: the run ended, within the program's budget. 90: the frame is longer, or there are more than 2007 stations. 91: a
-/// handle doesn't hold what it is asked for. 93: the program is for maps of other shapes. 95: byte 6 of the context is
-/// another hook than the program was verified for. All but 0 leave the maps as they were.
+/// handle doesn't hold a program or maps. 93: the program is for maps of other shapes. 95: byte 6 of the context isn't
+/// the hook for which the program was verified. All but 0 leave the maps unchanged.
 #[unsafe(no_mangle)]
 pub extern "C" fn apd_c_run(
     alloc: Global,

@@ -1,4 +1,4 @@
-//! The shapes of maps, as C tells them.
+//! The shapes of maps, as C describes them.
 
 ghost use Rattle.std.specs.Prelude.{◌≡◌, ◌↔◌, map, IsSome, IsTrue, IfOk, IfSome};
 ghost use Rattle.std.specs.List.{All};
@@ -33,14 +33,14 @@ fn shape_of(given: MapShape) -> Shape
     }
 }
 
-/// Whether the words of all have 4 or 8 bytes.
+/// Whether all words have 4 or 8 bytes.
 fn have_widths(given: &[MapShape]) -> bool
     ensures { IsTrue result ↔ All (λ s. IsWidth s.width) given.now }
 {
     given.iter().all(|one| one.width == 4 || one.width == 8)
 }
 
-/// The shapes, each with a scope that all share. None where they are more than 16, or one is out of its limits.
+/// The shapes, with words that all workers share; `None` if there are more than 16, or one is out of its limits.
 pub(crate) fn shapes_from(alloc: Global, given: &[MapShape]) -> Result<Option<Shapes>, AllocError>
     ensures are { IfOk result (λ o. IfSome o (λ s. s ≡ map shape_of given.now)) }
     ensures limits { IfOk result (λ o. IsSome o ↔ AreInLimits given.now) }

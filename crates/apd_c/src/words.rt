@@ -1,4 +1,4 @@
-//! What C does with words of maps.
+//! Accesses of C to words of maps.
 
 ghost use Rattle.std.specs.Prelude.{◌≡◌, ◌≢◌, ◌<◌, ◌↔◌, map, slice_get, Some, IsTrue, IfOk, IfErr};
 ghost use Rattle.bpf_regions.specs.declared.asks.Ask.TheVariants.{Access};
@@ -36,7 +36,7 @@ impl Loaded {
     }
 }
 
-/// Whether there is a map of that number, and the word is one of its words.
+/// Whether there is a map of that number, which has the word.
 fn has_word(shapes: &Shapes, map: u32, word: u32) -> bool
     ensures { IsTrue result ↔ (word < words_in (slice_get shapes.now map)) }
 {
@@ -46,7 +46,7 @@ fn has_word(shapes: &Shapes, map: u32, word: u32) -> bool
     }
 }
 
-/// One access to a word, by the seats of C.
+/// One access to a word, by C's seats.
 fn ask(tables: &ApTables, hand: &mut WorkerState, map: u32, word: u32, operation: MapOp) -> u64
     requires there { word < words_in (slice_get (shapes_of tables.now.maps) map) }
     requires fitting { IsFitting tables.now.maps 0 hand.old.seats }
@@ -79,7 +79,7 @@ fn access(maps: &mut Maps, at: u32, word: u32, operation: MapOp) -> Loaded
     return Loaded { number: 0, value };
 }
 
-/// The same where a content is maps.
+/// The same if a content is maps.
 fn access_in(content: &mut Content, map: u32, word: u32, operation: MapOp) -> Loaded
     ensures { Operates (Some content.old) map word operation result (Some content.new) }
 {
@@ -112,7 +112,7 @@ pub(crate) fn access_at(
     }
 }
 
-/// Maps of words 0, as C tells them.
+/// Maps whose words are 0, as C describes them.
 fn made(alloc: Global, shapes: &[MapShape], draw: u64) -> Result<Maps, u32>
     ensures ok { IfOk result (λ m. (m.shapes ≡ map shape_of shapes.now)
         × (m.state.draw ≡ draw)) }
@@ -129,10 +129,10 @@ fn made(alloc: Global, shapes: &[MapShape], draw: u64) -> Result<Maps, u32>
     }
 }
 
-/// Fills an empty handle with maps of these shapes, each of whose words is 0, and the word that programs draw first.
+/// Fills an empty handle with maps of these shapes, whose words are 0. `draw` is the first number that programs draw.
 ///
-/// 0: the handle holds them. 40: memory was refused. 62: no seat of a map is left; only tests show that one is. 90: a shape out of
-/// its limits. 92: the handle isn't empty. All but 0 leave the handle as it was.
+/// 0: the handle holds them. 40: an allocation failed. 62: no map seat is left, which only tests rule out. 90: the
+/// shapes are out of their limits. 92: the handle isn't empty. All but 0 leave the handle unchanged.
 #[unsafe(no_mangle)]
 pub extern "C" fn apd_c_maps(
     alloc: Global,
@@ -157,9 +157,10 @@ pub extern "C" fn apd_c_maps(
     }
 }
 
-/// One load of a word of a map. A word's number is its entry's index times the words of an entry, plus its place there.
+/// Loads a word of a map. A word's number is its entry's index times the words of an entry, plus its index in the
+/// entry.
 ///
-/// 0: the word was loaded. 90: there is no such word. 91: the handle holds no maps. It takes no memory.
+/// 0: the word was loaded. 90: there is no such word. 91: the handle holds no maps. It allocates nothing.
 #[unsafe(no_mangle)]
 pub extern "C" fn apd_c_load(alloc: Global, maps: &mut Handle, map: u32, word: u32) -> Loaded
     ensures { Operates (held maps.old) map word Load result (held maps.new) }
@@ -167,9 +168,10 @@ pub extern "C" fn apd_c_load(alloc: Global, maps: &mut Handle, map: u32, word: u
     access_at(alloc, maps, map, word, MapOp::Load)
 }
 
-/// One store of a number, mod 2^(8 * width), in a word of a map.
+/// Stores a number, mod 2^(8 * width), in a word of a map.
 ///
-/// 0: it was stored. 90: there is no such word. 91: the handle holds no maps. It takes no memory.
+/// 0: it was stored. 90: there is no such word. 91: the handle holds no maps. All but 0 leave the maps unchanged. It
+/// allocates nothing.
 #[unsafe(no_mangle)]
 pub extern "C" fn apd_c_store(
     alloc: Global,

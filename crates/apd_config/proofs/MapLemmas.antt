@@ -1,4 +1,4 @@
--- The shapes that the maps' tables say, and what a fault in one of them says of the whole.
+-- The shapes that the maps' tables spell, and what a fault in one of them says of the whole.
 use Rattle.std.proofs.Common.{◌≡◌, ℕ, zero, suc, pos, negsuc, ◌+◌, ◌≤◌, ◌<◌, nat_le, false, List, [], ◌∷◌, ◌++◌, length, take, get_or, codes, Option, Some, None, option_and_then, refl, ap, sym, ◌∙◌, arith}
 use Rattle.std.specs.List.{All}
 use Rattle.std.proofs.lemmas.Bool.{and_parts, leb-true, lt-leb}

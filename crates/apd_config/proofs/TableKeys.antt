@@ -1,4 +1,4 @@
--- What a `Table` finds and lists, as the definitions on its members say it.
+-- What a `Table` finds and lists, by the definitions on its members.
 use Rattle.std.proofs.Common.{◌≡◌, ℕ, Bool, true, false, cond, not, List, [], ◌∷◌, Option, Some, None, option_map, Bor, String, Global, string_bytes, refl, ap, sym, ◌∙◌, inl, inr, arith}
 use Rattle.std.specs.List.{find, list_all, Contains}
 use Rattle.std.specs.Map.{keys_of}

@@ -1,4 +1,4 @@
--- How a configuration spells its keys.
+-- The spelling of a configuration's keys.
 use Rattle.std.specs.Prelude.{ℕ, List, codes}
 use Rattle.apd_config.specs.declared.keys.Key.{Key}
 use Rattle.apd_config.specs.declared.keys.Key.TheVariants.{Bssid, Ssid, Rates, Draw, Map}

@@ -13,7 +13,7 @@ use Rattle.bpf_regions.specs.declared.maps.Shape.{Shape}
 
 -- ---- the values of the keys
 
--- six bytes, as 12 hex digits
+-- six bytes in hex
 abbrev pub bssid_of : Data → Option (List ℕ)
 bssid_of (string text) = result_ok (decode_sized text 6)
 bssid_of _ = None
@@ -23,7 +23,7 @@ abbrev pub ssid_of : Data → Option (List ℕ)
 ssid_of (string text) = (if nat_le (length text) 32 then Some text else None)
 ssid_of _ = None
 
--- 1 to 8 of them
+-- 1 to 8 bytes
 abbrev pub if_few : List ℕ → Option (List ℕ)
 if_few rates = (if nat_le 1 (length rates) && nat_le (length rates) 8 then Some rates else None)
 
@@ -32,7 +32,7 @@ abbrev pub rates_of : Data → Option (List ℕ)
 rates_of (string text) = option_and_then if_few (result_ok (decode_of text))
 rates_of _ = None
 
--- a number from 0 on
+-- a number of at least 0
 abbrev pub draw_of : Data → Option ℕ
 draw_of (integer (pos n)) = Some n
 draw_of _ = None
@@ -54,7 +54,7 @@ scope_of (string text) =
     else (if bytes_eq text (codes "worker") then Some Worker else None))
 scope_of _ = None
 
--- a map is shared where its table has no key for the scope
+-- a map is shared if its table has no key for the scope
 abbrev pub scope_or_shared : Option Data → Option Scope
 scope_or_shared None = Some Shared
 scope_or_shared (Some d) = scope_of d
@@ -66,20 +66,20 @@ abbrev pub keys_in : Members → List (List ℕ)
 keys_in no_members = []
 keys_in (member key value rest) = key ∷ keys_in rest
 
--- a configuration has no other keys
+-- a key that a configuration may have
 abbrev pub is_key : List ℕ → Bool
 is_key text =
     bytes_eq text (codes "bssid") || (bytes_eq text (codes "ssid")
     || (bytes_eq text (codes "rates") || (bytes_eq text (codes "draw")
     || bytes_eq text (codes "map"))))
 
--- a map has no other keys
+-- a key that a map's table may have
 abbrev pub is_map_key : List ℕ → Bool
 is_map_key text =
     bytes_eq text (codes "entries") || (bytes_eq text (codes "words")
     || (bytes_eq text (codes "width") || bytes_eq text (codes "scope")))
 
--- a map's table says this shape, and has no other keys
+-- a map's table spells this shape, and has no other keys
 pub record SaysShape (m : Members) (s : Shape) : Type 0 where
   pub keys : list_all is_map_key (keys_in m) ≡ true
   pub entries : option_and_then (count_of 4096) (get_member (codes "entries") m) ≡ Some s.entries
@@ -87,19 +87,19 @@ pub record SaysShape (m : Members) (s : Shape) : Type 0 where
   pub width : option_and_then width_of (get_member (codes "width") m) ≡ Some s.width
   pub scope : scope_or_shared (get_member (codes "scope") m) ≡ Some s.scope
 
--- the item is a table that says this shape
+-- the item is a table that spells this shape
 abbrev pub SaysMap : Data → Shape → Type 0
 SaysMap (table m) s = SaysShape m s
 SaysMap _ s = ⊥
 
--- each item is the table of the shape in its place
+-- each item is a table that spells the shape at its index
 abbrev pub SaysShapes : Items → List Shape → Type 0
 SaysShapes no_items [] = Unit {0}
 SaysShapes no_items (s ∷ shapes) = ⊥
 SaysShapes (item d rest) [] = ⊥
 SaysShapes (item d rest) (s ∷ shapes) = SaysMap d s × SaysShapes rest shapes
 
--- at most 16 tables; none where the key is missing
+-- at most 16 tables; none if the key is missing
 abbrev pub SaysMaps : Option Data → List Shape → Type 0
 SaysMaps None shapes = shapes ≡ []
 SaysMaps (Some (array maps)) shapes = (length shapes ≤ 16) × SaysShapes maps shapes

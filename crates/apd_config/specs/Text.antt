@@ -1,4 +1,4 @@
--- Which text is a configuration, and what its faults say of it.
+-- Which texts are configurations, and what faults say of them.
 use Rattle.std.specs.Prelude.{◌≡◌, ◌≢◌, ℕ, ◌&&◌, Bool, true, false, nat_le, List, codes, suc, Some, None, option_and_then, string_bytes, Contains, IsUtf8}
 use Rattle.std.specs.List.{list_all}
 use Rattle.toml.specs.Data.{Data, array, table, Items, no_items, item, Members, get_member, get_item}
@@ -15,7 +15,7 @@ use Rattle.apd_config.specs.declared.fault.ConfigFault.{ConfigFault}
 use Rattle.apd_config.specs.declared.fault.ConfigFault.TheVariants as fault
 use Rattle.apd_config.specs.declared.configuration.Configuration.{Configuration}
 
--- the table says the configuration
+-- the table spells the configuration
 pub record Says (t : Members) (c : Configuration) : Type 0 where
   pub keys : list_all is_key (keys_in t) ≡ true
   pub bssid : option_and_then bssid_of (get_member (codes "bssid") t) ≡ Some c.bssid
@@ -53,7 +53,7 @@ abbrev pub are_maps : Data → Bool
 are_maps (array maps) = nat_le (count_items maps) 16 && are_tables maps
 are_maps _ = false
 
--- the data is no value of the key
+-- the data isn't allowed as the key's value
 abbrev pub IsNoValue : Key → Data → Type 0
 IsNoValue top.Bssid d = bssid_of d ≡ None
 IsNoValue top.Ssid d = ssid_of d ≡ None
@@ -61,35 +61,35 @@ IsNoValue top.Rates d = rates_of d ≡ None
 IsNoValue top.Draw d = draw_of d ≡ None
 IsNoValue top.Map d = are_maps d ≡ false
 
--- the data is no value of a map's key
+-- the data isn't allowed as the value of a map's key
 abbrev pub IsNoMapValue : MapKey → Data → Type 0
 IsNoMapValue in_map.Entries d = count_of 4096 d ≡ None
 IsNoMapValue in_map.Words d = count_of 8 d ≡ None
 IsNoMapValue in_map.Width d = width_of d ≡ None
 IsNoMapValue in_map.Scope d = scope_of d ≡ None
 
--- the table has a key that is none of those known
+-- the table has this key, which isn't known
 pub record HasUnknownKey (t : Members) (known : List ℕ → Bool) (text : List ℕ) : Type 0 where
   pub there : Contains (keys_in t) text
   pub unknown : known text ≡ false
 
--- the key is one that every table of its kind has
+-- the table lacks the key
 abbrev pub LacksKey : Members → List ℕ → Type 0
 LacksKey t text = get_member text t ≡ None
 
--- the table has the key, with data that is no value of it
+-- the table has the key, with data that isn't allowed
 pub record HasBadValue (t : Members) (k : Key) : Type 0 where
   pub value : Data
   pub there : get_member (text_of k) t ≡ Some value
   pub bad : IsNoValue k value
 
--- a map's table has the key, with data that is no value of it
+-- a map's table has the key, with data that isn't allowed
 pub record HasBadMapValue (m : Members) (k : MapKey) : Type 0 where
   pub value : Data
   pub there : get_member (map_text_of k) m ≡ Some value
   pub bad : IsNoMapValue k value
 
--- what a fault says of the table of the map with that number
+-- what a fault says of the table of map `number`
 abbrev pub TellsOfMap : Members → ℕ → ConfigFault → Type 0
 TellsOfMap m number (fault.UnknownMapKey map key) =
     (map ≡ number) × HasUnknownKey m is_map_key (string_bytes key)
@@ -99,7 +99,7 @@ TellsOfMap m number (fault.ValueInMap map key) = (map ≡ number) × HasBadMapVa
 TellsOfMap m number fault.NoMemory = Unit {0}
 TellsOfMap m number _ = ⊥
 
--- what a fault says of the item of the map with that number
+-- what a fault says of the item of map `number`
 abbrev pub TellsOfItem : Data → ℕ → ConfigFault → Type 0
 TellsOfItem d number (fault.Value key) = (key ≡ top.Map) × (is_table d ≡ false)
 TellsOfItem d number fault.NoMemory = Unit {0}
@@ -118,7 +118,7 @@ pub record TellsOfSomeMap (t : Members) (f : ConfigFault) : Type 0 where
   pub there : get_member (codes "map") t ≡ Some (array maps)
   pub tells : TellsOfSomeItem maps f
 
--- what a fault says of the items of the key for maps
+-- what a fault says of the items of the key `map`
 abbrev pub TellsOfItems : Items → ConfigFault → Type 0
 TellsOfItems maps (fault.Value key) = (key ≡ top.Map) × (are_tables maps ≡ false)
 TellsOfItems maps fault.NoMemory = Unit {0}
@@ -134,13 +134,13 @@ Tells t fault.Encoding = ⊥
 Tells t (fault.Syntax message) = ⊥
 Tells t f = TellsOfSomeMap t f
 
--- what the fault of a text that the TOML reader refused says of the reader's error
+-- what a fault says of the TOML reader's error
 abbrev pub TellsOfError : Error → ConfigFault → Type 0
 TellsOfError e (fault.Syntax message) = IsMemory e → ⊥
 TellsOfError e fault.NoMemory = Unit {0}
 TellsOfError e _ = ⊥
 
--- what a fault says of the text; want of memory says nothing
+-- what a fault says of the text; lack of memory says nothing
 abbrev pub TellsOfText : List ℕ → ConfigFault → Type 0
 TellsOfText text fault.Encoding = IsUtf8 text → ⊥
 TellsOfText text (fault.Syntax message) = parse_document text ≡ None

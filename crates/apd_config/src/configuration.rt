@@ -1,10 +1,10 @@
-//! What an access point is configured with.
+//! The configuration of an access point.
 
 ghost use Rattle.std.specs.Prelude.{◌≡◌, ◌≤◌, ◌<◌, ◌^◌, ◌%◌, ◌==◌, slice_index, vec_len};
 
 use bpf_regions::Shapes;
 
-/// What an access point is configured with.
+/// The configuration of an access point.
 #[derive(Debug, Drop)]
 pub struct Configuration {
     /// The access point's address.
@@ -13,9 +13,9 @@ pub struct Configuration {
     pub ssid: Vec<u8>,
     /// The rates of the Supported Rates element: 1 to 8 bytes (IEEE 802.11-2016, 9.4.2.3).
     pub rates: Vec<u8>,
-    /// The draw word that each worker begins with, below 2^63.
+    /// The first number of each worker's draw sequence, below 2^63.
     pub draw: u64,
-    /// The maps' shapes, by number.
+    /// The maps' shapes; a map's number is its index.
     pub maps: Shapes,
     ghost ssid_fits: { vec_len ssid ≤ 32 },
     ghost some_rates: { 1 ≤ vec_len rates },
@@ -24,7 +24,7 @@ pub struct Configuration {
 }
 
 impl Configuration {
-    /// Whether the access point's address is that of a group (the low bit of its first octet).
+    /// Whether the access point's address is a group address (the low bit of its first octet is set).
     pub fn is_for_group(&self) -> bool
         ensures { result ≡ (slice_index self.now.bssid 0 % 2 == 1) }
     {

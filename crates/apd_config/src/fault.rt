@@ -1,4 +1,4 @@
-//! Why a text is no configuration.
+//! Why a text isn't a configuration.
 
 ghost use Rattle.std.specs.Prelude.{◌≡◌, ◌⊎◌, IfOk, IfErr, string_bytes};
 ghost use Rattle.apd_config.specs.declared.fault.ConfigFault.TheVariants.{NoMemory};
@@ -7,14 +7,13 @@ use crate::keys::{Key, MapKey};
 use std::alloc::{AllocError, AllocFailed, Global};
 use thiserror::Error;
 
-/// Why a text is no configuration. Each fault of a key names it, and each fault in a map its
-/// number, counted from 0.
+/// Why a text isn't a configuration. A fault of a key names it; a fault in a map has its number, counted from 0.
 #[derive(Debug, Drop, Error)]
 pub enum ConfigFault {
     /// The text isn't UTF-8.
     #[error("not UTF-8")]
     Encoding,
-    /// The text isn't TOML: where, and why.
+    /// The text isn't TOML: the position and the reason.
     #[error("{0}")]
     Syntax(String),
     /// A key that no configuration has.
@@ -22,7 +21,7 @@ pub enum ConfigFault {
     UnknownKey(String),
     #[error("`{}` is missing", .0.as_str())]
     Missing(Key),
-    /// The key's value isn't what it has to be.
+    /// The key's value isn't allowed.
     #[error("`{}` must be {}", .0.as_str(), .0.wanted())]
     Value(Key),
     /// A key that no map has.
@@ -30,7 +29,7 @@ pub enum ConfigFault {
     UnknownMapKey { map: usize, key: String },
     #[error("map {map}: `{}` is missing", .key.as_str())]
     MissingInMap { map: usize, key: MapKey },
-    /// The key's value in a map isn't what it has to be.
+    /// The key's value in a map isn't allowed.
     #[error("map {map}: `{}` must be {}", .key.as_str(), .key.wanted())]
     ValueInMap { map: usize, key: MapKey },
     #[error("out of memory")]

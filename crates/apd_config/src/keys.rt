@@ -27,7 +27,7 @@ impl Key {
         }
     }
 
-    /// What the key's value has to be, in words for the operator.
+    /// What the key's value must be, in words for the operator.
     pub(crate) fn wanted(self) -> &'static str {
         match self {
             Key::Bssid => "12 hex digits",
@@ -61,7 +61,7 @@ impl MapKey {
         }
     }
 
-    /// What the key's value has to be, in words for the operator.
+    /// What the key's value must be, in words for the operator.
     pub(crate) fn wanted(self) -> &'static str {
         match self {
             MapKey::Entries => "1 to 4096",

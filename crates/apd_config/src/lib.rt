@@ -1,10 +1,9 @@
 //! The configuration of an access point, read from TOML.
 //!
-//! Main call: `read_configuration`. It stands on `toml`, `hex` and `bpf_regions`. It answers a
-//! `Configuration` only where the text is a text of it: the access point's address, the network's
-//! name and rates, the shapes of the maps, the word that is drawn first; otherwise a `ConfigFault`
-//! that the text has, with the key that is at fault. `fault_text` says it in words, with the line.
-//! `laws::faultless_law`: the text of a configuration has no fault.
+//! Main call: `read_configuration`. It depends on `toml`, `hex` and `bpf_regions`. It returns a `Configuration` only if
+//! the text spells it: the access point's address, the network's name and rates, the shapes of the maps, and the first
+//! number drawn. Otherwise it returns a `ConfigFault` that the text has, with the faulty key. `fault_text` says it in
+//! words, with its line if found. `laws::faultless_law`: the text of a configuration has no fault.
 #![tactic(auto)]
 
 mod configuration;

@@ -17,7 +17,6 @@ use std::alloc::Global;
 use toml::value::Array;
 use toml::{Table, Value};
 
-/// How many maps a configuration has at most.
 const MOST_MAPS: usize = 16;
 
 fn as_count(value: &Value, limit: u32) -> Option<u32>
@@ -52,7 +51,7 @@ fn as_scope(value: &Value) -> Option<Scope>
     }
 }
 
-/// The value of a key that the map's table has to have.
+/// The value of a key that a map's table must have.
 fn value(map: usize, table: &Table, key: MapKey) -> Result<&Value, ConfigFault>
     ensures found { IfOk result
         (λ v. get_member (map_text_of key) (table_view table.now) ≡ Some (view v.now)) }
@@ -110,7 +109,7 @@ fn width(map: usize, table: &Table) -> Result<WordWidth, ConfigFault>
     }
 }
 
-/// The scope, shared where the table doesn't say it.
+/// The scope; shared if the table has no key for it.
 fn scope(map: usize, table: &Table) -> Result<Scope, ConfigFault>
     ensures value { IfOk result
         (λ s. scope_or_shared (get_member (codes "scope") (table_view table.now)) ≡ Some s) }
@@ -142,7 +141,7 @@ fn unknown_key(table: &Table) -> Option<&String>
     table.keys().find(|key| !is_map_key(key.as_str()))
 }
 
-/// Tests that the map's table has no other keys.
+/// Checks that a map's table has no other keys.
 fn knows_keys(map: usize, table: &Table) -> Result<(), ConfigFault>
     ensures known { OnOk result (list_all is_map_key (keys_in (table_view table.now)) ≡ true) }
     ensures fault { IfErr result (TellsOfMap (table_view table.now) map) }
@@ -156,7 +155,7 @@ fn knows_keys(map: usize, table: &Table) -> Result<(), ConfigFault>
     }
 }
 
-/// The shape that the table of the map with that number says.
+/// The shape that a map's table spells.
 fn shape(map: usize, table: &Table) -> Result<Shape, ConfigFault>
     ensures says { IfOk result (SaysShape (table_view table.now)) }
     ensures fault { IfErr result (TellsOfMap (table_view table.now) map) }
@@ -174,7 +173,7 @@ fn shape(map: usize, table: &Table) -> Result<Shape, ConfigFault>
     })
 }
 
-/// The array of a value that is one, unless it has too many items.
+/// The array that a value is, if it has at most 16 items.
 fn as_few(value: &Value) -> Option<&Array>
     ensures array { IfSome result (λ maps. view value.now ≡ array (array_view maps.now)) }
     ensures few { IfSome result (λ maps. length maps.now.items ≤ 16) }
@@ -186,7 +185,7 @@ fn as_few(value: &Value) -> Option<&Array>
     }
 }
 
-/// The shape that the item of the map with that number says.
+/// The shape that a map's item spells.
 fn shape_of(number: usize, map: &Value) -> Result<Shape, ConfigFault>
     ensures says { IfOk result (SaysMap (view map.now)) }
     ensures fault { IfErr result (TellsOfItem (view map.now) number) }
@@ -197,7 +196,7 @@ fn shape_of(number: usize, map: &Value) -> Result<Shape, ConfigFault>
     }
 }
 
-/// The shapes that the tables say, in their order.
+/// The shapes that the tables spell, in order.
 fn listed(alloc: Global, maps: &Array) -> Result<Vec<Shape>, ConfigFault>
     ensures says { IfOk result (λ shapes. SaysShapes (array_view maps.now) shapes.items) }
     ensures fault { IfErr result (TellsOfItems (array_view maps.now)) }
@@ -220,7 +219,7 @@ fn as_shapes(shapes: Vec<Shape>) -> Shapes
     }
 }
 
-/// The maps' shapes: none where the table has no key for them.
+/// The maps' shapes; none if the table has no key for them.
 pub(crate) fn shapes(alloc: Global, table: &Table) -> Result<Shapes, ConfigFault>
     ensures says { IfOk result (SaysMaps (get_member (codes "map") (table_view table.now))) }
     ensures fault { IfErr result (Tells (table_view table.now)) }

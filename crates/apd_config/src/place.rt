@@ -1,4 +1,4 @@
-//! Where a configuration is at fault, in words for people.
+//! The place of a configuration's fault, in words for people.
 
 use crate::fault::ConfigFault;
 use crate::keys::Key;
@@ -14,15 +14,15 @@ enum Section {
     Other,
 }
 
-/// What is looked for: a key of a section, or where the section begins.
+/// What is sought: a key of a section, or the section's first line.
 #[derive(Clone, Copy)]
 struct Sought<'a> {
     section: Section,
     key: Option<&'a str>,
 }
 
-/// The fault of a text that is no configuration, in words, with the line where it stands, if it stands at one that is
-/// found. Nothing is promised of the words.
+/// The fault of a text that isn't a configuration, in words, with its line if one is found. No contract promises
+/// anything of the words.
 pub fn fault_text(alloc: Global, text: &[u8], fault: &ConfigFault) -> Result<String, AllocError> {
     let more = advice(text, fault);
     match line_of(text, fault) {
@@ -31,7 +31,7 @@ pub fn fault_text(alloc: Global, text: &[u8], fault: &ConfigFault) -> Result<Str
     }
 }
 
-/// The line of a fault, from 1. None where the fault tells it itself, or it has none.
+/// The line of a fault, counted from 1; `None` if the fault's own text has it, or there is none.
 fn line_of(text: &[u8], fault: &ConfigFault) -> Option<u64> {
     let Ok(text) = str::from_utf8(text) else {
         return line_of_encoding(text);
@@ -47,7 +47,7 @@ fn line_of_encoding(text: &[u8]) -> Option<u64> {
     feeds.checked_add(1)
 }
 
-/// What has the fault in a text.
+/// What to seek for a fault.
 fn sought_by(fault: &ConfigFault) -> Option<Sought<'_>> {
     match fault {
         ConfigFault::UnknownKey(key) => Some(Sought {
@@ -74,7 +74,7 @@ fn sought_by(fault: &ConfigFault) -> Option<Sought<'_>> {
     }
 }
 
-/// The first line that has what is looked for.
+/// The first line with what is sought.
 fn line_in(text: &str, sought: Sought<'_>) -> Option<u64> {
     let mut section = Section::Top;
     let mut number: u64 = 0;
@@ -122,7 +122,7 @@ fn has_key(line: &str, key: Option<&str>) -> bool {
     }
 }
 
-/// What more is to be said of a value.
+/// Advice on a value.
 fn advice(text: &[u8], fault: &ConfigFault) -> &'static str {
     match fault {
         ConfigFault::Value(Key::Bssid) if has_colons(text) => ", without colons",

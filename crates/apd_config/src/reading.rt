@@ -1,4 +1,4 @@
-//! A configuration from its text.
+//! Reading a configuration from its text.
 
 ghost use Rattle.std.specs.Prelude.{◌≡◌, true, not, IfOk, IfErr, OnOk, find, option_map, string_bytes};
 ghost use Rattle.std.specs.List.{list_all};
@@ -13,7 +13,7 @@ use std::alloc::{AllocError, Global};
 use std::str;
 use toml::Table;
 
-/// Reads a configuration from its text, which is TOML.
+/// Reads a configuration from its text, which is TOML, or returns a fault that the text has.
 pub fn read_configuration(alloc: Global, text: &[u8]) -> Result<Configuration, ConfigFault>
     ensures read { IfOk result (IsTextOf text.now) }
     ensures faulty { IfErr result (TellsOfText text.now) }
@@ -27,7 +27,7 @@ pub fn read_configuration(alloc: Global, text: &[u8]) -> Result<Configuration, C
     }
 }
 
-/// The configuration that a table says.
+/// The configuration that a table spells.
 fn from_table(alloc: Global, table: &Table) -> Result<Configuration, ConfigFault>
     ensures says { IfOk result (Says (table_view table.now)) }
     ensures fault { IfErr result (Tells (table_view table.now)) }
@@ -61,7 +61,7 @@ fn unknown_key(table: &Table) -> Option<&String>
     table.keys().find(|key| !is_key(key.as_str()))
 }
 
-/// Tests that the table has no other keys.
+/// Checks that the table has no other keys.
 fn knows_keys(table: &Table) -> Result<(), ConfigFault>
     ensures known { OnOk result (list_all is_key (keys_in (table_view table.now)) ≡ true) }
     ensures fault { IfErr result (Tells (table_view table.now)) }
@@ -75,7 +75,7 @@ fn knows_keys(table: &Table) -> Result<(), ConfigFault>
     }
 }
 
-/// The fault of a text that is no TOML, told in one line.
+/// The fault of a text that isn't TOML, in one line.
 fn of_toml(alloc: Global, error: &toml::de::Error) -> ConfigFault
     ensures { TellsOfError error.now result }
 {

@@ -1,4 +1,4 @@
-//! What a TOML table holds at its keys.
+//! Looking up keys of a TOML table.
 
 ghost use Rattle.std.specs.Prelude.{◌≡◌, option_map};
 ghost use Rattle.toml.specs.Data.{get_member};
@@ -6,7 +6,6 @@ ghost use Rattle.toml.specs.View.{view, table_view};
 
 use toml::{Table, Value};
 
-/// The value at a key.
 pub(crate) fn value_at<'t>(table: &'t Table, key: &str) -> Option<&'t Value>
     ensures is { option_map (λ value. view value.now) result
         ≡ get_member key.now (table_view table.now) }

@@ -15,7 +15,7 @@ use hex::{FromHex, FromHexError};
 use std::alloc::Global;
 use toml::{Table, Value};
 
-/// The value of a key that has to be there.
+/// The value of a required key.
 fn value(table: &Table, key: Key) -> Result<&Value, ConfigFault>
     ensures found { IfOk result
         (λ v. get_member (text_of key) (table_view table.now) ≡ Some (view v.now)) }
@@ -105,7 +105,7 @@ pub(crate) fn rates(alloc: Global, table: &Table) -> Result<Vec<u8>, ConfigFault
     }
 }
 
-/// The first draw word, a number from 0 on.
+/// The first number drawn, at least 0.
 pub(crate) fn draw(table: &Table) -> Result<u64, ConfigFault>
     ensures value { IfOk result (λ draw.
         option_and_then draw_of (get_member (codes "draw") (table_view table.now)) ≡ Some draw) }

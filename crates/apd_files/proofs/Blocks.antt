@@ -38,12 +38,12 @@ IsRead-gives front block file left later r gives = elim r.still [
       }
 ]
 
--- more than so many bytes were read
+-- more than `most` bytes were read
 pub longer_read : (most : ℕ) (front : List ℕ) (file : File) (left : Option (List ℕ)) → IsRead front file left → most < length front → IfSome file (IsLonger most)
 longer_read most front None left r more = tt
 longer_read most front (Some f) left r more = (front ++ r.rest, r.whole, simp length-append (omega arith))
 
--- nothing is known of a file of whose rest nothing is known
+-- a file whose rest is unknown is unknown
 unknown_left : (front : List ℕ) (file : File) (left : Option (List ℕ)) → IsRead front file left → left ≡ None → file ≡ None
 unknown_left front file left r none = elim r.still [
   | inl unknown ↦ unknown
@@ -68,7 +68,7 @@ unread_memory : (kind : FileKind) (file : File) (e : FileFault) → e ≡ fault.
 unread_memory kind None e h = tt
 unread_memory kind (Some f) e h = subst (λ x. IsUnread kind x f) (sym h) tt
 
--- nor is one of which no block is read
+-- nor is one whose next block can't be read
 pub unread_block : (kind : FileKind) (front : List ℕ) (file : File) (left : Option (List ℕ)) (e : FileFault) → IsRead front file left → (e ≡ fault.NoMemory) ⊎ (left ≡ None) → IfSome file (IsUnread kind e)
 unread_block kind front file left e r (inl memory) = unread_memory kind file e memory
 unread_block kind front file left e r (inr none) = any_of_unknown (IsUnread kind e) file (unknown_left front file left r none)

@@ -27,7 +27,7 @@ pub Keeps-shorter : (most : ℕ) (whole kept : List ℕ) → most + 16 < length 
 Keeps-shorter most whole kept past (Whole same) = shorter most whole kept (rw (← same) (omega arith)) (rw same refl) past
 Keeps-shorter most whole kept past (Part long longer even) = shorter most whole kept long even past
 
--- the code of the digits that are kept is what is kept of the code of them all
+-- the code of the kept digits is what is kept of the whole code
 halves : (most : ℕ) (whole kept a b : List ℕ) → decode_of whole ≡ Ok a → decode_of kept ≡ Ok b → Keeps (2 * most) 16 whole kept → Keeps most 8 a b
 halves most whole kept a b wa kb (Whole same) =
     Whole (let e : Ok b ≡ Ok a = sym kb ∙ (rw same wa) in cc)
@@ -67,7 +67,7 @@ HoldsKept-decoded kind most files path kept h = record {
 pub IsShort-decoded : (kind : FileKind) (most : ℕ) (files : Held) (path kept : List ℕ) → HasDecoded kind most files path kept → IsShort kind files path
 IsShort-decoded kind most files path kept h = record { text = h.text; there = h.there; short = h.short }
 
--- the code of a text has no more than half as many bytes
+-- the code of a text has at most half as many bytes
 halved : (text code : List ℕ) → code_of text ≡ Ok code → 2 * length code ≤ length text
 halved text code spelled =
     let black : ℕ → Bool = λ byte. not (is_ascii_whitespace byte) in
@@ -79,7 +79,7 @@ whole_by : (most : ℕ) (code kept : List ℕ) → length code ≤ most → Keep
 whole_by most code kept few (Whole same) = same
 whole_by most code kept few (Part long longer even) = absurd (omega (arith, few, long))
 
--- of a certificate's file all is kept
+-- a certificate's file is kept whole
 pub HoldsCode-decoded : (most : ℕ) (files : Held) (path kept : List ℕ) → most_of Certificate ≤ 2 * most → HasDecoded Certificate most files path kept → HoldsCode files path kept
 HoldsCode-decoded most files path kept enough h =
     let few : length h.code ≤ most = omega (arith, halved h.text h.code h.spelled, h.short, enough) in

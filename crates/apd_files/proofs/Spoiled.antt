@@ -1,4 +1,4 @@
--- Texts that are no hex digits in pairs.
+-- Texts that aren't pairs of hex digits.
 use Rattle.std.proofs.Common.{◌≡◌, ◌∙◌, ◌⊎◌, inl, inr, ℕ, ◌%◌, Bool, true, false, List, [], ◌∷◌, ◌++◌, length, refl, sym, ap, subst, append_assoc, Option, slice_index, Result, Ok, Err}
 use Rattle.std.specs.Prelude.{not, filter}
 use Rattle.std.specs.List.{All, AllPass}

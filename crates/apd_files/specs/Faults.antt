@@ -1,4 +1,4 @@
--- Why a file spells no code.
+-- Why a file doesn't spell code.
 use Rattle.std.specs.Prelude.{◌≡◌, ◌≢◌, ◌⊎◌, ◌%◌, List, ℕ, Err, length, slice_index}
 use Rattle.std.specs.List.{AllPass}
 use Rattle.hex.specs.Hex.{is_hex_digit}
@@ -15,12 +15,12 @@ use Rattle.apd_files.specs.declared.inputs.code.CodeFault.TheVariants.{Unreadabl
 use Rattle.apd_files.specs.declared.inputs.code.DigitFault.{DigitFault}
 use Rattle.apd_files.specs.declared.inputs.code.DigitFault.TheVariants.{Foreign, Odd}
 
--- what the text has in place of hex digits in pairs; of the line nothing is said
+-- why the text isn't pairs of hex digits; the line isn't specified
 abbrev pub Spoils : DigitFault → List ℕ → Type 0
 Spoils (Foreign line byte) text = IsFirstForeign byte text
 Spoils Odd text = AllPass is_hex_digit (digits_of text) × (length (digits_of text) % 2 ≡ 1)
 
--- the file holds no hex digits in pairs, for this fault
+-- the file doesn't hold pairs of hex digits, for this fault
 pub record HoldsNoCode (files : Held) (path : List ℕ) (fault : DigitFault) : Type 0 where
   pub text : List ℕ
   pub there : Holds files path text
@@ -28,18 +28,18 @@ pub record HoldsNoCode (files : Held) (path : List ℕ) (fault : DigitFault) : T
   pub why : FromHexError
   pub refused : code_of text ≡ Err why
 
--- the fault is that of the file of this kind; of memory nothing is said
+-- the fault is one that the file of this kind has; lack of memory says nothing
 abbrev pub IsFaultOf : FileKind → Held → List ℕ → CodeFault → Type 0
 IsFaultOf kind files path (Unreadable why) = Lacks kind files path
 IsFaultOf kind files path (Digits fault) = HoldsNoCode files path fault
 IsFaultOf kind files path NoMemory = Unit {0}
 
--- why a file isn't read is told as it is, or as want of memory
+-- the fault of reading a file is kept as it is, or becomes lack of memory
 abbrev pub IsTold : FileFault → CodeFault → Type 0
 IsTold why told =
     (told ≡ NoMemory) ⊎ ((why ≢ file_fault.NoMemory) × (told ≡ Unreadable why))
 
--- the fault of a file is that of its block: the byte, or want of memory
+-- the fault of a file is that of its block: the byte, or lack of memory
 abbrev pub Tells : List ℕ → BlockFault → CodeFault → Type 0
 Tells block block_fault.NoMemory fault = fault ≡ NoMemory
 Tells block (block_fault.Foreign at) fault =

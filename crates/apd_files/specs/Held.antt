@@ -8,7 +8,7 @@ use Rattle.apd_files.specs.declared.inputs.files.FileFault.{FileFault}
 use Rattle.apd_files.specs.declared.inputs.files.FileFault.TheVariants as fault
 use Rattle.apd_files.specs.declared.inputs.files.FileKind.{FileKind}
 
--- What is known of files, by their paths: nothing, or the file's bytes, or that there is none to be read.
+-- What is known of files, by path: nothing, the file's bytes, or that it can't be read.
 abbrev pub Held : Type 0
 Held = List ℕ → Option (Option (List ℕ))
 
@@ -16,15 +16,15 @@ Held = List ℕ → Option (Option (List ℕ))
 abbrev pub Holds : Held → List ℕ → List ℕ → Type 0
 Holds files path bytes = IfSome (files path) (λ file. file ≡ Some bytes)
 
--- the file has more bytes than so many
+-- the file has more than `most` bytes
 abbrev pub IsLonger : ℕ → Option (List ℕ) → Type 0
 IsLonger most file = (bytes : List ℕ) × (file ≡ Some bytes) × (most < length bytes)
 
--- there is no file, or it has more bytes than are read of one of its kind
+-- there is no file, or it has more bytes than one of its kind may have
 abbrev pub IsNoInput : FileKind → Option (List ℕ) → Type 0
 IsNoInput kind file = (file ≡ None) ⊎ IsLonger (most_of kind) file
 
--- why a file isn't opened: there is none; of memory nothing is said
+-- why a file isn't opened: it can't be read; lack of memory says nothing
 abbrev pub IsUnopened : FileFault → Option (List ℕ) → Type 0
 IsUnopened fault.NoMemory file = Unit {0}
 IsUnopened (fault.TooLong most) file = ⊥
@@ -34,7 +34,7 @@ IsUnopened fault.NotAllowed file = file ≡ None
 IsUnopened fault.Failed file = file ≡ None
 IsUnopened fault.Taken file = file ≡ None
 
--- why a file of the kind isn't read: it is too long, or there is none; of memory nothing is said
+-- why a file of the kind isn't read: it is too long, or can't be read; lack of memory says nothing
 abbrev pub IsUnread : FileKind → FileFault → Option (List ℕ) → Type 0
 IsUnread kind fault.NoMemory file = Unit {0}
 IsUnread kind (fault.TooLong most) file = (most ≡ most_of kind) × IsLonger (most_of kind) file
@@ -44,11 +44,11 @@ IsUnread kind fault.NotAllowed file = file ≡ None
 IsUnread kind fault.Failed file = file ≡ None
 IsUnread kind fault.Taken file = file ≡ None
 
--- no file of the kind can be read there, as far as is known
+-- no file of the kind can be read at the path, as far as is known
 abbrev pub Lacks : FileKind → Held → List ℕ → Type 0
 Lacks kind files path = IfSome (files path) (IsNoInput kind)
 
--- the hex digits of a text: all but its white space
+-- the hex digits of a text: everything but its white space
 abbrev pub digits_of : List ℕ → List ℕ
 digits_of text = filter (λ byte. not (is_ascii_whitespace byte)) text
 
@@ -62,21 +62,21 @@ pub record HoldsCode (files : Held) (path code : List ℕ) : Type 0 where
   pub there : Holds files path text
   pub spelled : code_of text ≡ Ok code
 
--- what is kept of a list: all of it, or where it is longer than `most` something that is, too, and whose
--- length leaves the same remainder
+-- what is kept of a list: all of it, or, if it is longer than `most`, a list that also is, with the same length mod
+-- `unit`
 pub data Keeps (most unit : ℕ) (whole kept : List ℕ) : Type 0 where
   Whole : kept ≡ whole → Keeps most unit whole kept
   Part : most < length whole → most < length kept → length kept % unit ≡ length whole % unit →
       Keeps most unit whole kept
 
--- the file spells code of which this is kept: all, or where it has more than `most` bytes some more than
--- that, with the same length but for whole slots of 8 bytes
+-- the file spells code of which this is kept: all of it, or, if it has more than `most` bytes, a list of more than
+-- `most` bytes with the same length mod 8
 pub record HoldsKept (most : ℕ) (files : Held) (path kept : List ℕ) : Type 0 where
   pub code : List ℕ
   pub held : HoldsCode files path code
   pub keeps : Keeps most 8 code kept
 
--- what was written to files, by their paths, as far as is known
+-- the files that were written, by path, as far as is known
 abbrev pub Saved : Type 0
 Saved = Option (List (List ℕ × List ℕ))
 

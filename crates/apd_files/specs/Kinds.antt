@@ -1,9 +1,9 @@
--- How much is read of a file.
+-- Limits of files.
 use Rattle.std.specs.Prelude.{ℕ, ◌^◌}
 use Rattle.apd_files.specs.declared.inputs.files.FileKind.{FileKind}
 use Rattle.apd_files.specs.declared.inputs.files.FileKind.TheVariants.{Configuration, Code, Certificate, Text, Capture, Script}
 
--- so many bytes at most, by what it is read for: 1 MiB, 16 MiB, 256 MiB or 1 GiB
+-- the most bytes of a file, by kind: 1 MiB, 16 MiB, 256 MiB or 1 GiB
 abbrev pub most_of : FileKind → ℕ
 most_of Configuration = 2 ^ 20
 most_of Code = 2 ^ 30

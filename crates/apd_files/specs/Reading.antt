@@ -1,4 +1,4 @@
--- Files as they are read, block by block.
+-- Reading files block by block.
 use Rattle.std.specs.Prelude.{◌≡◌, ◌⊎◌, ◌<◌, ◌≤◌, ℕ, List, [], ◌∷◌, ◌++◌, length, slice_index, Option, Some, None, IfSome, Ok, false}
 use Rattle.std.specs.List.{AllPass}
 use Rattle.std.specs.Char.{is_ascii_whitespace}
@@ -9,39 +9,38 @@ use Rattle.apd_files.specs.declared.inputs.files.FileKind.{FileKind}
 use Rattle.apd_files.specs.declared.inputs.digits.BlockFault.{BlockFault}
 use Rattle.apd_files.specs.declared.inputs.digits.BlockFault.TheVariants.{Foreign, NoMemory}
 
--- of a file that is known all is to come once it is open, and one that is known to be none isn't opened
+-- all bytes of a known file are unread when it opens; a file known to be unreadable doesn't open
 abbrev pub Opens : Option (Option (List ℕ)) → Option (List ℕ) → Type 0
 Opens None left = Unit {0}
 Opens (Some None) left = ⊥
 Opens (Some (Some bytes)) left = left ≡ Some bytes
 
--- the block is the beginning of what was to come, of which the rest is to come; it is empty only at the end
+-- the block is a prefix of the unread bytes, and the rest is still unread; it is empty only at the end
 pub record Splits (block bytes : List ℕ) (left : Option (List ℕ)) : Type 0 where
   pub rest : List ℕ
   pub split : bytes ≡ block ++ rest
   pub still : left ≡ Some rest
   pub last : block ≡ [] → rest ≡ []
 
--- the same, as far as is known what was to come
+-- the same, if the unread bytes are known
 abbrev pub Gives : List ℕ → Option (List ℕ) → Option (List ℕ) → Type 0
 Gives block None left = Unit {0}
 Gives block (Some bytes) left = Splits block bytes left
 
--- so far these bytes of the file were read, and the rest is to come
+-- these bytes of the file were read, and the rest is unread
 pub record IsRead
     (front : List ℕ) (file : Option (Option (List ℕ))) (left : Option (List ℕ)) : Type 0 where
   pub rest : List ℕ
   pub whole : IfSome file (λ f. f ≡ Some (front ++ rest))
   pub still : (file ≡ None) ⊎ (left ≡ Some rest)
 
--- these digits are kept of a text that has no others but white space
+-- these digits are kept of a text that otherwise has only white space
 pub record Collects (most : ℕ) (text digits : List ℕ) : Type 0 where
   pub all : AllPass is_hex_digit (digits_of text)
   pub kept_all : AllPass is_hex_digit digits
   pub keeps : Keeps most 16 (digits_of text) digits
 
--- whatever text's digits were the old ones, those of the text with these bytes behind it are the new
--- ones
+-- if the old digits are those of any text, the new ones are those of the text followed by these bytes
 pub record Adds (most : ℕ) (bytes old new : List ℕ) : Type 0 where
   pub adds : (front : List ℕ) → Collects most front old → Collects most (front ++ bytes) new
 
@@ -58,18 +57,18 @@ pub record IsFirstForeign (byte : ℕ) (text : List ℕ) : Type 0 where
   pub fine : AllPass is_hex_digit (digits_of before)
   pub foreign : IsForeign byte
 
--- the same, of a block behind a text whose digits were collected, by the byte's place in the block
+-- the same for a block after a text whose digits were collected, by the byte's index in the block
 pub record Stops (most : ℕ) (digits block : List ℕ) (at : ℕ) : Type 0 where
   pub within : at < length block
   pub first : (front : List ℕ) → Collects most front digits →
       IsFirstForeign (slice_index block at) (front ++ block)
 
--- behind a text whose digits were collected the block has the first byte that is none at this place
+-- the fault of a block after a text whose digits were collected
 abbrev pub StopsAt : ℕ → List ℕ → List ℕ → BlockFault → Type 0
 StopsAt most digits block NoMemory = Unit {0}
 StopsAt most digits block (Foreign at) = Stops most digits block at
 
--- a place that is named is one of the block
+-- an index in the fault is one of the block
 abbrev pub IsWithin : List ℕ → BlockFault → Type 0
 IsWithin block NoMemory = Unit {0}
 IsWithin block (Foreign at) = at < length block
@@ -82,7 +81,7 @@ pub record HasCollected
   pub short : length text ≤ most_of kind
   pub collects : Collects most text digits
 
--- what is kept of the code that the text of a file of this kind spells
+-- the bytes kept of the code that the text of a file of this kind spells
 pub record HasDecoded
     (kind : FileKind) (most : ℕ) (files : Held) (path kept : List ℕ) : Type 0 where
   pub text : List ℕ
@@ -92,7 +91,7 @@ pub record HasDecoded
   pub spelled : code_of text ≡ Ok code
   pub keeps : Keeps most 8 code kept
 
--- the file has a text that is no longer than one of its kind may be
+-- the file has a text, no longer than its kind may be
 pub record IsShort (kind : FileKind) (files : Held) (path : List ℕ) : Type 0 where
   pub text : List ℕ
   pub there : Holds files path text

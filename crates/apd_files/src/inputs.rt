@@ -1,9 +1,9 @@
-//! Files, and the bytes that their hex digits spell.
+//! Reading files, and decoding their hex digits.
 //!
-//! Main calls: `Files`, `read_whole`, `read_code` and `read_certificate`. It stands on `hex`. Files are read
-//! block by block, and no more of them is kept than their kind may have; of code no more than decides what
-//! is said of it. Of files a caller may know what they hold: then what is read is that, and what is refused
-//! is at fault. Of the system's own files no contract speaks.
+//! Main calls: `Files`, `read_whole`, `read_code` and `read_certificate`. It depends on `hex`. Files are read block by
+//! block, and kept only up to the limit of their kind; of code, only as much is kept as decides its verdict. A caller
+//! may know files' contents. The contracts then say that results are those contents, and that a refusal names a fault
+//! of them. No contract says what the system's own files hold.
 mod code;
 mod digits;
 mod files;

@@ -1,8 +1,8 @@
-//! What `apd` reads and writes: code, certificates and other files, whole or by blocks, and what is written of an output.
+//! The files of `apd`: code, certificates and others, read whole or by blocks, and written outputs.
 //!
-//! `RealFiles` are the files of the system, as the program has them: they are read in blocks of 64 KiB. `Files` is what the
-//! commands ask of files; `read_code`, `read_certificate` and `read_whole` read one, and `write_whole` writes. Of what files
-//! hold no clause says anything: that they are really read and written is shown by the programs that the gate runs.
+//! Main calls: `read_code`, `read_certificate` and `read_whole` read a file, and `write_whole` writes to a writer. The
+//! commands access files by the trait `Files`; `RealFiles` are the system's, read in blocks of 64 KiB. No contract says
+//! what those hold: programs that the gate runs show that they are really read and written.
 #![tactic(auto)]
 
 mod inputs;

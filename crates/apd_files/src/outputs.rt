@@ -1,20 +1,19 @@
-//! Writes an answer to a writer: the whole text, or a beginning of it where a write fails.
+//! Writing a text to a writer.
 //!
-//! Main call: `write_whole`. It stands on nothing but std. Ok says that the whole text was
-//! appended; in any case what was appended is a beginning of it. An interrupted write is tried
-//! again. What a file or a terminal makes of the bytes no contract says.
+//! Main call: `write_whole`. It depends only on std. No contract says what a file or a terminal does with the bytes.
 ghost use Rattle.std.specs.Prelude.{OnOk};
 ghost use Rattle.std.specs.Io.KnownBytes.{Appends};
 ghost use Rattle.apd_files.specs.Beginning.{AppendsBeginning};
 
 use std::io::{ErrorKind, Write};
 
-/// A writer took no more before the whole text was taken, for this reason.
+/// A writer stopped taking bytes before the end of the text, for this reason.
 #[derive(Clone, Copy, Debug, PartialEq, Eq)]
 pub struct Unwritten(pub ErrorKind);
 
-/// Writes the text in as many writes as the writer wants. A write that was interrupted is tried
-/// again; any other failure, and a write that takes nothing, ends it.
+/// Writes the text in as many writes as the writer needs. `Ok` says that the whole text was appended; otherwise a
+/// prefix of it was. An interrupted write is repeated; any other failure, or a write that takes no bytes, ends the
+/// call.
 pub fn write_whole<W: Write>(writer: &mut W, text: &[u8]) -> Result<(), Unwritten>
     ensures whole { OnOk result (Appends (W.contents writer.old) (W.contents writer.new) text.now) }
     ensures beginning { AppendsBeginning (W.contents writer.old) (W.contents writer.new) text.now }

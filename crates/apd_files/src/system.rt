@@ -1,8 +1,4 @@
-//! The files of the system, as `apd` reads and writes them.
-//!
-//! `RealFiles` is what the commands are given by the program: it reads in blocks of 64 KiB. It stands on
-//! `Files`. Of what files hold no clause says anything: that they are really read is shown by the
-//! programs that the gate runs.
+//! The files of the system.
 ghost use Rattle.std.specs.Prelude.{◌≡◌, true, Err};
 
 use crate::inputs::{FileFault, Files};
@@ -11,11 +7,10 @@ use std::alloc::Global;
 use std::io::{Error, ErrorKind, Input, Read};
 use std::{fs, rt};
 
-/// How many bytes a block has at most.
 const BLOCK: usize = 1 << 16;
 
-/// The files of the system, from the working directory, of which at most one is open, and standard input, by the path `-`,
-/// which is opened once. Of what they hold nothing is known.
+/// The files of the system, relative to the working directory, at most one of which is open. The path `-` is standard
+/// input, which opens once. Nothing is known of what they hold.
 #[derive(Drop)]
 pub struct RealFiles<'a, R: rt::Files + Input + AllocGlobal> {
     rt: &'a R,
@@ -25,7 +20,7 @@ pub struct RealFiles<'a, R: rt::Files + Input + AllocGlobal> {
 }
 
 impl<'a, R: rt::Files + Input + AllocGlobal> RealFiles<'a, R> {
-    /// The files, of which none is open.
+    /// The files; none is open.
     pub fn new(rt: &'a R) -> Self {
         RealFiles {
             rt,
@@ -35,7 +30,7 @@ impl<'a, R: rt::Files + Input + AllocGlobal> RealFiles<'a, R> {
         }
     }
 
-    /// Opens standard input, unless it was opened before.
+    /// Opens standard input, unless it was opened earlier: then `Taken`.
     fn open_input(&mut self) -> Result<(), FileFault>
         ensures taken { self.new.input_is_taken ≡ true }
         ensures once { self.old.input_is_taken ≡ true → result ≡ Err FileFault.Taken }
@@ -72,7 +67,7 @@ fn fault_of(error: &Error) -> FileFault {
     }
 }
 
-/// The next bytes of a reader, none at its end. A read that was interrupted is tried again.
+/// The next bytes of a reader, none at its end. An interrupted read is repeated.
 fn block_of<F: Read>(alloc: Global, file: &mut F) -> Result<Vec<u8>, FileFault> {
     let Ok(mut block) = vec![in alloc; 0u8; BLOCK] else {
         return Err(FileFault::NoMemory);

@@ -3,7 +3,7 @@ use Rattle.std.proofs.Common.{◌≡◌, ℕ, List, Bool, true, false, Option, r
 use Rattle.ap_books.specs.Counts.{Counts}
 use Rattle.apd_run.specs.Shows.{Nothing, Before, Breaks, is_over}
 
--- where no line was refused a run goes on
+-- if no line was refused, a run goes on
 pub goes_on : (strict : Bool) → is_over strict false ≡ false
 goes_on true = refl
 goes_on false = refl

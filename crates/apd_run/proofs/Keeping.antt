@@ -1,4 +1,4 @@
--- What changes of tokens and of loads keep.
+-- What changes of tokens and of loads preserve.
 use Rattle.std.proofs.Common.{◌≡◌, ℕ, sym, ap, subst, ◌∙◌}
 use Rattle.ap_books.specs.Holdings.{Holding, HasParts}
 use Rattle.ap_shards.specs.Tokens.{Eight, holding_of}

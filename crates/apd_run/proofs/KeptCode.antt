@@ -1,4 +1,4 @@
--- Code of which a part is kept.
+-- Code that is kept in part.
 use Rattle.std.proofs.Common.{◌≡◌, ℕ, ◌*◌, ◌/◌, ◌%◌, ◌^◌, ◌<◌, ◌≤◌, List, length, subst, arith}
 use Rattle.bpf_regions.specs.declared.hooks.Hook.{Hook}
 use Rattle.bpf_regions.specs.declared.maps.Shape.{Shape}
@@ -11,7 +11,7 @@ use Rattle.apd_text.specs.declared.reports.report.Told.{Told}
 use Rattle.apd_run.specs.Loading as load
 use Rattle.apd_run.specs.Adopting as adopt
 
--- code past the longest has the fault of what is kept of it
+-- code beyond the longest has the same fault as its kept part
 refuses : (code kept : List ℕ) (shapes : List Shape) (e : DecodeFault) → 2 ^ 17 < length code → 2 ^ 17 < length kept → length kept % 8 ≡ length code % 8 → Refuses kept shapes e → Refuses code shapes e
 refuses code kept shapes fault.NoMemory long longer even r = tt
 refuses code kept shapes fault.Length long longer even r = λ h. r (omega (arith, h, even))

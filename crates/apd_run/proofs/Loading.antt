@@ -1,4 +1,4 @@
--- What loads leave as it is.
+-- What loads leave unchanged.
 use Rattle.std.proofs.Common.{◌≡◌, ℕ, List, ap, refl}
 use Rattle.bpf_regions.specs.declared.hooks.Hook.{Hook}
 use Rattle.bpf_decode.specs.Program.{Code}
@@ -39,7 +39,7 @@ code_told limit hook code a b _ (Decoded program told spells shapes loads) = pro
 code_told limit hook code a b _ (NotDecoded fault other refuses is) = refl
 code_told limit hook code a b _ (NoRoomToDecode is) = refl
 
--- what is told of a load counts nothing
+-- the report on a load counts nothing
 pub file_told : (files : Held) (limit : ℕ) (hook : Hook) (path : List ℕ) (a b : Beginning) (told : Told) → LoadsFile files limit hook path a b told → told_counts told ≡ none
 file_told files limit hook path a b _ (Read code told holds loads) = code_told limit hook code a b told loads
 file_told files limit hook path a b _ (NotRead fault other is_fault is) = refl
@@ -56,7 +56,7 @@ adopted_code_list hook code certificate a b _ (adopting.Decoded program told spe
 adopted_code_list hook code certificate a b _ (adopting.NotDecoded fault other refuses is) = same_list b a is
 adopted_code_list hook code certificate a b _ (adopting.NoRoomToDecode is) = same_list b a is
 
--- and so it is after an adoption
+-- and it is after an adoption
 pub adopted_file_list : (files : Held) (hook : Hook) (path shown : List ℕ) (a b : Beginning) (told : Told) → adopting.AdoptsFiles files hook path shown a b told
     → b.list ≡ a.list
 adopted_file_list files hook path shown a b _ (adopting.Read code certificate told holds shows adopts) = adopted_code_list hook code certificate a b told adopts
@@ -75,7 +75,7 @@ adopted_code_told hook code certificate a b _ (adopting.Decoded program told spe
 adopted_code_told hook code certificate a b _ (adopting.NotDecoded fault other refuses is) = refl
 adopted_code_told hook code certificate a b _ (adopting.NoRoomToDecode is) = refl
 
--- what is told of an adoption counts nothing
+-- the report on an adoption counts nothing
 pub adopted_file_told : (files : Held) (hook : Hook) (path shown : List ℕ) (a b : Beginning) (told : Told) → adopting.AdoptsFiles files hook path shown a b told
     → told_counts told ≡ none
 adopted_file_told files hook path shown a b _ (adopting.Read code certificate told holds shows adopts) = adopted_code_told hook code certificate a b told adopts

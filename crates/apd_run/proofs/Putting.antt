@@ -1,4 +1,4 @@
--- A program that is put in force.
+-- Putting a program in force.
 use Rattle.std.proofs.Common.{◌≡◌, ◌≤◌, ℕ, List, Some, length, refl, sym, subst}
 use Rattle.bpf_regions.specs.declared.hooks.Hook.{Hook}
 use Rattle.bpf_decode.specs.Program.{Code}
@@ -14,7 +14,7 @@ use Rattle.apd_text.specs.declared.reports.report.Told.TheVariants.{Loaded}
 use Rattle.apd_run.specs.Loading.{IsInForce, PutsInForce, InForce, NoRoomToPut, LoadsProgram, Admitted, NoRoomToLoad}
 use Rattle.apd_run.specs.Adopting.{AdoptsProgram, Certified, NotCertified, NoRoomToAdopt, certificate_told}
 
--- once the verifier admitted it
+-- after the verifier admitted it
 pub loaded : (limit : ℕ) (hook : Hook) (a : Verified) (program : Code) (old new : Beginning) (told : Told) → a.code ≡ program → a.budget ≤ limit → PutsInForce hook a old new told
     → LoadsProgram limit hook program old new told
 loaded limit hook a program old new _ is small (InForce force) =
@@ -22,7 +22,7 @@ loaded limit hook a program old new _ is small (InForce force) =
     (Admitted a.budget (subst (λ (code : Code). IsInForce hook code old new a.budget) is force) small)
 loaded limit hook a program old new _ is small (NoRoomToPut same) = NoRoomToLoad same
 
--- once a certificate showed that it is safe
+-- after a certificate showed it safe
 pub adopted : (hook : Hook) (program : Code) (certificate : List ℕ) (old new : Beginning) (budget : ℕ) → Covered program hook certificate budget → Safe program.slots program.shapes budget
     → new ≡ with_load old (load hook (Some (record { code = program; hook = hook; budget = budget }))) → AdoptsProgram hook program certificate old new (Loaded budget (length program.slots))
 adopted hook program certificate old new budget covered safe is =

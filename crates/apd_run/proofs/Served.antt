@@ -1,4 +1,4 @@
--- What is told of what a worker handed on.
+-- Reports on a worker's list.
 use Rattle.std.proofs.Common.{◌≡◌, ℕ, List, [], ◌∷◌, ◌++◌, refl, sym, ap, ◌∙◌, zero-add}
 use Rattle.std.proofs.lemmas.List.Sums.{sum_by-append}
 use Rattle.ap_books.specs.Counts.{Counts, none, plus}
@@ -38,13 +38,13 @@ counts_one r i =
       notes = zero-add (told_counts r.told).notes i;
     }
 
--- what is told of an event counts what became of it
+-- the report on an event counts what became of it
 report_counted : (line shard : ℕ) (f : Fate) → tallied (report_if line shard (told_of f)) ≡ fate_counts f
 report_counted line shard (Decided outs dropped) = counts_one (record { line = line; shard = shard; told = Handled outs dropped })
 report_counted line shard Refused = counts_one (record { line = line; shard = shard; told = Memory })
 report_counted line shard NotHandled = refl
 
--- and so does what is told of all
+-- so do the reports on all
 told_counted : (ts : List Tagged) → tallied (reports_in ts) ≡ tally ts
 unfolding tally
 told_counted [] = refl
@@ -52,7 +52,7 @@ told_counted (t ∷ ts) =
     tallied_two (reports_of t) (reports_in ts)
     ∙ (ap (λ (c : Counts). plus c (tallied (reports_in ts))) (report_counted t.call t.shard t.fate) ∙ ap (λ (c : Counts). plus (fate_counts t.fate) c) (told_counted ts))
 
--- a worker came back, and what is told of its list was added
+-- a worker came back, and the reports on its list were appended
 pub collects_told : (crew crew2 : Crew) (list list2 : List Report) (tags : List Tagged) → list2 ≡ list ++ reports_in tags → crew2 ≡ gains crew (tally tags) → Collects crew crew2 list list2
 collects_told crew crew2 list list2 tags listed counted =
     record {
@@ -75,7 +75,7 @@ tally_none = refl
 pub nothing_counted : (c : Counts) (ts : List Tagged) → c ≡ none → ts ≡ [] → c ≡ tally ts
 nothing_counted c ts is empty = is ∙ sym (ap tally empty ∙ tally_none)
 
--- two lists one after the other
+-- two lists in sequence
 pub tally_two : (xs ys : List Tagged) → tally (xs ++ ys) ≡ plus (tally xs) (tally ys)
 unfolding tally
 tally_two [] ys = sym (none_plus (tally ys))

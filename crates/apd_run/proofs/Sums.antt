@@ -1,4 +1,4 @@
--- Counts, one by one and together.
+-- Sums of counts.
 use Rattle.std.proofs.Common.{◌≡◌, ◌+◌, ◌<◌, ℕ, ap, ◌∙◌, arith}
 use Rattle.ap_books.specs.Counts.{Counts, none, plus}
 use Rattle.ap_books.specs.Holdings.{Holding, HasParts, HasMoreThan, HasSplit, HasMerged, sum_of}
@@ -46,7 +46,7 @@ plus_crossed a b c d =
 more : (s t a b m c : Counts) → m ≡ plus s t → c ≡ plus a b → plus m c ≡ plus (plus s a) (plus t b)
 more s t a b m c is pair = ap (λ x. plus x c) is ∙ (ap (λ x. plus (plus s t) x) pair ∙ plus_crossed s t a b)
 
--- what merged portions have counted is what both have
+-- merged portions have counted what both have
 pub merged_sum : (a b c : Holding) → HasMerged a b c → sum_of c ≡ plus (sum_of a) (sum_of b)
 merged_sum a b c h =
     let e1 = more a.of0.counts b.of0.counts a.of1.counts b.of1.counts c.of0.counts c.of1.counts h.0.1 h.1.1 in
@@ -57,7 +57,7 @@ merged_sum a b c h =
     let e6 = more (plus (plus (plus (plus (plus a.of0.counts a.of1.counts) a.of2.counts) a.of3.counts) a.of4.counts) a.of5.counts) (plus (plus (plus (plus (plus b.of0.counts b.of1.counts) b.of2.counts) b.of3.counts) b.of4.counts) b.of5.counts) a.of6.counts b.of6.counts (plus (plus (plus (plus (plus c.of0.counts c.of1.counts) c.of2.counts) c.of3.counts) c.of4.counts) c.of5.counts) c.of6.counts e5 h.6.1 in
     more (plus (plus (plus (plus (plus (plus a.of0.counts a.of1.counts) a.of2.counts) a.of3.counts) a.of4.counts) a.of5.counts) a.of6.counts) (plus (plus (plus (plus (plus (plus b.of0.counts b.of1.counts) b.of2.counts) b.of3.counts) b.of4.counts) b.of5.counts) b.of6.counts) a.of7.counts b.of7.counts (plus (plus (plus (plus (plus (plus c.of0.counts c.of1.counts) c.of2.counts) c.of3.counts) c.of4.counts) c.of5.counts) c.of6.counts) c.of7.counts e6 h.7.1
 
--- of a sum that is 0 each part is
+-- each part of a sum that is 0 is 0
 first_zero : (a b : ℕ) → a + b ≡ 0 → a ≡ 0
 first_zero a b h = omega (arith, h)
 
@@ -87,7 +87,7 @@ fresh h p e =
     let f1 = first_none (plus h.of0.counts h.of1.counts) h.of2.counts f2 in
     (record { some = one_is_some h.of0.parts p.0; nothing = (first_none h.of0.counts h.of1.counts f1) }, record { some = one_is_some h.of1.parts p.1; nothing = (second_none h.of0.counts h.of1.counts f1) }, record { some = one_is_some h.of2.parts p.2; nothing = (second_none (plus h.of0.counts h.of1.counts) h.of2.counts f2) }, record { some = one_is_some h.of3.parts p.3; nothing = (second_none (plus (plus h.of0.counts h.of1.counts) h.of2.counts) h.of3.counts f3) }, record { some = one_is_some h.of4.parts p.4; nothing = (second_none (plus (plus (plus h.of0.counts h.of1.counts) h.of2.counts) h.of3.counts) h.of4.counts f4) }, record { some = one_is_some h.of5.parts p.5; nothing = (second_none (plus (plus (plus (plus h.of0.counts h.of1.counts) h.of2.counts) h.of3.counts) h.of4.counts) h.of5.counts f5) }, record { some = one_is_some h.of6.parts p.6; nothing = (second_none (plus (plus (plus (plus (plus h.of0.counts h.of1.counts) h.of2.counts) h.of3.counts) h.of4.counts) h.of5.counts) h.of6.counts f6) }, record { some = one_is_some h.of7.parts p.7; nothing = (second_none (plus (plus (plus (plus (plus (plus h.of0.counts h.of1.counts) h.of2.counts) h.of3.counts) h.of4.counts) h.of5.counts) h.of6.counts) h.of7.counts f7) })
 
--- what is given away has counted nothing
+-- a portion that is given away has counted nothing
 pub given_none : (a b : Eight) → HasGivenOne a b → counted_by b ≡ counted_by a
 given_none a b g i =
     plus (plus (plus (plus (plus (plus (plus (g.0.counts i) (g.1.counts i)) (g.2.counts i)) (g.3.counts i)) (g.4.counts i)) (g.5.counts i))
@@ -97,14 +97,14 @@ given_none a b g i =
 pub keeps_parts : (n : ℕ) (a b : Eight) → KeepParts a b → HasParts n (holding_of a) → HasParts n (holding_of b)
 keeps_parts n a b k h = (k.0 ∙ h.0, k.1 ∙ h.1, k.2 ∙ h.2, k.3 ∙ h.3, k.4 ∙ h.4, k.5 ∙ h.5, k.6 ∙ h.6, k.7 ∙ h.7)
 
--- there are more parts than one
+-- there is more than one part
 pub more_than_one : (n : ℕ) (h : Holding) → 1 < n → HasParts n h → HasMoreThan 1 h
 more_than_one n h low p = (several h.of0.parts n low p.0, several h.of1.parts n low p.1, several h.of2.parts n low p.2, several h.of3.parts n low p.3, several h.of4.parts n low p.4, several h.of5.parts n low p.5, several h.of6.parts n low p.6, several h.of7.parts n low p.7)
   where
     several : (m n : ℕ) → 1 < n → m ≡ n → 1 < m
     several m n low is = omega (arith, low, is)
 
--- one part was given for another
+-- one part was exchanged for another
 exchanged : (n a m g b : ℕ) → a ≡ n → m + 1 ≡ a → g ≡ 1 → b ≡ m + g → b ≡ n
 exchanged n a m g b h s o e = omega (arith, h, s, o, e)
 
@@ -120,7 +120,7 @@ exchanged_parts n a m g b h s o e = (
   exchanged n a.of7.parts m.of7.parts g.of7.parts b.of7.parts h.7 s.7.0 o.7 e.7.0,
 )
 
--- one part more
+-- one more part
 one_more : (n a g b : ℕ) → a ≡ n → g ≡ 1 → b ≡ a + g → b ≡ n + 1
 one_more n a g b h o e = omega (arith, h, o, e)
 

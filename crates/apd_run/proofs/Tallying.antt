@@ -1,4 +1,4 @@
--- Reports that are counted one list after the other.
+-- Counting reports in consecutive lists.
 use Rattle.std.proofs.Common.{◌≡◌, ℕ, ◌+◌, List, [], ◌∷◌, ◌++◌, refl, sym, ap, subst, ◌∙◌, append_assoc, append-nil, add_assoc, add-zero, zero-add}
 use Rattle.std.specs.List.{sum_by}
 use Rattle.std.proofs.lemmas.List.Sums.{sum_by-append}
@@ -53,7 +53,7 @@ collects_more c d e xs ys zs h k =
           ∙ (λ i. record { workers = c.workers; counted = counts_append c.counted h.reports k.reports i });
     }
 
--- what the operator told counts nothing, so all that was handed over is what was collected
+-- the operator's reports count nothing, so all reports count what was collected
 pub counted_all : (c d : Crew) (xs ys : List Report) → Tells [] xs → Collects c d xs ys → d.counted ≡ plus c.counted (tallied ys)
 counted_all c d xs ys t h =
     let told : tallied xs ≡ none = ap tallied t.listed ∙ t.nothing in
@@ -62,7 +62,7 @@ counted_all c d xs ys t h =
     ∙ counts_append c.counted xs h.reports
     ∙ ap (λ l. plus c.counted (tallied l)) (sym h.listed)
 
--- the operator told nothing yet
+-- the operator has reported nothing
 pub tells_none : (xs : List Report) → Tells xs xs
 tells_none xs = record { reports = []; listed = sym (append-nil xs); nothing = refl }
 
@@ -79,7 +79,7 @@ tallied_two xs ys h k = tallied_joined xs ys ∙ ap (λ c. plus c (tallied ys)) 
           notes = sum_by-append (λ r. (report_counts r).notes) xs ys i;
         }
 
--- and then told more
+-- and then reports more
 pub tells_more : (xs ys zs : List Report) → Tells xs ys → Tells ys zs → Tells xs zs
 tells_more xs ys zs h k =
     record {
@@ -99,6 +99,6 @@ counts_one r h i =
       notes = (zero-add (told_counts r.told).notes ∙ ap (λ c. c.notes) h) i;
     }
 
--- the operator told one thing that counts nothing
+-- the operator appends one report that counts nothing
 pub tells_one : (xs mid ys : List Report) (r : Report) → told_counts r.told ≡ none → mid ≡ xs → ys ≡ mid ++ r ∷ [] → Tells xs ys
 tells_one xs mid ys r h d e = record { reports = r ∷ []; listed = e ∙ ap (λ l. l ++ r ∷ []) d; nothing = counts_one r h }

@@ -15,7 +15,7 @@ pub at_wait : (ns : List Numbered) (i : ℕ) (n : Numbered) → i < length ns �
     → after_wait (drop i ns) ≡ drop (i + 1) ns
 at_wait ns i n h e w = next ns i n h e ∙ ap (λ b. if b then drop (i + 1) ns else after_wait (drop (i + 1) ns)) w
 
--- the line is none
+-- the line isn't a wait
 pub at_line : (ns : List Numbered) (i : ℕ) (n : Numbered) → i < length ns → n ≡ get_or ns i n → is_wait n.command ≡ false
     → after_wait (drop i ns) ≡ after_wait (drop (i + 1) ns)
 at_line ns i n h e w = next ns i n h e ∙ ap (λ b. if b then drop (i + 1) ns else after_wait (drop (i + 1) ns)) w

@@ -23,7 +23,7 @@ action_of (command.Read word) = UseWord (used.Read word)
 action_of (command.Sum word) = UseWord (used.Sum word)
 action_of command.Wait = Wait
 
--- all that came before is to be handled first
+-- whether it waits until everything before it is handled
 abbrev pub waits : Action → Bool
 waits (Submit _) = false
 waits (Publish _) = false

@@ -1,4 +1,4 @@
--- What an adoption does, and what it answers.
+-- What an adoption does and returns.
 use Rattle.std.specs.Prelude.{◌≡◌, ◌≢◌, ℕ, List, length}
 use Rattle.bpf_regions.specs.declared.hooks.Hook.{Hook}
 use Rattle.bpf_decode.specs.Program.{Code, Spells}
@@ -20,17 +20,17 @@ use Rattle.apd_text.specs.declared.reports.report.Told.{Told}
 use Rattle.apd_text.specs.declared.reports.report.Told.TheVariants.{Memory, Loaded, Fault, Certificate, Unreadable}
 use Rattle.apd_run.specs.Loading.{IsInForce}
 
--- what is told of a certificate's fault
+-- the report on a certificate's fault
 abbrev pub certificate_told : CertFault → Told
 certificate_told check.NoMemory = Memory
 certificate_told fault = Certificate (number_of fault)
 
--- the program is in force for the hook from now on, and safe within the budget that the certificate shows
+-- the program is newly in force for the hook, and safe within the budget that the certificate shows
 pub record IsAdopted (hook : Hook) (program : Code) (certificate : List ℕ) (old new : Beginning) (budget : ℕ) : Type 0 where
   pub force : IsInForce hook program old new budget
   pub covered : Covered program hook certificate budget
 
--- what is done with a program and a certificate, and what is told of it
+-- an adoption of a program by a certificate, and its report
 pub data AdoptsProgram (hook : Hook) (program : Code) (certificate : List ℕ) (old new : Beginning) : Told → Type 0 where
   Certified : (budget : ℕ) → IsAdopted hook program certificate old new budget → AdoptsProgram hook program certificate old new (Loaded budget (length program.slots))
   NotCertified : (fault : CertFault) → fault ≢ check.NoMemory → Refuses program hook certificate fault → new ≡ old
@@ -45,7 +45,7 @@ pub data AdoptsCode (hook : Hook) (code certificate : List ℕ) (old new : Begin
       → AdoptsCode hook code certificate old new (Fault fault)
   NoRoomToDecode : new ≡ old → AdoptsCode hook code certificate old new Memory
 
--- the same of two files, as far as is known what they hold
+-- the same of two files, as far as their contents are known
 pub data AdoptsFiles (files : Held) (hook : Hook) (path shown : List ℕ) (old new : Beginning) : Told → Type 0 where
   Read : (code certificate : List ℕ) (told : Told) → HoldsCode files path code → HoldsCode files shown certificate
       → AdoptsCode hook code certificate old new told → AdoptsFiles files hook path shown old new told

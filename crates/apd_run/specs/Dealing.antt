@@ -1,4 +1,4 @@
--- The tokens of a run, as they are given out.
+-- Giving out the tokens of a run.
 use Rattle.std.specs.Prelude.{◌≡◌, ◌+◌, ◌≤◌, ℕ, List, length}
 use Rattle.std.specs.List.{All}
 use Rattle.ap_books.specs.Counts.{none}
@@ -9,7 +9,7 @@ use Rattle.ap_live.specs.Lives.{Live}
 use Rattle.ap_live.specs.Opening.{parts_in_all}
 use Rattle.ap_live.specs.Tokens.{Operator, IsOperator, Worker, IsWorker}
 
--- a token of an operator, with one part of each ledger, which has counted nothing
+-- an operator's token with one part of each ledger, which has counted nothing
 pub record IsNewOperator (a : Live) (o : Operator) : Type 0 where
   pub own : IsOperator a o
   pub parts : HasParts 1 (holding_of o.shards)
@@ -20,8 +20,7 @@ pub record IsNewWorker (w : Worker) : Type 0 where
   pub parts : HasParts 1 (holding_of w.shards)
   pub nothing : counted_by w.shards ≡ none
 
--- new tokens of an operator and of 8 workers at most, and all other parts of the ledgers: nothing
--- was counted yet
+-- new tokens of an operator and of at most 8 workers, and all other parts of the ledgers; nothing has been counted
 pub record AreHands (a : Live) (operator : Operator) (workers : List Worker) (hoard : Holding)
     (parts : ℕ) : Type 0 where
   pub of_operator : IsNewOperator a operator

@@ -16,15 +16,14 @@ pub record RunWorker : Type 0 where
   pub ap : Live
   pub token : Worker
 
--- its token is one of the access point, whose published loads are this list, with one part of each
--- ledger
+-- its token belongs to the access point, whose published loads are this list, and has one part of each ledger
 pub record IsRunWorker (list : Book) (w : RunWorker) : Type 0 where
   pub own : IsWorker w.ap w.token
   pub list_is : w.ap.list.list ≡ list
   pub parts : HasParts 1 (holding_of w.token.shards)
 
--- An operator's access point and token, the parts of the ledgers that it keeps and how many of each
--- they are, how many workers have one, and what was published.
+-- An operator's access point and token, the parts of the ledgers that it keeps and how many of each they are, how many
+-- workers have one, and what was published.
 pub record RunOperator : Type 0 where
   pub ap : Live
   pub token : Operator
@@ -33,8 +32,8 @@ pub record RunOperator : Type 0 where
   pub workers : ℕ
   pub loads : Beginning
 
--- Its token is one of the access point, whose published loads are this list, with one part of each
--- ledger, which has counted nothing. All other parts are kept or the workers'.
+-- Its token belongs to the access point, whose published loads are this list, and has one part of each ledger, which
+-- has counted nothing. The operator keeps, or the workers have, all other parts.
 pub record IsRunOperator (shares : ℕ) (list : Book) (o : RunOperator) : Type 0 where
   pub own : IsOperator o.ap o.token
   pub mine : HasParts 1 (holding_of o.token.shards)
@@ -45,6 +44,6 @@ pub record IsRunOperator (shares : ℕ) (list : Book) (o : RunOperator) : Type 0
   pub some : 1 < o.parts
   pub list_is : o.loads.list ≡ list
 
--- how many workers have rights, and what those who came back have counted
+-- how many workers have rights, and what those that came back have counted
 abbrev pub crew_of : RunOperator → Crew
 crew_of o = record { workers = o.workers; counted = sum_of o.hoard }

@@ -1,4 +1,4 @@
--- What a load does, and what it answers.
+-- What a load does and returns.
 use Rattle.std.specs.Prelude.{◌≡◌, ◌≢◌, ◌≤◌, ◌^◌, ℕ, List, length, Some}
 use Rattle.bpf_regions.specs.declared.hooks.Hook.{Hook}
 use Rattle.bpf_decode.specs.Program.{Code, Spells, Begins}
@@ -23,7 +23,7 @@ use Rattle.apd_text.specs.declared.reports.report.Unread.TheVariants as unread
 use Rattle.apd_text.specs.declared.reports.report.Told.{Told}
 use Rattle.apd_text.specs.declared.reports.report.Told.TheVariants.{Memory, Loaded, Fault, Refused, Unreadable}
 
--- the program is in force for the hook from now on, and safe within its budget
+-- the program is newly in force for the hook, and safe within its budget
 pub record IsInForce
     (hook : Hook) (program : Code) (old new : Beginning) (budget : ℕ) : Type 0 where
   pub accepted : Verified
@@ -33,13 +33,13 @@ pub record IsInForce
   pub safe : Safe program.slots program.shapes budget
   pub loaded : new ≡ with_load old (load hook (Some accepted))
 
--- it is, or memory was refused
+-- it is, or an allocation failed
 pub data PutsInForce (hook : Hook) (a : Verified) (old new : Beginning) : Told → Type 0 where
   InForce : IsInForce hook a.code old new a.budget → PutsInForce hook a old new (Loaded a.budget (length a.code.slots))
   NoRoomToPut : new ≡ old → PutsInForce hook a old new Memory
 
--- the verifier doesn't admit the program within the limit of states, within which it isn't clear then, nor plain where
--- the limit is the greatest, and nothing changes
+-- the verifier refuses the program within the limit of states, so the program isn't clear within it, nor plain if the
+-- limit is the greatest; nothing changes
 pub record IsRefused
     (limit : ℕ) (program : Code) (old new : Beginning) (refusal : Refusal) : Type 0 where
   pub reason : refusal.fault ≢ verify.NoMemory
@@ -48,7 +48,7 @@ pub record IsRefused
   pub not_clear : IsClear program entry_view limit → ⊥
   pub unchanged : new ≡ old
 
--- what is done with a program, and what is told of it
+-- a load of a program, and its report
 pub data LoadsProgram
     (limit : ℕ) (hook : Hook) (program : Code) (old new : Beginning) : Told → Type 0 where
   Admitted : (budget : ℕ) → IsInForce hook program old new budget → budget ≤ limit →
@@ -67,7 +67,7 @@ pub data LoadsCode
       → LoadsCode limit hook code old new (Fault fault)
   NoRoomToDecode : new ≡ old → LoadsCode limit hook code old new Memory
 
--- the same of a file, as far as is known what it holds
+-- the same of a file, as far as its contents are known
 pub data LoadsFile (files : Held) (limit : ℕ) (hook : Hook) (path : List ℕ)
     (old new : Beginning) : Told → Type 0 where
   Read : (code : List ℕ) (told : Told) → HoldsCode files path code →

@@ -1,4 +1,4 @@
--- What a worker reports of a line, as `apd_text` has it.
+-- A worker's report on a line, by `apd_text`.
 
 pub use Rattle.apd_text.specs.declared.reports.report.Report.{Report}
 pub use Rattle.apd_text.specs.declared.reports.report.Told.{Told}

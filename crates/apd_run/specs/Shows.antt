@@ -13,7 +13,7 @@ use Rattle.apd_text.specs.declared.reports.report.Told.{Told}
 use Rattle.apd_text.specs.declared.reports.report.Told.TheVariants.{Memory, Fault, Refused, Certificate, Unreadable}
 use Rattle.apd_run.specs.Tallies.{tallied}
 
--- the answer says that memory was refused
+-- the report says `memory`
 abbrev pub is_memory : Told → Bool
 is_memory Memory = true
 is_memory _ = false
@@ -22,7 +22,7 @@ is_memory _ = false
 abbrev pub any_memory : List Report → Bool
 any_memory reports = list_any (λ r. is_memory r.told) reports
 
--- the answer says that a program, or a file of one, was refused
+-- the report says that a program, or a file of one, was refused
 abbrev pub is_refusal : Told → Bool
 is_refusal (Fault _) = true
 is_refusal (Refused _) = true
@@ -34,11 +34,11 @@ is_refusal _ = false
 abbrev pub any_refusal : List Report → Bool
 any_refusal reports = list_any (λ r. is_refusal r.told) reports
 
--- a strict run ends behind a refused line
+-- a strict run ends after a refused line
 abbrev pub is_over : Bool → Bool → Bool
 is_over strict refused = strict && refused
 
--- what was handed over is printed in order; the flags say whether a line says `memory`, and whether one was refused
+-- the reports are printed in order; the flags say whether a line says `memory`, and whether one was refused
 pub record Prints (old new : Option (List ℕ)) (handed : List Report) (memory refused : Bool) : Type 0 where
   pub printed : List Report
   pub ordered : IsOrdered handed printed
@@ -46,24 +46,24 @@ pub record Prints (old new : Option (List ℕ)) (handed : List Report) (memory r
   pub memory_is : memory ≡ any_memory printed
   pub refused_is : refused ≡ any_refusal printed
 
--- the printing of an interval breaks off: before it begins, or in the middle of what was handed over
+-- printing an interval breaks off: before it begins, or within the reports
 pub data BreaksOff (old new : Option (List ℕ)) : Type 0 where
   Before : new ≡ old → BreaksOff old new
   Within : (handed printed : List Report) → IsOrdered handed printed → AppendsBeginning old new (reports_text printed) → BreaksOff old new
 
--- one interval: what was handed over is printed, and is what was counted
+-- one interval: the reports are printed, and are what was counted
 pub record ShowsOne (old new : Option (List ℕ)) (counted counted2 : Counts) (memory refused : Bool) : Type 0 where
   pub handed : List Report
   pub prints : Prints old new handed memory refused
   pub counts : counted2 ≡ plus counted (tallied handed)
 
--- intervals one after the other; of a strict run none comes behind a refused line
+-- consecutive intervals; in a strict run, none follows a refused line
 pub data Shows (strict : Bool) (old : Option (List ℕ)) (counted : Counts) : Option (List ℕ) → Counts → Bool → Bool → Type 0 where
   Nothing : Shows strict old counted old counted false false
   Then : (mid new : Option (List ℕ)) (before after : Counts) (memory more refused again : Bool) → Shows strict old counted mid before memory refused
       → is_over strict refused ≡ false → ShowsOne mid new before after more again → Shows strict old counted new after (memory || more) (refused || again)
 
--- intervals one after the other, of which the last breaks off
+-- consecutive intervals, the last of which breaks off
 pub record Breaks (strict : Bool) (old new : Option (List ℕ)) (counted : Counts) : Type 0 where
   pub mid : Option (List ℕ)
   pub before : Counts
@@ -73,15 +73,15 @@ pub record Breaks (strict : Bool) (old new : Option (List ℕ)) (counted : Count
   pub goes_on : is_over strict refused ≡ false
   pub last : BreaksOff mid new
 
--- 3 where a line says `memory`, 1 where a strict run ends behind a refused line
+-- 3 if a line says `memory`; otherwise 1 if a strict run ends after a refused line; otherwise 0
 abbrev pub status_of : Bool → Bool → Bool → ℕ
 status_of strict memory refused = if memory then 3 else (if is_over strict refused then 1 else 0)
 
--- 2 for a write that failed, 3 for want of memory
+-- 2 for a failed write, 3 for lack of memory
 abbrev pub IsBroken : ℕ → Type 0
 IsBroken status = (status ≡ 2) ⊎ (status ≡ 3)
 
--- the last line reads what was counted in all, with the run's own status; or a beginning of it is written
+-- the last line says what was counted in all, with the run's own status; or only a prefix of it may be written
 pub data Finishes (old new : Option (List ℕ)) (counted : Counts) (own : ℕ) : ℕ → Type 0 where
   Whole : (totals : Totals) → Reads totals counted → Appends old new (totals_text totals) → Finishes old new counted own own
   Part : (totals : Totals) (status : ℕ) → Reads totals counted → AppendsBeginning old new (totals_text totals) → IsBroken status

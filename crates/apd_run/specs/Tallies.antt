@@ -7,7 +7,7 @@ use Rattle.apd_text.specs.declared.reports.report.Report.{Report}
 use Rattle.apd_text.specs.declared.reports.report.Told.{Told}
 use Rattle.apd_text.specs.declared.reports.report.Told.TheVariants.{Handled}
 
--- an event that was handled counts by its outs; all else counts nothing
+-- a handled event counts by its outputs; any other report counts nothing
 abbrev pub told_counts : Told → Counts
 told_counts (Handled outs dropped) = counts_of outs.items dropped
 told_counts _ = none
@@ -16,7 +16,7 @@ told_counts _ = none
 unfoldable pub report_counts : Report → Counts
 report_counts r = told_counts r.told
 
--- what reports count together
+-- the sum of what reports count
 abbrev pub tallied : List Report → Counts
 tallied rs =
     record {
@@ -27,7 +27,7 @@ tallied rs =
       notes = sum_by (λ r. (report_counts r).notes) rs;
     }
 
--- what became of events was added to the list, and what it counts was counted
+-- what became of events was appended to the list, and exactly that was counted
 pub record Serves (counted counted2 : Counts) (list list2 : List Tagged) : Type 0 where
   pub tags : List Tagged
   pub listed : list2 ≡ list ++ tags

@@ -1,9 +1,9 @@
-//! A run of a script by a live access point.
+//! Running a script on a live access point.
 //!
-//! Main call: `run_live`. It stands on `ap_live`, `loads` and `running`. A worker of the run serves
-//! the queue of one worker of the access point, by `LiveAp::serve`, and hands on what became of each
-//! event; the operator puts events, loads and unloads programs and reads maps. What the last line says is what all
-//! shares of the ledgers have counted, which is what the reports count.
+//! Main call: `run_live`. It depends on `ap_live`, `loads` and `running`. A worker of the run serves the queue of one
+//! worker of the access point by `LiveAp::serve`, and reports each event. The operator submits events, loads and
+//! unloads programs and reads maps. The last line says what all shares of the ledgers have counted, which is what the
+//! reports count.
 mod hands;
 mod hiring;
 mod naming;

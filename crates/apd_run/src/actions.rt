@@ -12,19 +12,18 @@ use std::alloc::{AllocError, Global};
 /// The program of a hook changes.
 #[derive(Clone, Copy, Debug, PartialEq, Eq)]
 pub enum Publication<'a> {
-    /// The code in a file becomes the hook's program, once it is verified.
+    /// The code in a file becomes the hook's program if the verifier accepts it.
     Load {
         hook: Hook,
         path: &'a str,
     },
-    /// The code in a file becomes the hook's program, once the certificate in another shows that it is
-    /// safe.
+    /// The code in a file becomes the hook's program if the certificate in another shows it safe.
     Adopt {
         hook: Hook,
         path: &'a str,
         certificate: &'a str,
     },
-    /// The hook is left without a program.
+    /// The hook's program is removed.
     Unload(Hook),
 }
 
@@ -42,15 +41,15 @@ pub enum WordUse {
 /// What a line asks of the operator.
 #[derive(Drop)]
 pub(crate) enum Action<'a> {
-    /// A shard's worker is to handle this.
+    /// Give the event to a shard's worker.
     Submit(Event),
     Publish(Publication<'a>),
     UseWord(WordUse),
-    /// All that was submitted is to be handled first.
+    /// Wait until everything submitted is handled.
     Wait,
 }
 
-/// What a command asks of the operator. Err: want of memory for a frame's bytes.
+/// What a command asks of the operator. Err: an allocation for a frame's bytes failed.
 pub(crate) fn action_of<'a>(alloc: Global, command: &Command<'a>) -> Result<Action<'a>, AllocError>
     ensures is { IfOk result (λ action. action ≡ action_of command.now) }
     ensures frame { OnErr result (is_wait command.now ≡ false) }

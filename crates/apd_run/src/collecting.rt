@@ -1,4 +1,4 @@
-//! Workers that go out, and come back with what they did.
+//! Sending workers out, and collecting them with their lists.
 
 ghost use Rattle.std.specs.Prelude.{◌≡◌, ◌+◌, ◌++◌, length, OnOk, vec_len};
 ghost use Rattle.ap_live.specs.Counting.{tally};
@@ -30,7 +30,7 @@ pub(crate) fn send_out<W: Serving + Drop, R: Wait>(
     }
 }
 
-/// Takes in what a worker has counted. The worker rests, and its list is answered.
+/// Takes over a worker's counts, and returns the worker, at rest, and its list.
 fn settled<W: Serving + Drop, O: Operating<W>>(
     operator: &mut O,
     done: Done<W>,
@@ -47,7 +47,7 @@ fn settled<W: Serving + Drop, O: Operating<W>>(
     (Ready { worker }, list)
 }
 
-/// What is told of an event: nothing of one that was not handled.
+/// The report on an event; `None` if it was not handled.
 fn told_of(fate: Fate) -> Option<Told>
     ensures { result ≡ told_of fate }
 {
@@ -58,7 +58,7 @@ fn told_of(fate: Fate) -> Option<Told>
     }
 }
 
-/// Adds what is told of an event, whose call is the number of its line.
+/// Appends the report on an event, whose call is its line's number.
 fn report(all: &mut Vec<Report>, tagged: Tagged) -> Result<(), AllocError>
     ensures { OnOk result (all.new.items ≡ all.old.items ++ reports_of tagged) }
 {
@@ -76,7 +76,7 @@ fn report(all: &mut Vec<Report>, tagged: Tagged) -> Result<(), AllocError>
     }
 }
 
-/// Adds what is told of each event that a worker handed on, in order.
+/// Appends the reports on a worker's list of events, in order.
 fn report_all(all: &mut Vec<Report>, list: Vec<Tagged>) -> Result<(), AllocError>
     ensures { OnOk result (all.new.items ≡ all.old.items ++ reports_in list.items) }
 {
@@ -87,7 +87,7 @@ fn report_all(all: &mut Vec<Report>, list: Vec<Tagged>) -> Result<(), AllocError
     Ok(())
 }
 
-/// Waits for a worker and takes it in. What is told of its list goes to the end of the others'.
+/// Waits for a worker and takes it back. The reports on its list are appended to the others.
 fn collect_one<W: Serving + Drop, O: Operating<W> + Drop, R: Wait>(
     rt: &R,
     desk: &Desk<W>,
@@ -110,7 +110,7 @@ fn collect_one<W: Serving + Drop, O: Operating<W> + Drop, R: Wait>(
     Ok(())
 }
 
-/// Waits for all workers and takes them in. What is told of their lists goes to the end of what the operator told.
+/// Waits for all workers and takes them back. The reports on their lists are appended to the operator's.
 pub(crate) fn collect<W: Serving + Drop, O: Operating<W> + Drop, R: Wait>(
     setting: &Setting<'_, W, R>,
     staff: &mut Staff<W, O>,

@@ -1,10 +1,8 @@
-//! Standard output and standard error of a run: the lines of a run go to the one, and what else there is to
-//! say of them to the other.
+//! Standard output and standard error of a run: the run's lines go to the former, messages to the latter.
 //!
-//! Main types: the trait `Console`, to which a run writes, and `Terminal`, which is one. Told on standard
-//! error is what is in force on a hook where a load was refused, a number that a map cuts, and, where it is
-//! asked for, each load, and each hook that has no program at the end. Of these texts nothing is promised but
-//! that a refused load has one.
+//! Main types: the trait `Console`, to which a run writes, and `Terminal`, which is one. The messages say what a hook
+//! keeps after a refused load, and to what a number is cut that doesn't fit a map's words; and, if `verbose` is set,
+//! each load, and each hook without a program at the end. Contracts promise only that each refused load has a message.
 mod console;
 mod message;
 mod notes;

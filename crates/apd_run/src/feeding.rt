@@ -1,4 +1,4 @@
-//! The operator's lines between two waits.
+//! Following the script's lines up to a wait.
 
 ghost use Rattle.std.specs.Prelude.{◌≡◌, ◌<◌, ◌≤◌, length, drop, IfOk, OnOk};
 ghost use Rattle.apd_run.specs.Tells.{Tells};
@@ -16,7 +16,7 @@ use std::sync::Wait;
 use std::sync::atomic::Ordering;
 use std::thread;
 
-/// Puts an event, and tries again where a queue is full, unless a worker is in trouble.
+/// Submits an event, again if a queue is full, until a worker is in trouble.
 fn put<W: Serving + Drop, O: Operating<W>, R: Wait>(
     rt: &R,
     operator: &mut O,
@@ -43,7 +43,7 @@ fn put<W: Serving + Drop, O: Operating<W>, R: Wait>(
     unreachable!()
 }
 
-/// Changes the program of a hook, and lists what is printed of it.
+/// Changes the program of a hook, and lists its report.
 fn publish<W: Serving + Drop, O: Operating<W>, R: Wait>(
     rt: &R,
     operator: &mut O,
@@ -61,7 +61,7 @@ fn publish<W: Serving + Drop, O: Operating<W>, R: Wait>(
     Ok(())
 }
 
-/// Uses a word of a map, and lists what is printed of it.
+/// Uses a word of a map, and lists its report.
 fn use_word<W: Serving + Drop, O: Operating<W>>(
     operator: &mut O,
     line: u64,
@@ -78,7 +78,7 @@ fn use_word<W: Serving + Drop, O: Operating<W>>(
     Ok(())
 }
 
-/// What became of a line in which no shard had a part.
+/// The report on a line that concerns no shard.
 fn of_line(line: u64, told: Told) -> Report
     ensures { result ≡ record { line = line; shard = 0; told = told } }
 {
@@ -89,7 +89,7 @@ fn of_line(line: u64, told: Told) -> Report
     }
 }
 
-/// Tells that memory was refused to a line.
+/// Lists a report that an allocation failed for a line.
 fn tell_memory(told: &mut Vec<Report>, line: u64) -> Result<(), AllocError>
     ensures told { OnOk result (Tells told.old.items told.new.items) }
 {
@@ -98,7 +98,7 @@ fn tell_memory(told: &mut Vec<Report>, line: u64) -> Result<(), AllocError>
     Ok(())
 }
 
-/// Does what a line asks for. The answer is whether it waits.
+/// Does what a line asks for, and returns whether the line is a `wait`.
 fn follow<W: Serving + Drop, O: Operating<W>, R: Wait>(
     setting: &Setting<'_, W, R>,
     operator: &mut O,
@@ -131,8 +131,8 @@ fn follow<W: Serving + Drop, O: Operating<W>, R: Wait>(
     }
 }
 
-/// Follows the lines from a place on, up to the next wait or the end, and answers the place after
-/// them. What is to be printed of them is listed.
+/// Follows the lines from an index on, up to and including the next `wait`, or to the end. It lists the reports on
+/// them, and returns the index after them.
 pub(crate) fn feed<W: Serving + Drop, O: Operating<W>, R: Wait>(
     setting: &Setting<'_, W, R>,
     operator: &mut O,

@@ -1,16 +1,16 @@
-//! What lines that were printed say, as far as the end of their run depends on it.
+//! What printed lines say, as far as the run's status or end depends on it.
 
 ghost use Rattle.std.specs.Prelude.{◌≡◌, false, ◌||◌};
 ghost use Rattle.apd_run.specs.Shows.{is_refusal, any_refusal, is_over};
 
 use apd_text::{Report, Told};
 
-/// What lines that were printed say.
+/// What printed lines say.
 #[derive(Clone, Copy)]
 pub(crate) struct Found {
-    /// Memory was refused to one of them.
+    /// One of them says `memory`.
     pub memory: bool,
-    /// One of them is a program, or a file of one, that was refused.
+    /// One of them says that a program, or a file of one, was refused.
     pub refused: bool,
 }
 
@@ -38,14 +38,14 @@ impl Found {
     }
 }
 
-/// Whether a run ends behind lines of which one was refused.
+/// Whether a run ends after lines of which one was refused.
 pub(crate) fn is_over(strict: bool, refused: bool) -> bool
     ensures is { result ≡ is_over strict refused }
 {
     strict && refused
 }
 
-/// Whether an answer says that a program, or a file of one, was refused.
+/// Whether a report says that a program, or a file of one, was refused.
 pub(crate) fn is_refusal(told: &Told) -> bool
     ensures is { result ≡ is_refusal told.now }
 {

@@ -1,4 +1,4 @@
-//! What lies between two waits.
+//! Intervals between two waits.
 
 ghost use Rattle.std.specs.Prelude.{◌≡◌, ◌<◌, length, drop, vec_len, IfOk, OnOk, OnErr};
 ghost use Rattle.apd_run.specs.Intervals.{after_wait};
@@ -18,21 +18,20 @@ use std::io::Write;
 use std::sync::Wait;
 use std::sync::atomic::Ordering;
 
-/// Where an interval begins: at the command of this place, as the interval of this number.
+/// Where an interval begins: the index of its first command, and the interval's number.
 #[derive(Clone, Copy)]
 struct Place {
     line: usize,
     interval: u64,
 }
 
-/// What an interval leaves: the place of the next command, and what the lines say that were printed.
+/// The result of an interval: the index of the next command, and what the printed lines say.
 #[derive(Clone, Copy)]
 struct Passed {
     next: usize,
     found: Found,
 }
 
-/// Whether an answer says that memory was refused.
 fn is_memory(told: &Told) -> bool
     ensures is { result ≡ is_memory told.now }
 {
@@ -45,7 +44,7 @@ fn any_memory(reports: &[Report]) -> bool
     reports.iter().any(|report| is_memory(&report.told))
 }
 
-/// Prints what was handed over, and answers what its lines say.
+/// Prints reports in order, and returns what their lines say.
 fn print_interval<P: Write>(
     alloc: Global,
     handed: Vec<Report>,
@@ -67,8 +66,8 @@ fn print_interval<P: Write>(
     }
 }
 
-/// An interval: workers go out, the operator follows the lines from a place on up to a wait or the
-/// end, it is told what became of them, workers come back, and what all handed over is printed.
+/// Runs an interval: workers go out, the operator follows the lines from an index on, up to a `wait` or the end,
+/// messages tell what became of them, workers come back, and all reports are printed.
 fn interval<W: Serving + Drop, O: Operating<W> + Drop, R: Wait, P: Console>(
     setting: &Setting<'_, W, R>,
     staff: &mut Staff<W, O>,
@@ -101,8 +100,8 @@ fn interval<W: Serving + Drop, O: Operating<W> + Drop, R: Wait, P: Console>(
     Ok(Passed { next, found })
 }
 
-/// All intervals of a script, or those up to a refused line where the run is strict. The answer is what
-/// the lines say that were printed.
+/// Runs all intervals of a script, or those up to a refused line if the run is strict, and returns what the printed
+/// lines say.
 pub(crate) fn intervals<W: Serving + Drop, O: Operating<W> + Drop, R: Wait, P: Console>(
     setting: &Setting<'_, W, R>,
     staff: &mut Staff<W, O>,

@@ -1,9 +1,8 @@
-//! Scripts that are run: the commands of a script, its intervals from one `wait` to the next, the access point with its
-//! worker threads, and what is told of a run.
+//! Runs of scripts: the commands of a script, its intervals from one `wait` to the next, the access point with its
+//! worker threads, and the messages about a run.
 //!
-//! Main calls: `run`, of the command `apd run`, and `run_script`, of any access point. What is printed is, interval by
-//! interval, reports ordered by line and shard, and then a line of the totals, which are what the reports count; or a
-//! beginning of that.
+//! Main calls: `run`, for the command `apd run`, and `run_script`, for any access point. They write, for each interval,
+//! reports ordered by line and shard, and then a line of totals, which are what the reports count; or a prefix of that.
 #![tactic(auto)]
 
 mod access;

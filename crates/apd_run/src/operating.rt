@@ -12,40 +12,40 @@ use ap_model::Event;
 use apd_text::Told;
 use std::sync::Wait;
 
-/// The queue of a shard was full: the event, and the first shard whose worker wasn't given it.
+/// The queue of a shard was full: the event, and the first shard whose worker didn't get it.
 #[derive(Drop)]
 pub struct Waiting {
     pub event: Event,
     pub shard: u16,
 }
 
-/// The operator's side of an access point whose events workers of this kind handle.
+/// The operator's interface to an access point whose events such workers handle.
 pub trait Operating<W> {
-    // How many workers have its rights, and what those who came back have counted.
+    // How many workers have its rights, and what those that came back have counted.
     ghost crew: { Self → Crew };
 
-    // What a worker has counted since the operator had it last.
+    // What a worker has counted since the operator last took over its counts.
     ghost taken: { W → Counts };
 
-    /// Puts an event of the line into the queue of its shard's worker; a tick for each shard.
+    /// Submits an event of the line to its shard's worker; a tick, to each shard's.
     fn submit<R: Wait>(&mut self, rt: &R, line: u64, event: Event) -> Result<(), Waiting>
         ensures same { crew self.new ≡ crew self.old };
 
-    /// Goes on where a queue was full.
+    /// Continues after a queue was full.
     fn go_on<R: Wait>(&mut self, rt: &R, line: u64, waiting: Waiting) -> Result<(), Waiting>
         ensures same { crew self.new ≡ crew self.old };
 
-    /// Changes the program of a hook. The answer is what is printed of it.
+    /// Changes the program of a hook, and returns what is printed of it.
     fn publish<R: Wait>(&mut self, rt: &R, publication: Publication<'_>) -> Option<Told>
         ensures same { crew self.new ≡ crew self.old }
         ensures nothing { IfSome result (λ told. told_counts told ≡ none) };
 
-    /// Uses a word of a map. The answer is what is printed of it.
+    /// Uses a word of a map, and returns what is printed of it.
     fn use_word(&mut self, wanted: WordUse) -> Option<Told>
         ensures same { crew self.new ≡ crew self.old }
         ensures nothing { IfSome result (λ told. told_counts told ≡ none) };
 
-    /// Takes in what a worker has counted, and tells it of the loads so far.
+    /// Takes over a worker's counts, and tells it of the loads so far.
     fn settle(&mut self, worker: &mut W)
         ensures crew { crew self.new ≡ gains (crew self.old) (taken worker.old) }
         ensures worker { taken worker.new ≡ none };
@@ -56,7 +56,7 @@ pub trait Operating<W> {
         requires nothing { taken worker ≡ none }
         ensures crew { crew self.old ≡ with_one_more (crew self.new) };
 
-    /// With all workers' rights: what has been counted.
+    /// Returns what has been counted. No worker has rights any more.
     fn gather<R: Wait>(self, rt: &R) -> Totals
         requires all { (crew self).workers ≡ 0 }
         ensures reads { Reads result (crew self).counted };

@@ -1,7 +1,7 @@
-//! Who watches a run: nobody, or somebody who is told on standard error how far it is.
+//! Watching a run: by nobody, or by somebody who sees its progress on standard error.
 //!
-//! Main types: `Progress`, and the trait `Watcher`, which `run` tells of a run. It stands on
-//! `ap_tagged`, whose `Gate` workers tell of each event. Of what is told no clause speaks.
+//! Main types: `Progress`, and the trait `Watcher`, which `run` tells of a run. It depends on `ap_tagged`, whose `Gate`
+//! workers tell of each event. No clause speaks of the texts.
 mod progress;
 mod watching;
 

@@ -1,9 +1,8 @@
-//! The command `apd run`: a script, run by a new access point.
+//! The command `apd run`, which runs a script on a new access point.
 //!
-//! Main call: `run`. It stands on `apd_config`, `apd_script`, `apd_files` and `access`. The script is
-//! read whole before the first of its lines is done. What is written to `out`, and the status, are those
-//! of `run_live`; texts of faults go to `err`. A `Watcher` is told of the run and of each of
-//! its events.
+//! Main call: `run`. It depends on `apd_config`, `apd_script`, `apd_files` and `access`. The whole script is parsed
+//! before any line runs. What is written to `out`, and the status, are those of `run_live`; texts of faults go to
+//! `err`. A `Watcher` is told of the run and of each of its events.
 mod command;
 mod fault;
 mod setup;

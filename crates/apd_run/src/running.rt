@@ -32,7 +32,7 @@ impl<'a, W: Serving + Drop, R: Wait> Task<R> for Work<'a, W> {
     }
 }
 
-/// What is left where all threads have ended.
+/// What is left after all threads have ended.
 #[derive(Drop)]
 pub(crate) struct Ran<W: Serving + Drop, O: Operating<W> + Drop, P: Drop> {
     pub staff: Staff<W, O>,
@@ -47,7 +47,7 @@ fn end_all<W: Serving + Drop, R: Wait>(setting: &Setting<'_, W, R>) {
     }
 }
 
-/// The operator's whole work where all threads have started. Then each thread is told to end.
+/// The operator's whole work, if all threads have started. Then each thread is told to end.
 fn beside<W: Serving + Drop, O: Operating<W> + Drop, R: Wait, P: Console + Drop>(
     setting: &Setting<'_, W, R>,
     staff: Staff<W, O>,
@@ -82,7 +82,7 @@ fn beside<W: Serving + Drop, O: Operating<W> + Drop, R: Wait, P: Console + Drop>
     }
 }
 
-/// A thread for each desk, and the operator beside them. All threads have ended where it returns.
+/// Runs a thread for each desk, and the operator beside them. It returns after all threads have ended.
 pub(crate) fn run_threads<
     W: Serving + Drop,
     O: Operating<W> + Drop,

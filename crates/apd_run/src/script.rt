@@ -1,4 +1,4 @@
-//! A run from its beginning.
+//! A whole run.
 
 ghost use Rattle.std.specs.Prelude.{◌≡◌, vec_len, IfOk, OnOk, OnErr};
 ghost use Rattle.apd_run.specs.Shows.{Shows, Breaks, IsBroken, status_of, Finishes, Runs};
@@ -16,7 +16,6 @@ use std::io::Write;
 use std::sync::Wait;
 use std::thread::Threads;
 
-/// A desk for each worker.
 fn new_desks<W: Serving + Drop>(alloc: Global, workers: usize) -> Result<Vec<Desk<W>>, AllocError>
     ensures { IfOk result (λ desks. vec_len desks ≡ workers) }
 {
@@ -27,7 +26,6 @@ fn new_desks<W: Serving + Drop>(alloc: Global, workers: usize) -> Result<Vec<Des
     Ok(desks)
 }
 
-/// The status of a run that broke off.
 fn broken(fault: PrintFault) -> u8
     ensures { IsBroken result }
 {
@@ -37,7 +35,7 @@ fn broken(fault: PrintFault) -> u8
     }
 }
 
-/// The status of a run whose printed lines say this.
+/// The status of a run, by what its printed lines say.
 fn ended(strict: bool, found: Found) -> u8
     ensures { result ≡ status_of strict found.memory found.refused }
 {
@@ -50,7 +48,6 @@ fn ended(strict: bool, found: Found) -> u8
     }
 }
 
-/// Takes all workers' rights back.
 fn dismiss_all<W: Serving + Drop, O: Operating<W>>(operator: &mut O, workers: Vec<Ready<W>>)
     requires alike { (worker : _) → O.taken worker ≡ W.counted worker }
     requires all { vec_len workers ≡ (O.crew operator.old).workers }
@@ -64,7 +61,7 @@ fn dismiss_all<W: Serving + Drop, O: Operating<W>>(operator: &mut O, workers: Ve
     }
 }
 
-/// Prints the last line, and answers the status, which is the run's own where it was written.
+/// Prints the last line, and returns the status: `own` if the line was written.
 fn finish<W: Serving + Drop, O: Operating<W> + Drop, R: Wait, P: Write>(
     rt: &R,
     alloc: Global,
@@ -88,7 +85,7 @@ fn finish<W: Serving + Drop, O: Operating<W> + Drop, R: Wait, P: Write>(
     }
 }
 
-/// Threads for all workers, and the script beside them.
+/// Runs threads for all workers, and the script beside them.
 fn run<W, O, R, P>(
     rt: &R,
     alloc: Global,
@@ -134,10 +131,10 @@ where
     run_threads(&setting, &task, staff, commands, writer)
 }
 
-/// Runs a script: between two waits the operator follows the lines while the workers handle events.
-/// The writer is handed back with the program's status: 0; 1 where the writer is strict and a line was
-/// refused, with whose interval the run ended; 3 where a line says `memory`, or memory was refused to the
-/// run itself, which then broke off; 2 where a write failed, which ends the run.
+/// Runs a script: between two waits the operator follows the lines while the workers handle events. It returns the
+/// writer and the exit status: 3 if a line says `memory`; otherwise 1 if the writer is strict and a line was refused,
+/// which ends the run after that interval; otherwise 0. A run that breaks off has status 2 or 3: 2 after a failed
+/// write, 3 for lack of memory, but the contract doesn't say which.
 pub fn run_script<W, O, R, P>(
     rt: &R,
     alloc: Global,

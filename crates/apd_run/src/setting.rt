@@ -17,7 +17,7 @@ pub(crate) struct Setting<'a, W: Serving + Drop, R> {
     pub strict: bool,
 }
 
-/// An operator with the workers that are at rest. Both say alike what a worker has counted.
+/// An operator and the workers at rest. Both agree on what a worker has counted.
 #[derive(Drop)]
 pub struct Staff<W: Serving + Drop, O: Operating<W> + Drop> {
     pub operator: O,

@@ -1,4 +1,4 @@
--- Where a text is cut at a byte.
+-- Cutting a text at a byte.
 use Rattle.std.specs.Prelude.{◌≡◌, ◌≢◌, ◌<◌, ◌+◌, ◌-◌, ◌==◌, ℕ, List, [], ◌∷◌, ◌++◌, length, take, drop, true, false, Some, None, slice_index, refl, suc, zero}
 use Rattle.std.proofs.Common.{rules, tests, arith, ◌∙◌, ap}
 use Rattle.std.specs.List.{slice_split, onto_first}
@@ -29,7 +29,7 @@ slice_split-before c (b ∷ bs) rest h =
     slice_split-cons_no (λ b. b == c) b (bs ++ c ∷ rest) (other_byte b c (h 0 (omega arith)))
     ∙ ap (onto_first b) (slice_split-before c bs rest (λ i lt. h (suc i) (omega (arith, lt))))
 
--- the same by the byte's place
+-- the same by the byte's index
 pub slice_split-at : (c : ℕ) (t : List ℕ) (k : ℕ) → k < length t → slice_index t k ≡ c → ((i : ℕ) → i < k → slice_index t i ≢ c)
     → slice_split (λ b. b == c) t ≡ take k t ∷ slice_split (λ b. b == c) (drop (suc k) t)
 slice_split-at c [] k lt is h = absurd (omega arith)

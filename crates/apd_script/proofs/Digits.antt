@@ -18,7 +18,7 @@ one_of_three false true false x y z = refl
 one_of_three false false true x y z = refl
 one_of_three false false false x y z = refl
 
--- std's hex digits and those of `hex` are the same
+-- std and `hex` have the same hex digits
 is_ascii_hexdigit-same : (c : ℕ) → is_ascii_hexdigit c ≡ is_hex_digit c
 is_ascii_hexdigit-same c = one_of_three (nat_le 65 c && nat_le c 70) (nat_le 97 c && nat_le c 102) (nat_le 48 c && nat_le c 57) _ _ _
 

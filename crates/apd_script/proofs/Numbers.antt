@@ -49,7 +49,7 @@ number_below-small limit n t e small = search (rules, tests, nat_tests)
 pub number_below-large : (limit n : ℕ) (t : List ℕ) → number_below (2 ^ 64) t ≡ Some n → limit ≤ n → None ≡ number_below limit t
 number_below-large limit n t e large = search (rules, tests, nat_tests)
 
--- a place in an entry is a place in the map
+-- an index in an entry is an index in the map
 pub within_map : (entry entries words place : ℕ) → entry < entries → place < words → entry * words + place < entries * words
 within_map entry entries words place e p =
     let step : entry + 1 ≤ entries = omega (arith, e) in

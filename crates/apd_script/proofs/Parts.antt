@@ -1,4 +1,4 @@
--- The words of a text, one after another.
+-- The consecutive words of a text.
 use Rattle.std.specs.Prelude.{◌≡◌, ◌<◌, ◌≤◌, ◌+◌, ◌==◌, ℕ, List, [], ◌∷◌, ◌++◌, length, map, take, filter, slice_set, refl}
 use Rattle.std.proofs.Common.{rules, tests, arith, sym, ◌∙◌, ap, append_assoc}
 use Rattle.std.specs.List.{slice_split}
@@ -28,7 +28,7 @@ words-cut t w rest e = ap (filter is_some_text) e ∙ filter-append is_some_text
 pub words-whole : (t : List ℕ) → slice_split (λ c. c == 32) t ≡ t ∷ [] → words t ≡ filter is_some_text (t ∷ []) ++ words []
 words-whole t e = ap (filter is_some_text) e ∙ sym (append-nil (filter is_some_text (t ∷ [])))
 
--- one more word that is kept
+-- one more word
 pub map-take_more : {X Y : Type 0} (f : X → Y) (xs : List X) (k : ℕ) (x : X) (rest : List Y) → k < length xs
     → map f (take (k + 1) (slice_set xs k x)) ++ rest ≡ map f (take k xs) ++ f x ∷ rest
 map-take_more f xs k x rest h =

@@ -1,4 +1,4 @@
--- How far a script is read.
+-- Reading a script line by line.
 use Rattle.std.specs.Prelude.{◌≡◌, ◌<◌, ◌+◌, ℕ, List, [], ◌∷◌, ◌++◌, length, take, drop, Option, Some, None, slice_get, refl, suc, zero}
 use Rattle.std.proofs.Common.{arith, sym, ◌∙◌, ap, Bor}
 use Rattle.std.specs.List.{All}
@@ -9,7 +9,7 @@ use Rattle.apd_script.specs.Asked.{Asked}
 use Rattle.apd_script.specs.Lines.{line_asks, IsWellFormed}
 use Rattle.apd_script.specs.Script.{lines_of, numbered, asked_from, Cuts, IsScript, IsMalformedAfter}
 
--- what stands at a place, and what lies before and after it
+-- the element at an index, and what precedes and follows it
 pub record IsNext {X : Type 0} (all : List X) (k : ℕ) (x : X) (rest : List X) : Type 0 where
   pub there : slice_get all k ≡ Some x
   pub after : drop (suc k) all ≡ rest
@@ -38,7 +38,7 @@ asked_from-push maps number (l ∷ lines) line =
     ap (numbered number (line_asks maps l)) (asked_from-push maps (number + 1) lines line ∙ ap (λ n. asked_from maps (number + 1) lines ++ numbered n (line_asks maps line) []) same)
     ∙ numbered-append number (line_asks maps l) (asked_from maps (number + 1) lines) (numbered (number + suc (length lines)) (line_asks maps line) [])
 
--- `before` lines are read, these ask for that, and the others follow
+-- `before` lines are read, their commands are known, and the others follow
 pub record IsReadTo (maps : List Shape) (lines : List (List ℕ)) (before : ℕ) (rest : List (List ℕ)) (asked : List (ℕ × Asked)) : Type 0 where
   pub follows : drop before lines ≡ rest
   pub well_formed : All (IsWellFormed maps) (take before lines)

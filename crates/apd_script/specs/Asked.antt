@@ -1,4 +1,4 @@
--- What the lines of a script ask for, with their texts as lists of bytes.
+-- What the lines of a script ask for, in terms of lists of bytes.
 use Rattle.std.specs.Prelude.{◌≡◌, ℕ, ◌<◌, List, map, Option, Some, option_map, slice_get}
 use Rattle.std.specs.List.{All}
 use Rattle.bpf_regions.specs.declared.hooks.Hook.{Hook}
@@ -12,8 +12,8 @@ use Rattle.apd_script.specs.declared.command.Command.TheVariants as command
 use Rattle.apd_script.specs.declared.command.MapWord.{MapWord}
 use Rattle.apd_script.specs.declared.command.Numbered.{Numbered}
 
--- a command: a frame by its bytes, a station by its six octets, a reason and a traffic identifier
--- by their numbers, files by their paths
+-- a command: a frame by its bytes, a station by its six octets, a reason and a traffic identifier by their numbers,
+-- files by their paths
 pub data Asked : Type 0 where
   Frame : List ℕ → Asked
   Tick : ℕ → Asked
@@ -49,28 +49,28 @@ numbered_of n = (n.line, asked_of n.command)
 abbrev pub commands_of : List Numbered → List (ℕ × Asked)
 commands_of commands = map numbered_of commands
 
--- what is asked for, if anything is
+-- what is asked for, if anything
 abbrev pub asked_by : Option Command → Option Asked
 asked_by command = option_map asked_of command
 
--- the map is there, it has that scope, and the word is in it
+-- the map exists and has that scope, and the word is in it
 pub record IsWordOf (maps : List Shape) (scope : Scope) (word : MapWord) : Type 0 where
   pub shape : Shape
   pub there : slice_get maps word.map ≡ Some shape
   pub scope_is : shape.scope ≡ scope
   pub within : word.word < word_count shape
 
--- the word that a command names is in a map of the scope that the command is for
+-- a word that the command names is in a map of the command's scope
 abbrev pub NamesWord : List Shape → Command → Type 0
 NamesWord maps (command.Store word value) = IsWordOf maps Shared word
 NamesWord maps (command.Read word) = IsWordOf maps Shared word
 NamesWord maps (command.Sum word) = IsWordOf maps Worker word
 NamesWord maps _ = Unit {0}
 
--- each word that one of the commands names is such a word
+-- the same for all commands
 abbrev pub NameWords : List Shape → List Numbered → Type 0
 NameWords maps commands = All (λ n. NamesWord maps n.command) commands
 
--- the same goes on where commands are added
+-- the same still holds after commands are added
 abbrev pub NamesMore : List Shape → List Numbered → List Numbered → Type 0
 NamesMore maps old new = NameWords maps old → NameWords maps new

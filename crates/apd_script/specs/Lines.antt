@@ -1,4 +1,4 @@
--- What a line of a script says, by its words.
+-- What a line of a script asks for, by its words.
 use Rattle.std.specs.Prelude.{ℕ, ◌+◌, ◌*◌, ◌^◌, List, [], ◌∷◌, length, codes, Option, Some, None, option_map, option_and_then, IsSome, Bool, true, false, slice_get, if◌then◌else◌, IsUtf8}
 use Rattle.std.specs.List.{list_any}
 use Rattle.std.specs.Result.{result_ok}
@@ -12,7 +12,7 @@ use Rattle.apd_script.specs.Asked.{Asked, Frame, Tick, Kick, Close, Load, Unload
 use Rattle.apd_script.specs.Words.{words, is_forbidden, begins_comment, number_below, address, hook_named}
 
 infixl 10 ◌>>=◌
--- what follows from a part that is there
+-- what follows from a part, if it is there
 abbrev pub ◌>>=◌ : {A B : Type 0} → Option A → (A → Option B) → Option B
 o >>= f = option_and_then f o
 
@@ -58,13 +58,13 @@ adopt_said (name ∷ path ∷ certificate ∷ []) =
     option_map (λ hook. Adopt hook path certificate) (hook_named name)
 adopt_said _ = None
 
--- both are the same scope
+-- whether both are the same scope
 abbrev pub is_scope : Scope → Scope → Bool
 is_scope Shared Shared = true
 is_scope Worker Worker = true
 is_scope _ _ = false
 
--- the word at an entry's index and a place in the entry, where the map has that scope
+-- the word at an entry's index and an index in the entry, if the map has that scope
 abbrev pub word_in : Scope → ℕ → Shape → List ℕ → List ℕ → Option MapWord
 word_in scope map shape index word = do
   entry ← number_below shape.entries index
@@ -72,7 +72,7 @@ word_in scope map shape index word = do
   (if is_scope shape.scope scope
       then Some (record { map = map; word = entry * shape.words + place }) else None)
 
--- a word of a map of that scope, by the map's number, an entry's index and a place in the entry
+-- the word of a map of that scope, by the map's number, an entry's index and an index in the entry
 abbrev pub word_said : List Shape → Scope → List ℕ → List ℕ → List ℕ → Option MapWord
 word_said maps scope map index word = do
   number ← number_below (length maps) map
@@ -102,7 +102,7 @@ abbrev pub wait_said : List (List ℕ) → Option Asked
 wait_said [] = Some Wait
 wait_said _ = None
 
--- what a keyword asks for with the words after it
+-- what a keyword and its operands ask for
 abbrev pub command_said : List Shape → List ℕ → List (List ℕ) → Option Asked
 command_said maps keyword operands =
     (if bytes_eq keyword (codes "frame") then frame_said operands else
@@ -117,18 +117,18 @@ command_said maps keyword operands =
     (if bytes_eq keyword (codes "sum") then sum_said maps operands else
     (if bytes_eq keyword (codes "wait") then wait_said operands else None)))))))))))
 
--- what words say: nothing where there are none or they are a comment; None where they are malformed
+-- what words ask for: nothing if there are none or they are a comment; `None` if they are malformed
 abbrev pub words_said : List Shape → List (List ℕ) → Option (Option Asked)
 words_said maps [] = Some None
 words_said maps (keyword ∷ operands) =
     (if begins_comment keyword then Some None
     else option_map Some (command_said maps keyword operands))
 
--- what the words of a text say
+-- what the words of a text ask for
 abbrev pub says : List Shape → List ℕ → Option (Option Asked)
 says maps line = words_said maps (words line)
 
--- what a line says that is text; a tab or a carriage return anywhere makes it malformed
+-- the same for a line; a tab or a carriage return anywhere makes it malformed
 abbrev pub text_said : List Shape → List ℕ → Option (Option Asked)
 text_said maps line = (if list_any is_forbidden line then None else says maps line)
 

@@ -7,7 +7,7 @@ use Rattle.apd_script.specs.Asked.{Asked, commands_of}
 use Rattle.apd_script.specs.declared.command.Numbered.{Numbered}
 use Rattle.apd_script.specs.Lines.{line_asks, IsWellFormed}
 
--- a text is cut into lines at its line feeds; where it ends with one, its last line is blank
+-- the lines of a text, split at its line feeds; if it ends with one, its last line is empty
 abbrev pub lines_of : List ℕ → List (List ℕ)
 lines_of text = slice_split (λ c. c == 10) text
 
@@ -15,34 +15,34 @@ lines_of text = slice_split (λ c. c == 10) text
 abbrev pub line_count : List ℕ → ℕ
 line_count text = length (lines_of text)
 
--- the first line of a text, and what follows its line feed, if it has one
+-- the first line of a text, and the text after its line feed, if it has one
 abbrev pub Cuts : List ℕ → List ℕ → Option (Bor (List ℕ)) → Type 0
 Cuts text line None = lines_of text ≡ line ∷ []
 Cuts text line (Some rest) =
     (lines_of text ≡ line ∷ lines_of rest.now) × (length rest.now < length text)
 
--- what a line with a number asks for, before what later lines ask for
+-- what a line with this number asks for, followed by what later lines ask for
 abbrev pub numbered : ℕ → Option Asked → List (ℕ × Asked) → List (ℕ × Asked)
 numbered number None rest = rest
 numbered number (Some asked) rest = (number, asked) ∷ rest
 
--- what lines ask for, each with its number, the first line having this number
+-- what lines ask for, each with its number; the first line has this number
 abbrev pub asked_from : List Shape → ℕ → List (List ℕ) → List (ℕ × Asked)
 asked_from maps number [] = []
 asked_from maps number (line ∷ lines) =
     numbered number (line_asks maps line) (asked_from maps (number + 1) lines)
 
--- the commands `old` and then what the line with this number asks for
+-- the commands `old`, followed by what the line with this number asks for
 abbrev pub AddsLine : List Shape → ℕ → List ℕ → List Numbered → List Numbered → Type 0
 AddsLine maps number line old new =
     commands_of new ≡ commands_of old ++ numbered number (line_asks maps line) []
 
--- no line of the text is malformed, and these are its commands, with their lines' numbers from 1
+-- no line of the text is malformed, and these are its commands, with line numbers counted from 1
 pub record IsScript (maps : List Shape) (text : List ℕ) (commands : List (ℕ × Asked)) : Type 0 where
   pub well_formed : All (IsWellFormed maps) (lines_of text)
   pub asked : commands ≡ asked_from maps 1 (lines_of text)
 
--- the first malformed line of the text is the one after `before` lines
+-- the first malformed line of the text follows `before` lines
 pub record IsMalformedAfter (maps : List Shape) (text : List ℕ) (before : ℕ) : Type 0 where
   pub well_formed : All (IsWellFormed maps) (take before (lines_of text))
   pub line : List ℕ

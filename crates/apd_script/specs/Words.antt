@@ -11,7 +11,7 @@ use Rattle.bpf_regions.specs.Hooks.{name_of}
 use Rattle.bpf_regions.specs.declared.hooks.Hook.{Hook}
 use Rattle.bpf_regions.specs.declared.hooks.Hook.TheVariants.{Association, Addba, Data}
 
--- it has a byte
+-- whether it has a byte
 abbrev pub is_some_text : List ℕ → Bool
 is_some_text t = nat_lt 0 (length t)
 
@@ -19,11 +19,11 @@ is_some_text t = nat_lt 0 (length t)
 abbrev pub if_some : List ℕ → List (List ℕ)
 if_some t = filter is_some_text (t ∷ [])
 
--- one or more spaces part the words of a line, and may stand at its ends
+-- the words of a line, separated by one or more spaces, which may also precede and follow them
 abbrev pub words : List ℕ → List (List ℕ)
 words line = filter is_some_text (slice_split (λ c. c == 32) line)
 
--- the first word of a text, and what follows it; None where the text has no word
+-- the first word of a text, and the rest; `None` if the text has no word
 abbrev pub BeginsWith : List ℕ → Option (Bor (List ℕ) × Bor (List ℕ)) → Type 0
 BeginsWith text None = words text ≡ []
 BeginsWith text (Some (word, rest)) = words text ≡ word.now ∷ words rest.now
@@ -32,20 +32,20 @@ BeginsWith text (Some (word, rest)) = words text ≡ word.now ∷ words rest.now
 abbrev pub texts : List (Bor (List ℕ)) → List (List ℕ)
 texts words = map (λ w. w.now) words
 
--- no line has a tab or a carriage return
+-- a tab or a carriage return, which no line may have
 abbrev pub is_forbidden : ℕ → Bool
 is_forbidden c = c == 9 || c == 13
 
--- a word that begins a comment begins with `#`
+-- a comment's first word begins with `#`
 abbrev pub begins_comment : List ℕ → Bool
 begins_comment [] = false
 begins_comment (c ∷ cs) = c == 35
 
--- decimal digits, one at least, and nothing else; leading zeros are digits as others are
+-- one or more decimal digits, and nothing else; leading zeros are allowed
 abbrev pub is_decimal : List ℕ → Bool
 is_decimal t = is_some_text t && list_all is_ascii_digit t
 
--- the number that decimal digits spell, where it is below a limit
+-- the number that decimal digits spell, if it is below a limit
 abbrev pub number_below : ℕ → List ℕ → Option ℕ
 number_below limit t =
     (if is_decimal t && nat_lt (digits_value 10 t) limit then Some (digits_value 10 t) else None)

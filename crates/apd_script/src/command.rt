@@ -1,4 +1,4 @@
-//! What the lines of a script ask for.
+//! The commands of a script.
 
 use crate::hex_text::HexText;
 use bpf_regions::Hook;
@@ -9,37 +9,35 @@ use mac_types::{Address, Reason, Tid};
 pub struct MapWord {
     /// The map's number.
     pub map: u32,
-    /// The word's number in the map: an entry's index times the words of an entry, and the word's
-    /// place in the entry.
+    /// The word's number in the map: its entry's index times the words of an entry, plus its index in the entry.
     pub word: u32,
 }
 
-/// What a line of a script asks for. Paths and hex digits are the script's own text.
+/// What a line of a script asks for. Paths and hex digits are slices of the script.
 #[derive(Clone, Copy, Debug, PartialEq, Eq)]
 pub enum Command<'a> {
-    /// A frame of any number of bytes comes from the air.
+    /// The access point receives a frame of any number of bytes.
     Frame(HexText<'a>),
-    /// So many units of 1024 microseconds pass.
+    /// This many units of 1024 microseconds pass.
     Tick(u32),
-    /// A station is put back to where it is unknown, with this reason.
+    /// The operator deauthenticates a station with this reason.
     Kick {
         station: Address,
         reason: Reason,
     },
-    /// An agreement of a station is ended.
+    /// The operator ends an agreement of a station.
     Close {
         station: Address,
         tid: Tid,
     },
-    /// The code in a file becomes the program of a hook, once it is verified.
+    /// The code in a file becomes the program of a hook if the verifier accepts it.
     Load {
         hook: Hook,
         path: &'a str,
     },
-    /// A hook is left without a program.
+    /// The program of a hook is removed.
     Unload(Hook),
-    /// The code in a file becomes the program of a hook, once it is checked by the certificate in
-    /// another.
+    /// The code in a file becomes the program of a hook if the certificate in another shows it safe.
     Adopt {
         hook: Hook,
         path: &'a str,
@@ -54,11 +52,11 @@ pub enum Command<'a> {
     Read(MapWord),
     /// A word of a worker map is summed over all workers.
     Sum(MapWord),
-    /// All events so far are handled.
+    /// The run waits until all events so far are handled.
     Wait,
 }
 
-/// A command with the number of its line, from 1.
+/// A command and its line number, counted from 1.
 #[derive(Clone, Copy, Debug, PartialEq, Eq)]
 pub struct Numbered<'a> {
     pub line: u64,

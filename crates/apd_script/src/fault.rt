@@ -1,4 +1,4 @@
-//! Why a text is no script.
+//! Why a text isn't a script.
 
 ghost use Rattle.std.specs.Prelude.{◌≡◌, Some};
 ghost use Rattle.apd_script.specs.declared.fault.ScriptFault.TheVariants.{NoMemory};
@@ -7,12 +7,12 @@ ghost use Rattle.apd_script.specs.Faults.{text_of};
 use std::alloc::AllocError;
 use std::fmt;
 
-/// Why a text is no script. Displayed as `script line N`.
+/// Why a text isn't a script.
 #[derive(Clone, Copy, Debug, PartialEq, Eq)]
 pub enum ScriptFault {
-    /// The number of the first malformed line, from 1.
+    /// The number of the first malformed line, counted from 1; displayed as `script line N`.
     Line(u64),
-    /// Memory ran out.
+    /// An allocation failed.
     NoMemory,
 }
 

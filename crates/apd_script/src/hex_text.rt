@@ -1,4 +1,4 @@
-//! Bytes that are kept as the hex digits that spell them.
+//! Bytes, kept as hex digits.
 
 ghost use Rattle.std.specs.Prelude.{◌≡◌, is_ok, IsOk, IsSome, IfSome, IfOk, ◌↔◌};
 ghost use Rattle.std.specs.List.{list_all};
@@ -15,7 +15,7 @@ pub struct HexText<'a> {
     ghost hex: { IsOk (decode_of digits.now) },
 }
 
-/// Whether all are hex digits. Each one is tested, since a loop without a branch is the fastest.
+/// Whether all are hex digits. It tests every one, since a loop without a branch is fastest.
 pub(crate) fn are_digits(digits: &[u8]) -> bool
     ensures is { result ≡ list_all is_ascii_hexdigit digits.now }
 {
@@ -34,7 +34,7 @@ fn is_hex(digits: &[u8]) -> bool
 }
 
 impl<'a> HexText<'a> {
-    /// None where a character is no hex digit, or their number is odd.
+    /// `None` if a character isn't a hex digit, or the number of digits is odd.
     pub fn new(digits: &'a str) -> Option<Self>
         ensures valid { IsSome result ↔ IsOk (decode_of digits.entry.now) }
         ensures same { IfSome result (λ text. text.digits.now ≡ digits.entry.now) }
@@ -46,7 +46,7 @@ impl<'a> HexText<'a> {
         }
     }
 
-    /// The bytes, in memory of their own.
+    /// The bytes, in an allocation of their own.
     pub fn bytes(&self, alloc: Global) -> Result<Vec<u8>, AllocError>
         ensures is { IfOk result (λ bytes. bytes.items ≡ bytes_of self.now.digits.now) }
     {

@@ -1,8 +1,8 @@
-//! The script of a run: its lines are read before the first of them is done.
+//! The script of a run, which is parsed as a whole before any line runs.
 //!
-//! Main call: `read_script`. It stands on `bpf_regions` and `mac_types`. It answers exactly the commands
-//! that the text has, each with the number of its line, or the number of the first line that is
-//! malformed. `line_fault` says in words why that line is.
+//! Main call: `read_script`. It depends on `bpf_regions` and `mac_types`. It returns exactly the commands of the text,
+//! each with its line number, or the number of the first malformed line. `line_fault` says in words why that line is
+//! malformed.
 #![tactic(auto)]
 
 mod command;

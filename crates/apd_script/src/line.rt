@@ -1,4 +1,4 @@
-//! What a line of a script says.
+//! Reading a line of a script.
 
 ghost use Rattle.std.specs.Prelude.{◌≡◌, ◌<◌, ◌≤◌, ◌++◌, ◌↔◌, take, length, Some, None, IsOk, IfSome, IfNone, IfOk, OnErr};
 ghost use Rattle.std.specs.List.{list_any};
@@ -11,11 +11,11 @@ use crate::operands::command;
 use bpf_regions::Shapes;
 use std::str;
 
-/// A line that no script has.
+/// The line is malformed.
 #[derive(Clone, Copy, Debug)]
 pub(crate) struct Malformed;
 
-/// What stands before the first space of a text, and what after it.
+/// The parts of a text before and after its first space.
 fn cut_at_space(text: &str) -> (&str, &str)
     ensures parts { words text.now ≡ if_some result.0.now ++ words result.1.now }
     ensures shorter { 0 < length text.now → length result.1.now < length text.now }
@@ -26,7 +26,7 @@ fn cut_at_space(text: &str) -> (&str, &str)
     }
 }
 
-/// The first word of a text, and what follows it.
+/// The first word of a text, and the rest.
 #[tactic(auto, using(crate::proofs::Parts::empty, crate::proofs::Parts::some_word, crate::proofs::Parts::no_word))]
 pub(crate) fn next_word(text: &str) -> Option<(&str, &str)>
     ensures first { BeginsWith text.now result }
@@ -43,7 +43,7 @@ pub(crate) fn next_word(text: &str) -> Option<(&str, &str)>
     None
 }
 
-/// Puts the words of a text in order, and tells how many there are; None for more than four.
+/// Writes the words of a text into `cut`, in order, and returns how many there are; `None` if there are more than four.
 pub(crate) fn cut_words<'a>(text: &'a str, cut: &mut [&'a str; 4]) -> Option<usize>
     ensures cut { IfSome result (λ count. words text.now ≡ texts (take count cut.new)) }
     ensures few { IfSome result (λ count. count ≤ 4) }
@@ -69,7 +69,7 @@ fn begins_comment(word: &str) -> bool
     matches!(word.as_bytes(), [b'#', ..])
 }
 
-/// What words after one another say; nothing where there are none or they are a comment.
+/// What a line of words asks for; nothing if it has none or is a comment.
 fn read_words<'a>(shapes: &Shapes, line: &'a str) -> Result<Option<Command<'a>>, Malformed>
     ensures said { IfOk result (λ said. says shapes.now line.now ≡ Some (asked_by said)) }
     ensures malformed { OnErr result (says shapes.now line.now ≡ None) }
@@ -91,8 +91,7 @@ fn read_words<'a>(shapes: &Shapes, line: &'a str) -> Result<Option<Command<'a>>,
     }
 }
 
-/// Whether a line has a tab or a carriage return. Each byte is tested, since a loop without a
-/// branch is the fastest.
+/// Whether a line has a tab or a carriage return. It tests every byte, since a loop without a branch is fastest.
 fn has_forbidden(line: &[u8]) -> bool
     ensures is { result ≡ list_any is_forbidden line.now }
 {

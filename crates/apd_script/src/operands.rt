@@ -1,4 +1,4 @@
-//! What a keyword asks for with the words after it.
+//! What a keyword and its operands ask for.
 
 ghost use Rattle.std.specs.Prelude.{◌≡◌, ◌<◌, IfSome};
 ghost use Rattle.bpf_regions.specs.Maps.{IsShape, word_count};
@@ -90,7 +90,7 @@ fn adopt<'a>(operands: &[&'a str]) -> Option<Command<'a>>
     })
 }
 
-/// The word of a map, where the map has that scope.
+/// The word of a map, if the map has that scope.
 fn word_in(scope: Scope, map: u32, shape: Shape, index: &str, word: &str) -> Option<MapWord>
     requires { IsShape shape }
     ensures is { result ≡ word_in scope map shape index.now word.now }
@@ -108,7 +108,7 @@ fn word_in(scope: Scope, map: u32, shape: Shape, index: &str, word: &str) -> Opt
     }
 }
 
-/// The word that a map's number, an entry's index and a place in the entry name.
+/// The word at a map's number, an entry's index and an index in the entry.
 fn word_named(shapes: &Shapes, scope: Scope, map: &str, index: &str, word: &str) -> Option<MapWord>
     ensures is { result ≡ word_said shapes.now scope map.now index.now word.now }
     ensures within { IfSome result (IsWordOf shapes.now scope) }
@@ -163,7 +163,7 @@ fn wait<'a>(operands: &[&'a str]) -> Option<Command<'a>>
     }
 }
 
-/// What a keyword asks for with the words after it.
+/// What a keyword and its operands ask for.
 pub(crate) fn command<'a>(
     shapes: &Shapes,
     keyword: &str,

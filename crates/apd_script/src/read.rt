@@ -1,4 +1,4 @@
-//! A script from its text.
+//! Reading a script from its text.
 
 ghost use Rattle.std.specs.Prelude.{◌≡◌, ◌<◌, ◌≤◌, ◌+◌, IfOk, IfErr, OnOk, OnErr, vec_len, vec_capacity};
 ghost use Rattle.apd_script.specs.Asked.{commands_of, NameWords, NamesMore};
@@ -19,7 +19,7 @@ fn count_lines(text: &[u8]) -> usize
     memchr_iter(b'\n', text).count() + 1
 }
 
-/// The first line of a text, and what follows its line feed.
+/// The first line of a text, and the text after its line feed.
 pub(crate) fn first_line(text: &[u8]) -> (&[u8], Option<&[u8]>)
     ensures cut { Cuts text.now result.0.now result.1 }
 {
@@ -29,7 +29,7 @@ pub(crate) fn first_line(text: &[u8]) -> (&[u8], Option<&[u8]>)
     }
 }
 
-/// Adds what the line with this number asks for to the commands.
+/// Appends what the line with this number asks for.
 fn add_line<'a>(
     commands: &mut Vec<Numbered<'a>>,
     shapes: &Shapes,
@@ -59,9 +59,9 @@ fn add_line<'a>(
     }
 }
 
-/// The commands of a script, with their lines' numbers. The first malformed line refuses the
-/// script by its number. `shapes` are those of the configured maps. Memory is taken once, a place
-/// for each line; paths and frames stay in the text.
+/// The commands of a script with their line numbers, or the number of the first malformed line. `shapes` are the shapes
+/// of the configured maps, which have each word that a command names. One allocation reserves room for a command a
+/// line; paths and frames are slices of the text.
 pub fn read_script<'a>(
     alloc: Global,
     text: &'a [u8],

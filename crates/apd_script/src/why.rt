@@ -7,7 +7,7 @@ use crate::words::{address, hook_named, number, number_below};
 use bpf_regions::{Scope, Shape, Shapes};
 use std::{fmt, str};
 
-/// Why a line is malformed. It is displayed in words, of which nothing is promised.
+/// Why a line is malformed. It is displayed in words; no contract promises anything of them.
 #[derive(Clone, Copy, Debug)]
 pub enum LineFault<'a> {
     /// The whole text is a capture.
@@ -18,14 +18,14 @@ pub enum LineFault<'a> {
     Tab,
     CarriageReturn,
     Encoding,
-    /// No command has the name; there may be one that nearly has it.
+    /// No command has this name; `near` is a similar one, if there is one.
     UnknownWord {
         word: &'a str,
         near: Option<&'static str>,
     },
-    /// The command takes another number of words.
+    /// The command takes another number of operands.
     Operands(Form),
-    /// A word isn't what the command takes at its place.
+    /// The command doesn't take this operand.
     Operand {
         keyword: &'static str,
         word: &'a str,
@@ -33,7 +33,7 @@ pub enum LineFault<'a> {
     },
 }
 
-/// Why a word isn't what a command takes at its place.
+/// Why a command doesn't take an operand.
 #[derive(Clone, Copy, Debug)]
 pub enum OperandFault {
     NoDigits,
@@ -44,18 +44,18 @@ pub enum OperandFault {
     NoTid,
     NoHook,
     NoNumber,
-    /// So many maps there are.
+    /// The number of maps.
     NoMap(usize),
-    /// So many entries the map has.
+    /// The number of the map's entries.
     NoEntry(u32),
-    /// So many words an entry of the map has.
+    /// The number of words of the map's entries.
     NoWord(u32),
-    /// The scope that the map has.
+    /// The map's scope.
     OtherScope(Scope),
     NoValue,
 }
 
-/// What a command takes at a place.
+/// A kind of operand.
 #[derive(Clone, Copy, Debug)]
 pub(crate) enum Operand {
     Digits,
@@ -72,7 +72,7 @@ pub(crate) enum Operand {
     Value,
 }
 
-/// How a command is written: its name, what it takes, and the scope of the map whose words it is for, if it is.
+/// How a command is written: its name, its operands, and the scope of the map whose words it takes, if it takes any.
 #[derive(Clone, Copy, Debug)]
 pub struct Form {
     keyword: &'static str,
@@ -138,7 +138,7 @@ const FORMS: [Form; 11] = [
     },
 ];
 
-/// How the files of captures begin.
+/// The first bytes of capture files.
 const CAPTURES: [&[u8]; 5] = [
     b"\xd4\xc3\xb2\xa1",
     b"\xa1\xb2\xc3\xd4",
@@ -147,10 +147,10 @@ const CAPTURES: [&[u8]; 5] = [
     b"\x0a\x0d\x0d\x0a",
 ];
 
-/// How many characters of a word are repeated in a message.
+/// The most characters of a word that a message repeats.
 const SHOWN: usize = 40;
 
-/// Why the line with this number, from 1, of a text is malformed. None where it is well formed.
+/// Why the line of a text with this number, counted from 1, is malformed; `None` if it is well formed.
 pub fn line_fault<'a>(text: &'a [u8], number: u64, shapes: &Shapes) -> Option<LineFault<'a>> {
     if is_capture(text) {
         return Some(LineFault::Capture);
@@ -183,7 +183,7 @@ fn is_capture(text: &[u8]) -> bool {
     false
 }
 
-/// The line with this number, from 1; the last one where there are fewer.
+/// The line with this number, counted from 1, or the last line if there are fewer.
 fn line_at(text: &[u8], number: u64) -> &[u8] {
     let mut rest = text;
     for _ in 1..number {
@@ -195,7 +195,7 @@ fn line_at(text: &[u8], number: u64) -> &[u8] {
     first_line(rest).0
 }
 
-/// Why the words of a line are no command.
+/// Why the words of a line aren't a command.
 fn command_fault<'a>(shapes: &Shapes, line: &'a str) -> Option<LineFault<'a>> {
     match next_word(line) {
         Some((word, rest)) => match form_of(word) {
@@ -209,7 +209,7 @@ fn command_fault<'a>(shapes: &Shapes, line: &'a str) -> Option<LineFault<'a>> {
     }
 }
 
-/// Why what follows a command's name is nothing that it takes.
+/// Why the text after a command's name isn't its operands.
 fn form_fault<'a>(shapes: &Shapes, form: Form, rest: &'a str) -> Option<LineFault<'a>> {
     let mut operands = [""; 4];
     match cut_words(rest, &mut operands) {
@@ -220,7 +220,7 @@ fn form_fault<'a>(shapes: &Shapes, form: Form, rest: &'a str) -> Option<LineFaul
     }
 }
 
-/// Why one of so many words as a command takes isn't what it takes there.
+/// Why one of a command's operands, whose number is right, isn't allowed.
 fn operand_fault<'a>(shapes: &Shapes, form: Form, words: &[&'a str]) -> Option<LineFault<'a>> {
     match first_fault(shapes, form, words) {
         Some((place, fault)) => match words.get(place) {
@@ -244,7 +244,7 @@ fn form_of(word: &str) -> Option<Form> {
     None
 }
 
-/// The name of a command that one slip makes the word.
+/// The name of a command that differs from a word by one typing error.
 fn near(word: &str) -> Option<&'static str> {
     for form in FORMS {
         if is_near(word.as_bytes(), form.keyword.as_bytes()) {
@@ -254,7 +254,7 @@ fn near(word: &str) -> Option<&'static str> {
     None
 }
 
-/// Whether two words differ in a letter, in the order of two, or in their case alone.
+/// Whether two words differ in one letter, in the order of two, or only in case.
 fn is_near(word: &[u8], keyword: &[u8]) -> bool {
     if word.eq_ignore_ascii_case(keyword) {
         return true;
@@ -274,7 +274,7 @@ fn is_near(word: &[u8], keyword: &[u8]) -> bool {
     }
 }
 
-/// How many bytes two words have in common at their beginnings.
+/// The length of two words' common prefix.
 fn common_front(word: &[u8], other: &[u8]) -> usize {
     let mut count: usize = 0;
     for (byte, another) in word.iter().zip(other.iter()) {
@@ -286,7 +286,7 @@ fn common_front(word: &[u8], other: &[u8]) -> usize {
     count
 }
 
-/// How many bytes two words have in common at their ends.
+/// The length of two words' common suffix.
 fn common_back(word: &[u8], other: &[u8]) -> usize {
     let mut count: usize = 0;
     for (byte, another) in word.iter().rev().zip(other.iter().rev()) {
@@ -298,7 +298,7 @@ fn common_back(word: &[u8], other: &[u8]) -> usize {
     count
 }
 
-/// The place of the first word that isn't what the command takes there, and why.
+/// The index of the first operand that isn't allowed, and why.
 fn first_fault(shapes: &Shapes, form: Form, words: &[&str]) -> Option<(usize, OperandFault)> {
     if let Some(scope) = form.scope {
         return map_fault(shapes, scope, words);
@@ -312,7 +312,7 @@ fn first_fault(shapes: &Shapes, form: Form, words: &[&str]) -> Option<(usize, Op
     None
 }
 
-/// Why a word isn't what a command takes that is for no map.
+/// Why an operand isn't allowed, if the command takes no map's words.
 fn word_fault(operand: Operand, word: &str) -> Option<OperandFault> {
     let (is_one, fault) = match operand {
         Operand::Digits => (HexText::new(word).is_some(), digit_fault(word)),
@@ -340,7 +340,7 @@ fn digit_fault(word: &str) -> OperandFault {
     }
 }
 
-/// Why words name no word of a map with this scope, or spell no value for it.
+/// Why operands don't name a word of a map with this scope, or a value for it.
 fn map_fault(shapes: &Shapes, scope: Scope, words: &[&str]) -> Option<(usize, OperandFault)> {
     let [map, entry, word, ..] = words else {
         return None;
@@ -371,7 +371,7 @@ fn shape_named(shapes: &Shapes, map: &str) -> Option<Shape> {
     shapes.get(map as u32)
 }
 
-/// A word as it can be repeated in a message: its first characters, control characters escaped.
+/// A word as messages show it: its first characters, control characters escaped.
 #[derive(Clone, Copy)]
 struct Shown<'a>(&'a str);
 
@@ -392,7 +392,7 @@ impl fmt::Display for Shown<'_> {
 }
 
 impl Operand {
-    /// The operand as a manual names it.
+    /// The operand's name in the manual.
     fn name(self) -> &'static str {
         match self {
             Operand::Digits => "HEX",
@@ -424,7 +424,7 @@ impl fmt::Display for Form {
     }
 }
 
-/// Tells the fault of a word that a command has.
+/// Writes the fault of an operand.
 fn write_operand<W: fmt::Write>(
     f: &mut fmt::Formatter<W>,
     keyword: &str,
@@ -449,7 +449,7 @@ fn write_operand<W: fmt::Write>(
     }
 }
 
-/// Tells the fault of a word that a command for maps has.
+/// Writes the fault of an operand of a command for maps.
 fn write_map_operand<W: fmt::Write>(
     f: &mut fmt::Formatter<W>,
     keyword: &str,

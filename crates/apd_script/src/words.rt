@@ -13,7 +13,7 @@ fn is_decimal(text: &[u8]) -> bool
     !text.is_empty() && text.iter().all(|byte| byte.is_ascii_digit())
 }
 
-/// The number that decimal digits spell, where it fits 64 bits. There is no sign.
+/// The number that decimal digits without a sign spell, if it is below 2^64.
 pub(crate) fn number(text: &str) -> Option<u64>
     ensures is { result ≡ number_below (2 ^ 64) text.now }
 {
@@ -23,7 +23,7 @@ pub(crate) fn number(text: &str) -> Option<u64>
     text.parse().ok()
 }
 
-/// The number that decimal digits spell, where it is below a limit.
+/// The number that decimal digits spell, if it is below a limit.
 pub(crate) fn number_below(limit: u64, text: &str) -> Option<u64>
     ensures is { result ≡ number_below limit text.now }
     ensures below { IfSome result (λ number. number < limit) }
@@ -42,7 +42,6 @@ pub(crate) fn address(text: &str) -> Option<Address>
     Some(Address::new(octets))
 }
 
-/// The hook of that name.
 pub(crate) fn hook_named(text: &str) -> Option<Hook>
     ensures is { result ≡ hook_named text.now }
 {

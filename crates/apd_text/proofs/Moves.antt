@@ -1,4 +1,4 @@
--- Text that is written in parts, one after the other.
+-- Text that is written in consecutive parts.
 use Rattle.std.proofs.Common.{◌≡◌, ℕ, suc, ◌+◌, ◌<◌, List, ◌++◌, Option, length, drop, get_or, sym, ap, ◌∙◌, append_assoc, drop-cons, add-one}
 use Rattle.std.proofs.KnownBytes.{Appends-trans}
 use Rattle.apd_files.specs.Beginning.{AppendsBeginning}
@@ -20,7 +20,7 @@ parts taken text mine taken2 left rest e =
     ap (λ l. taken ++ l) (sym (append_assoc text mine rest) ∙ ap (λ l. l ++ rest) e ∙ append_assoc taken2 left rest)
     ∙ sym (append_assoc taken taken2 (left ++ rest))
 
--- one report more
+-- one more report
 pub moves_more : (a b c : Option (List ℕ)) (all text mine left rest next : List ℕ) → MovesOn a b all (text ++ next) → next ≡ mine ++ rest
     → MovesOn b c (text ++ mine) left → MovesOn a c all (left ++ rest)
 moves_more a b c all text mine left rest next m e n =
@@ -30,7 +30,7 @@ moves_more a b c all text mine left rest next m e n =
       appended = Appends-trans a b c m.taken n.taken m.appended n.appended;
     }
 
--- a beginning of one report more
+-- a prefix of one more report
 pub begins_more : (a b c : Option (List ℕ)) (all text mine rest next : List ℕ) → MovesOn a b all (text ++ next) → next ≡ mine ++ rest
     → AppendsBeginning b c (text ++ mine) → AppendsBeginning a c all
 begins_more a b c all text mine rest next m e n =
@@ -41,7 +41,7 @@ begins_more a b c all text mine rest next m e n =
       appended = Appends-trans a b c m.taken n.taken m.appended n.appended;
     }
 
--- a beginning of what the text holds
+-- a prefix of the text
 pub begins_last : (a b c : Option (List ℕ)) (all text rest : List ℕ) → MovesOn a b all (text ++ rest) → AppendsBeginning b c text → AppendsBeginning a c all
 begins_last a b c all text rest m n =
     record {

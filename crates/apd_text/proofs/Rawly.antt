@@ -1,11 +1,11 @@
--- Lines of slots, one after another.
+-- Consecutive lines of slots.
 use Rattle.std.proofs.Common.{◌≡◌, ◌≤◌, ◌<◌, ◌+◌, ◌-◌, ◌/◌, ℕ, Bool, true, false, List, [], ◌∷◌, ◌++◌, length, take, drop, Option, if◌then◌else◌, refl, sym, subst, append_assoc, arith, length-drop}
 use Rattle.std.proofs.lemmas.List.{append-nil}
 use Rattle.bpf_insn.specs.declared.insn.Insn.{Insn}
 use Rattle.bpf_insn.specs.Spelled.{Spelled}
 use Rattle.apd_text.specs.Raw.{insn_line, slot_line, second_of, after_insn, IsFirstLine, OfInsn, OfSlot, OfRest, Lists, IsRawOf, IsRaw, Nothing, More}
 
--- whatever lines follow, with those so far they are the lines of the whole
+-- the lines so far, followed by those of the rest, are the lines of the whole
 abbrev pub GoesOn : Bool → List ℕ → List ℕ → List ℕ → Type 0
 GoesOn slots code text rest = (more : List ℕ) → IsRawOf slots (length code) rest more → IsRaw slots code (text ++ more)
 

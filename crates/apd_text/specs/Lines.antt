@@ -10,15 +10,15 @@ use Rattle.apd_text.specs.declared.reports.report.Told.{Told}
 use Rattle.apd_text.specs.declared.reports.report.Told.TheVariants as told
 use Rattle.apd_text.specs.declared.reports.report.Report.{Report}
 
--- the number of a script's line, what is said of it, and a line feed (10)
+-- the number of a script's line, its report, and a line feed (10)
 abbrev pub line_of : ℕ → List ℕ → List ℕ
 line_of number words = then (decimal number) (words ++ 10 ∷ [])
 
--- a line for each out, in order
+-- a line for each output, in order
 abbrev pub outs_text : ℕ → List Out → List ℕ
 outs_text number outs = flat_map (λ out. line_of number (out_words out)) outs
 
--- what was handed over of a line of a script, as text
+-- the report on a line of a script, as text
 abbrev pub told_text : ℕ → Told → List ℕ
 told_text number (told.Handled outs dropped) = outs_text number outs.items
 told_text number told.Memory = line_of number (codes "memory")
@@ -34,7 +34,7 @@ told_text number (told.Word value) = line_of number (then (codes "word") (decima
 abbrev pub report_text : Report → List ℕ
 report_text r = told_text r.line r.told
 
--- reports one after the other
+-- reports in sequence
 abbrev pub reports_text : List Report → List ℕ
 reports_text reports = flat_map report_text reports
 

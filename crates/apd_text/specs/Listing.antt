@@ -4,7 +4,7 @@ use Rattle.bpf_insn.specs.declared.insn.Insn.{Insn}
 use Rattle.bpf_line.specs.Spellings.{text_of}
 use Rattle.bpf_decode.specs.Program.{IsTarget}
 
--- what stands before a slot that is a target, and before another
+-- the mark of a slot that is a target, and that of another
 abbrev pub mark_of : Bool → List ℕ
 mark_of true = codes "> "
 mark_of false = codes "  "
@@ -13,20 +13,20 @@ mark_of false = codes "  "
 abbrev pub listing_line : Bool → ℕ → Insn → List ℕ
 listing_line target slot insn = mark_of target ++ (decimal slot ++ (32 ∷ (text_of insn ++ 10 ∷ [])))
 
--- the line of a slot where an instruction starts
+-- the line of a slot that begins an instruction
 pub record IsLine
     (slots : List (Option Insn)) (slot : ℕ) (insn : Insn) (line : List ℕ) : Type 0 where
   pub target : Bool
   pub told : IsTrue target ↔ IsTarget slots slot
   pub is : line ≡ listing_line target slot insn
 
--- the line of a slot: no line where no instruction starts
+-- the line of a slot; empty if it begins no instruction
 abbrev pub IsLineAt : List (Option Insn) → ℕ → Option (Option Insn) → List ℕ → Type 0
 IsLineAt slots slot (Some (Some insn)) line = IsLine slots slot insn line
 IsLineAt slots slot (Some None) line = line ≡ []
 IsLineAt slots slot None line = line ≡ []
 
--- a text grows by the line of a slot
+-- the line of a slot is appended to a text
 pub record Grows (slots : List (Option Insn)) (slot : ℕ) (old new : List ℕ) : Type 0 where
   pub line : List ℕ
   pub is : IsLineAt slots slot (slice_get slots slot) line

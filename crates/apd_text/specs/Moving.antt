@@ -2,7 +2,7 @@
 use Rattle.std.specs.Prelude.{◌≡◌, ℕ, List, ◌++◌, Option}
 use Rattle.std.specs.Io.KnownBytes.{Appends}
 
--- a beginning of the text was written, and this is left of it
+-- a prefix of the text was written, and this is left
 pub record MovesOn (old new : Option (List ℕ)) (text left : List ℕ) : Type 0 where
   pub taken : List ℕ
   pub whole : text ≡ taken ++ left

@@ -1,4 +1,4 @@
--- The page on a number, as far as something is promised of it.
+-- What contracts promise of the page on a number.
 use Rattle.std.specs.Prelude.{◌≡◌, ℕ, ◌<◌, ◌^◌, List, ◌++◌, codes, decimal}
 
 -- a page begins with its number

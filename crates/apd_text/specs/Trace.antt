@@ -12,20 +12,20 @@ use Rattle.bpf_machine.specs.declared.outcome.Outcome.{Outcome}
 use Rattle.bpf_helpers.specs.Plain.{Plain, zeros, answer_of, left_after}
 use Rattle.apd_text.specs.TraceLines.{run_text}
 
--- 32 bytes of zeros, but for the number of the hook in byte 6
+-- 32 bytes that are 0 except for byte 6, the number of the hook
 abbrev pub context_of : Hook → List ℕ
 context_of hook = replicate 6 0 ++ (number_of hook ∷ replicate 25 0)
 
--- maps of zeros, clock 0, no stations, and the word that is drawn first
+-- maps whose words are 0, clock 0, no stations, and the first number drawn
 abbrev pub port_of : List Shape → ℕ → Plain
 port_of shapes draw = record { tables = map zeros shapes; clock = 0; stations = 0; draw = draw }
 
--- the maps, the clock, the stations and the draw word answer an ask
+-- the maps, the clock, the stations and the draw word answer a query
 abbrev pub Gives : Plain → Ask → ℕ → Plain → Type 0
 Gives p q a p2 = (a ≡ answer_of p q) × (p2 ≡ left_after p q)
 
--- The text of the program's run on the frame with the context. Each step is made where an instruction starts, and there are no more
--- steps than the program's budget.
+-- The text of the program's run on the frame with the context. Each step begins an instruction, and there are at most
+-- as many steps as the program's budget.
 pub record IsTrace (program : Verified) (frame context : List ℕ) (draw : ℕ) (text : List ℕ) : Type 0 where
   pub port : Plain
   pub log : List Step

@@ -12,11 +12,11 @@ insn_line pc insn = decimal pc ++ (32 ∷ (text_of insn ++ 10 ∷ []))
 abbrev pub note_line : ℕ → List ℕ
 note_line n = codes "note " ++ (decimal n ++ 10 ∷ [])
 
--- `r0 N steps N`: the result, and how many steps were made
+-- `r0 N steps K`: the result and the number of steps
 abbrev pub end_line : ℕ → ℕ → List ℕ
 end_line r0 steps = codes "r0 " ++ (decimal r0 ++ (codes " steps " ++ (decimal steps ++ 10 ∷ [])))
 
--- nothing where no instruction starts; no step is made there
+-- empty if no instruction starts there; no step is there
 abbrev pub line_at : ℕ → Option (Option Insn) → List ℕ
 line_at pc (Some (Some insn)) = insn_line pc insn
 line_at pc (Some None) = []
@@ -27,7 +27,7 @@ abbrev pub noted_line : Option ℕ → List ℕ
 noted_line (Some n) = note_line n
 noted_line None = []
 
--- a step: its instruction, and what it noted
+-- a step: its instruction and its note
 abbrev pub step_lines : List (Option Insn) → Step → List ℕ
 step_lines slots step = line_at step.pc (slice_get slots step.pc) ++ noted_line step.note
 
@@ -36,6 +36,6 @@ abbrev pub steps_text : List (Option Insn) → List Step → List ℕ
 steps_text slots [] = []
 steps_text slots (step ∷ log) = step_lines slots step ++ steps_text slots log
 
--- the steps one after another, and what the run came to
+-- the lines of the steps, and that of the result
 abbrev pub run_text : List (Option Insn) → List Step → ℕ → ℕ → List ℕ
 run_text slots log r0 steps = steps_text slots log ++ end_line r0 steps

@@ -1,4 +1,4 @@
--- What a line of a run says, after its number.
+-- The words of a run's line after its number.
 use Rattle.std.specs.Prelude.{ℕ, List, [], ◌∷◌, ◌++◌, codes, decimal, Option, Some, None}
 use Rattle.hex.specs.Hex.{encode_lower}
 use Rattle.mac_types.specs.Texts.{address_text}
@@ -6,7 +6,7 @@ use Rattle.ap_model.specs.declared.event.Out.{Out}
 use Rattle.ap_model.specs.declared.event.Out.TheVariants.{Send, Up, Note}
 use Rattle.ap_model.specs.declared.event.Up as passed
 
--- words one after the other, with a space (32) between them
+-- words separated by a space (32)
 abbrev pub then : List ℕ → List ℕ → List ℕ
 then word words = word ++ 32 ∷ words
 
@@ -26,7 +26,7 @@ up_words u =
     then (address_text u.source) (then (address_text u.destination)
     (then (tid_word u.tid) (then (decimal u.number) (then (decimal u.mark) (bytes_word u.body)))))
 
--- a frame that is sent, data that is passed up, or a note
+-- a frame sent, data passed up, or a note
 abbrev pub out_words : Out → List ℕ
 out_words (Send frame) = then (codes "send") (encode_lower frame)
 out_words (Up u) = then (codes "up") (up_words u)

@@ -1,7 +1,7 @@
-//! What a traced program is told: the 32 bytes of a context, from words and from the frame itself.
+//! The context of a traced program: 32 bytes, from words and from the frame itself.
 //!
-//! Main call: `context_for`. It stands on `hex` and `bpf_regions`. Without words and without the frame's fields a context is
-//! zeros but for the hook's number. What words and frames spell is shown by tests.
+//! Main call: `context_for`. It depends on `hex` and `bpf_regions`. Without words and the frame's fields, a context is
+//! 0 except for the hook's number. Only tests show what words and frames spell.
 
 ghost use Rattle.std.specs.Prelude.{◌≡◌, None, false, IsOk, IfOk, slice_index};
 ghost use Rattle.bpf_regions.specs.Hooks.{number_of};
@@ -11,10 +11,10 @@ use bpf_regions::{Context, Hook};
 use hex::FromHex;
 use std::fmt;
 
-/// Why there is no context. It is displayed in words, of which nothing is promised.
+/// Why there is no context. It is displayed in words; no contract promises anything of them.
 #[derive(Clone, Copy, Debug)]
 pub enum ContextFault<'a> {
-    /// The words have something that isn't KEY=VALUE.
+    /// A word isn't KEY=VALUE.
     NoPair(&'a str),
     /// The hook's context has no such key.
     UnknownKey {
@@ -22,17 +22,17 @@ pub enum ContextFault<'a> {
         hook: Hook,
     },
     NoAddress,
-    /// The value of a key is no number of those from the first to the last.
+    /// The value of a key isn't a number from `first` to `last`.
     NoNumber {
         key: &'static str,
         first: u16,
         last: u16,
     },
-    /// The frame is none that the hook judges.
+    /// The hook doesn't judge such frames.
     OtherFrame(Hook),
 }
 
-/// A number in a context: its key, its place, whether it has two bytes, and from where to where it goes.
+/// A number in a context: its key, its index, whether it has two bytes, and its least and greatest value.
 #[derive(Clone, Copy)]
 struct Field {
     key: &'static str,
@@ -141,8 +141,9 @@ const OF_DATA: [Field; 3] = [
 /// The TID of a frame that has none.
 const NO_TID: u8 = 255;
 
-/// The context of a hook for a frame: the words' values, before them the frame's own where they count, and zeros. Words are
-/// KEY=VALUE with commas between.
+/// The context of a hook for a frame: the values of the words, which are KEY=VALUE separated by commas; otherwise the
+/// frame's own fields, if `from_frame` is set; otherwise 0. Its byte 6 is always the hook's number. Without words and
+/// `from_frame` it succeeds.
 pub fn context_for<'a>(
     hook: Hook,
     frame: &[u8],
@@ -163,7 +164,7 @@ pub fn context_for<'a>(
     }
 }
 
-/// The context of words' values, and before them of a frame's own.
+/// The context of words, and of a frame's own fields.
 fn given<'a>(
     hook: Hook,
     frame: Option<&[u8]>,
@@ -184,7 +185,7 @@ fn given<'a>(
     Ok(Context::new(bytes))
 }
 
-/// A context that tells of no station and of the hook alone.
+/// A context that is 0 except for the hook's number.
 fn zeros(hook: Hook) -> Context
     ensures is { result ≡ context_of hook }
 {
@@ -199,7 +200,7 @@ fn put(bytes: &mut [u8; 32], place: usize, byte: u8) {
     }
 }
 
-/// Puts a number of two bytes, the low one first.
+/// Writes a number of two bytes, the low one first.
 fn put_word(bytes: &mut [u8; 32], place: usize, number: u16) {
     let [low, high] = number.to_le_bytes();
     put(bytes, place, low);
@@ -212,7 +213,7 @@ fn word_at(frame: &[u8], place: usize) -> Option<u16> {
     Some(u16::from_le_bytes([low, high]))
 }
 
-/// What a frame says of itself that the hook tells. None where the hook doesn't judge it.
+/// A frame's own fields that the hook's context has; `None` if the hook doesn't judge such frames.
 fn read_frame(hook: Hook, frame: &[u8], bytes: &mut [u8; 32]) -> Option<()> {
     let kind = *frame.first()?;
     match (hook, kind) {
@@ -241,8 +242,8 @@ fn read_association(frame: &[u8], is_reassociation: bool, bytes: &mut [u8; 32]) 
     Some(())
 }
 
-/// Of a request for an agreement: its parameters have the TID in bits 2 to 5 and the size from bit 6 on, and its starting
-/// number has a fragment's number in the low four bits.
+/// The fields of an ADDBA request: its parameters have the TID in bits 2 to 5 and the size from bit 6 on, and its
+/// starting sequence control has the fragment number in the low four bits.
 fn read_addba(frame: &[u8], bytes: &mut [u8; 32]) -> Option<()> {
     let parameters = word_at(frame, 27)?;
     let [low, _] = parameters.to_le_bytes();
@@ -256,7 +257,7 @@ fn read_addba(frame: &[u8], bytes: &mut [u8; 32]) -> Option<()> {
     Some(())
 }
 
-/// Of data, with QoS or without.
+/// The fields of data, with QoS or without.
 fn read_data(frame: &[u8], has_qos: bool, bytes: &mut [u8; 32]) -> Option<()> {
     let tid = if has_qos {
         *frame.get(24)? & 15
@@ -268,7 +269,7 @@ fn read_data(frame: &[u8], has_qos: bool, bytes: &mut [u8; 32]) -> Option<()> {
     Some(())
 }
 
-/// The values that words give keys.
+/// The values that words give to keys.
 fn read_words<'a>(
     hook: Hook,
     words: &'a str,
@@ -283,7 +284,6 @@ fn read_words<'a>(
     Ok(())
 }
 
-/// The value of one key.
 fn read_pair<'a>(
     hook: Hook,
     key: &'a str,
@@ -321,7 +321,7 @@ fn put_station(bytes: &mut [u8; 32], station: [u8; 6]) {
     }
 }
 
-/// Puts a number where its field is.
+/// Writes a number to its field.
 fn put_number(bytes: &mut [u8; 32], field: Field, number: u16) {
     let [low, _] = number.to_le_bytes();
     if field.is_wide {
@@ -340,7 +340,7 @@ fn number_in(field: Field, value: &str) -> Option<u16> {
     }
 }
 
-/// Six octets, as 12 hex digits, or with a colon between any two.
+/// Six octets, as 12 hex digits, or with colons.
 fn address_of(text: &str) -> Option<[u8; 6]> {
     let mut digits = [0; 12];
     let mut count: usize = 0;
@@ -357,7 +357,7 @@ fn address_of(text: &str) -> Option<[u8; 6]> {
     <[u8; 6] as FromHex>::from_hex(digits.as_slice()).ok()
 }
 
-/// The numbers that the hook tells beside the common ones.
+/// The numbers in the hook's context besides the common ones.
 fn fields_of(hook: Hook) -> &'static [Field] {
     match hook {
         Hook::Association => &OF_ASSOCIATION,

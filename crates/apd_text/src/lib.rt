@@ -1,5 +1,5 @@
-//! All that `apd` prints: the lines of a run and their order, listings, traces, explanations of what was refused, and the
-//! pages on refusals.
+//! Texts that `apd` prints: the lines of a run and their order, listings, traces, explanations of refusals, and the
+//! pages on them.
 #![tactic(auto)]
 
 mod contexts;

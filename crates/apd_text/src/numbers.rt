@@ -1,13 +1,13 @@
 //! The numbers of refusals that have a page.
 //!
-//! `list_text` lists them with their titles, and `ranges_text` tells in one line which there are. Nothing is promised of the
-//! texts; tests show them.
+//! `list_text` lists them with their titles, and `ranges_text` gives their ranges in one line. Only tests show the
+//! texts.
 
 use crate::refusals::explain;
 use std::alloc::{AllocError, Global};
 use std::fmt::Write;
 
-/// A line for each number that has a page: the number and what it means in a few words.
+/// A line for each number that has a page: the number and the page's title.
 pub fn list_text(alloc: Global) -> Result<String, AllocError> {
     let mut text = String::new(alloc);
     for number in 0..=255u8 {
@@ -18,7 +18,7 @@ pub fn list_text(alloc: Global) -> Result<String, AllocError> {
     Ok(text)
 }
 
-/// The ranges of numbers that have a page, with commas between.
+/// The ranges of numbers that have a page, separated by commas.
 pub fn ranges_text(alloc: Global) -> Result<String, AllocError> {
     let mut text = String::new(alloc);
     let mut first: Option<u8> = None;

@@ -1,7 +1,7 @@
-//! Code slot by slot, also where it is no program.
+//! Code slot by slot, even if it isn't a program.
 //!
-//! Main calls: `raw_text`, the lines, and `raw_faults`, why slots are no instructions. It stands on `bpf_insn`, `bpf_line` and
-//! `hex`. Each byte of the code is in one line: in that of an instruction, or as digits behind `.slot`.
+//! Main calls: `raw_text`, the lines, and `raw_faults`, why slots aren't instructions. It depends on `bpf_insn`,
+//! `bpf_line` and `hex`. Each byte of the code is in one line: that of an instruction, or as digits after `.slot`.
 
 ghost use Rattle.std.specs.Prelude.{◌≡◌, ◌<◌, ◌++◌, IfOk, length};
 ghost use Rattle.std.specs.String.{string_bytes};
@@ -13,7 +13,6 @@ use bpf_line::InsnText;
 use std::alloc::{AllocError, Global};
 use std::fmt::Write;
 
-/// The opcode of an instruction of two slots.
 const WIDE: u8 = 0x18;
 
 fn append_front(text: &mut String, slots: bool, slot: usize) -> Result<(), AllocError>
@@ -50,7 +49,7 @@ fn append_bytes(
     Ok(())
 }
 
-/// The first slot of what follows a slot.
+/// The slot after a slot, if it is whole.
 fn second_slot(others: &[u8]) -> Option<[u8; 8]>
     ensures is { result ≡ second_of others.now }
 {
@@ -60,7 +59,7 @@ fn second_slot(others: &[u8]) -> Option<[u8; 8]>
     }
 }
 
-/// What follows an instruction that begins with a slot: a wide one has the next slot, too.
+/// The code after the instruction that begins with a slot: a wide one has the next slot, too.
 fn after_insn<'c>(first: &[u8; 8], others: &'c [u8]) -> &'c [u8]
     ensures is { result.now ≡ after_insn first.now others.entry.now }
 {
@@ -73,7 +72,7 @@ fn after_insn<'c>(first: &[u8; 8], others: &'c [u8]) -> &'c [u8]
     }
 }
 
-/// Adds the line of the first slot, and answers what follows it.
+/// Appends the line of the first slot, and returns the code after it.
 fn append_first<'c>(
     alloc: Global,
     text: &mut String,
@@ -101,8 +100,8 @@ fn append_first<'c>(
     }
 }
 
-/// A line for each slot of code: its instruction, or `.slot` and its digits where it spells none; with the slot's number in
-/// front where `slots` says so. An instruction of two slots has one line.
+/// A line for each slot of code: its instruction, or `.slot` and its digits if it spells none. The line begins with the
+/// slot's number if `slots` is set. An instruction of two slots has one line.
 pub fn raw_text(alloc: Global, code: &[u8], slots: bool) -> Result<String, AllocError>
     ensures is { IfOk result (λ text. IsRaw slots code.now (string_bytes text)) }
 {
@@ -115,7 +114,7 @@ pub fn raw_text(alloc: Global, code: &[u8], slots: bool) -> Result<String, Alloc
     Ok(text)
 }
 
-/// Why slots of code are no instructions, a line for each.
+/// Why slots of code aren't instructions, a line for each.
 pub fn raw_faults(alloc: Global, code: &[u8]) -> Result<String, AllocError> {
     let mut text = String::new(alloc);
     let mut is_second = false;
@@ -134,7 +133,7 @@ pub fn raw_faults(alloc: Global, code: &[u8]) -> Result<String, AllocError> {
     Ok(text)
 }
 
-/// The line of a slot that is no instruction.
+/// The line of a slot that isn't an instruction.
 fn append_fault(text: &mut String, slot: usize, fault: FieldFault) -> Result<(), AllocError> {
     let number = fault as u8;
     write!(text, "apd: slot {slot}: fault {number}")?;

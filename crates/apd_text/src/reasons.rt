@@ -1,8 +1,8 @@
-//! What the verifier makes of a program, for people: why it refuses one, and what it knew where it stopped, or what
-//! admitting one took.
+//! The verifier's reasons, for people: why it refuses a program and what it knew at that point, or how much work
+//! admitting the program took.
 //!
-//! Main call: `reason_text`. It stands on `bpf_verifier`, which explores the program once more and tells what it
-//! found. The texts are shown by tests; nothing is promised of them.
+//! Main call: `reason_text`. It depends on `bpf_verifier`, whose exploration found what the text says. Only tests show
+//! the texts.
 mod access;
 mod costs;
 mod cure;

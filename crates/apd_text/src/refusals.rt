@@ -1,9 +1,8 @@
-//! What each number of a refusal means, for people: in words, with the habit that leads to it, a program that is
-//! refused so, and the cure.
+//! What each number of a refusal means, for people: in words, with the habit that leads to it, a refused program, and
+//! the fix.
 //!
-//! `explain` gives the page of a number, and `page_text` its text, which begins with the number. The texts stand
-//! here alone. Nothing is promised of them but their numbers; tests show that each program is refused with its
-//! number, and admitted once it is cured.
+//! `explain` returns the page of a number, and `page_text` its text, which begins with the number. The contracts
+//! promise only the numbers. Tests show that each program is refused with its number, and admitted after the fix.
 mod certificates;
 mod code;
 mod frames;

@@ -1,4 +1,4 @@
--- A command line whose words are known one by one: how a command is entered, and how its words are taken.
+-- A command line whose words are known one by one: how a command is entered, and how its words are accepted.
 use Rattle.std.proofs.Common.{◌≡◌, ◌∙◌, ℕ, Bool, true, false, List, [], ◌∷◌, ◌++◌, Some, None, refl, sym, ap, ap₂, append-nil, append_assoc}
 use Rattle.std.specs.Prelude.{find, is_some, option_map}
 use Rattle.std.specs.List.{fold}
@@ -10,7 +10,7 @@ use Rattle.clap.specs.Walk.{Held, Names, Rule, Walk, Text, idle, option, next, v
 use Rattle.clap.specs.Simple.{App, Shape, entered, label_of, names_of, rows_at}
 use Rattle.clap.specs.Faults.{built_fault, check_fault, defaults_fault, entered_fault, level_fault, settle_fault, step_fault, turn_fault, walk_fault}
 
--- the word is no flag, nor the end of the flags
+-- the word isn't a flag, nor the end of the flags
 pub record IsPlain (word : Text) : Type 0 where
   pub dashes : bytes_eq word (45 ∷ 45 ∷ []) ≡ false
   pub long : long_of word ≡ None
@@ -18,14 +18,14 @@ pub record IsPlain (word : Text) : Type 0 where
 
 -- ---- the words of a command
 
--- what is held after the first operand, and after another one
+-- the state after the first operand, and after another one
 abbrev pub first_operand : Text → Text → Held
 first_operand id word = record { rows = []; pending = Some (id, word ∷ []); skip = 0 }
 
 abbrev pub next_operand : Shape → Text → Text → Held → Held
 next_operand s id word h = pushed id word (settled s.rules h)
 
--- what is held after the name of an option, and after its value
+-- the state after the name of an option, and after its value
 abbrev pub option_named : Shape → Text → Held → Held
 option_named s id h = record (settled s.rules h) { pending = Some (id, []) }
 
@@ -40,7 +40,7 @@ between h n = record { held = h; waiting = idle; position = n; is_trailing = fal
 abbrev pub before_value : Held → Text → ℕ → Walk
 before_value h id n = record { held = h; waiting = option id; position = n; is_trailing = false; stopped = None }
 
--- the words are taken, from one place to another
+-- the words are accepted, from one position to another
 pub record Passes (s : Shape) (w : Walk) (words : List Text) (end : Walk) : Type 0 where
   pub faultless : walk_fault s [] w words ≡ []
   pub ends : fold (walked s.rules []) w words ≡ end
@@ -75,19 +75,19 @@ value_walked c h id n word p = rw (p.dashes, p.long, p.short) refl
 value_turn : (s : Shape) (h : Held) (id : Text) (n : ℕ) (word : Text) → IsPlain word → turn_fault s [] (before_value h id n) word ≡ []
 value_turn s h id n word p = rw (p.dashes, p.long, p.short) refl
 
--- a word that is no flag goes to the positional whose turn it is
+-- a word that isn't a flag goes to the next positional
 pub plain_then : {s : Shape} {h : Held} {v end : Walk} (n : ℕ) (word : Text) {rest : List Text} → IsPlain word → step_fault s n h value ≡ []
     → to_positional s.rules (arg_by_index s.rules n) word (between h n) h ≡ v → Passes s v rest end → Passes s (between h n) (word ∷ rest) end
 plain_then {s} {h} n word p faultless goes more =
     and_then word (plain_turn s h n word p ∙ faultless) (plain_walked s.rules h n word p ∙ goes) more
 
--- and to the option that waits for it
+-- or to the option that expects it
 pub value_then : {s : Shape} {h : Held} {id : Text} {v end : Walk} (n : ℕ) (word : Text) {rest : List Text} → IsPlain word
     → after_step s.rules word (before_value h id n) (option_word (arg_by_id s.rules id) id word h).0 (next (option_word (arg_by_id s.rules id) id word h).1) ≡ v
     → Passes s v rest end → Passes s (before_value h id n) (word ∷ rest) end
 value_then {s} {h} {id} n word p goes more = and_then word (value_turn s h id n word p) (value_walked s.rules h id n word p ∙ goes) more
 
--- what is wrong after the last word
+-- the faults after the last word
 abbrev pub end_fault : Shape → Held → Bool → Kinds
 end_fault s h has_subcommand =
     or_else (settle_fault s.rules s.args_override_self h)
@@ -131,7 +131,7 @@ unfolding walk_fault
 walk_is_faultless {a} {name} e words =
     ap₂ or_else e.turn (ap (λ w. walk_fault a.top (names_of a) w words) e.met ∙ no_fault_above a.top (names_of a) name [] words)
 
--- words that the command takes are taken
+-- words that the command accepts are accepted
 pub command_passes : {a : App} {name : Text} {s : Shape} → Enters a name s → (words : List Text) → level_fault s [] nothing_held words false [] ≡ []
     → built_fault a nothing_held (name ∷ words) ≡ []
 command_passes {a} {name} {s} e words below =

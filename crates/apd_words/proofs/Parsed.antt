@@ -1,4 +1,4 @@
--- What a parse of the command line tells of the words.
+-- What parsing the command line shows of the words.
 use Rattle.std.proofs.Common.{◌≡◌, ◌≢◌, ◌⊎◌, ◌∙◌, true, List, [], Option, Some, None, Result, Ok, Err, option_map, refl, sym, ap, subst, inl, inr}
 use Rattle.clap.specs.Words.{App, HasKind, HasMatchesOf, IsAmong, Kinds, Text, fault_of, is_simple, is_simple_and_free, kind_of, subcommand_of, subcommand_rows_of}
 use Rattle.clap.specs.declared.error.Error.{Error}
@@ -56,7 +56,7 @@ module _ (hooks numbers : Bor (List (Bor Text))) (app : App) (words : List Text)
   among_line : (k : ErrorKind) → IsAmong k (fault_of app words) → IsAmong k (fault_of line words)
   among_line k among = let P : App → Type 0 = λ a. IsAmong k (fault_of a words) in subst P is among
 
-  -- a kind that is among the faults is none of words that ask for something
+  -- a kind among the faults doesn't occur for words that ask for something
   no_fault : (k : ErrorKind) (a : Wanted) → IsAmong k (fault_of line words) → AsksFor (Names hooks) (Names numbers) words a → ⊥
   no_fault k a among h = let P : Kinds → Type 0 = λ kinds. IsAmong k kinds in subst P h.faultless among
 

@@ -17,7 +17,7 @@ where_false : (b : Bool) (n : ℕ) → (b ≡ true → ⊥) → None ≡ (if b t
 where_false true n h = absurd (h refl)
 where_false false n h = refl
 
--- a number of states, and a text that is none
+-- a number of states, and a text that isn't one
 pub names : (text : Text) → IsUnsignedIn 1 most_states text → Some (digits_value 10 (without_leading_plus text)) ≡ states_named text
 names text h = where_true (is_unsigned_in 1 most_states text) _ (Accepts-accepts false (Unsigned 1 most_states) text h)
 

@@ -1,4 +1,4 @@
--- Words in their usual order are taken, and ask for what they spell.
+-- Words in their usual order are accepted, and ask for what they spell.
 use Rattle.std.proofs.Common.{◌≡◌, ◌==◌, ◌∙◌, ℕ, Bool, true, false, if◌then◌else◌, List, [], ◌∷◌, Option, Some, None, refl, ap, ap₂, codes, option_and_then, option_map}
 use Rattle.std.specs.Str.{bytes_eq}
 use Rattle.std.specs.List.{list_any}
@@ -31,7 +31,7 @@ plain (first ∷ rest) h =
     let other : (first == 45) ≡ false = ne_eqb first 45 h in
     record { dashes = rw other refl; long = rw other refl; short = rw other refl }
 
--- what is there only where a test holds
+-- what exists only if a test holds
 from_some : (b : Bool) (m n : ℕ) → (if b then Some m else None) ≡ Some n → b ≡ true
 from_some true m n e = refl
 from_some false m n e = cc
@@ -40,13 +40,13 @@ from_some false m n e = cc
 accepted : (number : Text) (n : ℕ) → states_named number ≡ Some n → is_unsigned_in 1 most_states number ≡ true
 accepted number n e = from_some (is_unsigned_in 1 most_states number) _ n e
 
--- a hook's name is taken for it
+-- a hook's name is read as that hook
 taken : (p : ValueParser) (hook : Hook) → TakesNames p hook_names → accepts false p (name_of hook) ≡ true
 taken p Association t = accepts_named p hook_names (codes "assoc") t
 taken p Addba t = accepts_named p hook_names (codes "addba") t
 taken p Data t = accepts_named p hook_names (codes "data") t
 
--- nor is a hook's name a flag
+-- a hook's name isn't a flag
 named : (hook : Hook) → IsPlain (name_of hook)
 named Association = record { dashes = refl; long = refl; short = refl }
 named Addba = record { dashes = refl; long = refl; short = refl }
@@ -65,7 +65,7 @@ hook_is_named Association asks = refl
 hook_is_named Addba asks = refl
 hook_is_named Data asks = refl
 
--- what a command asks for is answered on standard output where no file is named for it
+-- a command's answer goes to standard output if no file is named for it
 answered : (name : Text) (rows : List Row) {a : Asked} → bytes_eq name (codes "run") ≡ false → command_asks name rows ≡ Some a → first_of (codes "output") rows ≡ None
     → wanted_in (Some (name, rows)) ≡ Some (Answer a None)
 answered name rows {a} other asks none =

@@ -20,7 +20,7 @@ use Rattle.apd_words.specs.declared.Trial.{Trial}
 use Rattle.apd_words.specs.declared.Question.TheVariants as question
 use Rattle.apd_words.specs.declared.Request.TheVariants as request
 
--- a question, with its words as texts
+-- a question, whose words are texts
 pub data Asked : Type 0 where
   Verify : Hook → Text → Option Text → ℕ → Asked
   Assemble : Text → Asked
@@ -33,7 +33,7 @@ pub data Asked : Type 0 where
   Frames : Text → Bool → Asked
   Help : Option Text → Asked
 
--- the run of a script, or the answer to a question, with the file that it is for, if it is for one
+-- the run of a script, or a question and the file for its answer, if there is one
 pub data Wanted : Type 0 where
   Run : Text → Text → ℕ → ℕ → Bool → Bool → Bool → Wanted
   Answer : Asked → Option Text → Wanted
@@ -50,37 +50,37 @@ texts_of words = map (λ word. word.now) words
 abbrev pub config_of : Source → Option Text
 config_of source = text_of source.config
 
--- the verdict on a subject
+-- the question of `verify`
 abbrev pub asked_verdict : Subject → Asked
 asked_verdict subject =
     Verify subject.terms.hook subject.source.file.now (config_of subject.source) subject.terms.states
 
--- the text of a source, with slots or without
+-- the question of `disasm`, with slots or without
 abbrev pub asked_listing : Source → Bool → Asked
 asked_listing source slots = Disassemble source.file.now (config_of source) slots
 
--- the same of all slots, also those that are no instructions
+-- the question of `disasm --raw`, which lists all slots
 abbrev pub asked_slots : Source → Bool → Asked
 asked_slots source slots = ListRaw source.file.now (config_of source) slots
 
--- the run of a subject on a frame, with what it is told
+-- the question of `trace`
 abbrev pub asked_run : Trial → Asked
 asked_run trial =
     Trace trial.subject.terms.hook trial.subject.source.file.now trial.frame.now
     (config_of trial.subject.source) trial.subject.terms.states
     (text_of trial.given.context) trial.given.from_frame
 
--- the certificate of a subject
+-- the question of `cert`
 abbrev pub asked_certificate : Subject → Asked
 asked_certificate subject =
     Certify subject.terms.hook subject.source.file.now (config_of subject.source) subject.terms.states
 
--- what a certificate shows of a source, for a hook
+-- the question of `check`
 abbrev pub asked_check : Claim → Asked
 asked_check claim =
     Check claim.hook claim.source.file.now claim.certificate.now (config_of claim.source)
 
--- what a question asks for; `--explain` asks for nothing but a text on standard error
+-- what a question asks for, without `explain`, which only adds a text on standard error
 abbrev pub asked_of : Question → Asked
 asked_of (question.Verify subject explain) = asked_verdict subject
 asked_of (question.Assemble file) = Assemble file.now
@@ -98,7 +98,7 @@ abbrev pub wanted_run : ScriptRun → Wanted
 wanted_run run =
     Run run.config.now run.script.now run.workers run.states run.quiet run.strict run.verbose
 
--- the answer to a question
+-- what a query wants
 abbrev pub wanted_answer : Query → Wanted
 wanted_answer query = Answer (asked_of query.question) (text_of query.output)
 
@@ -108,11 +108,11 @@ wanted_of (request.Run run) = wanted_run run
 wanted_of (request.Answer query) = wanted_answer query
 
 infixl 10 ◌>>=◌
--- what follows from a part that is there
+-- what follows from a part, if it is there
 abbrev pub ◌>>=◌ : {A B : Type 0} → Option A → (A → Option B) → Option B
 o >>= f = option_and_then f o
 
--- the hook of a name
+-- the hook with a name
 abbrev pub hook_named : Text → Option Hook
 hook_named text =
     (if bytes_eq text (codes "assoc") then Some Association
@@ -125,7 +125,7 @@ workers_named (digit ∷ []) =
     (if nat_le 49 digit && nat_le digit 56 then Some (digit - 48) else None)
 workers_named _ = None
 
--- a number from 1 to the most states, in decimal digits
+-- a number from 1 to `most_states`, in decimal digits, perhaps after a plus sign
 abbrev pub states_named : Text → Option ℕ
 states_named text =
     (if is_unsigned_in 1 most_states text then Some (digits_value 10 (without_leading_plus text))
@@ -133,7 +133,7 @@ states_named text =
 
 -- ---- what the arguments of a command ask for; `first_of id rows` is the value of an argument
 
--- a flag that was given has the value `true`, else `false`
+-- whether a flag was given: its value is `true`
 abbrev pub is_set : Text → List Row → Bool
 is_set flag rows = option_map_or (λ text. bytes_eq text (codes "true")) (first_of flag rows) false
 
@@ -231,7 +231,7 @@ command_asks name rows =
     else (if bytes_eq name (codes "frames") then frames_of rows
     else (if bytes_eq name (codes "help") then help_of rows else None)))))))))
 
--- the answer to the question of a command with these arguments, for the file of `-o`
+-- what a command with these arguments asks for, and the file of `-o`
 abbrev pub answers_to : Text → List Row → Option Wanted
 answers_to name rows =
     option_map (λ asked. Answer asked (first_of (codes "output") rows)) (command_asks name rows)
@@ -241,6 +241,6 @@ abbrev pub command_wants : Text → List Row → Option Wanted
 command_wants name rows =
     (if bytes_eq name (codes "run") then run_of rows else answers_to name rows)
 
--- what the words want, by the command that they name and its arguments
+-- what the words want, by the command that they name, and its arguments
 abbrev pub wanted_in : Option (Text × List Row) → Option Wanted
 wanted_in = option_and_then (λ c. command_wants c.0 c.1)

@@ -1,4 +1,4 @@
--- What is known of a command while it is made.
+-- What is known of a command during its construction.
 use Rattle.std.specs.Prelude.{◌≡◌, false, ◌++◌, ◌∷◌, []}
 use Rattle.clap.specs.Words.{App, Rule, Shape, app_of}
 use Rattle.clap.specs.Simple.{shape_of}

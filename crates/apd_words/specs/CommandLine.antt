@@ -11,13 +11,13 @@ use Rattle.clap.specs.declared.builder.value_parser.ValueParser.TheVariants.{Nam
 abbrev pub hook_names : List Text
 hook_names = codes "assoc" ∷ codes "addba" ∷ codes "data" ∷ []
 
--- the numbers of workers that may be asked for
+-- the numbers of workers
 abbrev pub worker_names : List Text
 worker_names =
     codes "1" ∷ codes "2" ∷ codes "3" ∷ codes "4" ∷ codes "5" ∷ codes "6"
     ∷ codes "7" ∷ codes "8" ∷ []
 
--- the most states that the verifier may be let examine
+-- the largest limit of states
 abbrev pub most_states : ℕ
 most_states = 4194304
 
@@ -27,11 +27,11 @@ pub record TakesNames (parser : ValueParser) (names : List Text) : Type 0 where
   pub is : parser ≡ Names given
   pub spelled : map (λ s. s.now) given.now ≡ names
 
--- an argument that has to be there, and is known by its place
+-- a required positional argument
 abbrev pub required : Text → Rule
 required id = record (new_rule id) { required = true }
 
--- an argument that may be left out, and is known by its place
+-- an optional positional argument
 abbrev pub optional : Text → Rule
 optional id = new_rule id
 
@@ -59,16 +59,16 @@ output = record (option (codes "output")) { short = Some 111 }
 abbrev pub context : Rule
 context = option (codes "context")
 
--- the argument HOOK, which has to be the name of one
+-- the argument HOOK, which must be the name of one
 abbrev pub hook : ValueParser → Rule
 hook hooks = record (required (codes "HOOK")) { parser = Some hooks }
 
--- `--workers N`, 2 where it is left out
+-- `--workers N`, 2 by default
 abbrev pub workers : ValueParser → Rule
 workers numbers =
     record (option (codes "workers")) { parser = Some numbers; defaults = codes "2" ∷ [] }
 
--- `--states N`, the most where it is left out
+-- `--states N`, by default the most
 abbrev pub states : Rule
 states = record (option (codes "states")) {
   parser = Some (Unsigned 1 most_states);
@@ -134,7 +134,7 @@ frames =
 abbrev pub help : Shape
 help = command (codes "help") (optional (codes "COMMAND") ∷ [])
 
--- the program without its commands: one has to be given
+-- the program without its commands; a command is required
 abbrev pub program : App
 program = record {
   top = record (new_shape (codes "apd")) {
@@ -146,7 +146,7 @@ program = record {
   subs = [];
 }
 
--- the commands on programs' text and code
+-- the commands on assembler text and code
 abbrev pub with_code_commands : ValueParser → App → App
 with_code_commands hooks a =
     with_subcommand (with_subcommand (with_subcommand a (verify hooks)) assemble) disassemble
@@ -160,11 +160,11 @@ abbrev pub with_certificate_commands : ValueParser → App → App
 with_certificate_commands hooks a =
     with_subcommand (with_subcommand a (certify hooks)) (check hooks)
 
--- the commands that explain and read something
+-- the commands that explain or read something
 abbrev pub with_reading_commands : App → App
 with_reading_commands a = with_subcommand (with_subcommand (with_subcommand a explain) frames) help
 
--- the whole command line, by what reads a hook and a number of workers
+-- the whole command line, given the parsers of hooks and numbers of workers
 abbrev pub command_line : ValueParser → ValueParser → App
 command_line hooks numbers =
     with_reading_commands (with_certificate_commands hooks

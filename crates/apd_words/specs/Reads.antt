@@ -10,34 +10,34 @@ use Rattle.apd_words.specs.declared.Request.{Request}
 use Rattle.apd_words.specs.declared.Told.{Told}
 use Rattle.apd_words.specs.declared.Told.TheVariants.{Help, Fault, NoMemory}
 
--- the command line takes the words, and they ask for this
+-- the command line accepts the words, and they ask for this
 pub record AsksFor (hooks numbers : ValueParser) (words : List Text) (a : Wanted) : Type 0 where
   pub faultless : fault_of (command_line hooks numbers) words ≡ []
   pub asked : wanted_in (subcommand_of (command_line hooks numbers) words) ≡ Some a
 
--- help or the version is what the words come to
+-- this kind stands for help or the version
 abbrev pub WantsText : ErrorKind → Type 0
 WantsText k = (k ≡ DisplayHelp) ⊎ (k ≡ DisplayVersion)
 
--- the words come to help or the version
+-- the words ask for help or the version
 pub record IsHelp (hooks numbers : ValueParser) (words : List Text) : Type 0 where
   pub kind : ErrorKind
   pub wants : WantsText kind
   pub among : IsAmong kind (fault_of (command_line hooks numbers) words)
 
--- what is told where there is no request; want of memory says nothing of the words
+-- what a refusal says of the words; lack of memory says nothing
 abbrev pub TellsOf : ValueParser → ValueParser → List Text → Told → Type 0
 TellsOf hooks numbers words (Help text) = IsHelp hooks numbers words
 TellsOf hooks numbers words (Fault text) = (a : Wanted) → AsksFor hooks numbers words a → ⊥
 TellsOf hooks numbers words NoMemory = Unit {0}
 
--- what is told of a kind of error
+-- what a refusal says of a kind of error
 abbrev pub TellsOfKind : ErrorKind → Told → Type 0
 TellsOfKind k (Help text) = WantsText k
 TellsOfKind k (Fault text) = k ≢ OutOfMemory
 TellsOfKind k NoMemory = Unit {0}
 
--- a fault, or want of memory
+-- a fault, or lack of memory
 abbrev pub TellsNoHelp : Told → Type 0
 TellsNoHelp (Help text) = ⊥
 TellsNoHelp (Fault text) = Unit {0}

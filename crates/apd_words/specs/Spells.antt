@@ -20,7 +20,7 @@ Spells words a =
     (hooks numbers : ValueParser) → TakesNames hooks hook_names → TakesNames numbers worker_names →
     AsksFor hooks numbers words a
 
--- the words were read as what they ask for, unless memory ran out
+-- the words were read as what they ask for, unless an allocation failed
 abbrev pub IsReadAs : Wanted → Result Request Told → Type 0
 IsReadAs a (Ok request) = wanted_of request ≡ a
 IsReadAs a (Err told) = told ≡ NoMemory

@@ -28,10 +28,10 @@ const STATUSES: &str = "Exit status:
 
 `apd <COMMAND> --help` tells more of each command.";
 
-/// A command, or want of memory, which ends its making.
+/// A command, or lack of memory.
 type Made<'a> = Result<Command<'a>, AllocError>;
 
-/// The whole command line, by the names of the hooks and of the numbers of workers.
+/// The whole command line, with the names of the hooks and of the numbers of workers.
 pub(crate) fn command_line<'a>(
     alloc: Global,
     hooks: &'a [&'a str],
@@ -61,13 +61,12 @@ fn program<'a>(alloc: Global) -> Made<'a>
     )
 }
 
-/// A program with one more command.
 fn with_command<'a>(line: Made<'a>, command: Made<'a>) -> Made<'a>
     ensures is { (a : App) (s : Shape) → IfOk line.entry (IsProgram a)
         → IfOk command.entry (IsCommand s) → IfOk result (IsProgram (with_subcommand a s)) }
 {
     let Ok(line) = line else {
-        // Given up by a call, since a command has many parts.
+        // Dropped by one call, since a command has many parts.
         drop(command);
         return Err(AllocError);
     };
@@ -117,14 +116,13 @@ fn with_reading_commands<'a>(alloc: Global, line: Made<'a>) -> Made<'a>
     with_command(line, help(alloc))
 }
 
-/// A command without arguments, and what it is about.
+/// A command without arguments, and its description.
 fn named<'a>(alloc: Global, name: &'a str, about: &'a str) -> Made<'a>
     ensures is { IfOk result (IsCommand (new_shape name.entry.now)) }
 {
     Ok(Command::new(alloc, name).about(about))
 }
 
-/// A command with one more argument.
 fn with_arg<'a>(command: Made<'a>, arg: Arg<'a>) -> Made<'a>
     requires local { arg.global ≡ false }
     ensures is { (s : Shape) (r : Rule) → IfOk command.entry (IsCommand s)
@@ -273,7 +271,7 @@ fn required<'a>(alloc: Global, name: &'a str, help: &'a str) -> Arg<'a>
     Arg::new(alloc, name).required(true).help(help)
 }
 
-/// An argument that may be left out, and is known by its place.
+/// A positional argument that may be omitted.
 fn optional<'a>(alloc: Global, name: &'a str, help: &'a str) -> Arg<'a>
     ensures is { rule_of result ≡ optional name.entry.now }
     ensures local { result.global ≡ false }

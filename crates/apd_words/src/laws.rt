@@ -7,8 +7,8 @@ ghost use Rattle.apd_words.specs.Asked.{Verify, Assemble, Disassemble, Trace, An
 ghost use Rattle.apd_words.specs.CommandLine.{most_states};
 ghost use Rattle.apd_words.specs.Spells.{IsOperand, Spells};
 
-/// The law of `apd verify HOOK FILE`, with `--config C` or `--states N`: the words ask for what they say,
-/// unless a FILE, C or N begins with a hyphen.
+/// The law of `apd verify HOOK FILE`, with `--config C` or `--states N`, where N is 1 to 4194304: the words ask for
+/// what they say if no FILE, C or N begins with a hyphen.
 pub fn verify_law()
     ensures plain { (program file : List ℕ) (hook : Hook) → IsOperand file
         → Spells (program ∷ codes "verify" ∷ name_of hook ∷ file ∷ [])
@@ -23,15 +23,14 @@ pub fn verify_law()
         (Answer (Verify hook file None states) None) }
 {}
 
-/// The law of `apd asm FILE`: the words ask for what they say, unless a FILE
-/// or C begins with a hyphen.
+/// The law of `apd asm FILE`: the words ask for what they say if FILE doesn't begin with a hyphen.
 pub fn assemble_law()
     ensures plain { (program file : List ℕ) → IsOperand file
         → Spells (program ∷ codes "asm" ∷ file ∷ []) (Answer (Assemble file) None) }
 {}
 
-/// The law of `apd disasm FILE [--config C]`: the words ask for what they say, unless a FILE
-/// or C begins with a hyphen.
+/// The law of `apd disasm FILE [--config C]`: the words ask for what they say if neither FILE nor C begins with a
+/// hyphen.
 pub fn disassemble_law()
     ensures plain { (program file : List ℕ) → IsOperand file
         → Spells (program ∷ codes "disasm" ∷ file ∷ []) (Answer (Disassemble file None false) None) }
@@ -40,8 +39,8 @@ pub fn disassemble_law()
         (Answer (Disassemble file (Some config) false) None) }
 {}
 
-/// The law of `apd trace HOOK FILE FRAME`, with `--config C` or `--states N`: the words ask for what they
-/// say, unless a FILE, FRAME, C or N begins with a hyphen.
+/// The law of `apd trace HOOK FILE FRAME`, with `--config C` or `--states N`, where N is 1 to 4194304: the words ask
+/// for what they say if no FILE, FRAME, C or N begins with a hyphen.
 pub fn trace_law()
     ensures plain { (program file frame : List ℕ) (hook : Hook) → IsOperand file → IsOperand frame
         → Spells (program ∷ codes "trace" ∷ name_of hook ∷ file ∷ frame ∷ [])

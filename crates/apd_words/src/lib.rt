@@ -1,9 +1,8 @@
-//! The command line of `apd`: what the words ask for, or the text that answers them.
+//! The command line of `apd`: what its words ask for, or the text to print instead.
 //!
-//! Main call: `read_words`. It stands on `clap` and `bpf_regions`. It answers a `Request` that the
-//! words spell, the text of a help that they ask for, or a fault's text. Words that spell a request
-//! by their usual order are read as that request. [`laws`] shows which words spell `verify`, `asm`
-//! and `disasm`. The texts are tested, not proved.
+//! Main call: `read_words`. It depends on `clap` and `bpf_regions`. It returns the `Request` that the words spell, the
+//! help that they ask for, or the text of a fault. [`laws`] shows which words spell `verify`, `asm`, `disasm` and
+//! `trace`. The texts are tested, not proved.
 #![tactic(auto)]
 
 ghost use Rattle.std.specs.Prelude.{◌≡◌};
@@ -18,35 +17,35 @@ use bpf_regions::Hook;
 use std::alloc::AllocError;
 pub use words::read_words;
 
-/// Where a program is: the file of its code, and the configuration of its maps, if it has one.
+/// The file of a program's code, and of the configuration of its maps, if it has one.
 #[derive(Clone, Copy)]
 pub struct Source<'a> {
     pub file: &'a str,
     pub config: Option<&'a str>,
 }
 
-/// For which hook a program is verified, and how many states the verifier may examine.
+/// The hook for which a program is verified, and how many states the verifier may examine.
 #[derive(Clone, Copy)]
 pub struct Terms {
     pub hook: Hook,
     pub states: u32,
 }
 
-/// A program that is to be verified.
+/// A program to verify.
 #[derive(Clone, Copy)]
 pub struct Subject<'a> {
     pub source: Source<'a>,
     pub terms: Terms,
 }
 
-/// What a traced program is told, beside its frame: as it was written, and whether the frame's own fields count.
+/// The context of a traced program, as it was written, and whether it takes fields from the frame.
 #[derive(Clone, Copy)]
 pub struct Given<'a> {
     pub context: Option<&'a str>,
     pub from_frame: bool,
 }
 
-/// A program that is to be verified, and run on a frame. `explain` asks for the reason on standard error.
+/// A program to verify and run on a frame. `explain` asks for the reason on standard error.
 #[derive(Clone, Copy)]
 pub struct Trial<'a> {
     pub subject: Subject<'a>,
@@ -55,7 +54,7 @@ pub struct Trial<'a> {
     pub explain: bool,
 }
 
-/// A program with the file of a certificate that is to show it safe for a hook.
+/// A program, and the file of a certificate that should show it safe for a hook.
 #[derive(Clone, Copy)]
 pub struct Claim<'a> {
     pub hook: Hook,
@@ -63,8 +62,8 @@ pub struct Claim<'a> {
     pub certificate: &'a str,
 }
 
-/// A script that is to be run, by 1 to 8 workers. `quiet` asks for no progress on standard error, `strict` for an end after
-/// the first interval in which a line was refused, and `verbose` for what becomes of each load, on standard error.
+/// A script to run by 1 to 8 workers. `quiet` suppresses progress on standard error, `strict` ends the run after the
+/// first interval in which a line was refused, and `verbose` reports each load on standard error.
 #[derive(Clone, Copy)]
 pub struct ScriptRun<'a> {
     pub config: &'a str,
@@ -76,27 +75,27 @@ pub struct ScriptRun<'a> {
     pub verbose: bool,
 }
 
-/// What is asked for that runs no script. Paths, frames and numbers are as they were written. The states that the verifier
-/// may examine are 1 to 4194304.
+/// A request that runs no script. Paths, frames and numbers are as they were written. The verifier may examine 1 to
+/// 4194304 states.
 #[derive(Clone, Copy)]
 pub enum Question<'a> {
     /// `explain` asks for the reason on standard error.
     Verify { subject: Subject<'a>, explain: bool },
     Assemble { file: &'a str },
     Disassemble { source: Source<'a>, slots: bool },
-    /// All slots are asked for, also those that are no instructions.
+    /// Lists all slots, also those that aren't instructions.
     ListRaw { source: Source<'a>, slots: bool },
     Trace(Trial<'a>),
     Certify { subject: Subject<'a> },
     Check(Claim<'a>),
-    /// Without a number the list of all is asked for.
+    /// Without a number, it lists all.
     Explain { number: Option<&'a str> },
     Frames { capture: &'a str, ticks: bool },
-    /// Without a command that of the program is asked for.
+    /// Without a command, it is the program's help.
     Help { command: Option<&'a str> },
 }
 
-/// A question, and the file for its answer, where that isn't for standard output.
+/// A question, and the file for its answer, if that isn't for standard output.
 #[derive(Clone, Copy)]
 pub struct Query<'a> {
     pub question: Question<'a>,
@@ -110,12 +109,12 @@ pub enum Request<'a> {
     Answer(Query<'a>),
 }
 
-/// Words that ask for nothing to be done: what is printed in place of an answer.
+/// What `apd` prints for words that make no request.
 #[derive(Drop)]
 pub enum Told {
     /// Help or the version, for standard output.
     Help(String),
-    /// A fault of the words, for standard error.
+    /// What is wrong with the words, for standard error.
     Fault(String),
     /// Memory ran out.
     NoMemory,

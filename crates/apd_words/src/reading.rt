@@ -1,4 +1,4 @@
-//! What the matches ask for.
+//! What the parser's matches ask for.
 
 ghost use Rattle.std.specs.Prelude.{◌≡◌, ◌≤◌, ◌^◌, IfSome, option_map, codes};
 ghost use Rattle.clap.specs.Matches.{found_of};
@@ -11,7 +11,7 @@ use crate::{Claim, Given, Query, Question, Request, ScriptRun, Source, Subject, 
 use bpf_regions::Hook;
 use clap::ArgMatches;
 
-/// The request of the matches. None comes only where the parser left out what it requires.
+/// The request of the matches; `None` only if the parser omitted what it requires.
 pub(crate) fn request<'a>(matches: &ArgMatches<'a>) -> Option<Request<'a>>
     ensures is { option_map wanted_of result ≡ wanted_in (subcommand_rows_of matches.now) }
 {
@@ -163,7 +163,7 @@ fn help<'a>(matches: &ArgMatches<'a>) -> Option<Question<'a>>
     Some(Question::Help { command })
 }
 
-/// What the traced program is told.
+/// The context of a traced program.
 fn given<'a>(matches: &ArgMatches<'a>) -> Given<'a>
     ensures context { option_map (λ text. text.now) result.context
         ≡ first_of (codes "context") (rows_of (found_of matches.now)) }
@@ -191,7 +191,6 @@ fn subject<'a>(matches: &ArgMatches<'a>) -> Option<Subject<'a>>
     Some(Subject { source, terms })
 }
 
-/// Whether a flag was given.
 fn flag(matches: &ArgMatches<'_>, name: &str) -> bool
     ensures is { result ≡ is_set name.now (rows_of (found_of matches.now)) }
 {
@@ -201,7 +200,6 @@ fn flag(matches: &ArgMatches<'_>, name: &str) -> bool
     }
 }
 
-/// The value of an argument.
 fn value<'a>(matches: &ArgMatches<'a>, name: &str) -> Option<&'a str>
     ensures is { option_map (λ text. text.now) result
         ≡ first_of name.now (rows_of (found_of matches.now)) }
@@ -248,7 +246,6 @@ fn workers_named(text: &str) -> Option<u8>
     }
 }
 
-/// How many states the verifier may examine.
 fn states(matches: &ArgMatches<'_>) -> Option<u32>
     ensures is { result ≡ states_at (rows_of (found_of matches.now)) }
     ensures from { IfSome result (λ states. 1 ≤ states) }

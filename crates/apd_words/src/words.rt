@@ -12,7 +12,7 @@ use crate::{Request, Told};
 use clap::error::ErrorKind;
 use std::alloc::{AllocError, Global};
 
-/// What the words ask for, the first being the program's own name.
+/// Reads what the words ask for. The first is the program's own name.
 pub fn read_words<'a>(alloc: Global, words: &'a [&'a str]) -> Result<Request<'a>, Told>
     ensures reads { Reads (map (λ word. word.now) words.entry.now) result }
     ensures spelled { (w : Wanted) →
@@ -30,7 +30,7 @@ pub fn read_words<'a>(alloc: Global, words: &'a [&'a str]) -> Result<Request<'a>
     }
 }
 
-/// What is told of words that the parser didn't take.
+/// What to print for words that the parser refused, or that ask for help.
 fn told(alloc: Global, error: &clap::Error) -> Told
     ensures is { TellsOfKind (kind_of error.now) result }
 {
@@ -44,7 +44,7 @@ fn told(alloc: Global, error: &clap::Error) -> Told
     }
 }
 
-/// What is told of words that the parser took and that ask for nothing: there are none such.
+/// What to print for words that the parser accepted and that make no request. There are none.
 fn incomplete(alloc: Global) -> Told
     ensures is { TellsNoHelp result }
 {

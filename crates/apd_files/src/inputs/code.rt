@@ -1,4 +1,4 @@
-//! Code from files.
+//! Reading code from files.
 
 ghost use Rattle.std.specs.Prelude.{◌≡◌, ◌≤◌, ◌^◌, IfOk, IfErr};
 ghost use Rattle.apd_files.specs.Held.{HoldsCode, HoldsKept};
@@ -11,12 +11,12 @@ use std::alloc::Global;
 use std::fmt;
 use thiserror::Error;
 
-/// What a file has in place of hex digits in pairs. It is displayed in words.
+/// Why a text isn't pairs of hex digits. It is displayed in words.
 #[derive(Clone, Copy, Debug, PartialEq, Eq)]
 pub enum DigitFault {
-    /// A byte that is neither a hex digit nor white space, the first of these, and its line.
+    /// The first byte that is neither a hex digit nor white space, and its line.
     Foreign { line: u64, byte: u8 },
-    /// Hex digits alone, but an odd number of them.
+    /// An odd number of hex digits.
     Odd,
 }
 
@@ -35,31 +35,30 @@ impl fmt::Display for DigitFault {
     }
 }
 
-/// Why no code was read from a file. Its text says so to people.
+/// Why no code was read from a file. Its text explains it to people.
 #[derive(Clone, Copy, Debug, PartialEq, Eq, Error)]
 pub enum CodeFault {
     /// There is no such file, or it can't be read, or it is longer than its kind may be.
     #[error("{0}")]
     Unreadable(FileFault),
-    /// Without its white space it isn't hex digits in pairs.
+    /// Without white space it isn't pairs of hex digits.
     #[error("{0}")]
     Digits(DigitFault),
     #[error("out of memory")]
     NoMemory,
 }
 
-/// How many bytes the longest code has: 16384 slots of 8.
+/// The bytes of the longest code: 16384 slots of 8.
 const CODE: usize = 1 << 17;
 
-/// How many bytes the digits of a certificate's file spell at most.
+/// The most bytes that a certificate's file spells.
 const CERTIFICATE: usize = 1 << 27;
 
-/// How many line feeds there are.
 fn line_feeds(text: &[u8]) -> u64 {
     text.iter().filter(|byte| **byte == b'\n').count() as u64
 }
 
-/// The fault of a file, for that of its block that begins at this line.
+/// The fault of a file, by that of its block, which begins at this line.
 fn fault_in(block: &[u8], line: u64, fault: BlockFault) -> CodeFault
     requires within { IsWithin block.now fault }
     ensures is { Tells block.now fault result }
@@ -83,7 +82,7 @@ fn unreadable(why: FileFault) -> CodeFault
     }
 }
 
-/// The digits of the file of this kind, as many as are kept of them.
+/// The digits that are kept of a file of this kind.
 fn digits<F: Files>(
     alloc: Global,
     path: &str,
@@ -121,8 +120,7 @@ fn digits<F: Files>(
     Err(CodeFault::Unreadable(FileFault::TooLong(longest)))
 }
 
-/// The bytes that the digits of the file of this kind spell, as many as are kept where `most` are kept
-/// whole.
+/// The bytes that the kept digits of a file of this kind spell: up to `most` all are kept.
 fn bytes<F: Files>(
     alloc: Global,
     path: &str,
@@ -146,11 +144,10 @@ fn bytes<F: Files>(
     }
 }
 
-/// What is kept of the code that a file spells in hex digits of either case, with white space between any
-/// two: all of it, or of more bytes than the longest code has (16384 slots of 8) some more than that, with
-/// the same length but for whole slots. Nothing is read past the block of the first byte that is neither
-/// digit nor white space, nor past the block in which the text becomes longer than its kind may be, which
-/// is a fault.
+/// The code that a file spells in hex digits of either case, with white space between any two. Of code with more than
+/// 131072 bytes (16384 slots of 8), the contract says only that the result also has more, and as many mod 8. A text
+/// that is longer than its kind may be is a fault. Reading stops at the block of the first byte that is neither digit
+/// nor white space, or in which the text becomes too long.
 pub fn read_code<F: Files>(alloc: Global, path: &str, files: &mut F) -> Result<Vec<u8>, CodeFault>
     ensures code { IfOk result
         (λ code. HoldsKept (2 ^ 17) (F.held files.old) path.now code.items) }
@@ -161,8 +158,8 @@ pub fn read_code<F: Files>(alloc: Global, path: &str, files: &mut F) -> Result<V
     bytes(alloc, path, FileKind::Code, CODE, files)
 }
 
-/// The certificate that a file spells in hex digits of either case, with white space between any two.
-/// Nothing is read past the block of the first byte that is neither digit nor white space.
+/// The certificate that a file spells in hex digits of either case, with white space between any two. Reading stops at
+/// the block of the first byte that is neither digit nor white space.
 pub fn read_certificate<F: Files>(
     alloc: Global,
     path: &str,

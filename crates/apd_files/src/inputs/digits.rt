@@ -1,4 +1,4 @@
-//! Hex digits, collected block by block.
+//! Collecting hex digits block by block.
 
 ghost use Rattle.std.specs.Prelude.{◌≡◌, ◌≤◌, ◌^◌, ◌↔◌, ◌++◌, ◌∷◌, [], ℕ, List, IfErr, OnOk, IsTrue, true};
 ghost use Rattle.std.specs.List.{AllPass};
@@ -6,15 +6,15 @@ ghost use Rattle.hex.specs.Hex.{is_hex_digit};
 ghost use Rattle.apd_files.specs.Held.{Keeps};
 ghost use Rattle.apd_files.specs.Reading.{Adds, IsForeign, StopsAt};
 
-/// Why no more digits were collected.
+/// Why collecting stopped.
 #[derive(Clone, Copy, Debug, PartialEq, Eq)]
 pub(crate) enum BlockFault {
-    /// At this place of the block is a byte that is neither a hex digit nor white space.
+    /// The byte at this index of the block is neither a hex digit nor white space.
     Foreign(usize),
     NoMemory,
 }
 
-/// Adds a digit to those that are kept. Past `most` of them 16 at a time are given up.
+/// Appends a digit to those that are kept. Beyond `most + 16`, the last 16 are dropped.
 fn keep(digits: &mut Vec<u8>, digit: u8, most: usize) -> Result<(), BlockFault>
     requires few { most ≤ 2 ^ 32 }
     requires digit { is_hex_digit digit ≡ true }

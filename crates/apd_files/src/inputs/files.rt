@@ -1,4 +1,4 @@
-//! Where files are read.
+//! Access to files.
 
 ghost use Rattle.std.specs.Prelude.{◌≡◌, ◌⊎◌, ◌≤◌, ℕ, List, Some, None, IfOk, IfErr, OnOk, IfSome, length};
 ghost use Rattle.std.specs.declared.option.Option.{Option};
@@ -12,7 +12,7 @@ use std::fmt::Write;
 use std::io::ErrorKind;
 use thiserror::Error;
 
-/// Why a file wasn't read. Its text says so to people.
+/// Why a file wasn't read. Its text explains it to people.
 #[derive(Clone, Copy, Debug, PartialEq, Eq, Error)]
 pub enum FileFault {
     #[error("there is no such file")]
@@ -24,35 +24,35 @@ pub enum FileFault {
     /// The system gives another reason.
     #[error("reading failed")]
     Failed,
-    /// It is standard input, which was read already.
+    /// It is standard input, which was already opened.
     #[error("standard input is read once")]
     Taken,
-    /// It has more bytes than so many, which are read of such a file at most.
+    /// It has more bytes than this limit for its kind.
     #[error("it has more than {0} bytes")]
     TooLong(u64),
     #[error("out of memory")]
     NoMemory,
 }
 
-/// What a file is read for, which says how much is read of it at most.
+/// What a file is read for, which determines how much of it may be read.
 #[derive(Clone, Copy, Debug, PartialEq, Eq)]
 pub enum FileKind {
     /// A configuration: 1 MiB.
     Configuration,
-    /// Code in hex digits, with white space: 1 GiB, of which no more is kept than can matter.
+    /// Code in hex digits, with white space: 1 GiB, of which only as much is kept as can matter.
     Code,
     /// A certificate in hex digits: 256 MiB.
     Certificate,
-    /// A text of the assembler: 16 MiB.
+    /// Assembler text: 16 MiB.
     Text,
     /// A capture: 1 GiB.
     Capture,
-    /// A script: 1 GiB. It is read whole, since it is refused before its first event.
+    /// A script: 1 GiB. It is read whole, since it is parsed before its first event.
     Script,
 }
 
 impl FileKind {
-    /// How many bytes are read at most.
+    /// The most bytes that a file of this kind may have.
     pub fn most(self) -> u64
         ensures { result ≡ most_of self }
     {
@@ -65,33 +65,33 @@ impl FileKind {
     }
 }
 
-/// Where files are read, one at a time and block by block, and written whole.
+/// Files that are read one at a time and block by block, and written whole.
 pub trait Files {
-    // What is known of the file at a path: nothing, or its bytes, or that there is none to be read.
+    // What is known of the file at a path: nothing, its bytes, or that it can't be read.
     ghost held: { Self → List ℕ → Option (Option (List ℕ)) } = { λ _ _. None };
 
-    // What is known of what is still to come of the open file: nothing, or its bytes.
+    // What is known of the unread part of the open file: nothing, or its bytes.
     ghost left: { Self → Option (List ℕ) } = { λ _. None };
 
-    // What was written, and where, as far as is known.
+    // The files that were written, if known.
     ghost saved: { Self → Saved } = { λ _. None };
 
-    /// Opens the file at the path, in place of the one that was open. The files stay as they are.
-    /// The path `-` is standard input where there is one.
+    /// Opens the file at the path, and closes the one that was open. No file changes. The path `-` is standard input if
+    /// there is one. If the file is known to exist, only lack of memory is a fault.
     fn open(&mut self, path: &str) -> Result<(), FileFault>
         ensures ok { OnOk result (Opens (held self.old path.now) (left self.new)) }
         ensures fault { IfErr result (λ e. IfSome (held self.old path.now) (IsUnopened e)) }
         ensures same { held self.new ≡ held self.old };
 
-    /// The next bytes of the open file, some unless it has ended. A file that is known is read without
-    /// a fault but want of memory.
+    /// The next bytes of the open file; none only at its end. If the rest of the file is known, only lack of memory is
+    /// a fault.
     fn next_block(&mut self) -> Result<Vec<u8>, FileFault>
         ensures ok { IfOk result (λ block. Gives block.items (left self.old) (left self.new)) }
         ensures fault { IfErr result (λ e. (e ≡ FileFault.NoMemory) ⊎ (left self.old ≡ None)) }
         ensures same { held self.new ≡ held self.old };
 
-    /// Writes a file of these bytes, in place of one that was there. Where that fails, nothing is known
-    /// of it. Files that can't be written refuse it.
+    /// Writes a file of these bytes, in place of an existing one. After a failure nothing is known of it. Files that
+    /// can't be written return an error.
     fn save(&mut self, path: &str, bytes: &[u8]) -> Result<(), Unwritten>
         ensures saved { OnOk result (Saves path.now bytes.now (saved self.old) (saved self.new)) }
     {
@@ -99,8 +99,8 @@ pub trait Files {
     }
 }
 
-/// The bytes of the file at the path, which is of this kind; `TooLong` where there are more than its kind
-/// may have. Of a longer file no more is read than the first block past them. The files stay as they are.
+/// The bytes of the file at the path. `TooLong`: there are more than its kind may have; reading then stops at the first
+/// block beyond them. No file changes.
 pub fn read_whole<F: Files>(
     alloc: Global,
     path: &str,
@@ -127,12 +127,12 @@ pub fn read_whole<F: Files>(
     Err(FileFault::TooLong(most))
 }
 
-/// The path of the file that a word of a script names: there `-` is a file's name as others are.
+/// The path of the file that a word of a script names: `-` there is an ordinary file name.
 pub fn path_of_word(word: &str) -> &str {
     if word == "-" { "./-" } else { word }
 }
 
-/// A path as it can be repeated in a message: control characters are escaped.
+/// A path as messages show it: control characters are escaped.
 pub fn shown(alloc: Global, path: &str) -> Result<String, AllocError> {
     let mut text = String::new(alloc);
     for character in path.chars() {

@@ -1,4 +1,4 @@
-//! The tokens of a run, as they are given out.
+//! Giving out the tokens of a run.
 
 ghost use Rattle.std.specs.Prelude.{◌≡◌, ◌+◌, ◌≤◌, vec_len, IfOk};
 ghost use Rattle.std.specs.List.{All};
@@ -14,8 +14,7 @@ use ap_live::{LeftTokens, LiveAp, OperatorToken, WorkerToken, newcomers_law, tok
 use ap_locked::Journals;
 use std::alloc::{AllocError, Global};
 
-/// The tokens of the operator and of the workers, and the parts of the ledgers that are left: so many of
-/// each.
+/// The tokens of the operator and of the workers, and the other parts of the ledgers: `parts` of each.
 #[derive(Drop)]
 pub(crate) struct Hands<B: Ledgers + Journals> {
     pub operator: OperatorToken<B>,
@@ -24,14 +23,14 @@ pub(crate) struct Hands<B: Ledgers + Journals> {
     pub parts: u64,
 }
 
-/// The tokens of those who use an access point.
+/// The tokens of the operator and of the workers.
 #[derive(Drop)]
 struct Rights<B: Ledgers + Journals> {
     operator: OperatorToken<B>,
     workers: Vec<WorkerToken<B>>,
 }
 
-/// A token for each of so many workers, which are all, and one for the operator.
+/// A token for each of `count` workers, which are all, and one for the operator.
 fn give_rights<B: Ledgers + Journals>(
     ap: &mut LiveAp<B>,
     alloc: Global,
@@ -57,8 +56,7 @@ fn give_rights<B: Ledgers + Journals>(
     Ok(Rights { operator, workers })
 }
 
-/// A token for the operator and one for each of so many workers, which are all. Nothing was given out
-/// before.
+/// A token for the operator and one for each of `count` workers, which are all. No token was given out earlier.
 pub(crate) fn deal<B: Ledgers + Journals>(
     ap: &mut LiveAp<B>,
     alloc: Global,
@@ -77,7 +75,7 @@ pub(crate) fn deal<B: Ledgers + Journals>(
     let rights = match give_rights(ap, alloc, &mut left, count) {
         Ok(rights) => rights,
         Err(error) => {
-            // Given up by a call, since its parts are many.
+            // Dropped by one call, since it has many parts.
             drop(left);
             return Err(error);
         }

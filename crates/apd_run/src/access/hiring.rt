@@ -11,7 +11,7 @@ use ap_live::{LeftTokens, LiveAp, WorkerToken, newcomers_law, tokens_law};
 use ap_locked::Journals;
 use std::alloc::{AllocError, Global};
 
-/// The tokens of so many workers, which are all, by their numbers.
+/// The tokens of `count` workers, which are all, by number.
 pub(crate) fn hire<B: Ledgers + Journals>(
     ap: &mut LiveAp<B>,
     alloc: Global,

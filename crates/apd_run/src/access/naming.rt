@@ -1,10 +1,10 @@
-//! The list of what is published during a run.
+//! The list of programs published during a run.
 
 ghost use Rattle.logbook.specs.Pages.{Book};
 
 use std::marker::Brand;
 
-/// Which list it is. Each run has a type for it.
+/// Names the list. Each run has its own type.
 pub trait Publications {
     ghost list: { Book };
 }

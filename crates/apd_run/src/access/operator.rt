@@ -24,15 +24,15 @@ use bpf_regions::{Hook, Scope};
 use std::marker::{Model, PhantomData};
 use std::sync::Wait;
 
-/// Where programs come from: files, and how many states of each the verifier may examine.
+/// The sources of programs: files, and how many states of each program the verifier may examine.
 #[derive(Drop)]
 pub(crate) struct Sources<'a, F> {
     pub(crate) files: &'a mut F,
     pub(crate) limit: StateLimit,
 }
 
-/// The operator of a run: its token, the parts of the ledgers that no worker has, the programs that are
-/// put in force, and where they come from. Contracts see all but the last.
+/// The operator of a run: its token, the parts of the ledgers that no worker has, the programs in force, and their
+/// sources. Contracts see everything but the sources.
 #[derive(Drop)]
 pub struct LiveOperator<'a, B: Ledgers + Journals, L: Publications, F> {
     pub(crate) ap: &'a LiveAp<B>,
@@ -70,7 +70,6 @@ impl<'a, B: Ledgers + Journals, L: Publications, F> Model for LiveOperator<'a, B
 }
 
 impl<'a, B: Ledgers + Journals, L: Publications, F: Files> LiveOperator<'a, B, L, F> {
-    /// Loads a program for a hook.
     fn load<R: Wait>(&mut self, rt: &R, hook: Hook, path: &str) -> Told
         ensures same { crew_of self.new ≡ crew_of self.old }
         ensures nothing { told_counts result ≡ none }
@@ -80,7 +79,6 @@ impl<'a, B: Ledgers + Journals, L: Publications, F: Files> LiveOperator<'a, B, L
         self.loads.load(rt, files, hook, path_of_word(path), limit)
     }
 
-    /// Adopts a program for a hook, with its certificate.
     fn adopt<R: Wait>(&mut self, rt: &R, hook: Hook, path: &str, certificate: &str) -> Told
         ensures same { crew_of self.new ≡ crew_of self.old }
         ensures nothing { told_counts result ≡ none }
@@ -91,7 +89,6 @@ impl<'a, B: Ledgers + Journals, L: Publications, F: Files> LiveOperator<'a, B, L
             .adopt(rt, files, hook, path_of_word(path), certificate)
     }
 
-    /// Leaves a hook without a program.
     fn unload<R: Wait>(&mut self, rt: &R, hook: Hook) -> Option<Told>
         ensures same { crew_of self.new ≡ crew_of self.old }
         ensures nothing { IfSome result (λ told. told_counts told ≡ none) }
@@ -140,7 +137,7 @@ impl<'a, B: Ledgers + Journals, L: Publications, F: Files> LiveOperator<'a, B, L
 }
 
 impl<'a, B: Ledgers + Journals, L: Publications, F> LiveOperator<'a, B, L, F> {
-    /// Takes in what a worker has counted, and gives it fresh parts of the ledgers.
+    /// Takes over a worker's counts, and gives it fresh parts of the ledgers.
     fn exchange<G: Drop>(&mut self, worker: &mut LiveWorker<'a, B, L, G>)
         ensures crew { crew_of self.new ≡
             gains (crew_of self.old) (counted_by worker.old.token.shards) }
@@ -160,7 +157,7 @@ impl<'a, B: Ledgers + Journals, L: Publications, F> LiveOperator<'a, B, L, F> {
         worker.ap.learn(&mut worker.token, news);
     }
 
-    /// Takes a worker's parts of the ledgers back, which have counted nothing.
+    /// Takes back a worker's parts of the ledgers, which have counted nothing.
     fn take_back<G: Drop>(&mut self, worker: LiveWorker<'a, B, L, G>)
         requires some { 0 < self.old.workers }
         requires nothing { counted_by worker.token.shards ≡ none }
@@ -172,7 +169,7 @@ impl<'a, B: Ledgers + Journals, L: Publications, F> LiveOperator<'a, B, L, F> {
         self.workers -= 1;
     }
 
-    /// With all parts of the ledgers: what has been counted.
+    /// Returns what has been counted. It needs all parts of the ledgers.
     fn read_totals<R: Wait>(self, rt: &R) -> Totals
         requires all { self.workers ≡ 0 }
         ensures reads { Reads result (crew_of self.entry).counted }
@@ -188,7 +185,7 @@ impl<'a, B: Ledgers + Journals, L: Publications, F> LiveOperator<'a, B, L, F> {
     }
 }
 
-/// What is left to put of an event.
+/// The part of an event that is still to be submitted.
 fn waiting_for(unserved: Unserved) -> Waiting {
     let Unserved { event, shard } = unserved;
     Waiting { event, shard }

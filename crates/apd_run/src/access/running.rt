@@ -1,4 +1,4 @@
-//! A run from its settings and its script.
+//! Running a script on an access point made from settings.
 
 ghost use Rattle.std.specs.Prelude.{◌≡◌, ◌+◌, ◌<◌, ◌≤◌, vec_len, IfOk};
 ghost use Rattle.std.specs.List.{All};
@@ -31,11 +31,11 @@ use std::marker::{Brand, PhantomData};
 use std::sync::Wait;
 use std::thread::Threads;
 
-/// The status of a run that memory was refused to.
+/// The status of a run for which an allocation failed.
 const NO_MEMORY: u8 = 3;
 
-/// What a run uses besides its access point: the files of its loads, how many states of each program the
-/// verifier may examine, and who is told of each event.
+/// What a run uses besides its access point: the files of its loads, how many states of each program the verifier may
+/// examine, and the gate that is told of each event.
 #[derive(Drop)]
 pub struct Supplies<'a, F, G: Drop> {
     pub files: &'a mut F,
@@ -43,7 +43,7 @@ pub struct Supplies<'a, F, G: Drop> {
     pub gate: G,
 }
 
-/// What an access point is made from, with a copy of the shapes of its maps.
+/// What an access point is made from, and a copy of its maps' shapes.
 #[derive(Drop)]
 pub struct Opening {
     pub settings: Settings,
@@ -51,20 +51,20 @@ pub struct Opening {
     pub new: NewShards,
 }
 
-/// The tokens of an access point as they were given out, and the programs that are put in force there.
+/// The tokens of an access point, and the programs in force there.
 struct Equipment<B: Ledgers + Journals> {
     hands: Hands<B>,
     loads: Loads,
 }
 
-/// The end of a run that memory was refused to before it began.
+/// The end of a run for which an allocation failed before it began.
 fn without_memory<P: Console>(writer: P) -> (P, u8)
     ensures runs { Runs (P.strict writer) (P.contents writer) (P.contents result.0) none result.1 }
 {
     (writer, NO_MEMORY)
 }
 
-/// Workers that are at rest.
+/// Workers at rest.
 fn ready_workers<'a, B, L, G>(
     alloc: Global,
     ap: &'a LiveAp<B>,
@@ -96,7 +96,7 @@ where
     Ok(ready)
 }
 
-/// An operator that keeps so many parts of the ledgers, beside so many workers.
+/// An operator that keeps these parts of the ledgers, beside `workers` workers.
 fn new_operator<'a, B, L, F>(
     ap: &'a LiveAp<B>,
     token: OperatorToken<B>,
@@ -130,7 +130,7 @@ where
     }
 }
 
-/// Runs a script by an access point whose tokens were given out.
+/// Runs a script on an access point whose tokens were given out.
 fn run_with<B, L, F, G, R, P>(
     rt: &R,
     alloc: Global,
@@ -164,7 +164,7 @@ where
     } = hands;
     let mut loads = loads;
     let Ok(ready) = ready_workers::<B, L, G>(alloc, ap, gate, workers) else {
-        // Given up by calls, since they have many parts.
+        // Dropped by calls, since they have many parts.
         drop(operator);
         drop(hoard);
         loads.close(rt);
@@ -182,9 +182,7 @@ where
     ended
 }
 
-/// Runs a script by a new access point. The writer is handed back with the program's status: 0; 3 where
-/// a line says `memory`, or memory was refused to the run itself, which then broke off; 2 where a write
-/// failed, which ends the run.
+/// Runs a script on a new access point, and returns the writer and the exit status, as `run_script` does.
 pub fn run_live<B, F, G, R, P>(
     rt: &R,
     alloc: Global,

@@ -10,8 +10,7 @@ use std::alloc::{AllocError, Global};
 use std::marker::{Model, PhantomData};
 use std::sync::Wait;
 
-/// A worker of a run: its token, and what it takes to each event. Contracts see the access point and the
-/// token.
+/// A worker of a run: its token, and what it needs for each event. Contracts see the access point and the token.
 #[derive(Drop)]
 pub struct LiveWorker<'a, B: Ledgers + Journals, L: Publications, G: Drop> {
     pub(crate) ap: &'a LiveAp<B>,

@@ -1,4 +1,4 @@
-//! What a run writes to.
+//! The console of a run.
 
 ghost use Rattle.std.specs.Prelude.{◌≡◌, Bool};
 
@@ -6,7 +6,7 @@ use apd_script::Numbered;
 use apd_text::Report;
 use std::io::Write;
 
-/// What a run writes its lines to, and who is told what became of them.
+/// A run writes its lines to it, and tells it what became of them.
 pub trait Console: Write {
     // Whether a refused line ends the run.
     ghost strict: { Self → Bool };
@@ -15,8 +15,7 @@ pub trait Console: Write {
     fn is_strict(&self) -> bool
         ensures is { result ≡ strict self.now };
 
-    /// Tells what became of commands after one another, to which the operator answered these reports, in
-    /// their order.
+    /// Tells what became of consecutive commands, for which the operator made these reports, in order.
     fn tell(&mut self, commands: &[Numbered<'_>], reports: &[Report])
         ensures output { Self.contents self.new ≡ Self.contents self.old };
 }

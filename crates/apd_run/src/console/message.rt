@@ -1,4 +1,4 @@
-//! What is told on standard error of the lines of a script.
+//! Messages on standard error about the lines of a script.
 
 ghost use Rattle.std.specs.Prelude.{◌≡◌, true, IsSome};
 ghost use Rattle.apd_run.specs.Shows.{is_refusal};
@@ -8,8 +8,8 @@ use apd_text::{Told, Unread};
 use bpf_regions::Hook;
 use std::fmt;
 
-/// The file of a load or an adoption, the file of its certificate, which a load has none of, its hook, and
-/// the line whose program the hook had before.
+/// The file of a load or an adoption, the file of an adoption's certificate, its hook, and the line of the hook's old
+/// program.
 #[derive(Clone, Copy)]
 pub(crate) struct Loading<'a> {
     pub hook: Hook,
@@ -18,12 +18,12 @@ pub(crate) struct Loading<'a> {
     pub before: Option<u64>,
 }
 
-/// What is told.
+/// A message.
 #[derive(Clone, Copy)]
 pub(crate) enum Message<'a> {
-    /// A file is not loaded, and its hook keeps what it had.
+    /// A file was not loaded; its hook is unchanged.
     NotLoaded(Loading<'a>),
-    /// A file is not loaded, since one isn't read, and its hook keeps what it had.
+    /// A file was not loaded, since one couldn't be read; its hook is unchanged.
     NotRead {
         load: Loading<'a>,
         unread: Unread,
@@ -44,7 +44,7 @@ pub(crate) enum Message<'a> {
     NoProgram(Hook),
 }
 
-/// What there is to tell of a load or an adoption: that it was refused, or, where all is told, that it was not.
+/// The message about a load or an adoption: that it was refused, or, if `verbose` is set, that it succeeded.
 pub(crate) fn message_of<'a>(load: Loading<'a>, told: &Told, verbose: bool) -> Option<Message<'a>>
     ensures refused { is_refusal told.now ≡ true → IsSome result }
 {
@@ -98,7 +98,6 @@ impl fmt::Display for Kept {
     }
 }
 
-/// A file that can't be read, and why.
 #[derive(Drop)]
 struct NotRead<'a> {
     path: &'a str,
@@ -116,7 +115,6 @@ impl fmt::Display for NotRead<'_> {
 }
 
 impl<'a> Loading<'a> {
-    /// What its hook keeps.
     fn kept(&self) -> Kept {
         Kept {
             hook: self.hook,
@@ -124,7 +122,7 @@ impl<'a> Loading<'a> {
         }
     }
 
-    /// The file that isn't read.
+    /// The file that couldn't be read.
     fn not_read(&self, unread: Unread) -> NotRead<'a> {
         match unread {
             Unread::Code(why) => NotRead {

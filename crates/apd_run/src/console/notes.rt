@@ -1,4 +1,4 @@
-//! What is told of a script, line by line.
+//! Messages about a script, line by line.
 
 ghost use Rattle.std.specs.Prelude.{◌≡◌, IfOk};
 
@@ -11,7 +11,7 @@ use bpf_regions::{Hook, Shape, Shapes, WordWidth};
 use std::alloc::{AllocError, Global};
 use std::io::Write;
 
-/// The name of a script as it is told, the maps of its run, what is to be told, and the lines whose programs
+/// The name of a script as messages show it, the maps of its run, which messages to write, and the lines whose programs
 /// are in force.
 #[derive(Drop)]
 pub(crate) struct Notes {
@@ -23,10 +23,9 @@ pub(crate) struct Notes {
     programs: Programs,
 }
 
-/// The largest number of 4 bytes.
 const FOUR_BYTES: u64 = 0xffff_ffff;
 
-/// The answer to the command of a line, if the first of these reports is one, and the reports after it.
+/// The report on the command of a line, if it is the first of these reports, and the reports after it.
 fn answer_to(line: u64, reports: &[Report]) -> (Option<&Told>, &[Report]) {
     match reports.split_first() {
         Some((first, after)) if first.line == line => (Some(&first.told), after),
@@ -35,7 +34,7 @@ fn answer_to(line: u64, reports: &[Report]) -> (Option<&Told>, &[Report]) {
 }
 
 impl Notes {
-    /// Of a script whose first line is still to come.
+    /// Messages about a script that hasn't begun.
     pub(crate) fn new(
         alloc: Global,
         script: &str,
@@ -57,7 +56,7 @@ impl Notes {
         })
     }
 
-    /// Tells what became of commands, to which the operator answered these reports.
+    /// Tells what became of commands, for which the operator made these reports.
     pub(crate) fn tell<E: Write>(
         &mut self,
         err: &mut E,
@@ -104,7 +103,7 @@ impl Notes {
         }
     }
 
-    /// A load of a file for a hook, or an adoption by a certificate, beside what the hook has.
+    /// A load of a file for a hook, or an adoption by a certificate, and the hook's old program.
     fn loading<'a>(&self, hook: Hook, path: &'a str, certificate: &'a str) -> Loading<'a> {
         Loading {
             hook,
@@ -114,7 +113,6 @@ impl Notes {
         }
     }
 
-    /// Tells what became of a load or an adoption.
     fn tell_load<E: Write>(
         &mut self,
         err: &mut E,
@@ -144,7 +142,7 @@ impl Notes {
         }
     }
 
-    /// Tells of a number that is stored, where the map's words are too short for it.
+    /// Tells of a stored number that doesn't fit the map's words.
     fn tell_store<E: Write>(&self, err: &mut E, line: u64, word: MapWord, value: u64) {
         let Some(shape) = self.maps.get(word.map as usize) else {
             return;
@@ -159,7 +157,6 @@ impl Notes {
         }
     }
 
-    /// Tells something of a line.
     fn say<E: Write>(&self, err: &mut E, line: u64, message: Message<'_>) {
         let script = self.script.as_str();
         if let Ok(text) = format!(in self.alloc; "apd: {script}:{line}: {message}\n") {
@@ -167,7 +164,7 @@ impl Notes {
         }
     }
 
-    /// Tells which hooks have no program at the end, where all is told.
+    /// Tells which hooks have no program at the end, if `verbose` is set.
     pub(crate) fn end<E: Write>(&self, err: &mut E) {
         if !self.verbose {
             return;

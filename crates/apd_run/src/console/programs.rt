@@ -1,4 +1,4 @@
-//! Which program each hook has.
+//! The program of each hook.
 
 use bpf_regions::Hook;
 
@@ -29,7 +29,7 @@ impl Programs {
         }
     }
 
-    /// A hook has the program of a line from now on, or none.
+    /// Records that a hook has the program of a line, or none.
     pub(crate) fn put(&mut self, hook: Hook, line: Option<u64>) {
         match hook {
             Hook::Association => self.association = line,

@@ -9,7 +9,7 @@ use apd_text::Report;
 use std::io;
 use std::io::Write;
 
-/// Standard output, standard error, and what is told there.
+/// Standard output, standard error, and the messages that go there.
 #[derive(Drop)]
 pub(crate) struct Terminal<'a, O: Drop, E> {
     pub out: O,
@@ -42,7 +42,7 @@ impl<'a, O: Write + Drop, E: Write> Console for Terminal<'a, O, E> {
 }
 
 impl<'a, O: Drop, E: Write> Terminal<'a, O, E> {
-    /// Tells what is left to tell at the end of a run, and hands standard output back.
+    /// Writes the last messages of a run, and returns standard output.
     pub(crate) fn end(self) -> O
         ensures { result ≡ self.entry.out }
     {

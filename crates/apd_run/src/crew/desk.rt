@@ -5,15 +5,14 @@ use crate::crew::post::Post;
 use crate::crew::serving::Serving;
 use std::sync::atomic::AtomicU64;
 
-/// A worker goes out for the interval with this number.
+/// An order for a worker: to serve in the interval with this number.
 #[derive(Drop)]
 pub struct Order<W: Serving + Drop> {
     pub ready: Ready<W>,
     pub interval: u64,
 }
 
-/// What the operator and one worker's thread share: orders, of which None is the last, and what
-/// comes back.
+/// What the operator and one worker's thread share: orders, of which `None` is the last, and finished work.
 #[derive(Drop)]
 pub struct Desk<W: Serving + Drop> {
     pub orders: Post<Option<Order<W>>>,
@@ -21,7 +20,7 @@ pub struct Desk<W: Serving + Drop> {
 }
 
 impl<W: Serving + Drop> Desk<W> {
-    /// A desk with nothing on it.
+    /// An empty desk.
     pub fn new() -> Desk<W> {
         Desk {
             orders: Post::new(),
@@ -30,12 +29,12 @@ impl<W: Serving + Drop> Desk<W> {
     }
 }
 
-/// What the operator tells all workers, and they it.
+/// Signals between the operator and all workers.
 #[derive(Drop)]
 pub struct Signs {
     /// The number of the last interval to which no event is added.
     pub closed: AtomicU64,
-    /// Not 0 where a worker's list found no memory.
+    /// Not 0 if an allocation failed for a worker's list.
     pub trouble: AtomicU64,
 }
 

@@ -16,8 +16,7 @@ pub struct Ready<W: Serving + Drop> {
     pub ghost nothing: { W.counted worker ≡ none },
 }
 
-/// A worker that has counted just what it hands on. `refused` says that memory was wanting for
-/// the list.
+/// A worker that has counted exactly what its list says. `refused` says that an allocation failed for the list.
 #[derive(Drop)]
 pub struct Done<W: Serving + Drop> {
     pub worker: W,
@@ -27,7 +26,7 @@ pub struct Done<W: Serving + Drop> {
 }
 
 impl<W: Serving + Drop> Ready<W> {
-    /// Goes out with an empty list.
+    /// Begins with an empty list.
     pub fn begin(self, alloc: Global) -> Done<W>
         ensures worker { result.worker ≡ self.worker }
         ensures list { result.list.items ≡ [] }
@@ -42,7 +41,7 @@ impl<W: Serving + Drop> Ready<W> {
 }
 
 impl<W: Serving + Drop> Done<W> {
-    /// Serves what the queue holds.
+    /// Serves the events in the queue.
     pub fn serve<R: Wait>(&mut self, rt: &R) {
         let Done {
             worker,

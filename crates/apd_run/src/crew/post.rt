@@ -1,9 +1,9 @@
-//! A place where one thread leaves a thing for another.
+//! A slot in which one thread leaves a value for another.
 
 use std::mem;
 use std::sync::{Condvar, Mutex, Wait};
 
-/// Holds one thing at most.
+/// Holds at most one value.
 #[derive(Drop)]
 pub struct Post<T> {
     slot: Mutex<Option<T>>,
@@ -11,7 +11,7 @@ pub struct Post<T> {
 }
 
 impl<T> Post<T> {
-    /// An empty place.
+    /// An empty slot.
     pub fn new() -> Post<T> {
         Post {
             slot: Mutex::new(None),
@@ -21,13 +21,13 @@ impl<T> Post<T> {
 }
 
 impl<T: Drop> Post<T> {
-    /// Leaves a thing there. One that lies there is lost.
+    /// Stores a value. An earlier one that wasn't taken is lost.
     pub fn put<R: Wait>(&self, rt: &R, thing: T) {
         *self.slot.lock(rt) = Some(thing);
         self.bell.notify_all();
     }
 
-    /// Waits for a thing and takes it.
+    /// Waits for a value and takes it.
     pub fn take<R: Wait>(&self, rt: &R) -> T {
         let mut slot = self.slot.lock(rt);
         for _ in rt.forever() {

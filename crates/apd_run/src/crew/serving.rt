@@ -7,13 +7,13 @@ use ap_tagged::Tagged;
 use std::alloc::AllocError;
 use std::sync::Wait;
 
-/// A worker: it handles the events of a queue of its own.
+/// A worker, which handles the events of its own queue.
 pub trait Serving {
-    // What it has counted since the operator had it last.
+    // What it has counted since the operator last took over its counts.
     ghost counted: { Self → Counts };
 
-    /// Handles events until it finds its queue empty, and hands on what became of each. Err: want of
-    /// memory for the list, which holds what was handled till then.
+    /// Handles events until its queue is empty, and appends what became of each to the list. Err: an allocation failed
+    /// for the list, which has the events handled until then.
     fn serve<R: Wait>(&mut self, rt: &R, list: &mut Vec<Tagged>) -> Result<(), AllocError>
         ensures serves { Serves (counted self.old) (counted self.new) list.old.items list.new.items };
 }

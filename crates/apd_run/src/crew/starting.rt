@@ -8,7 +8,7 @@ pub trait Task<R: Wait> {
     fn run(&self, rt: &R, number: usize);
 }
 
-/// Starts a thread for each number below `many`. True where all have started.
+/// Starts a thread for each number below `many`. True if all have started.
 pub fn start_all<'s, E: 's, R: Threads + Wait + Sync, T: Task<R> + Sync>(
     scope: &Scope<'s, E>,
     rt: &'s R,

@@ -8,8 +8,7 @@ use std::sync::Wait;
 use std::sync::atomic::Ordering;
 use std::thread;
 
-/// Serves what the queue holds. True where the interval is over: it was closed before, or memory
-/// was refused.
+/// Serves the events in the queue. True if the interval is over: it was closed beforehand, or an allocation failed.
 fn turn<W: Serving + Drop, R: Wait>(
     rt: &R,
     signs: &Signs,
@@ -29,8 +28,7 @@ fn turn<W: Serving + Drop, R: Wait>(
     closed
 }
 
-/// Serves for one interval: until it is closed and the queue is found empty after that, or memory
-/// is refused.
+/// Serves for one interval: until it is closed and the queue is then found empty, or an allocation fails.
 fn serve_interval<W: Serving + Drop, R: Wait>(
     rt: &R,
     alloc: Global,

@@ -1,4 +1,4 @@
-//! Programs that come with a certificate.
+//! Adopting programs by certificates.
 
 ghost use Rattle.std.specs.Prelude.{◌≡◌};
 ghost use Rattle.apd_run.specs.Adopting.{AdoptsProgram, AdoptsCode, AdoptsFiles, certificate_told};
@@ -14,11 +14,10 @@ use versions::PublishFault;
 use versions_checked::{CheckedFault, Offer, publish_checked};
 
 impl Loads {
-    /// Reads two files, whose hex digits spell code and a certificate, and puts the code's program in
-    /// force for a hook where the certificate shows that it is safe. The answer is `Unreadable` where a
-    /// file can't be read or holds no hex digits in pairs; the code's fault; the number of the
-    /// certificate's fault; `Memory`; or the budget that is shown. All but the last leave what is in
-    /// force.
+    /// Reads code and a certificate from two files of hex digits, and puts the program in force for a hook if the
+    /// certificate shows it safe. Returns `Unreadable` if a file can't be read or doesn't hold pairs of hex digits, the
+    /// code's fault, the number of the certificate's fault, `Memory`, or the budget that the certificate shows. All but
+    /// the last leave the programs in force unchanged.
     pub fn adopt<R: Wait, F: Files>(
         &mut self,
         rt: &R,
@@ -95,7 +94,7 @@ impl Loads {
     }
 }
 
-/// What is told of a certificate that does not serve.
+/// The report on a refused certificate.
 fn not_certified(fault: CertFault) -> Told
     ensures { result ≡ certificate_told fault }
 {

@@ -1,4 +1,4 @@
-//! Loads and unloads.
+//! Loading and unloading programs.
 
 ghost use Rattle.std.specs.Prelude.{◌≡◌, None, OnOk, OnErr};
 ghost use Rattle.versions.specs.Lists.{with_load};
@@ -17,8 +17,8 @@ use std::marker::Model;
 use std::sync::{Arc, Wait};
 use versions::{News, PublishFault, Publisher};
 
-/// Puts programs in force for the maps of a run. Contracts see the list of all that was published.
-/// It is not `Drop`: end it by `close`.
+/// Puts programs in force for the maps of a run. Contracts see the list of published programs. It is not `Drop`: end it
+/// by `close`.
 pub struct Loads {
     pub(crate) alloc: Global,
     pub(crate) publisher: Publisher,
@@ -37,7 +37,7 @@ impl Model for Loads {
 }
 
 impl Loads {
-    /// Loads by a publisher, with the shapes of its maps.
+    /// Loads through a publisher, with its maps' shapes.
     pub fn new(alloc: Global, publisher: Publisher, shapes: Shapes) -> Loads
         requires { shapes ≡ publisher.shapes }
         ensures { result ≡ publisher }
@@ -49,7 +49,7 @@ impl Loads {
         }
     }
 
-    /// The loads so far, for one reader, which then learns them.
+    /// The loads so far, for one reader to learn.
     pub fn tell(&mut self) -> News
         ensures same { self.new ≡ self.old }
         ensures told { result ≡ self.old }
@@ -57,7 +57,7 @@ impl Loads {
         self.publisher.tell()
     }
 
-    /// Waits for the readers, and ends. From then on a reader that enters waits for ever.
+    /// Waits for the readers, and ends. A reader that enters later waits forever.
     pub fn close<R: Wait>(self, rt: &R) {
         let Loads {
             alloc: _,
@@ -67,10 +67,10 @@ impl Loads {
         publisher.close(rt);
     }
 
-    /// Reads a file, whose hex digits spell code, and puts the code's program in force for a hook. The
-    /// verifier examines no more states of it than the limit. The answer is `Unreadable` if the file
-    /// can't be read or holds no hex digits in pairs; the code's fault; the verifier's refusal; `Memory`;
-    /// or the program's budget. All but the last leave what is in force.
+    /// Reads code from a file of hex digits, and puts the program in force for a hook if the verifier admits it within
+    /// a limit of states. Returns `Unreadable` if the file can't be read or doesn't hold pairs of hex digits, the
+    /// code's fault, the verifier's refusal, `Memory`, or the program's budget. All but the last leave the programs in
+    /// force unchanged.
     pub fn load<R: Wait, F: Files>(
         &mut self,
         rt: &R,
@@ -94,7 +94,7 @@ impl Loads {
         }
     }
 
-    /// Leaves a hook without a program. Err: want of memory, and what is in force stays.
+    /// Removes the program of a hook. Err: an allocation failed, and the programs in force are unchanged.
     pub fn unload<R: Wait>(&mut self, rt: &R, hook: Hook) -> Result<(), AllocError>
         ensures unloaded { OnOk result (self.new ≡ with_load self.old (load hook None)) }
         ensures refused { OnErr result (self.new ≡ self.old) }

@@ -1,15 +1,15 @@
-//! How far a run is.
+//! The progress of a run.
 
 use crate::progress::watching::Watcher;
 use ap_tagged::Gate;
 use std::sync::atomic::{AtomicU64, Ordering};
 use std::time::{Clock, Instant};
 
-/// After how many events the clock is read.
+/// The number of events between two readings of the clock.
 const EVENTS_A_LOOK: u64 = 64;
 
-/// Tells on standard error how far a run is: a line of text each second, from the end of the first one
-/// on. Tells nothing where the clock can't be read.
+/// Writes the progress of a run to standard error: a line each second, from the end of the first on; nothing if the
+/// clock can't be read.
 #[derive(Drop)]
 pub struct Progress<'a, R> {
     rt: &'a R,
@@ -20,7 +20,7 @@ pub struct Progress<'a, R> {
 }
 
 impl<'a, R: Clock> Progress<'a, R> {
-    /// The progress of a run that begins now.
+    /// The progress of a run that begins at this moment.
     pub fn new(rt: &'a R) -> Progress<'a, R> {
         Progress {
             rt,
@@ -31,7 +31,7 @@ impl<'a, R: Clock> Progress<'a, R> {
         }
     }
 
-    /// How many whole seconds have passed, where the clock can be read.
+    /// The whole seconds since the beginning, if the clock can be read.
     fn seconds(&self) -> Option<u64> {
         let elapsed = self.begun?.elapsed(self.rt).ok()?;
         Some(elapsed.as_secs())
@@ -39,8 +39,7 @@ impl<'a, R: Clock> Progress<'a, R> {
 }
 
 impl<'a, R: Clock + Eprint> Progress<'a, R> {
-    /// Tells how far the run is, if a second has passed since that was told last. Of several workers
-    /// one tells it.
+    /// Writes the progress, if a second has passed since the last line. Only one of several workers writes it.
     fn look(&self, line: u64, handled: u64) {
         let Some(seconds) = self.seconds() else {
             return;
@@ -57,7 +56,7 @@ impl<'a, R: Clock + Eprint> Progress<'a, R> {
         }
     }
 
-    /// Tells of which line an event was handled last. What becomes of the text doesn't matter.
+    /// Writes the line of the event handled last. A failed write doesn't matter.
     fn tell(&self, line: u64, rate: u64) {
         let lines = self.lines.load(Ordering::SeqCst);
         let _ = eprintln!(self.rt; "apd: line {line} of {lines}, {rate} events a second");

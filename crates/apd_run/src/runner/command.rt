@@ -1,4 +1,4 @@
-//! The command.
+//! The command `apd run`.
 
 ghost use Rattle.std.specs.Prelude.{◌≤◌};
 ghost use Rattle.apd_run.specs.Counts.{none};
@@ -18,8 +18,8 @@ use std::marker::Brand;
 use std::sync::Wait;
 use std::thread::Threads;
 
-/// The words of the command: the paths of a configuration and of a script, and how many workers there
-/// are, of 1 to 8. More are 8, and none is 1.
+/// The command's arguments: the paths of a configuration and of a script, and the number of workers, 1 to 8. A larger
+/// number counts as 8, and 0 as 1.
 #[derive(Clone, Copy, Debug)]
 pub struct RunWords<'a> {
     pub config: &'a str,
@@ -27,14 +27,14 @@ pub struct RunWords<'a> {
     pub workers: u8,
     /// Whether a refused line ends the run after its interval.
     pub strict: bool,
-    /// Whether each load is told on standard error, and each hook that has no program at the end.
+    /// Whether messages tell of each load, and of each hook without a program at the end.
     pub verbose: bool,
 }
 
-/// Into how many parts each ledger of an access point is cut.
+/// The number of parts of each ledger.
 const PARTS: u64 = 17;
 
-/// The number of the last line that does something, or 0 where none does.
+/// The number of the last line with a command, or 0 if there is none.
 fn last_line(commands: &[Numbered<'_>]) -> u64 {
     match commands.last() {
         Some(numbered) => numbered.line,
@@ -42,7 +42,7 @@ fn last_line(commands: &[Numbered<'_>]) -> u64 {
     }
 }
 
-/// Runs commands by a new access point.
+/// Runs commands on a new access point.
 fn run_commands<R, F, G, P>(
     rt: &R,
     alloc: Global,
@@ -73,11 +73,11 @@ where
     run_live::<Brand, F, G, R, P>(rt, alloc, opening, supplies, commands, writer)
 }
 
-/// Runs a script. `out` is handed back with the program's status: 0; 1 where the run is strict and ended
-/// with a refused line; 2 for a fault of a file, the configuration, the script or a write; 3 where a line
-/// says `memory`, or memory was refused to the run itself. A script at fault is refused before its first
-/// line is done. What a status of 1, 2 or 3 means is told to `err`, and so is what is in force on a hook where
-/// a load was refused.
+/// Runs a script, and returns `out` and the exit status: 3 if a line says `memory`, or an allocation failed for the run
+/// itself; 2 for a fault of a file, the configuration, the script or a write; otherwise 1 if the run is strict and a
+/// line was refused, which ends the run after that interval; otherwise 0. If the run breaks off, the contract doesn't
+/// say whether the status is 2 or 3. A faulty script is refused before any line runs. Messages on `err` say what a
+/// status of 1, 2 or 3 means, and what a hook keeps after a refused load.
 pub fn run<R, F, G, P, E>(
     rt: &R,
     alloc: Global,

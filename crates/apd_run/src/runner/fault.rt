@@ -1,4 +1,4 @@
-//! Why nothing is run.
+//! Why no script runs.
 
 ghost use Rattle.std.specs.Prelude.{◌≡◌};
 ghost use Rattle.apd_run.specs.Shows.{IsBroken};
@@ -13,7 +13,7 @@ use std::alloc::{AllocError, Global};
 use std::io::Write;
 use thiserror::Error;
 
-/// Why nothing is run. Its text is told on standard error.
+/// Why no script runs. Its text goes to standard error.
 #[derive(Debug, Drop, Error)]
 pub(crate) enum RunFault {
     #[error("apd: cannot read {path}: {why}")]
@@ -44,7 +44,7 @@ impl From<AllocError> for RunFault {
     }
 }
 
-/// The fault of a file that cannot be read.
+/// The fault of a file that can't be read.
 pub(crate) fn unreadable(alloc: Global, path: &str, why: FileFault) -> RunFault
     ensures memory { why ≡ FileFault.NoMemory → result ≡ RunFault.NoMemory }
 {
@@ -57,7 +57,7 @@ pub(crate) fn unreadable(alloc: Global, path: &str, why: FileFault) -> RunFault
     }
 }
 
-/// The fault of a file with this text, which is no configuration.
+/// The fault of a file whose text isn't a configuration.
 pub(crate) fn of_configuration(
     alloc: Global,
     path: &str,
@@ -78,7 +78,7 @@ pub(crate) fn of_configuration(
     }
 }
 
-/// The fault of a file with this text, which is no script for maps of these shapes.
+/// The fault of a file whose text isn't a script for maps of these shapes.
 pub(crate) fn of_script(
     alloc: Global,
     path: &str,
@@ -100,7 +100,7 @@ pub(crate) fn of_script(
     }
 }
 
-/// Why a line is malformed, behind its number.
+/// Why a line is malformed, to follow its number.
 fn reason(alloc: Global, text: &[u8], line: u64, shapes: &Shapes) -> Result<String, AllocError> {
     match line_fault(text, line, shapes) {
         Some(fault) => format!(in alloc; ": {fault}"),
@@ -108,7 +108,7 @@ fn reason(alloc: Global, text: &[u8], line: u64, shapes: &Shapes) -> Result<Stri
     }
 }
 
-/// Tells that no station can answer an access point whose address is that of a group.
+/// Warns that no station can answer an access point whose address is a group address.
 pub(crate) fn say_if_group<W: Write>(
     alloc: Global,
     path: &str,
@@ -129,12 +129,12 @@ pub(crate) fn say_if_group<W: Write>(
     }
 }
 
-/// Writes a text, as far as it is taken.
+/// Writes as much of a text as the writer takes.
 fn say<W: Write>(text: &str, writer: &mut W) {
     let _ = write_whole(writer, text.as_bytes());
 }
 
-/// The status of a run that hasn't begun: 3 where memory ran out, else 2.
+/// The status of a run that hasn't begun: 3 for lack of memory, otherwise 2.
 fn status_of(fault: &RunFault) -> u8
     ensures is { result ≡ fault_status fault.now }
     ensures broken { IsBroken result }
@@ -145,7 +145,7 @@ fn status_of(fault: &RunFault) -> u8
     }
 }
 
-/// Tells a fault, and answers its status. What is written of its text doesn't change the status.
+/// Writes the text of a fault, and returns its status, even if the write fails.
 pub(crate) fn complain<W: Write>(alloc: Global, fault: &RunFault, err: &mut W) -> u8
     ensures is { result ≡ fault_status fault.now }
     ensures broken { IsBroken result }
@@ -161,7 +161,7 @@ pub(crate) fn complain<W: Write>(alloc: Global, fault: &RunFault, err: &mut W) -
     status_of(fault)
 }
 
-/// Tells what the status of a run that has begun means, where it isn't 0.
+/// Writes what the status of a run that has begun means, unless it is 0.
 pub(crate) fn say_why<W: Write>(status: u8, err: &mut W) {
     match status {
         0 => {}

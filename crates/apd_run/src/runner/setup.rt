@@ -1,4 +1,4 @@
-//! What an access point is made with, from a configuration.
+//! The settings of an access point, from a configuration.
 
 ghost use Rattle.std.specs.Prelude.{◌≡◌, ◌<◌, ◌≤◌};
 
@@ -10,7 +10,6 @@ use apd_files::{FileKind, Files, read_whole};
 use mac_types::Address;
 use std::alloc::Global;
 
-/// The bytes of a file of this kind.
 pub(crate) fn read<F: Files>(
     alloc: Global,
     path: &str,
@@ -23,7 +22,6 @@ pub(crate) fn read<F: Files>(
     }
 }
 
-/// The configuration in a file.
 pub(crate) fn configuration<F: Files>(
     alloc: Global,
     path: &str,
@@ -36,7 +34,7 @@ pub(crate) fn configuration<F: Files>(
     }
 }
 
-/// What an access point with so many workers is made with.
+/// The settings of an access point with `workers` workers.
 pub(crate) fn settings(configuration: Configuration, workers: u8) -> Settings
     ensures workers { result.workers ≡ workers }
     ensures shapes { result.shapes ≡ configuration.maps }

@@ -10,7 +10,7 @@ use bpf_line::InsnText;
 use std::alloc::{AllocError, Global};
 use std::fmt::Write;
 
-/// What stands before a slot: `> ` at a target, else two spaces.
+/// The mark of a slot: `> ` at a target, otherwise two spaces.
 fn mark(target: bool) -> &'static str
     ensures is { result.now ≡ mark_of target }
 {
@@ -25,7 +25,7 @@ fn append_line(text: &mut String, target: bool, slot: usize, insn: Insn) -> Resu
     Ok(())
 }
 
-/// The line of a slot, where an instruction starts there.
+/// The line of a slot, if an instruction starts there.
 fn append_slot(text: &mut String, program: &Program, slot: usize) -> Result<(), AllocError>
     ensures ok { IfOk result
         (λ _. Grows program.now.slots slot (string_bytes text.old) (string_bytes text.new)) }
@@ -37,7 +37,7 @@ fn append_slot(text: &mut String, program: &Program, slot: usize) -> Result<(), 
     }
 }
 
-/// A program's instructions, one a line, each with its slot before it and a mark at targets.
+/// A program's instructions, one a line, each with its slot before it, and a mark at targets.
 pub fn listing_text(alloc: Global, program: &Program) -> Result<String, AllocError>
     ensures is { IfOk result (λ text. IsListing program.now.slots (string_bytes text)) }
 {

@@ -1,10 +1,10 @@
-//! Where an instruction reaches into memory.
+//! Memory accesses of instructions.
 
 use bpf_absnum::AbsNum;
 use bpf_insn::{AluOp, Insn, Reg, Size};
 use std::fmt;
 
-/// The bytes of memory that an instruction reads or writes: so many from a register's pointer and an offset on.
+/// The bytes of memory that an instruction reads or writes: `size` bytes at an offset from a register's pointer.
 #[derive(Clone, Copy)]
 pub(crate) struct Access {
     pub(crate) base: Reg,
@@ -15,15 +15,15 @@ pub(crate) struct Access {
 /// How far an access reaches in its region.
 #[derive(Clone, Copy)]
 pub(crate) enum Reach {
-    /// It ends behind so many bytes at most.
+    /// It ends at this byte at most.
     To(u64),
-    /// It begins so many bytes before the region.
+    /// It begins this many bytes before the region.
     Before(u64),
-    /// Its offset may be below 0, or past what a number holds.
+    /// Its offset may be negative, or exceed what a number holds.
     Anywhere,
 }
 
-/// From here on an offset reads as a negative number.
+/// Offsets from here on are negative numbers.
 const NEGATIVE: u64 = 1 << 63;
 
 impl Access {
@@ -61,7 +61,7 @@ fn bytes_of(size: Size) -> u8 {
     }
 }
 
-/// Where an instruction reaches into memory.
+/// The memory access of an instruction, if it makes one.
 pub(crate) fn access_of(insn: Insn) -> Option<Access> {
     match insn {
         Insn::Load {

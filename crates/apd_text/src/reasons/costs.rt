@@ -1,4 +1,4 @@
-//! What admitting a program took, as text.
+//! The work of admitting a program, as text.
 
 use bpf_decode::Program;
 use bpf_line::InsnText;
@@ -14,7 +14,6 @@ struct Examined {
     most: u32,
 }
 
-/// The sums of the states by slot.
 fn examined_of(visits: &[u32]) -> Examined {
     let mut examined = Examined {
         states: 0,
@@ -35,7 +34,7 @@ fn examined_of(visits: &[u32]) -> Examined {
     examined
 }
 
-/// The budget, how many states were examined, and where most of them stand.
+/// The budget, how many states were examined, and where most of them are.
 pub(crate) fn costs_text(
     alloc: Global,
     program: &Program,

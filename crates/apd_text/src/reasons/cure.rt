@@ -1,25 +1,25 @@
-//! What cures a refusal, where what was seen tells more than the page on its number.
+//! Fixes for refusals, if the verifier's state tells more than the page on the number.
 
 use std::fmt;
 
 /// What an author can do about a refusal.
 #[derive(Clone, Copy)]
 pub(crate) enum Cure {
-    /// The same whatever was seen.
+    /// It doesn't depend on the state.
     Advice(&'static str),
-    /// Nothing shows that the frame has so many bytes.
+    /// Nothing shows that the frame has this many bytes.
     TestFrame { bytes: u64 },
-    /// Nothing shows that so many bytes follow the pointer that the slot makes.
+    /// Nothing shows that this many bytes follow the pointer that the slot makes.
     TestPointer { slot: u16, bytes: u64 },
-    /// An access through a variable index begins at this byte at most.
+    /// An access through a variable index must begin at this byte at most.
     BoundIndex { last: u32 },
-    /// An entry of the map has no more bytes than so many.
+    /// An entry of the map has only this many bytes.
     ShortEntry { map: u32, bytes: u32 },
-    /// A word of the map has so many bytes.
+    /// A word of the map has this many bytes.
     WordWidth { map: u32, bytes: u32 },
-    /// The configuration has no map behind the one with this number.
+    /// The map with this number is the configuration's last.
     DeclareMap { last: usize },
-    /// The first entry of the map has no byte there.
+    /// The map's first entry has only this many bytes.
     FirstEntry { map: u32, bytes: u32 },
 }
 

@@ -1,4 +1,4 @@
-//! Which cure a refusal has, by what the verifier knew there.
+//! Choosing the fix for a refusal, by what the verifier knew there.
 
 use crate::reasons::access::{Access, Reach, access_of};
 use crate::reasons::cure::{
@@ -14,13 +14,11 @@ use bpf_insn::{AluOp, Insn, Source, Wide};
 use bpf_regions::{Shape, Shapes};
 use bpf_verifier::{Fault, Refusal};
 
-/// How many bytes a frame has at most.
 const LONGEST: u64 = 2400;
 
-/// How many bytes a context has.
 const CONTEXT: u32 = 32;
 
-/// The cure of a refusal of the verifier. None where what it knew tells no more than the number.
+/// The fix for a verifier's refusal; `None` if the state tells no more than the number.
 pub(crate) fn cure_of(program: &Program, state: &AbsState, refusal: Refusal) -> Option<Cure> {
     let Some(Some(insn)) = program.insn_at(refusal.pc) else {
         return None;
@@ -34,7 +32,7 @@ pub(crate) fn cure_of(program: &Program, state: &AbsState, refusal: Refusal) -> 
     }
 }
 
-/// A value that a source reads from a register.
+/// The value that a source reads from a register.
 fn value_of(state: &AbsState, source: Source) -> Option<AbsVal> {
     match source {
         Source::Reg(register) => Some(state.register(register)),
@@ -42,7 +40,7 @@ fn value_of(state: &AbsState, source: Source) -> Option<AbsVal> {
     }
 }
 
-/// The cure of operands that don't go together.
+/// The fix for operands that don't go together.
 fn of_kinds(state: &AbsState, insn: Insn) -> Option<Cure> {
     match insn {
         Insn::Alu {
@@ -69,7 +67,7 @@ fn is_pointer(value: AbsVal) -> bool {
     matches!(value, AbsVal::Frame { .. } | AbsVal::Pointer { .. })
 }
 
-/// The cure of arithmetic on a pointer.
+/// The fix for arithmetic on a pointer.
 fn of_arithmetic(op: AluOp, left: AbsVal, right: Option<AbsVal>) -> Option<Cure> {
     match op {
         AluOp::Add => of_sum(left, right),
@@ -78,7 +76,7 @@ fn of_arithmetic(op: AluOp, left: AbsVal, right: Option<AbsVal>) -> Option<Cure>
     }
 }
 
-/// The cure of a sum with the frame's end.
+/// The fix for a sum with the frame's end.
 fn of_sum(left: AbsVal, right: Option<AbsVal>) -> Option<Cure> {
     match right {
         Some(right) if is_end(right) => Some(FIXED_END),
@@ -87,7 +85,7 @@ fn of_sum(left: AbsVal, right: Option<AbsVal>) -> Option<Cure> {
     }
 }
 
-/// The cure of a pointer that is taken from another, or of a number that is taken from the frame's end.
+/// The fix for subtracting a pointer, or a number from the frame's end.
 fn of_difference(left: AbsVal, right: Option<AbsVal>) -> Option<Cure> {
     match right {
         Some(right) if is_end(right) => Some(LENGTH),
@@ -103,7 +101,7 @@ fn of_difference(left: AbsVal, right: Option<AbsVal>) -> Option<Cure> {
     }
 }
 
-/// The cure of bits that are put into a pointer: so compilers index an array on the stack.
+/// The fix for bits that are put into a pointer, which is how compilers index an array on the stack.
 fn of_bits(left: AbsVal) -> Option<Cure> {
     match left {
         AbsVal::Pointer {
@@ -114,7 +112,7 @@ fn of_bits(left: AbsVal) -> Option<Cure> {
     }
 }
 
-/// The cure of a comparison of two pointers.
+/// The fix for comparing two pointers.
 fn of_comparison(left: AbsVal, right: Option<AbsVal>) -> Option<Cure> {
     match right {
         Some(right) if is_pointer(right) && is_pointer(left) => Some(COMPARE_WITH_END),
@@ -122,7 +120,7 @@ fn of_comparison(left: AbsVal, right: Option<AbsVal>) -> Option<Cure> {
     }
 }
 
-/// The cure of a read through something that is no pointer.
+/// The fix for a read through something that isn't a pointer.
 fn of_address(address: AbsVal) -> Option<Cure> {
     match address {
         AbsVal::Number(_) => Some(NO_ADDRESS),
@@ -130,7 +128,7 @@ fn of_address(address: AbsVal) -> Option<Cure> {
     }
 }
 
-/// The cure of a write.
+/// The fix for a write.
 fn of_target(address: AbsVal) -> Option<Cure> {
     match address {
         AbsVal::Frame { .. } => Some(READ_ONLY),
@@ -143,7 +141,7 @@ fn of_target(address: AbsVal) -> Option<Cure> {
     }
 }
 
-/// The cure of an access that may leave its region.
+/// The fix for an access that may leave its region.
 fn of_place(shapes: &Shapes, state: &AbsState, insn: Insn) -> Option<Cure> {
     let access = access_of(insn)?;
     match state.register(access.base) {
@@ -157,7 +155,7 @@ fn of_place(shapes: &Shapes, state: &AbsState, insn: Insn) -> Option<Cure> {
     }
 }
 
-/// The cure of a read of the frame: a test of the byte that is read.
+/// The fix for a read of the frame: a test of the byte that is read.
 fn in_frame(access: Access, offset: AbsNum, label: Option<Label>) -> Cure {
     let tested = test_behind(&access, label);
     match access.reach(offset) {
@@ -167,7 +165,7 @@ fn in_frame(access: Access, offset: AbsNum, label: Option<Label>) -> Cure {
     }
 }
 
-/// The test that shows so many bytes of the frame.
+/// The test that shows this many bytes of the frame.
 fn test_of(bytes: u64) -> Cure {
     if bytes <= LONGEST {
         Cure::TestFrame { bytes }
@@ -176,14 +174,14 @@ fn test_of(bytes: u64) -> Cure {
     }
 }
 
-/// The test that shows what is read behind the place of a label, which is the sum of the slot before its number.
+/// The test that shows the bytes read after a label. A label's number is the slot of its sum, plus 1.
 fn test_behind(access: &Access, label: Option<Label>) -> Option<Cure> {
     let Label { label, distance } = label?;
     let size = i64::from(access.size);
     let end = i64::from(distance)
         .saturating_add(i64::from(access.offset))
         .saturating_add(size);
-    // Below 0 it reads as a number above each length.
+    // A negative number reads as one above any length.
     let bytes = end.cast_unsigned();
     if bytes == 0 || bytes > LONGEST {
         return None;
@@ -219,7 +217,7 @@ fn in_entry(shapes: &Shapes, map: u32, access: Access, offset: AbsNum) -> Option
     })
 }
 
-/// The cure of an access to a map in another width than its own.
+/// The fix for an access to a map in another width than its own.
 fn of_width(shapes: &Shapes, state: &AbsState, insn: Insn) -> Option<Cure> {
     let access = access_of(insn)?;
     match state.register(access.base) {
@@ -234,7 +232,7 @@ fn of_width(shapes: &Shapes, state: &AbsState, insn: Insn) -> Option<Cure> {
     }
 }
 
-/// The cure of a pointer that a function answers which the policy calls.
+/// The fix for a pointer that a function returns to the policy.
 fn of_result(state: &AbsState) -> Option<Cure> {
     if state.depth() > 1 {
         Some(INLINE_FUNCTION)
@@ -243,7 +241,7 @@ fn of_result(state: &AbsState) -> Option<Cure> {
     }
 }
 
-/// The cure of an instruction that names a map, for maps of these shapes: there is no such map, or it has no such byte.
+/// The fix for an instruction that names a map, for maps of these shapes: there is no such map, or it has no such byte.
 pub(crate) fn cure_of_map(shapes: &[Shape], insn: Insn) -> Option<Cure> {
     match insn {
         Insn::LoadWide {
@@ -261,7 +259,7 @@ pub(crate) fn cure_of_map(shapes: &[Shape], insn: Insn) -> Option<Cure> {
     }
 }
 
-/// The cure of an offset that a map's first entry doesn't have.
+/// The fix for an offset that a map's first entry doesn't have.
 fn cure_of_offset(map: u32, shape: Shape) -> Cure {
     let bytes = shape.words.saturating_mul(shape.width.bytes());
     Cure::FirstEntry { map, bytes }

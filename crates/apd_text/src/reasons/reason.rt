@@ -1,4 +1,4 @@
-//! Why a program is refused, or what admitting it took.
+//! Why a program is refused, or how much work admitting it took.
 
 use crate::reasons::costs::costs_text;
 use crate::reasons::cure::Cure;
@@ -15,8 +15,8 @@ use bpf_verifier::{Explanation, Refusal};
 use std::alloc::{AllocError, Global};
 use std::fmt::Write;
 
-/// The lines on a program, by what the verifier found of it: what it knew where it refuses the program, the way there, and
-/// the cure; or, if it admits the program, the budget, and where its states stand.
+/// The lines on a program: if the verifier refuses it, what it knew there, the path to there, and the fix; otherwise
+/// the budget, and where its states are.
 pub fn reason_text(
     alloc: Global,
     program: &Program,
@@ -28,7 +28,6 @@ pub fn reason_text(
     }
 }
 
-/// The lines on a refusal.
 fn refusal_text(
     alloc: Global,
     program: &Program,
@@ -47,8 +46,8 @@ fn refusal_text(
     Ok(text)
 }
 
-/// What the verifier knew where it stopped: of the registers that the instruction reads, of the memory that it reaches to,
-/// and where a pointer into it comes from that may lead anywhere.
+/// What the verifier knew where it stopped: the registers that the instruction reads, the memory that it accesses, and
+/// the origin of a pointer into it that may point anywhere.
 fn append_knowledge(
     text: &mut String,
     program: &Program,
@@ -66,7 +65,7 @@ fn append_knowledge(
     Ok(())
 }
 
-/// The cure: the one that was found, or else the one on the number's page.
+/// The fix that was found, or else the one on the number's page.
 fn append_cure(text: &mut String, cure: Option<Cure>, number: u8) -> Result<(), AllocError> {
     if let Some(cure) = cure {
         writeln!(text, "  cure: {cure}")?;
@@ -78,7 +77,7 @@ fn append_cure(text: &mut String, cure: Option<Cure>, number: u8) -> Result<(), 
     Ok(())
 }
 
-/// The lines on a fault of code, which was decoded for maps of these shapes: the bytes of its slot, and the cure.
+/// The lines on a fault of code that was decoded for maps of these shapes: the bytes of its slot, and the fix.
 pub fn fault_text(
     alloc: Global,
     code: &[u8],
@@ -91,7 +90,7 @@ pub fn fault_text(
     Ok(text)
 }
 
-/// The cure of a fault of code, where its instruction tells more than its number.
+/// The fix for a fault of code, if its instruction tells more than its number.
 fn cure_in(code: &[u8], shapes: &[Shape], fault: DecodeFault) -> Option<Cure> {
     match fault {
         DecodeFault::At {
@@ -105,7 +104,7 @@ fn cure_in(code: &[u8], shapes: &[Shape], fault: DecodeFault) -> Option<Cure> {
     }
 }
 
-/// The bytes of a slot, where the code has it.
+/// The bytes of a slot, if the code has it.
 fn append_bytes(text: &mut String, code: &[u8], slot: usize) -> Result<(), AllocError> {
     let mut rest = code;
     rest = rest.get(slot.saturating_mul(8)..).unwrap_or(&[]);
@@ -129,7 +128,7 @@ fn slot_in(code: &[u8], slot: usize) -> Option<[u8; 8]> {
     Some(bytes)
 }
 
-/// The instruction that stands at a slot of code; none where there is none.
+/// The instruction at a slot of code, if there is one.
 fn insn_at(code: &[u8], slot: usize) -> Option<Insn> {
     let first = slot_in(code, slot)?;
     let second = slot_in(code, slot.saturating_add(1));
@@ -139,7 +138,7 @@ fn insn_at(code: &[u8], slot: usize) -> Option<Insn> {
     }
 }
 
-/// The text of the instruction that stands at a slot of code; none where there is none.
+/// The text of the instruction at a slot of code; `None` if there is none.
 pub fn insn_text(alloc: Global, code: &[u8], slot: usize) -> Result<Option<String>, AllocError> {
     match insn_at(code, slot) {
         Some(insn) => Ok(Some(format!(in alloc; "{}", InsnText(insn))?)),

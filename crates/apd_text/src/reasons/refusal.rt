@@ -1,4 +1,4 @@
-//! What the verifier knew where it refuses a program, as text.
+//! What the verifier knew where it refused a program, as text.
 
 use crate::reasons::access::{Access, Reach, access_of};
 use crate::reasons::values::{SlotText, ValueText};
@@ -13,7 +13,6 @@ use bpf_regions::Shapes;
 use std::alloc::AllocError;
 use std::fmt::Write;
 
-/// How many bytes a stack frame has.
 const STACK: u64 = 512;
 
 /// A line for each register that an instruction reads.
@@ -49,7 +48,7 @@ fn append_source(text: &mut String, state: &AbsState, source: Source) -> Result<
     }
 }
 
-/// A move reads its source alone.
+/// A move reads only its source.
 fn append_alu(
     text: &mut String,
     state: &AbsState,
@@ -107,7 +106,7 @@ fn append_register(text: &mut String, state: &AbsState, register: Reg) -> Result
     Ok(())
 }
 
-/// What there is at the place of an access: how large its region is known to be, or what a stack has there.
+/// The memory at an access: the known size of its region, or what a stack holds there.
 pub(crate) fn append_place(
     text: &mut String,
     state: &AbsState,
@@ -128,7 +127,7 @@ pub(crate) fn append_place(
     }
 }
 
-/// How much of the frame is known to be there.
+/// How much of the frame is known to exist.
 fn append_frame(
     text: &mut String,
     state: &AbsState,
@@ -153,7 +152,7 @@ fn append_context(text: &mut String, reach: Reach) -> Result<(), AllocError> {
     Ok(())
 }
 
-/// How large a map's entries and their words are.
+/// The sizes of a map's entries and their words.
 fn append_entry(
     text: &mut String,
     shapes: &Shapes,
@@ -172,7 +171,7 @@ fn append_entry(
     Ok(())
 }
 
-/// What a stack has where an access reaches to.
+/// What a stack holds where an access reaches.
 fn append_stack(
     text: &mut String,
     state: &AbsState,
@@ -200,7 +199,7 @@ fn append_stack(
     }
 }
 
-/// The lines of the eights that an access to a stack touches: one or two.
+/// The lines of the slots of eight bytes that an access to a stack touches: one or two.
 fn append_slots(
     text: &mut String,
     state: &AbsState,
@@ -217,7 +216,7 @@ fn append_slots(
     Ok(())
 }
 
-/// The line of eight bytes of a stack.
+/// The line of a slot of a stack.
 fn append_slot(
     text: &mut String,
     state: &AbsState,
@@ -239,7 +238,7 @@ fn append_slot(
     Ok(())
 }
 
-/// Where the pointer of an access was made whose offset may wrap.
+/// The origin of an access's pointer, if its offset may wrap.
 pub(crate) fn append_origin(
     text: &mut String,
     program: &Program,
@@ -255,7 +254,7 @@ pub(crate) fn append_origin(
     }
 }
 
-/// The line of the slot that made the pointer in a register: that of its label, or the last one that wrote it.
+/// The line of the slot that made the pointer in a register: that of its label, or the last that wrote the register.
 fn append_maker(
     text: &mut String,
     program: &Program,
@@ -273,7 +272,7 @@ fn append_maker(
     }
 }
 
-/// The label of a frame pointer; its number is that of the slot of its sum, and 1.
+/// The label of a frame pointer. A label's number is the slot of its sum, plus 1.
 fn label_of(value: AbsVal) -> Option<Label> {
     match value {
         AbsVal::Frame { label, .. } => label,
@@ -281,7 +280,7 @@ fn label_of(value: AbsVal) -> Option<Label> {
     }
 }
 
-/// Whether nothing bounds the offset of a pointer outside of the stack.
+/// Whether nothing bounds the offset of a pointer outside the stack.
 fn may_wrap(state: &AbsState, access: &Access) -> bool {
     match state.register(access.base) {
         AbsVal::Frame { offset, .. } => is_anywhere(access, offset),

@@ -4,16 +4,15 @@ use bpf_absnum::AbsNum;
 use bpf_absval::{AbsRegion, AbsSlot, AbsVal, Label};
 use std::fmt;
 
-/// Numbers, by their limits: `5`, `-4 .. 3`, `0 .. 56, multiples of 8`, `any number`. Readings with a sign are shown
-/// where they tell more.
+/// Numbers, by their limits: `5`, `-4 .. 3`, `0 .. 56, multiples of 8`, `any number`. Signed limits are shown if they
+/// tell more.
 #[derive(Clone, Copy)]
 pub struct NumberText(pub AbsNum);
 
-/// The limits of numbers.
 #[derive(Clone, Copy)]
 struct Limits(AbsNum);
 
-/// Whether the readings with a sign tell more than those without.
+/// Whether signed limits tell more than unsigned ones.
 fn is_told_by_sign(number: AbsNum) -> bool {
     let range = number.range();
     let signed = number.signed();
@@ -54,7 +53,6 @@ impl fmt::Display for NumberText {
 #[derive(Clone, Copy)]
 pub struct ValueText(pub AbsVal);
 
-/// The label of a frame pointer.
 #[derive(Clone, Copy)]
 struct LabelText(Option<Label>);
 
@@ -68,7 +66,6 @@ impl fmt::Display for LabelText {
     }
 }
 
-/// The name of a region.
 #[derive(Clone, Copy)]
 struct RegionText(AbsRegion);
 

@@ -1,4 +1,4 @@
-//! The way to an instruction, as text.
+//! The path to an instruction, as text.
 
 use bpf_decode::Program;
 use bpf_insn::{Insn, Reg};
@@ -6,10 +6,9 @@ use bpf_line::InsnText;
 use std::alloc::AllocError;
 use std::fmt::Write;
 
-/// How many branches are shown at most: the last ones.
+/// How many branches are shown: the last ones.
 const SHOWN: usize = 8;
 
-/// The branch at a slot, if there is one.
 fn branch_at(program: &Program, slot: usize) -> Option<Insn> {
     match program.insn_at(slot) {
         Some(Some(insn)) => branch(insn),
@@ -17,7 +16,6 @@ fn branch_at(program: &Program, slot: usize) -> Option<Insn> {
     }
 }
 
-/// The instruction, if it is a branch.
 fn branch(insn: Insn) -> Option<Insn> {
     match insn {
         Insn::Branch { .. } => Some(insn),
@@ -25,7 +23,7 @@ fn branch(insn: Insn) -> Option<Insn> {
     }
 }
 
-/// How many branches stand on a way, but for its end.
+/// The number of branches on a path, without its end.
 fn count_branches(program: &Program, way: &[usize]) -> usize {
     let steps = way.len().saturating_sub(1);
     way.iter()
@@ -34,7 +32,7 @@ fn count_branches(program: &Program, way: &[usize]) -> usize {
         .count()
 }
 
-/// How long the way is, and its last branches, each with the way that it went.
+/// The path's length, and its last branches, each with its outcome.
 pub(crate) fn append_way(
     text: &mut String,
     program: &Program,
@@ -53,7 +51,7 @@ pub(crate) fn append_way(
     append_branches(text, program, way, hidden)
 }
 
-/// The branches behind so many that are hidden.
+/// The branches after the first `hidden`.
 fn append_branches(
     text: &mut String,
     program: &Program,
@@ -80,7 +78,7 @@ fn append_branches(
     Ok(())
 }
 
-/// The line of a branch, and where it went.
+/// The line of a branch and its outcome.
 fn append_branch(
     text: &mut String,
     slot: usize,
@@ -104,11 +102,10 @@ fn append_branch(
 enum Effect {
     Writes,
     Keeps,
-    /// It is a call, or leaves a function: what was there is of no use behind it.
+    /// It is a call, or leaves a function: the register's old value doesn't matter after it.
     Ends,
 }
 
-/// What an instruction of a program does to a register.
 fn effect_on(program: &Program, slot: usize, register: Reg) -> Effect {
     match program.insn_at(slot) {
         Some(Some(insn)) => effect_of(insn, register),
@@ -135,7 +132,7 @@ fn effect_of(insn: Insn, register: Reg) -> Effect {
     }
 }
 
-/// The slot on a way, but for its end, that wrote a register last. None where a call comes after it.
+/// The slot on a path, without its end, that wrote a register last; `None` if a call follows it.
 pub(crate) fn written_at(program: &Program, way: &[usize], register: Reg) -> Option<usize> {
     let steps = way.len().saturating_sub(1);
     let mut written = None;

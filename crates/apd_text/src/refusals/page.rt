@@ -8,12 +8,12 @@ use crate::refusals::{certificates, code, frames, live, text, verifier};
 use std::alloc::{AllocError, Global};
 use std::fmt;
 
-/// A program, small enough to be read at a glance.
+/// A program that is small enough to read at a glance.
 #[derive(Clone, Copy)]
 pub enum Example {
-    /// Assembler text, a line an instruction.
+    /// Assembler text, one instruction a line.
     Text(&'static str),
-    /// Hex digits, 16 an instruction slot.
+    /// Hex digits, 16 a slot.
     Code(&'static str),
 }
 
@@ -22,14 +22,14 @@ pub enum Example {
 pub struct Explanation {
     /// The number that a refusal names.
     pub number: u8,
-    /// In a few words.
+    /// The meaning in a few words.
     pub title: &'static str,
-    /// In a few sentences.
+    /// The meaning in a few sentences.
     pub meaning: &'static str,
     /// What leads to it.
     pub habit: &'static str,
-    /// A program that is refused so, and the same program cured. Map 0, where they use it, has 4 entries of one
-    /// word of 8 bytes.
+    /// A program that is refused with the number, and the same program after the fix. Map 0, if they use it, has 4
+    /// entries of one word of 8 bytes.
     pub programs: Option<(Example, Example)>,
     /// What to do.
     pub cure: &'static str,
@@ -45,7 +45,7 @@ const PARTS: [&[Explanation]; 6] = [
     &certificates::EXPLANATIONS,
 ];
 
-/// The page on a number. None where no refusal has it.
+/// The page on a number; `None` if no refusal has it.
 pub fn explain(number: u8) -> Option<Explanation>
     ensures number { IfSome result (λ page. page.number ≡ number) }
 {
@@ -72,8 +72,8 @@ fn text_on(alloc: Global, number: u8) -> Result<Option<String>, AllocError>
     Ok(Some(text))
 }
 
-/// The text of the page on the number that a word spells, in decimal digits without zeros in
-/// front. None where no refusal has it.
+/// The text of the page on the number that a word spells in decimal digits without leading zeros; `None` if no refusal
+/// has it.
 pub fn page_text(alloc: Global, word: &str) -> Result<Option<String>, AllocError>
     ensures page { IfOk result
         (λ found. IfSome found (λ text. IsPageOf word.now (string_bytes text))) }

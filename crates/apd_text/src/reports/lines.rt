@@ -1,4 +1,4 @@
-//! What was handed over, as text.
+//! Reports as text.
 
 ghost use Rattle.std.specs.Prelude.{◌≡◌, ◌++◌, IfOk, string_bytes};
 ghost use Rattle.apd_text.specs.Words.{out_words};
@@ -66,7 +66,6 @@ fn append_outs(alloc: Global, text: &mut String, line: u64, outs: &[Out]) -> Res
     Ok(())
 }
 
-/// Appends the lines of a report.
 pub(crate) fn append_report(
     alloc: Global,
     text: &mut String,

@@ -1,4 +1,4 @@
-//! The order of what is printed.
+//! The order of reports.
 
 ghost use Rattle.std.specs.Prelude.{◌≡◌, OnOk, OnErr};
 ghost use Rattle.apd_text.specs.Order.{IsOrdered};
@@ -6,8 +6,8 @@ ghost use Rattle.apd_text.specs.Order.{IsOrdered};
 use crate::reports::report::Report;
 use std::alloc::AllocError;
 
-/// Puts reports in the order of their lines, and those of one line in the order of their shards.
-/// Those of one shard and line keep their order.
+/// Sorts reports by line, and those of one line by shard. Those of one shard and line keep their order. If an
+/// allocation fails, nothing changes.
 pub fn put_in_order(reports: &mut Vec<Report>) -> Result<(), AllocError>
     ensures ordered { OnOk result (IsOrdered reports.old.items reports.new.items) }
     ensures refused { OnErr result (reports.new.items ≡ reports.old.items) }

@@ -1,4 +1,4 @@
-//! Lines that are written to a writer.
+//! Writing lines to a writer.
 
 ghost use Rattle.std.specs.Prelude.{◌≡◌, ◌++◌, [], OnOk, string_bytes};
 ghost use Rattle.std.specs.Io.KnownBytes.{Appends};
@@ -18,7 +18,7 @@ use std::io::Write;
 pub enum PrintFault {
     /// A write failed.
     Unwritten,
-    /// Memory was refused.
+    /// An allocation failed.
     NoMemory,
 }
 
@@ -44,10 +44,10 @@ impl From<Unwritten> for PrintFault {
     }
 }
 
-/// How long a text grows before it is written.
+/// The length from which a text is written.
 const ENOUGH: usize = 1 << 15;
 
-/// Writes what the text holds, and empties it.
+/// Writes the text, and empties it.
 fn flush<W: Write>(text: &mut String, writer: &mut W) -> Result<(), Unwritten>
     ensures whole { OnOk result
         (Appends (W.contents writer.old) (W.contents writer.new) (string_bytes text.old)) }
@@ -60,7 +60,7 @@ fn flush<W: Write>(text: &mut String, writer: &mut W) -> Result<(), Unwritten>
     Ok(())
 }
 
-/// Adds the lines of a report to the text, and writes it where it is long.
+/// Appends the lines of a report to the text, and writes it if it is long.
 fn print_report<W: Write>(
     alloc: Global,
     text: &mut String,
@@ -79,8 +79,7 @@ fn print_report<W: Write>(
     Ok(())
 }
 
-/// Prints reports as they stand, one after the other. Where a write fails or memory is refused, a
-/// beginning of their text was written.
+/// Prints reports in their order. If a write or an allocation fails, a prefix of their text was written.
 pub fn print_reports<W: Write>(
     alloc: Global,
     writer: &mut W,
@@ -99,7 +98,7 @@ pub fn print_reports<W: Write>(
     Ok(())
 }
 
-/// Prints the last line of a run.
+/// Prints the last line of a run, or a prefix of it if a write or an allocation fails.
 pub fn print_totals<W: Write>(
     alloc: Global,
     writer: &mut W,

@@ -1,11 +1,11 @@
-//! What was handed over of the lines of a script.
+//! What became of a script's lines.
 
 use ap_model::Out;
 use apd_files::CodeFault;
 use bpf_decode::DecodeFault;
 use bpf_verifier::Refusal;
 
-/// Which file of a load or an adoption isn't read, and why.
+/// Which file of a load or an adoption couldn't be used, and why.
 #[derive(Clone, Copy)]
 pub enum Unread {
     /// The file of the code.
@@ -17,25 +17,25 @@ pub enum Unread {
 /// What became of a line of a script, or of one shard's part of it.
 #[derive(Drop)]
 pub enum Told {
-    /// A shard handled an event: its outs, and whether a verdict dropped its data.
+    /// A shard handled an event: its outputs, and whether a verdict dropped its data.
     Handled { outs: Vec<Out>, dropped: bool },
-    /// Memory was refused, and nothing changed.
+    /// An allocation failed, and nothing changed.
     Memory,
-    /// A program of so many slots is in force, and safe within the budget.
+    /// A program of `slots` slots is in force, and safe within the budget.
     Loaded { budget: u32, slots: usize },
     /// The code of a file isn't well formed.
     Fault(DecodeFault),
-    /// The verifier doesn't admit a program.
+    /// The verifier refuses a program.
     Refused(Refusal),
-    /// 70 to 72: a certificate doesn't serve for a program.
+    /// 70 to 72: why a certificate doesn't admit a program.
     Certificate { fault: u8 },
-    /// A file can't be read, or doesn't hold hex digits in pairs.
+    /// A file can't be read, or doesn't hold pairs of hex digits.
     Unreadable(Unread),
     /// The value of a word of a map.
     Word { value: u64 },
 }
 
-/// What became of the line with this number. The shard is 0 where no shard had a part in it.
+/// What became of the line with this number. The shard is 0 if the line concerns none.
 #[derive(Drop)]
 pub struct Report {
     pub line: u64,

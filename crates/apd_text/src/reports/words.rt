@@ -1,4 +1,4 @@
-//! The words of a line.
+//! Words of a line.
 
 ghost use Rattle.std.specs.Prelude.{◌≡◌, IfOk, Some, string_bytes};
 ghost use Rattle.apd_text.specs.Words.{tid_word, bytes_word};

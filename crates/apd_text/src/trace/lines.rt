@@ -48,7 +48,7 @@ fn append_step(text: &mut String, program: &Program, step: Step) -> Result<(), A
     Ok(())
 }
 
-/// The lines of the steps and that of the end.
+/// The lines of the steps and of the end.
 pub(crate) fn run_text(
     alloc: Global,
     program: &Program,

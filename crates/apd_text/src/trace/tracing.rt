@@ -1,4 +1,4 @@
-//! A run over plain maps of zeros.
+//! A run over plain maps whose words are 0.
 
 ghost use Rattle.std.specs.Prelude.{◌≡◌, IfOk, string_bytes};
 ghost use Rattle.apd_text.specs.Trace.{IsTrace};
@@ -9,9 +9,9 @@ use bpf_machine::{Accepted, trace};
 use bpf_regions::{Context, Frame};
 use std::alloc::{AllocError, Global};
 
-/// Runs a program on a frame with a context, and answers the text of the run: a line with slot and instruction for each
-/// step, after it `note N` where the step noted the number N, and last `r0 N steps K`. The maps hold zeros at first, the
-/// clock is 0, no station is associated, and the first draw is of `draw`.
+/// Runs a program on a frame with a context, and returns the text of the run: a line with slot and instruction for each
+/// step, followed by `note N` if the step noted N, and a last line `r0 N steps K`. The maps' words are 0 at first, the
+/// clock is 0, no station is associated, and `draw` is the first number drawn.
 pub fn trace_text(
     alloc: Global,
     accepted: &Accepted,

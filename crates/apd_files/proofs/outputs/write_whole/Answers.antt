@@ -4,7 +4,7 @@ use Rattle.std.proofs.KnownBytes.{Appends-kept, Appends-trans}
 use Rattle.apd_files.proofs.outputs.write_whole.Goals as goal
 use Rattle.apd_files.proofs.outputs.write_whole.Goals.{in-Ok, in-Err+else-ne}
 
--- what is taken next goes from the front of the rest to the end of what was taken
+-- the bytes taken next move from the front of the rest to the end of those taken
 moves_front : (all done rest : List ℕ) (n : ℕ) → all ≡ done ++ rest → all ≡ (done ++ take n rest) ++ take (length rest - n) (drop n rest)
 moves_front all done rest n e =
     e ∙ ap (λ l. done ++ l) (sym (take-append-drop n rest)) ∙ sym (append_assoc done (take n rest) (drop n rest)) ∙ ap (λ l. (done ++ take n rest) ++ l) (sym (take_rest rest n))

@@ -1,4 +1,4 @@
--- What is gone from `rest` was appended.
+-- What `rest` has lost was appended.
 use Rattle.std.proofs.Common.{◌≡◌, ℕ, List, ◌++◌}
 use Rattle.std.specs.Io.KnownBytes.{Appends}
 use Rattle.apd_files.proofs.outputs.write_whole.Given as goal

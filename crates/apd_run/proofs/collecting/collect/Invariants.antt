@@ -2,7 +2,7 @@ use Rattle.std.proofs.Common.{◌≡◌, ◌+◌, vec_len}
 use Rattle.apd_run.specs.Crews.{Collects}
 use Rattle.apd_run.proofs.collecting.collect.Given as goal
 
--- so many workers came back, and what they counted is listed
+-- some workers came back, and what they counted is listed
 abbrev pub invariant-loop-desk : goal.invariant-loop-desk
 invariant-loop-desk g l =
     record {

@@ -3,7 +3,7 @@ use Rattle.std.specs.Vec.Iter.{into_iter_items}
 use Rattle.apd_run.specs.Telling.{reports_in}
 use Rattle.apd_run.proofs.collecting.report_all.Given as goal
 
--- what is told of the rest is still to come
+-- the reports on the rest are still to come
 abbrev pub invariant-loop-tagged : goal.invariant-loop-tagged
 invariant-loop-tagged l =
     (goal.iterator-loop-tagged).can_next l.tagged-iterator × (goal.iterator-loop-tagged).is_finite l.tagged-iterator

@@ -1,7 +1,7 @@
 use Rattle.std.proofs.Common.{◌≡◌, vec_len}
 use Rattle.apd_run.proofs.script.dismiss_all.Given as goal
 
--- as many have rights as are left, and what was counted stays
+-- the remaining workers have rights, and the counts are unchanged
 abbrev pub invariant-workers : goal.invariant-workers
 invariant-workers g l =
     record {

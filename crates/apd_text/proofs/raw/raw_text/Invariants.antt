@@ -1,4 +1,4 @@
--- With whatever lines follow for the rest, the lines so far are those of the code.
+-- The lines so far, followed by those of the rest, are those of the code.
 use Rattle.std.proofs.Common.{◌≤◌, length}
 use Rattle.std.specs.String.{string_bytes}
 use Rattle.apd_text.proofs.Rawly.{GoesOn}

@@ -1,4 +1,4 @@
--- What was seen of the file is read, and its digits are collected.
+-- The part of the file so far is read, and its digits are collected.
 use Rattle.std.proofs.Common.{◌-◌, ◌+◌, ◌≡◌, List, ℕ, length}
 use Rattle.apd_files.specs.Reading.{IsRead, Collects}
 use Rattle.apd_files.proofs.inputs.code.digits.Given as goal

@@ -4,7 +4,7 @@ use Rattle.ap_live.specs.Tokens.{IsWorker}
 use Rattle.apd_run.specs.Dealing.{IsNewWorker}
 use Rattle.apd_run.proofs.access.running.ready_workers.Given as goal
 
--- a worker is ready for each token that is gone, and there is room for the others
+-- there is a ready worker for each token that is gone, and room for the others
 abbrev pub invariant-tokens : goal.invariant-tokens
 invariant-tokens g l =
     record {

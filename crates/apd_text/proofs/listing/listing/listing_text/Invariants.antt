@@ -1,4 +1,4 @@
--- The lines so far are those of the slots before.
+-- The lines so far are those of the slots so far.
 use Rattle.std.specs.String.{string_bytes}
 use Rattle.apd_text.specs.Listing.{IsListed}
 use Rattle.apd_text.proofs.listing.listing.listing_text.Given as goal

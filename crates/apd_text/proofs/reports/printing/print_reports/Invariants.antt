@@ -3,7 +3,7 @@ use Rattle.apd_text.specs.Lines.{reports_text}
 use Rattle.apd_text.specs.Moving.{MovesOn}
 use Rattle.apd_text.proofs.reports.printing.print_reports.Given as goal
 
--- what was written, and what is left to write: what the text holds, and the reports to come
+-- what was written, and what is left to write: the text, and the remaining reports
 abbrev pub invariant-loop-report : goal.invariant-loop-report
 invariant-loop-report g l =
     MovesOn (g.W.Write.contents l.initial.writer) (g.W.Write.contents l.writer) (reports_text l.reports)

@@ -1,4 +1,4 @@
--- The lines so far and those of the rest are those of the steps.
+-- The lines so far, and those of the rest, are those of the steps.
 use Rattle.std.proofs.Common.{◌≡◌, ◌++◌, drop}
 use Rattle.std.specs.String.{string_bytes}
 use Rattle.apd_text.specs.TraceLines.{steps_text}
