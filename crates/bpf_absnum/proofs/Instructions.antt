@@ -1,4 +1,4 @@
--- What instructions make of abstract numbers contains each result of the machine.
+-- Abstract results of instructions contain each result of the machine.
 use Rattle.std.proofs.Common.{ℕ, ◌≡◌, ◌+◌, ◌-◌, ◌%◌, ◌^◌, ◌<◌, ◌≤◌, refl, sym, ap, subst, ◌∙◌, arith, ⊎_elim, true, false, cond, Bool, ◌&&◌, ◌||◌}
 use Rattle.std.specs.Prelude.{nat_lt}
 use Rattle.std.proofs.lemmas.Bool.{cond_both, cond-true, and_parts, or_cases, ltb-true, lt-ltb}
