@@ -1,4 +1,4 @@
--- What a value or a slot without a label keeps.
+-- Forgetting a label loses nothing that a value or a slot contains.
 use Rattle.std.proofs.Common.{◌≡◌, ◌≢◌, ℕ, ◌<◌, ◌^◌, ◌==◌, not, List, [], ◌∷◌, length, Bool, true, false, Option, Some, None, refl, ap, sym, subst, ◌∙◌, arith, if◌then◌else◌}
 use Rattle.std.proofs.lemmas.Bool.{eqb-true, eqb-false, eq-eqb, ne_eqb, cond_both, not-true, not-false}
 use Rattle.bpf_words.specs.Word.{word_add}

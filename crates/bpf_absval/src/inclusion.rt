@@ -1,4 +1,4 @@
-//! When one value lies in another: each value of a run that the first contains, the second contains too.
+//! When one value includes another: it contains each value of a run that the other contains.
 
 ghost use Rattle.std.specs.Prelude.{◌≡◌};
 ghost use Rattle.bpf_absval.specs.Inclusion.{region_same, room_included, label_included, value_included, bytes_set, slot_included};
@@ -93,7 +93,7 @@ impl AbsVal {
 }
 
 impl AbsSlot {
-    /// The bytes that are known to be set, byte i by bit i.
+    /// The bytes known to be set: byte i is bit i.
     pub fn set_bytes(&self) -> u8
         ensures { result ≡ bytes_set self.now }
     {
