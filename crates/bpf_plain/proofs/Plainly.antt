@@ -62,7 +62,7 @@ no_place = None
 no_place-place : (n : ℕ) → no_place ≡ Some n → ⊥
 no_place-place n e = cc
 
--- before the last slot of the path nothing writes the register
+-- nothing before the last slot of the path writes the register
 needed_unwritten : (slots : List (Option Insn)) (r k : ℕ) (rest tail : List ℕ) → IsNeeded slots r k rest → (m : ℕ) → m < length rest → WritesAt slots (k ∷ (rest ++ tail)) m r → ⊥
 unfolding IsNeeded
 needed_unwritten slots r k [] tail h m small w = absurd (omega (arith, small))
@@ -97,7 +97,7 @@ needed_here : (slots : List (Option Insn)) (r k : ℕ) (i : Insn) → Holds slot
 unfolding IsNeeded
 needed_here slots r k i at reads = (i, at, reads)
 
--- ---- states whose numbers are those of another, and perhaps more
+-- ---- states with the numbers of another, and perhaps more
 
 record HasMore (a b : View) : Type 0 where
   size : length b.registers ≡ length a.registers
@@ -120,7 +120,7 @@ has_register a b d n small h = record {
 abbrev done : Ways → Result Ways Fault
 done w = Ok w
 
--- a way on: the state there is ready, and lies ahead
+-- a successor: it is ready, and at a later slot
 record GoesTo (slots : List (Option Insn)) (a x : View) : Type 0 where
   ready : IsReady slots x
   ahead : a.pc < x.pc
@@ -129,13 +129,13 @@ abbrev WayGoes : List (Option Insn) → View → Option View → Type 0
 WayGoes slots a None = Unit {0}
 WayGoes slots a (Some x) = GoesTo slots a x
 
--- what the instruction at a ready state makes of it
+-- the successors of a ready state
 data Step (c : Code) (a : View) : Type 0 where
   Last : (i : Insn) → Holds c.slots a.pc i → examined c.shapes i a ≡ Ok Nowhere → Step c a
   Straight : (i : Insn) (x : View) → Holds c.slots a.pc i → examined c.shapes i a ≡ Ok (One x) → GoesTo c.slots a x → Step c a
   Parted : (i : Insn) (x y : View) → Holds c.slots a.pc i → examined c.shapes i a ≡ Ok (Two x y) → is_conditional (Some i) ≡ true → GoesTo c.slots a x → GoesTo c.slots a y → Step c a
 
--- operations of numbers are numbers
+-- operations on numbers give numbers
 alu_moves : (pc : ℕ) (w : Bool) (x : AbsVal) (n : Num) → (k : Num) × (alu pc alu.Mov w x (Number n) ≡ Ok (Number k))
 alu_moves pc w x n = (_, refl)
 
@@ -154,7 +154,7 @@ no_label alu.Sub m n = refl
 no_label op m n = refl
 
 module _ (c : Code) (whole : IsWhole c) (plain : IsPlain c.slots) (a : View) (ready : IsReady c.slots a) (i : Insn) (at : Holds c.slots a.pc i) where
-  -- no register but d is written
+  -- only register d is written
   goes_with : (d t : ℕ) (n : Num) → Follows c.slots a.pc t → d ≤ 10 → ((r : ℕ) → Writes i r → r ≡ d) → GoesTo c.slots a (at_slot (with_register a d (Number n)) t)
   goes_with d t n f small only =
       let has = has_register a a d n (let s = ready.size in omega (arith, s, small)) (has_itself a) in
@@ -214,7 +214,7 @@ module _ (c : Code) (whole : IsWhole c) (plain : IsPlain c.slots) (a : View) (re
       let to = whole.jumps a.pc i x at j in
       Straight i (at_slot a (landing a.pc x)) at e (goes_same a (landing a.pc x) (has_itself a) (Jumps i x at j (subst (IsJump a.pc x) (lands a.pc to.0 x to.1) to.1)) unwritten)
 
-  -- both ways, one of them, or none
+  -- both branches, one of them, or none
   parted : (o q : Option View) (m n : ℕ) → is_conditional (Some i) ≡ true → WayGoes c.slots a (moved_to m o) → WayGoes c.slots a (moved_to n q) →
       examined c.shapes i a ≡ done (ways (moved_to m o) (moved_to n q)) → Step c a
   parted None None m n one g h e = Last i at e
