@@ -77,7 +77,7 @@ num_without wide a c =
 unfoldable pub num_met : Num → Bits → Option Num
 num_met a t = and_then (tnum_meet a.bits t) (λ u. Some (num_of a.range a.signed u))
 
--- a bit of c is set in a: refines only if c is one bit
+-- a bit of c is set in a: None if none can be, refined only if c is one bit
 unfoldable pub num_some_set : Num → ℕ → Option Num
 num_some_set a c =
     (if nat_eq (bit_and (bit_or a.bits.value a.bits.mask) c) 0 then None

@@ -12,7 +12,7 @@ use Rattle.bpf_plain.specs.Walks.{is_conditional}
 abbrev conditionals : List (Option Insn) → ℕ → ℕ
 conditionals slots k = count_by is_conditional (drop k slots)
 
--- the slots from k on, twice for each conditional jump
+-- the slots from k on, doubled for each conditional jump
 abbrev pub room : List (Option Insn) → ℕ → ℕ
 room slots k = 2 ^ conditionals slots k * (length slots - k)
 

@@ -11,7 +11,7 @@ use Rattle.bpf_insn.specs.declared.insn.Wide.TheVariants as wide
 use Rattle.bpf_decode.specs.Flow.{jump_of, IsJump, size_of, ends, written}
 use Rattle.bpf_decode.specs.Program.{Holds}
 
--- Control may go from slot k to slot t, for some values: to the next instruction, or to a jump's target (RFC 9669
+-- Control may go from slot k to slot t, ignoring values: to the next instruction, or to a jump's target (RFC 9669
 -- section 4.3).
 pub data Follows (slots : List (Option Insn)) (k t : ℕ) : Type 0 where
   Falls : (i : Insn) → Holds slots k i → ends i ≡ false → t ≡ k + size_of i → Follows slots k t

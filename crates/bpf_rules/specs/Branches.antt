@@ -72,7 +72,7 @@ null_test Eq zero = (if zero then Some false else None)
 null_test Ne zero = (if zero then Some true else None)
 null_test compare zero = None
 
--- the branch on which the register isn't 0, which is the one taken or not, and the branch on which it is
+-- both branches, from that on which the register isn't 0 (taken or not) and that on which it is
 abbrev pub by_null : Bool → Option View → Option View → Split
 by_null taken set null = (if taken then (null, set) else (set, null))
 

@@ -231,7 +231,7 @@ impl AbsNum {
         }
     }
 
-    /// SDIV, all words unless the divisor is single and at least 1.
+    /// SDIV, all words in ALU, and unless the divisor is single and, as signed, at least 1.
     fn sdiv(self, other: AbsNum, wide: bool) -> AbsNum
         ensures { result ≡ num_by (divisor_of wide other) (row_sdiv self) }
     {
@@ -241,7 +241,7 @@ impl AbsNum {
         }
     }
 
-    /// SMOD, all words unless the divisor is single and at least 1.
+    /// SMOD, all words in ALU, and unless the divisor is single and, as signed, at least 1.
     fn smod(self, other: AbsNum, wide: bool) -> AbsNum
         ensures { result ≡ num_by (divisor_of wide other) (row_smod self) }
     {
