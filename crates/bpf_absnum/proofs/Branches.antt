@@ -125,7 +125,6 @@ equal_keeps wide a b x y h k same =
     (λ r hr. then_gives (λ t. InTnum t x) (IsPair x x) (tnum_meet a.bits b.bits) _ (meet_contains a.bits b.bits x h.known kx.known)
     (λ t ht. equal_rest wide a b r t x h kx hr ht)))
 
--- different words have different places
 places_differ : (x c : ℕ) → x < 2 ^ 64 → c < 2 ^ 64 → (x ≡ c → ⊥) → place x ≡ place c → ⊥
 places_differ x c p q other e = other (sym (place_twice x p) ∙ ap place e ∙ place_twice c q)
 

@@ -162,7 +162,6 @@ count_small wide b c =
     (λ t e. let l : (masked wide b).range.low ≡ c = cc in omega (arith, l, masked_small wide b t))
     (λ _ e. absurd (cc))
 
--- f of a number, if there is one
 pub by_keeps : (o : Option ℕ) (f : ℕ → Num) (z : ℕ) → z < 2 ^ 64 → ((c : ℕ) → o ≡ Some c → InNum (f c) z) → InNum (num_by o f) z
 by_keeps None f z fits h = full_keeps z fits
 by_keeps (Some c) f z fits h = h c refl

@@ -30,11 +30,11 @@ num_full = num_of bounds_full bounds_full tnum_full
 abbrev pub num_single : ℕ → Num
 num_single n = num_of (bounds n n) (bounds (place n) (place n)) (tnum_single n)
 
--- whether a has one word
+-- whether the interval of a has one word
 abbrev pub is_single : Num → Bool
 is_single a = a.range.low == a.range.high
 
--- each word of a is one of b
+-- each part of a is included in that of b
 unfoldable pub num_included : Num → Num → Bool
 num_included a b =
     bounds_included a.range b.range && bounds_included a.signed b.signed

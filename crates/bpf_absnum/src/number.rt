@@ -55,7 +55,7 @@ fn tighten_bits(range: Interval, bits: Tnum) -> Option<(Interval, Tnum)>
 }
 
 impl AbsNum {
-    /// The words in all three, which aren't tightened.
+    /// The words in all three, as given: the parts aren't tightened.
     pub fn new(range: Interval, signed: SignedInterval, bits: Tnum) -> AbsNum
         ensures { result ≡ num_of range signed bits }
     {
@@ -136,7 +136,7 @@ impl AbsNum {
         }
     }
 
-    /// Whether there is exactly one word: the interval has one.
+    /// Whether the interval has exactly one word.
     pub fn is_single(self) -> bool
         ensures { result ≡ is_single self }
     {
@@ -150,7 +150,7 @@ impl AbsNum {
         self.range.contains(number) && self.signed.contains(number) && self.bits.contains(number)
     }
 
-    /// Whether each word of `self` is one of `other`.
+    /// Whether each part of `self` is included in that of `other`.
     #[tactic(auto, unfolding(crate::specs::Number::num_included))]
     pub fn is_included(self, other: AbsNum) -> bool
         ensures included { result ≡ num_included self other }

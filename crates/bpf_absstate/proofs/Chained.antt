@@ -34,7 +34,6 @@ module _ {X : Type 0} where
   map_more f [] x = refl
   map_more f (y ∷ xs) x = ap (λ l. f y ∷ l) (map_more f xs x)
 
-  -- a list with one added isn't empty
   pub not_empty : (xs : List X) (x : X) → xs ++ x ∷ [] ≡ [] → ⊥
   not_empty xs x e = let h = length_push xs x in let g = ap length e in omega (arith, h, g)
 

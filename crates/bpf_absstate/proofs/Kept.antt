@@ -96,7 +96,6 @@ empty_is_frame =
       apart = λ i j k l h. absurd (no_value 64 i h);
     }
 
--- a stack of which nothing is known
 pub unset_stack : (e : Labels) (rooms : List Room) (f : CallFrame) → f.stack ≡ empty_stack → StackHolds e rooms f empty_frame
 unset_stack e rooms f is =
     record {

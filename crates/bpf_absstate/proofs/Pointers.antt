@@ -29,7 +29,6 @@ pub held-same : (rs : List (Rc AbsVal Global)) (i : ℕ) (d new : Rc AbsVal Glob
 held-same rs i d new now is same =
     map-set (λ r. r.value) rs i new ∙ ap (slice_set (held_by rs) i) (same ∙ held-at rs i d) ∙ set-get_or (held_by rs) i d.value ∙ is
 
--- copies hold the same
 pub held-copies : (rs copies : List (Rc AbsVal Global)) → AllZip (λ r s. s.value ≡ r.value) rs copies → held_by copies ≡ held_by rs
 held-copies [] [] h = refl
 held-copies (r ∷ rs) (s ∷ copies) h = ap (λ v. v ∷ held_by copies) h.0 ∙ ap (λ vs. r.value ∷ vs) (held-copies rs copies h.1)

@@ -49,7 +49,6 @@ same_set f g at (suc n) same =
     }) in
     ap (joined (set_byte g at (slice_index_or g.bytes at None))) more ∙ ap (λ t. joined t (set_bytes f (at + 1) n)) (same_byte f g at byte spill)
 
--- the slot of a byte
 slot_of : (i j : ℕ) → j < 8 → (8 * i + j) / 8 ≡ i
 slot_of i j l = omega arith
 

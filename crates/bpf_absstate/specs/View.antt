@@ -148,7 +148,7 @@ caller_registers rs kept depth =
     8 (slice_index_or kept 2 abs.Unset)) 9 (slice_index_or kept 3 abs.Unset))
     10 (stack_end (depth - 1))
 
--- the newest function has returned, if there is a caller
+-- the newest function has returned to its caller
 abbrev pub returned : View → View
 returned a =
     let depth = length a.frames - 1 in let f = frame_of a depth in

@@ -118,7 +118,6 @@ impl CallFrame {
         }
     }
 
-    /// The frame without a label.
     fn without_label(&self, label: u16) -> Result<CallFrame, AllocError>
         ensures is { IfOk result (λ frame. frame ≡ frame_unlabelled label self.now) }
     {

@@ -92,7 +92,6 @@ impl Clone for Kept {
     }
 }
 
-/// The end of the stack with that number, to which R10 points.
 fn end_of_stack(number: u8) -> AbsVal
     ensures is { result ≡ stack_end number }
 {
@@ -112,7 +111,6 @@ fn write(held: &mut Rc<AbsVal>, value: AbsVal) -> Result<(), AllocError>
     Ok(())
 }
 
-/// Removes a label from the value behind a shared pointer.
 fn take_label(held: &mut Rc<AbsVal>, label: u16) -> Result<(), AllocError>
     ensures is { OnOk result (held.new.value ≡ unlabelled label held.old.value) }
 {
@@ -123,7 +121,6 @@ fn take_label(held: &mut Rc<AbsVal>, label: u16) -> Result<(), AllocError>
     Ok(())
 }
 
-/// Removes a label from each value.
 fn take_labels(values: &mut [Rc<AbsVal>], label: u16) -> Result<(), AllocError>
     ensures is { OnOk result (held_by values.new ≡ map (unlabelled label) (held_by values.old)) }
 {
@@ -150,7 +147,6 @@ fn first_outside(a: &[Rc<AbsVal>], b: &[Rc<AbsVal>], rooms: &Rooms, others: &Roo
 }
 
 impl Values {
-    /// Eleven unset registers.
     fn unset(alloc: Global) -> Result<Values, AllocError>
         ensures is { IfOk result (λ values. values ≡ replicate 11 Unset) }
     {
@@ -171,7 +167,6 @@ impl Values {
         Ok(Values { values })
     }
 
-    /// The registers at the start of a run.
     fn entry(alloc: Global) -> Result<Values, AllocError>
         ensures is { IfOk result (λ values. values ≡ entry_registers) }
     {
@@ -196,7 +191,6 @@ impl Values {
         Ok(values)
     }
 
-    /// What a register may hold.
     fn get(&self, number: usize) -> AbsVal
         requires { number < 11 }
         ensures is { slice_get self.now number ≡ Some result }
@@ -204,7 +198,6 @@ impl Values {
         *self.values[number]
     }
 
-    /// The shared pointer to what a register may hold.
     fn pointer(&self, number: usize) -> Result<Rc<AbsVal>, AllocError>
         requires { number < 11 }
         ensures is { IfOk result (λ held. slice_get self.now number ≡ Some held.value) }
@@ -213,7 +206,6 @@ impl Values {
         Ok(held)
     }
 
-    /// Sets a register. If allocation fails, the registers are unchanged.
     fn set(&mut self, number: usize, value: AbsVal) -> Result<(), AllocError>
         requires { number < 11 }
         ensures ok { OnOk result (self.new ≡ slice_set self.old number value) }
@@ -233,7 +225,6 @@ impl Values {
         Ok(())
     }
 
-    /// Removes a label from each register.
     fn forget_label(&mut self, label: u16) -> Result<(), AllocError>
         ensures is { OnOk result (self.new ≡ map (unlabelled label) self.old) }
     {
@@ -241,7 +232,6 @@ impl Values {
         Ok(())
     }
 
-    /// A register that isn't included in the other's.
     fn first_outside(&self, other: &Values, rooms: &Rooms, others: &Rooms) -> Option<usize>
         ensures none { IfNone result
             (values_included rooms.now others.now self.now other.now ≡ true) }
@@ -251,7 +241,6 @@ impl Values {
         first_outside(&self.values, &other.values, rooms, others)
     }
 
-    /// Whether a register is included in the other's.
     fn lies_in(&self, other: &Values, number: usize, rooms: &Rooms, others: &Rooms) -> bool
         requires { number < 11 }
         ensures is { result ≡ lies_in_at rooms.now others.now self.now other.now number }
@@ -259,7 +248,6 @@ impl Values {
         self.values[number].is_included(&other.values[number], rooms, others)
     }
 
-    /// What a caller keeps: R6 to R9.
     fn kept(&self) -> Result<Kept, AllocError>
         ensures is { IfOk result (λ kept. kept ≡ kept_of self.now) }
     {
@@ -273,7 +261,6 @@ impl Values {
     }
 
     #[tactic(auto, using(crate::proofs::Pointers::got_set))]
-    /// The registers of a called function whose stack frame has that number.
     fn enter(&mut self, number: u8) -> Result<(), AllocError>
         ensures is { OnOk result (self.new ≡ callee_registers self.old number) }
     {
@@ -288,7 +275,6 @@ impl Values {
     }
 
     #[tactic(auto, using(crate::proofs::Pointers::got_set))]
-    /// Unsets R1 to R5, as a call does.
     fn clear_arguments(&mut self) -> Result<(), AllocError>
         ensures is { OnOk result (self.new ≡ without_arguments self.old) }
     {
@@ -302,7 +288,6 @@ impl Values {
     }
 
     #[tactic(auto, using(crate::proofs::Pointers::got_or))]
-    /// The registers of a caller after a return: it kept those values, and its stack frame has that number.
     fn leave(&mut self, kept: &Kept, number: u8) -> Result<(), AllocError>
         ensures is { OnOk result (self.new ≡ caller_registers self.old kept.now (number + 1)) }
     {
@@ -326,7 +311,6 @@ impl Kept {
         Ok(Kept { values })
     }
 
-    /// The shared pointer to one of the values.
     fn pointer(&self, number: usize) -> Result<Rc<AbsVal>, AllocError>
         requires { number < 4 }
         ensures is { IfOk result (λ held. slice_get self.now number ≡ Some held.value) }

@@ -24,7 +24,6 @@ pub struct AbsState {
     frames: Rc<Chain>,
     rooms: Rc<Rooms>,
     least: u16,
-    /// How many call frames there are.
     depth: usize,
 }
 

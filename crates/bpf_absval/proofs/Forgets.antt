@@ -25,7 +25,6 @@ nothing_behind label (r ∷ rs) =
     cond_both (not (r.label == label)) (r ∷ rooms_without label rs) (rooms_without label rs) (λ xs. find_room xs label ≡ None)
     (λ kept. rw (not-true (r.label == label) kept) rest) (λ gone. rest)
 
--- the rooms behind other labels stay
 pub others_stay : (label other : ℕ) (rs : List Room) → other ≢ label → find_room (rooms_without label rs) other ≡ find_room rs other
 unfolding find_room
 others_stay label other [] apart = refl

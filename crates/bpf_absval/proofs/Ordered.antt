@@ -6,7 +6,7 @@ use Rattle.std.proofs.lemmas.List.Elements.{filter-append}
 use Rattle.bpf_absval.specs.declared.room.Room.{Room}
 use Rattle.bpf_absval.specs.Rooms.{find_room, raised, rooms_without, Between}
 
--- ---- where labels lie
+-- ---- where labels are
 
 pub between_from : (low from end : ℕ) (rs : List Room) → low ≤ from → Between from end rs → Between low end rs
 unfolding Between
@@ -147,7 +147,6 @@ raised_known low end label n known (r ∷ rs) h found enough =
     by_tests false false is below rest =
         rw (is, below) (ap (λ (xs : List Room). r ∷ xs) (rest (rw is at found)))
 
--- nothing was known
 pub without_unknown : (label : ℕ) (rs : List Room) → find_room rs label ≡ None → rooms_without label rs ≡ rs
 unfolding find_room
 without_unknown label [] none = refl
@@ -180,7 +179,6 @@ found_raised label n (r ∷ rs) none = by_tests (r.label == label) (nat_lt label
     by_tests false true is below rest = rw (is, below, eq-eqb label label refl) refl
     by_tests false false is below rest = rw (is, below, is) (rest (rw is at none))
 
--- another label keeps its room
 pub others_raised : (label other n : ℕ) (rs : List Room) → label ≢ other → find_room (raised rs label n) other ≡ find_room rs other
 unfolding find_room raised
 others_raised label other n [] apart = rw (ne_eqb label other apart) refl
@@ -194,7 +192,6 @@ others_raised label other n (r ∷ rs) apart = by_tests (r.label == label) (nat_
     by_tests false true is below rest = rw (is, below, ne_eqb label other apart) refl
     by_tests false false is below rest = rw (is, below) (ap (λ o. if r.label == other then Some r.size else o) rest)
 
--- a room raised twice
 pub raised_twice : (label m n : ℕ) (rs : List Room) → raised (raised rs label m) label n ≡ raised rs label (max m n)
 unfolding raised
 raised_twice label m n [] = rw (eq-eqb label label refl) refl

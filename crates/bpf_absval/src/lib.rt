@@ -3,8 +3,8 @@
 //!
 //! Main calls: `AbsVal::is_included`, `AbsSlot::is_included`, `Rooms::raise`. It depends on
 //! `bpf_absnum`. `specs/Meaning.antt` defines which values of a run an abstract value contains.
-//! [`laws`] says what each change keeps: a value that includes another contains all that it
-//! contains; a label may be forgotten, made anew, or given more room.
+//! [`laws`] says what is kept: a value contains all that a value included in it contains; a label
+//! may be forgotten, made anew, or given more room.
 #![tactic(auto)]
 
 pub mod inclusion;

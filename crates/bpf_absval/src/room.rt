@@ -142,7 +142,7 @@ impl Rooms {
         Ok(())
     }
 
-    /// Raises the label's room if it has one.
+    /// Raises the label's room, or adds one.
     fn raise_known(&mut self, label: u16, size: u16) -> Result<(), AllocError>
         ensures ok { OnOk result (self.new ≡ raised self.old label size) }
         ensures err { OnErr result (self.new ≡ self.old) }

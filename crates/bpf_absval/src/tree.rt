@@ -109,7 +109,6 @@ fn halved(span: Span, low: u16, high: u16) -> (Span, u16)
 }
 
 impl Tree {
-    /// Whether it has no rooms.
     fn is_empty(&self) -> bool
         ensures { result ≡ (length (rooms_of self.now) == 0) }
     {

@@ -14,7 +14,6 @@ unfoldable pub IsNeeded : List (Option Insn) → ℕ → ℕ → List ℕ → Ty
 IsNeeded slots r k [] = (i : Insn) × Holds slots k i × Reads i r
 IsNeeded slots r k (t ∷ rest) = (i : Insn) × Holds slots k i × (Writes i r → ⊥) × Follows slots k t × IsNeeded slots r t rest
 
--- a value is a number
 abbrev pub IsNumber : AbsVal → Type 0
 IsNumber v = (n : Num) × (v ≡ Number n)
 

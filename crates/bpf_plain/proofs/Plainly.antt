@@ -171,7 +171,6 @@ module _ (c : Code) (whole : IsWhole c) (plain : IsPlain c.slots) (a : View) (re
         ahead = forward c.slots plain a.pc t f;
       }
 
-  -- nothing is written
   goes_same : (b : View) (t : ℕ) → HasMore a b → Follows c.slots a.pc t → ((r : ℕ) → Writes i r → ⊥) → GoesTo c.slots a (at_slot b t)
   goes_same b t has f none =
       record {
@@ -201,7 +200,6 @@ module _ (c : Code) (whole : IsWhole c) (plain : IsPlain c.slots) (a : View) (re
       Straight i (at_slot (with_register a d (Number m)) (a.pc + n)) at e
       (goes_with d (a.pc + n) m (Falls i at go (ap (λ k. a.pc + k) (sym size))) small only)
 
-  -- an operation on a number
   puts_number : (d r : ℕ) (f : Num → Num) → Reads i r → ends i ≡ false → size_of i ≡ 1 → d ≤ 10 → ((t : ℕ) → Writes i t → t ≡ d) →
       examined c.shapes i a ≡ put_number a d f (register a r) → Step c a
   puts_number d r f reads go size small only e =
@@ -313,7 +311,6 @@ IsClear-le c a m n less (Ends a2 m2 i at e le) = Ends a n i at e (omega (arith, 
 IsClear-le c a m n less (Goes a2 m2 i x k at e h le) = Goes a n i x k at e h (omega (arith, le, less))
 IsClear-le c a m n less (Parts a2 m2 i x y k l at e h g le) = Parts a n i x y k l at e h g (omega (arith, le, less))
 
--- a plain program meets at most 2^22 states, and no fault
 pub plain_clear : (c : Code) → IsWhole c → IsPlain c.slots → IsClear c entry_view (2 ^ 22)
 plain_clear c whole plain =
     IsClear-le c entry_view (room c.slots 0) (2 ^ 22) (room_start c.slots plain.few whole.short)

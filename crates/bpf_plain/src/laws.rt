@@ -1,4 +1,4 @@
-//! What the rules say whatever the values are. Each law is the contract of a function that does nothing.
+//! What the rules say whatever the values are.
 
 ghost use Rattle.bpf_plain.specs.Laws.{WaysStand, EntryStands, WaysFollow, PlainReaches, PathsWalk, PlainIsClear};
 

@@ -60,7 +60,6 @@ covers i step c p a w whole set at e s h =
 pub lands : (p : Setting) (b : View) (w : Ways) (t : State) (d : Labels) → d.setting ≡ p → HoldsIn d b t → okay (One b) ≡ okay w → InWays p w t
 lands p b w t d here h e = subst (λ v. InWays p v t) (okay-same (One b) w e) (subst (λ q. Contains q b t) here (record { base = d.base; holds = h }))
 
--- a register is set
 pub lands_put : (known : Known) (p : Setting) (a b : View) (s : State) (w : Ways) (d : Labels) (n dst : ℕ) (v : AbsVal) (x : Value) → d.setting ≡ p → HoldsIn d b s → b.pc ≡ a.pc → dst ≢ 10 → Holds d b.rooms v x →
     put b n dst v ≡ okay w → InWays p w (record s { pc = s.pc + n; regs = slice_set s.regs dst x })
 lands_put known p a b s w d n dst v x here h pc other k e =

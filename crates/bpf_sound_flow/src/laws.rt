@@ -1,5 +1,4 @@
-//! The successors that an instruction's examination gives cover whatever comes next. Each law is the contract of a
-//! function that does nothing.
+//! The successors that an instruction's examination gives cover whatever comes next.
 
 ghost use Rattle.bpf_sound_flow.specs.Laws.{AluCovers, MovSxCovers, NegCovers, EndCovers, LoadWideCovers, JumpCovers, JumpLongCovers, BranchCovers, CallCovers, CallLocalCovers, ExitCovers, FlowCovers};
 

@@ -2,8 +2,8 @@
 //! are sound.
 //!
 //! Main call: `laws::flow_law`, which has all of them. Each law is the contract of a function that
-//! does nothing. It depends on `bpf_rules`. If the rules give an abstract state's successors, the
-//! machine meets no fault in a state that it contains, and each next state is in one of them
+//! does nothing. It depends on `bpf_rules`. If the rules give the successors of an abstract state,
+//! the machine meets no fault in a state that this contains, and each next state is in a successor
 //! (`InsnCovers`).
 #![tactic(auto)]
 

@@ -55,7 +55,6 @@ goes_to e s n v r x b p set may there h =
 
 -- ---- the stack
 
--- a pointer to a stack frame that may be stored there
 same_strays : (e : Labels) (rooms : List Room) (k : ℕ) (v : AbsVal) (x : Value) → rules_unset v ≡ false → Holds e rooms v x → strays k v ≡ false → machine.strays k x ≡ false
 same_strays e rooms k v (value.Pointer (region.Stack j) x) set h t = points v set h t
   where
@@ -93,7 +92,6 @@ stack_goes w e a b s k n v x there set may stays h =
     goes_to e s n v (region.Stack k) x b (machine_place.Stack k x) set may there
     (subst (λ q. IsFine e.setting.shapes (cond q (Faults 37) (Goes (machine.next_pc t))) (HoldsIn e (next_pc b))) (sym stays) (goes_on e b t h))
 
--- a number
 number_stored_holds : (w : StateLaws) (e : Labels) (a : View) (s : State) (k n x y : ℕ) (v : Num) → HoldsIn e a s → k < length a.frames → IsSize n → x + n ≤ 512 → InNum v y →
     HoldsIn e (stored a k x n (abs.Number v)) (with_frame s k (machine.stored (machine.frame_of s k) x n (value.Number y)))
 number_stored_holds w e a s k n x y v h low size room is = by_test (is_whole x n) refl

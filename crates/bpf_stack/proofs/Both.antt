@@ -25,7 +25,6 @@ told rooms others d l r d2 l2 r2 a even b even2 whole =
     let size2 = ap length b ∙ length-append l2 r2 in
     rw (a, b) (both_sides rooms others l r l2 r2 (omega (arith, whole, size, size2, even.same, even2.same)))
 
--- a row of two halves is not one slot
 pub not_one : (d l r d2 : List AbsSlot) (s : AbsSlot) → d ≡ l ++ r → IsEven l r → d2 ≡ s ∷ [] → length d ≡ length d2 → ⊥
 not_one d l r d2 s a even b whole = omega (arith, whole, ap length a, length-append l r, ap length b, even.same, even.some)
 

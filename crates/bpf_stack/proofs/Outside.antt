@@ -9,7 +9,6 @@ use Rattle.bpf_absval.specs.declared.room.Room.{Room}
 use Rattle.bpf_absval.specs.Inclusion.{slot_included}
 use Rattle.bpf_stack.specs.Included.{slots_included, IsOutside}
 
--- a row with a slot outside isn't included
 pub slots_excluded : (rooms others : List Room) (a b : List AbsSlot) (i : ℕ)
     → slot_included rooms others (slice_index_or a i cell.Unset) (slice_index_or b i cell.Unset) ≡ false → slots_included rooms others a b ≡ false
 unfolding slots_included

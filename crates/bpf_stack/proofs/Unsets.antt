@@ -38,7 +38,6 @@ row_stays label (x ∷ xs) h =
     let rest = row_stays label xs both.1 in
     rw (first, rest) refl
 
--- unset slots include all
 pub unset_include : (rooms others : List Room) (xs : List AbsSlot) (n : ℕ) → length xs ≡ n → true ≡ slots_included rooms others xs (replicate n cell.Unset)
 unfolding slots_included
 unset_include rooms others [] n h = rw (← h) refl

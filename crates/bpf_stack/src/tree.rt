@@ -84,7 +84,6 @@ impl Clone for Pair {
 }
 
 impl Slots {
-    /// Two rows, in order.
     fn joined(alloc: Global, left: Slots, right: Slots) -> Result<Slots, AllocError>
         requires even { IsEven (slots_of left) (slots_of right) }
         ensures { IfOk result (λ slots. slots_of slots ≡ slots_of left ++ slots_of right) }

@@ -40,7 +40,6 @@ single_contains x fits = record {
   known = and_mask x 64 ∙ omega arith;
 }
 
--- each number of a has the known low zeros
 pub zeros_divide : (a : Bits) (x : ℕ) → InTnum a x → IsMultiple (tnum_zeros a) x
 zeros_divide a x h =
     let n = bit_or a.value a.mask in

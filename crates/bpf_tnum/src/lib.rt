@@ -32,7 +32,7 @@ impl Model for Tnum {
 }
 
 impl Tnum {
-    /// The words with `value` at the bits that are 0 in `mask`.
+    /// The words with `value` at the bits that are 0 in `mask`; `value` is 0 at the others.
     pub fn new(value: u64, mask: u64) -> Tnum
         requires apart { bit_and value mask ≡ 0 }
         ensures { result ≡ tnum_of value mask }

@@ -64,7 +64,6 @@ impl AbsNum {
         Some((one, two))
     }
 
-    /// If `self > other`.
     #[tactic(auto, unfolding(crate::specs::Branch::num_greater))]
     fn greater(self, other: AbsNum) -> Pair
         ensures { result ≡ num_greater self other }
@@ -73,7 +72,6 @@ impl AbsNum {
         self.with_range(one).paired(other.with_range(two))
     }
 
-    /// If `self <= other`.
     #[tactic(auto, unfolding(crate::specs::Branch::num_at_most))]
     fn at_most(self, other: AbsNum) -> Pair
         ensures { result ≡ num_at_most self other }
@@ -82,7 +80,6 @@ impl AbsNum {
         self.with_range(one).paired(other.with_range(two))
     }
 
-    /// If `self > other`, read as signed.
     #[tactic(auto, unfolding(crate::specs::Branch::num_signed_greater))]
     fn signed_greater(self, other: AbsNum, wide: bool) -> Pair
         ensures { result ≡ num_signed_greater wide self other }
@@ -94,7 +91,6 @@ impl AbsNum {
         self.with_signed(one).paired(other.with_signed(two))
     }
 
-    /// If `self <= other`, read as signed.
     #[tactic(auto, unfolding(crate::specs::Branch::num_signed_at_most))]
     fn signed_at_most(self, other: AbsNum, wide: bool) -> Pair
         ensures { result ≡ num_signed_at_most wide self other }
@@ -106,7 +102,6 @@ impl AbsNum {
         self.with_signed(one).paired(other.with_signed(two))
     }
 
-    /// If `self == other`.
     #[tactic(auto, unfolding(crate::specs::Branch::num_equal))]
     fn equal(self, other: AbsNum, wide: bool) -> Pair
         ensures { result ≡ num_equal wide self other }
@@ -122,7 +117,7 @@ impl AbsNum {
         one.paired(AbsNum::new(range, other.signed, bits))
     }
 
-    /// If `self != constant`.
+    /// What remains if `self != constant`.
     #[tactic(auto, unfolding(crate::specs::Branch::num_without))]
     fn without(self, constant: u64, wide: bool) -> Option<AbsNum>
         ensures { result ≡ num_without wide self constant }
@@ -144,7 +139,7 @@ impl AbsNum {
         Some(AbsNum::new(self.range, self.signed, bits))
     }
 
-    /// If `self & constant != 0`.
+    /// What remains if `self & constant != 0`.
     #[tactic(auto, unfolding(crate::specs::Branch::num_some_set))]
     fn some_set(self, constant: u64) -> Option<AbsNum>
         ensures { result ≡ num_some_set self constant }
@@ -158,7 +153,7 @@ impl AbsNum {
         }
     }
 
-    /// If `self & constant == 0`.
+    /// What remains if `self & constant == 0`.
     #[tactic(auto, unfolding(crate::specs::Branch::num_none_set))]
     fn none_set(self, constant: u64) -> Option<AbsNum>
         ensures { result ≡ num_none_set self constant }
@@ -166,7 +161,7 @@ impl AbsNum {
         self.met(Tnum::masked(0, !constant))
     }
 
-    /// If `self != other`; refines if one side is single.
+    /// What remains if `self != other`, refined if one side is single.
     #[tactic(auto, unfolding(crate::specs::Branch::by_single))]
     fn unequal(self, other: AbsNum, wide: bool) -> Pair
         ensures { result ≡ by_single (num_without wide) self other }
@@ -182,7 +177,7 @@ impl AbsNum {
         Some((self, other))
     }
 
-    /// If `self & other != 0`; refines if one side is single.
+    /// What remains if `self & other != 0`, refined if one side is single.
     #[tactic(auto, unfolding(crate::specs::Branch::by_single))]
     fn sharing(self, other: AbsNum) -> Pair
         ensures { result ≡ by_single num_some_set self other }
@@ -198,7 +193,7 @@ impl AbsNum {
         Some((self, other))
     }
 
-    /// If `self & other == 0`; refines if one side is single.
+    /// What remains if `self & other == 0`, refined if one side is single.
     #[tactic(auto, unfolding(crate::specs::Branch::by_single))]
     fn sharing_none(self, other: AbsNum) -> Pair
         ensures { result ≡ by_single num_none_set self other }
@@ -214,7 +209,6 @@ impl AbsNum {
         Some((self, other))
     }
 
-    /// If the comparison holds.
     #[tactic(auto, unfolding(crate::specs::Branch::num_holds))]
     fn holding(self, compare: Compare, wide: bool, other: AbsNum) -> Pair
         ensures { result ≡ num_holds wide compare self other }
@@ -234,7 +228,6 @@ impl AbsNum {
         }
     }
 
-    /// If the comparison doesn't hold.
     #[tactic(auto, unfolding(crate::specs::Branch::num_fails))]
     fn failing(self, compare: Compare, wide: bool, other: AbsNum) -> Pair
         ensures { result ≡ num_fails wide compare self other }

@@ -6,8 +6,8 @@ ghost use Rattle.bpf_absnum.specs.Laws.{IsNum, TightenKeeps, IncludedKeeps, Full
 
 use crate::number::AbsNum;
 
-/// Tightening loses no member. If a number is included in another, each of its members is one of the other. `full`
-/// contains all words, `single` its word, and `cut` the members' low halves.
+/// Tightening loses no member. Each member of an included number is a member of the other. `full` contains all words,
+/// `single` its word, and `cut` the members' low halves.
 pub fn number_law()
     ensures tighten { TightenKeeps }
     ensures included { IncludedKeeps }
@@ -21,8 +21,8 @@ pub fn well_formed_law(number: AbsNum)
     ensures { IsNum number }
 {}
 
-/// Each instruction's result on members is a member of its abstract result, and a word that is loaded is a member of
-/// the load's.
+/// The abstract result of each instruction contains its result on members, and that of a load each word that may be
+/// loaded.
 pub fn transfer_law()
     ensures alu { AluContains }
     ensures negated { NegatedContains }

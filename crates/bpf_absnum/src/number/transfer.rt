@@ -251,7 +251,6 @@ impl AbsNum {
         }
     }
 
-    /// The row of an operation.
     #[tactic(auto, unfolding(crate::specs::Transfer::num_row))]
     fn row(self, op: AluOp, wide: bool, other: AbsNum) -> AbsNum
         ensures { result ≡ num_row wide op self other }
