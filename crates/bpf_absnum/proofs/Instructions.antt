@@ -64,7 +64,6 @@ move_is Arsh t = absurd (cc)
 move_is Sdiv t = absurd (cc)
 move_is Smod t = absurd (cc)
 
--- MOV computes its second operand
 move_computes : (op : AluOp) (wide : Bool) (m x y : ℕ) → is_move op ≡ true → computed wide op m y ≡ computed wide op x y
 move_computes op wide m x y t = subst (λ o. computed wide o m y ≡ computed wide o x y) (sym (move_is op t)) (same wide)
   where

@@ -132,6 +132,7 @@ impl CallFrame {
     }
 }
 
+/// The call frames of a state.
 #[cycle(chain)]
 #[derive(Drop)]
 pub struct Chain {

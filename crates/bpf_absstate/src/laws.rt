@@ -1,5 +1,5 @@
 //! Soundness of the operations on abstract states: whatever a state does, an abstract state that contains it may do as
-//! well. Each law is the contract of a function that does nothing.
+//! well. Each law's function does nothing.
 
 ghost use Rattle.bpf_absstate.specs.Laws.{InclusionKeeps, EntryContains, RegistersHold, DepthsAgree, StacksAgree, GoingHolds, ChangesHold, RefinementHolds, StackChangesHold, SlotChangesHold, TwoSlotsHold, CallHolds, ReturnHolds, ForgettingHolds, LeastHolds, RoomsHold};
 

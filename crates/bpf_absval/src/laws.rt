@@ -1,4 +1,4 @@
-//! What inclusion and the changes of labels and rooms keep. Each law is the contract of a function that does nothing.
+//! What inclusion and the changes of labels and rooms keep. Each law's function does nothing.
 
 ghost use Rattle.bpf_absval.specs.Laws.{ValueKeeps, SlotKeeps, ValueForgets, SlotForgets, NothingBehind, ValueLabelled, ValueRaises, SlotRaises};
 

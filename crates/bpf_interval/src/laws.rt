@@ -1,5 +1,5 @@
 //! Each operation contains every result of the machine's operation on members, and each refinement keeps what takes its
-//! branch. Each law is the contract of a function that does nothing.
+//! branch. Each law's function does nothing.
 
 ghost use Rattle.std.specs.Prelude.{ℕ, ◌*◌, ◌/◌, ◌%◌, ◌^◌, ◌<◌, ◌≤◌, bit_and, bit_or};
 ghost use Rattle.bpf_words.specs.Word.{word_add, word_sub, quotient, remainder};

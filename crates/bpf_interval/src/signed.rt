@@ -256,7 +256,7 @@ impl SignedInterval {
         self.places.is_included(other.places)
     }
 
-    /// Intersects `self` with `range`, read as signed. If `range` has both signs, it returns `self`.
+    /// Intersects `self` with `range`, read as signed. `None` if that is empty; `self` if `range` has both signs.
     pub fn narrow(self, range: Interval) -> Option<SignedInterval>
         ensures { result ≡ narrowed range self }
     {
@@ -266,7 +266,7 @@ impl SignedInterval {
 }
 
 impl Interval {
-    /// Intersects `self` with `signed`, read as unsigned. If `signed` has both signs, it returns `self`.
+    /// Intersects `self` with `signed`, read as unsigned. `None` if that is empty; `self` if `signed` has both signs.
     pub fn narrow(self, signed: SignedInterval) -> Option<Interval>
         ensures { result ≡ narrowed signed self }
     {

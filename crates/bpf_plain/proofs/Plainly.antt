@@ -194,7 +194,6 @@ module _ (c : Code) (whole : IsWhole c) (plain : IsPlain c.slots) (a : View) (re
   compared_number w (source.Imm n) reads = (_, refl)
   compared_number w (source.Reg r) reads = reads_number r (reads r refl)
 
-  -- an operation whose result is put into a register
   puts : (d n : ℕ) (m : Num) → ends i ≡ false → size_of i ≡ n → d ≤ 10 → ((r : ℕ) → Writes i r → r ≡ d) → examined c.shapes i a ≡ put a n d (Number m) → Step c a
   puts d n m go size small only e =
       Straight i (at_slot (with_register a d (Number m)) (a.pc + n)) at e
@@ -206,7 +205,6 @@ module _ (c : Code) (whole : IsWhole c) (plain : IsPlain c.slots) (a : View) (re
       let n = reads_number r reads in
       puts d 1 (f n.0) go size small only (e ∙ ap (put_number a d f) n.1)
 
-  -- a jump that is always taken
   jumps : (x : ℤ) → jump_of i ≡ Some x → ((r : ℕ) → Writes i r → ⊥) → examined c.shapes i a ≡ done (One (at_slot a (landing a.pc x))) → Step c a
   jumps x j unwritten e =
       let to = whole.jumps a.pc i x at j in
@@ -231,7 +229,6 @@ module _ (c : Code) (whole : IsWhole c) (plain : IsPlain c.slots) (a : View) (re
       goes_same (with_source (with_register a d (Number p.0)) from p.1) t
       (source_more (with_register a d (Number p.0)) from p.1 valid (has_register a a d p.0 (let s = ready.size in omega (arith, s, small)) (has_itself a))) f none
 
-  -- a conditional jump on numbers
   branches : (w : Bool) (k : Compare) (d : ℕ) (from : Source) (x : ℤ) (m n : Num) → d ≤ 10 → IsSource from → jump_of i ≡ Some x → ends i ≡ false → size_of i ≡ 1 →
       is_conditional (Some i) ≡ true → ((r : ℕ) → Writes i r → ⊥) →
       examined c.shapes i a ≡ done (branched a x (number_ways a w k d from m n)) → Step c a

@@ -118,7 +118,7 @@ with_reach a offset None more = a
 with_reach a offset (Some l) more =
     (if nat_le l.distance offset.range.low then with_room a l.label (l.distance + more) else a)
 
--- the frame has at least the least offset and `more` bytes; None if these exceed 2400
+-- the frame has at least the least offset plus `more` bytes; None if that exceeds 2400
 abbrev pub learnt : View → Num → Option Label → ℕ → Option View
 learnt a offset l more =
     (if nat_le (offset.range.low + more) 2400

@@ -41,7 +41,7 @@ abbrev pub room_reaches : Option ℕ → ℕ → Bool
 room_reaches None end = false
 room_reaches (Some size) end = nat_le end size
 
--- n bytes after a labelled pointer are in the room known of its label
+-- n bytes at offset `by` from a labelled pointer are in the room known of its label
 abbrev pub in_room : List Room → Option Label → ℤ → ℕ → Bool
 in_room rooms None by n = false
 in_room rooms (Some l) by n =

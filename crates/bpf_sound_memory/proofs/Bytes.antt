@@ -41,7 +41,6 @@ number_first bytes at n x h =
 abbrev pub IsSet : Option ℕ → Type 0
 IsSet o = (b : ℕ) × (o ≡ Some b) × (b < 256)
 
--- its bytes are set
 pub number_within : (bytes : List (Option ℕ)) (at n x i : ℕ) → at ≤ i → i < at + n → at + n ≤ length bytes → IsSet (byte_at (with_number bytes at n x) i)
 unfolding with_number
 number_within bytes at zero x i low high room = absurd (omega arith)

@@ -68,7 +68,6 @@ load_covers w size signed dst src by c p a v whole setting here ok s h =
     subst (λ x. IsFine p.shapes x (InWays p v)) (sym (performed c p a s i setting here h))
     (leads_on p h.base b v (next_of p i s) (okay-same (One b) v parts.2) (IsFine-weaken p.shapes (next_of p i s) (Puts e a s dst parts.0) (HoldsIn e b) moves fine))
 
--- the value of a source
 source_holds : (w : StateLaws) (e : Labels) (a : View) (s : State) (o : Source) → HoldsIn e a s → IsSource o → Holds e a.rooms (source_value a o) (source_of s o)
 source_holds w e a s (source.Imm z) h fits = single_keeps (word_of z) (word_fits z fits)
 source_holds w e a s (source.Reg r) h fits = w.registers e a s r h
@@ -89,7 +88,6 @@ compared_holds : (w : StateLaws) (e : Labels) (a : View) (s : State) (op : Atomi
 compared_holds w e a s atomic_op.Cmpxchg h = w.registers e a s 0 h
 compared_holds w e a s op h = single_keeps 0 (omega arith)
 
--- no atomic writes R10
 not_pointer : (op : AtomicOp) (src : ℕ) → cond (fetches op) (Some src) None ≢ Some 10 → old_into op src ≢ Some 10
 not_pointer atomic_op.Cmpxchg src h = λ same. absurd (cc)
 not_pointer op src h = h

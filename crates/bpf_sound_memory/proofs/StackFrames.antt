@@ -35,7 +35,6 @@ spelled f at (suc n) h =
       omega (arith, more_bytes n, first.2, rest.2),
     )
 
--- if the bytes spell a number, all are set
 pub spelled_set : (f : StackFrame) (at n x : ℕ) → set_bytes f at n ≡ Ok x → (i : ℕ) → at ≤ i → i < at + n → (b : ℕ) × (byte_at f.bytes i ≡ Some b)
 unfolding set_bytes
 spelled_set f at zero x h i low high = absurd (omega arith)
@@ -128,7 +127,6 @@ spill_touched f at n i (inr h) =
     subst (λ j. slice_index_or (spills_after f at n) j value.Unset ≡ value.Unset) (sym h)
     (unset_there (slice_set f.spills (at / 8) value.Unset) ((at + n - 1) / 8))
 
--- a slot is touched, or it isn't
 pub touched_or : (at n i : ℕ) → ((i ≡ at / 8) ⊎ (i ≡ (at + n - 1) / 8)) ⊎ IsElsewhere at n i
 touched_or at n i =
     ⊎_elim
@@ -145,7 +143,6 @@ pub number_outside : (bytes : List (Option ℕ)) (at n x i : ℕ) → (i < at) �
 number_outside bytes at n x i (inl h) = number_before bytes at n x i h
 number_outside bytes at n x i (inr h) = number_behind bytes at n x i h
 
--- the bytes of an untouched slot are unchanged
 pub number_elsewhere : (bytes : List (Option ℕ)) (at n x i j : ℕ) → j < 8 → 1 ≤ n → n ≤ 8 → IsElsewhere at n i →
     byte_at (with_number bytes at n x) (8 * i + j) ≡ byte_at bytes (8 * i + j)
 number_elsewhere bytes at n x i j few some size h = number_outside bytes at n x (8 * i + j) (outside (cases_lt (8 * i + j) at))

@@ -95,14 +95,12 @@ not_whole f at n signed h set room = ⊎_elim (λ t. absurd (clash t)) (λ t. t)
         let same : byte_at f.bytes at ≡ None = subst (λ k. byte_at f.bytes k ≡ None) place empty in
         cc (same, first.1)
 
--- a number of set bytes
 pub spelled_loads : (f : StackFrame) (at n : ℕ) (signed : Bool) → IsStackFrame f → AreSpelled f at n → at + n ≤ 512 →
     (x : ℕ) × (x < 2 ^ (8 * n)) × (from_stack f at n signed ≡ Ok (value.Number (as_loaded signed n x)))
 spelled_loads f at n signed h set room =
     let x = spelled f at n set in
     (x.0, x.2, by_spelling f at n signed (not_whole f at n signed h set room) ∙ ap (loaded_number signed n) x.1)
 
--- what a slot holds is loaded
 pub held_loads : (f : StackFrame) (at : ℕ) → at % 8 ≡ 0 → is_unset (held f (at / 8)) ≡ false → from_stack f at 8 false ≡ Ok (held f (at / 8))
 held_loads f at even h = by_cases (is_unset (spill_at f at)) refl
   where

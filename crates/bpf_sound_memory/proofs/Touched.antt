@@ -37,14 +37,12 @@ run_within n r i h =
     (λ low. ⊎_elim (λ high. (low, high)) (λ high. absurd (omega (arith, h, run_high n r i low, bit_at_ones_above n (i - r) (omega (arith, high))))) (cases_lt i (r + n)))
     (cases_lt i r)
 
--- of the first slot
 pub first_touched : (at n j : ℕ) → j < 8 → at % 8 ≤ j → j < at % 8 + n → bit_at (touched at n % 256) j ≡ 1
 first_touched at n j few low high = bit_of_low (touched at n) j few ∙ in_run n (at % 8) j low high
 
 pub first_within : (at n j : ℕ) → j < 8 → bit_at (touched at n % 256) j ≡ 1 → (at % 8 ≤ j) × (j < at % 8 + n)
 first_within at n j few h = run_within n (at % 8) j (sym (bit_of_low (touched at n) j few) ∙ h)
 
--- of the next slot
 pub second_touched : (at n j : ℕ) → at % 8 ≤ 8 + j → 8 + j < at % 8 + n → bit_at (touched at n / 256) j ≡ 1
 second_touched at n j low high = bit_of_high (touched at n) j ∙ in_run n (at % 8) (8 + j) low high
 

@@ -1,9 +1,9 @@
 //! Laws: the verifier's rules for loads, stores and atomics are sound.
 //!
-//! Main calls: `load_law`, `store_law`, `atomic_law`. Each law is the contract of a function that
-//! does nothing. It depends on `bpf_rules`. If a rule admits an access, the machine's access meets
-//! no fault, and each state that may come next, whatever a map returns, is in the abstract state
-//! after it. Each law is stated for values, and for instructions.
+//! Main calls: `load_law`, `store_law`, `atomic_law`. Each law's function does nothing. It depends
+//! on `bpf_rules`. If a rule admits an access, the machine's access meets no fault, and each state
+//! that may come next, whatever a map returns, is in the abstract state after it. Each law is
+//! stated for values, and for instructions.
 #![tactic(auto)]
 
 ghost use Rattle.bpf_sound_memory.specs.Laws.{LoadHolds, LoadCovers, StoreHolds, StoreCovers, AtomicHolds, AtomicCovers};

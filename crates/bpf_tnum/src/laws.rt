@@ -1,5 +1,5 @@
-//! Each operation is sound: applied to members, the machine's operation gives a member of the result. Each law is the
-//! contract of a function that does nothing.
+//! Each operation is sound: applied to members, the machine's operation gives a member of the result. Each law's
+//! function does nothing.
 
 ghost use Rattle.std.specs.Prelude.{ℕ, ◌*◌, ◌/◌, ◌%◌, ◌^◌, ◌<◌, ◌≤◌, bit_and, bit_or, bit_xor};
 ghost use Rattle.bpf_words.specs.Word.{word_add, word_sub};

@@ -1,5 +1,4 @@
-//! Soundness of the operations on abstract numbers. Each law is the contract of a function that
-//! does nothing.
+//! Soundness of the operations on abstract numbers. Each law's function does nothing.
 
 ghost use Rattle.std.specs.Prelude.{ℕ, ◌≡◌};
 ghost use Rattle.bpf_absnum.specs.Laws.{IsNum, TightenKeeps, IncludedKeeps, FullContains, SingleContains, CutContains, AluContains, NegatedContains, ExtendedContains, OrderedContains, WithinContains, LoadedContains, LoadedSignedContains, BranchKeeps};
