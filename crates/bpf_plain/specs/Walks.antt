@@ -105,8 +105,8 @@ abbrev pub is_conditional : Option Insn → Bool
 is_conditional (Some (insn.Branch compare w d s x)) = true
 is_conditional o = false
 
--- A plain program, given that it is well formed: arithmetic, wide loads of numbers, forward jumps, at most 8 of them conditional, and EXIT;
--- on every walk each register that is read was written earlier on that walk.
+-- A plain program, given that it is well formed: arithmetic, wide loads of numbers, forward jumps, at most 8 of them
+-- conditional, and EXIT; on every walk each register that is read was written earlier on that walk.
 pub record IsPlain (slots : List (Option Insn)) : Type 0 where
   pub operations : (k : ℕ) (i : Insn) → Holds slots k i → IsPlainInsn i
   pub few : count_by is_conditional slots ≤ 8

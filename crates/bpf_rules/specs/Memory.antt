@@ -1,6 +1,6 @@
 -- Loads, stores and atomics on abstract states (RFC 9669 sections 5.1 to 5.3). The checks come in this order: 30 for
--- the registers that are read, 34, 31 for kinds, 33 for width and alignment, 32 for the region, 30 and then 31 for bytes of
--- the stack, 37.
+-- the registers that are read, 34, 31 for kinds, 33 for width and alignment, 32 for the region, 30 and then 31 for
+-- bytes of the stack, 37.
 use Rattle.std.specs.Prelude.{ℕ, ◌+◌, ◌-◌, ◌*◌, ◌/◌, ◌%◌, ◌^◌, ◌==◌, nat_lt, nat_le, Bool, true, false, not, ◌||◌, ◌&&◌, if◌then◌else◌, List, length, Option, Some, None, slice_get, slice_index_or, Result, Ok, Err, bit_and, bit_or, ℤ}
 use Rattle.bpf_insn.specs.declared.insn.AluOp.TheVariants.{Add}
 use Rattle.bpf_insn.specs.declared.insn.AtomicOp.{AtomicOp}
