@@ -1,4 +1,4 @@
--- What is left on a way of a conditional jump keeps every pair of words that takes it.
+-- A branch of a conditional jump keeps every pair of words that takes it.
 use Rattle.std.proofs.Common.{ℕ, zero, suc, ◌≡◌, ◌+◌, ◌*◌, ◌/◌, ◌%◌, ◌^◌, ◌<◌, ◌≤◌, refl, sym, ap, subst, ◌∙◌, arith, Some, None, Option, ⊎_elim, true, false, not, cond, Bool, ◌&&◌, ◌==◌, bit_and, bit_or}
 use Rattle.std.specs.Prelude.{nat_eq, nat_lt, count_ones}
 use Rattle.std.specs.Int.{bit_at, is_power_of_two}
@@ -90,7 +90,7 @@ module _ (a b : Num) (x y : ℕ) (h : InNum a x) (k : InNum b y) where
       (g.0, g.1, (g.2, g.3))
       (λ p q. pair_keeps (with_signed a p.0) (with_signed b p.1) x y (in_signed a p.0 x q.0 h) (in_signed b p.1 y q.1 k))
 
--- which order a signed comparison tells of: of the places, or of low halves that aren't negative
+-- the order of a signed comparison: of places, or of low halves that aren't negative
 abbrev place_in : Bool → ℕ → ℕ
 place_in wide x = cond wide (place x) x
 
@@ -104,7 +104,7 @@ unfolding num_signed_at_most
 signed_at_most_in true a b x y h k less = signed_at_most_keeps a b x y h k less
 signed_at_most_in false a b x y h k less = at_most_keeps a b x y h k less
 
--- ---- equal, and not
+-- ---- equal and unequal
 
 equal_rest : (wide : Bool) (a b : Num) (r : Bounds) (t : Bits) (x : ℕ) → InNum a x → InNum b x → InBounds r x → InTnum t x
     → Keeps x x (cond wide (and_then (bounds_meet a.signed b.signed) (λ s. pair_of (num_of r s t) (num_of r s t))) (pair_of (num_of r a.signed t) (num_of r b.signed t)))
@@ -125,7 +125,6 @@ equal_keeps wide a b x y h k same =
     (λ r hr. then_gives (λ t. InTnum t x) (IsPair x x) (tnum_meet a.bits b.bits) _ (meet_contains a.bits b.bits x h.known kx.known)
     (λ t ht. equal_rest wide a b r t x h kx hr ht)))
 
--- places of two words differ where the words do
 places_differ : (x c : ℕ) → x < 2 ^ 64 → c < 2 ^ 64 → (x ≡ c → ⊥) → place x ≡ place c → ⊥
 places_differ x c p q other e = other (sym (place_twice x p) ∙ ap place e ∙ place_twice c q)
 
@@ -208,7 +207,7 @@ by_single_keeps f a b x y h k one two =
 
 -- ---- every comparison
 
--- what a comparison says where it holds, and where it doesn't
+-- what it means that a comparison holds
 abbrev Says : Bool → Compare → ℕ → ℕ → Type 0
 Says wide Eq x y = x ≡ y
 Says wide Ne x y = x ≡ y → ⊥
@@ -267,7 +266,7 @@ module _ (wide : Bool) (a b : Num) (x y : ℕ) (h : InNum a x) (k : InNum b y) w
   fails_keeps Slt s = holds_keeps Sge s
   fails_keeps Sle s = holds_keeps Sgt s
 
--- ---- what the machine's test says
+-- ---- the machine's test
 
 wide_says : (compare : Compare) (x y : ℕ) → holds 64 compare x y ≡ true → Says true compare x y
 wide_says Eq x y t = eqb-true x y t
@@ -295,7 +294,7 @@ wide_denies Sge x y t = leb-false (place y) (place x) t
 wide_denies Slt x y t = ltb-false (place x) (place y) t
 wide_denies Sle x y t = leb-false (place x) (place y) t
 
--- low halves below a limit: the signed places of those below 2 ^ 31 stand in their order
+-- low halves below a limit: the signed places of those below 2 ^ 31 are in their order
 abbrev limit_of : Compare → ℕ
 limit_of compare = cond (is_signed compare) (2 ^ 31) (2 ^ 32)
 
@@ -328,9 +327,9 @@ narrow_denies Sge x y p q t = omega (arith, leb-false (half_place y) (half_place
 narrow_denies Slt x y p q t = omega (arith, ltb-false (half_place x) (half_place y) t)
 narrow_denies Sle x y p q t = omega (arith, leb-false (half_place x) (half_place y) t)
 
--- ---- a way
+-- ---- one branch
 
--- the limits that JMP32 asks for
+-- the limits that JMP32 requires
 told_limits : (compare : Compare) (a b : Num) (x y : ℕ) → tells false compare a b ≡ true → InNum a x → InNum b y → (x < limit_of compare) × (y < limit_of compare)
 told_limits compare a b x y t h k =
     let parts = and_parts (nat_lt a.range.high (limit_of compare)) (nat_lt b.range.high (limit_of compare)) t in
@@ -339,7 +338,7 @@ told_limits compare a b x y t h k =
 limit_is_half : (compare : Compare) → limit_of compare ≤ 2 ^ 32
 limit_is_half compare = cond_both (is_signed compare) (2 ^ 31) (2 ^ 32) (λ l. l ≤ 2 ^ 32) (λ _. omega arith) (λ _. omega arith)
 
--- the machine's test of low halves that are the words
+-- the machine's test, of words that are low halves
 half_test : (compare : Compare) (x y : ℕ) (t : Bool) → x < limit_of compare → y < limit_of compare → compares false compare x y ≡ t → holds 32 compare x y ≡ t
 half_test compare x y t p q e =
     let l = limit_is_half compare in
@@ -358,7 +357,7 @@ told_keeps false compare false a b x y h k u e =
     let l = told_limits compare a b x y u h k in
     fails_keeps false a b x y h k compare (narrow_denies compare x y l.0 l.1 (half_test compare x y false l.0 l.1 e))
 
--- a way is gone where the test says so
+-- a branch is taken if the test says so
 goes_along : (taken test : Bool) → test ≡ taken → goes taken test ≡ true
 goes_along true test e = e
 goes_along false test e = ap not e

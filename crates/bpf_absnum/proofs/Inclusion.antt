@@ -1,4 +1,4 @@
--- Inclusion means that each member is a member.
+-- Each member of an included number is a member.
 use Rattle.std.proofs.Common.{◌&&◌}
 use Rattle.std.proofs.lemmas.Bool.{and_parts}
 use Rattle.bpf_tnum.specs.Tnum.{tnum_included}

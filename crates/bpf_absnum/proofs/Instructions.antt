@@ -1,4 +1,4 @@
--- What instructions make of abstract numbers contains each result of the machine.
+-- Abstract results of instructions contain each result of the machine.
 use Rattle.std.proofs.Common.{ℕ, ◌≡◌, ◌+◌, ◌-◌, ◌%◌, ◌^◌, ◌<◌, ◌≤◌, refl, sym, ap, subst, ◌∙◌, arith, ⊎_elim, true, false, cond, Bool, ◌&&◌, ◌||◌}
 use Rattle.std.specs.Prelude.{nat_lt}
 use Rattle.std.proofs.lemmas.Bool.{cond_both, cond-true, and_parts, or_cases, ltb-true, lt-ltb}
@@ -40,7 +40,6 @@ cut_keeps a x h =
 
 -- ---- ALU
 
--- what ALU64 and ALU compute is a word
 computed-lt : (wide : Bool) (op : AluOp) (x y : ℕ) → x < 2 ^ 64 → y < 2 ^ 64 → computed wide op x y < 2 ^ 64
 computed-lt true op x y p q = (wide_row_keeps op num_full num_full x y (full_keeps x p) (full_keeps y q)).known.is_word
 computed-lt false op x y p q =
@@ -65,7 +64,6 @@ move_is Arsh t = absurd (cc)
 move_is Sdiv t = absurd (cc)
 move_is Smod t = absurd (cc)
 
--- MOV computes its second operand
 move_computes : (op : AluOp) (wide : Bool) (m x y : ℕ) → is_move op ≡ true → computed wide op m y ≡ computed wide op x y
 move_computes op wide m x y t = subst (λ o. computed wide o m y ≡ computed wide o x y) (sym (move_is op t)) (same wide)
   where
@@ -78,7 +76,6 @@ wide_move op wide x y t =
     let parts = and_parts wide (is_move op) t in
     subst (λ o. computed wide o x y ≡ y) (sym (move_is op parts.1)) (cond-true wide y (y % 2 ^ 32) parts.0)
 
--- of single operands
 single_computes : (op : AluOp) (wide : Bool) (a b : Num) (x y : ℕ) → all_single op a b ≡ true → InNum a x → InNum b y
     → computed wide op a.range.low b.range.low ≡ computed wide op x y
 single_computes op wide a b x y t h k =
@@ -107,7 +104,6 @@ alu_keeps wide op a b x y h k =
         subst (InNum (num_cut (num_row false op (num_cut a) (num_cut b)))) low.low_is
         (cut_keeps (num_row false op (num_cut a) (num_cut b)) low.word low.member)
 
--- NEG
 negation_is : (wide : Bool) (x : ℕ) → x < 2 ^ 64 → computed wide Sub 0 x ≡ negation wide x
 negation_is true x h = omega arith
 negation_is false x h = omega arith
@@ -169,7 +165,6 @@ narrow_extended_keeps n c x z fits h small =
     subst (InNum (kept c)) (sym same) (kept_keeps c (x % 2 ^ 32) h))
     (λ _. full_keeps z (omega arith))
 
--- the low bits of a low half
 low_of_half : (n x : ℕ) → n ≤ 32 → x % 2 ^ 32 % 2 ^ n ≡ x % 2 ^ n
 low_of_half n x within = let e : 32 ≡ (32 - n) + n = omega arith in ap (λ k. x % 2 ^ k % 2 ^ n) e ∙ mod-mod-pow x (32 - n) n
 

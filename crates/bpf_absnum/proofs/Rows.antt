@@ -137,7 +137,7 @@ count_is wide b y c k =
     (λ t e. let l : (masked wide b).range.low ≡ c = cc in sym l ∙ single_is (masked wide b) (bit_and y (cond wide 63 31)) t (masked_keeps wide b y k) ∙ masked_is wide y)
     (λ _ e. absurd (cc))
 
--- a number that is single has no word above its upper end
+-- the one word of a single number is at most its upper end
 or_full_small : (o : Option Num) (n : ℕ) → IfGives (λ m. m.range.high ≤ n) o → is_single (or_full o) ≡ true → (or_full o).range.low ≤ n
 or_full_small None n f t = absurd (cc)
 or_full_small (Some m) n f t = omega (arith, f m refl, eqb-true m.range.low m.range.high t)
@@ -162,7 +162,6 @@ count_small wide b c =
     (λ t e. let l : (masked wide b).range.low ≡ c = cc in omega (arith, l, masked_small wide b t))
     (λ _ e. absurd (cc))
 
--- what is known with a number, if there is that number
 pub by_keeps : (o : Option ℕ) (f : ℕ → Num) (z : ℕ) → z < 2 ^ 64 → ((c : ℕ) → o ≡ Some c → InNum (f c) z) → InNum (num_by o f) z
 by_keeps None f z fits h = full_keeps z fits
 by_keeps (Some c) f z fits h = h c refl
@@ -176,7 +175,7 @@ module _ (a : Num) (c x : ℕ) (h : InNum a x) where
   unfolding row_rsh
   rsh_keeps = unsigned_keeps (bounds_shr a.range c) (tnum_shr a.bits c) (x / 2 ^ c) (ends.shr_contains a.range c x h.within) (low.shr_contains a.bits c x h.known)
 
--- a word that isn't negative is shifted as without sign
+-- a word that isn't negative is shifted as unsigned
 sar_is : (x c : ℕ) → x < 2 ^ 63 → c < 64 → shifted_right_signed 64 x c ≡ x / 2 ^ c
 sar_is x c h small =
     let e : c % 64 ≡ c = omega arith in
@@ -281,7 +280,7 @@ shift_keeps wide b f g y k fits rest =
     by_keeps (count_of wide b) f (g (y % width_of wide)) fits
     (λ c e. subst (λ n. InNum (f c) (g n)) (count_is wide b y c k e) (rest c (count_small wide b c e)))
 
--- the count's low bits alone count
+-- only the count's low bits matter
 sar_masked : (x y : ℕ) → shifted_right_signed 64 x (y % 64) ≡ shifted_right_signed 64 x y
 sar_masked x y = let e : y % 64 % 64 ≡ y % 64 = omega arith in ap (λ k. cond (nat_lt x (2 ^ 63)) (x / 2 ^ k) (2 ^ 64 - 1 - (2 ^ 64 - 1 - x) / 2 ^ k)) e
 

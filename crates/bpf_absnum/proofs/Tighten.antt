@@ -17,7 +17,7 @@ use Rattle.bpf_interval.specs.Signed.{InSigned, place, narrowed}
 use Rattle.bpf_interval.proofs.SoundSigned.{signed_narrow_keeps, unsigned_narrow_keeps}
 use Rattle.bpf_absnum.specs.Number.{Num, InNum, num_of, ones_up_to, shared_bits, and_then, sign_step, tightened, tightened_between, num_tighten, or_full}
 
--- numbers that differ only below bit k have one front
+-- numbers that differ only below bit k agree above it
 same_front : (k l h : ℕ) → bit_xor l h < 2 ^ k → l / 2 ^ k ≡ h / 2 ^ k
 same_front k l h small =
     let apart : bit_xor (l / 2 ^ k) (h / 2 ^ k) ≡ 0 = sym (xor_shr l h k) ∙ div-eq_of_lt small in
@@ -62,7 +62,7 @@ bits_tighten_keeps a t x h k =
     (λ _. ((bounds l u, met.0), ap (λ o. and_then o (λ v. Some (bounds l u, v))) met.1, record { above = above; below = below; fits = fits }, met.2))
     (λ e. absurd (omega (arith, leb-false l u e, above, below)))
 
--- something that o gives and that meets P
+-- o is a value that meets P
 abbrev pub Gives : {X : Type 0} → (X → Type 0) → Option X → Type 0
 Gives {X} P o = (r : X) × (o ≡ Some r) × P r
 
@@ -94,7 +94,7 @@ or_full_keeps o x g = subst (λ p. InNum (or_full p) x) (sym g.1) g.2
 
 -- ---- tightening raises no upper end
 
--- what o gives, if something, meets P
+-- the value of o, if any, meets P
 abbrev pub IfGives : {X : Type 0} → (X → Type 0) → Option X → Type 0
 IfGives {X} P o = (r : X) → o ≡ Some r → P r
 

@@ -1,5 +1,5 @@
--- What a way of a conditional jump tells of the numbers that it compares (RFC 9669 section 4.3): what is left of both,
--- or nothing where no pair takes that way.
+-- What a branch of a conditional jump tells of the numbers that it compares (RFC 9669 section 4.3): what remains of
+-- both, or None if no pair takes that branch.
 use Rattle.std.specs.Prelude.{ℕ, ◌%◌, ◌^◌, bit_and, bit_or, nat_eq, nat_lt, Bool, true, false, not, ◌&&◌, if◌then◌else◌, Option, Some, None}
 use Rattle.std.specs.Int.{is_power_of_two}
 use Rattle.bpf_insn.specs.declared.insn.Compare.{Compare}
@@ -11,7 +11,7 @@ use Rattle.bpf_interval.specs.Interval.{Bounds, after_greater, after_at_most, bo
 use Rattle.bpf_interval.specs.Signed.{place}
 use Rattle.bpf_absnum.specs.Number.{Num, num_of, num_again, is_single, and_then}
 
--- what is left of both numbers; nothing where no pair takes the way
+-- what remains of both numbers; None if no pair takes the branch
 abbrev pub NumPair : Type 0
 NumPair = Option (Num × Num)
 
@@ -19,7 +19,7 @@ NumPair = Option (Num × Num)
 unfoldable pub pair_of : Num → Num → NumPair
 pair_of a b = and_then (num_again a) (λ u. and_then (num_again b) (λ v. Some (u, v)))
 
--- the two the other way round
+-- the pair swapped
 abbrev pub turned : NumPair → NumPair
 turned o = and_then o (λ p. Some (p.1, p.0))
 
@@ -41,7 +41,7 @@ unfoldable pub num_at_most : Num → Num → NumPair
 num_at_most a b =
     and_then (after_at_most a.range b.range) (λ p. pair_of (with_range a p.0) (with_range b p.1))
 
--- the same for the signed readings; in JMP32 no low half is negative, and they are as the others
+-- the same for the signed readings; in JMP32 no low half is negative, so that both readings agree
 unfoldable pub num_signed_greater : Bool → Num → Num → NumPair
 num_signed_greater wide a b =
     (if wide
@@ -57,7 +57,7 @@ num_signed_at_most wide a b =
     (λ p. pair_of (with_signed a p.0) (with_signed b p.1))
     else num_at_most a b)
 
--- a = b: each part of one is met with that of the other; in JMP32 the signed intervals stay
+-- a = b: both become their intersection; in JMP32 each keeps its signed interval
 unfoldable pub num_equal : Bool → Num → Num → NumPair
 num_equal wide a b =
     and_then (bounds_meet a.range b.range) (λ r.
@@ -77,7 +77,7 @@ num_without wide a c =
 unfoldable pub num_met : Num → Bits → Option Num
 num_met a t = and_then (tnum_meet a.bits t) (λ u. Some (num_of a.range a.signed u))
 
--- a bit of c is set in a: known where c is one bit
+-- a bit of c is set in a: None if none can be, refined only if c is one bit
 unfoldable pub num_some_set : Num → ℕ → Option Num
 num_some_set a c =
     (if nat_eq (bit_and (bit_or a.bits.value a.bits.mask) c) 0 then None
@@ -87,13 +87,13 @@ num_some_set a c =
 unfoldable pub num_none_set : Num → ℕ → Option Num
 num_none_set a c = num_met a (tnum_of 0 (word_not c))
 
--- a refinement of one side by the other, where that is single: of a by b, or else of b by a
+-- a refinement of one side by the other, if that is single: of a by b, or else of b by a
 unfoldable pub by_single : (Num → ℕ → Option Num) → Num → Num → NumPair
 by_single f a b =
     (if is_single b then and_then (f a b.range.low) (λ u. pair_of u b)
     else (if is_single a then and_then (f b a.range.low) (λ v. pair_of a v) else Some (a, b)))
 
--- the way on which a comparison holds
+-- the branch on which a comparison holds
 unfoldable pub num_holds : Bool → Compare → Num → Num → NumPair
 num_holds wide Eq a b = num_equal wide a b
 num_holds wide Ne a b = by_single (num_without wide) a b
@@ -107,7 +107,7 @@ num_holds wide Sge a b = turned (num_signed_at_most wide b a)
 num_holds wide Slt a b = turned (num_signed_greater wide b a)
 num_holds wide Sle a b = num_signed_at_most wide a b
 
--- the way on which it doesn't hold: the opposite one does
+-- the branch on which it doesn't hold: its opposite does
 unfoldable pub num_fails : Bool → Compare → Num → Num → NumPair
 num_fails wide Eq a b = num_holds wide Ne a b
 num_fails wide Ne a b = num_holds wide Eq a b
@@ -121,7 +121,7 @@ num_fails wide Sge a b = num_holds wide Slt a b
 num_fails wide Slt a b = num_holds wide Sge a b
 num_fails wide Sle a b = num_holds wide Sgt a b
 
--- the comparison reads both words as signed ones
+-- the comparison is signed
 abbrev pub is_signed : Compare → Bool
 is_signed Sgt = true
 is_signed Sge = true
@@ -129,7 +129,7 @@ is_signed Slt = true
 is_signed Sle = true
 is_signed compare = false
 
--- JMP32 tells something of numbers whose words are their low halves, and of signed ones below 2 ^ 31
+-- JMP32 refines only numbers below 2 ^ 32, or below 2 ^ 31 if the comparison is signed
 abbrev pub tells : Bool → Compare → Num → Num → Bool
 tells wide compare a b =
     (if wide then true
@@ -140,11 +140,11 @@ abbrev pub compares : Bool → Compare → ℕ → ℕ → Bool
 compares wide compare x y =
     (if wide then holds 64 compare x y else holds 32 compare (x % 2 ^ 32) (y % 2 ^ 32))
 
--- whether a jump goes this way, by what its comparison says
+-- whether a jump takes this branch, given whether its comparison holds
 abbrev pub goes : Bool → Bool → Bool
 goes taken holding = (if taken then holding else not holding)
 
--- The way on which a comparison is `taken` or isn't: decided where both are single.
+-- The branch on which a comparison is `taken` or isn't: decided if both are single.
 unfoldable pub num_branch : Bool → Compare → Bool → Num → Num → NumPair
 num_branch wide compare taken a b =
     (if is_single a && is_single b

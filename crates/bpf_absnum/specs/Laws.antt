@@ -1,4 +1,4 @@
--- What the operations on abstract numbers keep.
+-- Soundness of the operations on abstract numbers.
 use Rattle.std.specs.Prelude.{ℕ, ◌≡◌, ◌%◌, ◌^◌, ◌<◌, ◌≤◌, Bool, true, Some, bit_and}
 use Rattle.bpf_insn.specs.declared.insn.AluOp.{AluOp}
 use Rattle.bpf_insn.specs.declared.insn.ByteOrder.{ByteOrder}
@@ -12,7 +12,7 @@ use Rattle.bpf_absnum.specs.Number.{Num, InNum, num_again, num_cut, num_full, nu
 use Rattle.bpf_absnum.specs.Transfer.{num_alu, num_negated, num_extended, num_ordered, num_within, num_loaded, num_loaded_signed}
 use Rattle.bpf_absnum.specs.Branch.{num_branch, compares}
 
--- what every abstract number is
+-- well-formed abstract numbers
 pub record IsNum (a : Num) : Type 0 where
   pub range_fits : a.range.high < 2 ^ 64
   pub signed_fits : a.signed.high < 2 ^ 64
@@ -20,65 +20,65 @@ pub record IsNum (a : Num) : Type 0 where
   pub mask_fits : a.bits.mask < 2 ^ 64
   pub apart : bit_and a.bits.value a.bits.mask ≡ 0
 
--- tightening loses no member, and where there is one it gives something
+-- tightening loses no member: if there is one, the result is Some
 abbrev pub TightenKeeps : Type 0
 TightenKeeps = (a : Num) (x : ℕ) → InNum a x → (r : Num) × (num_again a ≡ Some r) × InNum r x
 
--- inclusion means that each member is a member
+-- each member of an included number is a member
 abbrev pub IncludedKeeps : Type 0
 IncludedKeeps = (a b : Num) (x : ℕ) → IsNum b → num_included a b ≡ true → InNum a x → InNum b x
 
--- what stands for all words has each of them
+-- num_full contains all words
 abbrev pub FullContains : Type 0
 FullContains = (x : ℕ) → x < 2 ^ 64 → InNum num_full x
 
--- what stands for one word has it
+-- num_single contains its word
 abbrev pub SingleContains : Type 0
 SingleContains = (x : ℕ) → x < 2 ^ 64 → InNum (num_single x) x
 
--- the low 32 bits of each word of a are in what a is cut to
+-- num_cut contains the low 32 bits of each word of a
 abbrev pub CutContains : Type 0
 CutContains = (a : Num) (x : ℕ) → InNum a x → InNum (num_cut a) (x % 2 ^ 32)
 
--- ---- each result of the machine is in the result
+-- ---- each result of the machine is in the abstract result
 
--- what the machine computes of two words is in what is computed of their abstract numbers
+-- the abstract result of an operation contains the machine's
 abbrev pub AluContains : Type 0
 AluContains =
     (wide : Bool) (op : AluOp) (a b : Num) (x y : ℕ) → InNum a x → InNum b y →
     InNum (num_alu wide op a b) (computed wide op x y)
 
--- so is the negation of a word
+-- so does that of a negation
 abbrev pub NegatedContains : Type 0
 NegatedContains =
     (wide : Bool) (a : Num) (x : ℕ) → InNum a x → InNum (num_negated wide a) (negation wide x)
 
--- so is a word that extends the sign of another
+-- so does that of a sign extension
 abbrev pub ExtendedContains : Type 0
 ExtendedContains =
     (from : Extension) (wide : Bool) (a : Num) (x : ℕ) → InNum a x →
     InNum (num_extended from wide a) (extended from wide x)
 
--- so is a word in another byte order
+-- so does that of a byte order conversion
 abbrev pub OrderedContains : Type 0
 OrderedContains =
     (order : ByteOrder) (width : OrderWidth) (a : Num) (x : ℕ) → InNum a x →
     InNum (num_ordered order width a) (ordered order width x)
 
--- a word of an interval is in the number made of it
+-- a word of an interval is in num_within of it
 abbrev pub WithinContains : Type 0
 WithinContains = (r : Bounds) (x : ℕ) → InBounds r x → InNum (num_within r) x
 
--- a word of n bits is in what a load of n bits gives
+-- a word of n bits is in the result of a load of n bits
 abbrev pub LoadedContains : Type 0
 LoadedContains = (n x : ℕ) → n ≤ 64 → x < 2 ^ n → InNum (num_loaded n) x
 
--- so is one that extends the sign of n bits, for a load with sign
+-- so is a sign extension of n bits, for a sign-extending load
 abbrev pub LoadedSignedContains : Type 0
 LoadedSignedContains =
     (n x : ℕ) → 1 ≤ n → n ≤ 64 → InNum (num_loaded_signed n) (sign_extended 64 n x)
 
--- ---- each pair that takes a way is in what is left on it, and so a way is not visited only where none takes it
+-- ---- a branch keeps each pair that takes it, and so is None only if none takes it
 abbrev pub BranchKeeps : Type 0
 BranchKeeps =
     (wide : Bool) (compare : Compare) (taken : Bool) (a b : Num) (x y : ℕ) → InNum a x → InNum b y →

@@ -6,7 +6,7 @@ use Rattle.bpf_tnum.specs.Tnum.{Bits, InTnum, tnum_of, tnum_meet, tnum_full, tnu
 use Rattle.bpf_interval.specs.Interval.{Bounds, InBounds, bounds, bounds_full, bounds_included}
 use Rattle.bpf_interval.specs.Signed.{InSigned, place, narrowed}
 
--- an abstract number stands for the words that all three parts have
+-- the words that are in all three parts
 pub record Num : Type 0 where
   pub range : Bounds
   pub signed : Bounds
@@ -30,11 +30,11 @@ num_full = num_of bounds_full bounds_full tnum_full
 abbrev pub num_single : ℕ → Num
 num_single n = num_of (bounds n n) (bounds (place n) (place n)) (tnum_single n)
 
--- whether a has one word
+-- whether the interval of a has one word
 abbrev pub is_single : Num → Bool
 is_single a = a.range.low == a.range.high
 
--- each word of a is one of b
+-- each part of a is included in that of b
 unfoldable pub num_included : Num → Num → Bool
 num_included a b =
     bounds_included a.range b.range && bounds_included a.signed b.signed
@@ -42,7 +42,7 @@ num_included a b =
 
 -- ---- tightening: what each part tells of the others
 
--- what follows from a part that is there
+-- f of a value, if there is one
 abbrev pub and_then : {X Y : Type 0} → Option X → (X → Option Y) → Option Y
 and_then None f = None
 and_then (Some x) f = f x
@@ -55,36 +55,37 @@ ones_up_to n = 2 ^ (64 - leading_zeros w64 n) - 1
 abbrev pub shared_bits : ℕ → ℕ → Bits
 shared_bits l h = let p = ones_up_to (bit_xor l h) in tnum_of (bit_and l (word_not p)) p
 
--- the interval of two ends, and t met with what its words share; nothing where no word is left
+-- the interval between two ends, and t intersected with what its words share; None if no word remains
 unfoldable pub tightened_between : ℕ → ℕ → Bits → Option (Bounds × Bits)
 tightened_between l h t =
     (if nat_le l h
     then and_then (tnum_meet t (shared_bits l h)) (λ u. Some (bounds l h, u)) else None)
 
--- an interval and a tristate number, once each way: the ends move to the least and the greatest word of t, and then t is
--- met with what the words between the ends share
+-- an interval and a tristate number, refined once each way: the ends move to the least and the greatest word of t, and
+-- then t is intersected with what the words between the ends share
 abbrev pub tightened : Bounds → Bits → Option (Bounds × Bits)
 tightened a t = tightened_between (max a.low t.value) (min a.high (bit_or t.value t.mask)) t
 
--- the step between the two intervals: what the unsigned one tells of the signed one, and then the other way round
+-- the unsigned interval refines the signed one, and then the other way round
 abbrev pub sign_step : {X : Type 0} → Bounds → Bounds → (Bounds → Bounds → Option X) → Option X
 sign_step r s k = and_then (narrowed r s) (λ s1. and_then (narrowed s1 r) (λ r1. k r1 s1))
 
--- the step between the intervals, the interval with the tristate number, and that step again; nothing where no word is left
+-- the intervals refine each other, then the interval and the tristate number, then the intervals again; None if no word
+-- remains
 unfoldable pub num_tighten : Bounds → Bounds → Bits → Option Num
 num_tighten r s t =
     sign_step r s
     (λ r1 s1. and_then (tightened r1 t) (λ p. sign_step p.0 s1 (λ r2 s2. Some (num_of r2 s2 p.1))))
 
--- a once more
+-- a tightened
 abbrev pub num_again : Num → Option Num
 num_again a = num_tighten a.range a.signed a.bits
 
--- all words where nothing is told
+-- all words if None
 abbrev pub or_full : Option Num → Num
 or_full o = unwrap_or o num_full
 
--- the low 32 bits: a itself where all its words have no more
+-- the low 32 bits: a itself, tightened, if all its words are below 2 ^ 32
 unfoldable pub num_cut : Num → Num
 num_cut a =
     (if nat_lt a.range.high (2 ^ 32) then or_full (num_again a)

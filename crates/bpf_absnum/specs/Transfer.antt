@@ -1,8 +1,8 @@
--- What an instruction makes of abstract numbers (RFC 9669 sections 4.1, 4.2 and 5): one row for each operation.
+-- Abstract results of instructions (RFC 9669 sections 4.1, 4.2 and 5): one row for each operation.
 --
--- Where all operands are single, the result is the machine's. Else a row gives an interval, a signed interval and a
--- tristate number, which are tightened; full where a row gives nothing. ALU takes the row of the low halves, without
--- the signed interval, and cuts its result.
+-- If all operands are single, the result is the machine's. Otherwise a row has an interval, a signed interval and a
+-- tristate number, which are tightened; the result is full if no word remains. ALU takes the row of the low halves,
+-- without the signed interval, and cuts its result.
 use Rattle.std.specs.Prelude.{ℕ, ◌-◌, ◌^◌, Bool, true, false, bit_and, ◌&&◌, ◌||◌, nat_lt, nat_le, if◌then◌else◌, Option, Some, None}
 use Rattle.bpf_insn.specs.declared.insn.AluOp.{AluOp}
 use Rattle.bpf_insn.specs.declared.insn.AluOp.TheVariants.{Add, Sub, Mul, Div, Or, And, Lsh, Rsh, Mod, Xor, Mov, Arsh, Sdiv, Smod}
@@ -22,11 +22,11 @@ use Rattle.bpf_absnum.specs.Number.{Num, num_tighten, num_again, num_full, num_s
 abbrev pub num_tight : Bounds → Bounds → Bits → Num
 num_tight r s t = or_full (num_tighten r s t)
 
--- the signed interval of a row, which ALU64 alone has
+-- the signed interval of a row: only ALU64 has one
 abbrev pub in_wide : Bool → Bounds → Bounds
 in_wide wide s = (if wide then s else bounds_full)
 
--- a row that leaves its operand as it is
+-- a row that keeps its operand
 abbrev pub kept : Num → Num
 kept a = or_full (num_again a)
 
@@ -46,7 +46,7 @@ row_sub wide a b =
 unfoldable pub row_mul : Num → Num → Num
 row_mul a b = num_tight (bounds_mul a.range b.range) bounds_full (tnum_mul a.bits b.bits)
 
--- DIV, of which the interval alone tells something
+-- DIV: only the interval is known
 unfoldable pub row_div : Num → Num → Num
 row_div a b = num_tight (bounds_div a.range b.range) bounds_full tnum_full
 
@@ -62,7 +62,7 @@ row_and a b = num_tight (bounds_and a.range b.range) bounds_full (tnum_and a.bit
 unfoldable pub row_or : Num → Num → Num
 row_or a b = num_tight (bounds_or a.range b.range) bounds_full (tnum_or a.bits b.bits)
 
--- XOR, of which the tristate numbers alone tell something
+-- XOR: only the tristate number is known
 unfoldable pub row_xor : Num → Num → Num
 row_xor a b = num_tight bounds_full bounds_full (tnum_xor a.bits b.bits)
 
@@ -76,7 +76,7 @@ masked wide b =
 unfoldable pub count_of : Bool → Num → Option ℕ
 count_of wide b = (if is_single (masked wide b) then Some (masked wide b).range.low else None)
 
--- what is known with a number that is needed for it
+-- f of a number, if there is one, else full
 abbrev pub num_by : Option ℕ → (ℕ → Num) → Num
 num_by None f = num_full
 num_by (Some c) f = f c
@@ -89,7 +89,7 @@ row_lsh a c = num_tight (bounds_shl a.range c) bounds_full (tnum_shl a.bits c)
 unfoldable pub row_rsh : Num → ℕ → Num
 row_rsh a c = num_tight (bounds_shr a.range c) bounds_full (tnum_shr a.bits c)
 
--- as RSH where no word is negative
+-- ARSH: as RSH if no word is negative
 unfoldable pub row_arsh : Bool → Num → ℕ → Num
 row_arsh wide a c =
     (if nat_lt a.range.high (if wide then 2 ^ 63 else 2 ^ 31)
@@ -102,7 +102,7 @@ divisor_of wide b =
     (if wide && is_single b && nat_le 1 b.range.low && nat_lt b.range.low (2 ^ 63)
     then Some b.range.low else None)
 
--- SDIV by one divisor, of which the signed interval alone tells something
+-- SDIV by one divisor: only the signed interval is known
 unfoldable pub row_sdiv : Num → ℕ → Num
 row_sdiv a c = num_tight bounds_full (signed_div a.signed c) tnum_full
 
@@ -132,7 +132,7 @@ abbrev pub is_move : AluOp → Bool
 is_move Mov = true
 is_move op = false
 
--- MOV has its second operand alone
+-- the operands are single; MOV has only its second one
 abbrev pub all_single : AluOp → Num → Num → Bool
 all_single op a b = is_single b && (is_move op || is_single a)
 
@@ -148,14 +148,14 @@ num_alu wide op a b =
 unfoldable pub num_negated : Bool → Num → Num
 num_negated wide a = num_alu wide Sub (num_single 0) a
 
--- MOVSX in ALU64 keeps a where its words are signed numbers of n bits, and what is below 2 ^ (n - 1)
+-- MOVSX in ALU64 keeps a if its words are signed numbers of n bits, or below 2 ^ (n - 1)
 unfoldable pub row_extended : ℕ → Num → Num
 row_extended n a =
     (if bounds_included a.signed (signed_of_bits n) then kept a
     else (if nat_lt a.range.high (2 ^ (n - 1)) then num_tight a.range (signed_of_bits n) a.bits
     else num_tight bounds_full (signed_of_bits n) tnum_full))
 
--- and in ALU what is below 2 ^ (n - 1)
+-- and in ALU if its words are below 2 ^ (n - 1)
 unfoldable pub row_extended_32 : ℕ → Num → Num
 row_extended_32 n a = (if nat_lt a.range.high (2 ^ (n - 1)) then kept a else num_full)
 
@@ -166,26 +166,26 @@ num_extended from wide a =
     else (if wide then row_extended (extension_bits from) a
     else num_cut (row_extended_32 (extension_bits from) (num_cut a))))
 
--- END: the host's order keeps the low bits
+-- END: little endian keeps the low bits
 unfoldable pub row_ordered : ByteOrder → OrderWidth → Num → Num
 row_ordered Little width.Double a = num_tight a.range bounds_full a.bits
 row_ordered Little w a =
     num_tight (bounds_of_bits (order_bits w)) bounds_full (tnum_cut (order_bits w) a.bits)
 row_ordered order w a = num_tight (bounds_of_bits (order_bits w)) bounds_full tnum_full
 
--- END: the machine's result where the operand is single
+-- END: the machine's result if the operand is single
 unfoldable pub num_ordered : ByteOrder → OrderWidth → Num → Num
 num_ordered order w a =
     (if is_single a then num_single (ordered order w a.range.low) else row_ordered order w a)
 
--- the words of an interval, as a helper answers them
+-- the words of an interval, as a helper may return them
 unfoldable pub num_within : Bounds → Num
 num_within r = num_tight r bounds_full tnum_full
 
--- a load of n bits, and the old value of an atomic of n bits
+-- a load of n bits, and the old value of an atomic operation of n bits
 unfoldable pub num_loaded : ℕ → Num
 num_loaded n = num_within (bounds_of_bits n)
 
--- a load of n bits with sign
+-- a sign-extending load of n bits
 unfoldable pub num_loaded_signed : ℕ → Num
 num_loaded_signed n = num_tight bounds_full (signed_of_bits n) tnum_full

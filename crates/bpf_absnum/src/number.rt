@@ -12,7 +12,7 @@ use bpf_interval::{Interval, SignedInterval};
 use bpf_tnum::Tnum;
 use std::marker::Model;
 
-/// The words that lie in `range`, whose signed readings lie in `signed`, and that `bits` has.
+/// The words that are in `range` and in `bits`, and whose signed readings are in `signed`.
 #[derive(Clone, Copy, Debug, PartialEq, Eq)]
 pub struct AbsNum {
     range: Interval,
@@ -39,7 +39,7 @@ fn mask_up_to(number: u64) -> u64
     }
 }
 
-/// An interval and a tristate number, each as far as the other tells.
+/// An interval and a tristate number, each refined by the other; `None` if no word remains.
 #[tactic(auto, unfolding(crate::specs::Number::tightened_between))]
 fn tighten_bits(range: Interval, bits: Tnum) -> Option<(Interval, Tnum)>
     ensures { result ≡ tightened range bits }
@@ -55,7 +55,7 @@ fn tighten_bits(range: Interval, bits: Tnum) -> Option<(Interval, Tnum)>
 }
 
 impl AbsNum {
-    /// The words in all three, as they are.
+    /// The words in all three, as given: the parts aren't tightened.
     pub fn new(range: Interval, signed: SignedInterval, bits: Tnum) -> AbsNum
         ensures { result ≡ num_of range signed bits }
     {
@@ -87,7 +87,7 @@ impl AbsNum {
         self.bits
     }
 
-    /// Each part as far as the others tell, once each way; `None` where no word is left.
+    /// Each part refined by the others, once each way; `None` if no word remains.
     #[tactic(auto, unfolding(crate::specs::Number::num_tighten))]
     pub fn tightened(self) -> Option<AbsNum>
         ensures { result ≡ num_again self }
@@ -100,14 +100,14 @@ impl AbsNum {
         Some(AbsNum::new(range, signed, bits))
     }
 
-    /// The same, and all words where no word is left.
+    /// `tightened`, or all words if no word remains.
     fn kept(self) -> AbsNum
         ensures { result ≡ or_full (num_again self) }
     {
         self.tightened().unwrap_or(AbsNum::full())
     }
 
-    /// What all three have, each as far as the others tell; all words where no word is left.
+    /// The words in all three, each part refined by the others; all words if no word remains.
     fn tight(range: Interval, signed: SignedInterval, bits: Tnum) -> AbsNum
         ensures { result ≡ or_full (num_tighten range signed bits) }
     {
@@ -136,7 +136,7 @@ impl AbsNum {
         }
     }
 
-    /// Whether there is one word: the interval has one.
+    /// Whether the interval has exactly one word.
     pub fn is_single(self) -> bool
         ensures { result ≡ is_single self }
     {
@@ -150,7 +150,7 @@ impl AbsNum {
         self.range.contains(number) && self.signed.contains(number) && self.bits.contains(number)
     }
 
-    /// Whether each word of `self` is one of `other`.
+    /// Whether each part of `self` is included in that of `other`.
     #[tactic(auto, unfolding(crate::specs::Number::num_included))]
     pub fn is_included(self, other: AbsNum) -> bool
         ensures included { result ≡ num_included self other }

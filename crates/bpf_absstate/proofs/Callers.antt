@@ -1,4 +1,4 @@
--- Callers: kept by an inclusion, moved to other labels and rooms, and as functions are called and return.
+-- Callers: kept by inclusion, by changes of labels and rooms, and by calls and returns.
 use Rattle.std.proofs.Common.{◌≡◌, ◌+◌, ℕ, zero, suc, List, [], ◌∷◌, ◌++◌, length, map, take, true, refl, ap, sym, ◌∙◌, arith, slice_set, slice_index_or, subst, Some, add-zero}
 use Rattle.std.specs.Prelude.{All, slice_get}
 use Rattle.std.proofs.lemmas.Bool.{false≢true, and_parts, eqb-true}

@@ -1,4 +1,4 @@
--- A function is called, and returns, on both sides.
+-- Calls and returns.
 use Rattle.std.proofs.Common.{◌≡◌, ◌<◌, ◌≤◌, ◌+◌, ◌-◌, ℕ, zero, suc, List, [], ◌∷◌, ◌++◌, length, take, drop, refl, ap, sym, ◌∙◌, subst, arith, slice_index_or, slice_set, Some, lit<}
 use Rattle.std.specs.Prelude.{slice_get}
 use Rattle.std.proofs.lemmas.List.{length-append, length-drop, length-set, length-take, drop-append-le, drop-take, get_or-drop, get_or-set_same}
@@ -24,7 +24,7 @@ use Rattle.bpf_absstate.proofs.Values.{values_length, value_at, values_set, valu
 
 -- ---- calls
 
--- all but R1 to R5 and R10 is unset
+-- R0 and R6 to R9 are unset
 abbrev without_results : List AbsVal → List AbsVal
 without_results a = slice_set (slice_set (slice_set (slice_set (slice_set a 0 abs.Unset) 6 abs.Unset) 7 abs.Unset) 8 abs.Unset) 9 abs.Unset
 

@@ -1,4 +1,4 @@
--- Lists of frames to which one was added at the end.
+-- Lists of frames with one added at the end.
 use Rattle.std.proofs.Common.{◌≡◌, ℕ, zero, suc, ◌<◌, List, [], ◌∷◌, ◌++◌, length, map, false, refl, sym, ◌∙◌, ap, arith, slice_index_or, slice_set}
 use Rattle.std.specs.Prelude.{◌&&◌}
 use Rattle.std.proofs.Math.Bool.{and-true, and-false, and_assoc}
@@ -34,7 +34,6 @@ module _ {X : Type 0} where
   map_more f [] x = refl
   map_more f (y ∷ xs) x = ap (λ l. f y ∷ l) (map_more f xs x)
 
-  -- nothing was added to an empty list
   pub not_empty : (xs : List X) (x : X) → xs ++ x ∷ [] ≡ [] → ⊥
   not_empty xs x e = let h = length_push xs x in let g = ap length e in omega (arith, h, g)
 
@@ -49,7 +48,7 @@ module _ (rooms others : List Room) where
   not_in_none [] f = refl
   not_in_none (h ∷ fs) f = refl
 
-  -- the newest frames are compared, and the others
+  -- the test compares the newest frames, and the others
   pub included_more : (fs gs : List CallFrame) (f g : CallFrame) →
       frames_included rooms others (fs ++ f ∷ []) (gs ++ g ∷ []) ≡ (frames_included rooms others fs gs && frame_included rooms others f g)
   unfolding frames_included

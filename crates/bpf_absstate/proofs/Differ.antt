@@ -1,4 +1,4 @@
--- Where a state does not lie in another, it is not included.
+-- If a part of a state isn't included in another, neither is the state.
 use Rattle.std.proofs.Common.{◌≡◌, ℕ, zero, suc, ◌+◌, ◌-◌, ◌<◌, ◌≤◌, List, [], ◌∷◌, ◌++◌, length, Option, Some, None, Bool, true, false, refl, ap, sym, ◌∙◌, arith, slice_index_or}
 use Rattle.std.specs.Prelude.{◌&&◌, ◌==◌, not, nat_le, nat_lt, IfNone, IfSome}
 use Rattle.std.proofs.Math.Bool.{and-true, and-false}

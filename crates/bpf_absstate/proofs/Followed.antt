@@ -1,4 +1,4 @@
--- What a state does, a state that contains it follows.
+-- What a state does, an abstract state that contains it may do.
 use Rattle.std.proofs.Common.{◌≡◌, ◌≢◌, ◌<◌, ℕ, zero, suc, List, [], ◌∷◌, length, drop, refl, ap, sym, ◌∙◌, subst, arith, slice_index_or, slice_set, inl, inr}
 use Rattle.std.proofs.lemmas.Bool.{cases_eq}
 use Rattle.std.proofs.lemmas.List.{length-set, get_or-set_same, get_or-set_other, set-set}
@@ -117,7 +117,7 @@ two_slots e rooms g s f i j x y h li lj apart well same held other =
           ];
     }
 
--- two slots of one stack, changed one after the other
+-- two slots of one stack, changed in turn
 twice : (fs : List CallFrame) (k : ℕ) (s : List AbsSlot) (j : ℕ) (y : AbsSlot) → k < length fs →
     slice_set (slice_set fs k (restacked (slice_index_or fs k main_frame) s)) k
     (restacked (slice_index_or (slice_set fs k (restacked (slice_index_or fs k main_frame) s)) k main_frame)

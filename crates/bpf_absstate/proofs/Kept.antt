@@ -1,4 +1,4 @@
--- Inclusion, the entry, and what a contained state is known to be.
+-- Inclusion, the entry, and what is known of a contained state.
 use Rattle.std.proofs.Common.{◌≡◌, ◌≢◌, ℕ, zero, suc, List, [], ◌∷◌, length, drop, true, false, refl, ap, sym, ◌∙◌, arith, slice_index_or, replicate, Option, Some, None, lit<, lit≤}
 use Rattle.std.specs.Prelude.{◌==◌, ◌&&◌, nat_le, slice_get}
 use Rattle.std.proofs.lemmas.Bool.{false≢true, and_parts, eqb-true, leb-true}
@@ -24,7 +24,7 @@ use Rattle.bpf_absstate.proofs.Values.{values_keep, value_at}
 
 -- ---- inclusion
 
--- the frames but the main one
+-- all frames but the main one
 others_included : (rooms others : List Room) (fs gs : List CallFrame) → frames_included rooms others fs gs ≡ true → frames_included rooms others (drop 1 fs) (drop 1 gs) ≡ true
 unfolding frames_included
 others_included rooms others [] [] t = refl
@@ -96,7 +96,6 @@ empty_is_frame =
       apart = λ i j k l h. absurd (no_value 64 i h);
     }
 
--- a stack of which nothing is known
 pub unset_stack : (e : Labels) (rooms : List Room) (f : CallFrame) → f.stack ≡ empty_stack → StackHolds e rooms f empty_frame
 unset_stack e rooms f is =
     record {
@@ -123,7 +122,7 @@ entry_contains single p =
       };
     }
 
--- ---- what is read
+-- ---- reading
 
 pub registers_hold : RegistersHold
 registers_hold e a s r h = value_at e a.rooms a.registers s.regs r h.registers

@@ -1,4 +1,4 @@
--- Labels are forgotten, and rooms and the least length grow.
+-- Forgotten labels, and raised rooms and least lengths.
 use Rattle.std.proofs.Common.{◌≡◌, ℕ, zero, suc, List, [], ◌∷◌, map, drop, refl, sym, ◌∙◌, arith, slice_index_or}
 use Rattle.std.proofs.lemmas.List.{length-map, map-id}
 use Rattle.bpf_model.specs.declared.Caller.{Caller}

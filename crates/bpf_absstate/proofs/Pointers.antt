@@ -1,4 +1,4 @@
--- Lists of shared pointers, read, written, and compared.
+-- Lists of shared pointers: read, written, and compared.
 use Rattle.std.proofs.Common.{◌≡◌, ℕ, Bool, zero, suc, ◌+◌, ◌<◌, ◌≤◌, List, [], ◌∷◌, ◌++◌, length, map, take, drop, true, false, refl, ap, sym, ◌∙◌, slice_set, get_or, arith, append_assoc}
 use Rattle.std.specs.List.{AllZip}
 use Rattle.std.specs.Prelude.{◌&&◌, slice_get, Some}
@@ -23,20 +23,19 @@ held-at [] i d = refl
 held-at (r ∷ rs) zero d = refl
 held-at (r ∷ rs) (suc i) d = held-at rs i d
 
--- a pointer to the same value in the place of another
+-- a pointer to an equal value replaces another
 pub held-same : (rs : List (Rc AbsVal Global)) (i : ℕ) (d new : Rc AbsVal Global) (now : List AbsVal) → held_by rs ≡ now → new.value ≡ (get_or rs i d).value →
     held_by (slice_set rs i new) ≡ now
 held-same rs i d new now is same =
     map-set (λ r. r.value) rs i new ∙ ap (slice_set (held_by rs) i) (same ∙ held-at rs i d) ∙ set-get_or (held_by rs) i d.value ∙ is
 
--- copies hold the same
 pub held-copies : (rs copies : List (Rc AbsVal Global)) → AllZip (λ r s. s.value ≡ r.value) rs copies → held_by copies ≡ held_by rs
 held-copies [] [] h = refl
 held-copies (r ∷ rs) (s ∷ copies) h = ap (λ v. v ∷ held_by copies) h.0 ∙ ap (λ vs. r.value ∷ vs) (held-copies rs copies h.1)
 held-copies [] (s ∷ copies) h = absurd h
 held-copies (r ∷ rs) [] h = absurd h
 
--- ---- each value changed by g, one after the other
+-- ---- each value changed by g, in turn
 
 -- the first k of them
 abbrev pub changed_so_far : (AbsVal → AbsVal) → List AbsVal → ℕ → List AbsVal
@@ -67,7 +66,7 @@ pub changed_all : (g : AbsVal → AbsVal) (rs : List (Rc AbsVal Global)) (vs : L
 changed_all g rs vs k is past =
     is ∙ ap (λ l. map g l ++ drop k vs) (take_all k vs past) ∙ ap (λ l. map g vs ++ l) (drop_all k vs past) ∙ append-nil (map g vs)
 
--- ---- inclusion of two lists, from a place on
+-- ---- inclusion of two lists, from an index on
 
 next : (k : ℕ) → suc k ≡ k + 1
 next k = omega arith
@@ -82,14 +81,14 @@ past_end : (rooms others : List Room) (a b : List AbsVal) (k : ℕ) → length a
 unfolding values_included
 past_end rooms others a b k h same = rw (drop_all k a h, drop_all k b (omega (arith, h, same))) refl
 
--- what is left of the test at place k
+-- the rest of the test, from index k on
 abbrev pub left_of : List Room → List Room → List (Rc AbsVal Global) → List (Rc AbsVal Global) → ℕ → Bool
 left_of rooms others a b k = values_included rooms others (drop k (held_by a)) (drop k (held_by b))
 
 pub length_held : (rs : List (Rc AbsVal Global)) → length (held_by rs) ≡ length rs
 length_held rs = length-map rs (λ r. r.value)
 
--- the test at place k, of what is there
+-- the test at index k, and the rest
 one_test : (rooms others : List Room) (a b : List (Rc AbsVal Global)) (k : ℕ) (x y : Rc AbsVal Global) → k < length a → length a ≡ length b →
     left_of rooms others a b k ≡ (value_included rooms others (get_or a k x).value (get_or b k y).value && left_of rooms others a b (k + 1))
 one_test rooms others a b k x y h same =
@@ -97,7 +96,7 @@ one_test rooms others a b k x y h same =
     ap (λ v. value_included rooms others v (get_or (held_by b) k y.value) && left_of rooms others a b (k + 1)) (sym (held-at a k x)) ∙
     ap (λ v. value_included rooms others (get_or a k x).value v && left_of rooms others a b (k + 1)) (sym (held-at b k y))
 
--- the values at place k differ
+-- the value at index k isn't included
 pub found : (rooms others : List Room) (a b : List (Rc AbsVal Global)) (k : ℕ) (x y : Rc AbsVal Global) → k < length a →
     false ≡ value_included rooms others (get_or a k x).value (get_or b k y).value → length a ≡ length b → IsValueOutside rooms others (held_by a) (held_by b) k
 found rooms others a b k x y h differs same =
@@ -122,7 +121,7 @@ ends rooms others a b k h same so_far =
 
 -- ---- what was read
 
--- what was read where x was written
+-- reading an index that was set to x
 pub got_set : (xs : List AbsVal) (i : ℕ) (x v : AbsVal) → slice_get (slice_set xs i x) i ≡ Some v → v ≡ x
 got_set [] i x v h = absurd (cc)
 got_set (y ∷ xs) zero x v h = cc

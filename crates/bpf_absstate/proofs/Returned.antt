@@ -1,4 +1,4 @@
--- What a return leaves, by the newest frame and those below it.
+-- What remains after a return, given the newest frame and those below it.
 use Rattle.std.proofs.Common.{◌≡◌, ℕ, ◌-◌, List, [], ◌∷◌, ◌++◌, length, take, refl, ◌∙◌, ap, arith, slice_index_or}
 use Rattle.bpf_absval.specs.declared.value.AbsVal.{AbsVal}
 use Rattle.bpf_absstate.specs.declared.frames.CallFrame.{CallFrame}
@@ -12,7 +12,7 @@ take_before : {X : Type 0} → (xs : List X) (x : X) → take (length xs) (xs ++
 take_before [] x = refl
 take_before (y ∷ xs) x = ap (λ l. y ∷ l) (take_before xs x)
 
--- where a function returns to
+-- the state after a return
 abbrev pub back_in : View → ℕ → List AbsVal → List CallFrame → View
 back_in a pc kept below = record a { pc = pc; registers = caller_registers a.registers kept (length a.frames - 1); frames = below }
 

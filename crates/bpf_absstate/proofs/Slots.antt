@@ -1,4 +1,4 @@
--- A slot whose bytes, and what is spilled there, stay as they are holds what it held.
+-- A slot whose bytes and spilled value are unchanged holds what it held.
 use Rattle.std.proofs.Common.{◌≡◌, ◌<◌, ◌+◌, ◌*◌, ◌/◌, ℕ, zero, suc, List, [], ◌∷◌, refl, ap, ◌∙◌, arith, slice_index_or, Option, Some, None, add-zero, Err, cond}
 use Rattle.std.specs.Prelude.{slice_get}
 use Rattle.bpf_regions.specs.declared.memory.Value.TheVariants as value
@@ -11,7 +11,7 @@ use Rattle.bpf_absval.specs.declared.slot.AbsSlot.TheVariants as slot
 use Rattle.bpf_absval.specs.Meaning.{Labels, SlotHolds, held, number_held}
 use Rattle.bpf_absstate.specs.Laws.{SameSlot}
 
--- a byte and what is there, with and without a default
+-- a byte, with and without a default
 some_get : {X : Type 0} (xs : List (Option X)) (i : ℕ) (b : X) → slice_index_or xs i None ≡ Some b → slice_get xs i ≡ Some (Some b)
 some_get [] i b h = absurd (cc)
 some_get (x ∷ xs) zero b h = ap Some h
@@ -22,7 +22,7 @@ some_index [] i b h = absurd (cc)
 some_index (x ∷ xs) zero b h = cc
 some_index (x ∷ xs) (suc i) b h = some_index xs i b h
 
--- n bytes from `at` on, and the slots round them, are as they were
+-- n bytes from `at` on, and the slots that have them, are unchanged
 record SameBytes (f g : StackFrame) (at n : ℕ) : Type 0 where
   byte : (j : ℕ) → j < n → slice_index_or g.bytes (at + j) None ≡ slice_index_or f.bytes (at + j) None
   spill : (j : ℕ) → j < n → spill_at g (at + j) ≡ spill_at f (at + j)
@@ -49,7 +49,6 @@ same_set f g at (suc n) same =
     }) in
     ap (joined (set_byte g at (slice_index_or g.bytes at None))) more ∙ ap (λ t. joined t (set_bytes f (at + 1) n)) (same_byte f g at byte spill)
 
--- the slot of a byte
 slot_of : (i j : ℕ) → j < 8 → (8 * i + j) / 8 ≡ i
 slot_of i j l = omega arith
 

@@ -1,4 +1,4 @@
--- Stacks: kept by an inclusion, moved to other labels and rooms, read and changed.
+-- Stacks: kept by inclusion, by changes of labels and rooms, read and changed.
 use Rattle.std.proofs.Common.{◌≡◌, ◌<◌, ℕ, zero, suc, List, [], ◌∷◌, ◌++◌, length, map, take, true, refl, ap, arith, slice_set, slice_index_or}
 use Rattle.std.specs.Prelude.{◌==◌, ◌&&◌, All}
 use Rattle.std.proofs.lemmas.Bool.{false≢true, and_parts}

@@ -1,4 +1,4 @@
--- Lists of values: kept by an inclusion, moved to other labels and rooms, read and changed.
+-- Lists of values: kept by inclusion, by changes of labels and rooms, read and changed.
 use Rattle.std.proofs.Common.{◌≡◌, ℕ, zero, suc, List, [], ◌∷◌, length, map, true, refl, ap, slice_set, slice_index_or}
 use Rattle.std.specs.Prelude.{All}
 use Rattle.std.proofs.lemmas.Bool.{false≢true, and_parts}
@@ -62,12 +62,12 @@ values_set e rooms (y ∷ a) (w ∷ vs) (suc r) x v h k = (h.0, values_set e roo
 values_set e rooms [] (w ∷ vs) r x v h k = absurd h
 values_set e rooms (y ∷ a) [] r x v h k = absurd h
 
--- what may be unset holds anything
+-- an unset value holds anything
 pub values_unset : (e : Labels) (rooms : List Room) (a : List AbsVal) (vs : List Value) (r : ℕ) → ValuesHold e rooms a vs →
     ValuesHold e rooms (slice_set a r abs.Unset) (slice_set vs r value.Unset)
 values_unset e rooms a vs r h = values_set e rooms a vs r abs.Unset value.Unset h tt
 
--- more is known of a value, which stays
+-- more is known of a value, which is unchanged
 pub values_refined : (e : Labels) (rooms : List Room) (a : List AbsVal) (vs : List Value) (r : ℕ) (x : AbsVal) → ValuesHold e rooms a vs →
     Holds e rooms x (slice_index_or vs r value.Unset) → ValuesHold e rooms (slice_set a r x) vs
 values_refined e rooms a vs r x h k =

@@ -1,4 +1,4 @@
--- What changes of a state leave well-formed.
+-- Changes that keep a state well formed.
 use Rattle.std.proofs.Common.{◌≡◌, ℕ, zero, suc, ◌-◌, ◌<◌, ◌≤◌, List, [], ◌∷◌, length, map, take, refl, sym, ◌∙◌, subst, arith, inl, inr, slice_index_or, slice_set, length-set, replicate}
 use Rattle.std.specs.List.{All}
 use Rattle.std.proofs.lemmas.List.{length-map, length_push}
@@ -17,7 +17,7 @@ use Rattle.std.proofs.lemmas.Bool.{cases_lt}
 use Rattle.bpf_absstate.specs.View.{View, main_frame, empty_stack, entry_view, entry_registers, with_register, with_frame_slot, frame_unlabelled, called, returned, without_label, callee_registers, without_arguments, caller_registers, kept_registers}
 use Rattle.bpf_absstate.specs.WellFormed.{IsFrame, IsView}
 
--- an element within a list is the same whatever stands for the others
+-- reading within a list doesn't depend on the default
 pub same_within : {X : Type 0} → (xs : List X) (k : ℕ) (d e : X) → k < length xs → slice_index_or xs k d ≡ slice_index_or xs k e
 same_within [] k d e less = absurd (omega (arith, less))
 same_within (x ∷ xs) zero d e less = refl

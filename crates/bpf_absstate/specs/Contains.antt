@@ -13,14 +13,14 @@ use Rattle.bpf_absval.specs.Meaning.{IsStackFrame, Labels, Holds, SlotHolds}
 use Rattle.bpf_absstate.specs.declared.frames.CallFrame.{CallFrame}
 use Rattle.bpf_absstate.specs.View.{View}
 
--- each value is one that the abstract one at its place contains
+-- each value is one that the abstract one at its index contains
 unfoldable pub ValuesHold : Labels → List Room → List AbsVal → List Value → Type 0
 ValuesHold e rooms [] [] = Unit {0}
 ValuesHold e rooms [] (v ∷ vs) = ⊥
 ValuesHold e rooms (a ∷ more) [] = ⊥
 ValuesHold e rooms (a ∷ more) (v ∷ vs) = Holds e rooms a v × ValuesHold e rooms more vs
 
--- each slot holds what the abstract one at its place says
+-- each slot holds what the abstract one at its index says
 pub record StackHolds
     (e : Labels) (rooms : List Room) (a : CallFrame) (f : StackFrame) : Type 0 where
   pub frame : IsStackFrame f
@@ -41,7 +41,7 @@ pub record CallerHolds
   pub kept : ValuesHold e rooms a.kept (c.r6 ∷ c.r7 ∷ c.r8 ∷ c.r9 ∷ [])
   pub r10 : c.r10 ≡ value.Pointer (region.Stack k) 512
 
--- there are as many callers as these call frames, from number k on, and each keeps what its own says
+-- there are as many callers as call frames, the first of stack frame k, and each keeps what its call frame says
 unfoldable pub CallersHold : Labels → List Room → ℕ → List CallFrame → List Caller → Type 0
 CallersHold e rooms k [] [] = Unit {0}
 CallersHold e rooms k [] (c ∷ cs) = ⊥
@@ -49,7 +49,8 @@ CallersHold e rooms k (a ∷ more) [] = ⊥
 CallersHold e rooms k (a ∷ more) (c ∷ cs) =
     CallerHolds e rooms k a c × CallersHold e rooms (k + 1) more cs
 
--- With these places of the labels the state is as the abstract one says. R10 always points to the end of the newest stack frame.
+-- With these positions of the labels, the state is as the abstract one says. R10 always points to the end of the newest
+-- stack frame.
 pub record HoldsIn (e : Labels) (a : View) (s : State) : Type 0 where
   pub pc : s.pc ≡ a.pc
   pub registers : ValuesHold e a.rooms a.registers s.regs
@@ -60,7 +61,7 @@ pub record HoldsIn (e : Labels) (a : View) (s : State) : Type 0 where
   pub some : 1 ≤ length a.frames
   pub least : a.least ≤ length e.setting.frame
 
--- for some places of the labels it is
+-- for some positions of the labels it is
 pub record Contains (p : Setting) (a : View) (s : State) : Type 0 where
   pub base : ℕ → ℕ
   pub holds : HoldsIn (record { setting = p; base = base }) a s

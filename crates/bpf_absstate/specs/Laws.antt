@@ -1,4 +1,4 @@
--- What the operations on abstract states are good for: what a state does, an abstract state that contains it may do as well.
+-- Soundness of the operations on abstract states: what a state does, an abstract state that contains it may do as well.
 use Rattle.std.specs.Prelude.{ℕ, ◌≡◌, ◌≢◌, ◌<◌, ◌≤◌, ◌+◌, ◌-◌, ◌*◌, true, List, [], ◌∷◌, ◌++◌, length, take, Some, None, slice_get, slice_set, slice_index_or}
 use Rattle.bpf_regions.specs.declared.memory.Value.{Value}
 use Rattle.bpf_regions.specs.declared.memory.Value.TheVariants as value
@@ -16,7 +16,7 @@ use Rattle.bpf_absstate.specs.Inclusion.{state_included}
 use Rattle.bpf_absstate.specs.View.{View, register, frame_of, entry_view, at_slot, with_register, with_slot, with_least, with_room, without_label, called, returned}
 use Rattle.bpf_absstate.specs.WellFormed.{IsView}
 
--- each state of an included abstract state is one of the including one
+-- each state of an included abstract state is one of the state that includes it
 abbrev pub InclusionKeeps : Type 0
 InclusionKeeps =
     (p : Setting) (a b : View) (s : State) → IsView b → state_included a b ≡ true →
@@ -26,7 +26,7 @@ InclusionKeeps =
 abbrev pub EntryContains : Type 0
 EntryContains = (p : Setting) → Contains p entry_view entry
 
--- ---- what is read
+-- ---- reading
 
 -- a register holds what the abstract one allows
 abbrev pub RegistersHold : Type 0
@@ -34,7 +34,7 @@ RegistersHold =
     (e : Labels) (a : View) (s : State) (r : ℕ) → HoldsIn e a s →
     Holds e a.rooms (register a r) (reg s r)
 
--- there are as many live stack frames as call frames, and a caller waits for each of them but the first
+-- there are as many live stack frames as call frames, and a caller waits for each but the first
 pub record SameDepth (a : View) (s : State) : Type 0 where
   pub stacks : length s.stack ≡ length a.frames
   pub callers : length s.callers + 1 ≡ length a.frames
@@ -49,28 +49,28 @@ StacksAgree =
     (e : Labels) (a : View) (s : State) (k : ℕ) → HoldsIn e a s → k < length a.frames →
     StackHolds e a.rooms (frame_of a k) (stack_frame s k)
 
--- ---- what is changed
+-- ---- changes
 
--- going on at another slot is followed
+-- a state stays contained if it goes to another slot
 abbrev pub GoingHolds : Type 0
 GoingHolds =
     (e : Labels) (a : View) (s : State) (pc : ℕ) → HoldsIn e a s →
     HoldsIn e (at_slot a pc) (goto s pc)
 
--- so is a change of a register other than R10
+-- so it does if a register other than R10 changes
 abbrev pub ChangesHold : Type 0
 ChangesHold =
     (e : Labels) (a : View) (s : State) (r : ℕ) (v : AbsVal) (x : Value) → HoldsIn e a s →
     r ≢ 10 → Holds e a.rooms v x →
     HoldsIn e (with_register a r v) (record s { regs = slice_set s.regs r x })
 
--- more may be known of what a register holds
+-- and if more is known of a register
 abbrev pub RefinementHolds : Type 0
 RefinementHolds =
     (e : Labels) (a : View) (s : State) (r : ℕ) (v : AbsVal) → HoldsIn e a s →
     Holds e a.rooms v (reg s r) → HoldsIn e (with_register a r v) s
 
--- so is a change of a live stack frame, as far as its slots hold what is said anew
+-- so it does if a live stack frame changes to one that holds what its new slots say
 abbrev pub StackChangesHold : Type 0
 StackChangesHold =
     (e : Labels) (a : View) (s : State) (k : ℕ) (stack : List AbsSlot) (f : StackFrame) →
@@ -78,13 +78,13 @@ StackChangesHold =
     HoldsIn e (record a { frames = slice_set a.frames k (record (frame_of a k) { stack = stack }) })
     (with_frame s k f)
 
--- a slot and its bytes are as they were
+-- a slot and its bytes are unchanged
 pub record SameSlot (f g : StackFrame) (i : ℕ) : Type 0 where
   pub spill : slice_index_or g.spills i value.Unset ≡ slice_index_or f.spills i value.Unset
   pub bytes : (j : ℕ) → j < 8 →
       slice_index_or g.bytes (8 * i + j) None ≡ slice_index_or f.bytes (8 * i + j) None
 
--- a change of one slot of a live stack frame is followed
+-- a state stays contained if one slot of a live stack frame changes
 abbrev pub SlotChangesHold : Type 0
 SlotChangesHold =
     (e : Labels) (a : View) (s : State) (k i : ℕ) (x : AbsSlot) (f : StackFrame) → HoldsIn e a s →
@@ -92,7 +92,7 @@ SlotChangesHold =
     ((j : ℕ) → j < 64 → j ≢ i → SameSlot (stack_frame s k) f j) → SlotHolds e a.rooms x f i →
     HoldsIn e (with_slot a k i x) (with_frame s k f)
 
--- so is a change of two, in either order
+-- and if two change, in either order
 abbrev pub TwoSlotsHold : Type 0
 TwoSlotsHold =
     (e : Labels) (a : View) (s : State) (k i j : ℕ) (x y : AbsSlot) (f : StackFrame) →
@@ -113,13 +113,13 @@ entered s to =
       callers = s.callers ++ caller_of s ∷ [];
     }
 
--- a call of a function is followed
+-- a state stays contained if it calls a function
 abbrev pub CallHolds : Type 0
 CallHolds =
     (e : Labels) (a : View) (s : State) (to : ℕ) → HoldsIn e a s →
     HoldsIn e (called a to (a.pc + 1)) (entered s to)
 
--- the state in which that caller goes on
+-- the state in which that caller resumes
 abbrev pub resumed : State → Caller → State
 resumed s c =
     record s {
@@ -129,27 +129,27 @@ resumed s c =
       callers = take (length s.callers - 1) s.callers;
     }
 
--- the newest caller goes on
+-- and if the newest function returns
 abbrev pub ReturnHolds : Type 0
 ReturnHolds =
     (e : Labels) (a : View) (s : State) (c : Caller) → HoldsIn e a s →
     slice_get s.callers (length s.callers - 1) ≡ Some c → HoldsIn e (returned a) (resumed s c)
 
--- ---- what is known besides
+-- ---- what else is known
 
--- a label may name another place from now on
+-- and if a label is forgotten, which may then name another position
 abbrev pub ForgettingHolds : Type 0
 ForgettingHolds =
     (e d : Labels) (label : ℕ) (a : View) (s : State) → AgreeApart label e d → HoldsIn e a s →
     HoldsIn d (without_label a label) s
 
--- a least length may be noted that the frame has
+-- and if a least length is recorded that the frame has
 abbrev pub LeastHolds : Type 0
 LeastHolds =
     (e : Labels) (a : View) (s : State) (n : ℕ) → n ≤ length e.setting.frame → HoldsIn e a s →
     HoldsIn e (with_least a n) s
 
--- so may room behind a label
+-- and if room is recorded that the frame has after a label
 abbrev pub RoomsHold : Type 0
 RoomsHold =
     (e : Labels) (a : View) (s : State) (label n : ℕ) → e.base label + n ≤ length e.setting.frame →

@@ -12,7 +12,7 @@ use Rattle.bpf_absval.specs.Unlabelled.{unlabelled, slot_unlabelled}
 use Rattle.bpf_absstate.specs.declared.frames.CallFrame.{CallFrame}
 
 -- The slot, what R0 to R10 may hold, the call frames (the main function's first), the known least length of the
--- received frame, and what is known to lie behind labels.
+-- received frame, and the bytes known to follow labels.
 pub record View : Type 0 where
   pub pc : ℕ
   pub registers : List AbsVal
@@ -24,7 +24,7 @@ pub record View : Type 0 where
 abbrev pub register : View → ℕ → AbsVal
 register a r = slice_index_or a.registers r abs.Unset
 
--- 64 slots that may be unset
+-- 64 unset slots
 abbrev pub empty_stack : List AbsSlot
 empty_stack = replicate 64 slot.Unset
 
@@ -37,7 +37,7 @@ main_frame =
       stack = empty_stack;
     }
 
--- the call frame of that number
+-- the call frame with that number
 abbrev pub frame_of : View → ℕ → CallFrame
 frame_of a k = slice_index_or a.frames k main_frame
 
@@ -45,23 +45,24 @@ frame_of a k = slice_index_or a.frames k main_frame
 abbrev pub stack_of : View → ℕ → List AbsSlot
 stack_of a k = (frame_of a k).stack
 
--- R10 points to the end of the stack of that number
+-- the end of the stack with that number, to which R10 points
 abbrev pub stack_end : ℕ → AbsVal
 stack_end k = abs.Pointer (place.Stack k) (num_single 512)
 
--- R1 points to the frame's start, R2 is the frame's end, R3 points to the context, and all others may be unset
+-- R1 points to the frame's start, R2 is the frame's end, R3 points to the context, R10 to the end of the stack; all
+-- others are unset
 abbrev pub entry_registers : List AbsVal
 entry_registers =
     abs.Unset ∷ abs.Frame (num_single 0) None ∷ abs.FrameEnd
     ∷ abs.Pointer place.Context (num_single 0) ∷ abs.Unset ∷
     abs.Unset ∷ abs.Unset ∷ abs.Unset ∷ abs.Unset ∷ abs.Unset ∷ stack_end 0 ∷ []
 
--- what is known where a run begins
+-- the state at the start of a run
 abbrev pub entry_view : View
 entry_view =
     record { pc = 0; registers = entry_registers; frames = main_frame ∷ []; least = 0; rooms = [] }
 
--- the state goes on at that slot
+-- at another slot
 abbrev pub at_slot : View → ℕ → View
 at_slot a pc = record a { pc = pc }
 
@@ -69,7 +70,7 @@ at_slot a pc = record a { pc = pc }
 abbrev pub with_register : View → ℕ → AbsVal → View
 with_register a r v = record a { registers = slice_set a.registers r v }
 
--- one slot of the stack of call frame k
+-- slot i of the stack of call frame k has another value
 abbrev pub with_frame_slot : List CallFrame → ℕ → ℕ → AbsSlot → List CallFrame
 with_frame_slot fs k i s =
     slice_set fs k (record (slice_index_or fs k main_frame) {
@@ -84,11 +85,11 @@ with_slot a k i s = record a { frames = with_frame_slot a.frames k i s }
 abbrev pub with_least : View → ℕ → View
 with_least a n = record a { least = max a.least n }
 
--- at least n bytes lie behind the label's place
+-- at least n bytes follow the label's position
 abbrev pub with_room : View → ℕ → ℕ → View
 with_room a label n = record a { rooms = raised a.rooms label n }
 
--- ---- a label is forgotten: no value has it, and no room is known behind it
+-- ---- a label is forgotten: no value has it, and it has no room
 
 -- in a call frame, in what its caller keeps and in its stack
 abbrev pub frame_unlabelled : ℕ → CallFrame → CallFrame
@@ -123,7 +124,7 @@ kept_of rs =
 abbrev pub kept_registers : View → List AbsVal
 kept_registers a = kept_of a.registers
 
--- a function is called at slot `to`, and returns to `back`
+-- the function at slot `to` is called, and returns to `back`
 abbrev pub called : View → ℕ → ℕ → View
 called a to back =
     record a {
@@ -139,7 +140,7 @@ without_arguments rs =
     slice_set (slice_set (slice_set (slice_set (slice_set rs 1 abs.Unset) 2 abs.Unset) 3 abs.Unset)
     4 abs.Unset) 5 abs.Unset
 
--- at the return the caller has R6 to R10 as before, and R0
+-- after a return the caller has its R6 to R10, and R0
 abbrev pub caller_registers : List AbsVal → List AbsVal → ℕ → List AbsVal
 caller_registers rs kept depth =
     slice_set (slice_set (slice_set (slice_set (slice_set (without_arguments rs) 6
@@ -147,7 +148,7 @@ caller_registers rs kept depth =
     8 (slice_index_or kept 2 abs.Unset)) 9 (slice_index_or kept 3 abs.Unset))
     10 (stack_end (depth - 1))
 
--- the newest function has returned; there is a caller
+-- the newest function has returned to its caller
 abbrev pub returned : View → View
 returned a =
     let depth = length a.frames - 1 in let f = frame_of a depth in

@@ -1,4 +1,4 @@
--- What each abstract state of the code is.
+-- Well-formed abstract states.
 use Rattle.std.specs.Prelude.{ℕ, ◌≡◌, ◌≤◌, length, All}
 use Rattle.bpf_absval.specs.WellFormed.{IsVal, IsSlot}
 use Rattle.bpf_absstate.specs.declared.frames.CallFrame.{CallFrame}
@@ -19,7 +19,7 @@ pub record IsView (a : View) : Type 0 where
   pub few : length a.frames ≤ 8
   pub frames : All IsFrame a.frames
 
--- a state of so many call frames
+-- a state with that many call frames
 pub record IsState (depth : ℕ) (a : View) : Type 0 where
   pub view : IsView a
   pub count : depth ≡ length a.frames

@@ -1,4 +1,4 @@
-//! The call frames of a state: a chain behind shared pointers, the newest first in memory, the main function's first in
+//! The call frames of a state: a chain of shared pointers, the newest first in memory, the main function's first in
 //! definitions.
 
 ghost use Rattle.std.specs.Prelude.{◌≡◌, ◌<◌, ◌+◌, [], ◌∷◌, ◌++◌, length, map, slice_index_or, slice_set, take, OnOk, OnErr, IfOk, IfSome, IfNone, true};
@@ -15,12 +15,12 @@ use std::alloc::{AllocError, Global};
 use std::marker::Model;
 use std::rc::Rc;
 
-/// A function's frame: where it returns to, the caller's R6 to R9, its stack.
+/// A function's frame: its return slot, the caller's R6 to R9, its stack.
 #[derive(Drop)]
 pub struct CallFrame {
-    /// The slot at which the caller goes on; 0 for the main function.
+    /// The slot at which the caller resumes; 0 for the main function.
     pub return_slot: u16,
-    /// What the caller has in R6 to R9; nothing for the main function.
+    /// What the caller has in R6 to R9; unset for the main function.
     pub kept: Kept,
     pub stack: Stack,
 }
@@ -28,15 +28,15 @@ pub struct CallFrame {
 /// A part of a call frame.
 #[derive(Clone, Copy)]
 pub enum Part {
-    /// Where the function returns to.
+    /// The return slot.
     Return,
-    /// What the caller has in one of R6 to R9, the first being number 0.
+    /// One of the caller's R6 to R9; R6 is number 0.
     Kept(u8),
     /// A slot of the stack.
     Slot(u8),
 }
 
-/// A part of the call frame of that number, the main function's being number 0.
+/// A part of the call frame with that number; the main function's is number 0.
 #[derive(Clone, Copy)]
 pub struct Place {
     pub frame: u8,
@@ -77,7 +77,7 @@ impl CallFrame {
         }
     }
 
-    /// The first part that does not lie in the other's.
+    /// A part that isn't included in the other's.
     fn first_outside(&self, other: &CallFrame, rooms: &Rooms, others: &Rooms) -> Option<Part>
         ensures none { IfNone result
             (frame_included rooms.now others.now self.now other.now ≡ true) }
@@ -96,7 +96,7 @@ impl CallFrame {
         }
     }
 
-    /// Whether a part does not lie in the other's.
+    /// Whether a part isn't included in the other's.
     pub fn lies_outside(&self, other: &CallFrame, part: Part, rooms: &Rooms, others: &Rooms) -> bool
         ensures is { result ≡ part_outside rooms.now others.now self.now other.now part }
     {
@@ -118,7 +118,6 @@ impl CallFrame {
         }
     }
 
-    /// The frame without a label.
     fn without_label(&self, label: u16) -> Result<CallFrame, AllocError>
         ensures is { IfOk result (λ frame. frame ≡ frame_unlabelled label self.now) }
     {
@@ -133,6 +132,7 @@ impl CallFrame {
     }
 }
 
+/// The call frames of a state.
 #[cycle(chain)]
 #[derive(Drop)]
 pub struct Chain {
@@ -181,14 +181,14 @@ impl Clone for Chain {
 }
 
 impl Chain {
-    /// The chain of no frame.
+    /// The empty chain.
     pub fn empty() -> Chain
         ensures is { result ≡ [] }
     {
         Chain { link: Link::End }
     }
 
-    /// Those frames, and this one behind them.
+    /// Those frames, and this one as the newest.
     pub fn with_newest(below: Rc<Chain>, frame: CallFrame) -> Chain
         ensures is { result ≡ below.value ++ frame ∷ [] }
     {
@@ -216,7 +216,7 @@ impl Chain {
     }
 
     #[tactic(auto, using(crate::proofs::Chained::get_before, crate::proofs::Chained::get_last, std::proofs::lemmas::List::length_push))]
-    /// Slot `index` of the stack of frame `k`, of so many frames.
+    /// Slot `index` of the stack of frame `k`, of `count` frames.
     pub fn slot(&self, count: usize, k: usize, index: usize) -> AbsSlot
         requires whole { count ≡ length self.now }
         requires within { k < count }
@@ -236,7 +236,7 @@ impl Chain {
     }
 
     #[tactic(auto, using(crate::proofs::Chained::set_before, crate::proofs::Chained::set_last, crate::proofs::Chained::get_before, crate::proofs::Chained::get_last, std::proofs::lemmas::List::length_push))]
-    /// Puts a slot into the stack of frame `k`, of so many frames. Where memory is wanting the frames stay as they are.
+    /// Sets a slot of the stack of frame `k`, of `count` frames. If allocation fails, the frames are unchanged.
     pub fn set_slot(
         &mut self,
         count: usize,
@@ -282,7 +282,7 @@ impl Chain {
         }
     }
 
-    /// The frame of that number, of so many.
+    /// Frame `k`, of `count` frames.
     #[tactic(auto, using(crate::proofs::Chained::get_before, crate::proofs::Chained::get_last, std::proofs::lemmas::List::length_push))]
     pub fn frame(&self, count: usize, k: usize) -> &CallFrame
         requires whole { count ≡ length self.now }
@@ -300,7 +300,7 @@ impl Chain {
         }
     }
 
-    /// The newest place that does not lie in the other's, where both have so many frames.
+    /// A place at which this chain isn't included in the other; both have `count` frames. `None` if there is none.
     #[tactic(auto, using(crate::proofs::Chained::included_more, crate::proofs::Chained::none_included, crate::proofs::Chained::not_in_none, crate::proofs::Chained::get_before, crate::proofs::Chained::get_last, std::proofs::lemmas::List::length_push), unfolding(crate::specs::Inclusion::frames_included))]
     pub fn first_outside(
         &self,

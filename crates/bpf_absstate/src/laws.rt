@@ -1,12 +1,12 @@
-//! What the operations on abstract states are good for: whatever a state does, an abstract state that contains it may do as
-//! well. These functions do nothing; a caller's proof takes their promises.
+//! Soundness of the operations on abstract states: whatever a state does, an abstract state that contains it may do as
+//! well. Each law's function does nothing.
 
 ghost use Rattle.bpf_absstate.specs.Laws.{InclusionKeeps, EntryContains, RegistersHold, DepthsAgree, StacksAgree, GoingHolds, ChangesHold, RefinementHolds, StackChangesHold, SlotChangesHold, TwoSlotsHold, CallHolds, ReturnHolds, ForgettingHolds, LeastHolds, RoomsHold};
 
 use bpf_absnum::number::laws::number_law;
 use bpf_absval::laws as values;
 
-/// Each state of an included abstract state is one of the including one.
+/// If an abstract state is included in another, the other contains each of its states.
 pub fn inclusion_law()
     ensures keeps { InclusionKeeps }
 {
@@ -20,30 +20,30 @@ pub fn entry_law()
     number_law();
 }
 
-/// What a state reads is what the abstract state allows: its registers, how many functions are called, and the stacks of
-/// all that have not returned.
+/// A state's registers, its number of stack frames and callers, and its live stack frames are as its abstract state
+/// says.
 pub fn reading_law()
     ensures registers { RegistersHold }
     ensures depth { DepthsAgree }
     ensures stacks { StacksAgree }
 {}
 
-/// Going on at another slot is followed, a change of a register other than R10, and more that becomes known of a
-/// register.
+/// A contained state stays contained if it goes to another slot, if a register other than R10 changes, and if more
+/// becomes known of a register.
 pub fn register_law()
     ensures going { GoingHolds }
     ensures change { ChangesHold }
     ensures refinement { RefinementHolds }
 {}
 
-/// Changes of a live stack frame are followed: of the whole of it, of one slot, and of two.
+/// It stays contained if a live stack frame changes: as a whole, in one slot, or in two.
 pub fn stack_law()
     ensures stack { StackChangesHold }
     ensures slot { SlotChangesHold }
     ensures slots { TwoSlotsHold }
 {}
 
-/// Local calls and returns are followed.
+/// It stays contained in local calls and returns.
 pub fn call_law()
     ensures call { CallHolds }
     ensures returning { ReturnHolds }
@@ -51,7 +51,8 @@ pub fn call_law()
     number_law();
 }
 
-/// A label may be forgotten and then name another place, and what there is of the frame may become known.
+/// It stays contained if a label is forgotten and then names another position, and if more is known of the received
+/// frame: its least length, or the bytes after a label.
 pub fn known_law()
     ensures forgetting { ForgettingHolds }
     ensures least { LeastHolds }

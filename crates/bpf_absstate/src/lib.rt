@@ -1,10 +1,9 @@
 //! Abstract states of a program: what its registers and its call frames' stacks may hold.
 //!
-//! Main calls: `AbsState::entry`, `set_register`, `set_slot`, `call`, `is_included`,
-//! `difference`, `differs_at`. It stands on `bpf_stack`. Each change is its definition in `specs/View.antt`, and a refused growth changes
-//! nothing. `specs/Contains.antt` says which states of the machine an abstract one contains.
-//! [`laws`] has what each change keeps, and that an included state's machine states are the
-//! including one's.
+//! Main calls: `AbsState::entry`, `set_register`, `set_slot`, `call`, `is_included`, `difference`, `differs_at`. It
+//! depends on `bpf_stack`. Each change is its definition in `specs/View.antt`; if an allocation fails, nothing changes.
+//! `specs/Contains.antt` defines which states of the machine an abstract one contains. [`laws`] says what each change
+//! keeps, and that a state that includes another contains all that it contains.
 #![tactic(auto)]
 
 pub mod frames;

@@ -65,7 +65,7 @@ impl Clone for Registers {
     }
 }
 
-/// What a caller has in R6 to R9.
+/// The caller's R6 to R9.
 #[derive(Drop)]
 pub struct Kept {
     values: [Rc<AbsVal>; 4],
@@ -92,7 +92,6 @@ impl Clone for Kept {
     }
 }
 
-/// The end of the stack of that number, to which R10 points.
 fn end_of_stack(number: u8) -> AbsVal
     ensures is { result ≡ stack_end number }
 {
@@ -102,7 +101,7 @@ fn end_of_stack(number: u8) -> AbsVal
     }
 }
 
-/// Writes the value behind a shared pointer, for this owner alone. Where memory is wanting it stays as it is.
+/// Writes the value behind a shared pointer, for this owner only. If allocation fails, it is unchanged.
 fn write(held: &mut Rc<AbsVal>, value: AbsVal) -> Result<(), AllocError>
     ensures ok { OnOk result (held.new.value ≡ value) }
     ensures err { OnErr result (held.new.value ≡ held.old.value) }
@@ -112,7 +111,6 @@ fn write(held: &mut Rc<AbsVal>, value: AbsVal) -> Result<(), AllocError>
     Ok(())
 }
 
-/// Takes a label from the value behind a shared pointer.
 fn take_label(held: &mut Rc<AbsVal>, label: u16) -> Result<(), AllocError>
     ensures is { OnOk result (held.new.value ≡ unlabelled label held.old.value) }
 {
@@ -123,7 +121,6 @@ fn take_label(held: &mut Rc<AbsVal>, label: u16) -> Result<(), AllocError>
     Ok(())
 }
 
-/// Takes a label from each value.
 fn take_labels(values: &mut [Rc<AbsVal>], label: u16) -> Result<(), AllocError>
     ensures is { OnOk result (held_by values.new ≡ map (unlabelled label) (held_by values.old)) }
 {
@@ -133,7 +130,7 @@ fn take_labels(values: &mut [Rc<AbsVal>], label: u16) -> Result<(), AllocError>
     Ok(())
 }
 
-/// The first place at which the value of `a` does not lie in that of `b`.
+/// An index at which the value of `a` isn't included in that of `b`.
 fn first_outside(a: &[Rc<AbsVal>], b: &[Rc<AbsVal>], rooms: &Rooms, others: &Rooms) -> Option<usize>
     requires { length a.now ≡ length b.now }
     ensures none { IfNone result
@@ -150,7 +147,6 @@ fn first_outside(a: &[Rc<AbsVal>], b: &[Rc<AbsVal>], rooms: &Rooms, others: &Roo
 }
 
 impl Values {
-    /// Registers that may all be unset.
     fn unset(alloc: Global) -> Result<Values, AllocError>
         ensures is { IfOk result (λ values. values ≡ replicate 11 Unset) }
     {
@@ -171,7 +167,6 @@ impl Values {
         Ok(Values { values })
     }
 
-    /// What registers hold where a run begins.
     fn entry(alloc: Global) -> Result<Values, AllocError>
         ensures is { IfOk result (λ values. values ≡ entry_registers) }
     {
@@ -196,7 +191,6 @@ impl Values {
         Ok(values)
     }
 
-    /// What a register may hold.
     fn get(&self, number: usize) -> AbsVal
         requires { number < 11 }
         ensures is { slice_get self.now number ≡ Some result }
@@ -204,7 +198,6 @@ impl Values {
         *self.values[number]
     }
 
-    /// The shared pointer to what a register may hold.
     fn pointer(&self, number: usize) -> Result<Rc<AbsVal>, AllocError>
         requires { number < 11 }
         ensures is { IfOk result (λ held. slice_get self.now number ≡ Some held.value) }
@@ -213,7 +206,6 @@ impl Values {
         Ok(held)
     }
 
-    /// Puts a value into a register, in these registers alone. Where memory is wanting they stay as they are.
     fn set(&mut self, number: usize, value: AbsVal) -> Result<(), AllocError>
         requires { number < 11 }
         ensures ok { OnOk result (self.new ≡ slice_set self.old number value) }
@@ -223,7 +215,7 @@ impl Values {
         Ok(())
     }
 
-    /// Lets a register hold what is behind a shared pointer.
+    /// Sets a register to the value behind a shared pointer, which it shares.
     fn share(&mut self, number: usize, held: &Rc<AbsVal>) -> Result<(), AllocError>
         requires { number < 11 }
         ensures is { OnOk result (self.new ≡ slice_set self.old number held.now.value) }
@@ -233,7 +225,6 @@ impl Values {
         Ok(())
     }
 
-    /// Takes a label from each register.
     fn forget_label(&mut self, label: u16) -> Result<(), AllocError>
         ensures is { OnOk result (self.new ≡ map (unlabelled label) self.old) }
     {
@@ -241,7 +232,6 @@ impl Values {
         Ok(())
     }
 
-    /// The first register that does not lie in the other's.
     fn first_outside(&self, other: &Values, rooms: &Rooms, others: &Rooms) -> Option<usize>
         ensures none { IfNone result
             (values_included rooms.now others.now self.now other.now ≡ true) }
@@ -251,7 +241,6 @@ impl Values {
         first_outside(&self.values, &other.values, rooms, others)
     }
 
-    /// Whether a register lies in the other's.
     fn lies_in(&self, other: &Values, number: usize, rooms: &Rooms, others: &Rooms) -> bool
         requires { number < 11 }
         ensures is { result ≡ lies_in_at rooms.now others.now self.now other.now number }
@@ -259,7 +248,6 @@ impl Values {
         self.values[number].is_included(&other.values[number], rooms, others)
     }
 
-    /// What a caller keeps: R6 to R9.
     fn kept(&self) -> Result<Kept, AllocError>
         ensures is { IfOk result (λ kept. kept ≡ kept_of self.now) }
     {
@@ -273,7 +261,6 @@ impl Values {
     }
 
     #[tactic(auto, using(crate::proofs::Pointers::got_set))]
-    /// What a called function begins with, in the stack frame of that number.
     fn enter(&mut self, number: u8) -> Result<(), AllocError>
         ensures is { OnOk result (self.new ≡ callee_registers self.old number) }
     {
@@ -288,7 +275,6 @@ impl Values {
     }
 
     #[tactic(auto, using(crate::proofs::Pointers::got_set))]
-    /// R1 to R5 are unset, as a call leaves them.
     fn clear_arguments(&mut self) -> Result<(), AllocError>
         ensures is { OnOk result (self.new ≡ without_arguments self.old) }
     {
@@ -302,7 +288,6 @@ impl Values {
     }
 
     #[tactic(auto, using(crate::proofs::Pointers::got_or))]
-    /// What a caller goes on with that kept those values and has the stack frame of that number.
     fn leave(&mut self, kept: &Kept, number: u8) -> Result<(), AllocError>
         ensures is { OnOk result (self.new ≡ caller_registers self.old kept.now (number + 1)) }
     {
@@ -317,7 +302,7 @@ impl Values {
 }
 
 impl Kept {
-    /// What the main function's caller has: nothing.
+    /// The values kept for the main function's caller: all unset.
     pub fn none(alloc: Global) -> Result<Kept, AllocError>
         ensures is { IfOk result (λ kept. kept ≡ main_frame.kept) }
     {
@@ -326,7 +311,6 @@ impl Kept {
         Ok(Kept { values })
     }
 
-    /// The shared pointer to one of the values.
     fn pointer(&self, number: usize) -> Result<Rc<AbsVal>, AllocError>
         requires { number < 4 }
         ensures is { IfOk result (λ held. slice_get self.now number ≡ Some held.value) }
@@ -344,7 +328,7 @@ impl Kept {
         Ok(Kept { values })
     }
 
-    /// The first value that does not lie in the other's.
+    /// One of the values that isn't included in the other's; `None` if there is none.
     pub fn first_outside(&self, other: &Kept, rooms: &Rooms, others: &Rooms) -> Option<usize>
         ensures none { IfNone result
             (values_included rooms.now others.now self.now other.now ≡ true) }
@@ -354,7 +338,7 @@ impl Kept {
         first_outside(&self.values, &other.values, rooms, others)
     }
 
-    /// Whether one of the values lies in the other's.
+    /// Whether one of the values is included in the other's.
     pub fn lies_in(&self, other: &Kept, number: usize, rooms: &Rooms, others: &Rooms) -> bool
         requires { number < 4 }
         ensures is { result ≡ lies_in_at rooms.now others.now self.now other.now number }
@@ -364,7 +348,7 @@ impl Kept {
 }
 
 impl Registers {
-    /// What registers hold where a run begins.
+    /// The registers at the start of a run.
     pub fn entry(alloc: Global) -> Result<Registers, AllocError>
         ensures is { IfOk result (λ registers. registers ≡ entry_registers) }
     {
@@ -381,7 +365,7 @@ impl Registers {
         self.shared.get(number)
     }
 
-    /// Puts a value into a register, in these registers alone. Where memory is wanting they stay as they are.
+    /// Sets a register. If allocation fails, the registers are unchanged.
     pub fn set(&mut self, number: usize, value: AbsVal) -> Result<(), AllocError>
         requires { number < 11 }
         ensures ok { OnOk result (self.new ≡ slice_set self.old number value) }
@@ -399,7 +383,7 @@ impl Registers {
         self.shared.kept()
     }
 
-    /// What a called function begins with, in the stack frame of that number.
+    /// The registers of a called function whose stack frame has that number.
     pub fn called(&self, number: u8) -> Result<Registers, AllocError>
         ensures is { IfOk result (λ registers. registers ≡ callee_registers self.now number) }
     {
@@ -409,7 +393,7 @@ impl Registers {
         Ok(Registers { shared })
     }
 
-    /// What a caller goes on with that kept those values and has the stack frame of that number.
+    /// The registers of a caller after a return: it kept those values, and its stack frame has that number.
     pub fn returned(&self, kept: &Kept, number: u8) -> Result<Registers, AllocError>
         ensures is { IfOk result
             (λ registers. registers ≡ caller_registers self.now kept.now (number + 1)) }
@@ -420,7 +404,7 @@ impl Registers {
         Ok(Registers { shared })
     }
 
-    /// The registers as a call leaves them: R1 to R5 are unset.
+    /// The registers after a call: R1 to R5 are unset.
     pub fn without_arguments(&self) -> Result<Registers, AllocError>
         ensures is { IfOk result (λ registers. registers ≡ without_arguments self.now) }
     {
@@ -440,7 +424,7 @@ impl Registers {
         Ok(Registers { shared })
     }
 
-    /// The first register that does not lie in the other's.
+    /// A register that isn't included in the other's; `None` if there is none.
     pub fn first_outside(&self, other: &Registers, rooms: &Rooms, others: &Rooms) -> Option<usize>
         ensures none { IfNone result
             (values_included rooms.now others.now self.now other.now ≡ true) }
@@ -450,7 +434,7 @@ impl Registers {
         self.shared.first_outside(&other.shared, rooms, others)
     }
 
-    /// Whether a register lies in the other's.
+    /// Whether a register is included in the other's.
     pub fn lies_in(&self, other: &Registers, number: usize, rooms: &Rooms, others: &Rooms) -> bool
         requires { number < 11 }
         ensures is { result ≡ lies_in_at rooms.now others.now self.now other.now number }

@@ -24,14 +24,13 @@ pub struct AbsState {
     frames: Rc<Chain>,
     rooms: Rc<Rooms>,
     least: u16,
-    /// How many call frames there are.
     depth: usize,
 }
 
-/// Where one state does not lie in another.
+/// Why one state isn't included in another.
 #[derive(Clone, Copy)]
 pub enum Difference {
-    /// They stand at two slots, have two depths, or less of the received frame is known.
+    /// They are at two slots, have two depths, or less of the received frame is known.
     Apart,
     /// A register.
     Register(u8),
@@ -81,7 +80,7 @@ impl Clone for AbsState {
 }
 
 impl AbsState {
-    /// What is known where a run begins.
+    /// The state at the start of a run.
     #[tactic(auto, using(crate::proofs::Whole::whole_entry))]
     pub fn entry(alloc: Global) -> Result<AbsState, AllocError>
         ensures is { IfOk result (λ state. state ≡ entry_view) }
@@ -101,14 +100,14 @@ impl AbsState {
         })
     }
 
-    /// What a state of the code is.
+    /// The state is well formed.
     pub fn whole(&self)
         ensures is { IsView self.now }
     {
         let _ = &self.registers;
     }
 
-    /// The slot at which it stands.
+    /// The slot of the next instruction.
     pub fn pc(&self) -> usize
         ensures is { result ≡ self.now.pc }
     {
@@ -139,7 +138,7 @@ impl AbsState {
         self.registers.get(number.number() as usize)
     }
 
-    /// Puts a value into a register, in this state alone. Where memory is wanting the state stays as it is.
+    /// Sets a register. If allocation fails, the state is unchanged.
     #[tactic(auto, using(crate::proofs::Whole::whole_register))]
     pub fn set_register(&mut self, number: Reg, value: AbsVal) -> Result<(), AllocError>
         ensures ok { OnOk result (self.new ≡ with_register self.old number value) }
@@ -157,21 +156,21 @@ impl AbsState {
         self.least
     }
 
-    /// The frame has at least so many bytes.
+    /// Records that the received frame has at least `least` bytes.
     pub fn raise_least(&mut self, least: u16)
         ensures is { self.new ≡ with_least self.old least }
     {
         self.least = self.least.max(least);
     }
 
-    /// How many bytes are known to lie behind the label's place.
+    /// How many bytes are known to follow the label's position.
     pub fn room(&self, label: u16) -> Option<u16>
         ensures is { result ≡ find_room self.now.rooms label }
     {
         self.rooms.find(label)
     }
 
-    /// At least so many bytes lie behind the label's place. Where memory is wanting the state stays as it is.
+    /// Records that at least `size` bytes follow the label's position. If allocation fails, the state is unchanged.
     pub fn raise_room(&mut self, label: u16, size: u16) -> Result<(), AllocError>
         ensures ok { OnOk result (self.new ≡ with_room self.old label size) }
         ensures err { OnErr result (self.new ≡ self.old) }
@@ -181,7 +180,7 @@ impl AbsState {
         Ok(())
     }
 
-    /// Slot `index` of the stack of call frame `k`, the main function's being number 0.
+    /// Slot `index` of the stack of call frame `k`; the main function's is number 0.
     pub fn slot(&self, k: usize, index: usize) -> AbsSlot
         requires lives { k < length self.now.frames }
         requires inside { index < 64 }
@@ -190,7 +189,7 @@ impl AbsState {
         self.frames.slot(self.depth, k, index)
     }
 
-    /// Puts a slot into the stack of call frame `k`, in this state alone. Where memory is wanting the state stays as it is.
+    /// Sets a slot of the stack of call frame `k`. If allocation fails, the state is unchanged.
     #[tactic(auto, using(crate::proofs::Whole::whole_slot))]
     pub fn set_slot(&mut self, k: usize, index: usize, slot: AbsSlot) -> Result<(), AllocError>
         requires lives { k < length self.old.frames }
@@ -204,7 +203,7 @@ impl AbsState {
         Ok(())
     }
 
-    /// R1 to R5 are unset after a call. Where memory is wanting the state stays as it is.
+    /// Unsets R1 to R5, as a call does. If allocation fails, the state is unchanged.
     pub fn clear_arguments(&mut self) -> Result<(), AllocError>
         ensures ok { OnOk result
             (self.new ≡ record self.old { registers = without_arguments self.old.registers }) }
@@ -215,7 +214,7 @@ impl AbsState {
         Ok(())
     }
 
-    /// A function is called at slot `to`, and returns to `back`. Where memory is wanting the state stays as it is.
+    /// Calls the function at slot `to`, which returns to `back`. If allocation fails, the state is unchanged.
     pub fn call(&mut self, alloc: Global, to: usize, back: u16) -> Result<(), AllocError>
         requires few { length self.old.frames < 8 }
         ensures ok { OnOk result (self.new ≡ called self.old to back) }
@@ -233,7 +232,7 @@ impl AbsState {
         Ok(())
     }
 
-    /// The newest function returns to its caller. Where memory is wanting the state stays as it is.
+    /// The newest function returns to its caller. If allocation fails, the state is unchanged.
     pub fn return_to_caller(&mut self) -> Result<(), AllocError>
         requires called { 1 < length self.old.frames }
         ensures ok { OnOk result (self.new ≡ returned self.old) }
@@ -252,7 +251,7 @@ impl AbsState {
         }
     }
 
-    /// Takes a label from every value, and its room. Where memory is wanting the state stays as it is.
+    /// Removes a label from every value, and its room. If allocation fails, the state is unchanged.
     pub fn forget_label(&mut self, alloc: Global, label: u16) -> Result<(), AllocError>
         ensures ok { OnOk result (self.new ≡ without_label self.old label) }
         ensures err { OnErr result (self.new ≡ self.old) }
@@ -269,14 +268,14 @@ impl AbsState {
         Ok(())
     }
 
-    /// Whether the states stand apart: at two slots, with two depths, or so that less of the received frame is known here.
+    /// Whether the states are at two slots, have two depths, or less of the received frame is known here.
     fn stands_apart(&self, other: &AbsState) -> bool
         ensures is { result ≡ not (stand_together self.now other.now) }
     {
         self.pc != other.pc || self.least < other.least || self.depth != other.depth
     }
 
-    /// Where this state does not lie in the other, if it does not.
+    /// Why this state isn't included in the other; `None` if it is.
     pub fn difference(&self, other: &AbsState) -> Option<Difference>
         ensures none { IfNone result (state_included self.now other.now ≡ true) }
         ensures some { IfSome result
@@ -304,7 +303,8 @@ impl AbsState {
         }
     }
 
-    /// Whether this state does not lie in the other there; then it is not included. Nothing else is compared.
+    /// Whether this state isn't included in the other because of `difference`, which implies that it isn't included at
+    /// all. It compares nothing else.
     pub fn differs_at(&self, other: &AbsState, difference: Difference) -> bool
         ensures is { result ≡ lies_outside self.now other.now difference }
         ensures outside { result ≡ true → state_included self.now other.now ≡ false }
@@ -336,8 +336,8 @@ impl AbsState {
         }
     }
 
-    /// Whether each state of this one is one of the other, as far as values tell: both stand at one slot with the same call
-    /// chain, and each value lies in the other's.
+    /// Whether this state is included in the other: both are at one slot with the same call chain, each value is
+    /// included in the other's, and the known least length isn't below the other's.
     pub fn is_included(&self, other: &AbsState) -> bool
         ensures is { result ≡ state_included self.now other.now }
     {

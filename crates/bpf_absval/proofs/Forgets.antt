@@ -1,4 +1,4 @@
--- What a value or a slot without a label keeps.
+-- Forgetting a label loses nothing that a value or a slot contains.
 use Rattle.std.proofs.Common.{◌≡◌, ◌≢◌, ℕ, ◌<◌, ◌^◌, ◌==◌, not, List, [], ◌∷◌, length, Bool, true, false, Option, Some, None, refl, ap, sym, subst, ◌∙◌, arith, if◌then◌else◌}
 use Rattle.std.proofs.lemmas.Bool.{eqb-true, eqb-false, eq-eqb, ne_eqb, cond_both, not-true, not-false}
 use Rattle.bpf_words.specs.Word.{word_add}
@@ -25,7 +25,6 @@ nothing_behind label (r ∷ rs) =
     cond_both (not (r.label == label)) (r ∷ rooms_without label rs) (rooms_without label rs) (λ xs. find_room xs label ≡ None)
     (λ kept. rw (not-true (r.label == label) kept) rest) (λ gone. rest)
 
--- the rooms behind other labels stay
 pub others_stay : (label other : ℕ) (rs : List Room) → other ≢ label → find_room (rooms_without label rs) other ≡ find_room rs other
 unfolding find_room
 others_stay label other [] apart = refl

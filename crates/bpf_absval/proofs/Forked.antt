@@ -6,7 +6,7 @@ use Rattle.bpf_absval.specs.Rooms.{find_room, raised, rooms_without, Between}
 use Rattle.bpf_absval.specs.Leaves.{IsParted, IsFork}
 use Rattle.bpf_absval.proofs.Ordered.{between_both, between_raised, between_without, find_left, find_right, raised_left, raised_right, without_left, without_right}
 
--- ---- no room, and one
+-- ---- no room and one room
 
 pub none_between : (low end : ℕ) → Between low end []
 unfolding Between

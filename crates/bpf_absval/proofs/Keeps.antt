@@ -1,4 +1,4 @@
--- What lies in an included value or slot lies in the including one.
+-- What an included value or slot contains is in the one that includes it.
 use Rattle.std.proofs.Common.{◌≡◌, ℕ, zero, suc, add-zero, [], ◌∷◌, ◌+◌, ◌*◌, ◌<◌, ◌^◌, ◌&&◌, ◌==◌, List, true, false, Option, Some, None, Result, Ok, Err, refl, ap, sym, subst, ◌∙◌, arith, bit_and, if◌then◌else◌, slice_get, slice_index_or}
 use Rattle.std.specs.Int.{bit_at}
 use Rattle.std.proofs.lemmas.Bool.{false≢true, true≢false, leb-true, eqb-true, and_parts}
@@ -70,13 +70,13 @@ value_keeps e rooms others a b v w t h = absurd (false≢true t)
 
 -- ---- the bytes of a slot
 
--- what is read at a place is there
+-- a byte that is read exists
 there : (xs : List (Option ℕ)) (i b : ℕ) → slice_index_or xs i None ≡ Some b → slice_get xs i ≡ Some (Some b)
 there [] i b e = absurd (cc)
 there (x ∷ xs) zero b e = ap Some e
 there (x ∷ xs) (suc i) b e = there xs i b e
 
--- where n bytes spell a number each is set
+-- if n bytes spell a number, each is set
 all_set : (f : StackFrame) (at n x : ℕ) → set_bytes f at n ≡ Ok x → (j : ℕ) → j < n → (b : ℕ) × (slice_get f.bytes (at + j) ≡ Some (Some b))
 unfolding set_bytes
 all_set f at zero x e j l = absurd (omega (arith, l))
@@ -102,7 +102,7 @@ number_sets e rooms a f i needed s h j within is =
     let spelt = spells e rooms a (slice_index_or f.spills i value.Unset) (set_bytes f (8 * i) 8) (s.references i) h in
     all_set f (8 * i) 8 spelt.0 spelt.1 j within
 
--- a bit of the needed bytes is one of those that are set
+-- each needed byte is set
 is_among : (set needed j : ℕ) → (bit_and set needed == needed) ≡ true → bit_at needed j ≡ 1 → bit_at set j ≡ 1
 is_among set needed j t is =
     let same : bit_and set needed ≡ needed = eqb-true (bit_and set needed) needed t in

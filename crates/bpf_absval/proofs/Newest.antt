@@ -1,4 +1,4 @@
--- The newest room beside the others.
+-- The newest room and the others.
 use Rattle.std.proofs.Common.{◌≡◌, ◌≢◌, ℕ, ◌<◌, ◌^◌, max, List, Option, Some, None, sym, ◌∙◌, subst, arith}
 use Rattle.bpf_absval.specs.declared.room.Room.{Room}
 use Rattle.bpf_absval.specs.Rooms.{find_room, raised, rooms_without, Between}

@@ -1,4 +1,4 @@
--- Rooms in the order of their labels: what a room changes before and behind a label.
+-- Rooms in the order of their labels: what a room changes before and after a label.
 use Rattle.std.proofs.Common.{◌≡◌, ◌≢◌, ℕ, ◌+◌, ◌<◌, ◌≤◌, ◌==◌, not, max, List, [], ◌∷◌, ◌++◌, Bool, true, false, Some, None, refl, ap, sym, ◌∙◌, arith, if◌then◌else◌}
 use Rattle.std.specs.Prelude.{nat_lt}
 use Rattle.std.proofs.lemmas.Bool.{eq-eqb, eqb-true, eqb-false, ltb-true, ltb-false, lt-ltb, le-ltb, ne_eqb, cond_both}
@@ -6,7 +6,7 @@ use Rattle.std.proofs.lemmas.List.Elements.{filter-append}
 use Rattle.bpf_absval.specs.declared.room.Room.{Room}
 use Rattle.bpf_absval.specs.Rooms.{find_room, raised, rooms_without, Between}
 
--- ---- where labels lie
+-- ---- where labels are
 
 pub between_from : (low from end : ℕ) (rs : List Room) → low ≤ from → Between from end rs → Between low end rs
 unfolding Between
@@ -63,14 +63,14 @@ without_below from end label [] h lower = refl
 without_below from end label (r ∷ rs) h lower =
     rw (differs label from r h.0 lower) (ap (λ (xs : List Room). r ∷ xs) (without_below (r.label + 1) end label rs h.2 (omega (arith, h.0, lower))))
 
--- the label's room stands first
+-- the label's room comes first
 pub raised_below : (from end label n : ℕ) (rs : List Room) → Between from end rs → label < from → raised rs label n ≡ record { label = label; size = n } ∷ rs
 unfolding Between raised
 raised_below from end label n [] h lower = refl
 raised_below from end label n (r ∷ rs) h lower =
     rw (differs label from r h.0 lower, lt-ltb label r.label (omega (arith, h.0, lower))) refl
 
--- ---- two lists that part at a label: a lower one concerns the first, another the second
+-- ---- two lists separated by a label: a lower one concerns the first, another the second
 
 pub find_left : (split end label : ℕ) (l r : List Room) → Between split end r → label < split → find_room (l ++ r) label ≡ find_room l label
 unfolding find_room
@@ -120,7 +120,7 @@ pub without_right : (low split label : ℕ) (l r : List Room) → Between low sp
 without_right low split label l r h higher =
     filter-append (λ (r : Room). not (r.label == label)) l r ∙ ap (λ (xs : List Room). xs ++ rooms_without label r) (without_above low split label l h higher)
 
--- ---- what changes nothing
+-- ---- no change
 
 some_none : (n : ℕ) → Some n ≡ None → ⊥
 some_none n e = cc
@@ -128,7 +128,7 @@ some_none n e = cc
 same_size : (m n : ℕ) → Some m ≡ Some n → m ≡ n
 same_size m n e = cc
 
--- as much room is known already
+-- as many bytes are already known
 pub raised_known : (low end label n known : ℕ) (rs : List Room) → Between low end rs → Some known ≡ find_room rs label → n ≤ known → raised rs label n ≡ rs
 unfolding Between find_room raised
 raised_known low end label n known [] h found enough = absurd (some_none known found)
@@ -147,7 +147,6 @@ raised_known low end label n known (r ∷ rs) h found enough =
     by_tests false false is below rest =
         rw (is, below) (ap (λ (xs : List Room). r ∷ xs) (rest (rw is at found)))
 
--- nothing was known
 pub without_unknown : (label : ℕ) (rs : List Room) → find_room rs label ≡ None → rooms_without label rs ≡ rs
 unfolding find_room
 without_unknown label [] none = refl
@@ -157,7 +156,7 @@ without_unknown label (r ∷ rs) none = by_test (r.label == label) refl (without
     by_test true is rest = absurd (some_none r.size (rw is at none))
     by_test false is rest = rw is (ap (λ (xs : List Room). r ∷ xs) (rest (rw is at none)))
 
--- the label's room stands last
+-- the label's room comes last
 pub raised_above : (low split label n : ℕ) (l : List Room) → Between low split l → split ≤ label → raised l label n ≡ l ++ record { label = label; size = n } ∷ []
 unfolding Between raised
 raised_above low split label n [] h higher = refl
@@ -166,9 +165,9 @@ raised_above low split label n (x ∷ l) h higher =
     let behind : nat_lt label x.label ≡ false = le-ltb label x.label (omega (arith, h.1, higher)) in
     rw (other, behind) (ap (λ (xs : List Room). x ∷ xs) (raised_above (x.label + 1) split label n l h.2 higher))
 
--- ---- one room beside the others
+-- ---- one room among others
 
--- what is known behind a label that had no room
+-- the room of a label that had none
 pub found_raised : (label n : ℕ) (rs : List Room) → find_room rs label ≡ None → Some n ≡ find_room (raised rs label n) label
 unfolding find_room raised
 found_raised label n [] none = rw (eq-eqb label label refl) refl
@@ -180,7 +179,6 @@ found_raised label n (r ∷ rs) none = by_tests (r.label == label) (nat_lt label
     by_tests false true is below rest = rw (is, below, eq-eqb label label refl) refl
     by_tests false false is below rest = rw (is, below, is) (rest (rw is at none))
 
--- another label has the room that it had
 pub others_raised : (label other n : ℕ) (rs : List Room) → label ≢ other → find_room (raised rs label n) other ≡ find_room rs other
 unfolding find_room raised
 others_raised label other n [] apart = rw (ne_eqb label other apart) refl
@@ -194,7 +192,6 @@ others_raised label other n (r ∷ rs) apart = by_tests (r.label == label) (nat_
     by_tests false true is below rest = rw (is, below, ne_eqb label other apart) refl
     by_tests false false is below rest = rw (is, below) (ap (λ o. if r.label == other then Some r.size else o) rest)
 
--- a room that is raised twice
 pub raised_twice : (label m n : ℕ) (rs : List Room) → raised (raised rs label m) label n ≡ raised rs label (max m n)
 unfolding raised
 raised_twice label m n [] = rw (eq-eqb label label refl) refl
@@ -208,7 +205,7 @@ raised_twice label m n (r ∷ rs) = by_tests (r.label == label) (nat_lt label r.
     by_tests false true is below rest = rw (is, below, eq-eqb label label refl) refl
     by_tests false false is below rest = rw (is, below, is, below) (ap (λ (xs : List Room). r ∷ xs) rest)
 
--- a room that was put is taken away again
+-- a room added and removed again
 pub without_raised : (label n : ℕ) (rs : List Room) → find_room rs label ≡ None → rooms_without label (raised rs label n) ≡ rs
 unfolding find_room raised
 without_raised label n [] none = rw (eq-eqb label label refl) refl
@@ -221,7 +218,7 @@ without_raised label n (r ∷ rs) none = by_tests (r.label == label) (nat_lt lab
         rw (is, below, eq-eqb label label refl, is) (ap (λ (xs : List Room). r ∷ xs) (without_unknown label rs (rw is at none)))
     by_tests false false is below rest = rw (is, below, is) (ap (λ (xs : List Room). r ∷ xs) (rest (rw is at none)))
 
--- another room is taken away, before or after
+-- another room is removed, before or after
 pub without_other : (low end label other n : ℕ) (rs : List Room) → Between low end rs → label ≢ other → rooms_without other (raised rs label n) ≡ raised (rooms_without other rs) label n
 unfolding Between raised
 without_other low end label other n [] h apart = rw (ne_eqb label other apart) refl

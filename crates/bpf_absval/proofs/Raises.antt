@@ -1,4 +1,4 @@
--- What a raised room keeps.
+-- What raising a room keeps.
 use Rattle.std.proofs.Common.{ℕ, ◌+◌, ◌≤◌, ◌==◌, max, List, [], ◌∷◌, length, Option, Some, None, ap, sym, ◌∙◌, arith, if◌then◌else◌}
 use Rattle.std.specs.Prelude.{nat_lt}
 use Rattle.std.proofs.lemmas.Bool.{eqb-true, cond_both}

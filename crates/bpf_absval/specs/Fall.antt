@@ -6,13 +6,13 @@ use Rattle.bpf_absval.specs.declared.tree.Tree.TheVariants.{Empty, One, Fork}
 use Rattle.bpf_absval.specs.declared.tree.Pair.TheDeep.{deep-Tree}
 use Rattle.bpf_absval.specs.Leaves.{rooms_of, IsFork}
 
--- the measure falls by what lies below the top
+-- the depth is at most the number of rooms plus 1
 below : (t : Tree) → deep-Tree t ≤ length (rooms_of t) + 1
 below Empty = omega arith
 below (One room) = omega arith
 below (Fork pair) = omega arith
 
--- two sides with rooms have together at least as many rooms as either of them is deep
+-- neither side of a fork is deeper than the number of rooms of both
 pub fall : (low split high : ℕ) (l r : Tree) → IsFork low split high (rooms_of l) (rooms_of r) →
     max (deep-Tree l) (max (deep-Tree r) 0) ≤ length (rooms_of l ++ rooms_of r)
 fall low split high l r h =

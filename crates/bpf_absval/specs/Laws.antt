@@ -15,15 +15,15 @@ use Rattle.bpf_absval.specs.Rooms.{find_room, raised, rooms_without}
 use Rattle.bpf_absval.specs.Unlabelled.{unlabelled, slot_unlabelled}
 use Rattle.bpf_absval.specs.Inclusion.{value_included, slot_included}
 
--- ---- inclusion: what the first contains, the second contains
+-- ---- inclusion
 
--- what an abstract value contains is in each one that includes it
+-- each value that an included abstract value contains is in the one that includes it
 abbrev pub ValueKeeps : Type 0
 ValueKeeps =
     (e : Labels) (rooms others : List Room) (a b : AbsVal) (v : Value) → IsVal b →
     value_included rooms others a b ≡ true → Holds e rooms a v → Holds e others b v
 
--- so it is with what a slot of a stack frame holds
+-- so is what a slot of a stack frame holds
 abbrev pub SlotKeeps : Type 0
 SlotKeeps =
     (e : Labels) (rooms others : List Room) (a b : AbsSlot) (f : StackFrame) (i : ℕ) →
@@ -32,22 +32,22 @@ SlotKeeps =
 
 -- ---- a label is forgotten
 
--- two runs' labels name the same places, but for one label
+-- the labels of two runs name the same positions, except one
 pub record AgreeApart (label : ℕ) (e d : Labels) : Type 0 where
   pub setting : d.setting ≡ e.setting
   pub base : (other : ℕ) → other ≢ label → d.base other ≡ e.base other
 
--- the label names another place
+-- the label names another position
 abbrev pub placed : Labels → ℕ → ℕ → Labels
 placed e label at = record e { base = λ l. if l == label then at else e.base l }
 
--- a value stays one of its abstract value when a label is forgotten
+-- forgetting a label loses no value
 abbrev pub ValueForgets : Type 0
 ValueForgets =
     (label : ℕ) (e d : Labels) (rooms : List Room) (a : AbsVal) (v : Value) → AgreeApart label e d →
     Holds e rooms a v → Holds d (rooms_without label rooms) (unlabelled label a) v
 
--- so does what a slot holds
+-- nor what a slot holds
 abbrev pub SlotForgets : Type 0
 SlotForgets =
     (label : ℕ) (e d : Labels) (rooms : List Room) (a : AbsSlot) (f : StackFrame) (i : ℕ) →
@@ -55,11 +55,11 @@ SlotForgets =
     → SlotHolds e rooms a f i →
     SlotHolds d (rooms_without label rooms) (slot_unlabelled label a) f i
 
--- behind a forgotten label no room is known
+-- no room of a forgotten label is known
 abbrev pub NothingBehind : Type 0
 NothingBehind = (label : ℕ) (rooms : List Room) → find_room (rooms_without label rooms) label ≡ None
 
--- a frame pointer at x, from which on the label names x: the others' places stay
+-- a frame pointer at x, if the label comes to name x: the other labels keep their positions
 abbrev pub ValueLabelled : Type 0
 ValueLabelled =
     (label x : ℕ) (e : Labels) (rooms : List Room) (offset : Num) → InNum offset x
@@ -67,16 +67,16 @@ ValueLabelled =
     × Holds (placed e label x) (rooms_without label rooms) (abs.Frame offset
     (Some (record { label = label; distance = 0 }))) (value.Pointer region.Frame x)
 
--- ---- a room is raised to what is there
+-- ---- a room is raised to bytes that exist
 
--- a value stays one of its abstract value when room is noted that the frame has behind a label
+-- raising a room to bytes that the frame has loses no value
 abbrev pub ValueRaises : Type 0
 ValueRaises =
     (label n : ℕ) (e : Labels) (rooms : List Room) (a : AbsVal) (v : Value) →
     e.base label + n ≤ length e.setting.frame → Holds e rooms a v →
     Holds e (raised rooms label n) a v
 
--- so does what a slot holds
+-- nor what a slot holds
 abbrev pub SlotRaises : Type 0
 SlotRaises =
     (label n : ℕ) (e : Labels) (rooms : List Room) (a : AbsSlot) (f : StackFrame) (i : ℕ) →

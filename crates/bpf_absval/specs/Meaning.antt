@@ -22,41 +22,41 @@ use Rattle.bpf_absval.specs.declared.slot.AbsSlot.TheVariants as slot
 use Rattle.bpf_absval.specs.declared.room.Room.{Room}
 use Rattle.bpf_absval.specs.Rooms.{find_room}
 
--- What labels stand for in a run: the setting, and the offset in the frame at which each label's place lies.
+-- What labels stand for in a run: the setting, and the offset in the frame of each label's position.
 pub record Labels : Type 0 where
   pub setting : Setting
   pub base : ℕ → ℕ
 
--- so many bytes of the frame lie behind a place
+-- the frame has that many bytes after the label's position
 abbrev pub RoomHolds : Labels → ℕ → Option ℕ → Type 0
 RoomHolds e label None = Unit {0}
 RoomHolds e label (Some size) = e.base label + size ≤ length e.setting.frame
 
--- a frame pointer's offset x lies that distance behind its label's place, which has the room that is known of it
+-- a frame pointer's offset x is that distance past its label's position, which has the room known of it
 pub record IsLabelled (e : Labels) (rooms : List Room) (l : Label) (x : ℕ) : Type 0 where
   pub word : e.base l.label < 2 ^ 64
   pub far : x ≡ word_add (e.base l.label) l.distance
   pub room : RoomHolds e l.label (find_room rooms l.label)
 
--- the offset x lies as its label says, if it has one
+-- the offset x is as its label says, if it has one
 abbrev pub LabelHolds : Labels → List Room → Option Label → ℕ → Type 0
 LabelHolds e rooms None x = Unit {0}
 LabelHolds e rooms (Some l) x = IsLabelled e rooms l x
 
--- the map of that number has an entry of that index
+-- the map with that number has an entry with that index
 pub record IsEntry (shapes : List Shape) (map index : ℕ) : Type 0 where
   pub shape : Shape
   pub known : slice_get shapes map ≡ Some shape
   pub within : index < shape.entries
 
--- the region of a run is the one that stands here; of a map's entries any one
+-- the abstract region stands for this region of a run; for a map, any of its entries
 abbrev pub RegionHolds : Labels → AbsRegion → Region → Type 0
 RegionHolds e place.Context region.Context = Unit {0}
 RegionHolds e (place.Stack k) (region.Stack j) = k ≡ j
 RegionHolds e (place.Entry m) (region.Entry n index) = (m ≡ n) × IsEntry e.setting.shapes n index
 RegionHolds e a r = ⊥
 
--- v is one of the values that the abstract value stands for; an unset one stands for any
+-- v is one of the values that the abstract value stands for; unset stands for any
 abbrev pub Holds : Labels → List Room → AbsVal → Value → Type 0
 Holds e rooms abs.Unset v = Unit {0}
 Holds e rooms (abs.Number a) (value.Number x) = InNum a x
@@ -70,12 +70,12 @@ Holds e rooms (abs.Lookup m) (value.Pointer (region.Entry n index) x) =
     (m ≡ n) × IsEntry e.setting.shapes n index × (x ≡ 0)
 Holds e rooms a v = ⊥
 
--- the number that bytes spell; unset where some are
+-- the number that bytes spell; unset if some byte is
 abbrev pub number_held : Result ℕ ℕ → Value
 number_held (Ok x) = value.Number x
 number_held (Err cause) = value.Unset
 
--- what the eight bytes of a slot hold: what is spilled there, and else the number that they spell, if all are set
+-- what the eight bytes of a slot hold: the spilled value, or else the number that they spell, if all are set
 abbrev pub held : StackFrame → ℕ → Value
 held f i =
     (if is_unset (slice_index_or f.spills i value.Unset) then number_held (set_bytes f (8 * i) 8)
@@ -86,8 +86,8 @@ abbrev pub is_number : Value → Bool
 is_number (value.Number x) = true
 is_number v = false
 
--- What a run makes of a stack frame: 512 bytes and 64 slots; bytes are below 256; where a value is spilled it is no
--- number, and no byte of its slot is set.
+-- A stack frame of a run: 512 bytes and 64 slots; bytes are below 256; a spilled value is no number, and no byte of its
+-- slot is set.
 pub record IsStackFrame (f : StackFrame) : Type 0 where
   pub bytes : length f.bytes ≡ 512
   pub slots : length f.spills ≡ 64

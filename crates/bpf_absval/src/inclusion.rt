@@ -1,4 +1,4 @@
-//! When one value lies in another: each value of a run that the first contains, the second contains too.
+//! Inclusion of values: a value contains each value of a run that a value included in it contains.
 
 ghost use Rattle.std.specs.Prelude.{◌≡◌};
 ghost use Rattle.bpf_absval.specs.Inclusion.{region_same, room_included, label_included, value_included, bytes_set, slot_included};
@@ -52,7 +52,7 @@ fn keeps_label(rooms: &Rooms, others: &Rooms, known: Option<Label>, needed: Opti
 }
 
 impl AbsVal {
-    /// Whether each value of `self`, in a state with `rooms`, is one of `other`, in a state with `others`.
+    /// Whether `self`, in a state with `rooms`, is included in `other`, in a state with `others`.
     pub fn is_included(&self, other: &AbsVal, rooms: &Rooms, others: &Rooms) -> bool
         ensures { result ≡ value_included rooms.now others.now self.now other.now }
     {
@@ -93,7 +93,7 @@ impl AbsVal {
 }
 
 impl AbsSlot {
-    /// The bytes that are known to be set, byte i by bit i.
+    /// The bytes known to be set: byte i is bit i.
     pub fn set_bytes(&self) -> u8
         ensures { result ≡ bytes_set self.now }
     {
@@ -105,7 +105,7 @@ impl AbsSlot {
         }
     }
 
-    /// Whether each content of `self`, in a state with `rooms`, is one of `other`, in a state with `others`.
+    /// Whether `self`, in a state with `rooms`, is included in `other`, in a state with `others`.
     pub fn is_included(&self, other: &AbsSlot, rooms: &Rooms, others: &Rooms) -> bool
         ensures { result ≡ slot_included rooms.now others.now self.now other.now }
     {

@@ -1,10 +1,10 @@
-//! Abstract values: what a register, or eight bytes of a stack frame, may hold, when one lies in
-//! another, and what is known to lie behind the label of a frame pointer.
+//! Abstract values: what a register, or eight bytes of a stack frame, may hold, when one includes
+//! another, and how many bytes are known to follow the label of a frame pointer.
 //!
-//! Main calls: `AbsVal::is_included`, `AbsSlot::is_included`, `Rooms::raise`. It stands on
-//! `bpf_absnum`. Which values of a run an abstract one contains is said in `specs/Meaning.antt`.
-//! [`laws`] has what each change keeps: what an included value contains, the including one
-//! contains; a label may be forgotten, made anew, or given more room.
+//! Main calls: `AbsVal::is_included`, `AbsSlot::is_included`, `Rooms::raise`. It depends on
+//! `bpf_absnum`. `specs/Meaning.antt` defines which values of a run an abstract value contains.
+//! [`laws`] says what is kept: a value contains all that a value included in it contains; a label
+//! may be forgotten, made anew, or given more room.
 #![tactic(auto)]
 
 pub mod inclusion;

@@ -1,4 +1,4 @@
-//! What is known to lie behind labels.
+//! How many bytes are known to follow labels.
 
 ghost use Rattle.std.specs.Prelude.{◌≡◌, ◌^◌, [], None, OnOk, OnErr, IfOk};
 ghost use Rattle.bpf_absval.specs.Rooms.{find_room, raised, rooms_without, Between};
@@ -8,7 +8,7 @@ use crate::tree::Tree;
 use std::alloc::{AllocError, Global};
 use std::marker::Model;
 
-/// At least `size` bytes of the frame lie behind the place that the label names.
+/// A room: at least `size` bytes of the frame follow the position that the label names.
 #[derive(Clone, Copy, Debug, PartialEq, Eq)]
 pub struct Room {
     pub label: u16,
@@ -16,14 +16,14 @@ pub struct Room {
     pub size: u16,
 }
 
-/// What is known to lie behind labels, at most one room for each, in the order of the labels. A copy shares with the
-/// first what neither has changed since.
+/// The bytes known to follow labels: at most one room per label, in the order of the labels. Copies share the parts
+/// that neither has changed since.
 #[derive(Drop)]
 pub struct Rooms {
     alloc: Global,
     /// The rooms of all labels but the newest.
     tree: Tree,
-    /// The room of the label that came last, which changes most often.
+    /// The room of the last label, which changes most often.
     newest: Option<Room>,
 }
 
@@ -54,7 +54,7 @@ impl Clone for Rooms {
 }
 
 impl Rooms {
-    /// Nothing is known behind any label. It takes no memory.
+    /// Nothing is known of any label. It doesn't allocate.
     pub fn new(alloc: Global) -> Rooms
         ensures { result ≡ [] }
     {
@@ -65,7 +65,7 @@ impl Rooms {
         }
     }
 
-    /// Labels rise from room to room.
+    /// Labels increase from room to room.
     pub fn whole(&self)
         ensures { Between 0 (2 ^ 16) self.now }
     {
@@ -98,7 +98,7 @@ impl Rooms {
         Ok(rooms)
     }
 
-    /// How many bytes are known to lie behind the label's place.
+    /// How many bytes are known to follow the label's position.
     pub fn find(&self, label: u16) -> Option<u16>
         ensures { result ≡ find_room self.now label }
     {
@@ -113,7 +113,7 @@ impl Rooms {
         }
     }
 
-    /// At least `size` bytes lie behind the label's place. Where memory is wanting the rooms stay as they are.
+    /// Records that at least `size` bytes follow the label's position. If allocation fails, the rooms are unchanged.
     pub fn raise(&mut self, label: u16, size: u16) -> Result<(), AllocError>
         ensures ok { OnOk result (self.new ≡ raised self.old label size) }
         ensures err { OnErr result (self.new ≡ self.old) }
@@ -130,7 +130,7 @@ impl Rooms {
         }
     }
 
-    /// Puts a room behind a label that has none.
+    /// Adds a room for a label that has none.
     fn put(&mut self, label: u16, size: u16) -> Result<(), AllocError>
         requires { find_room self.old label ≡ None }
         ensures ok { OnOk result (self.new ≡ raised self.old label size) }
@@ -142,7 +142,7 @@ impl Rooms {
         Ok(())
     }
 
-    /// Raises a room that is there.
+    /// Raises the label's room, or adds one.
     fn raise_known(&mut self, label: u16, size: u16) -> Result<(), AllocError>
         ensures ok { OnOk result (self.new ≡ raised self.old label size) }
         ensures err { OnErr result (self.new ≡ self.old) }
@@ -161,7 +161,7 @@ impl Rooms {
         Ok(())
     }
 
-    /// Nothing is known behind the label any more. Where memory is wanting the rooms stay as they are.
+    /// Removes the label's room. If allocation fails, the rooms are unchanged.
     pub fn forget(&mut self, label: u16) -> Result<(), AllocError>
         ensures ok { OnOk result (self.new ≡ rooms_without label self.old) }
         ensures err { OnErr result (self.new ≡ self.old) }

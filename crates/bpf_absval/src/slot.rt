@@ -9,16 +9,16 @@ use crate::value::AbsVal;
 /// What eight bytes of a stack frame may hold.
 #[derive(Clone, Copy, Debug, PartialEq, Eq)]
 pub enum AbsSlot {
-    /// Anything, and also nothing.
+    /// Anything, even unset.
     Unset,
-    /// A value that was stored whole.
+    /// A value stored whole.
     Stored(AbsVal),
-    /// Byte i is set where bit i is 1.
+    /// Byte i is set if bit i is 1.
     Bytes(u8),
 }
 
 impl AbsSlot {
-    /// The numbers of what is stored are abstract numbers.
+    /// Each number in it is well formed.
     pub fn whole(&self)
         ensures { IsSlot self.now }
     {
@@ -37,7 +37,7 @@ impl AbsSlot {
         }
     }
 
-    /// What is stored without the label, and all else as it is.
+    /// The slot without the label, otherwise unchanged.
     pub fn without_label(self, label: u16) -> AbsSlot
         ensures { result ≡ slot_unlabelled label self }
     {

@@ -1,7 +1,8 @@
-//! Rooms as a binary tree, in the order of their labels. Copies share the parts that none of them has changed since.
+//! Rooms as a binary tree, in the order of their labels. Copies share the parts that none has changed since.
 //!
-//! A fork parts the labels of its span in the middle, and spans are halves of halves of all labels. So a way down has at
-//! most 16 forks, however the labels came. Each side of a fork has a room, so few rooms take few forks.
+//! A fork splits its span of labels in the middle, and spans come from halving the span of all labels. So a path from
+//! the root has at most 16 forks, in whatever order labels were added. Each side of a fork has a room, so few rooms
+//! need few forks.
 
 ghost use Rattle.std.specs.Prelude.{◌≡◌, ◌+◌, ◌<◌, ◌≤◌, List, [], ◌∷◌, ◌++◌, OnOk, IfOk, length, ◌==◌};
 ghost use Rattle.bpf_absval.specs.Rooms.{find_room, raised, rooms_without, Between};
@@ -19,7 +20,7 @@ pub struct Span {
     pub high: u16,
 }
 
-/// Rooms of rising labels.
+/// Rooms of increasing labels.
 #[cycle(rooms)]
 #[derive(Drop)]
 pub enum Tree {
@@ -27,17 +28,17 @@ pub enum Tree {
     Empty,
     /// One.
     One(Room),
-    /// Those of two trees, one after the other.
+    /// Those of two trees, in order.
     Fork(Rc<Pair>),
 }
 
-/// Two trees with some rooms each.
+/// Two trees with at least one room each.
 #[cycle(rooms)]
 #[derive(Drop)]
 pub struct Pair {
-    /// All labels lie in it.
+    /// It contains all labels.
     span: Span,
-    /// The labels on the left lie below it, those on the right do not.
+    /// Labels on the left are below it, those on the right are not.
     split: u16,
     left: Tree,
     right: Tree,
@@ -79,7 +80,7 @@ impl Clone for Tree {
     }
 }
 
-/// The smallest span with both labels that halving leads to, and the first label of its upper half.
+/// The smallest span that halving yields with both labels, and the first label of its upper half.
 fn halved(span: Span, low: u16, high: u16) -> (Span, u16)
     requires begins { span.low ≤ low }
     requires apart { low < high }
@@ -108,7 +109,6 @@ fn halved(span: Span, low: u16, high: u16) -> (Span, u16)
 }
 
 impl Tree {
-    /// Whether it has no rooms.
     fn is_empty(&self) -> bool
         ensures { result ≡ (length (rooms_of self.now) == 0) }
     {
@@ -123,7 +123,7 @@ impl Tree {
         }
     }
 
-    /// The rooms of two trees, which part at `split`, as one tree.
+    /// The rooms of two trees, separated by `split`, as one tree.
     fn joined(
         alloc: Global,
         span: Span,
@@ -152,7 +152,7 @@ impl Tree {
         Ok(Tree::Fork(pair))
     }
 
-    /// The rooms of two trees whose spans lie one behind the other, as one tree.
+    /// The rooms of two trees, whose spans follow each other, as one tree.
     fn side_by_side(
         alloc: Global,
         left: Tree,
@@ -172,13 +172,13 @@ impl Tree {
             high: u16::MAX,
         };
         let (span, middle) = halved(all, before.low, behind.high);
-        // Both spans are halves of halves themselves, so the middle lies between them.
+        // Both spans come from halving, so the middle lies between them.
         let split = middle.max(before.high + 1).min(behind.low);
         let tree = Tree::joined(alloc, span, split, left, right)?;
         Ok(tree)
     }
 
-    /// With a room before all others.
+    /// Adds a room before all others.
     fn with_first(&self, alloc: Global, span: Span, room: Room) -> Result<Tree, AllocError>
         requires within { Between span.low (span.high + 1) (rooms_of self.now) }
         requires some { span.low ≤ span.high }
@@ -194,7 +194,7 @@ impl Tree {
         Ok(tree)
     }
 
-    /// With a room behind all others.
+    /// Adds a room after all others.
     fn with_last(&self, alloc: Global, span: Span, room: Room) -> Result<Tree, AllocError>
         requires within { Between span.low (span.high + 1) (rooms_of self.now) }
         requires some { span.low ≤ span.high }
@@ -210,7 +210,7 @@ impl Tree {
         Ok(tree)
     }
 
-    /// How many bytes are known to lie behind the label's place.
+    /// How many bytes are known to follow the label's position.
     pub fn find(&self, label: u16) -> Option<u16>
         ensures { result ≡ find_room (rooms_of self.now) label }
     {
@@ -232,7 +232,7 @@ impl Tree {
         }
     }
 
-    /// With at least `size` bytes behind the label's place; what lies beside the way to the label is shared.
+    /// Records that at least `size` bytes follow the label's position; all parts off the path to the label are shared.
     pub fn with_room(&self, alloc: Global, label: u16, size: u16) -> Result<Tree, AllocError>
         ensures { IfOk result
             (λ tree. rooms_of tree ≡ raised (rooms_of self.now) label size) }
@@ -288,7 +288,7 @@ impl Tree {
         self.with_last(alloc, span, Room { label, size })
     }
 
-    /// Without the label's room; what lies beside the way to it is shared.
+    /// Removes the label's room; all parts off the path to it are shared.
     pub fn without_room(&self, alloc: Global, label: u16) -> Result<Tree, AllocError>
         ensures { IfOk result
             (λ tree. rooms_of tree ≡ rooms_without label (rooms_of self.now)) }
@@ -317,7 +317,7 @@ impl Tree {
         }
     }
 
-    /// Without the label's room; where it has none, all is shared.
+    /// Removes the label's room; if it has none, all is shared.
     pub fn forgotten(&self, alloc: Global, label: u16) -> Result<Tree, AllocError>
         ensures { IfOk result
             (λ tree. rooms_of tree ≡ rooms_without label (rooms_of self.now)) }

@@ -12,17 +12,17 @@ use bpf_absnum::number::laws::well_formed_law;
 pub enum AbsRegion {
     /// The hook's context of 32 bytes.
     Context,
-    /// The 512 bytes of the stack frame of that number; the main function's is number 0.
+    /// The 512 bytes of the stack frame with that number; the main function's is number 0.
     Stack(u8),
-    /// Some entry of the map of that number.
+    /// Some entry of the map with that number.
     Entry(u32),
 }
 
-/// What is known of a frame pointer with a variable part: it lies `distance` bytes behind the place that the label
+/// What is known of a frame pointer with a variable part: it points `distance` bytes past the position that the label
 /// names.
 #[derive(Clone, Copy, Debug, PartialEq, Eq)]
 pub struct Label {
-    /// The slot of the addition that made the place, and 1.
+    /// The slot of the addition that made the position, plus 1.
     pub label: u16,
     /// 0 to 2400 bytes.
     pub distance: u16,
@@ -31,7 +31,7 @@ pub struct Label {
 /// What a register may hold.
 #[derive(Clone, Copy, Debug, PartialEq, Eq)]
 pub enum AbsVal {
-    /// Anything, and also nothing.
+    /// Anything, even unset.
     Unset,
     /// One of these numbers.
     Number(AbsNum),
@@ -47,9 +47,9 @@ pub enum AbsVal {
     },
     /// The end of the received frame.
     FrameEnd,
-    /// The map of that number.
+    /// The map with that number.
     MapReference(u32),
-    /// What helper 1 answers for that map, not yet tested: 0, or a pointer to the start of an entry.
+    /// The untested result of helper 1 for that map: 0, or a pointer to the start of an entry.
     Lookup(u32),
 }
 
@@ -78,7 +78,7 @@ fn dropped(known: Option<Label>, label: u16) -> Option<Label>
 }
 
 impl AbsVal {
-    /// The value's numbers are abstract numbers.
+    /// Each number in it is well formed.
     pub fn whole(&self)
         ensures { IsVal self.now }
     {
@@ -100,7 +100,7 @@ impl AbsVal {
         }
     }
 
-    /// The value without the label, and as it is if it has another one or none.
+    /// The value without the label; unchanged if it has another one or none.
     pub fn without_label(self, label: u16) -> AbsVal
         ensures { result ≡ unlabelled label self }
     {

@@ -1,4 +1,4 @@
--- What the operations on intervals of signed words keep.
+-- The operations on signed intervals contain every result.
 use Rattle.std.proofs.Common.{ℕ, suc, ◌≡◌, ◌+◌, ◌-◌, ◌*◌, ◌/◌, ◌%◌, ◌^◌, ◌<◌, ◌≤◌, refl, sym, ap, subst, ◌∙◌, arith, ⊎_elim, true, Some, None, Option, ◌||◌, pos}
 use Rattle.std.proofs.Math.IntN.{negsuc, ◌+ℤ◌}
 use mir.Val.{sel}
@@ -57,7 +57,7 @@ signed_reads l h x p q fits = (
   }),
 )
 
--- ---- the step between the two readings
+-- ---- narrowing by the other signedness
 
 one_sign : (a : Bounds) (x : ℕ) → (nat_lt a.high (2 ^ 63) || nat_le (2 ^ 63) a.low) ≡ true → InBounds a x → InBounds (bounds (place a.low) (place a.high)) (place x)
 one_sign a x t h =
@@ -79,7 +79,7 @@ unsigned_narrow_keeps a b x fits h k =
 
 -- ---- sums and differences
 
--- from both ends, where both are in range
+-- from both ends, if both are in range
 between_contains : (l h : Option ℕ) (n : ℕ) → n < 2 ^ 64 → ((m k : ℕ) → l ≡ Some m → h ≡ Some k → InBounds (bounds m k) n) → InBounds (between l h) n
 between_contains None h n fits f = record { above = omega arith; below = omega arith; fits = omega arith }
 between_contains (Some l) None n fits f = record { above = omega arith; below = omega arith; fits = omega arith }
@@ -148,7 +148,7 @@ order_by_cases f x y p q h low high both =
     (λ xh. ⊎_elim (λ yl. both xh yl) (λ yh. high xh yh (omega arith)) (cases_lt y (2 ^ 63)))
     (cases_lt x (2 ^ 63))
 
--- the ends' results are the ends of the results
+-- the results lie between the results at the ends
 pub at_ends_contains : (f : ℕ → ℕ) → KeepsOrder f → (a : Bounds) (x : ℕ) → x < 2 ^ 64 → InSigned a x → InSigned (at_ends f a) (f x)
 at_ends_contains f keeps a x fits h = record {
   above = keeps (word_at a.low) x (omega arith) fits (omega (arith, h.above, h.below, h.fits));
@@ -156,7 +156,7 @@ at_ends_contains f keeps a x fits h = record {
   fits = omega arith;
 }
 
--- ---- the shift that copies the sign
+-- ---- arithmetic right shift
 
 sar_low : (c x : ℕ) → x < 2 ^ 63 → shifted_right_signed 64 x c ≡ x / 2 ^ (c % 64)
 sar_low c x h = cond-true (nat_lt x (2 ^ 63)) _ _ (lt-ltb x (2 ^ 63) h)
@@ -212,7 +212,7 @@ remainder_high : (c x : ℕ) → 1 ≤ c → c < 2 ^ 63 → 2 ^ 63 ≤ x → sig
 remainder_high c x some small h =
     rw (le-ltb x (2 ^ 63) h, lt-ltb c (2 ^ 63) small, ne_eqb c 0 (λ z. omega arith)) refl
 
--- a remainder lies less than c from 0, on the side of what was divided
+-- a remainder lies less than c from 0, on the dividend's side
 remainder_sides : (c x : ℕ) → 1 ≤ c → c < 2 ^ 63 → x < 2 ^ 64
     → (2 ^ 63 - (c - 1) ≤ place (signed_remainder 64 x c)) × (place (signed_remainder 64 x c) ≤ 2 ^ 63 + (c - 1))
     × (2 ^ 63 ≤ place x → 2 ^ 63 ≤ place (signed_remainder 64 x c)) × (place x ≤ 2 ^ 63 → place (signed_remainder 64 x c) ≤ 2 ^ 63)
@@ -244,7 +244,7 @@ rem_contains a c x some small fits h =
       fits = cond_both (nat_le a.high (2 ^ 63)) (2 ^ 63) (2 ^ 63 + (c - 1)) (λ u. u < 2 ^ 64) (λ _. omega arith) (λ _. omega arith);
     }
 
--- ---- low bits with their sign
+-- ---- sign extension
 
 half_of : (n : ℕ) → 1 ≤ n → 2 ^ n ≡ 2 * 2 ^ (n - 1)
 half_of n some = let e : suc (n - 1) ≡ n = omega arith in omega (arith, ap (λ k. 2 ^ k) e, pow-suc 2 (n - 1))

@@ -1,7 +1,7 @@
--- Intervals of words: which words they stand for, and what the operations on them give.
+-- Intervals of words: which words they stand for, and what the operations on them return.
 use Rattle.std.specs.Prelude.{ℕ, ◌+◌, ◌-◌, ◌*◌, ◌/◌, ◌^◌, ◌<◌, ◌≤◌, min, max, nat_lt, nat_le, nat_eq, Bool, ◌&&◌, if◌then◌else◌, Option, Some, None}
 
--- the words from the lowest to the highest, both included
+-- the words from low to high, both included
 pub record Bounds : Type 0 where
   pub low : ℕ
   pub high : ℕ
@@ -20,51 +20,51 @@ bounds l h = record { low = l; high = h }
 abbrev pub bounds_full : Bounds
 bounds_full = record { low = 0; high = 2 ^ 64 - 1 }
 
--- sums; all words where one might wrap
+-- sums; all words if one might wrap
 abbrev pub bounds_add : Bounds → Bounds → Bounds
 bounds_add a b =
     (if nat_lt (a.high + b.high) (2 ^ 64)
     then bounds (a.low + b.low) (a.high + b.high) else bounds_full)
 
--- differences; all words where one might wrap
+-- differences; all words if one might wrap
 abbrev pub bounds_sub : Bounds → Bounds → Bounds
 bounds_sub a b =
     (if nat_le b.high a.low then bounds (a.low - b.high) (a.high - b.low) else bounds_full)
 
--- bitwise AND is at most each of both
+-- bitwise AND is at most each operand
 abbrev pub bounds_and : Bounds → Bounds → Bounds
 bounds_and a b = bounds 0 (min a.high b.high)
 
--- bitwise OR is at least each of both
+-- bitwise OR is at least each operand
 abbrev pub bounds_or : Bounds → Bounds → Bounds
 bounds_or a b = bounds (max a.low b.low) (2 ^ 64 - 1)
 
--- products; all words where one might wrap
+-- products; all words if one might wrap
 abbrev pub bounds_mul : Bounds → Bounds → Bounds
 bounds_mul a b =
     (if nat_lt (a.high * b.high) (2 ^ 64)
     then bounds (a.low * b.low) (a.high * b.high) else bounds_full)
 
--- a quotient by 0 is 0
+-- quotients; a quotient by 0 is 0
 abbrev pub bounds_div : Bounds → Bounds → Bounds
 bounds_div a b =
     (if nat_le 1 b.low then bounds (a.low / b.high) (a.high / b.low) else bounds 0 a.high)
 
--- a remainder by 0 is what was divided
+-- remainders; a remainder by 0 is the dividend
 abbrev pub bounds_rem : Bounds → Bounds → Bounds
 bounds_rem a b = (if nat_le 1 b.low then bounds 0 (min a.high (b.high - 1)) else bounds 0 a.high)
 
--- shifts by one count
+-- left shifts by one count; all words if a bit may be lost
 abbrev pub bounds_shl : Bounds → ℕ → Bounds
 bounds_shl a c =
     (if nat_le a.high ((2 ^ 64 - 1) / 2 ^ c)
     then bounds (a.low * 2 ^ c) (a.high * 2 ^ c) else bounds_full)
 
--- shifts to the right by one count
+-- right shifts by one count
 abbrev pub bounds_shr : Bounds → ℕ → Bounds
 bounds_shr a c = bounds (a.low / 2 ^ c) (a.high / 2 ^ c)
 
--- the low 32 bits
+-- the low 32 bits; all 32-bit words if a word is greater
 abbrev pub bounds_cut : Bounds → Bounds
 bounds_cut a = (if nat_lt a.high (2 ^ 32) then a else bounds 0 (2 ^ 32 - 1))
 
@@ -72,17 +72,17 @@ bounds_cut a = (if nat_lt a.high (2 ^ 32) then a else bounds 0 (2 ^ 32 - 1))
 unfoldable pub bounds_of_bits : ℕ → Bounds
 bounds_of_bits n = bounds 0 (2 ^ n - 1)
 
--- ---- what a branch tells
+-- ---- refinement by branches
 
--- the interval of two ends, if it has a word
+-- the interval between two ends, if not empty
 abbrev pub ordered : ℕ → ℕ → Option Bounds
 ordered l h = (if nat_le l h then Some (bounds l h) else None)
 
--- both are one word
+-- the intersection
 abbrev pub bounds_meet : Bounds → Bounds → Option Bounds
 bounds_meet a b = ordered (max a.low b.low) (min a.high b.high)
 
--- the first is greater
+-- the first is greater than the second
 abbrev pub after_greater : Bounds → Bounds → Option (Bounds × Bounds)
 after_greater a b =
     (if nat_lt b.low a.high

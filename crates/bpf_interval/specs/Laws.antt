@@ -1,23 +1,23 @@
--- What it is for an operation to contain all results, and for a refinement to keep all that takes its branch.
+-- Soundness: an operation contains all results, and a refinement keeps all that takes its branch.
 use Rattle.std.specs.Prelude.{ℕ, ℤ, ◌≡◌, ◌%◌, ◌^◌, ◌<◌, ◌≤◌, true, Option, Some, ◌↔◌, ◌<ℤ◌, ◌≤ℤ◌, FitsSigned}
 use Rattle.std.specs.Int.{cast_signed, w64}
 use Rattle.bpf_words.specs.Word.{shifted_right_signed, signed_quotient, signed_remainder, sign_extended}
 use Rattle.bpf_interval.specs.Interval.{Bounds, InBounds, bounds_meet, bounds_cut, bounds_of_bits, bounds_included, without_end}
 use Rattle.bpf_interval.specs.Signed.{InSigned, place, narrowed, signed_bounds, signed_sar, signed_div, signed_rem, signed_of_bits}
 
--- f contains each result of g on words
+-- f over-approximates g on words
 abbrev pub ContainsResults : (Bounds → Bounds → Bounds) → (ℕ → ℕ → ℕ) → Type 0
 ContainsResults f g =
     (a b : Bounds) (x y : ℕ) → x < 2 ^ 64 → y < 2 ^ 64 → InBounds a x →
     InBounds b y → InBounds (f a b) (g x y)
 
--- the same for intervals of signed words
+-- the same for signed intervals
 abbrev pub ContainsSigned : (Bounds → Bounds → Bounds) → (ℕ → ℕ → ℕ) → Type 0
 ContainsSigned f g =
     (a b : Bounds) (x y : ℕ) → x < 2 ^ 64 → y < 2 ^ 64 → InSigned a x →
     InSigned b y → InSigned (f a b) (g x y)
 
--- the low 32 bits of each word of a are in what a is cut to
+-- the low 32 bits of each word of a are in bounds_cut a
 abbrev pub CutContains : Type 0
 CutContains = (a : Bounds) (x : ℕ) → InBounds a x → InBounds (bounds_cut a) (x % 2 ^ 32)
 
@@ -25,7 +25,7 @@ CutContains = (a : Bounds) (x : ℕ) → InBounds a x → InBounds (bounds_cut a
 abbrev pub WidthContains : Type 0
 WidthContains = (n x : ℕ) → n ≤ 64 → x < 2 ^ n → InBounds (bounds_of_bits n) x
 
--- a word of both is in what both meet in
+-- a word of both is in their intersection
 abbrev pub MeetKeeps : Type 0
 MeetKeeps =
     (a b : Bounds) (x : ℕ) → InBounds a x → InBounds b x →
@@ -37,7 +37,7 @@ KeepsPairs f R =
     (a b : Bounds) (x y : ℕ) → InBounds a x → InBounds b y → R x y →
     (r : Bounds × Bounds) × (f a b ≡ Some r) × InBounds r.0 x × InBounds r.1 y
 
--- a word other than c is still there when c is taken from an end
+-- removing c keeps every other word
 abbrev pub WithoutKeeps : Type 0
 WithoutKeeps =
     (a : Bounds) (c x : ℕ) → InBounds a x → (x ≡ c → ⊥) →
@@ -62,17 +62,17 @@ abbrev pub SignedReads : Type 0
 SignedReads = (l h : ℤ) (x : ℕ) → FitsSigned w64 l → FitsSigned w64 h → x < 2 ^ 64
     → InSigned (signed_bounds l h) x ↔ ((l ≤ℤ cast_signed w64 x) × (cast_signed w64 x ≤ℤ h))
 
--- the word at the place of a word is that word
+-- `place` is its own inverse
 abbrev pub PlaceTwice : Type 0
 PlaceTwice = (x : ℕ) → x < 2 ^ 64 → place (place x) ≡ x
 
--- what an unsigned interval tells of a signed one, and the other way round
+-- a word of both stays if the unsigned interval narrows the signed one
 abbrev pub SignedNarrowKeeps : Type 0
 SignedNarrowKeeps =
     (a b : Bounds) (x : ℕ) → InBounds a x → InSigned b x →
     (r : Bounds) × (narrowed a b ≡ Some r) × InSigned r x
 
--- a word of both stays where the signed interval narrows the unsigned one
+-- a word of both stays if the signed interval narrows the unsigned one
 abbrev pub UnsignedNarrowKeeps : Type 0
 UnsignedNarrowKeeps =
     (a b : Bounds) (x : ℕ) → x < 2 ^ 64 → InSigned a x → InBounds b x →
@@ -96,7 +96,7 @@ RemContains =
     (a : Bounds) (c x : ℕ) → 1 ≤ c → c < 2 ^ 63 → x < 2 ^ 64 → InSigned a x →
     InSigned (signed_rem a c) (signed_remainder 64 x c)
 
--- a word of n bits with its sign is one of the signed numbers of n bits, and each of those is its own low n bits with sign
+-- the sign extension of n bits is one of the signed numbers of n bits
 abbrev pub ExtensionContains : Type 0
 ExtensionContains = (n x : ℕ) → 1 ≤ n → n ≤ 64 → InSigned (signed_of_bits n) (sign_extended 64 n x)
 

@@ -1,5 +1,5 @@
-//! What every operation keeps, each law on a function with nothing to do: the results of the members are members of the
-//! result, and what takes a branch is kept by its refinement.
+//! Each operation contains every result of the machine's operation on members, and each refinement keeps what takes its
+//! branch. Each law's function does nothing.
 
 ghost use Rattle.std.specs.Prelude.{ℕ, ◌*◌, ◌/◌, ◌%◌, ◌^◌, ◌<◌, ◌≤◌, bit_and, bit_or};
 ghost use Rattle.bpf_words.specs.Word.{word_add, word_sub, quotient, remainder};
@@ -23,7 +23,8 @@ pub fn arithmetic_law()
     ensures width { WidthContains }
 {}
 
-/// Each refinement keeps what takes its branch, and then gives something. Inclusion means that each member is a member.
+/// Each refinement returns `Some` if anything takes its branch, and keeps all that does. Each member of an included
+/// interval is a member of the other.
 pub fn refinement_law()
     ensures meet { MeetKeeps }
     ensures greater { KeepsPairs after_greater (λ x y. y < x) }
@@ -32,16 +33,16 @@ pub fn refinement_law()
     ensures included { IncludedKeeps }
 {}
 
-/// Places stand in the order of the signed numbers, so that the words of a signed interval are those that read as numbers
-/// between its ends.
+/// `place` is its own inverse, and orders words as signed numbers. So the words of a signed interval are those that
+/// read as numbers between its ends.
 pub fn place_law()
     ensures order { PlacesOrder }
     ensures twice { PlaceTwice }
     ensures reads { SignedReads }
 {}
 
-/// Each operation on signed intervals contains every result of the machine's operation, and what an interval of the other
-/// reading tells loses no member.
+/// Each operation on signed intervals contains every result of the machine's operation. Narrowing by an interval of the
+/// other signedness loses no common member.
 pub fn signed_law()
     ensures narrow_signed { SignedNarrowKeeps }
     ensures narrow_unsigned { UnsignedNarrowKeeps }

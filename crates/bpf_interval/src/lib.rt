@@ -1,10 +1,10 @@
-//! Intervals of words of 64 bits, unsigned and signed.
+//! Intervals of 64-bit words, unsigned and signed.
 //!
 //! Main calls: the operations of `Interval` and `SignedInterval`, and their refinements `greater`,
-//! `at_most`, `without`. It stands on `bpf_tnum` and `bpf_words`. Each operation answers its
-//! definition in `specs/`. That it contains each result of the machine's operation, and that a
-//! refinement keeps all that takes its branch, is said by the laws of [`laws`]. No call takes
-//! memory.
+//! `at_most`, `without`. It depends on `bpf_tnum` and `bpf_words`. Each operation returns what its
+//! definition in `specs/` says. The laws of [`laws`] say that it contains every result of the
+//! machine's operation, and that a refinement keeps every word that takes its branch. No call
+//! allocates.
 #![tactic(auto)]
 
 pub mod laws;
@@ -75,7 +75,7 @@ impl Interval {
         self.low <= number && number <= self.high
     }
 
-    /// The sums (ADD), all words where one may wrap.
+    /// The sums (ADD), or all words if one may wrap.
     pub fn add(self, other: Interval) -> Interval
         ensures { result ≡ bounds_add self other }
     {
@@ -88,7 +88,7 @@ impl Interval {
         }
     }
 
-    /// The differences (SUB), all words where one may wrap.
+    /// The differences (SUB), or all words if one may wrap.
     pub fn sub(self, other: Interval) -> Interval
         ensures { result ≡ bounds_sub self other }
     {
@@ -102,21 +102,21 @@ impl Interval {
         }
     }
 
-    /// AND: at most the lesser of both.
+    /// AND: from 0 to the lesser upper end.
     pub fn and(self, other: Interval) -> Interval
         ensures { result ≡ bounds_and self other }
     {
         Interval::new(0, self.high.min(other.high))
     }
 
-    /// OR: at least the greater of both.
+    /// OR: at least the greater lower end.
     pub fn or(self, other: Interval) -> Interval
         ensures { result ≡ bounds_or self other }
     {
         Interval::new(self.low.max(other.low), u64::MAX)
     }
 
-    /// The products (MUL), all words where one may wrap.
+    /// The products (MUL), or all words if one may wrap.
     pub fn mul(self, other: Interval) -> Interval
         ensures { result ≡ bounds_mul self other }
     {
@@ -129,7 +129,7 @@ impl Interval {
         }
     }
 
-    /// The quotients (DIV), where a quotient by 0 is 0.
+    /// The quotients (DIV); a quotient by 0 is 0.
     pub fn div(self, other: Interval) -> Interval
         ensures { result ≡ bounds_div self other }
     {
@@ -146,7 +146,7 @@ impl Interval {
         }
     }
 
-    /// The remainders (MOD), where a remainder by 0 is what was divided.
+    /// The remainders (MOD); a remainder by 0 is the dividend.
     pub fn rem(self, other: Interval) -> Interval
         ensures { result ≡ bounds_rem self other }
     {
@@ -158,7 +158,7 @@ impl Interval {
         Interval { low: 0, high }
     }
 
-    /// LSH by `count`, below 64, all words where a bit may be lost.
+    /// LSH by `count`, below 64; all words if a bit may be lost.
     pub fn shift_left(self, count: u32) -> Interval
         requires { count < 64 }
         ensures { result ≡ bounds_shl self count }
@@ -184,7 +184,7 @@ impl Interval {
         }
     }
 
-    /// The low 32 bits: all words of 32 bits where a word is greater.
+    /// The low 32 bits; all 32-bit words if a word is greater.
     pub fn cut(self) -> Interval
         ensures { result ≡ bounds_cut self }
     {
@@ -210,7 +210,7 @@ impl Interval {
         }
     }
 
-    /// The words of both.
+    /// The intersection, or `None` if it is empty.
     pub fn meet(self, other: Interval) -> Option<Interval>
         ensures { result ≡ bounds_meet self other }
     {
@@ -223,7 +223,7 @@ impl Interval {
         }
     }
 
-    /// What is left of both where the first is greater than the second.
+    /// Refines both by the first being greater than the second; `None` if it can't be.
     pub fn greater(self, other: Interval) -> Option<(Interval, Interval)>
         ensures { result ≡ after_greater self other }
     {
@@ -243,7 +243,7 @@ impl Interval {
         }
     }
 
-    /// What is left of both where the first is at most the second.
+    /// Refines both by the first being at most the second; `None` if it can't be.
     pub fn at_most(self, other: Interval) -> Option<(Interval, Interval)>
         ensures { result ≡ after_at_most self other }
     {
@@ -263,7 +263,7 @@ impl Interval {
         }
     }
 
-    /// What is left where the word isn't `number`: an end that equals it moves by one.
+    /// Refines by the word not being `number`: an end that equals it moves by one. `None` if no word remains.
     pub fn without(self, number: u64) -> Option<Interval>
         ensures { result ≡ without_end self number }
     {

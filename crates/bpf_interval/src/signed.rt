@@ -12,8 +12,8 @@ use std::marker::Model;
 /// The place of 0.
 const HALF: u64 = 1 << 63;
 
-/// The words that lie between two ends, both included, when read as signed. They are kept by their places: a word with
-/// its sign bit flipped stands where the signed number stands in order.
+/// The words between two ends, both included, read as signed. They are kept as places: a word's place is the word with
+/// its sign bit flipped, so places are in signed order.
 #[derive(Clone, Copy, Debug, PartialEq, Eq)]
 pub struct SignedInterval {
     places: Interval,
@@ -27,7 +27,7 @@ impl Model for SignedInterval {
     ghost inverse = { λ b. record { places = b } };
 }
 
-/// What `other` keeps where `range`, which is read the other way, has one sign.
+/// Intersects `other` with `range`, which has the other signedness. If `range` has both signs, it returns `other`.
 fn narrowed_by(range: Interval, other: Interval) -> Option<Interval>
     ensures { result ≡ narrowed range other }
 {
@@ -69,7 +69,6 @@ impl SignedInterval {
         SignedInterval::between(low.cast_unsigned(), high.cast_unsigned())
     }
 
-    /// From one word to another.
     fn between(low: u64, high: u64) -> SignedInterval
         requires { place low ≤ place high }
         ensures { result ≡ bounds (place low) (place high) }
@@ -79,14 +78,14 @@ impl SignedInterval {
         }
     }
 
-    /// The least of the signed numbers.
+    /// The least signed number.
     pub fn low(self) -> i64
         ensures { place (word_of result) ≡ self.low }
     {
         signed_order_64(self.places.low()).cast_signed()
     }
 
-    /// The greatest of the signed numbers.
+    /// The greatest signed number.
     pub fn high(self) -> i64
         ensures { place (word_of result) ≡ self.high }
     {
@@ -129,7 +128,7 @@ impl SignedInterval {
         self.places.contains(signed_order_64(number))
     }
 
-    /// The sums (ADD), all words where an end would be out of range.
+    /// The sums (ADD), or all words if an end is out of range.
     #[tactic(auto, unfolding(crate::specs::Signed::signed_add))]
     pub fn add(self, other: SignedInterval) -> SignedInterval
         ensures { result ≡ signed_add self other }
@@ -145,7 +144,7 @@ impl SignedInterval {
         }
     }
 
-    /// The differences (SUB), all words where an end would be out of range.
+    /// The differences (SUB), or all words if an end is out of range.
     #[tactic(auto, unfolding(crate::specs::Signed::signed_sub))]
     pub fn sub(self, other: SignedInterval) -> SignedInterval
         ensures { result ≡ signed_sub self other }
@@ -161,7 +160,7 @@ impl SignedInterval {
         }
     }
 
-    /// ARSH by one count, taken mod 64.
+    /// ARSH by `count` mod 64.
     #[tactic(auto, unfolding(crate::specs::Signed::signed_sar))]
     pub fn shift_right(self, count: u64) -> SignedInterval
         ensures { result ≡ signed_sar self count }
@@ -174,7 +173,7 @@ impl SignedInterval {
         )
     }
 
-    /// SDIV by one divisor.
+    /// SDIV by `divisor`, 1 to 2^63 - 1.
     #[tactic(auto, unfolding(crate::specs::Signed::signed_div))]
     pub fn div(self, divisor: u64) -> SignedInterval
         requires positive { 1 ≤ divisor }
@@ -189,7 +188,7 @@ impl SignedInterval {
         )
     }
 
-    /// SMOD by one divisor.
+    /// SMOD by `divisor`, 1 to 2^63 - 1.
     #[tactic(auto, unfolding(crate::specs::Signed::signed_rem))]
     pub fn rem(self, divisor: u64) -> SignedInterval
         requires positive { 1 ≤ divisor }
@@ -212,7 +211,7 @@ impl SignedInterval {
         }
     }
 
-    /// The words of both.
+    /// The intersection, or `None` if it is empty.
     pub fn meet(self, other: SignedInterval) -> Option<SignedInterval>
         ensures { result ≡ bounds_meet self other }
     {
@@ -220,7 +219,7 @@ impl SignedInterval {
         Some(SignedInterval { places })
     }
 
-    /// What is left of both where the first, read as signed, is greater than the second.
+    /// Refines both by the first, read as signed, being greater than the second; `None` if it can't be.
     pub fn greater(self, other: SignedInterval) -> Option<(SignedInterval, SignedInterval)>
         ensures { result ≡ after_greater self other }
     {
@@ -231,7 +230,7 @@ impl SignedInterval {
         ))
     }
 
-    /// What is left of both where the first, read as signed, is at most the second.
+    /// Refines both by the first, read as signed, being at most the second; `None` if it can't be.
     pub fn at_most(self, other: SignedInterval) -> Option<(SignedInterval, SignedInterval)>
         ensures { result ≡ after_at_most self other }
     {
@@ -242,7 +241,7 @@ impl SignedInterval {
         ))
     }
 
-    /// What is left where the word isn't `number`: an end that equals it moves by one.
+    /// Refines by the word not being `number`: an end that equals it moves by one. `None` if no word remains.
     pub fn without(self, number: u64) -> Option<SignedInterval>
         ensures { result ≡ without_end self (place number) }
     {
@@ -257,7 +256,7 @@ impl SignedInterval {
         self.places.is_included(other.places)
     }
 
-    /// What is left of `self` where the word is also in `range`: `range` is read as signed where it has one sign.
+    /// Intersects `self` with `range`, read as signed. `None` if that is empty; `self` if `range` has both signs.
     pub fn narrow(self, range: Interval) -> Option<SignedInterval>
         ensures { result ≡ narrowed range self }
     {
@@ -267,7 +266,7 @@ impl SignedInterval {
 }
 
 impl Interval {
-    /// What is left of `self` where the word is also in `signed`: `signed` is read as unsigned where it has one sign.
+    /// Intersects `self` with `signed`, read as unsigned. `None` if that is empty; `self` if `signed` has both signs.
     pub fn narrow(self, signed: SignedInterval) -> Option<Interval>
         ensures { result ≡ narrowed signed self }
     {

@@ -1,4 +1,4 @@
--- What changes of a state leave of its place and its call chain.
+-- Changes that keep a state's slot and call chain.
 use Rattle.std.proofs.Common.{◌≡◌, ℕ, zero, suc, inl, inr, List, [], ◌∷◌, length, map, refl, sym, ◌∙◌, ap, subst, arith, Option, Some, None, true, false, Bool, slice_index_or, length-set, ℤ, Result, Ok, Err}
 use Rattle.std.specs.Prelude.{◌==◌, if◌then◌else◌}
 use Rattle.std.specs.List.{All}
@@ -29,7 +29,7 @@ use Rattle.bpf_rules.proofs.Outcomes.{okay-same, refused-okay, unless_ok, either
 abbrev pub Returns : List (Option Insn) → List CallFrame → Type 0
 Returns slots fs = All (λ f. Begins slots f.return_slot) fs
 
--- b stands where a stands, and its functions return to where those of a do
+-- b has the slot of a, and its functions have the return slots of those of a
 pub record Keeps (a b : View) : Type 0 where
   pub pc : b.pc ≡ a.pc
   pub count : length b.frames ≡ length a.frames
@@ -38,7 +38,7 @@ pub record Keeps (a b : View) : Type 0 where
 pub Keeps-self : (a : View) → Keeps a a
 Keeps-self a = record { pc = refl; count = refl; returns = λ slots zero h. h }
 
--- the frame of any number returns to an instruction
+-- each frame returns to an instruction
 pub returns_at : (slots : List (Option Insn)) (fs : List CallFrame) (k : ℕ) → Begins slots 0 → Returns slots fs → Begins slots (slice_index_or fs k main_frame).return_slot
 returns_at slots [] k start h = start
 returns_at slots (f ∷ fs) zero start h = h 0 main_frame (omega arith)

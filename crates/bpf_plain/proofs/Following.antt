@@ -1,4 +1,4 @@
--- In a plain program each way is one step of a walk.
+-- In a plain program each successor is one step of a walk.
 use Rattle.std.proofs.Common.{◌≡◌, ℕ, ◌+◌, refl, sym, ◌∙◌, ap, subst, Option, Some, None, false, ℤ, Result, Ok}
 use Rattle.std.specs.Prelude.{◌==◌, if◌then◌else◌}
 use Rattle.bpf_insn.specs.declared.insn.Insn.{Insn}

@@ -43,7 +43,6 @@ forward_jump : (k t : ℕ) (x : ℤ) → pos 0 ≤ℤ x → IsJump k x t → k <
 forward_jump k t (pos n) h e = let same : t ≡ k + 1 + n = pos-same t (k + 1 + n) e in omega (arith, same)
 forward_jump k t (negsuc n) h e = absurd h.le
 
--- in a plain program control goes forward
 pub forward : (slots : List (Option Insn)) → IsPlain slots → (k t : ℕ) → Follows slots k t → k < t
 forward slots plain k t (Falls i at go e) = let p = size_pos i in omega (arith, p, e)
 forward slots plain k t (Jumps i x at j to) = forward_jump k t x (plain_jump i x (plain.operations k i at) j) to
@@ -106,7 +105,6 @@ path_exits slots k [] h (suc n) last long e = absurd (omega (arith, long))
 path_exits slots k (t ∷ rest) h zero last long e = absurd (omega (arith, long))
 path_exits slots k (t ∷ rest) h (suc n) last long e = path_exits slots t rest h.1 n last (omega (arith, long)) e
 
--- a path from slot 0 is a walk
 pub path_walk : (slots : List (Option Insn)) (rest : List ℕ) → IsPath slots 0 rest → IsWalk slots (0 ∷ rest)
 path_walk slots rest h = record { starts = refl; follows = path_follows slots 0 rest h; exits = path_exits slots 0 rest h }
 

@@ -1,4 +1,4 @@
--- Registers that are read on some way before they are written.
+-- Registers that are read on some path before they are written.
 use Rattle.std.specs.Prelude.{◌≡◌, ℕ, List, [], ◌∷◌, length, Option}
 use Rattle.bpf_insn.specs.declared.insn.Insn.{Insn}
 use Rattle.bpf_decode.specs.Program.{Holds, Begins}
@@ -9,16 +9,15 @@ use Rattle.bpf_absstate.specs.View.{View}
 use Rattle.bpf_absstate.specs.View.{register}
 use Rattle.bpf_plain.specs.Walks.{Follows, Reads, Writes}
 
--- on the path from slot k over these slots the register is read at the last one, and not written before
+-- on the path from slot k over these slots, the last one reads the register, and none before it writes it
 unfoldable pub IsNeeded : List (Option Insn) → ℕ → ℕ → List ℕ → Type 0
 IsNeeded slots r k [] = (i : Insn) × Holds slots k i × Reads i r
 IsNeeded slots r k (t ∷ rest) = (i : Insn) × Holds slots k i × (Writes i r → ⊥) × Follows slots k t × IsNeeded slots r t rest
 
--- a value is a number
 abbrev pub IsNumber : AbsVal → Type 0
 IsNumber v = (n : Num) × (v ≡ Number n)
 
--- the state stands in the main function at an instruction, and what is needed there is known to be a number
+-- the state is in the main function at an instruction, and each register needed there is known to be a number
 pub record IsReady (slots : List (Option Insn)) (a : View) : Type 0 where
   pub begins : Begins slots a.pc
   pub size : length a.registers ≡ 11

@@ -62,7 +62,7 @@ no_place = None
 no_place-place : (n : ℕ) → no_place ≡ Some n → ⊥
 no_place-place n e = cc
 
--- before the last slot of the path nothing writes the register
+-- nothing before the last slot of the path writes the register
 needed_unwritten : (slots : List (Option Insn)) (r k : ℕ) (rest tail : List ℕ) → IsNeeded slots r k rest → (m : ℕ) → m < length rest → WritesAt slots (k ∷ (rest ++ tail)) m r → ⊥
 unfolding IsNeeded
 needed_unwritten slots r k [] tail h m small w = absurd (omega (arith, small))
@@ -97,7 +97,7 @@ needed_here : (slots : List (Option Insn)) (r k : ℕ) (i : Insn) → Holds slot
 unfolding IsNeeded
 needed_here slots r k i at reads = (i, at, reads)
 
--- ---- states whose numbers are those of another, and perhaps more
+-- ---- states with the numbers of another, and perhaps more
 
 record HasMore (a b : View) : Type 0 where
   size : length b.registers ≡ length a.registers
@@ -120,7 +120,7 @@ has_register a b d n small h = record {
 abbrev done : Ways → Result Ways Fault
 done w = Ok w
 
--- a way on: the state there is ready, and lies ahead
+-- a successor: it is ready, and at a later slot
 record GoesTo (slots : List (Option Insn)) (a x : View) : Type 0 where
   ready : IsReady slots x
   ahead : a.pc < x.pc
@@ -129,13 +129,13 @@ abbrev WayGoes : List (Option Insn) → View → Option View → Type 0
 WayGoes slots a None = Unit {0}
 WayGoes slots a (Some x) = GoesTo slots a x
 
--- what the instruction at a ready state makes of it
+-- the successors of a ready state
 data Step (c : Code) (a : View) : Type 0 where
   Last : (i : Insn) → Holds c.slots a.pc i → examined c.shapes i a ≡ Ok Nowhere → Step c a
   Straight : (i : Insn) (x : View) → Holds c.slots a.pc i → examined c.shapes i a ≡ Ok (One x) → GoesTo c.slots a x → Step c a
   Parted : (i : Insn) (x y : View) → Holds c.slots a.pc i → examined c.shapes i a ≡ Ok (Two x y) → is_conditional (Some i) ≡ true → GoesTo c.slots a x → GoesTo c.slots a y → Step c a
 
--- operations of numbers are numbers
+-- operations on numbers give numbers
 alu_moves : (pc : ℕ) (w : Bool) (x : AbsVal) (n : Num) → (k : Num) × (alu pc alu.Mov w x (Number n) ≡ Ok (Number k))
 alu_moves pc w x n = (_, refl)
 
@@ -154,7 +154,7 @@ no_label alu.Sub m n = refl
 no_label op m n = refl
 
 module _ (c : Code) (whole : IsWhole c) (plain : IsPlain c.slots) (a : View) (ready : IsReady c.slots a) (i : Insn) (at : Holds c.slots a.pc i) where
-  -- no register but d is written
+  -- only register d is written
   goes_with : (d t : ℕ) (n : Num) → Follows c.slots a.pc t → d ≤ 10 → ((r : ℕ) → Writes i r → r ≡ d) → GoesTo c.slots a (at_slot (with_register a d (Number n)) t)
   goes_with d t n f small only =
       let has = has_register a a d n (let s = ready.size in omega (arith, s, small)) (has_itself a) in
@@ -171,7 +171,6 @@ module _ (c : Code) (whole : IsWhole c) (plain : IsPlain c.slots) (a : View) (re
         ahead = forward c.slots plain a.pc t f;
       }
 
-  -- nothing is written
   goes_same : (b : View) (t : ℕ) → HasMore a b → Follows c.slots a.pc t → ((r : ℕ) → Writes i r → ⊥) → GoesTo c.slots a (at_slot b t)
   goes_same b t has f none =
       record {
@@ -195,26 +194,23 @@ module _ (c : Code) (whole : IsWhole c) (plain : IsPlain c.slots) (a : View) (re
   compared_number w (source.Imm n) reads = (_, refl)
   compared_number w (source.Reg r) reads = reads_number r (reads r refl)
 
-  -- an operation whose result is put into a register
   puts : (d n : ℕ) (m : Num) → ends i ≡ false → size_of i ≡ n → d ≤ 10 → ((r : ℕ) → Writes i r → r ≡ d) → examined c.shapes i a ≡ put a n d (Number m) → Step c a
   puts d n m go size small only e =
       Straight i (at_slot (with_register a d (Number m)) (a.pc + n)) at e
       (goes_with d (a.pc + n) m (Falls i at go (ap (λ k. a.pc + k) (sym size))) small only)
 
-  -- an operation on a number
   puts_number : (d r : ℕ) (f : Num → Num) → Reads i r → ends i ≡ false → size_of i ≡ 1 → d ≤ 10 → ((t : ℕ) → Writes i t → t ≡ d) →
       examined c.shapes i a ≡ put_number a d f (register a r) → Step c a
   puts_number d r f reads go size small only e =
       let n = reads_number r reads in
       puts d 1 (f n.0) go size small only (e ∙ ap (put_number a d f) n.1)
 
-  -- a jump that is always taken
   jumps : (x : ℤ) → jump_of i ≡ Some x → ((r : ℕ) → Writes i r → ⊥) → examined c.shapes i a ≡ done (One (at_slot a (landing a.pc x))) → Step c a
   jumps x j unwritten e =
       let to = whole.jumps a.pc i x at j in
       Straight i (at_slot a (landing a.pc x)) at e (goes_same a (landing a.pc x) (has_itself a) (Jumps i x at j (subst (IsJump a.pc x) (lands a.pc to.0 x to.1) to.1)) unwritten)
 
-  -- both ways, one of them, or none
+  -- both branches, one of them, or none
   parted : (o q : Option View) (m n : ℕ) → is_conditional (Some i) ≡ true → WayGoes c.slots a (moved_to m o) → WayGoes c.slots a (moved_to n q) →
       examined c.shapes i a ≡ done (ways (moved_to m o) (moved_to n q)) → Step c a
   parted None None m n one g h e = Last i at e
@@ -233,7 +229,6 @@ module _ (c : Code) (whole : IsWhole c) (plain : IsPlain c.slots) (a : View) (re
       goes_same (with_source (with_register a d (Number p.0)) from p.1) t
       (source_more (with_register a d (Number p.0)) from p.1 valid (has_register a a d p.0 (let s = ready.size in omega (arith, s, small)) (has_itself a))) f none
 
-  -- a conditional jump on numbers
   branches : (w : Bool) (k : Compare) (d : ℕ) (from : Source) (x : ℤ) (m n : Num) → d ≤ 10 → IsSource from → jump_of i ≡ Some x → ends i ≡ false → size_of i ≡ 1 →
       is_conditional (Some i) ≡ true → ((r : ℕ) → Writes i r → ⊥) →
       examined c.shapes i a ≡ done (branched a x (number_ways a w k d from m n)) → Step c a
@@ -313,7 +308,6 @@ IsClear-le c a m n less (Ends a2 m2 i at e le) = Ends a n i at e (omega (arith, 
 IsClear-le c a m n less (Goes a2 m2 i x k at e h le) = Goes a n i x k at e h (omega (arith, le, less))
 IsClear-le c a m n less (Parts a2 m2 i x y k l at e h g le) = Parts a n i x y k l at e h g (omega (arith, le, less))
 
--- a plain program meets at most 2^22 states, and no fault
 pub plain_clear : (c : Code) → IsWhole c → IsPlain c.slots → IsClear c entry_view (2 ^ 22)
 plain_clear c whole plain =
     IsClear-le c entry_view (room c.slots 0) (2 ^ 22) (room_start c.slots plain.few whole.short)

@@ -1,4 +1,4 @@
--- A bound on the states that are met from a slot of a program whose jumps lead forward.
+-- A bound on the states met from a slot of a program whose jumps go forward.
 use Rattle.std.proofs.Common.{◌≡◌, ℕ, zero, suc, ◌+◌, ◌-◌, ◌*◌, ◌^◌, ◌<◌, ◌≤◌, List, [], ◌∷◌, length, sym, ◌∙◌, ap, subst, arith, Option, Some, None, slice_get, true, cond, drop, get_or}
 use Rattle.std.specs.Prelude.{count_by}
 use Rattle.std.proofs.lemmas.List.Sums.{sum_by-drop_more, sum_by-take-drop}
@@ -12,7 +12,7 @@ use Rattle.bpf_plain.specs.Walks.{is_conditional}
 abbrev conditionals : List (Option Insn) → ℕ → ℕ
 conditionals slots k = count_by is_conditional (drop k slots)
 
--- twice as many for each conditional jump, and one for each slot
+-- the slots from k on, doubled for each conditional jump
 abbrev pub room : List (Option Insn) → ℕ → ℕ
 room slots k = 2 ^ conditionals slots k * (length slots - k)
 
@@ -73,7 +73,7 @@ room_some slots k inside =
     let a = grows 0 (2 ^ conditionals slots k) 0 (length slots - k) (omega arith) (power_some (conditionals slots k)) (omega (arith, inside)) in
     omega (arith, a)
 
--- 256 ways of 16384 slots
+-- 256 paths of 16384 slots
 pub room_start : (slots : List (Option Insn)) → count_by is_conditional slots ≤ 8 → length slots ≤ 16384 → room slots 0 ≤ 2 ^ 22
 room_start slots few short =
     let p : 2 ^ conditionals slots 0 ≤ 256 = pow_mono {j = 8} few in

@@ -1,4 +1,4 @@
--- Ways lead from instructions to instructions.
+-- Successors of a state at an instruction are at instructions.
 use Rattle.std.proofs.Common.{◌≡◌, ℕ, zero, suc, ◌+◌, ◌-◌, ◌<◌, inl, inr, [], ◌∷◌, length, refl, sym, ◌∙◌, ap, subst, arith, Option, Some, None, true, false, Bool, slice_index_or, ℤ, Result, Ok, Err}
 use Rattle.std.specs.Prelude.{◌==◌, nat_lt, if◌then◌else◌}
 use Rattle.std.proofs.lemmas.List.Elements.{All-append, All-take}
@@ -34,12 +34,12 @@ use Rattle.bpf_rules.proofs.Outcomes.{okay-same, refused-okay, either_ok, on_ok}
 abbrev done : Ways → Result Ways Fault
 done w = Ok w
 
--- what is before a value is put keeps the chain
+-- forgetting a label keeps the chain
 pub before_keep : (a : View) (op : _) (x y : AbsVal) → Keeps a (before_put a op x y)
 before_keep a op x y = Keeps-either (makes_label op x y) a _ _ (Keeps-label a a (a.pc + 1) (Keeps-self a)) (Keeps-self a)
 
 module _ (c : Code) (whole : IsWhole c) (a : View) (h : Stands c.slots a) where
-  -- a state of the same chain at an instruction
+  -- a state with that chain at an instruction
   stands_at : (b : View) (pc : ℕ) → Keeps a b → Begins c.slots pc → Stands c.slots (at_slot b pc)
   stands_at b pc k begins = record { begins = begins; returns = k.returns c.slots whole.first h.returns }
 

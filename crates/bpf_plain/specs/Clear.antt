@@ -1,4 +1,4 @@
--- Programs whose abstract states, with no regard to finished ones, are few and free of faults.
+-- Programs with few abstract states, even without pruning, and no faults.
 use Rattle.std.specs.Prelude.{◌≡◌, ℕ, ◌+◌, ◌≤◌, Ok}
 use Rattle.bpf_insn.specs.declared.insn.Insn.{Insn}
 use Rattle.bpf_decode.specs.Program.{Code, Holds}
@@ -6,7 +6,7 @@ use Rattle.bpf_absstate.specs.View.{View}
 use Rattle.bpf_rules.specs.declared.ways.Ways.TheVariants.{Nowhere, One, Two}
 use Rattle.bpf_rules.specs.Examined.{examined}
 
--- The states that are reached from a, each counted once for every way to it, are at most n, and none of them meets a fault.
+-- At most n states are reached from a, each counted once for each path to it, and none of them meets a fault.
 pub data IsClear (c : Code) : View → ℕ → Type 0 where
   Ends : (a : View) (n : ℕ) (i : Insn) → Holds c.slots a.pc i →
       examined c.shapes i a ≡ Ok Nowhere → 1 ≤ n → IsClear c a n

@@ -1,4 +1,4 @@
--- What the rules of examination are good for, whatever values are.
+-- What the rules say whatever the values are.
 use Rattle.std.specs.Prelude.{◌≡◌, ℕ, ◌^◌, Ok}
 use Rattle.bpf_insn.specs.declared.insn.Insn.{Insn}
 use Rattle.bpf_decode.specs.Program.{Code, Begins, Holds, IsWhole}
@@ -10,18 +10,18 @@ use Rattle.bpf_plain.specs.Paths.{Reaches}
 use Rattle.bpf_plain.specs.Standing.{Stands, EachWay, IsMain, IsNextOf}
 use Rattle.bpf_plain.specs.Walks.{IsPlain, HasWalk}
 
--- ways lead from instructions to instructions
+-- successors of a state at an instruction are at instructions
 abbrev pub WaysStand : Type 0
 WaysStand =
     (c : Code) (i : Insn) (a : View) (w : Ways) → IsWhole c → Holds c.slots a.pc i →
     Stands c.slots a → examined c.shapes i a ≡ Ok w →
     EachWay w (Stands c.slots)
 
--- the start stands at an instruction
+-- the entry is at an instruction
 abbrev pub EntryStands : Type 0
 EntryStands = (c : Code) → IsWhole c → Stands c.slots entry_view
 
--- in a plain program each way is one step of a walk
+-- in a plain program each successor is one step of a walk
 abbrev pub WaysFollow : Type 0
 WaysFollow =
     (c : Code) (i : Insn) (a : View) (w : Ways) → IsWhole c → IsPlain c.slots →
@@ -37,6 +37,6 @@ PlainReaches =
 abbrev pub PathsWalk : Type 0
 PathsWalk = (c : Code) (n : ℕ) → Reaches c.slots 0 n → HasWalk c.slots n
 
--- a plain program meets at most 2^22 states, each counted once for every way to it, and no fault
+-- a plain program meets at most 2^22 states, each counted once for each path to it, and no fault
 abbrev pub PlainIsClear : Type 0
 PlainIsClear = (c : Code) → IsWhole c → IsPlain c.slots → IsClear c entry_view (2 ^ 22)

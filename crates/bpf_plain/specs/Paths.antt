@@ -5,7 +5,7 @@ use Rattle.bpf_insn.specs.declared.insn.Insn.TheVariants as insn
 use Rattle.bpf_decode.specs.Program.{Holds}
 use Rattle.bpf_plain.specs.Walks.{Follows}
 
--- these are the slots after k of a path from k to an EXIT
+-- these are the slots after k on a path from k to an EXIT
 unfoldable pub IsPath : List (Option Insn) → ℕ → List ℕ → Type 0
 IsPath slots k [] = Holds slots k insn.Exit
 IsPath slots k (t ∷ rest) = Follows slots k t × IsPath slots t rest

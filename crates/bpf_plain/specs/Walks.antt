@@ -11,7 +11,8 @@ use Rattle.bpf_insn.specs.declared.insn.Wide.TheVariants as wide
 use Rattle.bpf_decode.specs.Flow.{jump_of, IsJump, size_of, ends, written}
 use Rattle.bpf_decode.specs.Program.{Holds}
 
--- Control goes from slot k to slot t, whatever the values are: to the next instruction, or where this one jumps (RFC 9669 section 4.3).
+-- Control may go from slot k to slot t, ignoring values: to the next instruction, or to a jump's target (RFC 9669
+-- section 4.3).
 pub data Follows (slots : List (Option Insn)) (k t : ℕ) : Type 0 where
   Falls : (i : Insn) → Holds slots k i → ends i ≡ false → t ≡ k + size_of i → Follows slots k t
   Jumps : (i : Insn) (x : ℤ) → Holds slots k i → jump_of i ≡ Some x →
@@ -41,11 +42,12 @@ abbrev pub ReadsAtomic : AtomicOp → ℕ → Type 0
 ReadsAtomic atomic.Cmpxchg r = r ≡ 0
 ReadsAtomic op r = ⊥
 
--- lookup takes a map in R1 and an index in R2, note a number in R1
+-- lookup reads a map in R1 and an index in R2, note a number in R1
 abbrev pub ReadsHelper : ℤ → ℕ → Type 0
 ReadsHelper helper r = (helper ≡ pos 1) × ((r ≡ 1) ⊎ (r ≡ 2)) ⊎ (helper ≡ pos 5) × (r ≡ 1)
 
--- which registers an instruction reads (RFC 9669 sections 4 and 5); EXIT reads R0, and a local call only hands registers on
+-- which registers an instruction reads (RFC 9669 sections 4 and 5); EXIT reads R0, and a local call only passes
+-- registers on
 abbrev pub Reads : Insn → ℕ → Type 0
 Reads (insn.Alu alu.Mov w d s) r = ReadsSource s r
 Reads (insn.Alu op w d s) r = (r ≡ d) ⊎ ReadsSource s r
@@ -69,7 +71,7 @@ Writes (insn.Call helper) r = r ≡ 0
 Writes (insn.Atomic atomic.Cmpxchg w d s x) r = r ≡ 0
 Writes i r = written i ≡ Some r
 
--- what stands at the n-th place of a walk reads the register
+-- the instruction at index n of a walk reads the register
 pub record ReadsAt (slots : List (Option Insn)) (walk : List ℕ) (n r : ℕ) : Type 0 where
   pub slot : ℕ
   pub insn : Insn
@@ -77,7 +79,7 @@ pub record ReadsAt (slots : List (Option Insn)) (walk : List ℕ) (n r : ℕ) : 
   pub stands : Holds slots slot insn
   pub reads : Reads insn r
 
--- what stands at the n-th place of a walk writes the register
+-- the instruction at index n of a walk writes the register
 pub record WritesAt (slots : List (Option Insn)) (walk : List ℕ) (n r : ℕ) : Type 0 where
   pub slot : ℕ
   pub insn : Insn
@@ -85,7 +87,7 @@ pub record WritesAt (slots : List (Option Insn)) (walk : List ℕ) (n r : ℕ) :
   pub stands : Holds slots slot insn
   pub writes : Writes insn r
 
--- jumps lead forward; of wide loads those of numbers
+-- jumps go forward; wide loads are of numbers
 abbrev pub IsPlainInsn : Insn → Type 0
 IsPlainInsn (insn.Alu op w d s) = Unit {0}
 IsPlainInsn (insn.MovSx from w d s) = Unit {0}
@@ -98,13 +100,13 @@ IsPlainInsn insn.Exit = Unit {0}
 IsPlainInsn (insn.LoadWide d (wide.Number n)) = Unit {0}
 IsPlainInsn _ = ⊥
 
--- a conditional jump stands there
+-- a conditional jump
 abbrev pub is_conditional : Option Insn → Bool
 is_conditional (Some (insn.Branch compare w d s x)) = true
 is_conditional o = false
 
--- A plain program, given that it is well formed: arithmetic, wide loads of numbers, forward jumps, at most 8 of them conditional, and EXIT;
--- on every walk each register that is read was written earlier on that walk.
+-- A plain program, given that it is well formed: arithmetic, wide loads of numbers, forward jumps, at most 8 of them
+-- conditional, and EXIT; on every walk each register that is read was written earlier on that walk.
 pub record IsPlain (slots : List (Option Insn)) : Type 0 where
   pub operations : (k : ℕ) (i : Insn) → Holds slots k i → IsPlainInsn i
   pub few : count_by is_conditional slots ≤ 8

@@ -1,4 +1,4 @@
--- Where a jump leads, in the words of decoding, of the machine and of the examination.
+-- The target of a jump, in terms of decoding, of the machine and of the examination.
 use Rattle.std.proofs.Common.{◌≡◌, ℕ, ◌+◌, ◌-◌, ◌≤◌, ℤ, pos, negsuc, ◌+ℤ◌, refl, ap, arith, Some, None, cond}
 use Rattle.std.proofs.lemmas.Bool.{le-leb}
 use Rattle.std.proofs.lemmas.Int.{ints}

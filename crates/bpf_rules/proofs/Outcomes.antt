@@ -1,4 +1,4 @@
--- What an outcome without a fault says.
+-- What an outcome without a fault implies.
 use Rattle.std.proofs.Common.{◌≡◌, ◌⊎◌, inl, inr, refl, Bool, true, false, Option, Some, None, Result, Ok, Err}
 use Rattle.std.specs.Prelude.{if◌then◌else◌}
 use Rattle.bpf_rules.specs.declared.fault.Fault.{Fault}

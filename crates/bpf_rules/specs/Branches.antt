@@ -1,4 +1,5 @@
--- Conditional jumps on abstract states (RFC 9669 section 4.3): which ways are visited, and what each teaches.
+-- Conditional jumps on abstract states (RFC 9669 section 4.3): which branches are visited, and how each refines the
+-- state.
 use Rattle.std.specs.Prelude.{ℕ, ◌+◌, ◌%◌, ◌^◌, ◌==◌, nat_le, Bool, true, false, not, ◌&&◌, if◌then◌else◌, Option, Some, None, Result, Ok, Err}
 use Rattle.bpf_insn.specs.declared.insn.Compare.{Compare}
 use Rattle.bpf_insn.specs.declared.insn.Compare.TheVariants.{Eq, Ne, Gt, Ge, Lt, Le}
@@ -17,7 +18,7 @@ use Rattle.bpf_rules.specs.declared.fault.Fault.{Fault}
 use Rattle.bpf_rules.specs.declared.fault.Fault.TheVariants as fault
 use Rattle.bpf_rules.specs.Operands.{wrong_two}
 
--- the state on the way that isn't taken and on the way that is, at the jump itself; None where a way is not visited
+-- the states on the branch not taken and on the one taken, both still at the jump; None if a branch isn't visited
 abbrev pub Split : Type 0
 Split = Option View × Option View
 
@@ -34,68 +35,68 @@ abbrev pub is_itself : ℕ → Source → Bool
 is_itself dst (source.Imm i) = false
 is_itself dst (source.Reg r) = r == dst
 
--- what is left of both operands; of a register beside itself that isn't one word, all
+-- what remains of both operands; a register compared with itself is refined only if it is one word
 abbrev pub narrowed : Bool → Compare → Bool → Bool → Num → Num → Option (Num × Num)
 narrowed wide compare itself taken x y =
     (if itself && not (is_single x) then Some (x, y) else num_branch wide compare taken x y)
 
--- the source has what is left of it, if it is a register
+-- refines the source, if it is a register
 abbrev pub with_source : View → Source → Num → View
 with_source a (source.Imm i) y = a
 with_source a (source.Reg r) y = with_register a r (Number y)
 
--- both operands have what is left of them
+-- refines both operands
 abbrev pub narrowed_state : View → ℕ → Source → Num → Num → View
 narrowed_state a dst s x y = with_source (with_register a dst (Number x)) s y
 
--- a way that no pair of operands takes isn't visited
+-- a branch that no pair of operands takes isn't visited
 abbrev pub with_operands : View → ℕ → Source → Option (Num × Num) → Option View
 with_operands a dst s None = None
 with_operands a dst s (Some p) = Some (narrowed_state a dst s p.0 p.1)
 
--- the way on which numbers compare so, or don't
+-- the branch on which numbers compare so, or don't
 abbrev pub number_way : View → Bool → Compare → Bool → ℕ → Source → Num → Num → Option View
 number_way a wide compare taken dst s x y =
     with_operands a dst s (narrowed wide compare (is_itself dst s) taken x y)
 
--- both ways: the jump isn't taken, and it is
+-- both branches: the jump isn't taken, and it is
 abbrev pub number_ways : View → Bool → Compare → ℕ → Source → Num → Num → Split
 number_ways a wide compare dst s x y =
     (number_way a wide compare false dst s x y, number_way a wide compare true dst s x y)
 
 -- ---- tests for null: a pointer is never 0
 
--- whether the immediate 0 is tested for by JEQ or JNE, and then whether the jump is taken where the register is not 0
+-- for JEQ and JNE with the immediate 0: whether the jump is taken if the register isn't 0
 abbrev pub null_test : Compare → Bool → Option Bool
 null_test Eq zero = (if zero then Some false else None)
 null_test Ne zero = (if zero then Some true else None)
 null_test compare zero = None
 
--- the way on which the register is not 0, and the way on which it is
+-- both branches, from that on which the register isn't 0 (taken or not) and that on which it is
 abbrev pub by_null : Bool → Option View → Option View → Split
 by_null taken set null = (if taken then (null, set) else (set, null))
 
--- a lookup's answer is 0, or points to the start of an entry
+-- a lookup result is 0, or points to the start of an entry
 abbrev pub lookup_ways : View → ℕ → ℕ → Option Bool → Result Split Fault
 lookup_ways a dst map None = Err fault.NotTested
 lookup_ways a dst map (Some taken) =
     Ok (by_null taken (Some (with_register a dst (Pointer (place.Entry map) (num_single 0))))
     (Some (with_register a dst (Number (num_single 0)))))
 
--- a pointer goes the way of what isn't 0; no other comparison of one is defined
+-- a pointer takes the branch of what isn't 0; no other comparison of a pointer with a number is defined
 abbrev pub pointer_ways : View → Option Bool → Result Split Fault
 pointer_ways a None = Err fault.WrongOperand
 pointer_ways a (Some taken) = Ok (by_null taken (Some a) None)
 
 -- ---- tests of a frame pointer against the frame end
 
--- what a way teaches: nothing, that the offset is at most the length, or that it is below it
+-- what a branch tells: nothing, that the offset is at most the length, or that it is below it
 pub data Lesson : Type 0 where
   Nothing : Lesson
   AtMost : Lesson
   Below : Lesson
 
--- the comparison with its sides turned
+-- the comparison with its sides swapped
 abbrev pub turned : Compare → Option Compare
 turned Gt = Some Lt
 turned Ge = Some Le
@@ -103,7 +104,7 @@ turned Lt = Some Gt
 turned Le = Some Ge
 turned compare = None
 
--- what the way teaches on which a pointer compares so with the end, or doesn't
+-- what a branch tells on which a pointer compares so with the end, or doesn't
 abbrev pub lesson : Compare → Bool → Lesson
 lesson Gt taken = (if taken then Nothing else AtMost)
 lesson Ge taken = (if taken then Nothing else Below)
@@ -111,35 +112,35 @@ lesson Lt taken = (if taken then Below else Nothing)
 lesson Le taken = (if taken then AtMost else Nothing)
 lesson compare taken = Nothing
 
--- the room behind a label's place, where no offset lies before the place
+-- raises the label's room, if no offset is before its position
 abbrev pub with_reach : View → Num → Option Label → ℕ → View
 with_reach a offset None more = a
 with_reach a offset (Some l) more =
     (if nat_le l.distance offset.range.low then with_room a l.label (l.distance + more) else a)
 
--- the frame has at least the least offset and `more` bytes; no frame has above 2400
+-- the frame has at least the least offset plus `more` bytes; None if that exceeds 2400
 abbrev pub learnt : View → Num → Option Label → ℕ → Option View
 learnt a offset l more =
     (if nat_le (offset.range.low + more) 2400
     then Some (with_reach (with_least a (offset.range.low + more)) offset l more) else None)
 
--- the way with its lesson; nothing where that asks for a frame of more than 2400 bytes
+-- the branch, refined; None if it would need a frame of more than 2400 bytes
 abbrev pub taught : View → Num → Option Label → Lesson → Option View
 taught a offset l Nothing = Some a
 taught a offset l AtMost = learnt a offset l 0
 taught a offset l Below = learnt a offset l 1
 
--- both ways of a comparison with the frame end, each with its lesson
+-- both branches of a comparison with the frame end, refined
 abbrev pub end_ways : View → Num → Option Label → Compare → Split
 end_ways a offset l compare =
     (taught a offset l (lesson compare false), taught a offset l (lesson compare true))
 
--- a frame pointer is compared with the frame end by the unsigned orders alone
+-- only the unsigned orders may compare a frame pointer with the frame end
 abbrev pub end_test : View → Num → Option Label → Option Compare → Result Split Fault
 end_test a offset l None = Err fault.WrongOperand
 end_test a offset l (Some compare) = Ok (end_ways a offset l compare)
 
--- the unsigned orders alone
+-- only the unsigned orders
 abbrev pub is_order : Compare → Option Compare
 is_order Gt = Some Gt
 is_order Ge = Some Ge
@@ -162,12 +163,12 @@ wide_ways a compare dst s (Frame offset l) FrameEnd = end_test a offset l (is_or
 wide_ways a compare dst s FrameEnd (Frame offset l) = end_test a offset l (turned compare)
 wide_ways a compare dst s x y = Err (wrong_two x y)
 
--- JMP32 compares numbers alone
+-- JMP32 compares only numbers
 abbrev pub narrow_ways : View → Compare → ℕ → Source → AbsVal → AbsVal → Result Split Fault
 narrow_ways a compare dst s (Number x) (Number y) = Ok (number_ways a false compare dst s x y)
 narrow_ways a compare dst s x y = Err (wrong_two x y)
 
--- the ways of a conditional jump
+-- the branches of a conditional jump
 abbrev pub split : View → Bool → Compare → ℕ → Source → Result Split Fault
 split a wide compare dst s =
     (if wide then wide_ways a compare dst s (register a dst) (compared_value true a s)

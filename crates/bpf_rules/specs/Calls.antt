@@ -16,7 +16,7 @@ abbrev pub looked_up : AbsVal → AbsVal → Result AbsVal Fault
 looked_up (MapReference map) (Number index) = Ok (Lookup map)
 looked_up a b = Err (wrong_two a b)
 
--- what a helper answers
+-- a helper's result
 abbrev pub helped : View → ℕ → Result AbsVal Fault
 helped a helper =
     (if helper == 1 then looked_up (register a 1) (register a 2)
@@ -24,7 +24,7 @@ helped a helper =
     else (if helper == 5 then on (number (register a 1)) (λ x. Ok (Number (num_single 0)))
     else Ok (Number num_full))))
 
--- after a helper call R0 has its answer, and R1 to R5 are unset
+-- after a helper call R0 has its result, and R1 to R5 are unset
 abbrev pub answered : View → AbsVal → View
 answered a v = record a { pc = a.pc + 1; registers = without_arguments (slice_set a.registers 0 v) }
 
@@ -33,7 +33,7 @@ abbrev pub call : View → ℕ → Result View Fault
 call a to =
     (if nat_lt (length a.frames) 8 then Ok (called a to (a.pc + 1)) else Err fault.TooManyFrames)
 
--- EXIT wants a number in R0
+-- EXIT needs a number in R0
 abbrev pub exit_number : AbsVal → Result Num Fault
 exit_number (Number n) = Ok n
 exit_number v = Err (if is_unset v then fault.Unset else fault.NoResult)

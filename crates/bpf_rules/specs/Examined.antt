@@ -1,4 +1,4 @@
--- What one instruction makes of an abstract state: the ways on, or the fault that is met first.
+-- What one instruction makes of an abstract state: its successors, or the fault that is met first.
 use Rattle.std.specs.Prelude.{ℕ, ◌+◌, ◌-◌, ◌==◌, ℤ, pos, negsuc, if◌then◌else◌, List, length, Option, Some, None, Result, Ok}
 use Rattle.bpf_insn.specs.declared.insn.AluOp.{AluOp}
 use Rattle.bpf_insn.specs.declared.insn.AtomicOp.{AtomicOp}
@@ -23,12 +23,12 @@ use Rattle.bpf_rules.specs.Memory.{load, store, atomic, next_pc}
 use Rattle.bpf_rules.specs.Branches.{Split, split}
 use Rattle.bpf_rules.specs.Calls.{helped, answered, call, exit_number}
 
--- where a jump leads, counted from the slot after its own
+-- the target of a jump, counted from the slot after it
 abbrev pub landing : ℕ → ℤ → ℕ
 landing pc (pos n) = pc + 1 + n
 landing pc (negsuc n) = pc - n
 
--- n slots on, with a value in a register
+-- n slots further, with a value in a register
 abbrev pub put : View → ℕ → ℕ → AbsVal → Result Ways Fault
 put a n dst v = Ok (One (at_slot (with_register a dst v) (a.pc + n)))
 
@@ -36,7 +36,7 @@ put a n dst v = Ok (One (at_slot (with_register a dst v) (a.pc + n)))
 abbrev pub put_number : View → ℕ → (Num → Num) → AbsVal → Result Ways Fault
 put_number a dst f v = on (number v) (λ x. put a 1 dst (Number (f x)))
 
--- a frame pointer with a new label: what other values had of that label is forgotten
+-- before a frame pointer gets a new label, the state forgets that label
 abbrev pub before_put : View → AluOp → AbsVal → AbsVal → View
 before_put a op x y = (if makes_label op x y then without_label a (a.pc + 1) else a)
 
@@ -44,23 +44,23 @@ before_put a op x y = (if makes_label op x y then without_label a (a.pc + 1) els
 abbrev pub operated : View → AluOp → ℕ → AbsVal → AbsVal → AbsVal → Result Ways Fault
 operated a op dst x y v = put (before_put a op x y) 1 dst v
 
--- the ways that are visited
+-- the branches that are visited
 abbrev pub ways : Option View → Option View → Ways
 ways None None = Nowhere
 ways (Some x) None = One x
 ways None (Some y) = One y
 ways (Some x) (Some y) = Two x y
 
--- a way that is visited goes on at that slot
+-- a branch that is visited goes on at that slot
 abbrev pub moved_to : ℕ → Option View → Option View
 moved_to pc None = None
 moved_to pc (Some a) = Some (at_slot a pc)
 
--- the next slot where a jump isn't taken, and its target where it is
+-- the next slot if a jump isn't taken, and its target if it is
 abbrev pub branched : View → ℤ → Split → Ways
 branched a by s = ways (moved_to (a.pc + 1) s.0) (moved_to (landing a.pc by) s.1)
 
--- the main function's EXIT leads nowhere, any other to its caller
+-- the main function's EXIT has no successor, any other returns to its caller
 abbrev pub exited : View → Ways
 exited a = (if length a.frames == 1 then Nowhere else One (returned a))
 

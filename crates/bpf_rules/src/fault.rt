@@ -26,7 +26,7 @@ pub enum Fault {
     StackPointerStored,
     /// 38: R0 isn't a number at EXIT.
     NoResult,
-    /// 40: memory was refused. It says nothing of the program.
+    /// 40: an allocation failed, which says nothing of the program.
     NoMemory,
 }
 

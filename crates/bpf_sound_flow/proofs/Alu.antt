@@ -1,4 +1,4 @@
--- What an operation makes of values that hold.
+-- Operations on contained values.
 use Rattle.std.proofs.Common.{◌≡◌, ℕ, List, ◌+◌, ◌^◌, ◌%◌, Bool, true, false, not, true≢false, Option, Some, Result, Ok, refl, sym, subst, if◌then◌else◌}
 use Rattle.bpf_insn.specs.declared.insn.AluOp.{AluOp}
 use Rattle.bpf_insn.specs.declared.insn.AluOp.TheVariants.{Add, Sub, Mov}
@@ -20,24 +20,24 @@ use Rattle.bpf_rules.specs.Operands.{is_unset, numbers, sum, difference, moved, 
 use Rattle.bpf_rules.proofs.Outcomes.{refused-okay, okay-same}
 use Rattle.bpf_sound_flow.proofs.Labels.{Moves, add_moves, sub_moves, is_low, label_moves}
 
--- what is made holds, once a label of its own names its place
+-- the result is contained, if a new label names its position
 abbrev pub Made : Labels → List Room → ℕ → Bool → AbsVal → Value → Type 0
 Made e rooms pc false v x = Holds e rooms v x
 Made e rooms pc true v x = (o : Num) × (n : ℕ) × (v ≡ Frame o (Some (record { label = pc + 1; distance = 0 }))) × (x ≡ value.Pointer region.Frame n) × InNum o n
 
--- an operation of the machine gives a value for which v holds
+-- an operation of the machine gives a value that v contains
 abbrev Gives : Labels → List Room → Result Value ℕ → AbsVal → Type 0
 Gives e rooms r v = (x : Value) × (r ≡ Ok x) × Holds e rooms v x
 
 abbrev pub Makes : Labels → List Room → ℕ → Bool → Result Value ℕ → AbsVal → Type 0
 Makes e rooms pc b r v = (x : Value) × (r ≡ Ok x) × Made e rooms pc b v x
 
--- only a number holds for a number
+-- an abstract number contains only numbers
 pub number_held : (e : Labels) (rooms : List Room) (n : Num) (x : Value) → Holds e rooms (Number n) x → (m : ℕ) × (x ≡ value.Number m) × InNum n m
 number_held e rooms n (value.Number m) h = (m, refl, h)
 number_held e rooms n x h = absurd h
 
--- what is set and isn't a number moves
+-- a set value moves
 moves_set : (e : Labels) (rooms : List Room) (v : AbsVal) (x : Value) → is_unset v ≡ false → Holds e rooms v x → moved_value true x ≡ Ok x
 moves_set e rooms v (value.Number m) u h = refl
 moves_set e rooms v (value.Pointer r o) u h = refl
@@ -72,7 +72,7 @@ module _ (e : Labels) (rooms : List Room) (alus : AluContains) where
   numbers_hold wide op (Number m) (Number n) v x y h k g = (subst (Gives e rooms (numbers_value wide op x y)) (okay-same _ v g) (both_numbers wide op m n x y h k), refl)
   numbers_hold wide op a b v x y h k g = absurd (refused-okay _ v g)
 
-  -- a frame pointer that moves by a number, with its label or with one of its own
+  -- a frame pointer moved by a number, with its label or a new one
   frame_moves : (pc : ℕ) (f : ℕ → ℕ → ℕ) (o n : Num) (l : Option Label) (x c : ℕ) → Moves f → InNum n c → LabelHolds e rooms l x → InNum o (f x c) →
       Made e rooms pc (not (is_single n)) (Frame o (label_after pc f n l)) (value.Pointer region.Frame (f x c))
   frame_moves pc f o n l x c moves h k i = by_size (is_single n) refl
@@ -147,7 +147,7 @@ module _ (e : Labels) (rooms : List Room) (alus : AluContains) where
     difference_holds (Pointer r o) (Number n) v x y h k g = subst (Gives e rooms (difference_value x y)) (okay-same _ v g) (pointer_less_number o n r x y h k)
     difference_holds a b v x y h k g = absurd (refused-okay _ v g)
 
-    -- numbers that are no frame pointer and no new label
+    -- without a new label
     plainly : (op : AluOp) (a b v : AbsVal) (r : Result Value ℕ) → Gives e rooms r v × (is_variable a b ≡ false) → Makes e rooms pc (is_variable a b) r v
     plainly op a b v r h = subst (λ t. Makes e rooms pc t r v) (sym h.1) h.0
 

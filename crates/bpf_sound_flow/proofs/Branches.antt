@@ -1,4 +1,4 @@
--- What a conditional jump makes of an abstract state.
+-- The branches of a conditional jump.
 use Rattle.std.proofs.Common.{◌≡◌, ℕ, List, length, ◌+◌, ◌^◌, ◌%◌, ◌<◌, ◌≤◌, ◌⊎◌, inl, inr, Bool, true, false, not, ◌&&◌, Option, Some, None, Result, Ok, refl, sym, ap, ap₂, subst, ◌∙◌, nat_lt, nat_le, arith, if◌then◌else◌}
 use Rattle.std.proofs.lemmas.Bool.{false≢true, eqb-true, ltb-true, ltb-false, leb-true, leb-false, le-leb, cond_both}
 use Rattle.bpf_insn.specs.declared.insn.Compare.{Compare}
@@ -32,16 +32,16 @@ use Rattle.bpf_words.proofs.Immediates.{word_fits}
 use Rattle.bpf_rules.proofs.Outcomes.{refused-okay, okay-same}
 use Rattle.bpf_sound_flow.proofs.States.{Known}
 
--- the state stands in a way that is visited
+-- the state is on a branch that is visited
 abbrev pub InWay : Labels → Option View → State → Type 0
 InWay e None s = ⊥
 InWay e (Some b) s = HoldsIn e b s
 
--- the test gives an answer, and the state stands in its way
+-- the test has a result, and the state is on its branch
 abbrev pub Splits : Labels → State → Split → Result Bool ℕ → Type 0
 Splits e s w r = (t : Bool) × (r ≡ Ok t) × InWay e (if t then w.1 else w.0) s
 
--- ---- what holds for a value of each kind
+-- ---- contained values of each kind
 
 frame_held : (e : Labels) (rooms : List Room) (o : Num) (l : Option Label) (x : Value) → Holds e rooms (Frame o l) x →
     (n : ℕ) × (x ≡ value.Pointer region.Frame n) × InNum o n × LabelHolds e rooms l n
@@ -56,7 +56,7 @@ end_held : (e : Labels) (rooms : List Room) (x : Value) → Holds e rooms FrameE
 end_held e rooms value.FrameEnd h = refl
 end_held e rooms x h = absurd h
 
--- a lookup's answer is 0 or a pointer
+-- a pointer to the start of an entry
 abbrev Found : Labels → ℕ → Value → Type 0
 Found e map x = (q : Region) × (n : ℕ) × (x ≡ value.Pointer q n) × RegionHolds e (place.Entry map) q × (n ≡ 0)
 
@@ -92,7 +92,7 @@ order_test Ge x y = nat_le y x
 order_test Lt x y = nat_lt x y
 order_test compare x y = nat_le x y
 
--- what a lesson says of an offset and the length
+-- what a branch tells of an offset and the length
 abbrev Says : Lesson → ℕ → ℕ → Type 0
 Says Nothing x y = Unit {0}
 Says AtMost x y = x ≤ y
@@ -187,7 +187,7 @@ module _ (known : Known) (branches : BranchKeeps) (singles : SingleContains) (le
   null_way false set null k = k
 
   module _ (compare : Compare) (dst : ℕ) (src : Source) (size : ℕ) where
-    -- the test of the machine, at what both sides are
+    -- the machine's test of both sides
     abbrev test : Result Bool ℕ
     test = wide_test compare size (is_zero src) (reg s dst) (source_of s src)
 

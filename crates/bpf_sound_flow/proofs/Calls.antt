@@ -1,4 +1,4 @@
--- What wide loads, calls and EXIT do, their examination covers.
+-- The examinations of wide loads, calls and EXIT cover what the machine does.
 use Rattle.std.proofs.Common.{◌≡◌, ◌+◌, ◌-◌, ◌<◌, ◌==◌, ℕ, List, length, All, Option, Some, None, Ok, Err, Bool, true, false, refl, sym, subst, inl, inr, slice_get, nat_lt, arith, if◌then◌else◌}
 use Rattle.std.proofs.lemmas.Bool.{ltb-true, lt-ltb, eqb-true, eqb-false, cond_both}
 use Rattle.std.proofs.lemmas.List.{nil_from_length}

@@ -1,8 +1,8 @@
--- The kinds of instructions together.
+-- All kinds of instructions.
 use Rattle.bpf_insn.specs.declared.insn.Insn.TheVariants as insn
 use Rattle.bpf_sound_flow.specs.Laws.{AluCovers, MovSxCovers, NegCovers, EndCovers, LoadWideCovers, JumpCovers, JumpLongCovers, BranchCovers, CallCovers, CallLocalCovers, ExitCovers, FlowCovers}
 
--- what is known of each kind
+-- what is proved of each kind
 pub record Known : Type 0 where
   pub operation : AluCovers
   pub extension : MovSxCovers

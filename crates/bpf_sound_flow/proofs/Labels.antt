@@ -1,4 +1,4 @@
--- Distances behind a label's place.
+-- Distances from a label's position.
 use Rattle.std.proofs.Common.{◌≡◌, ℕ, List, ◌^◌, ◌<◌, true, Option, Some, None, ap, ◌∙◌, nat_le, arith}
 use Rattle.std.proofs.lemmas.Bool.{eqb-true, cond_both}
 use Rattle.bpf_words.specs.Word.{word_add, word_sub}
@@ -8,7 +8,7 @@ use Rattle.bpf_absval.specs.declared.room.Room.{Room}
 use Rattle.bpf_absval.specs.Meaning.{Labels, LabelHolds}
 use Rattle.bpf_rules.specs.Operands.{label_moved}
 
--- a place and a number behind it move alike
+-- a position and a distance from it move alike
 abbrev pub Moves : (ℕ → ℕ → ℕ) → Type 0
 Moves f = (b d c : ℕ) → c < 2 ^ 64 → f (word_add b d) c ≡ word_add b (f d c)
 
@@ -18,7 +18,7 @@ add_moves b d c l = omega arith
 pub sub_moves : Moves word_sub
 sub_moves b d c l = omega arith
 
--- a number that is one word is that word
+-- a number with one word is that word
 pub is_low : (n : Num) (c : ℕ) → InNum n c → is_single n ≡ true → c ≡ n.range.low
 is_low n c h e = let same = eqb-true n.range.low n.range.high e in omega (arith, same, h.within.above, h.within.below)
 

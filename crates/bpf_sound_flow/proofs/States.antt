@@ -1,4 +1,4 @@
--- What is known of abstract states, put together for the states that come next.
+-- What is known of abstract states, combined for the states that come next.
 use Rattle.std.proofs.Common.{◌≢◌, ◌+◌, ℕ, List, slice_set, sym, subst, arith}
 use Rattle.bpf_regions.specs.declared.memory.Value.{Value}
 use Rattle.bpf_regions.specs.declared.memory.Value.TheVariants as value
@@ -20,7 +20,7 @@ pub record Known : Type 0 where
   pub refinement : RefinementHolds
 
 module _ (known : Known) (e : Labels) where
-  -- a register but R10 changes, and control goes on
+  -- a register other than R10 changes, and control goes on
   pub puts : (a : View) (s : State) (pc r : ℕ) (v : AbsVal) (x : Value) → HoldsIn e a s → r ≢ 10 → Holds e a.rooms v x →
       HoldsIn e (record a { pc = pc; registers = slice_set a.registers r v }) (record s { pc = pc; regs = slice_set s.regs r x })
   puts a s pc r v x h other k = known.going e (with_register a r v) (record s { regs = slice_set s.regs r x }) pc (known.change e a s r v x h other k)
@@ -28,7 +28,7 @@ module _ (known : Known) (e : Labels) where
   unset : (a : View) (s : State) (r : ℕ) → HoldsIn e a s → r ≢ 10 → HoldsIn e (with_register a r abs.Unset) (record s { regs = slice_set s.regs r value.Unset })
   unset a s r h other = known.change e a s r abs.Unset value.Unset h other tt
 
-  -- what is noted is nothing to the abstract state
+  -- notes don't matter to the abstract state
   noted : (a : View) (s : State) (notes : List ℕ) → HoldsIn e a s → HoldsIn e a (record s { notes = notes })
   noted a s notes h = record {
     pc = h.pc;
@@ -41,7 +41,7 @@ module _ (known : Known) (e : Labels) where
     least = h.least;
   }
 
-  -- R0 has an answer, and R1 to R5 are unset
+  -- R0 has a result, and R1 to R5 are unset
   pub answers : (a : View) (s : State) (notes : List ℕ) (v : AbsVal) (x : Value) → HoldsIn e a s → Holds e a.rooms v x →
       HoldsIn e (answered a v) (answered_state (record s { notes = notes }) x)
   answers a s notes v x h k =

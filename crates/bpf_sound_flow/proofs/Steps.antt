@@ -1,4 +1,4 @@
--- Whatever an instruction does in a state, its examination covers.
+-- The examination of an instruction covers whatever it does.
 use Rattle.std.proofs.Common.{◌≡◌, ◌≢◌, ◌+◌, ℕ, ℤ, Option, Some, None, Result, Ok, Bool, true, false, refl, sym, ◌∙◌, ap, subst, inl, inr, slice_get, slice_set, if◌then◌else◌}
 use Rattle.bpf_insn.specs.declared.insn.Insn.{Insn}
 use Rattle.bpf_insn.specs.declared.insn.Insn.TheVariants as insn
@@ -45,7 +45,7 @@ okay w = Ok w
 abbrev pub labels : Setting → (ℕ → ℕ) → Labels
 labels p base = record { setting = p; base = base }
 
--- what a step of a kind gives, in its setting
+-- one step of an instruction, in its setting
 abbrev pub Step : Insn → Type 0
 Step i =
     (c : Code) (p : Setting) (a : View) (w : Ways) (s : State) → IsWhole c → IsSetting c p → program.Holds c.slots a.pc i → examined c.shapes i a ≡ okay w →
@@ -56,11 +56,10 @@ covers i step c p a w whole set at e s h =
     let found : slice_get p.code s.pc ≡ slice_get c.slots a.pc = ap (λ l. slice_get l s.pc) set.code ∙ ap (slice_get c.slots) h.holds.pc in
     subst (λ x. IsFine p.shapes x (InWays p w)) (sym (ap (λ o. next_at p o s) (found ∙ at))) (step c p a w s whole set at e h.base h.holds)
 
--- the next state lies in the one way
+-- the next state is in the only successor
 pub lands : (p : Setting) (b : View) (w : Ways) (t : State) (d : Labels) → d.setting ≡ p → HoldsIn d b t → okay (One b) ≡ okay w → InWays p w t
 lands p b w t d here h e = subst (λ v. InWays p v t) (okay-same (One b) w e) (subst (λ q. Contains q b t) here (record { base = d.base; holds = h }))
 
--- a value is put into a register
 pub lands_put : (known : Known) (p : Setting) (a b : View) (s : State) (w : Ways) (d : Labels) (n dst : ℕ) (v : AbsVal) (x : Value) → d.setting ≡ p → HoldsIn d b s → b.pc ≡ a.pc → dst ≢ 10 → Holds d b.rooms v x →
     put b n dst v ≡ okay w → InWays p w (record s { pc = s.pc + n; regs = slice_set s.regs dst x })
 lands_put known p a b s w d n dst v x here h pc other k e =

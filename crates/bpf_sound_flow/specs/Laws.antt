@@ -1,4 +1,4 @@
--- What each kind of instruction's examination is good for.
+-- Soundness of the rules, for each kind of instruction.
 use Rattle.std.specs.Prelude.{ℕ, ℤ, Bool}
 use Rattle.bpf_insn.specs.declared.insn.AluOp.{AluOp}
 use Rattle.bpf_insn.specs.declared.insn.ByteOrder.{ByteOrder}
@@ -15,7 +15,7 @@ use Rattle.bpf_rules.specs.Covers.{InsnCovers}
 abbrev pub AluCovers : Type 0
 AluCovers = (op : AluOp) (wide : Bool) (dst : ℕ) (s : Source) → InsnCovers (insn.Alu op wide dst s)
 
--- moves that extend a sign
+-- sign-extending moves
 abbrev pub MovSxCovers : Type 0
 MovSxCovers =
     (from : Extension) (wide : Bool) (dst src : ℕ) → InsnCovers (insn.MovSx from wide dst src)
@@ -24,12 +24,12 @@ MovSxCovers =
 abbrev pub NegCovers : Type 0
 NegCovers = (wide : Bool) (dst : ℕ) → InsnCovers (insn.Neg wide dst)
 
--- byte orders
+-- byte order conversions
 abbrev pub EndCovers : Type 0
 EndCovers =
     (order : ByteOrder) (width : OrderWidth) (dst : ℕ) → InsnCovers (insn.End order width dst)
 
--- loads of 64 bits that stand in the code
+-- wide loads
 abbrev pub LoadWideCovers : Type 0
 LoadWideCovers = (dst : ℕ) (v : Wide) → InsnCovers (insn.LoadWide dst v)
 
@@ -51,7 +51,7 @@ BranchCovers =
 abbrev pub CallCovers : Type 0
 CallCovers = (helper : ℤ) → InsnCovers (insn.Call helper)
 
--- calls of the program's own functions
+-- local calls
 abbrev pub CallLocalCovers : Type 0
 CallLocalCovers = (by : ℤ) → InsnCovers (insn.CallLocal by)
 
@@ -59,7 +59,7 @@ CallLocalCovers = (by : ℤ) → InsnCovers (insn.CallLocal by)
 abbrev pub ExitCovers : Type 0
 ExitCovers = InsnCovers insn.Exit
 
--- all but loads, stores and atomics
+-- all except loads, stores and atomics
 abbrev pub IsFlow : Insn → Type 0
 IsFlow (insn.Load size signed dst src by) = ⊥
 IsFlow (insn.Store size dst by s) = ⊥

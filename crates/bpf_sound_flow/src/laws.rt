@@ -1,5 +1,4 @@
-//! Whatever comes next after a state of an abstract state lies in one of the ways that the examination of its instruction
-//! gives. These functions do nothing; a caller's proof takes their promises.
+//! The successors that an instruction's examination gives cover whatever comes next.
 
 ghost use Rattle.bpf_sound_flow.specs.Laws.{AluCovers, MovSxCovers, NegCovers, EndCovers, LoadWideCovers, JumpCovers, JumpLongCovers, BranchCovers, CallCovers, CallLocalCovers, ExitCovers, FlowCovers};
 
@@ -63,7 +62,7 @@ pub fn call_law()
     states::call_law();
 }
 
-/// All of these: every instruction but loads, stores and atomics.
+/// All of these: every instruction except loads, stores and atomics.
 pub fn flow_law()
     ensures { FlowCovers }
 {

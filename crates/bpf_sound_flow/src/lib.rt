@@ -1,9 +1,9 @@
 //! Laws: the verifier's rules for arithmetic, wide loads, jumps, conditional jumps, calls and EXIT
 //! are sound.
 //!
-//! Main call: `laws::flow_law`, which has all of them. These functions do nothing; a caller's proof
-//! takes their promises. It stands on `bpf_rules`. Whatever the machine does next in a state that
-//! an abstract state contains is no fault, and lies in one of the ways that the rules give
+//! Main call: `laws::flow_law`, which has all of them. Each law's function does nothing. It depends
+//! on `bpf_rules`. If the rules give the successors of an abstract state, the machine meets no
+//! fault in any state that the abstract one contains, and each next state is in a successor
 //! (`InsnCovers`).
 #![tactic(auto)]
 

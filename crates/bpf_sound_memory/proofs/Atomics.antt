@@ -76,7 +76,7 @@ on_stack w e a b s k n op into at x h other size offset t =
     (goes_with p.shapes (set_bytes f x n) old.0 (λ o. Goes (put_old (with_frame s k (atomically_stored f x n op o)) into o)) P old.1
     (old_holds w e b (with_frame s k (atomically_stored f x n op old.0)) into n old.0 stored other size old.2)))
 
--- a store answers 0, every other access a number of the word
+-- a store returns 0, any other access a word of the map's width
 answer_below : (shape : Shape) (op : MapOp) (answer : ℕ) → AccessAnswer (Some shape) op answer → IsWordOf (Some shape) answer
 answer_below shape (map_op.Store y) answer h = omega (arith, h, pow_pos (8 * bytes_of shape.width))
 answer_below shape op answer h = h

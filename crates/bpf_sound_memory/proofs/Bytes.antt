@@ -4,7 +4,7 @@ use Rattle.std.proofs.lemmas.List.{length-set, get_or-set_same, get_or-set_other
 use Rattle.std.proofs.lemmas.Bool.{cases_eq}
 use Rattle.bpf_model.specs.Memory.{with_number, without}
 
--- a byte, where it is set
+-- a byte, if set
 abbrev pub byte_at : List (Option ℕ) → ℕ → Option ℕ
 byte_at bytes i = slice_index_or bytes i None
 
@@ -16,7 +16,7 @@ length-with_number bytes at zero x = refl
 length-with_number bytes at (suc n) x =
     length-with_number (slice_set bytes at (Some (x % 256))) (at + 1) n (x / 256) ∙ length-set bytes at (Some (x % 256))
 
--- the bytes before it and behind it stay
+-- the bytes before and after it are unchanged
 pub number_before : (bytes : List (Option ℕ)) (at n x i : ℕ) → i < at → byte_at (with_number bytes at n x) i ≡ byte_at bytes i
 unfolding with_number
 number_before bytes at zero x i h = refl
@@ -41,7 +41,6 @@ number_first bytes at n x h =
 abbrev pub IsSet : Option ℕ → Type 0
 IsSet o = (b : ℕ) × (o ≡ Some b) × (b < 256)
 
--- its bytes are set
 pub number_within : (bytes : List (Option ℕ)) (at n x i : ℕ) → at ≤ i → i < at + n → at + n ≤ length bytes → IsSet (byte_at (with_number bytes at n x) i)
 unfolding with_number
 number_within bytes at zero x i low high room = absurd (omega arith)

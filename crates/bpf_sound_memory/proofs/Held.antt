@@ -20,7 +20,7 @@ use Rattle.bpf_absval.specs.Meaning.{is_number, IsStackFrame}
 use Rattle.bpf_absstate.specs.Laws.{SameSlot}
 use Rattle.bpf_sound_memory.proofs.StackFrames.{spill, byte_got, spelled_set, written_spelled, IsElsewhere, spill_elsewhere, spill_touched, number_elsewhere, without_elsewhere}
 
--- what is held, by the spill and the bytes
+-- what is held, given the spill and the bytes
 abbrev picked : Value → Result ℕ ℕ → Value
 picked v r = cond (is_unset v) (number_held r) v
 
@@ -51,7 +51,7 @@ spill_is_held f at v h room set =
 
 -- ---- which bytes of a slot are known to be set
 
--- a slot that holds a number has nothing spilled, and its bytes spell the number
+-- a slot that holds a number has no spill, and its bytes spell the number
 pub number_in : (f : StackFrame) (i x : ℕ) → IsStackFrame f → held f i ≡ value.Number x → (is_unset (spill f i) ≡ true) × (set_bytes f (8 * i) 8 ≡ Ok x)
 number_in f i x h e = by_spill (spill f i) (set_bytes f (8 * i) 8) (h.references i) e
   where
@@ -66,7 +66,7 @@ number_in f i x h e = by_spill (spill f i) (set_bytes f (8 * i) 8) (h.references
     by_spill value.FrameEnd r k e = absurd (cc)
     by_spill (value.MapReference m) r k e = absurd (cc)
 
--- what is of an abstract number is a number
+-- an abstract number contains only numbers
 pub is_a_number : (e : Labels) (rooms : List Room) (a : Num) (v : Value) → Holds e rooms (abs.Number a) v → (x : ℕ) × (v ≡ value.Number x) × InNum a x
 is_a_number e rooms a (value.Number x) h = (x, refl, h)
 is_a_number e rooms a value.Unset h = absurd h

@@ -42,7 +42,7 @@ offset_fits : (z : ℤ) → FitsSigned w16 z → word_of z < 2 ^ 64
 offset_fits (pos n) h = omega (arith, ints, h)
 offset_fits (negsuc n) h = omega arith
 
--- the instruction where the state stands is performed
+-- the instruction at the state's slot is executed
 performed : (c : Code) (p : Setting) (a : View) (s : State) (i : Insn) → IsSetting c p → program.Holds c.slots a.pc i → Contains p a s → next p s ≡ next_of p i s
 performed c p a s i setting here h =
     ap (λ o. next_at p o s) (ap (λ k. slice_get p.code k) h.holds.pc ∙ ap (λ l. slice_get l a.pc) setting.code ∙ here)
@@ -50,7 +50,7 @@ performed c p a s i setting here h =
 input : (c : Code) (p : Setting) → IsSetting c p → IsInput p
 input c p h = record { context = h.context; frame_bytes = h.frame_bytes; context_bytes = h.context_bytes }
 
--- the one way on
+-- the only successor
 leads_on : (p : Setting) (base : ℕ → ℕ) (b : View) (w : Ways) (x : Next) → One b ≡ w → IsFine p.shapes x (HoldsIn (record { setting = p; base = base }) b) → IsFine p.shapes x (InWays p w)
 leads_on p base b w x same h =
     subst (λ v. IsFine p.shapes x (InWays p v)) same
@@ -68,7 +68,6 @@ load_covers w size signed dst src by c p a v whole setting here ok s h =
     subst (λ x. IsFine p.shapes x (InWays p v)) (sym (performed c p a s i setting here h))
     (leads_on p h.base b v (next_of p i s) (okay-same (One b) v parts.2) (IsFine-weaken p.shapes (next_of p i s) (Puts e a s dst parts.0) (HoldsIn e b) moves fine))
 
--- the value that a source has
 source_holds : (w : StateLaws) (e : Labels) (a : View) (s : State) (o : Source) → HoldsIn e a s → IsSource o → Holds e a.rooms (source_value a o) (source_of s o)
 source_holds w e a s (source.Imm z) h fits = single_keeps (word_of z) (word_fits z fits)
 source_holds w e a s (source.Reg r) h fits = w.registers e a s r h
@@ -84,12 +83,11 @@ store_covers w size dst by o c p a v whole setting here ok s h =
     (leads_on p h.base (next_pc parts.0) v (next_of p i s) (okay-same (One (next_pc parts.0)) v parts.2)
     (store_holds w e a parts.0 s size (source_value a o) (register a dst) (source_of s o) (reg s dst) by h.holds (offset_fits by is.2) (source_holds w e a s o h.holds is.1) (w.registers e a s dst h.holds) parts.1))
 
--- what CMPXCHG compares with
+-- the value that CMPXCHG compares
 compared_holds : (w : StateLaws) (e : Labels) (a : View) (s : State) (op : AtomicOp) → HoldsIn e a s → Holds e a.rooms (compared op a) (compared_value op (reg s 0))
 compared_holds w e a s atomic_op.Cmpxchg h = w.registers e a s 0 h
 compared_holds w e a s op h = single_keeps 0 (omega arith)
 
--- no atomic writes R10
 not_pointer : (op : AtomicOp) (src : ℕ) → cond (fetches op) (Some src) None ≢ Some 10 → old_into op src ≢ Some 10
 not_pointer atomic_op.Cmpxchg src h = λ same. absurd (cc)
 not_pointer op src h = h

@@ -30,7 +30,7 @@ use Rattle.bpf_rules.proofs.Outcomes.{unless_ok, okay-same}
 use Rattle.bpf_sound_memory.proofs.Outcomes.{goes_with}
 use Rattle.bpf_sound_memory.proofs.Offsets.{IsSize, stack_fits, stack_placed, size_is, offset_keeps, frame_fits, context_fits, entry_fits, number_below, loaded_holds}
 
--- a number is put into the register
+-- the register is set to a number
 number_put : (e : Labels) (a : View) (s : State) (signed : Bool) (n dst x : ℕ) (u : AbsVal) → IsSize n → x < 2 ^ (8 * n) → loaded signed n ≡ u →
     Puts e a s dst u (put s dst (value.Number (as_loaded signed n x)))
 number_put e a s signed n dst x u size small is =

@@ -50,7 +50,7 @@ size_is size.Double = record { some = omega arith; few = omega arith; power = 3;
 pub offset_keeps : (offset : Num) (x : ℕ) (by : ℤ) → word_of by < 2 ^ 64 → InNum offset x → InNum (offset_of offset by) (word_add x (word_of by))
 offset_keeps offset x by fits h = alu_keeps true Add offset (num_single (word_of by)) x (word_of by) h (single_keeps (word_of by) fits)
 
--- low bits that are known to be 0
+-- low bits known to be 0
 pub multiple : (n : ℕ) (at : Num) (x : ℕ) → IsSize n → InNum at x → are_multiples n at ≡ true → x % n ≡ 0
 multiple n at x s h t =
     let m = bit_or at.bits.value at.bits.mask in
@@ -61,7 +61,7 @@ multiple n at x s h t =
 
 -- ---- in the frame
 
--- in a label's room
+-- within a label's room
 room_fits : (e : Labels) (rooms : List Room) (l : Label) (by : ℤ) (n x : ℕ) (o : Option ℕ) → IsLabelled e rooms l x →
     RoomHolds e l.label o → room_reaches o (word_add l.distance (word_of by) + n) ≡ true → word_add x (word_of by) + n ≤ length e.setting.frame
 room_fits e rooms l by n x (Some size) h holds t =
@@ -196,7 +196,7 @@ number_below bytes at (suc n) h =
     let more : 2 ^ (8 * suc n) ≡ 2 ^ (8 * n) * 256 = ap (λ k. 2 ^ k) e ∙ pow-add 2 (8 * n) 8 in
     omega (arith, more, byte_below bytes at h, number_below bytes (at + 1) n h)
 
--- a number of n bytes is of what a load of n bytes gives
+-- a load of n bytes contains each number of n bytes
 pub loaded_holds : (e : Labels) (rooms : List Room) (signed : Bool) (n x : ℕ) → IsSize n → x < 2 ^ (8 * n) → Holds e rooms (loaded signed n) (value.Number (as_loaded signed n x))
 loaded_holds e rooms true n x s small = loaded_signed_keeps (8 * n) x (omega (arith, s.some)) (omega (arith, s.few))
 loaded_holds e rooms false n x s small = loaded_keeps (8 * n) x (omega (arith, s.few)) small

@@ -35,7 +35,6 @@ spelled f at (suc n) h =
       omega (arith, more_bytes n, first.2, rest.2),
     )
 
--- where the bytes spell a number, all are set
 pub spelled_set : (f : StackFrame) (at n x : ℕ) → set_bytes f at n ≡ Ok x → (i : ℕ) → at ≤ i → i < at + n → (b : ℕ) × (byte_at f.bytes i ≡ Some b)
 unfolding set_bytes
 spelled_set f at zero x h i low high = absurd (omega arith)
@@ -58,7 +57,7 @@ written_spelled f bytes at (suc n) x e room =
     let sum : x % 256 + 256 * ((x / 256) % 2 ^ (8 * n)) ≡ x % 2 ^ (8 * suc n) = omega (arith, mod-pow-add x (8 * n) 8, ap (λ k. x % 2 ^ k) split) in
     ap (λ o. joined (set_byte f at o) (set_bytes f (at + 1) n)) first ∙ ap (joined (Ok (x % 256))) rest ∙ ap Ok sum
 
--- ---- what a run makes of a stack frame
+-- ---- stack frames of a run
 
 abbrev pub spill : StackFrame → ℕ → Value
 spill f i = slice_index_or f.spills i value.Unset
@@ -77,7 +76,7 @@ small_byte f i b h e = h.small i b (byte_got f.bytes i b e)
 pub spilled_apart : (f : StackFrame) (i j : ℕ) → IsStackFrame f → i < 64 → j < 8 → is_unset (spill f i) ≡ false → byte_at f.bytes (8 * i + j) ≡ None
 spilled_apart f i j h low small e = get_or_from_slice_get f.bytes (8 * i + j) None None (h.apart i j low small e)
 
--- the same, by what the bytes and the spills are
+-- the same, given the bytes and the spills
 pub frame_by : (bytes : List (Option ℕ)) (spills : List Value) → length bytes ≡ 512 → length spills ≡ 64 →
     ((i b : ℕ) → byte_at bytes i ≡ Some b → b < 256) → ((i : ℕ) → is_number (slice_index_or spills i value.Unset) ≡ false) →
     ((i j : ℕ) → i < 64 → j < 8 → is_unset (slice_index_or spills i value.Unset) ≡ false → byte_at bytes (8 * i + j) ≡ None) →
@@ -93,7 +92,7 @@ frame_by bytes spills long many small references apart =
 
 -- ---- a number is stored
 
--- where no slot is touched
+-- slot i isn't touched
 abbrev pub IsElsewhere : ℕ → ℕ → ℕ → Type 0
 IsElsewhere at n i = (i ≢ at / 8) × (i ≢ (at + n - 1) / 8)
 
@@ -105,7 +104,7 @@ spill_elsewhere f at n i h =
     get_or-set_other (slice_set f.spills (at / 8) value.Unset) ((at + n - 1) / 8) i value.Unset value.Unset h.1
     ∙ get_or-set_other f.spills (at / 8) i value.Unset value.Unset h.0
 
--- a slot that is set to be without a spill
+-- a slot whose spill is removed
 unset_there : (spills : List Value) (i : ℕ) → slice_index_or (slice_set spills i value.Unset) i value.Unset ≡ value.Unset
 unset_there spills i =
     ⊎_elim
@@ -128,7 +127,6 @@ spill_touched f at n i (inr h) =
     subst (λ j. slice_index_or (spills_after f at n) j value.Unset ≡ value.Unset) (sym h)
     (unset_there (slice_set f.spills (at / 8) value.Unset) ((at + n - 1) / 8))
 
--- a slot is touched, or it isn't
 pub touched_or : (at n i : ℕ) → ((i ≡ at / 8) ⊎ (i ≡ (at + n - 1) / 8)) ⊎ IsElsewhere at n i
 touched_or at n i =
     ⊎_elim
@@ -145,7 +143,6 @@ pub number_outside : (bytes : List (Option ℕ)) (at n x i : ℕ) → (i < at) �
 number_outside bytes at n x i (inl h) = number_before bytes at n x i h
 number_outside bytes at n x i (inr h) = number_behind bytes at n x i h
 
--- the bytes of a slot that isn't touched stay
 pub number_elsewhere : (bytes : List (Option ℕ)) (at n x i j : ℕ) → j < 8 → 1 ≤ n → n ≤ 8 → IsElsewhere at n i →
     byte_at (with_number bytes at n x) (8 * i + j) ≡ byte_at bytes (8 * i + j)
 number_elsewhere bytes at n x i j few some size h = number_outside bytes at n x (8 * i + j) (outside (cases_lt (8 * i + j) at))

@@ -1,4 +1,4 @@
--- Bytes of a stack frame that are read.
+-- Reading bytes of a stack frame.
 use Rattle.std.specs.Prelude.{◌==◌, ◌&&◌}
 use Rattle.std.specs.Int.{bit_at}
 use Rattle.std.proofs.Common.{ℕ, ◌≡◌, ◌+◌, ◌-◌, ◌*◌, ◌/◌, ◌%◌, ◌^◌, ◌<◌, ◌≤◌, ⊎_elim, Bool, true, false, not, cond, List, Some, None, Result, Ok, Err, refl, sym, ap, subst, ◌∙◌, arith, bit_and}
@@ -48,7 +48,7 @@ byte_read e rooms a f i j needed h low few none one =
     let is = get_or_from_slice_get f.bytes (8 * i + j) (Some set.0) None set.1 in
     (set.0, is, small_byte f (8 * i + j) set.0 h.frame is)
 
--- bytes that are known to be set are set
+-- bytes known to be set are set
 pub read_spelled : (e : Labels) (rooms : List Room) (a : CallFrame) (f : StackFrame) (at n : ℕ) → StackHolds e rooms a f → n ≤ 8 → at + n ≤ 512 →
     read_fault a.stack at n ≡ None → AreSpelled f at n
 read_spelled e rooms a f at n h size room none = λ k low high.
@@ -68,7 +68,7 @@ read_spelled e rooms a f at n h size room none = λ k low high.
 
 -- ---- loads
 
--- the test by which a slot's spill comes back whole
+-- the test for loading a slot's spill whole
 abbrev comes_whole : StackFrame → ℕ → ℕ → Bool → Bool
 comes_whole f at n signed = (n == 8) && (at % 8 == 0) && not (is_unset (spill_at f at)) && not signed
 
@@ -78,7 +78,7 @@ by_spelling f at n signed h = ap (λ b. cond b (Ok (spill_at f at)) (loaded_numb
 by_spill : (f : StackFrame) (at n : ℕ) (signed : Bool) → comes_whole f at n signed ≡ true → from_stack f at n signed ≡ Ok (spill_at f at)
 by_spill f at n signed h = ap (λ b. cond b (Ok (spill_at f at)) (loaded_number signed n (set_bytes f at n))) h
 
--- where bytes are set, nothing comes back whole
+-- set bytes aren't loaded as a spill
 not_whole : (f : StackFrame) (at n : ℕ) (signed : Bool) → IsStackFrame f → AreSpelled f at n → at + n ≤ 512 → comes_whole f at n signed ≡ false
 not_whole f at n signed h set room = ⊎_elim (λ t. absurd (clash t)) (λ t. t) (cases_Bool (comes_whole f at n signed))
   where
@@ -95,14 +95,12 @@ not_whole f at n signed h set room = ⊎_elim (λ t. absurd (clash t)) (λ t. t)
         let same : byte_at f.bytes at ≡ None = subst (λ k. byte_at f.bytes k ≡ None) place empty in
         cc (same, first.1)
 
--- a number of set bytes
 pub spelled_loads : (f : StackFrame) (at n : ℕ) (signed : Bool) → IsStackFrame f → AreSpelled f at n → at + n ≤ 512 →
     (x : ℕ) × (x < 2 ^ (8 * n)) × (from_stack f at n signed ≡ Ok (value.Number (as_loaded signed n x)))
 spelled_loads f at n signed h set room =
     let x = spelled f at n set in
     (x.0, x.2, by_spelling f at n signed (not_whole f at n signed h set room) ∙ ap (loaded_number signed n) x.1)
 
--- what a slot holds comes back
 pub held_loads : (f : StackFrame) (at : ℕ) → at % 8 ≡ 0 → is_unset (held f (at / 8)) ≡ false → from_stack f at 8 false ≡ Ok (held f (at / 8))
 held_loads f at even h = by_cases (is_unset (spill_at f at)) refl
   where
@@ -131,7 +129,7 @@ held_loads f at even h = by_cases (is_unset (spill_at f at)) refl
 
 -- ---- what the rules say of a load
 
--- what is of a value that isn't unset is set
+-- a value of a set abstract value is set
 pub is_set : (e : Labels) (rooms : List Room) (v : AbsVal) (x : Value) → rules_unset v ≡ false → Holds e rooms v x → is_unset x ≡ false
 is_set e rooms abs.Unset x t h = absurd (true≢false t)
 is_set e rooms v value.Unset t h = absurd h

@@ -1,4 +1,4 @@
--- Bytes of a stack frame that are written.
+-- Writing bytes of a stack frame.
 use Rattle.std.specs.Prelude.{◌==◌, slice_get}
 use Rattle.std.specs.Int.{bit_at}
 use Rattle.std.proofs.Common.{ℕ, ◌≡◌, ◌+◌, ◌*◌, ◌/◌, ◌%◌, ◌^◌, ◌<◌, ◌≤◌, ◌⊎◌, inl, inr, ⊎_elim, Bool, true, false, cond, List, length, Some, None, refl, sym, subst, ◌∙◌, arith}
@@ -30,7 +30,7 @@ use Rattle.bpf_sound_memory.proofs.Touched.{either_has, first_within, second_wit
 
 -- ---- a value is stored whole
 
--- a number that is of a value other than what may be unset is a word
+-- a number of a set abstract value is a word
 number_fits : (e : Labels) (rooms : List Room) (v : AbsVal) (x : ℕ) → rules_unset v ≡ false → Holds e rooms v (value.Number x) → x < 2 ^ 64
 number_fits e rooms abs.Unset x t h = absurd (cc)
 number_fits e rooms (abs.Number a) x t h = h.known.is_word
@@ -65,7 +65,7 @@ whole_stored w e a s k at v x h low even room set is = whole_spill w e a s k at 
 
 -- ---- bytes are set
 
--- the bytes that were set, and those that are written
+-- the bytes set before, and those written
 bytes_after : (e : Labels) (rooms : List Room) (known : AbsSlot) (mask : ℕ) (f : StackFrame) (at n x i : ℕ) → IsStackFrame f → i < 64 → at + n ≤ 512 → SlotHolds e rooms known f i →
     ((j : ℕ) → j < 8 → bit_at mask j ≡ 1 → (at ≤ 8 * i + j) × (8 * i + j < at + n)) → SlotHolds e rooms (with_bytes known mask) (number_stored f at n x) i
 bytes_after e rooms known mask f at n x i well low room h written = λ j few one.

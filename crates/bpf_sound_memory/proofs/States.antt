@@ -1,4 +1,4 @@
--- What abstract states promise, and a state at the next instruction.
+-- Laws of abstract states, and a state at the next instruction.
 use Rattle.std.proofs.Common.{ℕ, ◌≢◌, ◌+◌, slice_set, ap}
 use Rattle.bpf_regions.specs.declared.memory.Value.{Value}
 use Rattle.bpf_model.specs.State.{State, put}
@@ -22,7 +22,6 @@ pub record StateLaws : Type 0 where
 pub goes_on : (e : Labels) (a : View) (s : State) → HoldsIn e a s → HoldsIn e (next_pc a) (machine.next_pc s)
 goes_on e a s h = record { pc = ap (λ n. n + 1) h.pc; registers = h.registers; count = h.count; pointer = h.pointer; stacks = h.stacks; callers = h.callers; some = h.some; least = h.least }
 
--- with a value in a register
 pub puts : ChangesHold → (e : Labels) (a : View) (s : State) (r : ℕ) (v : AbsVal) (x : Value) → HoldsIn e a s → r ≢ 10 → Holds e a.rooms v x →
     HoldsIn e (next_pc (with_register a r v)) (put s r x)
 puts change e a s r v x h other k = goes_on e (with_register a r v) (record s { regs = slice_set s.regs r x }) (change e a s r v x h other k)

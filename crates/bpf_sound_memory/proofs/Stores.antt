@@ -45,7 +45,7 @@ Fine e s n v r x b =
     (cond (is_unset v) (Faults 30) (machine_state.on (storable r x n v) (λ w. machine_state.on (machine.place e.setting (length s.stack) r x n) (store_at s n w))))
     (HoldsIn e (next_pc b))
 
--- a value that may be stored there, at a place that is there
+-- a value that may be stored there, at a place that exists
 goes_to : (e : Labels) (s : State) (n : ℕ) (v : Value) (r : Region) (x : ℕ) (b : View) (p : Place) → is_unset v ≡ false → storable r x n v ≡ Ok v →
     machine.place e.setting (length s.stack) r x n ≡ Ok p → IsFine e.setting.shapes (store_at s n v p) (HoldsIn e (next_pc b)) → Fine e s n v r x b
 goes_to e s n v r x b p set may there h =
@@ -55,7 +55,6 @@ goes_to e s n v r x b p set may there h =
 
 -- ---- the stack
 
--- a pointer to a stack frame that may be stored there
 same_strays : (e : Labels) (rooms : List Room) (k : ℕ) (v : AbsVal) (x : Value) → rules_unset v ≡ false → Holds e rooms v x → strays k v ≡ false → machine.strays k x ≡ false
 same_strays e rooms k v (value.Pointer (region.Stack j) x) set h t = points v set h t
   where
@@ -85,7 +84,7 @@ placed : (w : StateLaws) (e : Labels) (a : View) (s : State) (k n : ℕ) (at : N
 placed w e a s k n at x h inside =
     stack_placed k x n (length s.stack) (omega (arith, inside.lives, (w.depth e a s h).stacks)) inside.room
 
--- what a store to the stack leaves
+-- the state after a store to the stack
 stack_goes : (w : StateLaws) (e : Labels) (a b : View) (s : State) (k n : ℕ) (v : Value) (x : ℕ) → in_stack e s k x n → is_unset v ≡ false → storable_in_stack x n v ≡ Ok v →
     machine.strays k v ≡ false → HoldsIn e b (with_frame s k (machine.stored (machine.frame_of s k) x n v)) → Fine e s n v (region.Stack k) x b
 stack_goes w e a b s k n v x there set may stays h =
@@ -93,7 +92,6 @@ stack_goes w e a b s k n v x there set may stays h =
     goes_to e s n v (region.Stack k) x b (machine_place.Stack k x) set may there
     (subst (λ q. IsFine e.setting.shapes (cond q (Faults 37) (Goes (machine.next_pc t))) (HoldsIn e (next_pc b))) (sym stays) (goes_on e b t h))
 
--- a number
 number_stored_holds : (w : StateLaws) (e : Labels) (a : View) (s : State) (k n x y : ℕ) (v : Num) → HoldsIn e a s → k < length a.frames → IsSize n → x + n ≤ 512 → InNum v y →
     HoldsIn e (stored a k x n (abs.Number v)) (with_frame s k (machine.stored (machine.frame_of s k) x n (value.Number y)))
 number_stored_holds w e a s k n x y v h low size room is = by_test (is_whole x n) refl
@@ -118,7 +116,7 @@ store_number w e a b s k n at v x y h size offset is t =
     (subst (λ c. HoldsIn e c (with_frame s k (machine.stored (machine.frame_of s k) x n (value.Number y)))) left
     (number_stored_holds w e a s k n x y v h inside.lives size inside.room is))
 
--- any other value, and a lookup's answer
+-- any other value, even a lookup result
 spilled_parts : (a b : View) (k n : ℕ) (at : Num) (v : AbsVal) → spilled a k at n v ≡ Ok b → (n ≡ 8) × (aligned_fault a k at 8 ≡ None) × (strays k v ≡ false) × (stored a k at.range.low 8 v ≡ b)
 spilled_parts a b k n at v t =
     let eight = by_size (n == 8) refl t in

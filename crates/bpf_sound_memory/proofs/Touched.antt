@@ -37,21 +37,19 @@ run_within n r i h =
     (λ low. ⊎_elim (λ high. (low, high)) (λ high. absurd (omega (arith, h, run_high n r i low, bit_at_ones_above n (i - r) (omega (arith, high))))) (cases_lt i (r + n)))
     (cases_lt i r)
 
--- of the first slot
 pub first_touched : (at n j : ℕ) → j < 8 → at % 8 ≤ j → j < at % 8 + n → bit_at (touched at n % 256) j ≡ 1
 first_touched at n j few low high = bit_of_low (touched at n) j few ∙ in_run n (at % 8) j low high
 
 pub first_within : (at n j : ℕ) → j < 8 → bit_at (touched at n % 256) j ≡ 1 → (at % 8 ≤ j) × (j < at % 8 + n)
 first_within at n j few h = run_within n (at % 8) j (sym (bit_of_low (touched at n) j few) ∙ h)
 
--- of the slot behind it
 pub second_touched : (at n j : ℕ) → at % 8 ≤ 8 + j → 8 + j < at % 8 + n → bit_at (touched at n / 256) j ≡ 1
 second_touched at n j low high = bit_of_high (touched at n) j ∙ in_run n (at % 8) (8 + j) low high
 
 pub second_within : (at n j : ℕ) → bit_at (touched at n / 256) j ≡ 1 → (at % 8 ≤ 8 + j) × (8 + j < at % 8 + n)
 second_within at n j h = run_within n (at % 8) (8 + j) (sym (bit_of_high (touched at n) j) ∙ h)
 
--- the slot behind it isn't touched where all bytes lie in the first
+-- the next slot isn't touched if all bytes are in the first
 pub one_slot : (at n : ℕ) → (touched at n / 256 == 0) ≡ true → at % 8 + n ≤ 8
 one_slot at n h =
     ⊎_elim
@@ -76,7 +74,7 @@ two_slots at n h =
 
 -- ---- bits of masks
 
--- what is known to be set has all that is needed
+-- all needed bytes are known to be set
 pub has_needed : (known needed j : ℕ) → bit_and known needed ≡ needed → bit_at needed j ≡ 1 → bit_at known j ≡ 1
 has_needed known needed j h one = omega (arith, bit_at_and known needed j, ap (λ n. bit_at n j) h, bit_at-lt known j)
 

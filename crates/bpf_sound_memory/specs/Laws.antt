@@ -1,5 +1,5 @@
--- What the rules for loads, stores and atomics are good for: no state that is as known meets a fault, and what comes next is
--- as the rules say.
+-- Soundness of the rules for loads, stores and atomics: no contained state meets a fault, and what comes next is as the
+-- rules say.
 use Rattle.std.specs.Prelude.{ℕ, ◌≡◌, ◌≢◌, ◌^◌, ◌<◌, Bool, length, Some, Ok, ℤ}
 use Rattle.bpf_insn.specs.declared.insn.AtomicOp.{AtomicOp}
 use Rattle.bpf_insn.specs.declared.insn.Insn.TheVariants as insn
@@ -27,7 +27,7 @@ pub record IsInput (p : Setting) : Type 0 where
 
 -- ---- for values
 
--- the next instruction, with a value in a register that the rules allow there
+-- the next instruction, with a register set to a value that the rules allow there
 abbrev pub Puts : Labels → View → State → ℕ → AbsVal → State → Type 0
 Puts e a s dst u t = (y : Value) × (t ≡ put s dst y) × Holds e a.rooms u y
 

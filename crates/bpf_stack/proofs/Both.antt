@@ -1,4 +1,4 @@
--- Inclusion of two rows, side by side.
+-- Inclusion of two rows, by halves.
 use Rattle.std.proofs.Common.{◌≡◌, List, [], ◌∷◌, ◌++◌, length, Bool, true, false, ◌&&◌, refl, ap, arith, ◌∙◌, sym, length-append}
 use Rattle.std.proofs.Math.Bool.{and_assoc}
 use Rattle.bpf_absval.specs.declared.slot.AbsSlot.{AbsSlot}
@@ -17,7 +17,7 @@ both_sides rooms others (x ∷ l) r (y ∷ l2) r2 h =
     ap (λ t. slot_included rooms others x y && t) (both_sides rooms others l r l2 r2 (omega (arith, h)))
     ∙ sym (and_assoc (slot_included rooms others x y) (slots_included rooms others l l2) (slots_included rooms others r r2))
 
--- two even rows of as many slots: their first halves have as many, and so the tests of the halves are that of the rows
+-- if two rows are of equal length, so are their first halves, and the rows' test is that of both halves
 pub told : (rooms others : List Room) (d l r d2 l2 r2 : List AbsSlot) → d ≡ l ++ r → IsEven l r → d2 ≡ l2 ++ r2 → IsEven l2 r2 → length d ≡ length d2
     → slots_included rooms others d d2 ≡ (slots_included rooms others l l2 && slots_included rooms others r r2)
 told rooms others d l r d2 l2 r2 a even b even2 whole =
@@ -25,7 +25,6 @@ told rooms others d l r d2 l2 r2 a even b even2 whole =
     let size2 = ap length b ∙ length-append l2 r2 in
     rw (a, b) (both_sides rooms others l r l2 r2 (omega (arith, whole, size, size2, even.same, even2.same)))
 
--- a row of two halves is not one slot
 pub not_one : (d l r d2 : List AbsSlot) (s : AbsSlot) → d ≡ l ++ r → IsEven l r → d2 ≡ s ∷ [] → length d ≡ length d2 → ⊥
 not_one d l r d2 s a even b whole = omega (arith, whole, ap length a, length-append l r, ap length b, even.same, even.some)
 

@@ -10,7 +10,7 @@ same_row : (now d : List AbsSlot) → (now ≡ d) ⊎ (now ≡ d) → now ≡ d
 same_row now d (inl e) = e
 same_row now d (inr e) = e
 
--- the row d was seen as `now`, which has the halves l and r
+-- `now` equals the row d, and has the halves l and r
 pub set_left : (d now l r l2 v : List AbsSlot) (count i : ℕ) (x : AbsSlot) → count ≡ length d → (now ≡ d) ⊎ (now ≡ d) → l ++ r ≡ now → IsEven l r
     → l2 ≡ slice_set l i x → v ≡ l2 ++ r → i < count / 2 → v ≡ slice_set d i x
 set_left d now l r l2 v count i x whole was halves even set held h =
@@ -25,7 +25,7 @@ set_right d now l r r2 v count i x whole was halves even set held h =
     let half : length l ≡ count / 2 = omega (arith, whole, ap length is, length-append l r, even.same) in
     rw (held, set, ← is) (sym (set-append_right l r (count / 2) i x half h))
 
--- ---- rows of unset slots: two to the power of d of them
+-- ---- rows of 2 ^ d unset slots
 
 two_power : (d : ℕ) → 0 < d → 2 ^ (d - 1) + 2 ^ (d - 1) ≡ 2 ^ d
 two_power zero h = absurd (omega (arith, h))

@@ -22,7 +22,7 @@ pub unset_stay : (label n : ℕ) → map (slot_unlabelled label) (replicate n ce
 unset_stay label zero = refl
 unset_stay label (suc n) = ap (λ (xs : List AbsSlot). cell.Unset ∷ xs) (unset_stay label n)
 
--- a slot that does not have the label stays
+-- a slot without the label is unchanged
 slot_stays : (label : ℕ) (s : AbsSlot) → slot_has_label label s ≡ false → slot_unlabelled label s ≡ s
 slot_stays label cell.Unset h = refl
 slot_stays label (cell.Bytes mask) h = refl
@@ -38,14 +38,13 @@ row_stays label (x ∷ xs) h =
     let rest = row_stays label xs both.1 in
     rw (first, rest) refl
 
--- unset slots include all
 pub unset_include : (rooms others : List Room) (xs : List AbsSlot) (n : ℕ) → length xs ≡ n → true ≡ slots_included rooms others xs (replicate n cell.Unset)
 unfolding slots_included
 unset_include rooms others [] n h = rw (← h) refl
 unset_include rooms others (x ∷ xs) zero h = absurd (omega (arith, h))
 unset_include rooms others (x ∷ xs) (suc n) h = unset_include rooms others xs n (omega (arith, h))
 
--- each unset slot lies in what admits one
+-- each unset slot is included in an unset one
 pub all_admit : (rooms others : List Room) (n : ℕ) → true ≡ list_all (slot_included rooms others cell.Unset) (replicate n cell.Unset)
 all_admit rooms others zero = refl
 all_admit rooms others (suc n) = all_admit rooms others n
@@ -57,7 +56,7 @@ unset_in rooms others [] n h = rw h refl
 unset_in rooms others (x ∷ xs) zero h = absurd (omega (arith, h))
 unset_in rooms others (x ∷ xs) (suc n) h = ap (λ t. slot_included rooms others cell.Unset x && t) (unset_in rooms others xs n (omega (arith, h)))
 
--- a slot without a label is as well formed as it was
+-- forgetting a label keeps a slot well formed
 pub slot_whole : (label : ℕ) (s : AbsSlot) → IsSlot s → IsSlot (slot_unlabelled label s)
 slot_whole label cell.Unset h = tt
 slot_whole label (cell.Bytes mask) h = tt

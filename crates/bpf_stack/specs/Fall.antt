@@ -6,13 +6,13 @@ use Rattle.bpf_stack.specs.declared.tree.Slots.TheVariants.{Unset, Leaf, Fork}
 use Rattle.bpf_stack.specs.declared.tree.Pair.TheDeep.{deep-Slots}
 use Rattle.bpf_stack.specs.Leaves.{slots_of, IsEven}
 
--- the measure falls by what lies below the top
+-- the depth is at most the number of slots plus 1
 below : (s : Slots) → deep-Slots s ≤ length (slots_of s) + 1
 below (Unset depth) = omega arith
 below (Leaf one) = omega arith
 below (Fork pair) = omega arith
 
--- two even halves have together at least as many slots as either of them is deep
+-- neither half of a row is deeper than the number of slots of both
 pub fall : (l r : Slots) → IsEven (slots_of l) (slots_of r) →
     max (deep-Slots l) (max (deep-Slots r) 0) ≤ length (slots_of l ++ slots_of r)
 fall l r h =

@@ -1,9 +1,8 @@
-//! The stack of a call frame, as far as it is known: 64 slots of eight bytes.
+//! What is known of a call frame's stack: 64 slots of eight bytes.
 //!
-//! Main calls: `Stack::get`, `set`, `first_outside`, `is_included`, `forget`. It stands on `bpf_absval`. Contracts
-//! see a stack as the list of its slots. In memory it is a binary tree of shared parts: a clone is
-//! one count, a write copies the way to its slot, and unset slots take nothing. A refused growth
-//! leaves the stack as it was.
+//! Main calls: `Stack::get`, `set`, `first_outside`, `is_included`, `forget`. It depends on `bpf_absval`. Contracts see
+//! a stack as the list of its slots. In memory it is a binary tree of shared parts: a clone increments one count, a
+//! write copies the path to its slot, and unset slots take no memory. If an allocation fails, the stack is unchanged.
 #![tactic(auto)]
 
 pub mod stack;

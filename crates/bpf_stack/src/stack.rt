@@ -11,8 +11,8 @@ use bpf_absval::{AbsSlot, Rooms};
 use std::alloc::{AllocError, Global};
 use std::marker::Model;
 
-/// What is known of the 512 bytes of a call frame's stack: slot i has the bytes from 8 * i on. A copy shares with the
-/// first what neither has written since.
+/// What is known of the 512 bytes of a call frame's stack: slot i has the bytes from 8 * i on. Copies share the parts
+/// that neither has written since.
 #[derive(Drop)]
 pub struct Stack {
     alloc: Global,
@@ -45,7 +45,7 @@ impl Clone for Stack {
 }
 
 impl Stack {
-    /// A stack of which nothing is known. It takes no memory.
+    /// A stack of which nothing is known. It doesn't allocate.
     pub fn unset(alloc: Global) -> Stack
         ensures { result ≡ replicate 64 cell.Unset }
     {
@@ -55,7 +55,7 @@ impl Stack {
         }
     }
 
-    /// There are 64 slots, and the numbers of what is stored are abstract numbers.
+    /// It has 64 well-formed slots.
     pub fn whole(&self)
         ensures { IsStack self.now }
     {
@@ -70,7 +70,7 @@ impl Stack {
         self.slots.get(64, index)
     }
 
-    /// Puts a slot at `index`, in this stack alone. Where memory is wanting the stack stays as it is.
+    /// Sets the slot at `index`. If allocation fails, the stack is unchanged.
     pub fn set(&mut self, index: usize, slot: AbsSlot) -> Result<(), AllocError>
         requires { index < 64 }
         ensures ok { OnOk result (self.new ≡ slice_set self.old index slot) }
@@ -81,8 +81,8 @@ impl Stack {
         self.slots.set(alloc, 64, index, slot)
     }
 
-    /// The first place at which the slot of this stack, in a state with `rooms`, does not lie in the other's, in a state
-    /// with `others`.
+    /// An index at which the slot of this stack, in a state with `rooms`, isn't included in the other's, in a state
+    /// with `others`; `None` if there is none.
     pub fn first_outside(&self, other: &Stack, rooms: &Rooms, others: &Rooms) -> Option<usize>
         ensures none { IfNone result
             (slots_included rooms.now others.now self.now other.now ≡ true) }
@@ -93,15 +93,15 @@ impl Stack {
         self.slots.first_outside(&other.slots, 64, rooms, others)
     }
 
-    /// Whether each slot of this stack, in a state with `rooms`, lies in the other's at the same place, in a state with
-    /// `others`.
+    /// Whether each slot of this stack, in a state with `rooms`, is included in the other's at that index, in a state
+    /// with `others`.
     pub fn is_included(&self, other: &Stack, rooms: &Rooms, others: &Rooms) -> bool
         ensures { result ≡ slots_included rooms.now others.now self.now other.now }
     {
         self.first_outside(other, rooms, others).is_none()
     }
 
-    /// Takes the label from each slot; what has none stays shared. Where memory is wanting the stack stays as it is.
+    /// Removes the label from each slot; slots without it stay shared. If allocation fails, the stack is unchanged.
     pub fn forget(&mut self, label: u16) -> Result<(), AllocError>
         ensures ok { OnOk result (self.new ≡ map (slot_unlabelled label) self.old) }
         ensures err { OnErr result (self.new ≡ self.old) }

@@ -1,4 +1,4 @@
-//! A row of slots as a binary tree, which copies share until one of them is written. Unset slots side by side take no
+//! A row of slots as a binary tree, which copies share until one of them is written. Adjacent unset slots take no
 //! memory.
 
 ghost use Rattle.std.specs.Prelude.{◌≡◌, ◌^◌, ◌<◌, ◌++◌, length, map, slice_set, slice_get, OnOk, OnErr, IfOk, IfSome, IfNone, replicate, true};
@@ -14,7 +14,7 @@ use std::alloc::{AllocError, Global};
 use std::marker::Model;
 use std::rc::Rc;
 
-/// A row of slots; how many is a power of two.
+/// A row of slots; their number is a power of two.
 #[cycle(slots)]
 #[derive(Drop)]
 pub enum Slots {
@@ -22,11 +22,11 @@ pub enum Slots {
     Unset(u32),
     /// One.
     Leaf(Rc<AbsSlot>),
-    /// The slots of two rows, one after the other.
+    /// The slots of two rows, in order.
     Fork(Rc<Pair>),
 }
 
-/// Two rows with as many slots each.
+/// Two rows of equal length.
 #[cycle(slots)]
 #[derive(Drop)]
 pub struct Pair {
@@ -84,7 +84,6 @@ impl Clone for Pair {
 }
 
 impl Slots {
-    /// Two rows, one after the other.
     fn joined(alloc: Global, left: Slots, right: Slots) -> Result<Slots, AllocError>
         requires even { IsEven (slots_of left) (slots_of right) }
         ensures { IfOk result (λ slots. slots_of slots ≡ slots_of left ++ slots_of right) }
@@ -93,7 +92,7 @@ impl Slots {
         Ok(Slots::Fork(pair))
     }
 
-    /// A row of `count` slots, two to the power of `depth`, of which the one at `index` is known.
+    /// A row of `count` slots, two to the power of `depth`: `slot` at `index`, the others unset.
     fn with_one(
         alloc: Global,
         depth: u32,
@@ -122,7 +121,7 @@ impl Slots {
         return Ok(slots);
     }
 
-    /// The slot at place `index` of `count`.
+    /// The slot at `index`, of `count`.
     pub fn get(&self, count: usize, index: usize) -> AbsSlot
         requires whole { count ≡ length (slots_of self.now) }
         requires within { index < count }
@@ -142,7 +141,7 @@ impl Slots {
         }
     }
 
-    /// Puts `slot` at place `index` of `count`; what others share is copied along the way to it.
+    /// Sets the slot at `index`, of `count`; shared parts on the path to it are copied.
     pub fn set(
         &mut self,
         alloc: Global,
@@ -179,7 +178,7 @@ impl Slots {
         }
     }
 
-    /// The first place at which an unset slot does not lie in that of this row, of `count` slots.
+    /// An index at which an unset slot isn't included in that of this row, of `count` slots.
     fn first_set(&self, count: usize, rooms: &Rooms, others: &Rooms) -> Option<usize>
         requires whole { count ≡ length (slots_of self.now) }
         ensures none { IfNone result
@@ -212,7 +211,7 @@ impl Slots {
         }
     }
 
-    /// The first place at which the slot of this row, of `count` slots, does not lie in the other's.
+    /// An index at which the slot of this row, of `count` slots, isn't included in the other's.
     pub fn first_outside(
         &self,
         other: &Slots,
@@ -286,7 +285,7 @@ impl Slots {
         }
     }
 
-    /// The row without a label; parts that do not have it are shared.
+    /// The row without a label; parts that don't have it are shared.
     pub fn without_label(&self, alloc: Global, label: u16) -> Result<Slots, AllocError>
         ensures { IfOk result
             (λ slots. slots_of slots ≡ map (slot_unlabelled label) (slots_of self.now)) }

@@ -1,4 +1,4 @@
--- What it says of the bits of x that a tristate number contains it.
+-- What membership of x in a tristate number says of the bits of x.
 use Rattle.std.proofs.Common.{ℕ, ◌≡◌, ◌+◌, ◌-◌, ◌^◌, ◌<◌, min, max, sym, ap, ◌∙◌, arith, bit_and, bit_or}
 use Rattle.std.specs.Int.{bit_at, w64}
 use Rattle.std.proofs.lemmas.Nat.{and_le_l, or_lt, or_disjoint}
@@ -7,7 +7,7 @@ use Rattle.bpf_words.specs.Word.{word_not}
 use Rattle.bpf_tnum.specs.Tnum.{Bits, InTnum}
 use Rattle.bpf_words.proofs.Bits.{subset_from_bits}
 
--- a bit that is known is that of the value, and where a bit isn't known the value has 0
+-- a bit of the value is that of x if known, else 0
 pub known_bit : (t : Bits) (x : ℕ) → InTnum t x → (i : ℕ) → i < 64 → bit_at t.value i ≡ min (bit_at x i) (1 - bit_at t.mask i)
 known_bit t x h i within =
     ap (λ n. bit_at n i) (sym h.known) ∙ bit_at_and x (word_not t.mask) i
@@ -31,7 +31,7 @@ value_apart t x h =
     same_from_bits_below 64 _ _ (omega (arith, and_le_l t.value t.mask, value-lt t x h)) (omega arith)
     (λ i l. omega (arith, bit_at_and t.value t.mask i, known_bit t x h i l, bit_at-lt t.mask i, bit_at-zero i))
 
--- the greatest number that t contains
+-- the greatest number in t
 abbrev pub most : Bits → ℕ
 most t = t.value + t.mask
 
@@ -44,7 +44,7 @@ most-lt t x h = omega (arith, most_is_or t x h, or_lt 64 t.value t.mask (value-l
 pub bit_at_most : (t : Bits) (x : ℕ) → InTnum t x → (i : ℕ) → bit_at (most t) i ≡ max (bit_at t.value i) (bit_at t.mask i)
 bit_at_most t x h i = ap (λ n. bit_at n i) (sym (most_is_or t x h)) ∙ bit_at_or t.value t.mask i
 
--- the value's bits are bits of x, and those are bits of the greatest
+-- the value's bits are bits of x, whose bits are bits of the greatest number
 pub value_within : (t : Bits) (x : ℕ) → InTnum t x → bit_and t.value x ≡ t.value
 value_within t x h = subset_from_bits t.value x (value-lt t x h) (λ i l. omega (arith, known_bit t x h i l))
 

@@ -1,4 +1,4 @@
--- Known zeros at the low end, and what is cut off.
+-- Known low zeros, and truncation.
 use Rattle.std.proofs.Common.{ℕ, suc, ◌≡◌, ◌+◌, ◌-◌, ◌*◌, ◌/◌, ◌%◌, ◌^◌, ◌<◌, ◌≤◌, min, refl, sym, ap, subst, ◌∙◌, arith, bit_and, bit_or, ⊎_elim}
 use Rattle.std.specs.Int.{bit_at, w64}
 use Rattle.std.proofs.lemmas.Nat.{and_mask, and_le_r, pow_pos, shr_le, trailing_le}
@@ -40,7 +40,6 @@ single_contains x fits = record {
   known = and_mask x 64 ∙ omega arith;
 }
 
--- the known zeros of a
 pub zeros_divide : (a : Bits) (x : ℕ) → InTnum a x → IsMultiple (tnum_zeros a) x
 zeros_divide a x h =
     let n = bit_or a.value a.mask in
@@ -53,7 +52,7 @@ zeros_divide a x h =
     (λ nothing. omega (arith, mod-le x (2 ^ t), is_most, within_most a x h, and_le_r x (most a)))
     (cases_lt 0 n)
 
--- a product, and a shift, which is a product with a power
+-- products, and shifts, which are products with a power of 2
 product_contains : (s t x y : ℕ) → IsMultiple s x → IsMultiple t y → InTnum (tnum_low (min (s + t) 64)) ((x * y) % 2 ^ 64)
 product_contains s t x y h k =
     low_contains (min (s + t) 64) ((x * y) % 2 ^ 64) (omega arith) (omega arith)

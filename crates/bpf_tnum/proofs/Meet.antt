@@ -1,4 +1,4 @@
--- Numbers of two tristate numbers, inclusion, and what a branch on bits tells.
+-- Intersection, inclusion, and range refinement by a branch on bits.
 use Rattle.std.proofs.Common.{ℕ, ◌≡◌, ◌^◌, ◌<◌, refl, ap, ◌∙◌, arith, bit_and, bit_or, true, cond, Some, None}
 use Rattle.std.specs.Prelude.{nat_eq}
 use Rattle.std.specs.Int.Bits.{bit_xor}
@@ -8,7 +8,7 @@ use Rattle.bpf_words.specs.Word.{word_not}
 use Rattle.bpf_tnum.specs.Tnum.{Bits, InTnum, tnum_of, tnum_meet, tnum_included}
 use Rattle.bpf_words.proofs.Table.{A, B, C, D, none, both, either, differing, without, word-lt, by_table, by_table_given}
 
--- the numbers of both are in what the meeting gives, and then it gives something
+-- a number of both is in their intersection
 pub meet_contains : (a b : Bits) (x : ℕ) → InTnum a x → InTnum b x → (r : Bits) × (tnum_meet a b ≡ Some r) × InTnum r x
 unfolding tnum_meet
 meet_contains a b x h k =
@@ -31,7 +31,7 @@ meet_contains a b x h k =
       },
     )
 
--- inclusion, into a tristate number whose value and mask share no bit
+-- inclusion in a tristate number whose value and mask share no bit
 pub included_contains : (a b : Bits) (x : ℕ) → b.value < 2 ^ 64 → b.mask < 2 ^ 64 → bit_and b.value b.mask ≡ 0
     → tnum_included a b ≡ true → InTnum a x → InTnum b x
 unfolding tnum_included
@@ -50,7 +50,7 @@ included_contains a b x value_fits mask_fits apart test h =
           (λ i. bit_or (bit_or (same_at_x i) (wider i)) (apart i));
     }
 
--- what a branch on bits tells: `x & c` is 0, or is c
+-- range refinement by a branch on bits: `x & c` is 0, or is c
 pub clear_contains : (c x : ℕ) → c < 2 ^ 64 → x < 2 ^ 64 → bit_and x c ≡ 0 → InTnum (tnum_of 0 (word_not c)) x
 clear_contains c x c_fits fits h = record {
   mask_is_word = omega arith;

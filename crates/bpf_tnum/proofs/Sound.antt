@@ -11,7 +11,7 @@ use Rattle.bpf_words.proofs.Table.{BitTerm, A, B, C, D, none, both, either, diff
 use Rattle.bpf_words.proofs.Carry.{bit_at-between}
 use Rattle.bpf_tnum.proofs.Contains.{known_bit, contains_from_bits, contains_value, value-lt, most, most-lt, bit_at_most, value_within, within_most}
 
--- A result r is contained where at each bit that the mask leaves known it has the bit of s.
+-- A result r is contained if it agrees with s at each bit that the mask leaves known.
 pub cleared_contains : (s mu r : ℕ) → s < 2 ^ 64 → mu < 2 ^ 64 → r < 2 ^ 64
     → ((i : ℕ) → i < 64 → bit_at mu i ≡ 0 → bit_at r i ≡ bit_at s i)
     → InTnum (tnum_of (bit_and s (word_not mu)) mu) r
@@ -33,7 +33,7 @@ xor_zero p q i h = omega (arith, bit_at_xor p q i, bit_at-lt p i, bit_at-lt q i)
 no_carry : (n i : ℕ) → bit_at (n + 0) i ≡ bit_at n i
 no_carry n i = ap (λ m. bit_at m i) (add-zero n)
 
--- at a bit that both operands know, the ends of a are those of x
+-- at a known bit, the least and the greatest number agree with x
 value_bit : (t : Bits) (x : ℕ) → InTnum t x → (i : ℕ) → i < 64 → bit_at t.mask i ≡ 0 → bit_at t.value i ≡ bit_at x i
 value_bit t x h i l z = omega (arith, known_bit t x h i l, bit_at-lt x i, z)
 
@@ -90,7 +90,7 @@ sub_bit a b x y h k i l az bz same =
     (omega (arith, bit_at_not w64 b.value i least_fits l, bit_at_not w64 y i k.is_word l, value_bit b y k i l bz))
     (sym same)
 
--- a difference is a sum with the complement, and one more
+-- subtraction adds the complement, and 1
 word_sub_is : (x y : ℕ) → y < 2 ^ 64 → word_sub x y ≡ (x + word_not y + 1) % 2 ^ 64
 word_sub_is x y h = omega arith
 
@@ -130,7 +130,8 @@ sub_contains a b x y h k =
 
 -- ---- the bitwise operations
 
--- Their formulas are equations between bitwise terms over x, y and the masks, once a value is written as x without the mask.
+-- Their formulas are equations between bitwise terms over x, y and the masks, if a value is written as x without the
+-- mask.
 pub contains_by_table : (v m r : BitTerm) → table_given none none (both r (without m)) v ≡ true
     → (a b : Bits) (x y : ℕ) → InTnum a x → InTnum b y
     → InTnum (tnum_of (word x y a.mask b.mask v) (word x y a.mask b.mask m)) (word x y a.mask b.mask r)

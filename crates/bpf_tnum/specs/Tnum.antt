@@ -3,7 +3,7 @@ use Rattle.std.specs.Prelude.{ℕ, ◌≡◌, ◌+◌, ◌-◌, ◌%◌, ◌^◌
 use Rattle.std.specs.Int.{trailing_zeros, w64}
 use Rattle.bpf_words.specs.Word.{word_add, word_sub, word_not}
 
--- the bits of `value` that stand under a 0 of `mask` are known
+-- a bit of `value` is known if that bit of `mask` is 0
 pub record Bits : Type 0 where
   pub value : ℕ
   pub mask : ℕ
@@ -14,25 +14,25 @@ pub record InTnum (t : Bits) (x : ℕ) : Type 0 where
   pub is_word : x < 2 ^ 64
   pub known : bit_and x (word_not t.mask) ≡ t.value
 
--- a tristate number of these known bits and this mask
+-- the tristate number with this value and mask
 abbrev pub tnum_of : ℕ → ℕ → Bits
 tnum_of v m = record { value = v; mask = m }
 
--- sums; a bit that a carry may reach isn't known
+-- sums; a bit is known if both operands know it and the least and the greatest sum agree on it
 unfoldable pub tnum_add : Bits → Bits → Bits
 tnum_add a b =
     let sum = word_add a.value b.value in
     let mu = bit_or (bit_or (bit_xor (word_add (word_add a.mask b.mask) sum) sum) a.mask) b.mask in
     record { value = bit_and sum (word_not mu); mask = mu }
 
--- differences; a bit that a borrow may reach isn't known
+-- differences; a bit is known if both operands know it and the least and the greatest difference agree on it
 unfoldable pub tnum_sub : Bits → Bits → Bits
 tnum_sub a b =
     let difference = word_sub a.value b.value in
     let mu = bit_or (bit_or (bit_xor (word_add difference a.mask) (word_sub difference b.mask)) a.mask) b.mask in
     record { value = bit_and difference (word_not mu); mask = mu }
 
--- bitwise AND: a bit that is 0 in one of both is known to be 0
+-- bitwise AND: a bit that is 0 in either operand is known to be 0
 unfoldable pub tnum_and : Bits → Bits → Bits
 tnum_and a b =
     let v = bit_and a.value b.value in
@@ -41,13 +41,13 @@ tnum_and a b =
       mask = bit_and (bit_and (bit_or a.value a.mask) (bit_or b.value b.mask)) (word_not v);
     }
 
--- bitwise OR: a bit that is 1 in one of both is known to be 1
+-- bitwise OR: a bit that is 1 in either operand is known to be 1
 unfoldable pub tnum_or : Bits → Bits → Bits
 tnum_or a b =
     let v = bit_or a.value b.value in
     record { value = v; mask = bit_and (bit_or a.mask b.mask) (word_not v) }
 
--- bitwise XOR: a bit is known where both are
+-- bitwise XOR: a bit is known if both operands know it
 unfoldable pub tnum_xor : Bits → Bits → Bits
 tnum_xor a b =
     let mu = bit_or a.mask b.mask in
@@ -61,7 +61,7 @@ tnum_full = record { value = 0; mask = 2 ^ 64 - 1 }
 abbrev pub tnum_single : ℕ → Bits
 tnum_single n = record { value = n; mask = 0 }
 
--- the lowest t bits are 0, and the others aren't known
+-- the lowest t bits are 0, the others unknown
 unfoldable pub tnum_low : ℕ → Bits
 tnum_low t = record { value = 0; mask = 2 ^ 64 - 2 ^ t }
 
@@ -69,15 +69,15 @@ tnum_low t = record { value = 0; mask = 2 ^ 64 - 2 ^ t }
 abbrev pub tnum_zeros : Bits → ℕ
 tnum_zeros a = trailing_zeros w64 (bit_or a.value a.mask)
 
--- products: known are the lowest zeros, as many as both factors have together
+-- products: the known low zeros of both add up
 unfoldable pub tnum_mul : Bits → Bits → Bits
 tnum_mul a b = tnum_low (min (tnum_zeros a + tnum_zeros b) 64)
 
--- a shift to the left: known are the lowest zeros, c more than before
+-- left shifts: c more known low zeros
 unfoldable pub tnum_shl : Bits → ℕ → Bits
 tnum_shl a c = tnum_low (min (tnum_zeros a + c) 64)
 
--- a shift to the right: known are the lowest zeros, c fewer than before
+-- right shifts: c fewer known low zeros
 unfoldable pub tnum_shr : Bits → ℕ → Bits
 tnum_shr a c = (if nat_lt c (tnum_zeros a) then tnum_low (tnum_zeros a - c) else tnum_full)
 
@@ -85,7 +85,7 @@ tnum_shr a c = (if nat_lt c (tnum_zeros a) then tnum_low (tnum_zeros a - c) else
 unfoldable pub tnum_cut : ℕ → Bits → Bits
 tnum_cut w a = record { value = a.value % 2 ^ w; mask = a.mask % 2 ^ w }
 
--- the words of both; nothing where a bit is known to be 0 in one and 1 in the other
+-- the intersection; None if a bit is known to be 0 in one and 1 in the other
 unfoldable pub tnum_meet : Bits → Bits → Option Bits
 tnum_meet a b =
     let mu = bit_and a.mask b.mask in

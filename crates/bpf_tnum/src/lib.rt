@@ -1,8 +1,8 @@
-//! Tristate numbers: words of 64 bits of which some bits are known.
+//! Tristate numbers: 64-bit words of which some bits are known.
 //!
-//! Main calls: `Tnum::new`, `add`, `and`, `mul`, `meet`, `is_included`. It stands on `bpf_words`.
-//! Each operation answers its definition in `specs/Tnum.antt`. That it contains each result of the
-//! machine's operation is said by the laws of [`laws`]. No call takes memory.
+//! Main calls: `Tnum::new`, `add`, `and`, `mul`, `meet`, `is_included`. It depends on `bpf_words`.
+//! Each operation returns what its definition in `specs/Tnum.antt` says. The laws of [`laws`] say
+//! that it contains every result of the machine's operation. No call allocates.
 #![tactic(auto)]
 
 pub mod laws;
@@ -13,7 +13,7 @@ ghost use Rattle.bpf_words.specs.Word.{word_not};
 
 use std::marker::Model;
 
-/// The words that agree with `value` at each bit that is 0 in `mask`. The bits that are 1 in `mask` are not known, and
+/// The words that agree with `value` at each bit that is 0 in `mask`. The bits that are 1 in `mask` are unknown, and
 /// are 0 in `value`.
 #[derive(Clone, Copy, Debug, PartialEq, Eq)]
 pub struct Tnum {
@@ -32,7 +32,7 @@ impl Model for Tnum {
 }
 
 impl Tnum {
-    /// The words with `value` at the bits that are 0 in `mask`.
+    /// The words with `value` at the bits that are 0 in `mask`; `value` is 0 at the others.
     pub fn new(value: u64, mask: u64) -> Tnum
         requires apart { bit_and value mask ≡ 0 }
         ensures { result ≡ tnum_of value mask }
@@ -40,7 +40,7 @@ impl Tnum {
         Tnum { value, mask }
     }
 
-    /// The sums (ADD): a bit is known where no carry that could come differs.
+    /// The sums (ADD): a bit is known if both operands know it and the least and the greatest sum agree on it.
     #[tactic(auto, using(bpf_words::proofs::Bits::apart), unfolding(crate::specs::Tnum::tnum_add))]
     pub fn add(self, other: Tnum) -> Tnum
         ensures { result ≡ tnum_add self other }
@@ -54,7 +54,8 @@ impl Tnum {
         }
     }
 
-    /// The differences (SUB): a bit is known where no borrow that could come differs.
+    /// The differences (SUB): a bit is known if both operands know it and the least and the greatest difference agree
+    /// on it.
     #[tactic(auto, using(bpf_words::proofs::Bits::apart), unfolding(crate::specs::Tnum::tnum_sub))]
     pub fn sub(self, other: Tnum) -> Tnum
         ensures { result ≡ tnum_sub self other }
@@ -69,7 +70,7 @@ impl Tnum {
         }
     }
 
-    /// AND: a bit is known where both are, or where one is known to be 0.
+    /// AND: a bit is known if both operands know it, or one knows that it is 0.
     #[tactic(auto, using(bpf_words::proofs::Bits::apart), unfolding(crate::specs::Tnum::tnum_and))]
     pub fn and(self, other: Tnum) -> Tnum
         ensures { result ≡ tnum_and self other }
@@ -81,7 +82,7 @@ impl Tnum {
         }
     }
 
-    /// OR: a bit is known where both are, or where one is known to be 1.
+    /// OR: a bit is known if both operands know it, or one knows that it is 1.
     #[tactic(auto, using(bpf_words::proofs::Bits::apart), unfolding(crate::specs::Tnum::tnum_or))]
     pub fn or(self, other: Tnum) -> Tnum
         ensures { result ≡ tnum_or self other }
@@ -93,7 +94,7 @@ impl Tnum {
         }
     }
 
-    /// XOR: a bit is known where both are.
+    /// XOR: a bit is known if both operands know it.
     #[tactic(auto, using(bpf_words::proofs::Bits::apart), unfolding(crate::specs::Tnum::tnum_xor))]
     pub fn xor(self, other: Tnum) -> Tnum
         ensures { result ≡ tnum_xor self other }
@@ -113,7 +114,7 @@ impl Tnum {
         self.value
     }
 
-    /// The bits that are not known.
+    /// The unknown bits.
     pub fn mask(self) -> u64
         ensures value { result ≡ self.mask }
         ensures apart { bit_and self.value self.mask ≡ 0 }
@@ -152,7 +153,7 @@ impl Tnum {
         }
     }
 
-    /// The words whose lowest `zeros` bits are 0, at most 64.
+    /// The words whose lowest `zeros` bits are 0; `zeros` is at most 64.
     #[tactic(auto, unfolding(crate::specs::Tnum::tnum_low))]
     pub fn low(zeros: u32) -> Tnum
         requires { zeros ≤ 64 }
@@ -178,7 +179,7 @@ impl Tnum {
         Tnum::low(zeros.min(64))
     }
 
-    /// LSH by `count`, below 64: as many more known low zeros.
+    /// LSH by `count`, below 64: `count` more known low zeros, at most 64.
     #[tactic(auto, unfolding(crate::specs::Tnum::tnum_shl))]
     pub fn shift_left(self, count: u32) -> Tnum
         requires { count < 64 }
@@ -188,7 +189,7 @@ impl Tnum {
         Tnum::low(zeros.min(64))
     }
 
-    /// RSH by `count`, below 64: as many fewer known low zeros.
+    /// RSH by `count`, below 64: `count` fewer known low zeros.
     #[tactic(auto, unfolding(crate::specs::Tnum::tnum_shr))]
     pub fn shift_right(self, count: u32) -> Tnum
         requires { count < 64 }
@@ -216,7 +217,7 @@ impl Tnum {
         }
     }
 
-    /// The words of both, and `None` where a bit that both know differs.
+    /// The intersection, or `None` if a bit that both know differs.
     #[tactic(auto, using(bpf_words::proofs::Bits::apart), unfolding(crate::specs::Tnum::tnum_meet))]
     pub fn meet(self, other: Tnum) -> Option<Tnum>
         ensures { result ≡ tnum_meet self other }

@@ -1,4 +1,4 @@
-//! What the ways of a conditional jump tell of the numbers that it compares (RFC 9669, section 4.3).
+//! What the branches of a conditional jump tell of the numbers that it compares (RFC 9669, section 4.3).
 
 ghost use Rattle.std.specs.Prelude.{ℕ, ◌≡◌};
 ghost use Rattle.bpf_absnum.specs.Number.{Num};
@@ -11,10 +11,9 @@ use bpf_tnum::Tnum;
 use bpf_values::comparisons::{compares_32, compares_64};
 use bpf_words::low_half;
 
-/// What is left of both numbers on a way, and `None` where no pair of words takes it.
+/// What remains of both numbers on a branch, or `None` if no pair of words takes it.
 pub type Pair = Option<(AbsNum, AbsNum)>;
 
-/// The two the other way round.
 fn turned_pair(pair: Pair) -> Pair
     ensures { result ≡ turned pair }
 {
@@ -22,7 +21,7 @@ fn turned_pair(pair: Pair) -> Pair
     Some((two, one))
 }
 
-/// A comparison of JMP or of JMP32.
+/// Whether a comparison of JMP (`wide`) or JMP32 holds.
 fn compares(wide: bool, compare: Compare, x: u64, y: u64) -> bool
     ensures { result ≡ compares wide compare x y }
 {
@@ -65,7 +64,6 @@ impl AbsNum {
         Some((one, two))
     }
 
-    /// Where `self > other`.
     #[tactic(auto, unfolding(crate::specs::Branch::num_greater))]
     fn greater(self, other: AbsNum) -> Pair
         ensures { result ≡ num_greater self other }
@@ -74,7 +72,6 @@ impl AbsNum {
         self.with_range(one).paired(other.with_range(two))
     }
 
-    /// Where `self <= other`.
     #[tactic(auto, unfolding(crate::specs::Branch::num_at_most))]
     fn at_most(self, other: AbsNum) -> Pair
         ensures { result ≡ num_at_most self other }
@@ -83,7 +80,6 @@ impl AbsNum {
         self.with_range(one).paired(other.with_range(two))
     }
 
-    /// Where `self > other`, read as signed.
     #[tactic(auto, unfolding(crate::specs::Branch::num_signed_greater))]
     fn signed_greater(self, other: AbsNum, wide: bool) -> Pair
         ensures { result ≡ num_signed_greater wide self other }
@@ -95,7 +91,6 @@ impl AbsNum {
         self.with_signed(one).paired(other.with_signed(two))
     }
 
-    /// Where `self <= other`, read as signed.
     #[tactic(auto, unfolding(crate::specs::Branch::num_signed_at_most))]
     fn signed_at_most(self, other: AbsNum, wide: bool) -> Pair
         ensures { result ≡ num_signed_at_most wide self other }
@@ -107,7 +102,6 @@ impl AbsNum {
         self.with_signed(one).paired(other.with_signed(two))
     }
 
-    /// Where `self == other`.
     #[tactic(auto, unfolding(crate::specs::Branch::num_equal))]
     fn equal(self, other: AbsNum, wide: bool) -> Pair
         ensures { result ≡ num_equal wide self other }
@@ -123,7 +117,7 @@ impl AbsNum {
         one.paired(AbsNum::new(range, other.signed, bits))
     }
 
-    /// Where `self != constant`.
+    /// What remains if `self != constant`.
     #[tactic(auto, unfolding(crate::specs::Branch::num_without))]
     fn without(self, constant: u64, wide: bool) -> Option<AbsNum>
         ensures { result ≡ num_without wide self constant }
@@ -145,7 +139,7 @@ impl AbsNum {
         Some(AbsNum::new(self.range, self.signed, bits))
     }
 
-    /// Where `self & constant != 0`.
+    /// What remains if `self & constant != 0`.
     #[tactic(auto, unfolding(crate::specs::Branch::num_some_set))]
     fn some_set(self, constant: u64) -> Option<AbsNum>
         ensures { result ≡ num_some_set self constant }
@@ -159,7 +153,7 @@ impl AbsNum {
         }
     }
 
-    /// Where `self & constant == 0`.
+    /// What remains if `self & constant == 0`.
     #[tactic(auto, unfolding(crate::specs::Branch::num_none_set))]
     fn none_set(self, constant: u64) -> Option<AbsNum>
         ensures { result ≡ num_none_set self constant }
@@ -167,7 +161,7 @@ impl AbsNum {
         self.met(Tnum::masked(0, !constant))
     }
 
-    /// Where `self != other`, if one side is single.
+    /// What remains if `self != other`, refined if one side is single.
     #[tactic(auto, unfolding(crate::specs::Branch::by_single))]
     fn unequal(self, other: AbsNum, wide: bool) -> Pair
         ensures { result ≡ by_single (num_without wide) self other }
@@ -183,7 +177,7 @@ impl AbsNum {
         Some((self, other))
     }
 
-    /// Where `self & other != 0`, if one side is single.
+    /// What remains if `self & other != 0`, refined if one side is single.
     #[tactic(auto, unfolding(crate::specs::Branch::by_single))]
     fn sharing(self, other: AbsNum) -> Pair
         ensures { result ≡ by_single num_some_set self other }
@@ -199,7 +193,7 @@ impl AbsNum {
         Some((self, other))
     }
 
-    /// Where `self & other == 0`, if one side is single.
+    /// What remains if `self & other == 0`, refined if one side is single.
     #[tactic(auto, unfolding(crate::specs::Branch::by_single))]
     fn sharing_none(self, other: AbsNum) -> Pair
         ensures { result ≡ by_single num_none_set self other }
@@ -215,7 +209,6 @@ impl AbsNum {
         Some((self, other))
     }
 
-    /// Where the comparison holds.
     #[tactic(auto, unfolding(crate::specs::Branch::num_holds))]
     fn holding(self, compare: Compare, wide: bool, other: AbsNum) -> Pair
         ensures { result ≡ num_holds wide compare self other }
@@ -235,7 +228,6 @@ impl AbsNum {
         }
     }
 
-    /// Where the comparison doesn't hold.
     #[tactic(auto, unfolding(crate::specs::Branch::num_fails))]
     fn failing(self, compare: Compare, wide: bool, other: AbsNum) -> Pair
         ensures { result ≡ num_fails wide compare self other }
@@ -255,7 +247,7 @@ impl AbsNum {
         }
     }
 
-    /// Whether a comparison tells something of both: in JMP32 where all words are low halves, and of signed ones below 2^31.
+    /// Whether a comparison refines both: in JMP32 only if all words are below 2^32, and below 2^31 if it is signed.
     fn tells(self, compare: Compare, wide: bool, other: AbsNum) -> bool
         ensures { result ≡ tells wide compare self other }
     {
@@ -267,9 +259,9 @@ impl AbsNum {
         wide || self.range.high() < limit && other.range.high() < limit
     }
 
-    /// What is left of both on one way of a conditional jump in JMP, or in JMP32 unless `wide`: the way on which the
-    /// comparison holds where `taken`, and else the other one. Where both are single, it is decided. For an immediate,
-    /// `other` is that number alone; in JMP32 its low 32 bits.
+    /// What remains of both on one branch of a conditional jump in JMP, or in JMP32 unless `wide`: the branch on which
+    /// the comparison holds if `taken`, else the other one. If both are single, the comparison is decided. For an
+    /// immediate, `other` is that number alone; in JMP32 its low 32 bits.
     #[tactic(auto, unfolding(crate::specs::Branch::num_branch))]
     pub fn branch(self, compare: Compare, wide: bool, taken: bool, other: AbsNum) -> Pair
         ensures { result ≡ num_branch wide compare taken self other }

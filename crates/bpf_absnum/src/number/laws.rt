@@ -1,12 +1,12 @@
-//! What the operations on abstract numbers keep, each law on a function with nothing to do.
+//! Soundness of the operations on abstract numbers. Each law's function does nothing.
 
 ghost use Rattle.std.specs.Prelude.{ℕ, ◌≡◌};
 ghost use Rattle.bpf_absnum.specs.Laws.{IsNum, TightenKeeps, IncludedKeeps, FullContains, SingleContains, CutContains, AluContains, NegatedContains, ExtendedContains, OrderedContains, WithinContains, LoadedContains, LoadedSignedContains, BranchKeeps};
 
 use crate::number::AbsNum;
 
-/// Tightening loses no member. Where a number is included in another, each of its members is one of that. All words, one
-/// word, and the low halves are what they say.
+/// Tightening loses no member. Each member of an included number is a member of the other. `full` contains all words,
+/// `single` its word, and `cut` the members' low halves.
 pub fn number_law()
     ensures tighten { TightenKeeps }
     ensures included { IncludedKeeps }
@@ -20,7 +20,8 @@ pub fn well_formed_law(number: AbsNum)
     ensures { IsNum number }
 {}
 
-/// Each instruction's result on members is a member of its result, and what is loaded is a member of the load's.
+/// The abstract result of each instruction contains its result on members, and that of a load each word that may be
+/// loaded.
 pub fn transfer_law()
     ensures alu { AluContains }
     ensures negated { NegatedContains }
@@ -31,7 +32,7 @@ pub fn transfer_law()
     ensures loaded_signed { LoadedSignedContains }
 {}
 
-/// On each way of a conditional jump the members that take it are kept, so a way is left out only where none takes it.
+/// Each branch of a conditional jump keeps the members that take it. So `branch` returns `None` only if none takes it.
 pub fn branch_law()
     ensures { BranchKeeps }
 {}

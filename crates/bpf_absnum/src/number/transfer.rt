@@ -1,6 +1,5 @@
-//! What instructions make of abstract numbers (RFC 9669, sections 4.1, 4.2 and 5). Where all operands are single, the
-//! result is the machine's; else each operation has a row, whose result is tightened, and is all words where the row finds
-//! nothing.
+//! Abstract results of instructions (RFC 9669, sections 4.1, 4.2 and 5). If all operands are single, the result is the
+//! machine's. Otherwise each operation has a row, whose result is tightened, and is all words if no word remains.
 
 ghost use Rattle.std.specs.Prelude.{ℕ, ◌≡◌, ◌^◌, ◌<◌, ◌≤◌, IfSome};
 ghost use Rattle.bpf_insn.specs.Widths.{extension_bits};
@@ -14,7 +13,7 @@ use bpf_interval::{Interval, SignedInterval};
 use bpf_tnum::Tnum;
 use bpf_values::arithmetic::{bits_ordered, compute, extend, in_order};
 
-/// The signed interval of a row, which ALU64 alone has.
+/// The signed interval of a row: only ALU64 has one.
 fn signed_in(wide: bool, signed: SignedInterval) -> SignedInterval
     ensures { result ≡ in_wide wide signed }
 {
@@ -110,7 +109,6 @@ impl AbsNum {
         AbsNum::tight(Interval::full(), SignedInterval::full(), bits)
     }
 
-    /// A shift count, masked.
     #[tactic(auto, unfolding(crate::specs::Transfer::masked))]
     fn masked(self, wide: bool) -> AbsNum
         ensures { result ≡ masked wide self }
@@ -170,7 +168,7 @@ impl AbsNum {
         }
     }
 
-    /// The divisor of SDIV and SMOD in ALU64, if it is single and at least 1.
+    /// The divisor of SDIV and SMOD in ALU64, if it is single and at least 1 as signed.
     #[tactic(auto, unfolding(crate::specs::Transfer::divisor_of))]
     fn divisor(self, wide: bool) -> Option<u64>
         ensures divisor { result ≡ divisor_of wide self }
@@ -233,7 +231,7 @@ impl AbsNum {
         }
     }
 
-    /// SDIV, all words unless the divisor is single and at least 1.
+    /// SDIV, all words in ALU, and unless the divisor is single and, as signed, at least 1.
     fn sdiv(self, other: AbsNum, wide: bool) -> AbsNum
         ensures { result ≡ num_by (divisor_of wide other) (row_sdiv self) }
     {
@@ -243,7 +241,7 @@ impl AbsNum {
         }
     }
 
-    /// SMOD, all words unless the divisor is single and at least 1.
+    /// SMOD, all words in ALU, and unless the divisor is single and, as signed, at least 1.
     fn smod(self, other: AbsNum, wide: bool) -> AbsNum
         ensures { result ≡ num_by (divisor_of wide other) (row_smod self) }
     {
@@ -253,7 +251,6 @@ impl AbsNum {
         }
     }
 
-    /// The row of an operation.
     #[tactic(auto, unfolding(crate::specs::Transfer::num_row))]
     fn row(self, op: AluOp, wide: bool, other: AbsNum) -> AbsNum
         ensures { result ≡ num_row wide op self other }
@@ -307,7 +304,7 @@ impl AbsNum {
         }
     }
 
-    /// END of words of more than one.
+    /// END of a number that isn't single.
     #[tactic(auto, unfolding(crate::specs::Transfer::row_ordered))]
     fn reordered(self, order: ByteOrder, width: OrderWidth) -> AbsNum
         ensures { result ≡ row_ordered order width self }
@@ -379,7 +376,7 @@ impl AbsNum {
         self.reordered(order, width)
     }
 
-    /// The words of an interval, as a helper answers them.
+    /// The words of an interval, as a helper may return them.
     #[tactic(auto, unfolding(crate::specs::Transfer::num_within))]
     pub fn within(words: Interval) -> AbsNum
         ensures { result ≡ num_within words }
@@ -387,7 +384,7 @@ impl AbsNum {
         AbsNum::tight(words, SignedInterval::full(), Tnum::full())
     }
 
-    /// What a load of `bits` bits gives, 1 to 64, and what an atomic of that width gives back.
+    /// What a load of `bits` bits may return, 1 to 64, or an atomic operation of that width.
     #[tactic(auto, unfolding(crate::specs::Transfer::num_loaded))]
     pub fn loaded(bits: u32) -> AbsNum
         requires positive { 0 < bits }
@@ -397,7 +394,7 @@ impl AbsNum {
         AbsNum::within(Interval::of_bits(bits))
     }
 
-    /// What a load of `bits` bits with sign gives, 1 to 64.
+    /// What a sign-extending load of `bits` bits may return, 1 to 64.
     #[tactic(auto, unfolding(crate::specs::Transfer::num_loaded_signed))]
     pub fn loaded_signed(bits: u32) -> AbsNum
         requires positive { 0 < bits }
