@@ -44,7 +44,7 @@ fn bytes_of(alloc: Global, slots: &[Option<Insn>]) -> Result<Vec<u8>, AllocError
     ensures is { IfOk result (λ v. (bytes : List ℕ) → IsTable bytes slots.now (count bytes) →
         length bytes ≡ 8 * count bytes → v.items ≡ bytes) }
 {
-    // The check must be told of a type that an instruction holds.
+    // Names a type inside instructions, which the check needs.
     let _source: Option<Source> = None;
     let mut bytes = Vec::new(alloc);
     for at in 0..slots.len() {
@@ -53,7 +53,7 @@ fn bytes_of(alloc: Global, slots: &[Option<Insn>]) -> Result<Vec<u8>, AllocError
     Ok(bytes)
 }
 
-/// The bytes that spell the program: those that it was decoded from.
+/// The bytes that spell the program, which it was decoded from; `AllocError` if memory is refused.
 pub fn encode(alloc: Global, program: &Program) -> Result<Vec<u8>, AllocError>
     ensures spelled { IfOk result (λ v. Spells v.items program.now) }
 {
@@ -61,8 +61,8 @@ pub fn encode(alloc: Global, program: &Program) -> Result<Vec<u8>, AllocError>
     bytes_of(alloc, program.slots())
 }
 
-/// Different bytes spell different programs, and bytes spell one program for its shapes.
-/// So `encode` gives back the bytes that `decode` was given.
+/// At most one sequence of bytes spells a program, and bytes spell at most one program for given shapes. So `encode`
+/// returns the bytes that `decode` was given.
 pub fn spelling_law()
     ensures one_text { (a b : List ℕ) (c : Code) → Spells a c → Spells b c → a ≡ b }
     ensures one_program { (a : List ℕ) (c d : Code) → Spells a c → Spells a d →

@@ -15,7 +15,7 @@ pub(crate) fn slot_in(code: &[u8], at: usize) -> [u8; 8]
     slot
 }
 
-/// The slot after one, unless that is the last.
+/// The slot after `at`, if there is one.
 pub(crate) fn slot_after(code: &[u8], at: usize) -> Option<[u8; 8]>
     requires place { at < count code.now }
     ensures is { result ≡ slot_if code.now (at + 1) }
@@ -35,7 +35,7 @@ fn begins_wide(code: &[u8], at: usize) -> bool
     code[8 * at] == 0x18
 }
 
-/// Whether the next slot starts an instruction, where this one starts one and where it has the opcode of a wide load.
+/// Whether the next slot starts an instruction: not if this one starts one and has the opcode of a wide load.
 fn next_starts(starts: bool, wide: bool) -> bool
     ensures is { result ≡ not (starts && wide) }
 {
