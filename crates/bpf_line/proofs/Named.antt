@@ -1,4 +1,4 @@
--- What the names of the text of instructions say.
+-- The names in the text of instructions are words, and are read as their operations.
 use Rattle.std.specs.Prelude.{◌≡◌, ℕ, Some, List, [], ◌∷◌, ◌++◌, Bool, true, false, codes, refl}
 use Rattle.bpf_insn.specs.declared.insn.AluOp.{AluOp}
 use Rattle.bpf_insn.specs.declared.insn.AluOp.TheVariants as alu

@@ -118,7 +118,7 @@ pub(crate) fn load_named(name: &str) -> Option<(Size, bool)>
     }
 }
 
-/// A store of an imm.
+/// A store of an immediate.
 pub(crate) fn store_named(name: &str) -> Option<Size>
     ensures is { result ≡ store_named name.now }
 {

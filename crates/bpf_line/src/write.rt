@@ -167,7 +167,7 @@ impl fmt::Display for Operand {
     }
 }
 
-/// Memory: a register and an offset between brackets.
+/// Memory: a register and an offset in brackets.
 #[derive(Clone, Copy)]
 struct Memory {
     base: Reg,
