@@ -46,8 +46,8 @@ abbrev pub InSecond : Kind → Fields → Option Fields → FieldFault → Type 
 InSecond kind.LoadWide f second e = InHalf f.src second e
 InSecond _ f second e = ⊥
 
--- e is a fault of the slot with fields f, whose next slot has the fields second: no kind of instruction has the opcode,
--- or the kind that has it doesn't allow a field's value or the second half
+-- e is a fault of the slot with fields f, with the next slot's fields second: no kind of instruction has the opcode, or
+-- the kind that has it doesn't allow a field's value or the second half
 pub data HasFault (f : Fields) (second : Option Fields) (e : FieldFault) : Type 0 where
   NoKind : ((k : Kind) → IsKind k → opcode_of k ≢ f.opcode) →
       e ≡ UnknownOpcode → HasFault f second e

@@ -264,7 +264,6 @@ fn access_fields(i: Insn) -> Fields
     }
 }
 
-/// The fields of an instruction's first slot.
 fn first_fields(i: Insn) -> Fields
     requires { IsInsn i }
     ensures { result ≡ fields_of i }
