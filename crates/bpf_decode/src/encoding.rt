@@ -26,7 +26,6 @@ fn half_bytes(slots: &[Option<Insn>], at: usize) -> [u8; 8]
     }
 }
 
-/// The bytes of a slot.
 fn slot_bytes(slots: &[Option<Insn>], at: usize) -> [u8; 8]
     requires insns { (k : ℕ) (i : Insn) → Holds slots.now k i → IsInsn i }
     requires place { at < length slots.now }
@@ -38,7 +37,6 @@ fn slot_bytes(slots: &[Option<Insn>], at: usize) -> [u8; 8]
     }
 }
 
-/// The bytes of all slots.
 fn bytes_of(alloc: Global, slots: &[Option<Insn>]) -> Result<Vec<u8>, AllocError>
     requires insns { (k : ℕ) (i : Insn) → Holds slots.now k i → IsInsn i }
     ensures is { IfOk result (λ v. (bytes : List ℕ) → IsTable bytes slots.now (count bytes) →
@@ -53,7 +51,7 @@ fn bytes_of(alloc: Global, slots: &[Option<Insn>]) -> Result<Vec<u8>, AllocError
     Ok(bytes)
 }
 
-/// The bytes that spell the program, which it was decoded from; `AllocError` if memory is refused.
+/// The bytes that spell the program: those that it was decoded from.
 pub fn encode(alloc: Global, program: &Program) -> Result<Vec<u8>, AllocError>
     ensures spelled { IfOk result (λ v. Spells v.items program.now) }
 {
@@ -61,8 +59,8 @@ pub fn encode(alloc: Global, program: &Program) -> Result<Vec<u8>, AllocError>
     bytes_of(alloc, program.slots())
 }
 
-/// At most one sequence of bytes spells a program, and bytes spell at most one program for given shapes. So `encode`
-/// returns the bytes that `decode` was given.
+/// Different bytes spell different programs, and bytes spell at most one program for given shapes. So `encode` returns
+/// the bytes that `decode` was given.
 pub fn spelling_law()
     ensures one_text { (a b : List ℕ) (c : Code) → Spells a c → Spells b c → a ≡ b }
     ensures one_program { (a : List ℕ) (c d : Code) → Spells a c → Spells a d →
