@@ -13,7 +13,6 @@ fn is_numeral(text: &[u8], radix: u32) -> bool
     !text.is_empty() && text.iter().all(|byte| char::from(*byte).is_digit(radix))
 }
 
-/// The number that digits spell.
 fn numeral(text: &[u8], radix: u32) -> Result<u64, LineFault>
     requires { (radix ≡ 10) ⊎ (radix ≡ 16) }
     ensures is { result ≡ numeral radix text.now }

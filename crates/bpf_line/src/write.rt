@@ -125,7 +125,6 @@ fn suffix(wide: bool) -> &'static str
     if wide { "" } else { "32" }
 }
 
-/// A register's name.
 #[derive(Clone, Copy)]
 struct Register(Reg);
 
