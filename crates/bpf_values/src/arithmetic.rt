@@ -49,7 +49,6 @@ pub fn wrong_kinds(a: Value, b: Value) -> u8
     }
 }
 
-/// An operation on 64 bits.
 fn operate_64(op: AluOp, x: u64, y: u64) -> u64
     ensures { result ≡ operation 64 op x y }
 {
@@ -71,7 +70,6 @@ fn operate_64(op: AluOp, x: u64, y: u64) -> u64
     }
 }
 
-/// An operation on 32 bits.
 fn operate_32(op: AluOp, x: u32, y: u32) -> u32
     ensures { result ≡ operation 32 op x y }
 {

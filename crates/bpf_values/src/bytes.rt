@@ -120,7 +120,6 @@ pub fn store_number(frame: &mut StackFrame, at: usize, count: usize, number: u64
     write_number(&mut frame.bytes, at, count, number);
 }
 
-/// Spills a value into a whole slot.
 fn spill(frame: &mut StackFrame, at: usize, value: Value)
     requires { at + 8 ≤ 512 }
     ensures { frame.new ≡ spilled frame.old at value }

@@ -7,7 +7,6 @@ ghost use Rattle.bpf_model.specs.Step.{atomic_bytes};
 use bpf_regions::MapOp;
 use bpf_words::low_half;
 
-/// The 8-byte word after an operation.
 fn number_after_wide(op: MapOp, x: u64) -> u64
     ensures is { result ≡ number_after (2 ^ 64) op x }
 {
@@ -23,7 +22,6 @@ fn number_after_wide(op: MapOp, x: u64) -> u64
     }
 }
 
-/// The 4-byte word after an operation.
 fn number_after_narrow(op: MapOp, x: u32) -> u32
     ensures is { result ≡ number_after (2 ^ 32) op x }
 {
