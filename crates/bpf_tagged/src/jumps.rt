@@ -16,7 +16,6 @@ use bpf_values::causes;
 use bpf_values::comparisons::is_taken;
 use bpf_words::word_of_int;
 
-/// The target of a jump at `pc`.
 fn jump_target(pc: usize, offset: i32) -> Option<usize>
     requires { pc < 65536 }
     ensures { result ≡ target pc offset }
