@@ -59,7 +59,7 @@ least_of None b = b
 least_of (Some a) None = Some a
 least_of (Some a) (Some b) = (if nat_le (number_of a) (number_of b) then Some a else Some b)
 
--- the slot, if any, has these fields
+-- the slot of these fields, if any
 abbrev pub IsHalfOf : Option Fields → Option (List ℕ) → Type 0
 IsHalfOf None s = s ≡ None
 IsHalfOf (Some f) s = s ≡ Some (slot_of f)
