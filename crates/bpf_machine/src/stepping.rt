@@ -34,7 +34,7 @@ pub fn step<P: Port>(
     return perform_slot(program.shapes(), frame, context, slot, machine, port);
 }
 
-/// Keeps a note, if there is one, if it is among the first 16.
+/// Keeps the note, if any, if it is among the first 16.
 pub fn keep_note(notes: &mut ArrayVec<u64, 16>, noted: Option<u64>)
     ensures is { (all : List ℕ) →
         notes.old.items ≡ take 16 all → notes.new.items ≡ take 16 (with_note all noted) }
