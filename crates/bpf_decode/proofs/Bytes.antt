@@ -15,7 +15,7 @@ use Rattle.bpf_decode.specs.Code.{count, slot, slot_if, starts, At}
 use Rattle.bpf_decode.specs.Program.{Code, IsEntry, IsTable, Holds}
 use Rattle.bpf_decode.proofs.Whole.{halves_into, first_start}
 
--- a slot that starts an instruction
+-- the bytes of a slot that starts an instruction
 pub first_bytes : (bytes : List ℕ) (slots : List (Option Insn)) (k : ℕ) (i : Insn) → IsTable bytes slots (count bytes) → Holds slots k i → slot_of (fields_of i) ≡ slot bytes k
 first_bytes bytes slots k i t holds = sym (t.entry k (Some i) holds).1.first_slot
 
@@ -23,12 +23,12 @@ some_slot : (b : Bool) (x s : List ℕ) → cond b (Some x) None ≡ Some s → 
 some_slot true x s e = cc
 some_slot false x s e = absurd cc
 
--- a wide load's second slot
+-- the bytes of a wide load's second slot
 second_bytes : (bytes : List ℕ) (k : ℕ) (i : Insn) → At bytes k i → size_of i ≡ 2 → second_slot_of (second_of i) ≡ Some (slot bytes (k + 1))
 second_bytes bytes k (insn.LoadWide d v) at two = ap (λ (s : List ℕ). Some s) (some_slot (nat_lt (k + 1) (count bytes)) (slot bytes (k + 1)) _ at.second_slot)
 second_bytes bytes k _ at two = absurd (omega arith)
 
--- the instruction before a second half spells it
+-- a second half is spelled by the instruction before it
 pub half_bytes : (bytes : List ℕ) (slots : List (Option Insn)) (k : ℕ) (o : Option Insn) → IsTable bytes slots (count bytes) → slice_get slots (k + 1) ≡ Some None → slice_get slots k ≡ Some o
     → (i : Insn) × (o ≡ Some i) × (second_slot_of (second_of i) ≡ Some (slot bytes (k + 1)))
 half_bytes bytes slots k o t half here =
@@ -40,18 +40,18 @@ half_bytes bytes slots k o t half here =
 pub no_half_first : (bytes : List ℕ) (slots : List (Option Insn)) → IsTable bytes slots (count bytes) → slice_get slots 0 ≡ Some None → ⊥
 no_half_first bytes slots t half = let a : starts bytes 0 ≡ false = t.entry 0 None half in let b = first_start bytes in cc
 
--- one slot more
+-- one slot more extends the bytes
 pub take_slot : (bytes out new : List ℕ) (n : ℕ) → out ≡ take (8 * n) bytes → new ≡ slot bytes n → out ++ new ≡ take (8 * (n + 1)) bytes
 take_slot bytes out new n p q =
     let e : 8 * (n + 1) ≡ 8 * n + 8 = omega arith in
     let more : take (8 * n + 8) bytes ≡ take (8 * n) bytes ++ take 8 (drop (8 * n) bytes) = take-add (8 * n) 8 bytes in
     rw (p, q, e) (sym more)
 
--- what an index reads
+-- indexing reads the table's entry
 pub index_get : (slots : List (Option Insn)) (k : ℕ) (d o : Option Insn) → k < length slots → get_or slots k d ≡ o → slice_get slots k ≡ Some o
 index_get slots k d o less e = slice_get-get_or slots k d less ∙ ap (λ (p : Option Insn). Some p) e
 
--- the same with the slot before named by the slot after
+-- the same for the preceding slot
 pub before_get : (slots : List (Option Insn)) (at : ℕ) (d o : Option Insn) → at < length slots → (at ≡ 0 → ⊥) → get_or slots (at - 1) d ≡ o → slice_get slots (at - 1) ≡ Some o
 before_get slots at d o less some e = index_get slots (at - 1) d o (omega arith) e
 
@@ -75,7 +75,7 @@ half_read bytes slots at i r d t some half here e =
 pub no_half_after_half : (bytes : List ℕ) (slots : List (Option Insn)) (at : ℕ) → IsTable bytes slots (count bytes) → (at ≡ 0 → ⊥) → slice_get slots at ≡ Some None → slice_get slots (at - 1) ≡ Some None → ⊥
 no_half_after_half bytes slots at t some half here = let h = half_before bytes slots at None t some half here in let e = h.1 in cc
 
--- Bytes that spell one program are the same.
+-- At most one sequence of bytes spells a program.
 one_slot : (a b : List ℕ) (slots : List (Option Insn)) (k : ℕ) (o : Option Insn) → IsTable a slots (count a) → IsTable b slots (count b) → slice_get slots k ≡ Some o → slot a k ≡ slot b k
 one_slot a b slots k (Some i) s t e = sym (first_bytes a slots k i s e) ∙ first_bytes b slots k i t e
 one_slot a b slots zero None s t e = absurd (no_half_first a slots s e)
@@ -106,7 +106,7 @@ same_bytes a b slots s t p q =
     let whole_b : length b ≤ 8 * n = let x = t.len in omega arith in
     sym (take_all (8 * n) a whole_a) ∙ same_front a b slots n s t (omega arith) ∙ take_all (8 * n) b whole_b
 
--- Bytes spell one program.
+-- Bytes spell at most one program.
 same_entry : (bytes : List ℕ) (k : ℕ) (o p : Option Insn) → IsEntry bytes k o → IsEntry bytes k p → o ≡ p
 same_entry bytes k None None s t = refl
 same_entry bytes k None (Some j) s t = absurd (let a : starts bytes k ≡ false = s in let b : starts bytes k ≡ true = t.0.1 in cc)

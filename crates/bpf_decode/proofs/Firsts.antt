@@ -65,7 +65,7 @@ told_push code xs ys x n e len here told k lt =
           subst (λ j. get_or ys j false ≡ starts code j) (sym last) at_last
     ]
 
--- an instruction that is read and breaks no rule leaves its slot without a fault
+-- a slot has no fault if its instruction is read and breaks no rule
 pub no_fault_at : (code : List ℕ) (shapes : List Shape) (k : ℕ) (i : Insn) (first : List ℕ) (second : Option (List ℕ)) → first ≡ slot code k → second ≡ slot_if code (k + 1)
     → ((e : FieldFault) → HasFault (fields_at first) (half_at second) e → ⊥) → ((j : Insn) → Spelled first second j → j ≡ i)
     → ((m : ℕ) → RuleFault code shapes k i m → ⊥) → (n : ℕ) → FaultAt code shapes k n → ⊥

@@ -23,7 +23,7 @@ none_made slots t m = let h = m.below in absurd (omega arith)
 some_same : (a b : Option Insn) (o : Option (Option Insn)) → o ≡ Some a → o ≡ Some b → a ≡ b
 some_same a b o p q = cc
 
--- with one slot more, what it makes is added
+-- one slot more adds the targets that it makes
 pub made_more : (n : ℕ) (slots : List (Option Insn)) (o : Option Insn) (t : ℕ) → slice_get slots n ≡ Some o → IsMadeBelow (n + 1) slots t ↔ (IsMadeBelow n slots t ⊎ MakesTarget n o t)
 made_more n slots o t holds = (into, out)
   where
@@ -72,7 +72,7 @@ made_target : (slots : List (Option Insn)) (t k : ℕ) (o : Option Insn) → sli
 made_target slots t k None holds makes = absurd makes
 made_target slots t k (Some i) holds makes = ⊎_elim (λ j. made_jump slots k i t (jump_of i) holds refl j) (λ r. made_return slots k i t holds r) makes
 
--- the targets are the start, and what the instructions make
+-- the targets are the start and those that instructions make
 pub targets_are : (slots : List (Option Insn)) (t : ℕ) → IsTarget slots t ↔ ((t ≡ 0) ⊎ IsMade slots t)
 targets_are slots t = (into, out)
   where
@@ -87,7 +87,7 @@ targets_are slots t = (into, out)
     out : (t ≡ 0) ⊎ IsMade slots t → IsTarget slots t
     out = ⊎_elim Start made
 
--- one step of the table: C held of t before, N holds after slot n was looked at
+-- one step of the table: C holds of t before slot n is processed, N after
 pub marks_step : (n : ℕ) (slots : List (Option Insn)) (o : Option Insn) (t : ℕ) (I C N : Type 0) (a b : ℕ) → a ≡ b → slice_get slots n ≡ Some o
     → (C ↔ (I ⊎ ((t < a) × IsMadeBelow n slots t))) → (N ↔ (C ⊎ ((t < a) × MakesTarget n o t))) → N ↔ (I ⊎ ((t < b) × IsMadeBelow (n + 1) slots t))
 marks_step n slots o t I C N a b same holds before step =

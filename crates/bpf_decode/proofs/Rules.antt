@@ -9,7 +9,7 @@ use Rattle.bpf_decode.specs.Code.{count, JumpsInside, RuleFault, Astray, PastEnd
 use Rattle.bpf_decode.specs.Answer.{slot_number}
 use Rattle.bpf_decode.specs.Checks.{lowest_fault}
 
--- which test tells which fault
+-- which test finds which fault
 pub record Tests (code : List ℕ) (shapes : List Shape) (k : ℕ) (i : Insn) (a b c d e : Bool) : Type 0 where
   pub astray : IsTrue a ↔ (JumpsInside code k (jump_of i) → ⊥)
   pub past : IsTrue b ↔ ((k + size_of i ≡ count code) × (ends i ≡ false))
@@ -31,7 +31,7 @@ above code shapes k i n m (FramePointer h) p q r s t = r h
 above code shapes k i n m (Helper h) p q r s t = s h
 above code shapes k i n m (UnknownMap h) p q r s t = t h
 
--- no test holds, no fault
+-- there is no fault if no test holds
 clean : (code : List ℕ) (shapes : List Shape) (k : ℕ) (i : Insn) (m : ℕ) → RuleFault code shapes k i m
     → ((JumpsInside code k (jump_of i) → ⊥) → ⊥) → (k + size_of i ≡ count code → ends i ≡ false → ⊥) → (written i ≡ Some 10 → ⊥)
     → ((KnowsHelper i → ⊥) → ⊥) → ((KnowsMap shapes i → ⊥) → ⊥) → ⊥
@@ -44,7 +44,7 @@ clean code shapes k i m (UnknownMap h) p q r s t = t h
 no : false ≡ true → ⊥
 no e = cc
 
--- a test and its negation
+-- a negated test decides the negation
 pub not_iff : (b : Bool) (P : Type 0) → (IsTrue b ↔ P) → (IsTrue (not b) ↔ (P → ⊥))
 not_iff true P h = ((λ e. absurd cc), (λ n. absurd (n (h.0 refl))))
 not_iff false P h = ((λ e p. no (h.1 p)), (λ n. refl))

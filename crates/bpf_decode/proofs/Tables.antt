@@ -10,7 +10,7 @@ use Rattle.bpf_regions.specs.declared.maps.Shape.{Shape}
 use Rattle.bpf_decode.specs.Code.{count, FaultAt, InFields, InRules}
 use Rattle.bpf_decode.specs.Program.{IsEntry, IsTable}
 
--- what stands in a list with one more at its end
+-- appending an element keeps the others
 front_same : (xs : List (Option Insn)) (o p : Option Insn) (k : ℕ) → k < length xs → slice_get (xs ++ o ∷ []) k ≡ Some p → slice_get xs k ≡ Some p
 front_same xs o p k less e =
     let there = slice_get-get_or xs k None less in

@@ -1,4 +1,4 @@
--- What well-formed code is, by its slots.
+-- What well-formedness means for slots.
 use Rattle.std.proofs.Common.{◌≡◌, ℕ, ◌+◌, ◌*◌, ◌<◌, ◌⊎◌, ◌↔◌, List, length, get_or, Option, Some, None, Bool, true, false, cond, inl, inr, refl, sym, ap, subst, ◌∙◌, arith}
 use Rattle.std.specs.Prelude.{slice_get, slice_index, ℤ, pos, negsuc, ◌+ℤ◌, ◌≤ℤ◌, not, ◌&&◌, nat_eq, nat_lt, IsTrue}
 use Rattle.std.proofs.lemmas.Int.{ints}
@@ -21,7 +21,7 @@ use Rattle.bpf_decode.specs.Code.{count, slot, slot_if, is_wide, starts, Starts,
 use Rattle.bpf_decode.specs.Program.{Code, IsEntry, IsTable, Spells, Holds, Begins, IsWhole, IsTarget, Start, Jumped, Returned, Tells}
 use Rattle.bpf_decode.proofs.Firsts.{starts_next}
 
--- the opcode of a wide load is that of no other instruction
+-- no other instruction has the opcode of a wide load
 not_wide : (o : ℕ) → (o ≡ 24 → ⊥) → nat_eq o 24 ≡ false
 not_wide o h = ne_eqb o 24 h
 
@@ -77,13 +77,13 @@ first_byte : (f : Fields) → slice_index (slot_of f) 0 ≡ f.opcode
 unfolding slot_of
 first_byte f = refl
 
--- a slot has the opcode of a wide load exactly where one starts there
+-- the instruction at a slot has the opcode of a wide load exactly if it has two slots
 at_wide : (bytes : List ℕ) (k : ℕ) (i : Insn) → At bytes k i → is_wide bytes k ≡ nat_eq (size_of i) 2
 at_wide bytes k i at =
     let opcode : slice_index (slot bytes k) 0 ≡ (fields_of i).opcode = ap (λ (s : List ℕ). slice_index s 0) at.first_slot ∙ first_byte (fields_of i) in
     ap (λ n. nat_eq n 24) opcode ∙ wide_by_size i
 
--- which slots start an instruction, after one that does
+-- whether the slot after one that starts an instruction starts one
 starts_after : (bytes : List ℕ) (k : ℕ) (i : Insn) → starts bytes k ≡ true → At bytes k i → starts bytes (k + 1) ≡ not (nat_eq (size_of i) 2)
 starts_after bytes k i start at =
     let wide = at_wide bytes k i at in
@@ -96,7 +96,7 @@ inside_by : (b : Bool) (x s : List ℕ) → cond b (Some x) None ≡ Some s → 
 inside_by true x s e = refl
 inside_by false x s e = absurd cc
 
--- a slot that is there
+-- a slot that exists is inside the code
 pub slot_there : (bytes : List ℕ) (k : ℕ) (s : List ℕ) → slot_if bytes k ≡ Some s → k < count bytes
 slot_there bytes k s e = ltb-true k (count bytes) (inside_by (nat_lt k (count bytes)) (slot bytes k) s e)
 
@@ -109,7 +109,7 @@ one_or_two : (i : Insn) → (size_of i ≡ 1) ⊎ (size_of i ≡ 2)
 one_or_two (insn.LoadWide d v) = inr refl
 one_or_two _ = inl refl
 
--- the instruction after one that isn't the last
+-- an instruction follows each one that isn't the last
 goes_on : (bytes : List ℕ) (k : ℕ) (i : Insn) → Starts bytes k → At bytes k i → (k + size_of i ≡ count bytes → ⊥) → Starts bytes (k + size_of i)
 goes_on bytes k i start at more =
     let after = starts_after bytes k i start.1 at in
@@ -253,11 +253,11 @@ spelled_whole bytes c s =
 pub begins_inside : (slots : List (Option Insn)) (k : ℕ) → Begins slots k → k < length slots
 begins_inside slots k b = slice_get_within slots k (Some b.0) b.1
 
--- a slot starts one instruction
+-- a slot starts at most one instruction
 pub same_insn : (slots : List (Option Insn)) (k : ℕ) (i j : Insn) → Holds slots k i → Holds slots k j → i ≡ j
 same_insn slots k i j h g = same_Some i j (same_Some (Some i) (Some j) (sym h ∙ g))
 
--- every target of whole code is inside, and starts an instruction
+-- every target of whole code starts an instruction
 pub target_begins : (c : Code) (t : ℕ) → IsWhole c → IsTarget c.slots t → Begins c.slots t
 target_begins c t w (Start e) = subst (Begins c.slots) (sym e) w.first
 target_begins c t w (Jumped k i x holds e j) =
@@ -265,7 +265,7 @@ target_begins c t w (Jumped k i x holds e j) =
     subst (Begins c.slots) (same_target k x t l.0 j l.1) l.2
 target_begins c t w (Returned k x holds e) = subst (Begins c.slots) (sym e) (w.onward k (insn.CallLocal x) holds refl)
 
--- a table that tells the targets below its end tells them all
+-- a table that marks exactly the targets within its length marks exactly the targets
 pub targets_told : (c : Code) (targets : List Bool) (n : ℕ) → IsWhole c → n ≡ length c.slots → ((t : ℕ) → IsTrue (get_or targets t false) ↔ ((t < n) × IsTarget c.slots t)) → Tells targets c.slots
 targets_told c targets n w same told t = (
   λ h. ((told t).0 h).1,

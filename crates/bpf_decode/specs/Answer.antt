@@ -1,4 +1,4 @@
--- What decoding answers where the bytes are no code.
+-- What decoding returns if the bytes aren't well-formed code.
 use Rattle.std.specs.Prelude.{◌≡◌, ◌≢◌, ℕ, ◌*◌, ◌<◌, ◌≤◌, List, ◌++◌, length, codes, decimal}
 use Rattle.bpf_insn.specs.Faults as field
 use Rattle.bpf_regions.specs.declared.maps.Shape.{Shape}
@@ -17,7 +17,7 @@ slot_number slot.FrameWritten = 17
 slot_number slot.UnknownHelper = 18
 slot_number slot.UnknownMap = 19
 
--- want of memory has the number 40
+-- the number of a refusal; 40 is lack of memory
 abbrev pub fault_number : DecodeFault → ℕ
 fault_number fault.NoMemory = 40
 fault_number fault.Length = 1
@@ -25,24 +25,24 @@ fault_number fault.Empty = 2
 fault_number fault.Long = 3
 fault_number (fault.At k e) = slot_number e
 
--- where it stands; the first slot, if it isn't at one
+-- the slot of a fault; 0 if it is at none
 abbrev pub fault_slot : DecodeFault → ℕ
 fault_slot (fault.At k e) = k
 fault_slot _ = 0
 
--- a fault as it is printed: its number and its slot
+-- a fault as printed: its number and its slot
 abbrev pub fault_text : DecodeFault → List ℕ
 fault_text fault.NoMemory = codes "out of memory"
 fault_text e = codes "fault " ++ decimal (fault_number e) ++ codes " at " ++ decimal (fault_slot e)
 
--- the least pair of slot and number, in code of as many slots as may be
+-- the first fault is number n at slot k, in code of a permitted length
 pub record HasPlace (code : List ℕ) (shapes : List Shape) (k n : ℕ) : Type 0 where
   pub some : 0 < length code
   pub whole : length code ≡ 8 * count code
   pub short : count code ≤ 16384
   pub first : IsFirst code shapes k n
 
--- Which fault the code has. Of memory nothing is said.
+-- The code has this fault. Lack of memory says nothing about it.
 abbrev pub Refuses : List ℕ → List Shape → DecodeFault → Type 0
 Refuses code shapes fault.NoMemory = Unit {0}
 Refuses code shapes fault.Length = length code ≢ 8 * count code
@@ -50,7 +50,7 @@ Refuses code shapes fault.Empty = length code ≡ 0
 Refuses code shapes fault.Long = (length code ≡ 8 * count code) × (16384 < count code)
 Refuses code shapes (fault.At k e) = HasPlace code shapes k (slot_number e)
 
--- a fault at a slot, or want of memory
+-- the first fault at a slot, or lack of memory
 abbrev pub FindsFirst : List ℕ → List Shape → DecodeFault → Type 0
 FindsFirst code shapes fault.NoMemory = Unit {0}
 FindsFirst code shapes fault.Length = ⊥

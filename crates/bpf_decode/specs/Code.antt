@@ -16,11 +16,11 @@ count code = length code / 8
 abbrev pub slot : List ℕ → ℕ → List ℕ
 slot code k = take 8 (drop (8 * k) code)
 
--- the slot, if the code goes so far
+-- slot k, if the code has it
 abbrev pub slot_if : List ℕ → ℕ → Option (List ℕ)
 slot_if code k = (if nat_lt k (count code) then Some (slot code k) else None)
 
--- its opcode is that of a wide load
+-- slot k has the opcode of a wide load
 abbrev pub is_wide : List ℕ → ℕ → Bool
 is_wide code k = nat_eq (slice_index (slot code k) 0) 0x18
 
@@ -33,7 +33,7 @@ starts code (suc k) = not (starts code k && is_wide code k)
 abbrev pub Starts : List ℕ → ℕ → Type 0
 Starts code k = (k < count code) × (starts code k ≡ true)
 
--- the instruction that slot k spells, with the next one if it is wide
+-- slot k spells the instruction i, with the next slot if i is a wide load
 abbrev pub At : List ℕ → ℕ → Insn → Type 0
 At code k i = Spelled (slot code k) (slot_if code (k + 1)) i
 
@@ -41,7 +41,7 @@ At code k i = Spelled (slot code k) (slot_if code (k + 1)) i
 abbrev pub Leads : List ℕ → ℕ → ℤ → Type 0
 Leads code k x = (t : ℕ) × IsJump k x t × Starts code t
 
--- so does its jump, if it has one
+-- the jump of the instruction at slot k, if any, does so
 abbrev pub JumpsInside : List ℕ → ℕ → Option ℤ → Type 0
 JumpsInside code k None = Unit {0}
 JumpsInside code k (Some x) = Leads code k x
@@ -54,19 +54,19 @@ pub data RuleFault (code : List ℕ) (shapes : List Shape) (k : ℕ) (i : Insn) 
   Helper : (KnowsHelper i → ⊥) → RuleFault code shapes k i 18
   UnknownMap : (KnowsMap shapes i → ⊥) → RuleFault code shapes k i 19
 
--- the faults of the code: a slot and a number
+-- the faults of the code, each by its slot and number
 pub data FaultAt (code : List ℕ) (shapes : List Shape) (k : ℕ) : ℕ → Type 0 where
   InFields : (e : FieldFault) → Starts code k → HasFault (fields_at (slot code k))
       (half_at (slot_if code (k + 1))) e → FaultAt code shapes k (number_of e)
   InRules : (i : Insn) (n : ℕ) → Starts code k → At code k i →
       RuleFault code shapes k i n → FaultAt code shapes k n
 
--- the least pair: the lowest slot, then the lowest number
+-- the first fault: the lowest slot, then the lowest number
 pub record IsFirst (code : List ℕ) (shapes : List Shape) (k n : ℕ) : Type 0 where
   pub is_fault : FaultAt code shapes k n
   pub lowest : (j m : ℕ) → FaultAt code shapes j m → (k < j) ⊎ ((k ≡ j) × (n ≤ m))
 
--- 1 to 16384 whole slots without a fault
+-- the code is 1 to 16384 whole slots without a fault
 pub record WellFormed (code : List ℕ) (shapes : List Shape) : Type 0 where
   pub some : 0 < length code
   pub whole : length code ≡ 8 * count code

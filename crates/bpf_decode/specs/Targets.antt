@@ -9,16 +9,16 @@ abbrev pub JumpsTo : ℕ → Option ℤ → ℕ → Type 0
 JumpsTo k None t = ⊥
 JumpsTo k (Some x) t = IsJump k x t
 
--- a local function that is called at slot k comes back to slot t
+-- a local function called at slot k returns to slot t
 abbrev pub ReturnsTo : ℕ → Insn → ℕ → Type 0
 ReturnsTo k (insn.CallLocal x) t = t ≡ k + 1
 ReturnsTo k _ t = ⊥
 
--- what starts at slot k, if anything, makes slot t a target
+-- the instruction at slot k, if any, makes slot t a target
 abbrev pub MakesTarget : ℕ → Option Insn → ℕ → Type 0
 MakesTarget k None t = ⊥
 MakesTarget k (Some i) t = JumpsTo k (jump_of i) t ⊎ ReturnsTo k i t
 
--- some slot's instruction does
+-- some slot's instruction makes slot t a target
 pub data IsMade (slots : List (Option Insn)) (t : ℕ) : Type 0 where
   Made : (k : ℕ) (o : Option Insn) → slice_get slots k ≡ Some o → MakesTarget k o t → IsMade slots t

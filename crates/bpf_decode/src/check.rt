@@ -1,4 +1,4 @@
-//! What is wrong with one instruction at its slot.
+//! The faults of one instruction at its slot.
 
 ghost use Rattle.std.specs.Prelude.{◌≡◌, ◌<◌, ◌≤◌, ◌+◌, ◌↔◌, ℤ, ℕ, Bool, false, IsTrue, IfNone, IfSome, Some, length, slice_index_or};
 ghost use Rattle.bpf_decode.specs.Flow.{HasByte, KnowsHelper, KnowsMap, ends, jump_of, size_of, written};
@@ -11,7 +11,7 @@ use crate::flow::{is_end, jump_offset, jump_target, slot_count, written_register
 use bpf_insn::{Insn, Wide};
 use bpf_regions::Shapes;
 
-/// Whether a helper that is called is one of 1 to 5.
+/// Whether the helper, if the instruction calls one, is one of 1 to 5.
 fn knows_helper(insn: &Insn) -> bool
     ensures is { IsTrue result ↔ KnowsHelper insn.now }
 {
@@ -21,7 +21,7 @@ fn knows_helper(insn: &Insn) -> bool
     }
 }
 
-/// Whether a map is there, with an entry longer than the offset.
+/// Whether the map exists, with entries longer than `offset`.
 fn has_byte(shapes: &Shapes, map: u32, offset: u32) -> bool
     ensures is { IsTrue result ↔ HasByte shapes.now map offset }
 {
@@ -31,7 +31,7 @@ fn has_byte(shapes: &Shapes, map: u32, offset: u32) -> bool
     }
 }
 
-/// Whether a map that is named is there, and an offset into its first entry too.
+/// Whether the map that the instruction names, if any, exists, and the offset is within its first entry.
 fn knows_map(shapes: &Shapes, insn: &Insn) -> bool
     ensures is { IsTrue result ↔ KnowsMap shapes.now insn.now }
 {
@@ -45,7 +45,7 @@ fn knows_map(shapes: &Shapes, insn: &Insn) -> bool
     }
 }
 
-/// Whether a jump leads to the start of an instruction.
+/// Whether a jump by `by` leads to the start of an instruction.
 fn leads(code: &[u8], heads: &[bool], at: usize, by: i32) -> bool
     requires count { length heads.now ≡ count code.now }
     requires small { count code.now ≤ 16384 }
@@ -60,7 +60,7 @@ fn leads(code: &[u8], heads: &[bool], at: usize, by: i32) -> bool
     }
 }
 
-/// Whether an instruction that jumps leads to the start of one.
+/// Whether the instruction's jump, if any, leads to the start of an instruction.
 fn jumps_inside(code: &[u8], heads: &[bool], at: usize, insn: &Insn) -> bool
     requires count { length heads.now ≡ count code.now }
     requires small { count code.now ≤ 16384 }
@@ -75,7 +75,7 @@ fn jumps_inside(code: &[u8], heads: &[bool], at: usize, insn: &Insn) -> bool
     }
 }
 
-/// Whether an instruction is the last, and goes on past the end.
+/// Whether the instruction is the last, and execution continues past the end.
 fn goes_past_end(heads: &[bool], at: usize, insn: &Insn) -> bool
     requires place { at < length heads.now }
     ensures is { IsTrue result
@@ -112,7 +112,7 @@ fn lowest(astray: bool, past: bool, frame: bool, helper: bool, map: bool) -> Opt
     }
 }
 
-/// The lowest of the faults 15 to 19 of an instruction that stands at a slot.
+/// The lowest of the faults 15 to 19 of the instruction at a slot, if it has any.
 pub(crate) fn rule_fault(
     code: &[u8],
     heads: &[bool],

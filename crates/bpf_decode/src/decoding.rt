@@ -15,7 +15,7 @@ use bpf_insn::{Insn, Source};
 use bpf_regions::Shapes;
 use std::alloc::{AllocError, AllocFailed, Global};
 
-/// What starts at a slot, or its lowest fault.
+/// The instruction that starts at a slot, if any, or the slot's lowest fault.
 fn entry_at(
     code: &[u8],
     heads: &[bool],
@@ -43,7 +43,7 @@ fn entry_at(
     }
 }
 
-/// What starts at each slot, or the first fault.
+/// The instruction that starts at each slot, if any, or the code's first fault.
 fn entries_of(
     alloc: Global,
     code: &[u8],
@@ -58,7 +58,7 @@ fn entries_of(
     ensures table { IfOk result (λ v. IsTable code.now v.items (count code.now)) }
     ensures fault { IfErr result (λ e. FindsFirst code.now shapes.now e) }
 {
-    // The check must be told of a type that an instruction holds.
+    // Names a type inside instructions, which the check needs.
     let _source: Option<Source> = None;
     let mut slots = Vec::with_capacity(alloc, heads.len())?;
     for at in 0..heads.len() {
@@ -70,9 +70,9 @@ fn entries_of(
     Ok(slots)
 }
 
-/// The program that the bytes spell, for maps of these shapes. Ok exactly for well-formed code, else the number of
-/// its fault: 1 where the length is no multiple of 8, 2 for no bytes, 3 for more than 16384 slots, else of the lowest
-/// slot with a fault the lowest number. A slot is as in RFC 9669 section 3.
+/// The program that the bytes spell (RFC 9669 section 3), for maps of these shapes. Well-formed code is refused only
+/// for lack of memory. Other code is refused with fault 1 if the length is no multiple of 8, 2 if there are no bytes, 3
+/// if there are more than 16384 slots; otherwise with the lowest fault of the lowest slot that has one.
 pub fn decode(alloc: Global, code: &[u8], shapes: Shapes) -> Result<Program, DecodeFault>
     ensures ok { IfOk result (λ p. Spells code.now p) }
     ensures shapes { IfOk result (λ p. p.shapes ≡ shapes) }

@@ -26,7 +26,6 @@ fn half_bytes(slots: &[Option<Insn>], at: usize) -> [u8; 8]
     }
 }
 
-/// The bytes of a slot.
 fn slot_bytes(slots: &[Option<Insn>], at: usize) -> [u8; 8]
     requires insns { (k : ℕ) (i : Insn) → Holds slots.now k i → IsInsn i }
     requires place { at < length slots.now }
@@ -38,13 +37,12 @@ fn slot_bytes(slots: &[Option<Insn>], at: usize) -> [u8; 8]
     }
 }
 
-/// The bytes of all slots.
 fn bytes_of(alloc: Global, slots: &[Option<Insn>]) -> Result<Vec<u8>, AllocError>
     requires insns { (k : ℕ) (i : Insn) → Holds slots.now k i → IsInsn i }
     ensures is { IfOk result (λ v. (bytes : List ℕ) → IsTable bytes slots.now (count bytes) →
         length bytes ≡ 8 * count bytes → v.items ≡ bytes) }
 {
-    // The check must be told of a type that an instruction holds.
+    // Names a type inside instructions, which the check needs.
     let _source: Option<Source> = None;
     let mut bytes = Vec::new(alloc);
     for at in 0..slots.len() {
@@ -61,8 +59,8 @@ pub fn encode(alloc: Global, program: &Program) -> Result<Vec<u8>, AllocError>
     bytes_of(alloc, program.slots())
 }
 
-/// Different bytes spell different programs, and bytes spell one program for its shapes.
-/// So `encode` gives back the bytes that `decode` was given.
+/// Different bytes spell different programs, and bytes spell at most one program for given shapes. So `encode` returns
+/// the bytes that `decode` was given.
 pub fn spelling_law()
     ensures one_text { (a b : List ℕ) (c : Code) → Spells a c → Spells b c → a ≡ b }
     ensures one_program { (a : List ℕ) (c d : Code) → Spells a c → Spells a d →

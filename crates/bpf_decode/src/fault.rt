@@ -1,4 +1,4 @@
-//! Why bytes are no code.
+//! Why bytes aren't well-formed code.
 
 ghost use Rattle.std.specs.Prelude.{◌≡◌, Some};
 ghost use Rattle.bpf_decode.specs.declared.fault.DecodeFault.TheVariants.{NoMemory};
@@ -9,20 +9,20 @@ use bpf_insn::fault::FieldFault;
 use std::alloc::{AllocError, AllocFailed};
 use std::fmt;
 
-/// What is wrong with the instruction at a slot.
+/// A fault of the instruction at a slot.
 #[derive(Clone, Copy, Debug, PartialEq, Eq)]
 pub enum SlotFault {
     /// 10 to 14: the slots spell no instruction.
     Field(FieldFault),
-    /// 15: a jump, branch or local call leads outside the code or into a second half.
+    /// 15: a jump, branch or local call leads outside the code, or into a second half.
     JumpAstray,
-    /// 16: the last instruction is neither an exit nor a jump that is always taken.
+    /// 16: the last instruction is neither an exit nor an unconditional jump.
     PastEnd,
-    /// 17: it writes R10, the frame pointer.
+    /// 17: the instruction writes R10, the frame pointer.
     FrameWritten,
     /// 18: the helper isn't one of 1 to 5.
     UnknownHelper,
-    /// 19: the map isn't there, or its entries are no longer than the offset.
+    /// 19: the map doesn't exist, or its entries are no longer than the offset.
     UnknownMap,
 }
 
@@ -51,7 +51,7 @@ fn field_number(fault: FieldFault) -> u8
 /// Why bytes aren't decoded.
 #[derive(Clone, Copy, Debug, PartialEq, Eq)]
 pub enum DecodeFault {
-    /// Memory was refused. It says nothing of the bytes.
+    /// 40: memory was refused. This says nothing about the bytes.
     NoMemory,
     /// 1: the length is no multiple of 8.
     Length,
@@ -59,12 +59,12 @@ pub enum DecodeFault {
     Empty,
     /// 3: there are more than 16384 slots.
     Long,
-    /// The lowest slot that has a fault, and of its faults the one with the lowest number.
+    /// The lowest slot that has a fault, and the fault there with the lowest number.
     At { slot: usize, fault: SlotFault },
 }
 
 impl DecodeFault {
-    /// Its number: 1 to 3, 10 to 19, or 40 for want of memory.
+    /// Its number: 1 to 3, 10 to 19, or 40 for lack of memory.
     pub fn number(self) -> u8
         ensures is { result ≡ fault_number self }
     {
@@ -77,7 +77,7 @@ impl DecodeFault {
         }
     }
 
-    /// Its slot; 0 where it stands at none.
+    /// Its slot; 0 if it is at none.
     pub fn slot(self) -> usize
         ensures is { result ≡ fault_slot self }
     {

@@ -1,11 +1,11 @@
-//! Where an instruction leads.
+//! Where control goes after an instruction.
 
 ghost use Rattle.std.specs.Prelude.{◌≡◌, ◌<◌, ◌≤◌, ◌^◌, ℕ, IfSome, IfNone};
 ghost use Rattle.bpf_decode.specs.Flow.{IsJump, ends, fetches, jump_of, size_of, written};
 
 use bpf_insn::{AtomicOp, Insn};
 
-/// How far an instruction jumps, if it is a jump, a branch or a local call.
+/// The offset of a jump, branch or local call.
 pub(crate) fn jump_offset(insn: &Insn) -> Option<i32>
     ensures is { result ≡ jump_of insn.now }
 {
@@ -18,7 +18,7 @@ pub(crate) fn jump_offset(insn: &Insn) -> Option<i32>
     }
 }
 
-/// Where a jump leads: its own slot, 1 and its offset added. None where that is below 0.
+/// The target of a jump: its own slot + 1 + its offset. `None` if that is below 0.
 pub fn jump_target(at: usize, by: i32) -> Option<usize>
     requires small { at < 2 ^ 32 }
     ensures some { IfSome result (λ t. IsJump at by t) }
@@ -32,7 +32,7 @@ pub fn jump_target(at: usize, by: i32) -> Option<usize>
     }
 }
 
-/// How many slots an instruction has: 2 for a wide load, else 1.
+/// The number of slots of an instruction: 2 for a wide load, else 1.
 pub(crate) fn slot_count(insn: &Insn) -> usize
     ensures is { result ≡ size_of insn.now }
     ensures small { result ≤ 2 }
@@ -43,7 +43,7 @@ pub(crate) fn slot_count(insn: &Insn) -> usize
     }
 }
 
-/// Whether the next instruction isn't reached from this one: it is an exit or a jump that is always taken.
+/// Whether this is an exit or an unconditional jump, from which the next instruction isn't reached.
 pub(crate) fn is_end(insn: &Insn) -> bool
     ensures is { result ≡ ends insn.now }
 {
@@ -63,7 +63,7 @@ fn is_fetch(op: AtomicOp) -> bool
     )
 }
 
-/// The register that an instruction names and writes. (A call and CMPXCHG write R0 without naming it.)
+/// The register that an instruction names and writes. (Calls and CMPXCHG write R0 without naming it.)
 pub(crate) fn written_register(insn: &Insn) -> Option<u8>
     ensures is { result ≡ written insn.now }
 {

@@ -1,9 +1,10 @@
 //! Programs from bytes, and bytes from programs (RFC 9669, section 3).
 //!
-//! Main calls: `decode` and `encode`. It stands on `bpf_insn` and `bpf_regions`. `decode` answers a
-//! `Program` exactly for well-formed code of 1 to 16384 slots, and otherwise the first fault by
-//! slot and number. By its type invariant some bytes spell a `Program`; `Program::whole` hands out
-//! what follows for its slots. `encode` gives back the bytes (`spelling_law`).
+//! Main calls: `decode` and `encode`. The crate depends on `bpf_insn` and `bpf_regions`. `decode`
+//! returns a `Program` only for well-formed code of 1 to 16384 slots; it refuses other code with
+//! its first fault, by slot and then number, and well-formed code only for lack of memory. Some
+//! bytes spell each `Program`, by its type invariant; the contract of `Program::whole` states what
+//! follows for its slots. `encode` returns the same bytes (`spelling_law`).
 #![tactic(auto)]
 
 mod check;

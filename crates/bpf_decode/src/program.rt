@@ -7,8 +7,7 @@ use bpf_insn::Insn;
 use bpf_regions::Shapes;
 use std::marker::Model;
 
-/// Well-formed code for maps of certain shapes. Its instructions, its jump targets and its shapes are at hand
-/// without a search.
+/// Well-formed code for maps of given shapes, with tables of its instructions and jump targets.
 #[derive(Debug, Drop)]
 pub struct Program {
     slots: Vec<Option<Insn>>,
@@ -27,7 +26,7 @@ impl Model for Program {
         (record { slots = s.slots.items; shapes = s.shapes }) s.targets.items };
 }
 
-/// What a table of slots tells of one; false outside it.
+/// The table's entry for a slot; false outside the table.
 fn marked(table: &[bool], slot: usize) -> bool
     ensures is { result ≡ slice_index_or table.now slot false }
 {
@@ -37,7 +36,7 @@ fn marked(table: &[bool], slot: usize) -> bool
 impl Program {
     ghost use Rattle.bpf_decode.specs.Program.{IsProgram};
 
-    /// A program from its parts: slots that some well-formed bytes spell, and the table of their targets.
+    /// A program from slots that some well-formed bytes spell, the table of their targets, and its shapes.
     pub(crate) fn new(slots: Vec<Option<Insn>>, targets: Vec<bool>, shapes: Shapes) -> Program
         requires decoded { IsProgram
             (record { slots = slots.items; shapes = shapes }) targets.items }
@@ -60,38 +59,37 @@ impl Program {
         self.slots.len()
     }
 
-    /// The instruction that starts at a slot: `Some(None)` in the second half of a wide load, None outside the code.
+    /// The instruction that starts at a slot; `Some(None)` in the second half of a wide load, `None` outside the code.
     pub fn insn_at(&self, pc: usize) -> Option<Option<Insn>>
         ensures is { result ≡ slice_get self.now.slots pc }
     {
         self.slots.get(pc).copied()
     }
 
-    /// The instructions by their slots; None in the second half of a wide load.
+    /// The instructions by slot; `None` in the second half of a wide load.
     pub fn slots(&self) -> &[Option<Insn>]
         ensures is { result.now ≡ self.now.slots }
     {
         self.slots.as_slice()
     }
 
-    /// The shapes of the maps that it was decoded for.
+    /// The shapes of the maps for which it was decoded.
     pub fn shapes(&self) -> &Shapes
         ensures is { result.now ≡ self.now.shapes }
     {
         &self.shapes
     }
 
-    /// Whether a slot is slot 0, the target of a jump, a branch or a local call, or the slot after a local call.
-    /// Instructions that are never reached count too. No slot outside the code is one.
+    /// Whether a slot is slot 0, the target of a jump, branch or local call, or the slot after a local call.
+    /// Unreachable instructions count too. No slot outside the code is a target.
     pub fn is_target(&self, pc: usize) -> bool
         ensures is { IsTrue result ↔ IsTarget self.now.slots pc }
     {
         marked(&self.targets, pc)
     }
 
-    /// What is known of every program: control that starts at slot 0 stays at slots that start an instruction, some
-    /// well-formed bytes spell it, and each target starts an instruction. It does nothing; a caller's proof takes its
-    /// promises.
+    /// Does nothing; its contract holds for every program: control that starts at slot 0 stays at slots that start an
+    /// instruction, some well-formed bytes spell the program, and each target starts an instruction.
     pub fn whole(&self)
         ensures is { IsWhole self.now }
         ensures spelled { IsSpelled self.now }

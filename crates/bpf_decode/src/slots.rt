@@ -5,7 +5,6 @@ ghost use Rattle.bpf_decode.specs.Code.{count, is_wide, slot, slot_if, starts};
 
 use std::alloc::{AllocError, Global};
 
-/// The eight bytes of a slot.
 pub(crate) fn slot_in(code: &[u8], at: usize) -> [u8; 8]
     requires place { at < count code.now }
     ensures is { result ≡ slot code.now at }
@@ -15,7 +14,6 @@ pub(crate) fn slot_in(code: &[u8], at: usize) -> [u8; 8]
     slot
 }
 
-/// The slot after one, unless that is the last.
 pub(crate) fn slot_after(code: &[u8], at: usize) -> Option<[u8; 8]>
     requires place { at < count code.now }
     ensures is { result ≡ slot_if code.now (at + 1) }
@@ -27,7 +25,6 @@ pub(crate) fn slot_after(code: &[u8], at: usize) -> Option<[u8; 8]>
     }
 }
 
-/// Whether a slot has the opcode of a wide load.
 fn begins_wide(code: &[u8], at: usize) -> bool
     requires place { at < count code.now }
     ensures is { result ≡ is_wide code.now at }
@@ -35,7 +32,7 @@ fn begins_wide(code: &[u8], at: usize) -> bool
     code[8 * at] == 0x18
 }
 
-/// Whether the next slot starts an instruction, where this one starts one and where it has the opcode of a wide load.
+/// Whether the next slot starts an instruction: not if this one starts one and has the opcode of a wide load.
 fn next_starts(starts: bool, wide: bool) -> bool
     ensures is { result ≡ not (starts && wide) }
 {

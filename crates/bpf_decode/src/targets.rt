@@ -1,4 +1,4 @@
-//! The table of the slots to which control comes otherwise than from the slot before.
+//! The table of slots to which control comes other than from the preceding slot.
 
 ghost use Rattle.std.specs.Prelude.{◌≡◌, ◌<◌, ◌≤◌, ◌↔◌, ◌⊎◌, ℕ, Bool, false, IsTrue, IfOk, Option, Some, length, slice_index_or};
 ghost use Rattle.bpf_decode.specs.Flow.{jump_of};
@@ -9,7 +9,7 @@ use crate::flow::{jump_offset, jump_target};
 use bpf_insn::Insn;
 use std::alloc::{AllocError, Global};
 
-/// The slot to which an instruction jumps.
+/// The slot to which an instruction jumps, if it does.
 fn jump_slot(at: usize, insn: &Insn) -> Option<usize>
     requires small { at ≤ 16384 }
     ensures is { (t : ℕ) → (result ≡ Some t) ↔ JumpsTo at (jump_of insn.now) t }
@@ -20,7 +20,7 @@ fn jump_slot(at: usize, insn: &Insn) -> Option<usize>
     }
 }
 
-/// The slot to which a local function comes back, where an instruction calls one.
+/// The slot to which the called function returns, if the instruction is a local call.
 fn return_slot(at: usize, insn: &Insn) -> Option<usize>
     requires small { at ≤ 16384 }
     ensures is { (t : ℕ) → (result ≡ Some t) ↔ ReturnsTo at insn.now t }
@@ -31,7 +31,7 @@ fn return_slot(at: usize, insn: &Insn) -> Option<usize>
     }
 }
 
-/// Marks a slot, if there is one and the table has it.
+/// Marks the slot, if there is one within the table.
 fn mark(targets: &mut [bool], slot: Option<usize>)
     ensures is { (t : ℕ) → IsTrue (slice_index_or targets.new t false) ↔ (IsTrue
         (slice_index_or targets.old t false) ⊎ ((t < length targets.old) × (slot ≡ Some t))) }
@@ -43,7 +43,7 @@ fn mark(targets: &mut [bool], slot: Option<usize>)
     }
 }
 
-/// Marks the targets that the instruction at a slot makes.
+/// Marks the targets made by the instruction at a slot, if there is one.
 fn mark_all(targets: &mut [bool], at: usize, slot: &Option<Insn>)
     requires small { at ≤ 16384 }
     ensures is { (t : ℕ) →
@@ -56,7 +56,7 @@ fn mark_all(targets: &mut [bool], at: usize, slot: &Option<Insn>)
     }
 }
 
-/// Marks the targets that the instructions of a program make.
+/// Marks the targets made by the instructions of a program.
 fn mark_each(targets: &mut [bool], slots: &[Option<Insn>])
     requires small { length slots.now ≤ 16384 }
     ensures is { (t : ℕ) → IsTrue (slice_index_or targets.new t false) ↔ (IsTrue

@@ -195,7 +195,7 @@ byte16 n h = record { sfits = omega arith }
 byte32 : (n : ℕ) → n < 256 → FitsSigned w32 (pos n)
 byte32 n h = record { sfits = omega arith }
 
--- the second slot's fields, where the instruction has one
+-- the second slot's fields, if the instruction has a second half
 abbrev pub IsAfter : Option Fields → Option Fields → Type 0
 IsAfter None g = Unit {0}
 IsAfter (Some f) g = g ≡ Some f

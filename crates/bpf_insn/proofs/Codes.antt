@@ -207,7 +207,7 @@ is_short size.Byte = true
 is_short size.Half = true
 is_short size.Word = true
 
--- the kinds that opcodes have
+-- the kinds that exist
 abbrev pub is_kind : Kind → Bool
 is_kind (kind.Alu op w r) = is_plain op
 is_kind (kind.Load z true) = is_short z
@@ -227,7 +227,7 @@ abbrev fits_opcode : ℕ → Option Kind → Bool
 fits_opcode n None = true
 fits_opcode n (Some k) = is_kind k && nat_eq (opcode_of k) n
 
--- the table of all opcodes below n
+-- every opcode below n has its kind
 abbrev all_fit : ℕ → Bool
 all_fit zero = true
 all_fit (suc n) = fits_opcode n (kind_at n) && all_fit n
@@ -253,7 +253,7 @@ known_kind n k lt e =
     let both = and_parts (is_kind k) (nat_eq (opcode_of k) n) h in
     record { kind = both.0; opcode = eqb-true _ _ both.1 }
 
--- a kind that there is
+-- the test means that the kind exists
 kind_is : (k : Kind) → is_kind k ≡ true → IsKind k
 kind_is (kind.Alu alu.Sdiv w r) h = absurd cc
 kind_is (kind.Alu alu.Smod w r) h = absurd cc
@@ -282,7 +282,7 @@ signed_short size.Byte h = λ e. absurd cc
 signed_short size.Half h = λ e. absurd cc
 signed_short size.Word h = λ e. absurd cc
 
--- its opcode is read as it
+-- a kind's opcode is read as that kind
 pub kind_known : (k : Kind) → IsKind k → kind_at (opcode_of k) ≡ Some k
 kind_known (kind.Alu op w false) h = alu_imm_known op w ∙ ap (λ o. Some (kind.Alu o w false)) (basic_is op w false h)
 kind_known (kind.Alu op w true) h = alu_reg_known op w ∙ ap (λ o. Some (kind.Alu o w true)) (basic_is op w true h)
@@ -319,7 +319,7 @@ reads_in f h e (Some k) fits known bad =
     let r = known_kind f.opcode k fits known in
     ⊎_elim (λ b. WrongField k (kind_is k r.kind) r.opcode b) (λ b. WrongSecond k (kind_is k r.kind) r.opcode b) bad
 
--- the faults by what is read are the faults
+-- the faults found by reading are the faults
 pub same_faults : (f : Fields) (h : Option Fields) (e : FieldFault) → f.opcode < 256 → HasFault f h e ↔ ReadsFault f h e
 same_faults f h e fits = (reads_out f h e fits, reads_in f h e (kind_at f.opcode) fits refl)
 

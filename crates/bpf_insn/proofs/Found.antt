@@ -1,4 +1,4 @@
--- Fields that are read spell what they are read as.
+-- Fields spell the instruction that they are read as.
 use Rattle.std.proofs.Common.{ℕ, ◌≡◌, ◌+◌, ◌*◌, ◌/◌, ◌%◌, ◌^◌, ◌<◌, ◌≤◌, ⊎_elim, true, false, Bool, cond, Some, None, Option, refl, sym, ap, subst, ◌∙◌, arith}
 use Rattle.std.specs.Prelude.{ℤ, pos, ◌≤ℤ◌, unsigned_abs, FitsSigned}
 use Rattle.std.specs.Int.{w16, w32, cast_signed, cast_unsigned}
@@ -75,7 +75,7 @@ sign_back alu.Arsh x p h = sym h
 sign_back alu.Sdiv x p h = absurd cc
 sign_back alu.Smod x p h = absurd cc
 
--- on two registers, by the operation
+-- arithmetic on two registers, by the operation
 abbrev Registers : AluOp → Bool → ℕ → ℕ → ℤ → Type 0
 Registers op w d s x =
     IsInsn (register_alu op w (made (16 * alu_code op + 8 + alu_class w) d s x (pos 0)))

@@ -13,7 +13,7 @@ use Rattle.bpf_insn.specs.Uses.{Meets, uses_of}
 use Rattle.bpf_insn.specs.Faults.{Broken, InFields, InHalf, InSecond, IsLeast, number_of}
 use Rattle.bpf_insn.specs.Reading.{Fine, HalfFine, IsFineHalf, least_of, InKind, ReadsFault}
 
--- a search for a fault of P: nothing is found only where F, which leaves none
+-- a search for a fault of P finds the least, or nothing, and then F holds, which excludes all faults of P
 pub record Finds (P : FieldFault → Type 0) (F : Type 0) (r : Option FieldFault) : Type 0 where
   pub none : IfNone r F
   pub clean : F → (g : FieldFault) → P g → ⊥
@@ -84,7 +84,7 @@ second_clean (kind.Load z s) f h fine g bad = bad
 second_clean (kind.Store z r) f h fine g bad = bad
 second_clean (kind.Atomic w) f h fine g bad = bad
 
--- all that may be wrong with a slot of a known kind
+-- all faults of a slot of a known kind
 abbrev pub InSlot : Uses → Kind → Fields → Option Fields → FieldFault → Type 0
 InSlot u k f h g = InFields u f g ⊎ InSecond k f h g
 

@@ -1,4 +1,4 @@
--- A slot's fields give its bytes back, and a slot's bytes its fields.
+-- Slots and their fields determine each other.
 use Rattle.std.proofs.Common.{ℕ, ◌≡◌, ◌+◌, ◌*◌, ◌/◌, ◌%◌, ◌^◌, ◌<◌, List, [], ◌∷◌, ◌++◌, length, get_or, refl, sym, ap, ◌∙◌, arith}
 use Rattle.std.specs.Prelude.{ℤ, FitsSigned}
 use Rattle.std.specs.Int.{w16, w32, cast_signed, cast_unsigned}
@@ -80,7 +80,7 @@ fields_back f fits =
     (ap (cast_signed w16) (low_two (cast_unsigned w16 f.offset) (unsigned_two f.offset fits.offset)) ∙ to_z-of_z w16 f.offset fits.offset)
     (ap (cast_signed w32) (low_four (cast_unsigned w32 f.imm) (unsigned_four f.imm fits.imm)) ∙ to_z-of_z w32 f.imm fits.imm)
 
--- two slots' fields are equal where the slots are
+-- equal slots have equal fields
 pub fields_same : (f g : Fields) → FitsSlot f → FitsSlot g → slot_of f ≡ slot_of g → f ≡ g
 fields_same f g p q e = sym (fields_back f p) ∙ ap fields_at e ∙ fields_back g q
 
@@ -94,7 +94,7 @@ written f o i fits p q =
     let k : i ≡ little_bytes 4 (cast_unsigned w32 f.imm) = q ∙ ap (λ z. little_bytes 4 (cast_unsigned w32 z)) (to_z-of_z w32 f.imm fits.imm) in
     rw (e, k) refl
 
--- what was read is what a slot's fields are
+-- the fields read are the slot's fields
 pub read_fields : (s : List ℕ) (x y : ℤ) → FitsSigned w16 x → FitsSigned w32 y → x ≡ cast_signed w16 (little_from 2 2 s) → y ≡ cast_signed w32 (little_from 4 4 s)
     → made (get_or s 0 0) (get_or s 1 0 % 16) (get_or s 1 0 / 16) (cast_signed w16 (cast_unsigned w16 x)) (cast_signed w32 (cast_unsigned w32 y)) ≡ fields_at s
 unfolding fields_at

@@ -1,4 +1,4 @@
--- The slots that are read are those that spell what is read.
+-- Slots are read as an instruction exactly if they spell it.
 use Rattle.std.proofs.Common.{ℕ, ◌≡◌, List, Some, None, Option, Result, Ok, Err, refl, sym, ap, subst, ◌∙◌, arith, ◌/◌, ◌^◌}
 use Rattle.std.specs.Prelude.{pos, IfOk, IfErr}
 use Rattle.bpf_insn.specs.declared.fields.Fields.{Fields}

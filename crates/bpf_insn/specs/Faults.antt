@@ -10,7 +10,7 @@ use Rattle.bpf_insn.specs.declared.fault.FieldFault.TheVariants.{UnknownOpcode, 
 use Rattle.bpf_insn.specs.Opcodes.{opcode_of, IsKind}
 use Rattle.bpf_insn.specs.Uses.{Meets, fault_of, uses_of}
 
--- the number by which a fault is told
+-- the number of a fault
 abbrev pub number_of : FieldFault → ℕ
 number_of UnknownOpcode = 10
 number_of HighRegister = 11
@@ -18,11 +18,11 @@ number_of UnusedSet = 12
 number_of Undefined = 13
 number_of CutWide = 14
 
--- the field's value isn't one that its use allows
+-- the field's use doesn't allow its value
 abbrev pub Broken : Use → ℤ → FieldFault → Type 0
 Broken u v e = (Meets u v → ⊥) × (e ≡ fault_of u)
 
--- the faults of the four fields beside the opcode, by what each is used for
+-- the faults of the four fields other than the opcode, by their uses
 abbrev pub InFields : Uses → Fields → FieldFault → Type 0
 InFields u f e =
     Broken u.dst (pos f.dst) e
@@ -35,19 +35,19 @@ pub record IsHalf (f : Fields) : Type 0 where
   pub src : f.src ≡ 0
   pub offset : f.offset ≡ pos 0
 
--- in the second half of a wide load whose register field is s
+-- the faults of the second half of a wide load whose source field is s
 abbrev pub InHalf : ℕ → Option Fields → FieldFault → Type 0
 InHalf s None e = e ≡ CutWide
 InHalf s (Some f) e =
     ((s ≡ 5) × (f.imm ≢ pos 0) × (e ≡ UnusedSet)) ⊎ ((IsHalf f → ⊥) × (e ≡ CutWide))
 
--- only a wide load has a second half that could be wrong
+-- the faults of the second half; only a wide load has one
 abbrev pub InSecond : Kind → Fields → Option Fields → FieldFault → Type 0
 InSecond kind.LoadWide f second e = InHalf f.src second e
 InSecond _ f second e = ⊥
 
--- e is a fault of the slot with these fields, whose next slot has the fields second: no kind of instruction has the opcode, or the kind that has it
--- doesn't allow a field's value, or the second half
+-- e is a fault of the slot with fields f, with the next slot's fields second: no kind of instruction has the opcode, or
+-- the kind that has it doesn't allow a field's value or the second half
 pub data HasFault (f : Fields) (second : Option Fields) (e : FieldFault) : Type 0 where
   NoKind : ((k : Kind) → IsKind k → opcode_of k ≢ f.opcode) →
       e ≡ UnknownOpcode → HasFault f second e
@@ -56,7 +56,7 @@ pub data HasFault (f : Fields) (second : Option Fields) (e : FieldFault) : Type 
   WrongSecond : (k : Kind) → IsKind k → opcode_of k ≡ f.opcode →
       InSecond k f second e → HasFault f second e
 
--- e is the fault with the lowest number of those in P
+-- e is the fault in P with the lowest number
 pub record IsLeast (P : FieldFault → Type 0) (e : FieldFault) : Type 0 where
   pub is_fault : P e
   pub least : (g : FieldFault) → P g → number_of e ≤ number_of g

@@ -1,4 +1,4 @@
--- The kind that an opcode is read as.
+-- The kind of an opcode.
 use Rattle.std.specs.Prelude.{ℕ, ◌/◌, ◌%◌, Bool, true, false, ◌&&◌, not, nat_eq, if◌then◌else◌, Option, Some, None}
 use Rattle.bpf_insn.specs.declared.insn.AluOp.{AluOp}
 use Rattle.bpf_insn.specs.declared.insn.AluOp.TheVariants as alu
@@ -10,7 +10,7 @@ use Rattle.bpf_insn.specs.declared.insn.ByteOrder.TheVariants as order
 use Rattle.bpf_insn.specs.declared.kind.Kind.{Kind}
 use Rattle.bpf_insn.specs.declared.kind.Kind.TheVariants as kind
 
--- the arithmetic operation of a code; DIV and MOD stand for the signed ones too (RFC 9669 section 4.1)
+-- the arithmetic operation of a code; the signed divisions share the codes of DIV and MOD (RFC 9669 section 4.1)
 abbrev pub op_at : ℕ → Option AluOp
 op_at c =
     (if nat_eq c 0 then Some alu.Add
@@ -43,7 +43,7 @@ compare_at c =
     else (if nat_eq c 13 then Some compare.Sle
     else None)))))))))))
 
--- the size of a code, of which there are four (RFC 9669 section 5)
+-- the size of a code, 0 to 3 (RFC 9669 section 5)
 abbrev pub size_at : ℕ → Size
 size_at c =
     (if nat_eq c 0 then size.Word
@@ -51,30 +51,30 @@ size_at c =
     else (if nat_eq c 2 then size.Byte
     else size.Double)))
 
--- arithmetic on a register or a number, in 64 or 32 bits, if the code is one of an operation
+-- arithmetic on a register or an immediate, in 64 or 32 bits, if the code has an operation
 abbrev pub with_op : Option AluOp → Bool → Bool → Option Kind
 with_op None register wide = None
 with_op (Some op) register wide = Some (kind.Alu op wide register)
 
--- byte orders, by the source bit and the class: ALU64 has the swap alone (RFC 9669 section 4.2)
+-- byte order operations, by source bit and class: ALU64 has only the swap (RFC 9669 section 4.2)
 abbrev pub end_at : Bool → Bool → Option Kind
 end_at true true = None
 end_at false true = Some (kind.End order.Swap)
 end_at true false = Some (kind.End order.Big)
 end_at false false = Some (kind.End order.Little)
 
--- the classes ALU and ALU64 by their code: NEG takes no register, END has kinds of its own
+-- the classes ALU and ALU64 by their code: NEG takes no register, END has its own kinds
 abbrev pub arithmetic_at : ℕ → Bool → Bool → Option Kind
 arithmetic_at c register wide =
     (if nat_eq c 8 then (if register then None else Some (kind.Neg wide))
     else (if nat_eq c 13 then end_at register wide else with_op (op_at c) register wide))
 
--- a conditional jump, if the code is one of a comparison
+-- a conditional jump, if the code has a comparison
 abbrev pub with_compare : Option Compare → Bool → Bool → Option Kind
 with_compare None register wide = None
 with_compare (Some op) register wide = Some (kind.Branch op wide register)
 
--- the classes JMP and JMP32 by their code; CALL and EXIT are in JMP alone (RFC 9669 section 4.3)
+-- the classes JMP and JMP32 by their code; only JMP has CALL and EXIT (RFC 9669 section 4.3)
 abbrev pub branch_at : ℕ → Bool → Bool → Option Kind
 branch_at c register wide =
     (if nat_eq c 0
@@ -83,14 +83,14 @@ branch_at c register wide =
     else (if nat_eq c 9 then (if wide && not register then Some kind.Exit else None)
     else with_compare (compare_at c) register wide)))
 
--- a load with its sign; eight bytes have none to extend (RFC 9669 section 5.2)
+-- a sign-extending load, of fewer than eight bytes (RFC 9669 section 5.2)
 abbrev pub signed_load : Size → Option Kind
 signed_load size.Double = None
 signed_load size.Byte = Some (kind.Load size.Byte true)
 signed_load size.Half = Some (kind.Load size.Half true)
 signed_load size.Word = Some (kind.Load size.Word true)
 
--- the class LDX by its mode: MEM, or MEMSX (RFC 9669 sections 5.1 and 5.2)
+-- the class LDX by its mode: MEM or MEMSX (RFC 9669 sections 5.1 and 5.2)
 abbrev pub load_at : ℕ → Size → Option Kind
 load_at mode z =
     (if nat_eq mode 3 then Some (kind.Load z false)
@@ -103,13 +103,13 @@ atomic_at size.Double = Some (kind.Atomic true)
 atomic_at size.Byte = None
 atomic_at size.Half = None
 
--- the classes ST and STX by their mode: MEM, or ATOMIC, which is in STX alone (RFC 9669 sections 5.1 and 5.3)
+-- the classes ST and STX by their mode: MEM, or ATOMIC in STX only (RFC 9669 sections 5.1 and 5.3)
 abbrev pub store_at : ℕ → Size → Bool → Option Kind
 store_at mode z register =
     (if nat_eq mode 3 then Some (kind.Store z register)
     else (if nat_eq mode 6 then (if register then atomic_at z else None) else None))
 
--- by the class, the low three bits
+-- the kind of an opcode, by its class, the low three bits
 abbrev pub kind_at : ℕ → Option Kind
 kind_at o =
     let register = nat_eq (o / 8 % 2) 1 in

@@ -1,5 +1,5 @@
--- The opcodes, and the operations that they name (RFC 9669 sections 3.1, 4 and 5): the class in the low three bits, and above it a code and a source bit,
--- or a mode and a size. All numbers are those of the tables there.
+-- The opcodes (RFC 9669 sections 3.1, 4 and 5): the class in the low three bits, and above it a source bit and a code,
+-- or a size and a mode. All numbers are from the tables there.
 use Rattle.std.specs.Prelude.{ℕ, ◌+◌, ◌*◌, Bool, true, false}
 use Rattle.bpf_insn.specs.declared.insn.AluOp.{AluOp}
 use Rattle.bpf_insn.specs.declared.insn.AluOp.TheVariants as alu
@@ -12,7 +12,7 @@ use Rattle.bpf_insn.specs.declared.insn.ByteOrder.TheVariants as order
 use Rattle.bpf_insn.specs.declared.kind.Kind.{Kind}
 use Rattle.bpf_insn.specs.declared.kind.Kind.TheVariants as kind
 
--- arithmetic (section 4.1); a signed division has the code of the unsigned one
+-- arithmetic (section 4.1); a signed division shares the code of the unsigned one
 abbrev pub alu_code : AluOp → ℕ
 alu_code alu.Add = 0
 alu_code alu.Sub = 1
@@ -43,7 +43,7 @@ alu_opcode op wide true = 16 * alu_code op + 8 + alu_class wide
 abbrev pub neg_opcode : Bool → ℕ
 neg_opcode wide = 0x80 + alu_class wide
 
--- to little endian, to big endian, and swapped whatever the host's order (section 4.2)
+-- to little endian, to big endian, and an unconditional swap (section 4.2)
 abbrev pub end_code : ByteOrder → ℕ
 end_code order.Little = 0xd4
 end_code order.Big = 0xdc
@@ -68,7 +68,7 @@ abbrev pub jump_class : Bool → ℕ
 jump_class true = 5
 jump_class false = 6
 
--- a comparison, whether it has 64 bits, and whether its source is a register
+-- a comparison, whether it is on 64 bits, and whether its source is a register
 abbrev pub branch_opcode : Compare → Bool → Bool → ℕ
 branch_opcode c wide false = 16 * compare_code c + jump_class wide
 branch_opcode c wide true = 16 * compare_code c + 8 + jump_class wide
@@ -80,21 +80,21 @@ size_code size.Half = 1
 size_code size.Byte = 2
 size_code size.Double = 3
 
--- a load with zeros above it, and one with its sign (sections 5.1 and 5.2)
+-- a zero-extending load, and a sign-extending one (sections 5.1 and 5.2)
 abbrev pub load_code : Bool → ℕ
 load_code false = 0x61
 load_code true = 0x81
 
--- a load of a size, with its sign or without
+-- a load of a size, sign-extended or not
 abbrev pub load_opcode : Size → Bool → ℕ
 load_opcode z signed = load_code signed + 8 * size_code z
 
--- a store of a number, and one of a register
+-- a store of an immediate, and one of a register
 abbrev pub store_opcode : Size → Bool → ℕ
 store_opcode z false = 0x62 + 8 * size_code z
 store_opcode z true = 0x63 + 8 * size_code z
 
--- an atomic operation on 64 bits, and one on 32 (section 5.3)
+-- an atomic operation on 64 bits, or on 32 (section 5.3)
 abbrev pub atomic_opcode : Bool → ℕ
 atomic_opcode true = 0xdb
 atomic_opcode false = 0xc3
@@ -114,7 +114,7 @@ opcode_of (kind.Store z register) = store_opcode z register
 opcode_of (kind.Atomic wide) = atomic_opcode wide
 opcode_of kind.LoadWide = 0x18
 
--- which kinds there are: the offset tells a signed division from an unsigned one, and eight bytes have no sign to extend
+-- which kinds exist: the offset, not the opcode, makes a division signed; no load extends the sign of eight bytes
 abbrev pub IsKind : Kind → Type 0
 IsKind (kind.Alu alu.Sdiv wide register) = ⊥
 IsKind (kind.Alu alu.Smod wide register) = ⊥

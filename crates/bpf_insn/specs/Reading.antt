@@ -1,4 +1,4 @@
--- The instruction that fields spell, and what is right about the fields then.
+-- The instruction that fields spell, and when fields are valid.
 use Rattle.std.specs.Prelude.{◌≡◌, ℕ, ◌+◌, ◌*◌, ◌^◌, ◌⊎◌, ℤ, pos, unsigned_abs, Bool, true, false, nat_eq, nat_le, if◌then◌else◌, List, Option, Some, None}
 use Rattle.std.specs.Int.{w32, cast_unsigned}
 use Rattle.bpf_insn.specs.declared.fields.Fields.{Fields}
@@ -34,42 +34,42 @@ pub record Fine (u : Uses) (f : Fields) : Type 0 where
   pub offset : Meets u.offset f.offset
   pub imm : Meets u.imm f.imm
 
--- nothing is wrong with the second half of a wide load
+-- the second half of a wide load is valid
 abbrev pub HalfFine : ℕ → Option Fields → Type 0
 HalfFine s None = ⊥
 HalfFine s (Some g) = IsHalf g × (s ≡ 5 → g.imm ≡ pos 0)
 
--- a wide load has a second half with which nothing is wrong; no other kind needs one
+-- a wide load has a valid second half; no other kind needs one
 abbrev pub IsFineHalf : Kind → Fields → Option Fields → Type 0
 IsFineHalf kind.LoadWide f g = HalfFine f.src g
 IsFineHalf _ f g = Unit {0}
 
--- the faults of fields, by the kind that their opcode is read as
+-- the faults of fields, by the kind read from their opcode
 abbrev pub InKind : Option Kind → Fields → Option Fields → FieldFault → Type 0
 InKind None f second e = e ≡ UnknownOpcode
 InKind (Some k) f second e = InFields (uses_of k) f e ⊎ InSecond k f second e
 
--- the faults of fields, by the kind of their opcode
+-- the faults of fields
 abbrev pub ReadsFault : Fields → Option Fields → FieldFault → Type 0
 ReadsFault f second e = InKind (kind_at f.opcode) f second e
 
--- the fault of the two with the lower number
+-- the fault with the lower number
 abbrev pub least_of : Option FieldFault → Option FieldFault → Option FieldFault
 least_of None b = b
 least_of (Some a) None = Some a
 least_of (Some a) (Some b) = (if nat_le (number_of a) (number_of b) then Some a else Some b)
 
--- the slot spells these fields
+-- the slot of these fields, if any
 abbrev pub IsHalfOf : Option Fields → Option (List ℕ) → Type 0
 IsHalfOf None s = s ≡ None
 IsHalfOf (Some f) s = s ≡ Some (slot_of f)
 
--- the number in the second half; 0 where there is none
+-- the immediate in the second half; 0 if there is none
 abbrev pub half_imm : Option Fields → ℤ
 half_imm None = pos 0
 half_imm (Some g) = g.imm
 
--- division with 1 as its offset is signed (RFC 9669 section 4.1)
+-- a division with offset 1 is signed (RFC 9669 section 4.1)
 abbrev pub signed_op : AluOp → ℕ → AluOp
 signed_op alu.Div n = (if nat_eq n 1 then alu.Sdiv else alu.Div)
 signed_op alu.Mod n = (if nat_eq n 1 then alu.Smod else alu.Mod)
@@ -81,12 +81,12 @@ extension_at n =
     (if nat_eq n 8 then extension.Byte
     else (if nat_eq n 16 then extension.Half else extension.Word))
 
--- how many bits END turns, by its number: 16, 32 or 64 (RFC 9669 section 4.2)
+-- how many bits END converts, by its immediate: 16, 32 or 64 (RFC 9669 section 4.2)
 abbrev pub order_width_at : ℕ → OrderWidth
 order_width_at n =
     (if nat_eq n 16 then width.Half else (if nat_eq n 32 then width.Word else width.Double))
 
--- MOV of a register; with an offset it is MOVSX (RFC 9669 section 4.1)
+-- MOV of a register; MOVSX if the offset isn't 0 (RFC 9669 section 4.1)
 abbrev pub move_at : Bool → Fields → Insn
 move_at w f =
     (if nat_eq (unsigned_abs f.offset) 0 then insn.Alu alu.Mov w f.dst (source.Reg f.src)
@@ -119,22 +119,22 @@ wide_at f high =
     (if nat_eq f.src 5 then wide.Map (cast_unsigned w32 f.imm)
     else wide.MapValue (cast_unsigned w32 f.imm) (cast_unsigned w32 high)))
 
--- arithmetic with a number, or with a register, as its source
+-- arithmetic whose source is an immediate or a register
 abbrev pub read_alu : AluOp → Bool → Bool → Fields → Insn
 read_alu op w false f = insn.Alu (signed_op op (unsigned_abs f.offset)) w f.dst (source.Imm f.imm)
 read_alu op w true f = register_alu op w f
 
--- a conditional jump that compares with a number, or with a register
+-- a conditional jump that compares with an immediate or a register
 abbrev pub read_branch : Compare → Bool → Bool → Fields → Insn
 read_branch c w false f = insn.Branch c w f.dst (source.Imm f.imm) f.offset
 read_branch c w true f = insn.Branch c w f.dst (source.Reg f.src) f.offset
 
--- a store of a number, or of a register
+-- a store of an immediate or a register
 abbrev pub read_store : Size → Bool → Fields → Insn
 read_store z false f = insn.Store z f.dst f.offset (source.Imm f.imm)
 read_store z true f = insn.Store z f.dst f.offset (source.Reg f.src)
 
--- the instruction of a kind with these fields; the last number is that of the second half
+-- the instruction of a kind with these fields; the last argument is the second half's immediate
 abbrev pub insn_at : Kind → Fields → ℤ → Insn
 insn_at (kind.Alu op w r) f high = read_alu op w r f
 insn_at (kind.Neg w) f high = insn.Neg w f.dst
@@ -149,7 +149,7 @@ insn_at (kind.Store z r) f high = read_store z r f
 insn_at (kind.Atomic w) f high = insn.Atomic (update_at (unsigned_abs f.imm)) w f.dst f.src f.offset
 insn_at kind.LoadWide f high = insn.LoadWide f.dst (wide_at f high)
 
--- the fields are read as the instruction
+-- the fields f, with those of the next slot g, are read as the instruction i
 pub record ReadAs (f : Fields) (g : Option Fields) (i : Insn) : Type 0 where
   pub kind : Kind
   pub known : kind_at f.opcode ≡ Some kind

@@ -20,13 +20,13 @@ use Rattle.bpf_insn.specs.Slot.{slot_of}
 use Rattle.bpf_insn.specs.Opcodes.{alu_opcode, neg_opcode, end_code, branch_opcode, load_opcode, store_opcode, atomic_opcode}
 use Rattle.bpf_insn.specs.Widths.{extension_bits, order_bits}
 
--- the offset says whether a division is signed
+-- the offset that makes a division signed
 abbrev pub alu_sign : AluOp → ℤ
 alu_sign alu.Sdiv = pos 1
 alu_sign alu.Smod = pos 1
 alu_sign _ = pos 0
 
--- the number of an atomic operation; 1 says that it fetches the old number (RFC 9669 section 5.3)
+-- the immediate of an atomic operation; its bit 0 says that it fetches the old number (RFC 9669 section 5.3)
 abbrev pub atomic_code : AtomicOp → ℤ
 atomic_code atomic.Add = pos 0x00
 atomic_code atomic.Or = pos 0x40
@@ -39,25 +39,26 @@ atomic_code atomic.FetchXor = pos 0xa1
 atomic_code atomic.Xchg = pos 0xe1
 atomic_code atomic.Cmpxchg = pos 0xf1
 
--- a wide load's source register tells what it loads; its number is the low half, that of the second slot the high half (RFC 9669 sections 3.2 and 5.4)
+-- the source field of a wide load, which tells what it loads; its immediate is the low half, the second slot's the high
+-- half (RFC 9669 sections 3.2 and 5.4)
 abbrev pub wide_kind : Wide → ℕ
 wide_kind (wide.Number n) = 0
 wide_kind (wide.Map m) = 5
 wide_kind (wide.MapValue m o) = 6
 
--- the number in its first slot, as a signed one of 32 bits
+-- the immediate in its first slot, signed 32-bit
 abbrev pub wide_low : Wide → ℤ
 wide_low (wide.Number n) = cast_signed w32 (n % 2 ^ 32)
 wide_low (wide.Map m) = cast_signed w32 m
 wide_low (wide.MapValue m o) = cast_signed w32 m
 
--- the number in its second slot, as a signed one of 32 bits
+-- the immediate in its second slot, signed 32-bit
 abbrev pub wide_high : Wide → ℤ
 wide_high (wide.Number n) = cast_signed w32 (n / 2 ^ 32)
 wide_high (wide.Map m) = pos 0
 wide_high (wide.MapValue m o) = cast_signed w32 o
 
--- the opcode, destination, source, offset and number of a slot
+-- a slot's fields, in order
 abbrev pub fields : ℕ → ℕ → ℕ → ℤ → ℤ → Fields
 fields o d s x i = record { opcode = o; dst = d; src = s; offset = x; imm = i }
 
@@ -82,33 +83,33 @@ fields_of (insn.Store z d x (source.Reg r)) = fields (store_opcode z true) d r x
 fields_of (insn.Atomic op w d s x) = fields (atomic_opcode w) d s x (atomic_code op)
 fields_of (insn.LoadWide d v) = fields 0x18 d (wide_kind v) (pos 0) (wide_low v)
 
--- the fields of its second half, if it has one
+-- the fields of an instruction's second half, if it has one
 abbrev pub second_of : Insn → Option Fields
 second_of (insn.LoadWide d v) = Some (fields 0 0 0 (pos 0) (wide_high v))
 second_of _ = None
 
--- a number of 32 bits with a sign, or one of the registers R0 to R10
+-- a signed 32-bit number, or one of the registers R0 to R10
 abbrev pub IsSource : Source → Type 0
 IsSource (source.Imm n) = FitsSigned w32 n
 IsSource (source.Reg r) = r ≤ 10
 
--- a number of 64 bits, or a map, or a map and an offset, of 32 bits each
+-- a 64-bit number, or a map, or a map and an offset, of 32 bits each
 abbrev pub IsWide : Wide → Type 0
 IsWide (wide.Number n) = n < 2 ^ 64
 IsWide (wide.Map m) = m < 2 ^ 32
 IsWide (wide.MapValue m o) = (m < 2 ^ 32) × (o < 2 ^ 32)
 
--- a load with its sign has fewer than eight bytes (RFC 9669 section 5.2)
+-- a sign-extending load has fewer than eight bytes (RFC 9669 section 5.2)
 abbrev pub IsSigned : Bool → Size → Type 0
 IsSigned true z = z ≢ size.Double
 IsSigned false z = Unit {0}
 
--- 32 bits are extended to 64 alone
+-- 32 bits are extended only to 64
 abbrev pub IsExtension : Bool → Extension → Type 0
 IsExtension true from = Unit {0}
 IsExtension false from = from ≢ extension.Word
 
--- which values are instructions: the parts fit their types, and the operation has such a width
+-- which values are instructions: the parts fit their types, and the operation has this width
 abbrev pub IsInsn : Insn → Type 0
 IsInsn (insn.Alu op w d s) = (d ≤ 10) × IsSource s
 IsInsn (insn.MovSx from w d s) = IsExtension w from × (d ≤ 10) × (s ≤ 10)
@@ -125,18 +126,18 @@ IsInsn (insn.Store z d x s) = (d ≤ 10) × IsSource s × FitsSigned w16 x
 IsInsn (insn.Atomic op w d s x) = (d ≤ 10) × (s ≤ 10) × FitsSigned w16 x
 IsInsn (insn.LoadWide d v) = (d ≤ 10) × IsWide v
 
--- the second slot is what the instruction wants there
+-- the second slot is the instruction's second half, if it has one
 abbrev pub IsSecond : Option Fields → Option (List ℕ) → Type 0
 IsSecond None slot = Unit {0}
 IsSecond (Some f) slot = slot ≡ Some (slot_of f)
 
--- the slot, with the one after it if the instruction wants one, spells the instruction
+-- the first slot, with the second if the instruction has a second half, spells the instruction
 pub record Spelled (first : List ℕ) (second : Option (List ℕ)) (i : Insn) : Type 0 where
   pub is_insn : IsInsn i
   pub first_slot : first ≡ slot_of (fields_of i)
   pub second_slot : IsSecond (second_of i) second
 
--- the second slot that is written
+-- the second slot of these fields, if any
 abbrev pub second_slot_of : Option Fields → Option (List ℕ)
 second_slot_of None = None
 second_slot_of (Some f) = Some (slot_of f)

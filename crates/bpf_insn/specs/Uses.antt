@@ -10,7 +10,7 @@ use Rattle.bpf_insn.specs.declared.kind.Uses.{Uses}
 use Rattle.bpf_insn.specs.declared.fault.FieldFault.{FieldFault}
 use Rattle.bpf_insn.specs.declared.fault.FieldFault.TheVariants.{HighRegister, UnusedSet, Undefined}
 
--- what the value of a field may be
+-- the values that a use allows
 abbrev pub Meets : Use → ℤ → Type 0
 Meets Free v = Unit {0}
 Meets Unused v = v ≡ pos 0
@@ -25,17 +25,17 @@ Meets Update v =
     (v ≡ pos 0x00) ⊎ ((v ≡ pos 0x40) ⊎ ((v ≡ pos 0x50) ⊎ ((v ≡ pos 0xa0) ⊎ ((v ≡ pos 0x01) ⊎
     ((v ≡ pos 0x41) ⊎ ((v ≡ pos 0x51) ⊎ ((v ≡ pos 0xa1) ⊎ ((v ≡ pos 0xe1) ⊎ (v ≡ pos 0xf1)))))))))
 
--- the fault of a value that may not be
+-- the fault of a value that the use doesn't allow
 abbrev pub fault_of : Use → FieldFault
 fault_of Unused = UnusedSet
 fault_of Register = HighRegister
 fault_of _ = Undefined
 
--- what the destination, source, offset and number are used for
+-- the uses of destination, source, offset and immediate
 abbrev uses : Use → Use → Use → Use → Uses
 uses d s o i = record { dst = d; src = s; offset = o; imm = i }
 
--- the offset of an operation with a number: the sign of a division, and else unused
+-- the offset of an operation with an immediate: the sign of a division, else unused
 abbrev pub sign_use : AluOp → Use
 sign_use alu.Div = Sign
 sign_use alu.Mod = Sign
@@ -49,7 +49,7 @@ register_use alu.Div w = Sign
 register_use alu.Mod w = Sign
 register_use _ w = Unused
 
--- what each kind uses destination, source, offset and number for
+-- what each kind uses its fields for
 abbrev pub uses_of : Kind → Uses
 uses_of (kind.Alu op w false) = uses Register Unused (sign_use op) Free
 uses_of (kind.Alu op w true) = uses Register Register (register_use op w) Unused

@@ -1,16 +1,16 @@
-//! What can be wrong with a slot.
+//! The faults of a slot.
 
-/// Why slots spell no instruction. The numbers are 10 to 14; of several faults the lowest is named.
+/// Why slots spell no instruction, numbered 10 to 14. If there are several faults, the lowest is reported.
 #[derive(Clone, Copy, Debug, PartialEq, Eq)]
 pub enum FieldFault {
     /// 10: no operation has the opcode.
     UnknownOpcode = 10,
-    /// 11: a field that names a register is above 10.
+    /// 11: a register field is above 10.
     HighRegister = 11,
-    /// 12: a field that isn't used isn't zero.
+    /// 12: an unused field isn't zero.
     UnusedSet = 12,
-    /// 13: the value of a used field means nothing.
+    /// 13: a used field has an undefined value.
     Undefined = 13,
-    /// 14: a wide load has no second half, or one whose first four bytes aren't zero.
+    /// 14: a wide load's second half is missing, or its first four bytes aren't zero.
     CutWide = 14,
 }

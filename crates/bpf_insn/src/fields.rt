@@ -5,8 +5,8 @@ ghost use Rattle.bpf_insn.specs.Slot.{slot_of, fields_at, FitsSlot};
 
 use byteorder::{ByteOrder, LittleEndian};
 
-/// What a slot of eight bytes holds: the opcode, the destination and source registers, a signed offset of two bytes and
-/// a signed number of four.
+/// The fields of an eight-byte slot: opcode, destination and source registers, signed 16-bit offset, signed 32-bit
+/// immediate.
 #[derive(Clone, Copy, Debug)]
 pub struct Fields {
     pub opcode: u8,
@@ -16,7 +16,6 @@ pub struct Fields {
     pub imm: i32,
 }
 
-/// The fields of a slot.
 pub(crate) fn fields_in(slot: &[u8]) -> Fields
     requires eight { length slot.now ≡ 8 }
     ensures exact { result ≡ fields_at slot.now }
@@ -32,7 +31,6 @@ pub(crate) fn fields_in(slot: &[u8]) -> Fields
     }
 }
 
-/// The slot of fields.
 pub(crate) fn slot_with(fields: Fields) -> [u8; 8]
     requires fits { FitsSlot fields }
     ensures is { result ≡ slot_of fields }

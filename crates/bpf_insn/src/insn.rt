@@ -19,7 +19,7 @@ impl Model for Reg {
 }
 
 impl Reg {
-    /// The register of that number, which is at most 10.
+    /// The register of that number.
     pub fn new(number: u8) -> Reg
         requires { number ≤ 10 }
         ensures { result ≡ number }
@@ -36,7 +36,7 @@ impl Reg {
     }
 }
 
-/// How many bytes a load or a store has: 1, 2, 4 or 8 (RFC 9669 section 5).
+/// The width of a load or store: 1, 2, 4 or 8 bytes (RFC 9669 section 5).
 #[derive(Clone, Copy, Debug, PartialEq, Eq)]
 pub enum Size {
     Byte,
@@ -45,36 +45,36 @@ pub enum Size {
     Double,
 }
 
-/// An arithmetic operation on a destination and a source (RFC 9669 section 4.1).
+/// An arithmetic operation on destination and source (RFC 9669 section 4.1).
 #[derive(Clone, Copy, Debug, PartialEq, Eq)]
 pub enum AluOp {
     Add,
     Sub,
     Mul,
-    /// Unsigned division; by zero it gives 0.
+    /// Unsigned division; division by zero gives 0.
     Div,
     Or,
     And,
-    /// Shift to the left.
+    /// Left shift.
     Lsh,
-    /// Shift to the right, zeros coming in.
+    /// Logical right shift.
     Rsh,
-    /// The rest of the unsigned division; by zero it leaves the destination.
+    /// Unsigned remainder; division by zero leaves the destination.
     Mod,
     Xor,
     Mov,
-    /// Shift to the right, the sign coming in.
+    /// Arithmetic right shift.
     Arsh,
-    /// Signed division, rounded toward zero.
+    /// Signed division, truncated toward zero.
     Sdiv,
-    /// The rest of the signed division, with the sign of the destination.
+    /// Signed remainder, with the sign of the destination.
     Smod,
 }
 
 /// Where an operand comes from.
 #[derive(Clone, Copy, Debug, PartialEq, Eq)]
 pub enum Source {
-    /// The instruction's own number, sign-extended.
+    /// The instruction's immediate, sign-extended.
     Imm(i32),
     Reg(Reg),
 }
@@ -86,7 +86,7 @@ pub enum ByteOrder {
     Little,
     /// From the host's order to big endian.
     Big,
-    /// Turns the bytes round.
+    /// Reverses the bytes.
     Swap,
 }
 
@@ -106,16 +106,16 @@ pub enum OrderWidth {
     Double,
 }
 
-/// When a branch is taken, its destination register on the left (RFC 9669 section 4.3).
+/// The condition of a branch; the destination register is the left operand (RFC 9669 section 4.3).
 #[derive(Clone, Copy, Debug, PartialEq, Eq)]
 pub enum Compare {
     Eq,
     Gt,
     Ge,
-    /// The two have a bit in common.
+    /// Both have some bit set.
     Set,
     Ne,
-    /// Greater, as signed numbers.
+    /// Signed greater.
     Sgt,
     Sge,
     Lt,
@@ -136,9 +136,9 @@ pub enum AtomicOp {
     FetchOr,
     FetchAnd,
     FetchXor,
-    /// Puts the source in place of the old number.
+    /// Replaces the old number by the source.
     Xchg,
-    /// The same, where the old number equals R0.
+    /// The same, if the old number equals R0.
     Cmpxchg,
 }
 
@@ -152,8 +152,8 @@ pub enum Wide {
     MapValue { map: u32, offset: u32 },
 }
 
-/// One instruction (RFC 9669 sections 4 and 5). `wide` says that it works on 64 bits, else on 32. `offset` of a jump
-/// counts slots from the next slot, `offset` of an access counts bytes from the pointer in its register.
+/// One instruction (RFC 9669 sections 4 and 5). It works on 64 bits if `wide`, else on 32. The `offset` of a jump
+/// counts slots from the next slot; the `offset` of an access counts bytes from the pointer in its register.
 #[derive(Clone, Copy, Debug, PartialEq, Eq)]
 pub enum Insn {
     Alu {
@@ -162,7 +162,7 @@ pub enum Insn {
         dst: Reg,
         source: Source,
     },
-    /// Moves the low bits with their sign: 8 or 16 of them, or 32 into 64 bits.
+    /// Moves the low 8 or 16 bits with sign extension, or 32 into 64 bits.
     MovSx {
         from: Extension,
         wide: bool,
@@ -173,17 +173,17 @@ pub enum Insn {
         wide: bool,
         dst: Reg,
     },
-    /// Orders the bytes of the low 16, 32 or 64 bits.
+    /// Converts the byte order of the low 16, 32 or 64 bits.
     End {
         order: ByteOrder,
         width: OrderWidth,
         dst: Reg,
     },
-    /// Always taken.
+    /// Unconditional.
     Jump {
         offset: i16,
     },
-    /// Always taken, with a long offset.
+    /// Unconditional, with a long offset.
     JumpLong {
         offset: i32,
     },
@@ -198,12 +198,12 @@ pub enum Insn {
     Call {
         helper: i32,
     },
-    /// Calls the function of the program that starts there.
+    /// Calls the program's function at that offset.
     CallLocal {
         offset: i32,
     },
     Exit,
-    /// `signed` extends the sign of a byte, half or word.
+    /// Sign-extends a byte, half or word if `signed`.
     Load {
         size: Size,
         signed: bool,
@@ -217,7 +217,7 @@ pub enum Insn {
         offset: i16,
         source: Source,
     },
-    /// On 4 bytes, or on 8 if `wide`, at the pointer in `dst`.
+    /// On 8 bytes if `wide`, else 4, at the pointer in `dst` plus `offset`.
     Atomic {
         op: AtomicOp,
         wide: bool,

@@ -1,4 +1,4 @@
-//! Opcodes, and what each allows in the fields.
+//! Opcodes, and the field values that each allows.
 
 ghost use Rattle.std.specs.Prelude.{◌≡◌, ◌<◌, ◌↔◌, IsTrue, IfNone, IfSome};
 ghost use Rattle.bpf_insn.specs.declared.kind.Kind.TheVariants as kind;
@@ -9,7 +9,7 @@ ghost use Rattle.bpf_insn.specs.Faults.{Broken};
 use crate::fault::FieldFault;
 use crate::insn::{AluOp, ByteOrder, Compare, Size};
 
-/// What an opcode says.
+/// What an opcode encodes.
 #[derive(Clone, Copy, Debug)]
 pub enum Kind {
     Alu {
@@ -46,7 +46,7 @@ pub enum Kind {
     LoadWide,
 }
 
-/// The operation of four bits.
+/// The operation of a 4-bit code.
 fn op_of(code: u8) -> Option<AluOp>
     ensures { result ≡ op_at code }
 {
@@ -86,7 +86,7 @@ fn compare_of(code: u8) -> Option<Compare>
     }
 }
 
-/// The size of two bits.
+/// The size of a 2-bit code.
 fn size_of_code(code: u8) -> Size
     ensures { result ≡ size_at code }
 {
@@ -173,7 +173,7 @@ fn branch(code: u8, register: bool, wide: bool) -> Option<Kind>
     }
 }
 
-/// A load, by the bits above the class: the size's two and the mode's three.
+/// A load, by the bits above the class: two of size, three of mode.
 fn load(mode: u8, size: Size) -> Option<Kind>
     ensures { result ≡ load_at mode size }
 {
@@ -210,7 +210,6 @@ fn store(mode: u8, size: Size, register: bool) -> Option<Kind>
     }
 }
 
-/// What the opcode says, if it is one.
 pub(crate) fn kind_of(opcode: u8) -> Option<Kind>
     ensures { result ≡ kind_at opcode }
 {
@@ -241,16 +240,16 @@ pub(crate) fn kind_of(opcode: u8) -> Option<Kind>
 pub enum Use {
     /// Any value.
     Free,
-    /// Not at all: it is zero.
+    /// Unused: it is zero.
     Unused,
     /// A register.
     Register,
     /// 1 for a signed division, else 0.
     Sign,
-    /// 0, or the width that a move extends.
+    /// 0, or the width that a move extends from.
     NarrowMove,
     WideMove,
-    /// A width of bytes to be ordered.
+    /// The width of a byte order operation.
     Width,
     /// 0 for a helper, 1 for a local function.
     Callee,
@@ -270,7 +269,7 @@ pub struct Uses {
 }
 
 impl Use {
-    /// Whether the value may be.
+    /// Whether this use allows the value.
     fn meets(self, value: i32) -> bool
         ensures { IsTrue result ↔ Meets self value }
     {
@@ -301,7 +300,7 @@ impl Use {
         }
     }
 
-    /// The fault of the value, if it may not be.
+    /// The fault of the value, if this use doesn't allow it.
     pub(crate) fn breach(self, value: i32) -> Option<FieldFault>
         ensures none { IfNone result (Meets self value) }
         ensures some { IfSome result (λ e. Broken self value e) }

@@ -15,7 +15,7 @@ use crate::fields::{Fields, fields_in};
 use crate::insn::{AluOp, AtomicOp, Compare, Extension, Insn, OrderWidth, Reg, Size, Source, Wide};
 use crate::kind::{Kind, kind_of, uses_in};
 
-/// The operation of an opcode's code and the offset, which tells a signed division.
+/// The operation, made signed by the offset of a signed division.
 fn signed(op: AluOp, sign: u16) -> AluOp
     ensures { result ≡ signed_op op sign }
 {
@@ -26,7 +26,7 @@ fn signed(op: AluOp, sign: u16) -> AluOp
     }
 }
 
-/// What a move with sign extension reads, by its offset.
+/// The width that a move with this offset extends from.
 fn extension_of(bits: u16) -> Extension
     ensures { result ≡ extension_at bits }
 {
@@ -37,7 +37,7 @@ fn extension_of(bits: u16) -> Extension
     }
 }
 
-/// What a byte order operation orders, by its number.
+/// The width of a byte order operation with this immediate.
 fn order_width_of(bits: u32) -> OrderWidth
     ensures { result ≡ order_width_at bits }
 {
@@ -201,7 +201,7 @@ fn atomic_of(wide: bool, fields: Fields) -> Insn
     }
 }
 
-/// The instruction of fields in which nothing is wrong.
+/// The instruction of valid fields.
 fn insn_of(k: Kind, fields: Fields, high: i32) -> Insn
     requires { Fine (uses_of k) fields }
     ensures { result ≡ insn_at k fields high }
@@ -269,7 +269,7 @@ fn half_fault(src: u8, half: Option<Fields>) -> Option<FieldFault>
     }
 }
 
-/// What is wrong in the second half, if there is to be one.
+/// The lowest fault of the second half, if the kind needs one.
 fn second_fault(kind: Kind, fields: Fields, half: Option<Fields>) -> Option<FieldFault>
     ensures none { IfNone result (IsFineHalf kind fields half) }
     ensures some { IfSome result (λ e. IsLeast (InSecond kind fields half) e) }
@@ -280,7 +280,7 @@ fn second_fault(kind: Kind, fields: Fields, half: Option<Fields>) -> Option<Fiel
     }
 }
 
-/// The first fault of the fields of a slot whose kind is known.
+/// The lowest fault of a slot of a known kind.
 fn first_fault(kind: Kind, fields: Fields, half: Option<Fields>) -> Option<FieldFault>
     requires { FitsSlot fields }
     ensures fields { IfNone result (Fine (uses_of kind) fields) }
@@ -297,7 +297,7 @@ fn first_fault(kind: Kind, fields: Fields, half: Option<Fields>) -> Option<Field
     least(least(dst, least(src, least(offset, imm))), second)
 }
 
-/// The instruction of fields, or their first fault.
+/// The instruction of fields, or their lowest fault.
 fn read(fields: Fields, half: Option<Fields>) -> Result<Insn, FieldFault>
     requires { FitsSlot fields }
     ensures ok { IfOk result (λ i. ReadAs fields half i) }
@@ -318,7 +318,6 @@ fn read(fields: Fields, half: Option<Fields>) -> Result<Insn, FieldFault>
     }
 }
 
-/// The fields of the next slot.
 fn half_of(second: Option<[u8; 8]>) -> Option<Fields>
     ensures exact { result ≡ half_at second }
     ensures fits { IfSome result (λ f. FitsSlot f) }
@@ -331,8 +330,8 @@ fn half_of(second: Option<[u8; 8]>) -> Option<Fields>
 }
 
 impl Insn {
-    /// The instruction that a slot spells, for a wide load together with the next slot, if there is one.
-    /// Else the fault with the lowest number.
+    /// The instruction that `first` spells, for a wide load together with `second`; otherwise the fault with the lowest
+    /// number.
     pub fn from_slots(first: [u8; 8], second: Option<[u8; 8]>) -> Result<Insn, FieldFault>
         ensures ok { (i : Insn) → (result ≡ Ok i) ↔ Spelled first second i }
         ensures err { IfErr result (λ e. IsLeast (HasFault (fields_at first) (half_at second)) e) }

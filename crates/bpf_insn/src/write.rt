@@ -96,7 +96,7 @@ fn update_imm(op: AtomicOp) -> i32
     }
 }
 
-/// The offset that names the bits of a move with sign extension.
+/// The offset that encodes the width of a move with sign extension.
 fn extension_offset(from: Extension) -> i16
     ensures { result ≡ pos (extension_bits from) }
 {
@@ -107,7 +107,7 @@ fn extension_offset(from: Extension) -> i16
     }
 }
 
-/// The number that names the bits of a byte order operation.
+/// The immediate that encodes the width of a byte order operation.
 fn width_imm(width: OrderWidth) -> i32
     ensures { result ≡ pos (order_bits width) }
 {
@@ -264,7 +264,6 @@ fn access_fields(i: Insn) -> Fields
     }
 }
 
-/// The fields of an instruction's first slot.
 fn first_fields(i: Insn) -> Fields
     requires { IsInsn i }
     ensures { result ≡ fields_of i }

@@ -34,7 +34,7 @@ word-of_source (source.Reg r) fits = word-of_register r fits
 word-of_memory : (r : ℕ) (x : ℤ) → r ≤ 10 → FitsSigned w16 x → IsWord (memory_text r x)
 word-of_memory r x h fits = IsWord-memory r x (omega arith) (Small-16 x fits)
 
--- a line of two operands, by what its words say
+-- a line with two operands is read as its words are
 two : (name a b : List ℕ) (i : Insn) → IsWord name → IsWord a → IsWord b → said (name ∷ a ∷ codes "," ∷ b ∷ []) ≡ Ok i → line_said (two_text name a b) ≡ Ok (Some i)
 two name a b i n w v e = rw (words-two name a b n w v, e) refl
 

@@ -1,4 +1,4 @@
--- Where a text is cut into words.
+-- How a text is cut into words.
 use Rattle.std.specs.Prelude.{◌≡◌, ◌≢◌, ◌<◌, ◌≤◌, ◌+◌, ℕ, List, [], ◌∷◌, length, take, drop, Bool, true, false, ◌||◌, refl, nat_eq, slice_index, if◌then◌else◌, suc}
 use Rattle.std.proofs.Common.{rules, tests, arith, ◌∙◌, ap}
 use Rattle.std.specs.Str.{IsUtf8, IsCharBoundary}
@@ -27,7 +27,7 @@ unfolding words
 words-comma [] e = absurd (omega (arith, e))
 words-comma (c ∷ cs) e = search (rules, tests, nat_tests)
 
--- a character that ends no word begins one, or goes before the next
+-- a character that ends no word starts one, or is prepended to the next
 pub step : (c : ℕ) (cs : List ℕ) → ends_word c ≡ false → words (c ∷ cs) ≡ (if goes_on cs then joined c (words cs) else (c ∷ []) ∷ words cs)
 unfolding words
 step c cs e = search (rules, tests, nat_tests)
@@ -86,7 +86,7 @@ unfolding words
 words-empty [] e = refl
 words-empty (c ∷ cs) e = absurd (omega (arith, e))
 
--- the first piece is no space: a comma, or a word
+-- if the first piece isn't a space, it is a word or a comma
 pub words-piece : (t : List ℕ) → 0 < length t → slice_index t 0 ≢ 35 → slice_index t 0 ≢ 32 → words t ≡ take (piece_len t) t ∷ words (drop (piece_len t) t)
 words-piece [] some no_comment no_space = absurd (omega arith)
 words-piece (c ∷ cs) some no_comment no_space = piece_by (nat_eq c 44) refl
@@ -98,7 +98,7 @@ words-piece (c ∷ cs) some no_comment no_space = piece_by (nat_eq c 44) refl
 pub piece_len_space : (t : List ℕ) → slice_index t 0 ≡ 32 → piece_len t ≡ 1
 piece_len_space t e = search (rules, tests, nat_tests)
 
--- a piece is not empty
+-- no piece is empty
 pub piece_len_some : (t : List ℕ) → 0 < length t → slice_index t 0 ≢ 35 → 0 < piece_len t
 piece_len_some [] some no_comment = absurd (omega arith)
 piece_len_some (c ∷ cs) some no_comment = some_by (ends_word c) refl

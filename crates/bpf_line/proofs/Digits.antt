@@ -37,7 +37,7 @@ IsNumeral-from_test radix t e = search (rules, tests, nat_tests, AllDigits-from_
 pub IsUtf8-numeral : (radix : ℕ) (t : List ℕ) → radix ≤ 36 → is_numeral radix t ≡ true → IsUtf8 t
 IsUtf8-numeral radix t le e = IsUtf8-from_ascii t (small_at radix t le (IsNumeral-from_test radix t e).1)
 
--- where the library finds no number in digits, they spell too large a one
+-- if the library finds no number in digits, the number is too large
 pub numeral-too_large : (radix : ℕ) (t : List ℕ) → radix ≤ 36 → is_numeral radix t ≡ true
     → (IsNumeral radix (without_leading_plus t) × (digits_value radix (without_leading_plus t) < 2 ^ 64) → ⊥) → Err Range ≡ numeral radix t
 numeral-too_large radix t le e none =

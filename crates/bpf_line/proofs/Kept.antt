@@ -1,4 +1,4 @@
--- Words that are kept in order.
+-- Words kept in order.
 use Rattle.std.specs.Prelude.{◌≡◌, ◌<◌, ◌≤◌, ◌+◌, ℕ, List, [], ◌∷◌, ◌++◌, length, take, map, slice_set}
 use Rattle.std.proofs.Common.{arith, ◌∙◌, ap, append_assoc}
 use Rattle.std.proofs.lemmas.List.{take_more_set, map-append, length-map, length-append}

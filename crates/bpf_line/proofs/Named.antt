@@ -1,4 +1,4 @@
--- What the names of the text of instructions say.
+-- The names in the text of instructions are words, and are read as their operations.
 use Rattle.std.specs.Prelude.{◌≡◌, ℕ, Some, List, [], ◌∷◌, ◌++◌, Bool, true, false, codes, refl}
 use Rattle.bpf_insn.specs.declared.insn.AluOp.{AluOp}
 use Rattle.bpf_insn.specs.declared.insn.AluOp.TheVariants as alu
@@ -19,7 +19,6 @@ use Rattle.bpf_line.specs.Spellings.{alu_name, compare_name, atomic_name, extens
 use Rattle.bpf_line.specs.Lines.{two_said, one_said, said, alu_said, extension_said, load_said, store_said, store_register_said, atomic_said, branch_said, order_said, neg_said}
 use Rattle.bpf_line.proofs.Plain.{IsWord, IsWord-test}
 
--- arithmetic
 pub IsWord-alu : (op : AluOp) (w : Bool) → IsWord (alu_name op ++ suffix w)
 IsWord-alu alu.Add true = IsWord-test _ refl
 IsWord-alu alu.Add false = IsWord-test _ refl
@@ -80,7 +79,6 @@ two_said-alu alu.Sdiv false a b = refl
 two_said-alu alu.Smod true a b = refl
 two_said-alu alu.Smod false a b = refl
 
--- comparisons
 pub IsWord-compare : (c : Compare) (w : Bool) → IsWord (compare_name c ++ suffix w)
 IsWord-compare compare.Eq true = IsWord-test _ refl
 IsWord-compare compare.Eq false = IsWord-test _ refl
@@ -129,7 +127,6 @@ said-branch compare.Slt false a b c = refl
 said-branch compare.Sle true a b c = refl
 said-branch compare.Sle false a b c = refl
 
--- atomics
 pub IsWord-atomic : (op : AtomicOp) (w : Bool) → IsWord (atomic_name op ++ suffix w)
 IsWord-atomic atomic.Add true = IsWord-test _ refl
 IsWord-atomic atomic.Add false = IsWord-test _ refl
@@ -174,7 +171,6 @@ two_said-atomic atomic.Xchg false a b = refl
 two_said-atomic atomic.Cmpxchg true a b = refl
 two_said-atomic atomic.Cmpxchg false a b = refl
 
--- moves with sign extension
 pub IsWord-extension : (e : Extension) (w : Bool) → IsWord (extension_name e w)
 IsWord-extension extension.Byte true = IsWord-test _ refl
 IsWord-extension extension.Half true = IsWord-test _ refl
@@ -191,7 +187,6 @@ two_said-extension extension.Byte false a b h = refl
 two_said-extension extension.Half false a b h = refl
 two_said-extension extension.Word false a b h = absurd (h refl)
 
--- byte orders
 pub IsWord-order : (o : ByteOrder) (w : OrderWidth) → IsWord (order_name o w)
 IsWord-order order.Little width.Half = IsWord-test _ refl
 IsWord-order order.Little width.Word = IsWord-test _ refl
@@ -214,7 +209,6 @@ one_said-order order.Swap width.Half a = refl
 one_said-order order.Swap width.Word a = refl
 one_said-order order.Swap width.Double a = refl
 
--- loads
 pub IsWord-load : (z : Size) (s : Bool) → IsWord (load_name z s)
 IsWord-load size.Byte false = IsWord-test _ refl
 IsWord-load size.Half false = IsWord-test _ refl
@@ -235,7 +229,6 @@ two_said-load size.Half true a b h = refl
 two_said-load size.Word true a b h = refl
 two_said-load size.Double true a b h = absurd (h refl)
 
--- stores
 pub IsWord-store : (z : Size) → IsWord (codes "st" ++ size_name z)
 IsWord-store size.Byte = IsWord-test _ refl
 IsWord-store size.Half = IsWord-test _ refl
@@ -260,7 +253,6 @@ two_said-store_register size.Half a b = refl
 two_said-store_register size.Word a b = refl
 two_said-store_register size.Double a b = refl
 
--- negation
 pub IsWord-neg : (w : Bool) → IsWord (codes "neg" ++ suffix w)
 IsWord-neg true = IsWord-test _ refl
 IsWord-neg false = IsWord-test _ refl

@@ -1,4 +1,4 @@
--- The operands of the text of instructions, read again.
+-- The operands in the text of instructions are read as themselves.
 use Rattle.std.specs.Prelude.{◌≡◌, ◌<◌, ◌≤◌, ◌-◌, ◌^◌, ℕ, ℤ, pos, negsuc, List, [], ◌∷◌, ◌++◌, length, take, slice_index, true, false, codes, refl, suc, zero, bytes_eq, Ok, nat_le, FitsSigned}
 use Rattle.std.proofs.Common.{rules, tests, arith, sym, ◌∙◌, ap, append_assoc}
 use Rattle.std.proofs.lemmas.Bool.Decides.{nat_tests}
@@ -53,7 +53,7 @@ pub wide_number-decimal : (n : ℕ) → n < 2 ^ 64 → wide_number (decimal n) �
 wide_number-decimal n small =
     let d = decimal_is_IsNumeral n small in rw (no_start 45 (decimal n) (omega arith) d.0.1) (unsigned-decimal n small)
 
--- what an imm and a long offset keep of a number that fits
+-- immediates and long offsets keep numbers that fit
 word-small : (n : ℕ) → n < 2 ^ 31 → word n ≡ Ok (pos n)
 word-small n small = search (rules, tests, nat_tests)
 
@@ -88,7 +88,7 @@ long_offset-text (negsuc n) fits =
     let small : suc n ≤ 2 ^ 31 = search rules in
     rw (numeral-decimal (suc n) (omega (arith, small))) (below-small (2 ^ 31) n small)
 
--- a number of 32 bits is read mod 2^32
+-- a 32-bit number is read mod 2^32
 pub imm-word : (n : ℕ) → n < 2 ^ 32 → imm (decimal n) ≡ Ok (cast_signed w32 n)
 imm-word n small =
     let wide : n < 2 ^ 64 = omega arith in
@@ -105,7 +105,7 @@ pub source-text : (s : Source) → IsSource s → source_of (source_text s) ≡ 
 source-text (source.Imm n) fits = rw (signed_start n fits, imm-signed n fits) refl
 source-text (source.Reg r) fits = rw (register-text r fits) refl
 
--- what stands between brackets
+-- the text in brackets
 place-plus : (r : ℕ) (o : List ℕ) → r ≤ 10 → place (register_text r ++ (43 ∷ o)) ≡ both (Ok r) (offset (43 ∷ o))
 unfolding digits
 place-plus zero o h = refl

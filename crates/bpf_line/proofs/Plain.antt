@@ -1,4 +1,4 @@
--- Texts that are one word.
+-- Texts of one word.
 use Rattle.std.specs.Prelude.{◌≡◌, ◌≢◌, ◌<◌, ◌^◌, ℕ, ℤ, pos, negsuc, List, [], ◌∷◌, ◌++◌, length, Bool, true, false, ◌&&◌, codes, refl, suc, zero, slice_index, not, nat_lt, nat_eq}
 use Rattle.std.specs.List.{list_all}
 use Rattle.std.proofs.Common.{rules, tests, arith, sym, ◌∙◌, ap}
@@ -12,7 +12,7 @@ use Rattle.bpf_line.specs.Words.{words, ends_word, goes_on, joined}
 use Rattle.bpf_line.specs.Spellings.{register_text, offset_text, memory_text, two_text, one_text}
 use Rattle.bpf_line.proofs.Cuts.{step, words-space, words-comma}
 
--- a character of a word: it ends none, and no line
+-- a character that ends neither a word nor a line
 abbrev in_word : ℕ → Bool
 in_word c = not (ends_word c) && not (nat_eq c 10)
 
@@ -46,7 +46,7 @@ Plain-append (x ∷ xs) ys p q = (p.0, Plain-append xs ys p.1 q)
 goes_on-plain : (c : ℕ) (cs : List ℕ) → ends_word c ≡ false → goes_on (c ∷ cs) ≡ true
 goes_on-plain c cs e = rw e refl
 
--- a word before what ends it
+-- a word followed by a character that ends it
 words-cons : (c : ℕ) (cs t : List ℕ) → ends_word c ≡ false → Plain cs → goes_on t ≡ false → words ((c ∷ cs) ++ t) ≡ (c ∷ cs) ∷ words t
 words-cons c [] t e p g = rw g at (step c t e)
 words-cons c (d ∷ ds) t e p g =
@@ -67,7 +67,7 @@ pub record IsWord (w : List ℕ) : Type 0 where
   pub some : 0 < length w
   pub plain : Plain w
 
--- a word before a space
+-- a word followed by a space
 pub words-spaced : (w t : List ℕ) → IsWord w → words (w ++ (32 ∷ t)) ≡ w ∷ words t
 words-spaced w t h = words-word_before w (32 ∷ t) h.some h.plain refl ∙ ap (λ ws. w ∷ ws) (words-space (32 ∷ t) refl)
 
@@ -76,7 +76,7 @@ words-one name a n w =
     words-word_before name (32 ∷ a) n.some n.plain refl
     ∙ ap (λ t. name ∷ t) (words-space (32 ∷ a) refl ∙ words-alone a w.some w.plain)
 
--- an operand, a comma and what follows it
+-- an operand, a comma and the rest
 words-comma_after : (a b : List ℕ) → IsWord a → words (a ++ (codes ", " ++ b)) ≡ a ∷ codes "," ∷ words b
 words-comma_after a b w =
     words-word_before a (44 ∷ 32 ∷ b) w.some w.plain refl
@@ -100,11 +100,11 @@ Plain-test : (w : List ℕ) → list_all in_word w ≡ true → Plain w
 Plain-test [] e = tt
 Plain-test (c ∷ cs) e = search (rules, tests, Plain-test cs)
 
--- a word that is written out, by its test
+-- a literal is a word, by a test
 pub IsWord-test : (w : List ℕ) → (nat_lt 0 (length w) && list_all in_word w) ≡ true → IsWord w
 IsWord-test w e = record { some = grind (arith, nat_tests); plain = Plain-test w (search (rules, tests)) }
 
--- its digits fit a word of 64 bits
+-- the number's digits fit 64 bits
 abbrev pub Small : ℤ → Type 0
 Small (pos n) = n < 2 ^ 64
 Small (negsuc n) = suc n < 2 ^ 64

@@ -1,4 +1,4 @@
--- Names with no suffix 32.
+-- Names without the suffix 32.
 use Rattle.std.specs.Prelude.{◌≡◌, ◌≢◌, ℕ, ◌-◌, List, ◌++◌, length, take, drop, false, codes}
 use Rattle.std.proofs.Common.{rules, tests, sym, ◌∙◌, ap}
 use Rattle.std.proofs.lemmas.List.{take-append-drop}

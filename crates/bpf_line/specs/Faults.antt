@@ -3,7 +3,7 @@ use Rattle.std.specs.Prelude.{ℕ}
 use Rattle.bpf_line.specs.declared.fault.LineFault.{LineFault}
 use Rattle.bpf_line.specs.declared.fault.LineFault.TheVariants.{Grammar, Range}
 
--- the number by which a fault is told
+-- the number of a fault
 abbrev pub number_of : LineFault → ℕ
 number_of Grammar = 20
 number_of Range = 21

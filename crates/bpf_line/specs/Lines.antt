@@ -1,4 +1,4 @@
--- What the words of a line say. A comma is a word of its own.
+-- The instructions that words spell. A comma is a word of its own.
 use Rattle.std.specs.Prelude.{ℕ, ◌-◌, List, [], ◌∷◌, length, take, drop, Bool, true, false, not, ◌&&◌, if◌then◌else◌, Option, Some, None, Result, Ok, Err, bytes_eq, codes}
 use Rattle.std.specs.Int.{w32, cast_unsigned}
 use Rattle.bpf_line.specs.declared.fault.LineFault.{LineFault}
@@ -19,11 +19,11 @@ use Rattle.bpf_line.specs.Numbers.{on, imm, offset, long_offset, wide_number}
 use Rattle.bpf_line.specs.Names.{alu_named, compare_named, atomic_named, extension_named, order_named, load_named, store_named, store_register_named}
 use Rattle.bpf_line.specs.Operands.{both, register, source_of, memory}
 
--- the instruction that words spell, or what is wrong with them
+-- the instruction that words spell, or their fault
 abbrev pub Said : Type 0
 Said = Result Insn LineFault
 
--- the suffix 32 stands for 32 bits
+-- the name has the suffix 32, for 32 bits
 abbrev pub is_narrow : List ℕ → Bool
 is_narrow t = bytes_eq (drop (length t - 2) t) (codes "32")
 
@@ -63,20 +63,20 @@ abbrev pub wide_said : List ℕ → List ℕ → Said
 wide_said a b =
     on (both (register a) (wide_number b)) (λ x. Ok (insn.LoadWide x.0 (wide.Number x.1)))
 
--- operations with the suffix 32 or without
+-- arithmetic and atomics, with or without the suffix 32
 abbrev pub suffixed : Option AluOp → Option AtomicOp → Bool → List ℕ → List ℕ → Said
 suffixed (Some op) atomic wide a b = alu_said op wide a b
 suffixed None (Some op) wide a b = atomic_said op wide a b
 suffixed None None wide a b = Err Grammar
 
--- stores, of a number or of a register, and else operations on two operands
+-- stores of an immediate or a register, or else arithmetic and atomics
 abbrev pub stored : Option Size → Option Size → List ℕ → List ℕ → List ℕ → Said
 stored (Some size) register name a b = store_said size a b
 stored None (Some size) name a b = store_register_said size a b
 stored None None name a b =
     suffixed (alu_named (base_of name)) (atomic_named (base_of name)) (not (is_narrow name)) a b
 
--- moves that extend a sign, loads, and else what isn't one of these
+-- moves with sign extension, loads, or else the other operations on two operands
 abbrev pub loaded :
     Option (Extension × Bool) → Option (Size × Bool) → List ℕ → List ℕ → List ℕ → Said
 loaded (Some e) load name a b = extension_said e a b
@@ -140,7 +140,7 @@ abbrev pub is_load_of : List ℕ → List ℕ → List ℕ → List ℕ → Bool
 is_load_of name kind comma what =
     bytes_eq name (codes "lddw") && (is_comma comma && bytes_eq what kind)
 
--- a line that has some words
+-- the instruction that the words of a line spell
 abbrev pub said : List (List ℕ) → Said
 said [] = Err Grammar
 said (a ∷ []) = (if bytes_eq a (codes "exit") then Ok insn.Exit else Err Grammar)
@@ -161,11 +161,11 @@ abbrev as_some : Said → Result (Option Insn) LineFault
 as_some (Ok insn) = Ok (Some insn)
 as_some (Err fault) = Err fault
 
--- nothing where there are no words, and else what they say
+-- nothing if there are no words, else what they spell
 abbrev pub said_or_blank : List (List ℕ) → Result (Option Insn) LineFault
 said_or_blank [] = Ok None
 said_or_blank (w ∷ ws) = as_some (said (w ∷ ws))
 
--- what a line says: nothing where it has no words
+-- what a line says: nothing if it has no words
 abbrev pub line_said : List ℕ → Result (Option Insn) LineFault
 line_said line = said_or_blank (words line)

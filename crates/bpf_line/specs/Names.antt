@@ -95,7 +95,7 @@ load_named t =
     (if bytes_eq t (codes "ldsxh") then Some (size.Half, true) else
     (if bytes_eq t (codes "ldsxw") then Some (size.Word, true) else None)))))))
 
--- a store of an imm
+-- a store of an immediate
 abbrev pub store_named : List ℕ → Option Size
 store_named t =
     (if bytes_eq t (codes "stb") then Some size.Byte else

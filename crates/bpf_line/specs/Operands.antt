@@ -1,4 +1,4 @@
--- The operands of a line: registers, memory, and what stands in either's place.
+-- The operands of a line: registers, immediates and memory.
 use Rattle.std.specs.Prelude.{ℕ, ◌-◌, List, length, take, drop, nat_eq, nat_le, ◌&&◌, if◌then◌else◌, Result, Ok, Err, ℤ, bytes_eq, codes, slice_index}
 use Rattle.bpf_line.specs.declared.fault.LineFault.{LineFault}
 use Rattle.bpf_line.specs.declared.fault.LineFault.TheVariants.{Grammar, Range}
@@ -6,7 +6,7 @@ use Rattle.bpf_insn.specs.declared.insn.Source.{Source}
 use Rattle.bpf_insn.specs.declared.insn.Source.TheVariants as source
 use Rattle.bpf_line.specs.Numbers.{starts, imm, offset}
 
--- two parts of a line; a part that is not in the grammar counts before a number out of range
+-- two parts of a line; a part that isn't in the grammar takes precedence over a number out of range
 abbrev pub both :
     {A B : Type 0} → Result A LineFault → Result B LineFault → Result (A × B) LineFault
 both (Ok a) (Ok b) = Ok (a, b)
@@ -41,11 +41,11 @@ abbrev as_imm : Result ℤ LineFault → Result Source LineFault
 as_imm (Ok n) = Ok (source.Imm n)
 as_imm (Err fault) = Err fault
 
--- a register or an imm
+-- a register or an immediate
 abbrev pub source_of : List ℕ → Result Source LineFault
 source_of t = (if starts 114 t then as_register (register t) else as_imm (imm t))
 
--- what stands between brackets: a register, and an offset with its sign
+-- the text in brackets: a register, and an offset with its sign
 abbrev pub place : List ℕ → Result (ℕ × ℤ) LineFault
 place t =
     (if bytes_eq (take 3 t) (codes "r10") then both (Ok 10) (offset (drop 3 t))

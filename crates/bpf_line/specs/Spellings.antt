@@ -66,7 +66,7 @@ atomic_name atomic.FetchXor = codes "fetch_xor"
 atomic_name atomic.Xchg = codes "xchg"
 atomic_name atomic.Cmpxchg = codes "cmpxchg"
 
--- the names of moves that extend a sign, to 64 bits and to 32
+-- the names of moves with sign extension, to 64 bits and to 32
 abbrev pub extension_name : Extension → Bool → List ℕ
 extension_name extension.Byte true = codes "movsx8"
 extension_name extension.Half true = codes "movsx16"
@@ -87,7 +87,7 @@ order_name order.Swap width.Half = codes "swap16"
 order_name order.Swap width.Word = codes "swap32"
 order_name order.Swap width.Double = codes "swap64"
 
--- the names of loads, without and with their sign
+-- the names of loads, without and with sign extension
 abbrev pub load_name : Size → Bool → List ℕ
 load_name size.Byte false = codes "ldxb"
 load_name size.Half false = codes "ldxh"
@@ -105,7 +105,7 @@ size_name size.Half = codes "h"
 size_name size.Word = codes "w"
 size_name size.Double = codes "dw"
 
--- operations of 32 bits have a suffix
+-- the suffix of 32-bit operations
 abbrev pub suffix : Bool → List ℕ
 suffix true = []
 suffix false = codes "32"
@@ -114,12 +114,12 @@ suffix false = codes "32"
 abbrev pub register_text : ℕ → List ℕ
 register_text r = codes "r" ++ decimal r
 
--- with its sign
+-- an offset with its sign
 abbrev pub offset_text : ℤ → List ℕ
 offset_text (pos n) = codes "+" ++ decimal n
 offset_text (negsuc n) = codes "-" ++ decimal (suc n)
 
--- a number or a register
+-- an immediate or a register
 abbrev pub source_text : Source → List ℕ
 source_text (source.Imm n) = signed_decimal n
 source_text (source.Reg r) = register_text r
@@ -128,7 +128,7 @@ source_text (source.Reg r) = register_text r
 abbrev pub memory_text : ℕ → ℤ → List ℕ
 memory_text r x = codes "[" ++ (register_text r ++ (offset_text x ++ codes "]"))
 
--- a name with two operands, and with one
+-- a name and two operands
 abbrev pub two_text : List ℕ → List ℕ → List ℕ → List ℕ
 two_text name a b = name ++ (codes " " ++ (a ++ (codes ", " ++ b)))
 
@@ -142,7 +142,7 @@ wide_text (wide.Number n) = decimal n
 wide_text (wide.Map m) = codes "map " ++ decimal m
 wide_text (wide.MapValue m o) = codes "value " ++ (decimal m ++ (codes " " ++ decimal o))
 
--- the text of an instruction, in decimal, an imm signed, one space after a comma
+-- the text of an instruction, in decimal, with immediates signed, and one space after a comma
 abbrev pub text_of : Insn → List ℕ
 text_of (insn.Alu op w d s) = two_text (alu_name op ++ suffix w) (register_text d) (source_text s)
 text_of (insn.MovSx from w d s) =

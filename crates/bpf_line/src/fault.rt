@@ -1,4 +1,4 @@
-//! Why a line is no instruction.
+//! Why a line can't be read.
 
 ghost use Rattle.std.specs.Prelude.{◌≡◌};
 ghost use Rattle.bpf_line.specs.Faults.{number_of};
@@ -6,9 +6,9 @@ ghost use Rattle.bpf_line.specs.Faults.{number_of};
 /// Why a line can't be read.
 #[derive(Clone, Copy, Debug, PartialEq, Eq)]
 pub enum LineFault {
-    /// 20: the line is not in the grammar.
+    /// 20: the line isn't in the grammar.
     Grammar,
-    /// 21: a number is out of its range.
+    /// 21: a number is out of range.
     Range,
 }
 

@@ -1,4 +1,4 @@
-//! What holds of all lines.
+//! A law about the text of instructions.
 
 ghost use Rattle.std.specs.Prelude.{◌≡◌, ◌≢◌, ◌<◌, ℕ, Ok, Some, length, slice_index};
 ghost use Rattle.bpf_insn.specs.declared.insn.Insn.{Insn};

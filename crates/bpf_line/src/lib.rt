@@ -1,9 +1,9 @@
-//! One line of assembler text: the instruction that it says, and the text of an instruction.
+//! Reading a line of assembler text as an instruction, and writing an instruction as text.
 //!
-//! Main calls: `read_line`, and `InsnText`, which is displayed. It stands on `bpf_insn`. A line
-//! says exactly what the grammar in `specs/` says: an instruction, nothing, fault 20 (not in the
-//! grammar) or 21 (a number out of range). `text_law`: the text of each instruction is read as that
-//! instruction. No call takes memory.
+//! Main calls: `read_line`, and displaying an `InsnText`. The crate depends on `bpf_insn`. A line
+//! is read exactly as the grammar in `specs/` says: as an instruction, as nothing, or with fault 20
+//! (not in the grammar) or 21 (a number out of range). `text_law`: the text of each instruction is
+//! read as that instruction. No call allocates.
 #![tactic(auto)]
 
 mod fault;

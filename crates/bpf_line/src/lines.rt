@@ -1,4 +1,4 @@
-//! What the words of a line say.
+//! The instruction that a line's words spell.
 
 ghost use Rattle.std.specs.Prelude.{◌≡◌, ℕ, List, Bool, not, map, Some, None, Ok, IfOk, [], ◌∷◌};
 ghost use Rattle.bpf_line.specs.Lines.{alu_said, extension_said, load_said, store_said, store_register_said, atomic_said, wide_said, two_said, branch_said, order_said, neg_said, stored, loaded, one_said, local_said, map_said, value_said, is_narrow, base_of, said};
@@ -121,7 +121,7 @@ fn base_of(name: &str) -> (&str, bool)
     }
 }
 
-/// Arithmetic and atomics, with the suffix 32 or without.
+/// Stores, arithmetic and atomics, the last two with or without the suffix 32.
 fn suffixed(name: &str, first: &str, second: &str) -> Said
     ensures is { result ≡ stored None None name.now first.now second.now }
     ensures valid { IfOk result IsInsn }
@@ -352,7 +352,7 @@ fn of_four(name: &str, first: &str, comma: &str, second: &str) -> Said
     }
 }
 
-/// What a line's words say.
+/// The instruction that a line's words spell, or their fault.
 pub fn read_words(words: &[&str]) -> Said
     ensures is { result ≡ said (map (λ w. w.now) words.now) }
     ensures valid { IfOk result IsInsn }

@@ -6,7 +6,6 @@ ghost use Rattle.bpf_line.specs.Names.{alu_named, compare_named, atomic_named, e
 
 use bpf_insn::{AluOp, AtomicOp, ByteOrder, Compare, Extension, OrderWidth, Size};
 
-/// An operation of arithmetic.
 pub(crate) fn alu_named(name: &str) -> Option<AluOp>
     ensures is { result ≡ alu_named name.now }
 {
@@ -29,7 +28,6 @@ pub(crate) fn alu_named(name: &str) -> Option<AluOp>
     }
 }
 
-/// A comparison of a conditional jump.
 pub(crate) fn compare_named(name: &str) -> Option<Compare>
     ensures is { result ≡ compare_named name.now }
 {
@@ -49,7 +47,6 @@ pub(crate) fn compare_named(name: &str) -> Option<Compare>
     }
 }
 
-/// An atomic operation.
 pub(crate) fn atomic_named(name: &str) -> Option<AtomicOp>
     ensures is { result ≡ atomic_named name.now }
 {
@@ -83,7 +80,6 @@ pub(crate) fn extension_named(name: &str) -> Option<(Extension, bool)>
     }
 }
 
-/// A byte order and its width.
 pub(crate) fn order_named(name: &str) -> Option<(ByteOrder, OrderWidth)>
     ensures is { result ≡ order_named name.now }
 {
@@ -118,7 +114,7 @@ pub(crate) fn load_named(name: &str) -> Option<(Size, bool)>
     }
 }
 
-/// A store of an imm.
+/// A store of an immediate.
 pub(crate) fn store_named(name: &str) -> Option<Size>
     ensures is { result ≡ store_named name.now }
 {
@@ -131,7 +127,6 @@ pub(crate) fn store_named(name: &str) -> Option<Size>
     }
 }
 
-/// A store of a register.
 pub(crate) fn store_register_named(name: &str) -> Option<Size>
     ensures is { result ≡ store_register_named name.now }
 {

@@ -13,7 +13,6 @@ fn is_numeral(text: &[u8], radix: u32) -> bool
     !text.is_empty() && text.iter().all(|byte| char::from(*byte).is_digit(radix))
 }
 
-/// The number that digits spell.
 fn numeral(text: &[u8], radix: u32) -> Result<u64, LineFault>
     requires { (radix ≡ 10) ⊎ (radix ≡ 16) }
     ensures is { result ≡ numeral radix text.now }
@@ -59,7 +58,7 @@ fn below_zero(number: u64) -> Result<i32, LineFault>
     }
 }
 
-/// An imm, kept mod 2^32: from -2147483648 to 4294967295.
+/// An immediate from -2147483648 to 4294967295, taken mod 2^32.
 pub fn imm(text: &[u8]) -> Result<i32, LineFault>
     ensures is { result ≡ imm text.now }
 {
@@ -86,7 +85,7 @@ pub fn offset(text: &[u8]) -> Result<i16, LineFault>
     }
 }
 
-/// The target of a long jump or a local call, with its sign, kept mod 2^32.
+/// The target of a long jump or local call, with its sign: from -2147483648 to 4294967295, taken mod 2^32.
 pub fn long_offset(text: &[u8]) -> Result<i32, LineFault>
     ensures is { result ≡ long_offset text.now }
 {

@@ -7,7 +7,7 @@ use crate::fault::LineFault;
 use crate::numbers::{imm, offset};
 use bpf_insn::{Reg, Source};
 
-/// Two parts of a line. A part that is not in the grammar counts before a number out of range.
+/// Two parts of a line. A part that isn't in the grammar takes precedence over a number out of range.
 pub(crate) fn both<A, B>(
     first: Result<A, LineFault>,
     second: Result<B, LineFault>,
@@ -45,7 +45,7 @@ pub(crate) fn register(text: &str) -> Result<Reg, LineFault>
     }
 }
 
-/// A register or an imm.
+/// A register or an immediate.
 pub(crate) fn source(text: &str) -> Result<Source, LineFault>
     ensures is { result ≡ source_of text.now }
 {
@@ -67,7 +67,7 @@ fn place(text: &[u8]) -> Result<(Reg, i16), LineFault>
     }
 }
 
-/// Memory: a register and an offset with its sign between brackets.
+/// Memory: a register and a signed offset in brackets.
 pub(crate) fn memory(text: &str) -> Result<(Reg, i16), LineFault>
     ensures is { result ≡ memory text.now }
 {

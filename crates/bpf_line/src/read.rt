@@ -1,4 +1,4 @@
-//! A line's instruction.
+//! The instruction of a line.
 
 ghost use Rattle.std.specs.Prelude.{◌≡◌, IfOk, IfSome};
 ghost use Rattle.bpf_insn.specs.Spelled.{IsInsn};
@@ -9,9 +9,8 @@ use crate::lines::read_words;
 use crate::words::cut_words;
 use bpf_insn::Insn;
 
-/// What a line of text says, without its line feed: an instruction, or nothing where there is
-/// only space and a comment. 20 where it is not in the grammar, else 21 where a number is out
-/// of its range.
+/// Reads a line of text without its line feed: an instruction, or `None` if it has only spaces and a comment. Fault 20
+/// if it isn't in the grammar, else 21 if a number is out of range.
 pub fn read_line(line: &str) -> Result<Option<Insn>, LineFault>
     ensures is { result ≡ line_said line.now }
     ensures valid { IfOk result (λ said. IfSome said IsInsn) }

@@ -5,9 +5,9 @@ ghost use Rattle.std.specs.List.{position_or_len};
 ghost use Rattle.bpf_line.specs.Words.{words, ends_word, piece_len};
 ghost use Rattle.bpf_line.specs.Pieces.{Begins};
 
-/// What a text begins with, and what follows.
+/// The first piece of a text, and the rest.
 pub(crate) enum Piece<'a> {
-    /// No further word: the end, or a comment.
+    /// No more words: the end, or a comment.
     End,
     Space(&'a str),
     Word(&'a str, &'a str),
@@ -33,7 +33,6 @@ fn piece_len(text: &[u8]) -> usize
     }
 }
 
-/// The first piece of a text.
 pub(crate) fn first_piece(text: &str) -> Piece<'_>
     ensures begins { Begins text.now result }
 {
@@ -50,7 +49,7 @@ pub(crate) fn first_piece(text: &str) -> Piece<'_>
     }
 }
 
-/// Puts the words of a line in order, and tells how many there are; None for more than six.
+/// Writes the words of a line to `cut` in order, and returns how many there are; `None` if more than six.
 pub(crate) fn cut_words<'a>(line: &'a str, cut: &mut [&'a str; 6]) -> Option<usize>
     ensures few { IfSome result
         (λ count. (count ≤ 6) × (words line.now ≡ map (λ w. w.now) (take count cut.new))) }

@@ -125,7 +125,6 @@ fn suffix(wide: bool) -> &'static str
     if wide { "" } else { "32" }
 }
 
-/// A register's name.
 #[derive(Clone, Copy)]
 struct Register(Reg);
 
@@ -167,7 +166,7 @@ impl fmt::Display for Operand {
     }
 }
 
-/// Memory: a register and an offset between brackets.
+/// Memory: a register and an offset in brackets.
 #[derive(Clone, Copy)]
 struct Memory {
     base: Reg,

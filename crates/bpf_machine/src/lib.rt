@@ -1,10 +1,10 @@
 //! Programs that are safe to run, and whole runs: `run`, `trace` and `probing::probe`.
 //!
-//! It stands on `bpf_bare`, for `run` and `trace`, and on `bpf_tagged`, for `probe`. An `Accepted` is, by
-//! its type invariant, safe within its budget for its hook. `run` answers R0, the steps and the first 16
-//! notes of the run that the definition gives for what its port answered, each ask once and in order; it
-//! takes no memory and tests nothing. `Bare` is the machine of `run`, a step at a time. `probe` runs any
-//! program, to its end or its fault.
+//! The crate depends on `bpf_bare`, for `run` and `trace`, and on `bpf_tagged`, for `probe`. An
+//! `Accepted` is safe within its budget, by its type invariant. `run` returns R0, the steps and the
+//! first 16 notes of the run that the definition gives for the port's answers, with each query made
+//! once and in order; it allocates nothing and performs no checks. `Bare` is the machine of `run`,
+//! one step at a time. `probe` runs any program, to its end, its fault or a limit of steps.
 #![tactic(auto)]
 
 pub mod accepted;

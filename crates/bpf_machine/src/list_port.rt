@@ -8,8 +8,8 @@ use bpf_regions::{Helper, MapOp, Shape, Shapes, WordWidth};
 use bpf_tagged::Port;
 use std::marker::Model;
 
-/// A port for maps of certain shapes that answers each ask with the next number of a list, cut to the ask's
-/// range, and with 0 past the list's end.
+/// A port for maps of given shapes. It answers each query with the next number of a list, reduced to the query's range,
+/// and with 0 past the list's end.
 #[derive(Drop)]
 pub struct ListPort<'a> {
     shapes: &'a Shapes,
@@ -24,7 +24,7 @@ impl<'a> Model for ListPort<'a> {
     ghost view = { λ p. record { shapes = p.shapes.now; left = p.left.now } };
 }
 
-/// A number cut to the width of a map's word.
+/// A number reduced mod the size of a map's word; 0 if the map doesn't exist.
 fn cut_to(shape: Option<Shape>, number: u64) -> u64
     ensures is { result ≡ cut_to_word shape number }
 {
@@ -38,7 +38,7 @@ fn cut_to(shape: Option<Shape>, number: u64) -> u64
 }
 
 impl<'a> ListPort<'a> {
-    /// For maps of these shapes, with these answers.
+    /// A port for maps of these shapes, with these answers.
     pub fn new(shapes: &'a Shapes, answers: &'a [u64]) -> Self
         ensures shapes { result.shapes ≡ shapes.now }
         ensures left { result.left ≡ answers.now }
@@ -49,7 +49,7 @@ impl<'a> ListPort<'a> {
         }
     }
 
-    /// The next number, 0 past the end.
+    /// Takes the next number; 0 past the end.
     fn take(&mut self) -> u64
         ensures is { result ≡ taken self.old }
         ensures left { self.new ≡ left_after self.old }

@@ -1,8 +1,8 @@
-//! What whole runs come to.
+//! The results of whole runs.
 
 use arrayvec::ArrayVec;
 
-/// What a run that ended came to: R0, the number of steps with EXIT counted, and the first 16 notes.
+/// The result of a run that ended: R0, the number of steps counting EXIT, and the first 16 notes.
 #[derive(Drop)]
 pub struct Outcome {
     pub r0: u64,
@@ -10,18 +10,18 @@ pub struct Outcome {
     pub notes: ArrayVec<u64, 16>,
 }
 
-/// What a run within a limit of steps came to.
+/// The result of a run within a limit of steps.
 #[derive(Drop)]
 pub enum Probe {
-    /// It ended within the limit.
+    /// The run ended within the limit.
     Ended(Outcome),
-    /// At slot `pc` it met the fault of that number, after at most as many steps as the limit allows.
+    /// The run had this fault at slot `pc`, after at most as many steps as the limit allows.
     Faulted { pc: usize, number: u8 },
-    /// It made as many steps as the limit allows, and met no fault.
+    /// The run made as many steps as the limit allows, and doesn't fault next.
     Cut,
 }
 
-/// One step of a run: the slot of its instruction, and the number that it noted, if it did.
+/// One step of a run: the slot of its instruction, and its note, if any.
 #[derive(Clone, Copy, Debug, PartialEq, Eq)]
 pub struct Step {
     pub pc: usize,

@@ -14,7 +14,7 @@ use bpf_decode::Program;
 use bpf_regions::{Context, Frame};
 use bpf_tagged::{Machine, Port, Stepped};
 
-/// The fault at which the machine stands. No port is asked, and where the machine stands afterwards is left open.
+/// The fault of the next step, if it faults. Queries no port; the machine's state afterwards is unspecified.
 fn fault_ahead(program: &Program, frame: &[u8], context: &[u8], machine: &mut Machine) -> Option<u8>
     requires paired { IsPaired machine.old }
     ensures is { MatchOption result
@@ -33,8 +33,8 @@ fn fault_ahead(program: &Program, frame: &[u8], context: &[u8], machine: &mut Ma
     }
 }
 
-/// Runs a program for at most `limit` steps. The port is put the asks of those steps, each once and in order.
-/// It takes no memory.
+/// Runs a program for at most `limit` steps. The port gets the queries of those steps, each once and in order.
+/// Allocates nothing.
 pub fn probe<P: Port>(
     program: &Program,
     frame: &Frame,

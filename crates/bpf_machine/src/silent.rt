@@ -1,11 +1,11 @@
-//! A port for a step that nobody is to hear of.
+//! A port for steps that must query no other port.
 
 ghost use Rattle.bpf_regions.specs.declared.asks.Ask.TheVariants.{Access, Help};
 
 use bpf_regions::{Helper, MapOp, Shapes};
 use bpf_tagged::Port;
 
-/// Answers every ask with 0.
+/// Answers every query with 0.
 #[derive(Drop)]
 pub struct Silent<'a> {
     pub shapes: &'a Shapes,

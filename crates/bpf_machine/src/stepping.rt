@@ -13,7 +13,7 @@ use bpf_regions::{Context, Frame};
 use bpf_tagged::perform::perform_slot;
 use bpf_tagged::{Machine, Port, Stepped};
 
-/// Fetches the instruction at which the machine stands, and performs it.
+/// Fetches and performs the machine's next instruction.
 pub fn step<P: Port>(
     program: &Program,
     frame: &[u8],
@@ -34,7 +34,7 @@ pub fn step<P: Port>(
     return perform_slot(program.shapes(), frame, context, slot, machine, port);
 }
 
-/// The first 16 notes are kept.
+/// Keeps the note, if any, if it is among the first 16.
 pub fn keep_note(notes: &mut ArrayVec<u64, 16>, noted: Option<u64>)
     ensures is { (all : List ℕ) →
         notes.old.items ≡ take 16 all → notes.new.items ≡ take 16 (with_note all noted) }
@@ -46,14 +46,14 @@ pub fn keep_note(notes: &mut ArrayVec<u64, 16>, noted: Option<u64>)
     }
 }
 
-/// A byte is below 256.
+/// Does nothing; its contract says that bytes are below 256.
 fn are_bytes(bytes: &[u8])
     ensures is { AreBytes bytes.now }
 {
     let _length = bytes.len();
 }
 
-/// An accepted program is safe on each frame and context. It does nothing; a caller's proof takes its promise.
+/// Does nothing; its contract says that an accepted program is safe on each frame and context.
 pub fn safe_on(accepted: &Accepted, frame: &Frame, context: &Context)
     ensures is { SafeIn (setting_of accepted.now.code frame.now context.now) accepted.now.budget }
 {

@@ -1,4 +1,4 @@
--- What a read of set bytes says of them.
+-- What a read of set bytes says about them.
 use Rattle.std.proofs.Common.{◌≡◌, ℕ, Option, Some, None, Result, Ok, Err, refl}
 use Rattle.bpf_model.specs.declared.StackFrame.{StackFrame}
 use Rattle.bpf_model.specs.Memory.{set_byte, joined}

@@ -1,10 +1,10 @@
 //! The machine of RFC 9669 with its regions: states, steps, faults, runs and safety, in `specs/`.
 //!
-//! These definitions have to be believed: `next` of `specs/Step.antt` says what each instruction
-//! does, and `Safe` of `specs/Run.antt` what a verified program is. They know nothing of intervals,
-//! visits or tags. The crate stands on `bpf_insn`, `bpf_words` and `bpf_regions`; its code is two
-//! types, `StackFrame` and `Caller`. `laws::within_law`: code that is safe state by state within a
-//! budget is `Safe` within it.
+//! These definitions are trusted: `next` in `specs/Step.antt` says what each instruction does, and
+//! `Safe` in `specs/Run.antt` what a verified program is. They mention no intervals, visits or
+//! tags. The crate depends on `bpf_insn`, `bpf_words` and `bpf_regions`; its code is three types,
+//! `StackFrame`, `Caller` and `Place`. `laws::within_law`: code that is safe state by state within
+//! a budget is `Safe` within it.
 #![tactic(auto)]
 
 ghost use Rattle.std.specs.Prelude.{◌≡◌};
@@ -33,7 +33,7 @@ impl Default for StackFrame {
     }
 }
 
-/// What a local call keeps: the slot to go on at, and R6 to R10.
+/// What a local call saves: the return slot, and R6 to R10.
 #[derive(Clone, Copy)]
 pub struct Caller {
     pub slot: usize,
@@ -60,7 +60,7 @@ impl Default for Caller {
     }
 }
 
-/// Where an access lies, once it is known to lie within its region.
+/// The location of an access within its region.
 #[derive(Clone, Copy)]
 pub enum Place {
     Frame(usize),

@@ -1,8 +1,8 @@
-//! What a program may ask while it runs.
+//! A program's queries while it runs.
 
 use crate::maps::MapOp;
 
-/// A helper whose answer comes from outside.
+/// A helper whose result comes from outside the program.
 #[derive(Clone, Copy, Debug, PartialEq, Eq)]
 pub enum Helper {
     /// Helper 2: the shard's clock, any number below 2^64.
@@ -13,10 +13,10 @@ pub enum Helper {
     Draw,
 }
 
-/// One ask: an access to a word of a map, or a helper's answer.
+/// One query: an access to a map word, or a helper call.
 #[derive(Clone, Copy, Debug, PartialEq, Eq)]
 pub enum Ask {
-    /// `word` is the entry's index times the words of an entry, plus the word's place in the entry.
+    /// `word` is the entry's index times the words per entry, plus the word's index in the entry.
     Access { map: u32, word: u32, op: MapOp },
     Help(Helper),
 }

@@ -1,4 +1,4 @@
-//! The points at which the access point asks a program.
+//! The points at which the access point runs a program.
 
 ghost use Rattle.std.specs.Prelude.{◌≡◌, Some};
 ghost use Rattle.bpf_regions.specs.Hooks.{number_of, name_of};

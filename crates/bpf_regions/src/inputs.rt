@@ -1,4 +1,4 @@
-//! What a program is given: the received frame and the hook's context.
+//! A program's input: the received frame and the hook's context.
 
 ghost use Rattle.std.specs.Prelude.{◌≡◌, ◌≤◌, ◌↔◌, ℕ, List, length, IsSome, IfSome};
 
@@ -19,7 +19,7 @@ impl<'a> Model for Frame<'a> {
 }
 
 impl<'a> Frame<'a> {
-    /// None above 2400 bytes.
+    /// The frame of these bytes; `None` if there are more than 2400.
     pub fn new(bytes: &'a [u8]) -> Option<Self>
         ensures valid { IsSome result ↔ (length bytes.now ≤ 2400) }
         ensures value { IfSome result (λ f. f ≡ bytes.now) }
@@ -39,7 +39,7 @@ impl<'a> Frame<'a> {
     }
 }
 
-/// The 32 bytes that tell a program of the station and its request.
+/// The 32 bytes that describe the station and its request to a program.
 #[derive(Clone, Copy)]
 pub struct Context {
     bytes: [u8; 32],

@@ -1,9 +1,8 @@
-//! What programs work on: values, memory regions, maps, hooks, their input, and what they may ask.
+//! What programs work on: values, memory regions, maps, hooks, their input and their queries.
 //!
-//! Main calls: `Shapes::new`, `Frame::new` and `Context::new`, which keep their limits: at most 16
-//! maps of at most 4096 entries and 8 words, a frame of at most 2400 bytes, a context of 32. It
-//! stands on nothing but std. The program side, the maps and the hooks of the link all speak of its
-//! types.
+//! Main calls: `Shapes::new`, `Frame::new` and `Context::new`, which enforce the limits: at most 16
+//! maps of at most 4096 entries and 8 words, a frame of at most 2400 bytes, a context of 32. The
+//! crate depends only on std. The program side, the maps and the link's hooks all use its types.
 #![tactic(auto)]
 
 pub mod asks;

@@ -7,14 +7,14 @@ ghost use Rattle.bpf_regions.specs.Maps.{bytes_of, entry_bytes, word_count, IsSh
 use std::alloc::AllocError;
 use std::marker::Model;
 
-/// Whether all workers share a map, or each has one of its own.
+/// Whether all workers share a map, or each has its own.
 #[derive(Clone, Copy, Debug, PartialEq, Eq)]
 pub enum Scope {
     Shared,
     Worker,
 }
 
-/// How many bytes a word of a map has.
+/// The size of a map word in bytes.
 #[derive(Clone, Copy, Debug, PartialEq, Eq)]
 pub enum WordWidth {
     Four,
@@ -33,7 +33,7 @@ impl WordWidth {
     }
 }
 
-/// A map's shape: 1 to 4096 entries of 1 to 8 words. `Shapes` admits no other.
+/// A map's shape. `Shapes` admits only 1 to 4096 entries of 1 to 8 words.
 #[derive(Clone, Copy, Debug, PartialEq, Eq)]
 pub struct Shape {
     pub entries: u32,
@@ -44,7 +44,7 @@ pub struct Shape {
 }
 
 impl Shape {
-    /// Whether entries and words are within their limits.
+    /// Whether the map has 1 to 4096 entries of 1 to 8 words.
     pub fn is_valid(&self) -> bool
         ensures is { IsTrue result ↔ IsShape self.now }
     {
@@ -92,7 +92,7 @@ impl Clone for Shapes {
 }
 
 impl Shapes {
-    /// None for more than 16 maps, or a map outside the limits.
+    /// `None` if there are more than 16 maps, or one is outside the limits.
     pub fn new(shapes: Vec<Shape>) -> Option<Self>
         ensures valid { IsSome result ↔ AreShapes shapes.items }
         ensures value { IfSome result (λ s. s ≡ shapes.items) }
@@ -104,7 +104,7 @@ impl Shapes {
         }
     }
 
-    /// All shapes are within the limits.
+    /// Does nothing; its contract says that there are at most 16 shapes, each within its limits.
     pub fn whole(&self)
         ensures is { AreShapes self.now }
     {
@@ -123,7 +123,7 @@ impl Shapes {
         self.shapes.len() == 0
     }
 
-    /// The shape of the map of that number.
+    /// The shape of map number `map`, if it exists.
     pub fn get(&self, map: u32) -> Option<Shape>
         ensures is { result ≡ slice_get self.now map }
         ensures valid { IfSome result IsShape }
@@ -138,7 +138,7 @@ impl Shapes {
     }
 }
 
-/// An access to one word of a map. A store answers 0, every other access the old number.
+/// An access to one word of a map. A store returns 0, every other access the old number.
 #[derive(Clone, Copy, Debug, PartialEq, Eq)]
 pub enum MapOp {
     Load,
@@ -148,6 +148,6 @@ pub enum MapOp {
     Or(u64),
     And(u64),
     Xor(u64),
-    /// Puts `new` where the word holds `expected`.
+    /// Writes `new` if the word holds `expected`.
     CompareExchange { expected: u64, new: u64 },
 }

@@ -1,9 +1,9 @@
-//! Values, and the regions of memory that pointers lead into.
+//! Values, and the memory regions that pointers point into.
 
 ghost use Rattle.std.specs.Prelude.{◌≡◌};
 ghost use Rattle.bpf_regions.specs.declared.memory.Value.TheVariants.{Unset};
 
-/// A piece of memory that a pointer may lead into.
+/// A memory region that a pointer may point into.
 #[derive(Clone, Copy, Debug, PartialEq, Eq)]
 pub enum Region {
     /// The received frame, read-only.
@@ -12,7 +12,7 @@ pub enum Region {
     Context,
     /// The 512 bytes of a live stack frame; the main function's is number 0.
     Stack(u8),
-    /// The value at an index of a map.
+    /// The map entry at an index.
     Entry { map: u32, index: u32 },
 }
 
@@ -25,7 +25,7 @@ pub enum Value {
     Pointer { region: Region, offset: u64 },
     /// The end of the received frame.
     FrameEnd,
-    /// The map of that number.
+    /// A reference to the map of that number.
     MapReference(u32),
 }
 

@@ -1,4 +1,4 @@
--- What a step did, from what came next.
+-- What a step does, from what comes next.
 use Rattle.std.proofs.Common.{ℤ, nat_eq, false}
 use Rattle.std.proofs.lemmas.Int.{to_z-of_z}
 use mir.Val.{SFits, to_z, of_z}
@@ -20,20 +20,20 @@ use Rattle.bpf_tagged.specs.declared.machine.Stepped.TheVariants.{Finished, Faul
 use Rattle.bpf_tagged.specs.Took.{at, with_note, Took, Answered, Performs, Moves, kept_old}
 
 module _ {S : Type 0} (R : S → Ask → ℕ → S → Type 0) (shapes : List Shape) where
-  -- a step that meets a fault
+  -- a step that faults
   pub faults : (x : State → Next) (cause : ℕ) (p : S) (m m2 : Machine) →
       ((notes : List ℕ) → x (at m notes) ≡ Fault cause) → Performs R shapes x (Faulted cause) p p m m2
   unfolding Answered
   faults x cause p m m2 e = record { made = λ notes. ([], refl, (e notes, refl)) }
 
-  -- a step that asks nothing
+  -- a step without a query
   pub goes : (x : State → Next) (p : S) (m m2 : Machine) →
       ((notes : List ℕ) → x (at m notes) ≡ Goes (at m2 notes)) → Performs R shapes x (On None) p p m m2
   unfolding Answered
   goes x p m m2 e =
       record { made = λ notes. ([], refl, subst (λ y. Leads shapes y [] (at m2 notes)) (sym (e notes)) (refl, refl)) }
 
-  -- a step that asks
+  -- a step with a query
   pub asks : (x : State → Next) (q : Ask) (answer : ℕ) (f : List ℕ → ℕ → State) (p p2 : S) (m m2 : Machine) →
       R p q answer p2 → InRange shapes q answer →
       ((notes : List ℕ) → x (at m notes) ≡ Asks q (f notes)) →
@@ -51,7 +51,7 @@ module _ {S : Type 0} (R : S → Ask → ℕ → S → Type 0) (shapes : List Sh
   same x y stepped p p2 m m2 e h =
       record { made = λ notes. subst (λ z. (l : List (Ask × ℕ)) × Answered R p l p2 × Took shapes z notes stepped l m2) (sym (e notes)) (h.made notes) }
 
-  -- The machine is then this one.
+  -- the same, with the machine after it named
   pub goes_as : (x : State → Next) (p : S) (m m' m2 : Machine) → m2 ≡ m' →
       ((notes : List ℕ) → x (at m notes) ≡ Goes (at m' notes)) → Performs R shapes x (On None) p p m m2
   goes_as x p m m' m2 is e = subst (λ k. Performs R shapes x (On None) p p m k) (sym is) (goes x p m m' e)
@@ -74,13 +74,13 @@ module _ {S : Type 0} (R : S → Ask → ℕ → S → Type 0) (shapes : List Sh
 abbrev pub with_stack : Machine → ℕ → List StackFrame → Machine
 with_stack m pc l = record m { pc = pc; stack = record { items = l } }
 
--- a write of all elements
+-- overwriting all elements
 pub refill_same : {X : Type 0} (xs ws : List X) → length ws ≡ length xs → refill (length xs) xs ws ≡ ws
 refill_same xs ws e =
     let none : drop (length ws) xs ≡ [] = drop_all (length ws) xs (omega (arith, e)) in
     ap (λ t. take (length xs) (ws ++ t)) none ∙ ap (take (length xs)) (append-nil ws) ∙ take_all (length xs) ws (omega (arith, e))
 
--- a write of one element
+-- overwriting one element
 pub refill_set : {X : Type 0} (n : ℕ) (xs ws : List X) (i : ℕ) (x : X) → n ≡ length xs → ws ≡ slice_set xs i x → refill n xs ws ≡ slice_set xs i x
 refill_set n xs ws i x len e =
     ap (λ k. refill k xs ws) len ∙ refill_same xs ws (ap length e ∙ length-set xs i x) ∙ e
@@ -89,7 +89,7 @@ pub kept_is : (m : Machine) (into : Option ℕ) (old : ℕ) (notes : List ℕ) �
 kept_is m None old notes = refl
 kept_is m (Some r) old notes = refl
 
--- an offset of 16 bits, as a callee's clause shows it
+-- a 16-bit offset, as a callee's clause shows it
 pub at_is : (base : ℕ) (z : ℤ) (r : ℕ) → SFits w16 z → r ≡ word_add base (word_of (to_z w16 (of_z w16 z))) → r ≡ word_add base (word_of z)
 at_is base z r fits e = e ∙ ap (λ y. word_add base (word_of y)) (to_z-of_z w16 z fits)
 

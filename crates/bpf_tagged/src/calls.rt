@@ -9,7 +9,7 @@ use bpf_model::{Caller, StackFrame};
 use bpf_regions::{Region, Value};
 use bpf_values::causes;
 
-/// After a call R1 to R5 are unset.
+/// Makes R1 to R5 unset, as after every call.
 pub fn clear_arguments(regs: &mut [Value; 11])
     ensures { regs.new ≡ without_arguments regs.old }
 {
@@ -45,7 +45,7 @@ fn set_caller(regs: &mut [Value; 11], caller: Caller)
     regs[10] = caller.r10;
 }
 
-/// A local call to where the target leads.
+/// Performs a local call to slot `to`; a fault if it is `None`.
 pub fn perform_call(machine: &mut Machine, to: Option<usize>) -> Stepped
     requires here { machine.old.pc < 65536 }
     requires paired { IsPaired machine.old }
@@ -85,7 +85,7 @@ fn exit_value(value: Value) -> Result<u64, u8>
     }
 }
 
-/// The end of a function.
+/// Performs EXIT.
 pub fn perform_exit(machine: &mut Machine) -> Stepped
     requires { IsPaired machine.old }
     ensures { Moves exit result machine.old machine.new }

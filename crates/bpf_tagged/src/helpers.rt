@@ -14,7 +14,7 @@ use bpf_regions::{Helper, Region, Shape, Shapes, Value};
 use bpf_values::arithmetic::{number_in, wrong_kinds};
 use bpf_values::causes;
 
-/// Goes on after a helper with its answer in R0.
+/// Continues after a helper with its result in R0.
 fn answer_with(machine: &mut Machine, value: Value)
     requires { machine.old.pc < 65536 }
     ensures { machine.new ≡ answered_on machine.old value }
@@ -88,7 +88,7 @@ fn perform_ask<P: Port>(machine: &mut Machine, port: &mut P, helper: Helper) -> 
     return Stepped::On(None);
 }
 
-/// A call of a helper.
+/// Calls a helper by its number.
 pub fn perform_help<P: Port>(
     shapes: &Shapes,
     machine: &mut Machine,

@@ -1,8 +1,8 @@
-//! What a run is given.
+//! A run's input.
 
 use bpf_regions::Shapes;
 
-/// What a run is given: the shapes of its maps, its frame and its context.
+/// A run's input: the shapes of its maps, its frame and its context.
 #[derive(Clone, Copy)]
 pub struct Input<'a> {
     pub shapes: &'a Shapes,

@@ -16,7 +16,6 @@ use bpf_values::causes;
 use bpf_values::comparisons::is_taken;
 use bpf_words::word_of_int;
 
-/// Where a jump at `pc` leads.
 fn jump_target(pc: usize, offset: i32) -> Option<usize>
     requires { pc < 65536 }
     ensures { result ≡ target pc offset }
@@ -63,7 +62,7 @@ fn perform_jump(machine: &mut Machine, to: Option<usize>) -> Stepped
     }
 }
 
-/// A jump by an offset of 16 bits.
+/// Jumps by a 16-bit offset.
 pub fn perform_goto(machine: &mut Machine, offset: i16) -> Stepped
     requires { machine.old.pc < 65536 }
     ensures { (p : Setting) → Moves (next_of p (Jump offset)) result machine.old machine.new }
@@ -72,7 +71,7 @@ pub fn perform_goto(machine: &mut Machine, offset: i16) -> Stepped
     return perform_jump(machine, to);
 }
 
-/// A jump by an offset of 32 bits.
+/// Jumps by a 32-bit offset.
 pub fn perform_goto_long(machine: &mut Machine, offset: i32) -> Stepped
     requires { machine.old.pc < 65536 }
     ensures { (p : Setting) → Moves (next_of p (JumpLong offset)) result machine.old machine.new }
@@ -81,7 +80,7 @@ pub fn perform_goto_long(machine: &mut Machine, offset: i32) -> Stepped
     return perform_jump(machine, to);
 }
 
-/// A call of the local function at an offset.
+/// Calls the local function at an offset.
 pub fn perform_call_local(machine: &mut Machine, offset: i32) -> Stepped
     requires here { machine.old.pc < 65536 }
     requires paired { IsPaired machine.old }
@@ -91,7 +90,7 @@ pub fn perform_call_local(machine: &mut Machine, offset: i32) -> Stepped
     return perform_call(machine, to);
 }
 
-/// A comparison of a register with a source, on 64 bits or on 32.
+/// A comparison of a register with a source, on 64 bits if `wide`, else on 32.
 #[derive(Clone, Copy)]
 pub struct Comparison {
     pub compare: Compare,
@@ -100,7 +99,7 @@ pub struct Comparison {
     pub source: Source,
 }
 
-/// A conditional jump.
+/// Performs a conditional jump.
 pub fn perform_branch(
     machine: &mut Machine,
     frame_length: usize,

@@ -1,9 +1,9 @@
-//! The tagged machine: one step, with each access and each kind tested.
+//! The tagged machine: one step, which tests each access and each kind of value.
 //!
-//! Main calls: `perform::perform_slot`, and `Machine::start`. It stands on `bpf_values`. A step of
-//! a `Machine` is one step of the definition `next` of `bpf_model`: it ends with a number, meets a
-//! fault by number, or goes on, perhaps with a note. A step asks its `Port` at most once; the
-//! port's answers lie in their ranges. No call takes memory.
+//! Main calls: `perform::perform_slot` and `Machine::start`. The crate depends on `bpf_values`. A
+//! step of a `Machine` is one step of the definition `next` of `bpf_model`: it ends with a number,
+//! faults with a number, or continues, possibly with a note. A step queries its `Port` at most
+//! once; the port's answers are in range. No call allocates.
 #![tactic(auto)]
 
 mod atomics;

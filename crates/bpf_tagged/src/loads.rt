@@ -17,7 +17,7 @@ use bpf_values::bytes::{load_in, loaded, read_number};
 use bpf_values::causes;
 use bpf_values::places::{place_of, with_offset};
 
-/// A load: how many bytes, whether with their sign, into which register, and through which value.
+/// A load: its number of bytes, whether it sign-extends, its destination, and the value it goes through.
 #[derive(Clone, Copy)]
 pub struct Load {
     pub size: usize,
@@ -81,14 +81,14 @@ fn load_placed<P: Port>(
     }
 }
 
-/// Where a pointer leads, before an instruction's offset.
+/// A pointer's region and offset, before the instruction's offset.
 #[derive(Clone, Copy)]
 pub struct Target {
     pub region: Region,
     pub base: u64,
 }
 
-/// The pointer that a load goes through, or the load's fault.
+/// The load's pointer, or the load's fault.
 fn load_target(from: Value) -> Result<Target, u8>
     ensures ok { IfOk result (λ t. from ≡ Value.Pointer t.region t.base) }
     ensures err { IfErr result
@@ -107,7 +107,7 @@ fn load_target(from: Value) -> Result<Target, u8>
     }
 }
 
-/// A load through a value that has to be a pointer.
+/// Performs a load through `load.from`; a fault if that isn't a pointer.
 pub fn perform_load<P: Port>(
     input: Input<'_>,
     machine: &mut Machine,

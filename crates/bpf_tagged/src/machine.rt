@@ -1,4 +1,4 @@
-//! Where a run stands.
+//! The state of a run.
 
 ghost use Rattle.std.specs.Prelude.{◌≡◌, ◌<◌, ◌≤◌, ℕ, []};
 ghost use Rattle.bpf_model.specs.State.{entry, reg};
@@ -9,7 +9,7 @@ use bpf_insn::Reg;
 use bpf_model::{Caller, StackFrame};
 use bpf_regions::{Region, Value};
 
-/// The slot at which a run stands, its registers, its live stack frames, and the callers that wait.
+/// A run's current slot, registers, live stack frames and waiting callers.
 #[derive(Drop)]
 pub struct Machine {
     pub pc: usize,
@@ -18,14 +18,14 @@ pub struct Machine {
     pub callers: ArrayVec<Caller, 7>,
 }
 
-/// What a step came to.
+/// The result of a step.
 #[derive(Clone, Copy, Debug, PartialEq, Eq)]
 pub enum Stepped {
-    /// The program ended, with this number in R0.
+    /// The program ended with this number in R0.
     Finished(u64),
-    /// The fault of this number; nothing was done.
+    /// A fault with this number. The step queried nothing.
     Faulted(u8),
-    /// The machine stands at its next slot; the number is what the program noted, if it did.
+    /// The machine is at its next slot; the number is the program's note, if any.
     On(Option<u64>),
 }
 
@@ -50,7 +50,7 @@ fn entry_regs() -> [Value; 11]
 }
 
 impl Machine {
-    /// At slot 0 of a hook's program, with one empty stack frame and no caller.
+    /// The entry state of a hook's program: slot 0, one empty stack frame, no caller.
     pub fn start() -> Self
         ensures is { at result [] ≡ entry }
         ensures paired { IsPaired result }
@@ -69,14 +69,14 @@ impl Machine {
     }
 }
 
-/// What a register holds.
+/// The value of a register.
 pub fn read(machine: &Machine, register: Reg) -> Value
     ensures is { result ≡ reg (at machine.now []) register }
 {
     machine.regs[register.number() as usize]
 }
 
-/// Puts a value into a register and goes on at the next slot.
+/// Writes a value to a register and moves to the next slot.
 pub fn put(machine: &mut Machine, dst: Reg, value: Value)
     requires here { machine.old.pc < 65536 }
     ensures is { machine.new ≡ moved_on machine.old dst value }

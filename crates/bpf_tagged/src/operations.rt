@@ -1,4 +1,4 @@
-//! Arithmetic, and what a source holds.
+//! Arithmetic, and the values of sources.
 
 ghost use Rattle.std.specs.Prelude.{◌≡◌, ◌<◌, []};
 ghost use Rattle.bpf_insn.specs.declared.insn.Insn.TheVariants.{Alu, MovSx, Neg, End, LoadWide};
@@ -14,7 +14,7 @@ use bpf_regions::Value;
 use bpf_values::arithmetic::{arithmetic, extend, in_order, negate, number_in, wide_load};
 use bpf_words::word_of_int;
 
-/// What a source holds.
+/// The value of a source.
 pub fn source_of(machine: &Machine, source: Source) -> Value
     ensures { result ≡ source_value (at machine.now []) source }
 {
@@ -24,7 +24,7 @@ pub fn source_of(machine: &Machine, source: Source) -> Value
     }
 }
 
-/// An operation of ALU64 (`wide`) or of ALU.
+/// An operation of ALU64 if `wide`, else of ALU.
 pub fn perform_alu(
     machine: &mut Machine,
     op: AluOp,

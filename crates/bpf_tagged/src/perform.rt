@@ -26,7 +26,7 @@ use bpf_values::bytes::size_in_bytes;
 use bpf_values::causes;
 use bpf_words::word_of_int;
 
-/// CMPXCHG alone reads R0.
+/// The value that CMPXCHG compares; only it reads R0.
 fn compared_with(op: AtomicOp, r0: Value) -> Value
     ensures { result ≡ compared op r0 }
 {
@@ -161,7 +161,7 @@ pub fn perform<P: Port>(
     }
 }
 
-/// Performs what a slot of the code holds: None outside the code, `Some(None)` in a second half.
+/// Performs the instruction of a slot: `None` is outside the code, `Some(None)` a second half.
 pub fn perform_slot<P: Port>(
     shapes: &Shapes,
     frame: &[u8],

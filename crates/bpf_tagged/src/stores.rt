@@ -61,7 +61,7 @@ fn store_placed<P: Port>(
     }
 }
 
-/// The pointer that a store goes through, or the store's fault.
+/// The store's pointer, or the store's fault.
 fn store_target(value: Value, to: Value) -> Result<Target, u8>
     ensures ok { IfOk result (λ t. to ≡ Value.Pointer t.region t.base) }
     ensures set { IfOk result (λ t. is_unset value ≡ false) }
@@ -85,7 +85,7 @@ fn store_target(value: Value, to: Value) -> Result<Target, u8>
     }
 }
 
-/// A store: how many bytes, of which value, and through which.
+/// A store: its number of bytes, the value stored, and the value it goes through.
 #[derive(Clone, Copy)]
 pub struct Store {
     pub size: usize,
@@ -93,7 +93,7 @@ pub struct Store {
     pub to: Value,
 }
 
-/// A store of a value through one that has to be a pointer.
+/// Performs a store through `store.to`; a fault if that isn't a pointer.
 pub fn perform_store<P: Port>(
     input: Input<'_>,
     machine: &mut Machine,

@@ -1,4 +1,4 @@
--- Where a text is cut into lines.
+-- How a text is cut into lines.
 use Rattle.std.specs.Prelude.{◌≡◌, ◌≢◌, ◌<◌, ◌==◌, ℕ, List, [], ◌∷◌, ◌++◌, length, false, slice_index, refl, suc}
 use Rattle.std.proofs.Common.{rules, tests, arith, ◌∙◌, ap}
 use Rattle.std.specs.List.{onto_first}

@@ -1,4 +1,4 @@
--- The code of a program's instructions is the bytes that spell it.
+-- A program's instructions have the bytes that spell the program as their code.
 use Rattle.std.specs.Prelude.{◌≡◌, ◌≤◌, ◌+◌, ◌*◌, ℕ, List, [], ◌∷◌, ◌++◌, length, drop, slice_get, Option, Some, None, Ok, refl, suc, zero}
 use Rattle.std.proofs.Common.{arith, sym, ◌∙◌, ap, subst, append_assoc}
 use Rattle.std.proofs.lemmas.List.{append-nil, take-append-drop}
@@ -17,7 +17,7 @@ use Rattle.bpf_decode.proofs.Bytes.{first_bytes, half_bytes}
 use Rattle.bpf_text.specs.Texts.{lines_of, bytes_of, second_bytes, assembled, disassembled}
 use Rattle.bpf_text.proofs.Texts.{code_of, AreInsns, assembled-again}
 
--- what stands at a place, and what follows it
+-- an element, and the rest after it
 head_of : {X : Type 0} (all : List X) (k : ℕ) (x : X) (r : List X) → drop k all ≡ x ∷ r → (slice_get all k ≡ Some x) × (drop (suc k) all ≡ r)
 head_of [] zero x r e = absurd cc
 head_of [] (suc k) x r e = absurd cc
@@ -30,17 +30,17 @@ drop_more n (suc k) m [] e = drop-nil n ∙ sym (drop-nil m)
 drop_more n (suc k) zero (y ∷ ys) e = absurd (omega (arith, e))
 drop_more n (suc k) (suc m) (y ∷ ys) e = drop_more n k m ys (omega (arith, e))
 
--- a slot, and what follows it
+-- a slot, and the bytes after it
 slot_then : (bytes : List ℕ) (k : ℕ) → drop (8 * k) bytes ≡ slot bytes k ++ drop (8 * (k + 1)) bytes
 slot_then bytes k =
     let e : 8 * k + 8 ≡ 8 * (k + 1) = omega arith in
     sym (take-append-drop 8 (drop (8 * k) bytes)) ∙ ap (λ t. slot bytes k ++ t) (drop_more 8 (8 * k) (8 * (k + 1)) bytes (sym e))
 
--- the code from a slot on that is no second half
+-- the code from slot k on
 abbrev Code-from : List ℕ → ℕ → List (Option Insn) → Type 0
 Code-from bytes k rest = code_of rest ≡ drop (8 * k) bytes
 
--- an instruction of one slot
+-- the bytes of an instruction of one slot
 one_slot : (i : Insn) → (size_of i ≡ 2 → ⊥) → bytes_of i ≡ slot_of (fields_of i)
 one_slot (insn.LoadWide d v) other = absurd (other refl)
 one_slot (insn.Alu op w d s) other = append-nil _
@@ -61,11 +61,11 @@ second_by : (o : Option Fields) (second : List ℕ) → second_slot_of o ≡ Som
 second_by None second e = absurd cc
 second_by (Some f) second e = cc
 
--- a wide load of two
+-- the bytes of a wide load's two slots
 two_slots : (i : Insn) (second : List ℕ) → second_slot_of (second_of i) ≡ Some second → bytes_of i ≡ slot_of (fields_of i) ++ second
 two_slots i second e = ap (λ t. slot_of (fields_of i) ++ t) (second_by (second_of i) second e)
 
--- the first of these slots is no second half
+-- the first of these slots isn't a second half
 abbrev NotHalf : List (Option Insn) → Type 0
 NotHalf [] = Unit {0}
 NotHalf (None ∷ slots) = ⊥
@@ -86,7 +86,7 @@ head_at all k x r e =
     let same : suc k ≡ k + 1 = omega arith in
     let h = head_of all k x r e in (h.0, subst (λ n. drop n all ≡ r) same h.1)
 
--- there is nothing at the end
+-- nothing is at the end
 none_at : {X : Type 0} (all : List X) (k : ℕ) (x : X) → drop k all ≡ [] → slice_get all k ≡ Some x → ⊥
 none_at [] zero x e f = absurd cc
 none_at [] (suc k) x e f = absurd cc

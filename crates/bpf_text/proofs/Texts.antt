@@ -1,4 +1,4 @@
--- The text of a program is assembled to its code.
+-- The text of a program assembles to its code.
 use Rattle.std.specs.Prelude.{◌≡◌, ◌≤◌, ◌+◌, ◌*◌, ℕ, List, [], ◌∷◌, ◌++◌, length, Option, Some, None, Ok, refl, nat_le, true}
 use Rattle.std.proofs.Common.{rules, tests, arith, sym, ◌∙◌, ap, append_assoc}
 use Rattle.std.proofs.lemmas.Bool.Decides.{nat_tests}
@@ -12,7 +12,7 @@ use Rattle.bpf_line.proofs.Cuts.{words-nil}
 use Rattle.bpf_text.specs.Texts.{lines_of, bytes_of, assembled, disassembled}
 use Rattle.bpf_text.proofs.Cuts.{lines_of-feed}
 
--- the bytes of the instructions, one after another
+-- the concatenated bytes of the instructions
 abbrev pub code_of : List (Option Insn) → List ℕ
 code_of [] = []
 code_of (None ∷ slots) = code_of slots

@@ -23,7 +23,7 @@ fn append(code: &mut Vec<u8>, first: [u8; 8], second: Option<[u8; 8]>) -> Result
     Ok(())
 }
 
-/// Adds what a line says to the code.
+/// Appends the line's instruction, if any, to the code.
 fn add_line(code: &mut Vec<u8>, line: &str, number: u64) -> Result<(), AsmFault>
     ensures ok { IfOk result (λ _. after_line code.old.items line.now ≡ Ok code.new.items) }
     ensures err { IfErr result (λ e. RefusesLine number code.old.items line.now e) }
@@ -52,7 +52,7 @@ fn add_line(code: &mut Vec<u8>, line: &str, number: u64) -> Result<(), AsmFault>
     Ok(())
 }
 
-/// The first line of a text, and what follows its line feed.
+/// The first line of a text, and the text after its line feed, if it has one.
 fn first_line(text: &str) -> (&str, Option<&str>)
     ensures cut { MatchOption result.1 (lines_of text.now ≡ result.0.now ∷ [])
         (λ rest. (lines_of text.now ≡ result.0.now ∷ lines_of rest.now)
@@ -64,8 +64,8 @@ fn first_line(text: &str) -> (&str, Option<&str>)
     }
 }
 
-/// The code of assembler text: one instruction a line, blank lines and comments aside. The first
-/// faulty line refuses it, with its lowest number.
+/// The code of assembler text, with at most one instruction a line; blank lines and comments add nothing. Refuses with
+/// the first faulty line and its fault, or for lack of memory.
 pub fn assemble(alloc: Global, text: &str) -> Result<Vec<u8>, AsmFault>
     ensures ok { IfOk result (λ code. assembled 1 [] (lines_of text.now) ≡ Ok code.items) }
     ensures err { IfErr result (Refuses text.now) }

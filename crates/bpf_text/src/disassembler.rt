@@ -32,8 +32,8 @@ fn text_of_slots(alloc: Global, slots: &[Option<Insn>]) -> Result<String, AllocE
     Ok(text)
 }
 
-/// The text of a program: one instruction a line, each with its line feed. The assembler gives back
-/// the bytes that the program was decoded from.
+/// The text of a program: one instruction a line, each with a line feed. It assembles to the bytes that the program was
+/// decoded from.
 pub fn disassemble(alloc: Global, program: &Program) -> Result<String, AllocError>
     ensures ok { IfOk result (λ text. string_bytes text ≡ disassembled program.now.slots) }
     ensures again { IfOk result (λ text. (bytes : List ℕ) → Spells bytes program.now →

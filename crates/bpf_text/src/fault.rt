@@ -7,12 +7,12 @@ ghost use Rattle.bpf_text.specs.Refusals.{text_of};
 use std::alloc::AllocError;
 use std::fmt;
 
-/// Why a text is no code. Displayed as `line L fault N`.
+/// Why a text is refused. Displayed as `line L fault N`, or `out of memory`.
 #[derive(Clone, Copy, Debug, PartialEq, Eq)]
 pub enum AsmFault {
     NoMemory,
-    /// The first faulty line, counted from 1, and its lowest number: 20 where it is not in the
-    /// grammar, 21 where a number is out of range, 22 where it passes the limit of 16384 slots.
+    /// The first faulty line, counted from 1, and its fault: 20 if it isn't in the grammar, else 21 if a number is out
+    /// of range, else 22 because the code would exceed 16384 slots.
     Line { line: u64, number: u8 },
 }
 

@@ -51,7 +51,7 @@ set_bytes-step f at (suc n) h =
     let e : suc n - 1 ≡ n = omega arith in
     ap (λ k. joined (set_byte f at (slice_index_or f.bytes at None)) (set_bytes f (at + 1) k)) (sym e)
 
--- room for one more byte
+-- one more byte multiplies the bound by 256
 pub more_room : (n : ℕ) → 0 < n → n ≤ 8 → 256 * 2 ^ (8 * (n - 1)) ≡ 2 ^ (8 * n)
 more_room zero h le = absurd (omega arith)
 more_room (suc zero) h le = refl
@@ -76,7 +76,7 @@ few_bytes (suc (suc (suc (suc (suc (suc (suc zero))))))) le = omega arith
 few_bytes (suc (suc (suc (suc (suc (suc (suc (suc zero)))))))) le = omega arith
 few_bytes (suc (suc (suc (suc (suc (suc (suc (suc (suc n))))))))) le = absurd (omega arith)
 
--- a number of n bytes, from the lowest one and the others
+-- a number of n bytes, from its lowest byte and the others
 pub one_more : (n low high : ℕ) → 0 < n → n ≤ 8 → low < 256 → high < 2 ^ (8 * (n - 1)) → low + 256 * high < 2 ^ (8 * n)
 one_more n low high some few byte rest =
     let e : 256 * 2 ^ (8 * (n - 1)) ≡ 2 ^ (8 * n) = more_room n some few in

@@ -14,7 +14,7 @@ use bpf_words::{
     signed_remainder_64,
 };
 
-/// Whether nothing was put there.
+/// Whether the value is unset.
 pub fn unset(a: Value) -> bool
     ensures { result ≡ is_unset a }
 {
@@ -27,7 +27,7 @@ pub fn unset(a: Value) -> bool
     }
 }
 
-/// The fault of a value of the wrong kind: 30 for one that is unset, else 31.
+/// The fault of a value of the wrong kind: 30 if it is unset, else 31.
 pub fn wrong_kind(a: Value) -> u8
     ensures { result ≡ wrong a }
 {
@@ -38,7 +38,7 @@ pub fn wrong_kind(a: Value) -> u8
     }
 }
 
-/// The fault of two values of which one or both are of the wrong kind.
+/// The fault of two values, one or both of the wrong kind: 30 if either is unset, else 31.
 pub fn wrong_kinds(a: Value, b: Value) -> u8
     ensures { result ≡ wrong_two a b }
 {
@@ -49,7 +49,6 @@ pub fn wrong_kinds(a: Value, b: Value) -> u8
     }
 }
 
-/// An operation on 64 bits.
 fn operate_64(op: AluOp, x: u64, y: u64) -> u64
     ensures { result ≡ operation 64 op x y }
 {
@@ -71,7 +70,6 @@ fn operate_64(op: AluOp, x: u64, y: u64) -> u64
     }
 }
 
-/// An operation on 32 bits.
 fn operate_32(op: AluOp, x: u32, y: u32) -> u32
     ensures { result ≡ operation 32 op x y }
 {
@@ -93,8 +91,7 @@ fn operate_32(op: AluOp, x: u32, y: u32) -> u32
     }
 }
 
-/// An operation of ALU64 (`wide`), or one of ALU on the low 32 bits, whose upper 32 become zero (RFC
-/// 9669, section 4.1).
+/// An operation of ALU64 if `wide`, else of ALU on the low 32 bits, with the upper 32 zero (RFC 9669, section 4.1).
 pub fn compute(wide: bool, op: AluOp, x: u64, y: u64) -> u64
     ensures { result ≡ computed wide op x y }
 {
@@ -105,7 +102,7 @@ pub fn compute(wide: bool, op: AluOp, x: u64, y: u64) -> u64
     }
 }
 
-/// The number, or fault 30 or 31 for what is none.
+/// The number, or fault 30 if the value is unset, 31 if it is anything else.
 pub fn number_in(a: Value) -> Result<u64, u8>
     ensures { result ≡ number a }
 {
@@ -198,7 +195,7 @@ fn move_value(wide: bool, b: Value) -> Result<Value, u8>
     }
 }
 
-/// The value that an arithmetic operation gives, or its fault.
+/// The result of an arithmetic operation, or its fault.
 pub fn arithmetic(op: AluOp, wide: bool, a: Value, b: Value) -> Result<Value, u8>
     ensures { result ≡ alu op wide a b }
 {
@@ -222,7 +219,7 @@ pub fn arithmetic(op: AluOp, wide: bool, a: Value, b: Value) -> Result<Value, u8
     }
 }
 
-/// MOVSX: the low bits with their sign, in 64 bits or in 32.
+/// MOVSX: the low bits, sign-extended to 64 bits if `wide`, else to 32.
 pub fn extend(from: Extension, wide: bool, x: u64) -> u64
     ensures is { result ≡ extended from wide x }
 {
@@ -251,7 +248,7 @@ pub fn extend(from: Extension, wide: bool, x: u64) -> u64
     }
 }
 
-/// NEG on 64 bits or on 32.
+/// NEG on 64 bits if `wide`, else on 32.
 pub fn negate(wide: bool, x: u64) -> u64
     ensures is { result ≡ negation wide x }
 {
@@ -262,7 +259,7 @@ pub fn negate(wide: bool, x: u64) -> u64
     }
 }
 
-/// How many low bits END keeps: 16, 32 or 64 (RFC 9669, section 4.2).
+/// The number of low bits that END converts: 16, 32 or 64 (RFC 9669, section 4.2).
 pub fn bits_ordered(width: OrderWidth) -> u8
     ensures is { result ≡ order_bits width }
 {
@@ -273,7 +270,7 @@ pub fn bits_ordered(width: OrderWidth) -> u8
     }
 }
 
-/// END: the low bits in an order of their bytes.
+/// END: the low bits with their bytes in this order.
 pub fn in_order(order: ByteOrder, width: OrderWidth, x: u64) -> u64
     ensures is { result ≡ ordered order width x }
 {
@@ -288,7 +285,7 @@ pub fn in_order(order: ByteOrder, width: OrderWidth, x: u64) -> u64
     }
 }
 
-/// What a wide load loads.
+/// The value that a wide load loads.
 pub fn wide_load(value: Wide) -> Value
     ensures { result ≡ wide_value value }
 {

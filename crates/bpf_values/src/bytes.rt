@@ -12,7 +12,7 @@ use bpf_model::StackFrame;
 use bpf_regions::Value;
 use bpf_words::sign_extended_64;
 
-/// How many bytes a load or store moves: 1, 2, 4 or 8.
+/// The number of bytes of a load or store: 1, 2, 4 or 8.
 pub fn size_in_bytes(size: Size) -> usize
     ensures is { result ≡ size_bytes size }
     ensures size { IsSize result }
@@ -25,7 +25,7 @@ pub fn size_in_bytes(size: Size) -> usize
     }
 }
 
-/// The number that `count` bytes spell, the first being the least.
+/// The number that `count` bytes spell, least significant first.
 pub fn read_number(bytes: &[u8], at: usize, count: usize) -> u64
     requires inside { at + count ≤ length bytes.now }
     requires few { count ≤ 8 }
@@ -56,7 +56,8 @@ fn one_byte(frame: &StackFrame, at: usize) -> Result<u64, u8>
     }
 }
 
-/// The number that `count` bytes of a stack frame spell, where all are set.
+/// The number that `count` bytes of a stack frame spell. Fault 30 if one is unset, else 31 if one is part of a spilled
+/// value.
 pub fn read_set_bytes(frame: &StackFrame, at: usize, count: usize) -> Result<u64, u8>
     requires inside { at + count ≤ 512 }
     requires few { count ≤ 8 }
@@ -80,7 +81,6 @@ pub fn read_set_bytes(frame: &StackFrame, at: usize, count: usize) -> Result<u64
     }
 }
 
-/// Writes the lowest `count` bytes of a number.
 fn write_number(bytes: &mut [Option<u8>; 512], at: usize, count: usize, number: u64)
     requires { at + count ≤ 512 }
     ensures { bytes.new ≡ with_number bytes.old at count number }
@@ -109,7 +109,7 @@ fn clear_bytes(bytes: &mut [Option<u8>; 512], at: usize, count: usize)
     }
 }
 
-/// Stores a number: a spilled value that it touches is gone.
+/// Stores a number; spilled values in the slots that it touches are lost.
 pub fn store_number(frame: &mut StackFrame, at: usize, count: usize, number: u64)
     requires inside { at + count ≤ 512 }
     requires size { IsSize count }
@@ -120,7 +120,6 @@ pub fn store_number(frame: &mut StackFrame, at: usize, count: usize, number: u64
     write_number(&mut frame.bytes, at, count, number);
 }
 
-/// Spills a value into a whole slot.
 fn spill(frame: &mut StackFrame, at: usize, value: Value)
     requires { at + 8 ≤ 512 }
     ensures { frame.new ≡ spilled frame.old at value }
@@ -142,7 +141,7 @@ pub fn store_value(frame: &mut StackFrame, at: usize, count: usize, value: Value
     }
 }
 
-/// The number that a load gives: as it is, or with its sign extended to 64 bits.
+/// The number that a load returns: sign-extended to 64 bits if `signed`, else unchanged.
 pub fn loaded(signed: bool, count: usize, number: u64) -> u64
     requires { IsSize count }
     ensures { result ≡ as_loaded signed count number }
@@ -162,7 +161,7 @@ pub fn loaded(signed: bool, count: usize, number: u64) -> u64
     number
 }
 
-/// What a load from the stack gives.
+/// The value of a load from a stack frame, or its fault.
 pub fn load_from_stack(
     frame: &StackFrame,
     at: usize,
@@ -183,7 +182,7 @@ pub fn load_from_stack(
     }
 }
 
-/// A load from one of the stack frames.
+/// The value of a load from stack frame `k`, or its fault.
 #[tactic(auto, using(std::proofs::lemmas::List::get_or_default))]
 pub fn load_in(
     stack: &[StackFrame],
@@ -200,7 +199,7 @@ pub fn load_in(
     load_from_stack(&stack[k], at, count, signed)
 }
 
-/// The number in the bytes of one of the stack frames.
+/// The number in `count` bytes of stack frame `k`, or its fault.
 #[tactic(auto, using(std::proofs::lemmas::List::get_or_default))]
 pub fn read_in(stack: &[StackFrame], k: usize, at: usize, count: usize) -> Result<u64, u8>
     requires live { k < length stack.now }
@@ -212,7 +211,7 @@ pub fn read_in(stack: &[StackFrame], k: usize, at: usize, count: usize) -> Resul
     read_set_bytes(&stack[k], at, count)
 }
 
-/// A store into one of the stack frames.
+/// Stores a value into stack frame `k`.
 #[tactic(auto, using(std::proofs::lemmas::List::get_or_default))]
 pub fn store_in(stack: &mut [StackFrame], k: usize, at: usize, count: usize, value: Value)
     requires live { k < length stack.old }
@@ -225,7 +224,7 @@ pub fn store_in(stack: &mut [StackFrame], k: usize, at: usize, count: usize, val
     store_value(&mut stack[k], at, count, value);
 }
 
-/// A store of a number into one of the stack frames.
+/// Stores a number into stack frame `k`.
 #[tactic(auto, using(std::proofs::lemmas::List::get_or_default))]
 pub fn store_number_in(stack: &mut [StackFrame], k: usize, at: usize, count: usize, number: u64)
     requires live { k < length stack.old }

@@ -120,7 +120,8 @@ fn test_narrow(compare: Compare, a: Value, b: Value) -> Result<bool, u8>
     }
 }
 
-/// Whether a conditional jump is taken.
+/// Whether a conditional jump is taken, or its fault. `length` is the frame's; `zero` says that the source is the
+/// immediate 0.
 pub fn is_taken(
     compare: Compare,
     wide: bool,

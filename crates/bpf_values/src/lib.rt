@@ -1,10 +1,10 @@
-//! Operations on the values of the machine: arithmetic, comparisons, bytes of the stack, and where
-//! accesses lie.
+//! Operations on the machine's values: arithmetic, comparisons, stack bytes, and the locations of
+//! accesses.
 //!
 //! Main calls: `arithmetic::arithmetic`, `comparisons::is_taken`, `places::place_of`,
-//! `bytes::load_in`. It stands on `bpf_model`. Each function promises its definition there
-//! (`specs/Alu`, `specs/Memory`), or the number of the fault that is met first. They keep no state;
-//! the step of `bpf_tagged` and the ports of `bpf_helpers` are made of them.
+//! `bytes::load_in`. The crate depends on `bpf_model`. Each function returns exactly its definition
+//! there (`specs/Alu`, `specs/Memory`), including its faults. They keep no state; the step of
+//! `bpf_tagged` and the ports of `bpf_helpers` use them.
 #![tactic(auto)]
 
 pub mod arithmetic;

@@ -1,4 +1,4 @@
-//! What the operations on words of memory do.
+//! Operations on words of memory.
 
 ghost use Rattle.std.specs.Prelude.{◌≡◌, ◌<◌, ◌^◌, ◌*◌};
 ghost use Rattle.bpf_model.specs.Memory.{number_after};
@@ -7,7 +7,6 @@ ghost use Rattle.bpf_model.specs.Step.{atomic_bytes};
 use bpf_regions::MapOp;
 use bpf_words::low_half;
 
-/// What an operation makes of a word of 8 bytes.
 fn number_after_wide(op: MapOp, x: u64) -> u64
     ensures is { result ≡ number_after (2 ^ 64) op x }
 {
@@ -23,7 +22,6 @@ fn number_after_wide(op: MapOp, x: u64) -> u64
     }
 }
 
-/// What an operation makes of a word of 4 bytes.
 fn number_after_narrow(op: MapOp, x: u32) -> u32
     ensures is { result ≡ number_after (2 ^ 32) op x }
 {
@@ -45,7 +43,7 @@ fn number_after_narrow(op: MapOp, x: u32) -> u32
     }
 }
 
-/// What an operation makes of a word of 8 bytes (`wide`) or of 4.
+/// The word after an operation: of 8 bytes if `wide`, else 4.
 pub fn new_number(wide: bool, op: MapOp, x: u64) -> u64
     requires fits { x < 2 ^ (8 * (atomic_bytes wide)) }
     ensures is { result ≡ number_after (2 ^ (8 * (atomic_bytes wide))) op x }

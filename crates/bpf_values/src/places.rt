@@ -1,4 +1,4 @@
-//! Where an access lies.
+//! The locations of accesses.
 
 ghost use Rattle.std.specs.Prelude.{◌≡◌, ◌<◌, ◌≤◌, ◌+◌, ◌*◌, ◌/◌, ◌⊎◌, ℕ, [], length, nat_le, IfOk, IfSome};
 ghost use Rattle.bpf_regions.specs.Maps.{IsShape, word_count};
@@ -12,14 +12,14 @@ use bpf_model::Place;
 use bpf_regions::{Region, Shape, Shapes, Value};
 use bpf_words::word_of_int;
 
-/// An address with an instruction's offset.
+/// The address plus an instruction's offset, mod 2^64.
 pub fn with_offset(base: u64, offset: i16) -> u64
     ensures { result ≡ word_add base (word_of offset) }
 {
     base.wrapping_add(word_of_int(i32::from(offset)))
 }
 
-/// How far a word lies in a map of valid shape.
+/// The index of a word in its map.
 fn word_at(index: u32, at: u64, width: u64, shape: Shape) -> u32
     requires valid { IsShape shape }
     requires index { index < shape.entries }
@@ -61,7 +61,8 @@ fn fits(at: u64, size: usize, length: usize) -> bool
     size <= length && at <= (length - size) as u64
 }
 
-/// Where `size` bytes at an offset lie in their region.
+/// The location of `size` bytes at an offset in their region: fault 33 if a map access has the wrong width or
+/// alignment, else 32 if it is outside its region.
 pub fn place_of(
     shapes: &Shapes,
     frame: &[u8],
@@ -130,7 +131,7 @@ fn for_map(value: Value) -> Result<Value, u8>
     }
 }
 
-/// The value, where a store takes it.
+/// The value, if it may be stored there, or else the fault.
 pub fn taken_by(region: Region, at: u64, size: usize, value: Value) -> Result<Value, u8>
     ensures { result ≡ storable region at size value }
 {
@@ -155,7 +156,7 @@ pub fn points_elsewhere(frame: usize, value: Value) -> bool
     }
 }
 
-/// The region, where an atomic may go.
+/// The region, if an atomic may access it there, or else the fault.
 pub fn for_atomic(region: Region, at: u64, size: usize) -> Result<Region, u8>
     requires { 1 ≤ size }
     ensures { result ≡ atomic_region region at size }

@@ -1,4 +1,4 @@
--- Facts about the bits of numbers, beside those of std.
+-- Facts about the bits of numbers, in addition to those of std.
 use Rattle.std.proofs.Common.{ℕ, zero, suc, ◌≡◌, ◌-◌, ◌/◌, ◌%◌, ◌^◌, ◌<◌, ◌≤◌, refl, sym, ap, ◌∙◌, inl, inr, arith, ⊎_elim, ◌⊎◌, bit_and}
 use Rattle.std.specs.Int.{bit_at, w64}
 use Rattle.bpf_words.specs.Word.{word_not}
@@ -27,13 +27,13 @@ pub subset_from_bits : (a b : ℕ) → a < 2 ^ 64 → ((i : ℕ) → i < 64 → 
 subset_from_bits a b fits h =
     same_from_bits_below 64 (bit_and a b) a (omega (arith, and_le_l a b)) fits (λ i l. omega (arith, bit_at_and a b i, h i l))
 
--- so is it at the low bits
+-- so a's low bits are at most b's
 pub subset-low : (a b i : ℕ) → bit_and a b ≡ a → a % 2 ^ i ≤ b % 2 ^ i
 subset-low a b i h =
     let low : bit_and (a % 2 ^ i) (b % 2 ^ i) ≡ a % 2 ^ i = sym (and_mod a b i) ∙ ap (λ x. x % 2 ^ i) h in
     omega (arith, and_le_r (a % 2 ^ i) (b % 2 ^ i))
 
--- the complement turns the order round
+-- complementing reverses inclusion
 pub not-subset : (a b : ℕ) → a < 2 ^ 64 → b < 2 ^ 64 → bit_and a b ≡ a → bit_and (word_not b) (word_not a) ≡ word_not b
 not-subset a b a_fits b_fits h =
     subset_from_bits (word_not b) (word_not a) (omega arith)
@@ -45,13 +45,13 @@ and_ones_shr n w h =
     let e : 64 - (64 - w) ≡ w = omega arith in
     ap (bit_and n) (ones_shr 64 (64 - w) (omega arith) ∙ ap (λ k. 2 ^ k - 1) e) ∙ and_mask n w
 
--- what is a multiple of 2 ^ t, by its bits
+-- n is a multiple of 2 ^ t if its low t bits are 0
 pub low_bits_zero : (n t : ℕ) → ((i : ℕ) → i < t → bit_at n i ≡ 0) → n % 2 ^ t ≡ 0
 low_bits_zero n t h =
     same_from_bits_below t (n % 2 ^ t) 0 (mod-lt n (pow_pos t)) (pow_pos t)
     (λ i l. sym (bit_at_cat_low (n / 2 ^ t) t (n % 2 ^ t) i l) ∙ ap (λ x. bit_at x i) (shr_split n t) ∙ h i l ∙ sym (bit_at-zero i))
 
--- a word and its complement share no bit, nor does what is cleared by a mask with the mask
+-- a word and its complement share no bit; nor do a mask and a word that it cleared
 pub not_apart : (m : ℕ) → bit_and (word_not m) m ≡ 0
 not_apart m =
     ⊎_elim

@@ -1,4 +1,4 @@
--- Bytes turned round stay within their width.
+-- Swapping bytes stays within their width.
 use Rattle.std.proofs.Common.{ℕ, ◌^◌, ◌<◌, arith}
 use Rattle.std.specs.Int.{swap_bytes, w16, w32, w64}
 

@@ -1,7 +1,7 @@
--- Equations between bitwise terms over words of 64 bits, decided by a table of their digits.
+-- Equations between bitwise terms over 64-bit words, decided by a table of their bits.
 --
--- Write both sides as a `BitTerm` over up to four words. Where the two terms agree at all sixteen choices of digits,
--- they are equal at all words, and `by_table s t refl ..` proves it: `word s a b c d` computes to the term meant.
+-- Write both sides as a `BitTerm` over up to four words. If the terms agree at all sixteen choices of bits, they are
+-- equal at all words, and `by_table s t refl ..` proves it: `word s a b c d` computes to the term meant.
 use Rattle.std.proofs.Common.{ℕ, zero, suc, ◌≡◌, ◌+◌, ◌-◌, ◌%◌, ◌^◌, ◌<◌, min, max, refl, sym, ap, ◌∙◌, arith, bit_and, bit_or, Bool, true, false, ◌&&◌, eqb, not, ◌||◌}
 use Rattle.std.specs.Int.{bit_at, w64}
 use Rattle.std.specs.Int.Bits.{bit_xor}
@@ -68,7 +68,7 @@ module _ (a b c d : ℕ) (pa : a < 2 ^ 64) (pb : b < 2 ^ 64) (pc : c < 2 ^ 64) (
   bit_at-word i l (differing s t) = bit_at_xor (word a b c d s) (word a b c d t) i ∙ (λ j. (bit_at-word i l s j + bit_at-word i l t j) % 2)
   bit_at-word i l (without t) = bit_at_not w64 (word a b c d t) i (word-lt t) l ∙ ap (λ n. 1 - n) (bit_at-word i l t)
 
--- a test of both digits
+-- f holds at both digits
 abbrev each_digit : (ℕ → Bool) → Bool
 each_digit f = f 0 && f 1
 
@@ -81,7 +81,7 @@ holds_if : (x y : Bool) → (not x || y) ≡ true → x ≡ true → y ≡ true
 holds_if true y h k = h
 holds_if false y h k = absurd (cc)
 
--- from the equation of u and v the one of s and t
+-- s equals t if u equals v
 module _ (u v s t : BitTerm) where
   abbrev at_digits : ℕ → ℕ → ℕ → ℕ → Bool
   at_digits a b c d = not (eqb (digit a b c d u) (digit a b c d v)) || eqb (digit a b c d s) (digit a b c d t)

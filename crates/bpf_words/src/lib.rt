@@ -1,16 +1,16 @@
 //! The machine's operations on words of 64 and of 32 bits (RFC 9669, section 4).
 //!
-//! There is a function for each operation that Rust's own don't give as they are, such as
-//! `quotient_64` and `sign_extended_32`. It stands on nothing but std. Each function promises its
+//! There is a function for each operation that Rust doesn't provide directly, such as `quotient_64`
+//! and `sign_extended_32`. The crate depends only on std. Each function returns exactly its
 //! definition in `specs/Word.antt`, where a word is a whole number and results wrap; a signed
-//! number is its word in two's complement. `proofs/` has lemmas on the bits of words, which the
-//! crates above cite.
+//! number is its two's complement word. `proofs/` has lemmas on the bits of words, which higher
+//! crates cite.
 #![tactic(auto)]
 
 ghost use Rattle.std.specs.Prelude.{◌≡◌, ◌<◌, ◌≤◌, ◌^◌, ◌%◌, ◌*◌, ℕ};
 ghost use Rattle.bpf_words.specs.Word.{word_of, negated, magnitude, quotient, remainder, with_sign, signed_quotient, signed_remainder, shifted_right_signed, sign_extended, signed_place, swapped};
 
-/// A signed immediate of 32 bits, extended to 64 bits (RFC 9669, section 4.1).
+/// A signed 32-bit immediate, sign-extended to 64 bits (RFC 9669, section 4.1).
 pub fn word_of_int(number: i32) -> u64
     ensures { result ≡ word_of number }
 {
@@ -24,21 +24,21 @@ pub fn low_half(x: u64) -> u32
     (x % 0x1_0000_0000) as u32
 }
 
-/// DIV on 64 bits: the unsigned quotient, and 0 where `y` is 0 (RFC 9669, section 4.1).
+/// DIV on 64 bits: the unsigned quotient, or 0 if `y` is 0 (RFC 9669, section 4.1).
 pub fn quotient_64(x: u64, y: u64) -> u64
     ensures { result ≡ quotient x y }
 {
     if y == 0 { 0 } else { x / y }
 }
 
-/// MOD on 64 bits: the unsigned remainder, and `x` where `y` is 0 (RFC 9669, section 4.1).
+/// MOD on 64 bits: the unsigned remainder, or `x` if `y` is 0 (RFC 9669, section 4.1).
 pub fn remainder_64(x: u64, y: u64) -> u64
     ensures { result ≡ remainder x y }
 {
     if y == 0 { x } else { x % y }
 }
 
-/// DIV on 32 bits: the unsigned quotient, and 0 where `y` is 0 (RFC 9669, section 4.1).
+/// DIV on 32 bits: the unsigned quotient, or 0 if `y` is 0 (RFC 9669, section 4.1).
 pub fn quotient_32(x: u32, y: u32) -> u32
     ensures { result ≡ quotient x y }
 {
@@ -48,7 +48,7 @@ pub fn quotient_32(x: u32, y: u32) -> u32
     }
 }
 
-/// MOD on 32 bits: the unsigned remainder, and `x` where `y` is 0 (RFC 9669, section 4.1).
+/// MOD on 32 bits: the unsigned remainder, or `x` if `y` is 0 (RFC 9669, section 4.1).
 pub fn remainder_32(x: u32, y: u32) -> u32
     ensures { result ≡ remainder x y }
 {
@@ -84,7 +84,7 @@ fn magnitude_32(x: u32) -> u32
     if x < 1 << 31 { x } else { negated_32(x) }
 }
 
-/// SDIV on 64 bits: truncates toward zero, and is 0 where `y` is 0 (RFC 9669, section 4.1).
+/// SDIV on 64 bits: truncates toward zero, and is 0 if `y` is 0 (RFC 9669, section 4.1).
 /// The least signed number divided by -1 is itself.
 pub fn signed_quotient_64(x: u64, y: u64) -> u64
     ensures { result ≡ signed_quotient 64 x y }
@@ -97,7 +97,7 @@ pub fn signed_quotient_64(x: u64, y: u64) -> u64
     }
 }
 
-/// SDIV on 32 bits: truncates toward zero, and is 0 where `y` is 0 (RFC 9669, section 4.1).
+/// SDIV on 32 bits: truncates toward zero, and is 0 if `y` is 0 (RFC 9669, section 4.1).
 /// The least signed number divided by -1 is itself.
 pub fn signed_quotient_32(x: u32, y: u32) -> u32
     ensures { result ≡ signed_quotient 32 x y }
@@ -110,7 +110,7 @@ pub fn signed_quotient_32(x: u32, y: u32) -> u32
     }
 }
 
-/// SMOD on 64 bits: has the sign of `x`, and is `x` where `y` is 0 (RFC 9669, section 4.1).
+/// SMOD on 64 bits: has the sign of `x`, and is `x` if `y` is 0 (RFC 9669, section 4.1).
 pub fn signed_remainder_64(x: u64, y: u64) -> u64
     ensures { result ≡ signed_remainder 64 x y }
 {
@@ -122,7 +122,7 @@ pub fn signed_remainder_64(x: u64, y: u64) -> u64
     }
 }
 
-/// SMOD on 32 bits: has the sign of `x`, and is `x` where `y` is 0 (RFC 9669, section 4.1).
+/// SMOD on 32 bits: has the sign of `x`, and is `x` if `y` is 0 (RFC 9669, section 4.1).
 pub fn signed_remainder_32(x: u32, y: u32) -> u32
     ensures { result ≡ signed_remainder 32 x y }
 {
@@ -134,7 +134,7 @@ pub fn signed_remainder_32(x: u32, y: u32) -> u32
     }
 }
 
-/// ARSH on 64 bits: copies the sign bit, with the count taken mod 64 (RFC 9669, section 4.1).
+/// ARSH on 64 bits by `count` mod 64, copying the sign bit (RFC 9669, section 4.1).
 pub fn arithmetic_shift_right_64(x: u64, count: u64) -> u64
     ensures { result ≡ shifted_right_signed 64 x count }
 {
@@ -142,7 +142,7 @@ pub fn arithmetic_shift_right_64(x: u64, count: u64) -> u64
     if x < 1 << 63 { x >> by } else { !(!x >> by) }
 }
 
-/// ARSH on 32 bits: copies the sign bit, with the count taken mod 32 (RFC 9669, section 4.1).
+/// ARSH on 32 bits by `count` mod 32, copying the sign bit (RFC 9669, section 4.1).
 pub fn arithmetic_shift_right_32(x: u32, count: u32) -> u32
     ensures { result ≡ shifted_right_signed 32 x count }
 {
@@ -180,23 +180,23 @@ pub fn sign_extended_32(bits: u8, x: u32) -> u32
     }
 }
 
-/// A word with its sign bit flipped: signed words of 64 bits stand in the order of these, which is how the signed
-/// jumps compare them (RFC 9669, section 4.3).
+/// The word with its sign bit flipped. Comparing these unsigned compares the words as signed 64-bit numbers, as signed
+/// jumps do (RFC 9669, section 4.3).
 pub fn signed_order_64(x: u64) -> u64
     ensures { result ≡ signed_place 64 x }
 {
     x.wrapping_add(1 << 63)
 }
 
-/// A word with its sign bit flipped: signed words of 32 bits stand in the order of these, which is how the signed
-/// jumps compare them (RFC 9669, section 4.3).
+/// The word with its sign bit flipped. Comparing these unsigned compares the words as signed 32-bit numbers, as signed
+/// jumps do (RFC 9669, section 4.3).
 pub fn signed_order_32(x: u32) -> u32
     ensures { result ≡ signed_place 32 x }
 {
     x.wrapping_add(1 << 31)
 }
 
-/// The low `bits` bits with their bytes turned round, where `bits` is 16 or 32, and else all 64 (RFC 9669, section 4.2).
+/// The low `bits` bits with their bytes reversed if `bits` is 16 or 32; otherwise all 64 (RFC 9669, section 4.2).
 pub fn bytes_swapped(bits: u8, x: u64) -> u64
     ensures { result ≡ swapped bits x }
 {
