@@ -1,4 +1,4 @@
--- A table of which the first agreements were split.
+-- A table whose first agreements were split.
 use Rattle.std.proofs.Common.{◌≡◌, ℕ, ◌+◌, ◌<◌, ◌≤◌, suc, List, [], ◌∷◌, ◌++◌, length, take, drop, Bool, true, false, not, cond, refl, sym, ap, ◌∙◌, arith, slice_index_or, filter, drop-cons, append_assoc, count_by, length-append, add-one}
 use Rattle.std.proofs.lemmas.List.{length-take-le, append-nil, take_more}
 use Rattle.std.proofs.lemmas.List.Elements.{filter-append}
@@ -7,7 +7,7 @@ use Rattle.std.proofs.Math.Seq.{drop-append_seam, take-append_seam, drop-length,
 use Rattle.std.specs.Prelude.{remove}
 use Rattle.ap_agreements.specs.Tables.{Kept}
 
--- the first ones are done: those that pass the test moved to `ended`, and the others stand before `at`
+-- the first ones are done: those that pass the test were moved to `ended`, and the others are below `at`
 pub record Halfway (p : Kept → Bool) (all now ended : List Kept) (at : ℕ) : Type 0 where
   pub done : List Kept
   pub whole : all ≡ done ++ drop at now
