@@ -109,7 +109,7 @@ module _ {S : Type 0} (R : S → Ask → ℕ → S → Type 0) (shards : List Sh
   set_back : y ≡ x → slice_set shards at y ≡ shards
   set_back same = ap (λ (z : Shard). slice_set shards at z) same ∙ set-get_or shards at d
 
-  -- one that is refused there
+  -- an event that is refused there
   pub refused_there : y ≡ x → j2 ≡ j → RunsOne R shards e j None (slice_set shards at y) j2
   refused_there same stays =
       subst (λ (k : S). RunsOne R shards e j None (slice_set shards at y) k) (sym stays)

@@ -1,4 +1,4 @@
--- What came of a frame, by the judge's verdicts.
+-- How frames are handled, with the judge's verdicts.
 use Rattle.std.specs.Prelude.{ℕ, List}
 use Rattle.mac_frame.specs.Spelling.{Frame}
 use Rattle.mac_frame.specs.declared.content.Management.{Management}

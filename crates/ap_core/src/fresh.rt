@@ -1,4 +1,4 @@
-//! Shards that have handled nothing, made two by two: where a growth is refused, few are given up.
+//! Shards that have handled nothing, made in pairs: if an allocation fails, few have to be freed.
 
 ghost use Rattle.std.specs.Prelude.{◌+◌, ◌<◌, IfOk};
 ghost use Rattle.ap_core.specs.AccessPoints.{IsFresh};
@@ -7,14 +7,14 @@ use crate::shard::Shard;
 use ap_model::LinkConfig;
 use std::alloc::{AllocError, Global};
 
-/// The shard of a number, and that of the next.
+/// The shard of a number, and that of the next number.
 #[derive(Drop)]
 pub(crate) struct Two {
     pub(crate) first: Shard,
     pub(crate) second: Shard,
 }
 
-/// The shards of four numbers, one after another.
+/// The shards of four consecutive numbers.
 #[derive(Drop)]
 pub(crate) struct Four {
     pub(crate) low: Two,

@@ -1,4 +1,4 @@
-//! Bytes that came.
+//! Received bytes.
 
 ghost use Rattle.std.specs.Prelude.{◌≡◌, ℕ, [], ◌∷◌, IfOk, IfErr};
 ghost use Rattle.ap_model.specs.declared.event.Out.{Out};
@@ -18,10 +18,10 @@ use bpf_regions::Frame;
 use mac_frame::{FrameFault, MacFrame, parse};
 use std::alloc::{AllocError, Global};
 
-/// The note of a frame for another access point, or from a group.
+/// The note for a frame for another access point, or from a group address.
 const NOT_OURS: u8 = 56;
 
-/// A note, and nothing else.
+/// A note alone.
 fn noted(alloc: Global, number: u8) -> Result<Vec<Out>, AllocError>
     ensures { IfOk result (λ outs. outs.items ≡ Out.Note number ∷ []) }
 {
@@ -29,7 +29,7 @@ fn noted(alloc: Global, number: u8) -> Result<Vec<Out>, AllocError>
     Ok(room.note(number))
 }
 
-/// Bytes that were not read: want of memory, or the note of their fault.
+/// The note of the fault of bytes that weren't read; fails if they weren't for lack of memory.
 fn unread(alloc: Global, fault: FrameFault) -> Result<Vec<Out>, AllocError>
     ensures { IfOk result (λ outs. IsNoted fault outs.items) }
 {
@@ -42,7 +42,7 @@ fn unread(alloc: Global, fault: FrameFault) -> Result<Vec<Out>, AllocError>
     }
 }
 
-/// A frame for this access point.
+/// Handles a frame for this access point.
 fn check<J: Judge>(
     setting: Setting<'_>,
     state: &mut State,
@@ -85,7 +85,7 @@ fn check<J: Judge>(
     }
 }
 
-/// A frame of the grammar.
+/// Handles a well-formed frame.
 fn on_frame<J: Judge>(
     setting: Setting<'_>,
     state: &mut State,
@@ -125,7 +125,7 @@ fn on_frame<J: Judge>(
     Ok(outcome)
 }
 
-/// Bytes that came.
+/// Handles received bytes.
 pub(crate) fn receive<J: Judge>(
     alloc: Global,
     state: &mut State,
