@@ -14,7 +14,7 @@ no_identifier n e = cc
 pub opening_holds : OpeningHoldsOnce
 opening_holds c = record { own = λ a n e. absurd (no_identifier n e); once = λ a b n p q. absurd (no_identifier n p) }
 
--- station a moves, and has no identifier afterwards but one that was free
+-- station a moves, and gets no identifier but a free one
 module _ (s : ℕ) (f : Standings) (a : List ℕ) (v : Standing) (g : Standings) (m : IsMoved f a v g) (free : (n : ℕ) → v ≡ Some (Associated n) → IsFree s f a n) where
   moved_own : ((b : List ℕ) (n : ℕ) → f b ≡ Some (Associated n) → IsOwn s n) → (b : List ℕ) (n : ℕ) → g b ≡ Some (Associated n) → IsOwn s n
   moved_own own b n e =
