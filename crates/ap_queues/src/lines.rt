@@ -1,11 +1,9 @@
-//! The queues of an access point's workers, one for each, and the passes of an operator and of a
-//! worker.
+//! The queues of an access point's workers, one each, and the handles of operators and workers.
 //!
-//! Main calls: `EventLines::submit` and `submit_at`, which put an event into the queue of the worker
-//! of its shard, a tick once for each shard; `EventLines::queue`, from which its worker takes. It
-//! stands on `EventQueue`. Promised: what was put has of an operator the events that were answered Ok,
-//! each once, in its order; 61 comes only where the queue was full, with the event and the first
-//! shard that was not served.
+//! Main calls: `EventLines::submit` and `submit_at`, which put an event into the queue of its shard's worker, a tick
+//! once for each shard; `EventLines::queue`, from which its worker takes. It depends on `EventQueue`. Promised: of
+//! each operator, exactly the events that returned `Ok` were put, once each, in its order; 61 comes only if the queue
+//! was full, with the event and the first shard that did not get it.
 mod fault;
 mod lines;
 mod passes;
