@@ -1,5 +1,3 @@
-//! How much an entry counts.
-
 ghost use Rattle.std.specs.Prelude.{◌≡◌, count_by};
 ghost use Rattle.ap_books.specs.Counts.{is_send, is_up, is_note};
 
@@ -14,7 +12,7 @@ pub(crate) fn sent_in(outs: &[Out]) -> usize
         .count()
 }
 
-/// How much data is passed up.
+/// How many data frames are passed up.
 pub(crate) fn up_in(outs: &[Out]) -> usize
     ensures { result ≡ count_by is_up outs.now }
 {
