@@ -19,7 +19,7 @@ token_upholds law s t is =
       counted = is.counted;
     }
 
--- those of all shards
+-- the tokens of all shards
 pub all_uphold : RunsHold → (e : Eight) → AreTokens e → UpholdAll e
 all_uphold law e h s low =
     by_shard (λ s. Upholds s (token_at s e)) (token_upholds law 0 e.of0 h.0) (token_upholds law 1 e.of1 h.1) (token_upholds law 2 e.of2 h.2)
