@@ -16,8 +16,8 @@ pub(crate) struct Asked<'a> {
     pub(crate) answer: u64,
 }
 
-/// The queries put to a judge so far, in order, each with its answer. The log has no run-time data, and its methods do
-/// nothing at run time; clauses read the list as `asks`.
+/// The queries put to a judge so far, in order, each with its answer. The log has no run-time data,
+/// and its methods do nothing at run time; clauses read the list as `asks`.
 #[derive(Drop)]
 pub struct AskLog {
     pub ghost asks: { List (Ask × ℕ) },

@@ -33,7 +33,7 @@ pub enum Out {
     /// A frame to send, without its FCS.
     Send(Octets),
     Up(Up),
-    /// 50 to 55: the bytes aren't a frame. 56: the frame isn't for this access point, or its sender is a group
-    /// address. 63: an operator's command names an unknown station.
+    /// 50 to 55: the bytes aren't a frame. 56: the frame isn't for this access point, or its sender is
+    /// a group address. 63: an operator's command names an unknown station.
     Note(u8),
 }

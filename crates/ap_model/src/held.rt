@@ -8,8 +8,8 @@ use crate::octets::Octets;
 use mac_frame::{Address, SequenceNumber, Tid};
 use std::marker::Model;
 
-/// What a window holds of a data frame that the verdict passed: destination, mark and data. `None` is a placeholder in
-/// lists, which no window ever holds.
+/// What a window holds of a data frame that the verdict passed: destination, mark and data. `None`
+/// is a placeholder in lists, which no window ever holds.
 #[derive(Drop)]
 pub struct Held {
     frame: Option<(Address, u8, Octets)>,

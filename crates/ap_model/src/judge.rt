@@ -6,8 +6,9 @@ ghost use Rattle.ap_model.specs.Asks.{Ask};
 use crate::ask_log::AskLog;
 use bpf_regions::{Context, Frame, Hook};
 
-/// Gives the verdicts. An implementation names the relation that its answers satisfy, and lists its queries: each
-/// query appends exactly itself and its answer, so a judge whose list is unchanged was not queried.
+/// Gives the verdicts. An implementation names the relation that its answers satisfy, and lists its
+/// queries: each query appends exactly itself and its answer, so a judge whose list is unchanged
+/// was not queried.
 pub trait Judge {
     /// The queries put to the judge so far, in order, with its answers.
     ghost asks: { Self → List (Ask × ℕ) };
