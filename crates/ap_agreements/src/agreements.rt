@@ -71,8 +71,8 @@ impl Agreements {
         }
     }
 
-    /// How many numbers the window of a station's agreement for a TID holds, dropped ones included; 0 without an
-    /// agreement.
+    /// How many numbers the window of a station's agreement for a TID holds, dropped ones included; 0
+    /// without an agreement.
     pub fn held(&self, station: Address, tid: Tid) -> usize
         ensures is { result ≡ held_under (agreement_in self.now.kept station tid) }
         ensures fits { result ≤ 64 }
@@ -83,7 +83,8 @@ impl Agreements {
         }
     }
 
-    /// The agreement of a station for a TID, and its index, which is valid until an agreement is inserted or removed.
+    /// The agreement of a station for a TID, and its index, which is valid until an agreement is
+    /// inserted or removed.
     pub fn get_placed(&self, station: Address, tid: Tid) -> Option<(usize, &Entry)>
         ensures { MatchOption result (agreement_in self.now.kept station tid ≡ None)
             (λ p. Stands self.now.kept station tid p.0 p.1.now) }
@@ -94,8 +95,8 @@ impl Agreements {
         }
     }
 
-    /// Data that the window of the agreement at this index wants came at this time. The window takes its item, `None`
-    /// if it was dropped.
+    /// Data that the window of the agreement at this index wants came at this time. The window takes
+    /// its item, `None` if it was dropped.
     pub fn take(
         &mut self,
         at: usize,
@@ -118,8 +119,8 @@ impl Agreements {
         entry.take(number, item, clock, out);
     }
 
-    /// Data came at this time that the window of the agreement at this index releases at once, and nothing after it.
-    /// The caller passes it up.
+    /// Data came at this time that the window of the agreement at this index releases at once, and
+    /// nothing after it. The caller passes it up.
     pub fn pass_alone(&mut self, at: usize, number: SequenceNumber, clock: u64)
         requires inside { at < length self.old.kept }
         requires alone { (d : Kept) → IsAlone (slice_index_or self.old.kept at d).using.window
@@ -143,8 +144,8 @@ impl Agreements {
         entry.leave(number, clock);
     }
 
-    /// A BlockAckReq with this start came at this time for the agreement at this index. Returns the scoreboard after
-    /// it: its first number, and a bit for each number from there on.
+    /// A BlockAckReq with this start came at this time for the agreement at this index. Returns the
+    /// scoreboard after it: its first number, and a bit for each number from there on.
     pub fn request(
         &mut self,
         at: usize,
@@ -215,8 +216,8 @@ impl Agreements {
             .count()
     }
 
-    /// How many numbers the windows of the timed-out agreements hold in all, dropped ones included; `usize::MAX` if
-    /// there are more.
+    /// How many numbers the windows of the timed-out agreements hold in all, dropped ones included;
+    /// `usize::MAX` if there are more.
     pub fn late_held(&self, clock: u64) -> usize
         ensures { result ≡ min (late_held clock self.now.kept) (2 ^ 64 - 1) }
     {

@@ -59,7 +59,8 @@ impl Entry {
         })
     }
 
-    /// The same agreement, opened anew at this time: its window starts at this number and has this size.
+    /// The same agreement, opened anew at this time: its window starts at this number and has this
+    /// size.
     pub fn opened(mut self, start: SequenceNumber, size: u8, timeout: u16, clock: u64) -> Self
         requires some { 1 ≤ size }
         requires fits { size ≤ 64 }
@@ -115,8 +116,8 @@ impl Entry {
         self.window.most_passed(number.number())
     }
 
-    /// How many numbers the window holds, dropped ones included: the most frames that a BlockAckReq or the end can
-    /// pass up.
+    /// How many numbers the window holds, dropped ones included: the most frames that a BlockAckReq or
+    /// the end can pass up.
     pub fn held(&self) -> usize
         ensures is { result ≡ numbers_held self.now.using.window }
         ensures fits { result ≤ 64 }
@@ -162,8 +163,8 @@ impl Entry {
         }
     }
 
-    /// Data came at this time that is passed up at once, and nothing after it. The window doesn't hold it; the caller
-    /// passes it up.
+    /// Data came at this time that is passed up at once, and nothing after it. The window doesn't hold
+    /// it; the caller passes it up.
     pub fn pass_alone(&mut self, number: SequenceNumber, clock: u64)
         requires { IsAlone self.old.using.window number }
         ensures key { key_of self.new ≡ key_of self.old }
@@ -202,7 +203,8 @@ impl Entry {
         self.window.on_bar(start.number(), out);
     }
 
-    /// The content of a BlockAck: the scoreboard's first number, and a bit for each number from there on.
+    /// The content of a BlockAck: the scoreboard's first number, and a bit for each number from there
+    /// on.
     pub fn scoreboard(&self) -> (SequenceNumber, u64)
         ensures start { result.0 ≡ self.now.using.window.scoreboard_start }
         ensures bits { result.1 ≡ self.now.using.window.scoreboard_bits }
