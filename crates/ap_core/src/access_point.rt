@@ -32,8 +32,8 @@ fn shard_of_bytes(bytes: &[u8]) -> usize
     }
 }
 
-/// The shard that an event concerns: of a frame its sender's, or 0 if the bytes are too short to name one; of an
-/// operator's command its station's. `None` for a tick, which concerns all.
+/// The shard that an event concerns: of a frame its sender's, or 0 if the bytes are too short to
+/// name one; of an operator's command its station's. `None` for a tick, which concerns all.
 pub fn shard_of(event: &Event) -> Option<usize>
     ensures is { result ≡ shard_of event.now }
     ensures fits { IfSome result (λ s. s < 8) }
@@ -70,8 +70,8 @@ pub fn known_shards(shards: &[Shard; 8])
     ensures { (s : ℕ) → s < 8 → ∥ History (rules_of shards.now s) (readings_of shards.now s) ∥₁ }
 {}
 
-/// Ticks the first `count` shards. The list has capacity for their outputs and `beside` more. Everything is allocated
-/// first, from the last shard down.
+/// Ticks the first `count` shards. The list has capacity for their outputs and `beside` more.
+/// Everything is allocated first, from the last shard down.
 fn tick_below(
     alloc: Global,
     shards: &mut [Shard; 8],
@@ -157,9 +157,10 @@ fn handle_one<J: Judge>(
     }
 }
 
-/// Handles events in order, each at the shard that it concerns (`shard_of`); a tick at all eight shards, or at none.
-/// Lists the outputs of each, those of a tick ordered by shard. `None` is an event that was refused for lack of
-/// memory, which changed nothing and asked for no verdict. If allocating the list fails, no event is handled.
+/// Handles events in order, each at the shard that it concerns (`shard_of`); a tick at all eight
+/// shards, or at none. Lists the outputs of each, those of a tick ordered by shard. `None` is an
+/// event that was refused for lack of memory, which changed nothing and asked for no verdict. If
+/// allocating the list fails, no event is handled.
 pub fn handle_all<J: Judge>(
     alloc: Global,
     shards: &mut [Shard; 8],

@@ -189,7 +189,8 @@ fn answer_request<J: Judge>(
     room.room.send(&answer)
 }
 
-/// Handles an association or reassociation request. Everything is allocated before the verdict is asked for.
+/// Handles an association or reassociation request. Everything is allocated before the verdict is
+/// asked for.
 pub(crate) fn on_association<J: Judge>(
     setting: Setting<'_>,
     state: &mut State,

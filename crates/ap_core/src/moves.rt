@@ -1,4 +1,5 @@
-//! Stations that change state (IEEE 802.11-2016, 11.3): their agreements are discarded, with what they hold.
+//! Stations that change state (IEEE 802.11-2016, 11.3): their agreements are discarded, with what
+//! they hold.
 
 ghost use Rattle.std.specs.Prelude.{◌≡◌, ◌⊎◌, OnOk, OnErr, None, Some, IsSome};
 ghost use Rattle.assoc.specs.declared.standing.Known.{Known};

@@ -44,7 +44,8 @@ fn context_of(came: &DataFrame<'_>, start: Option<SequenceNumber>) -> Context
     data_context(asker, came.tid, came.number, start)
 }
 
-/// Passes data up at once, unless its verdict drops it. Everything is allocated before the verdict is asked for.
+/// Passes data up at once, unless its verdict drops it. Everything is allocated before the verdict
+/// is asked for.
 fn deliver<J: Judge>(
     alloc: Global,
     state: &State,
@@ -152,7 +153,8 @@ fn item_of(verdict: u64, destination: Address, body: Octets) -> Option<Held>
     }
 }
 
-/// Handles data that its agreement's window wants. Everything is allocated before the verdict is asked for.
+/// Handles data that its agreement's window wants. Everything is allocated before the verdict is
+/// asked for.
 fn on_wanted_data<J: Judge>(
     alloc: Global,
     state: &mut State,

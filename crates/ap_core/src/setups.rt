@@ -88,8 +88,8 @@ fn context_of(request: &SetupRequest<'_, '_>) -> Context
     )
 }
 
-/// Grants a request, with all memory already allocated: an existing agreement is replaced, and all that it held is
-/// passed up first.
+/// Grants a request, with all memory already allocated: an existing agreement is replaced, and all
+/// that it held is passed up first.
 fn grant(
     setting: Setting<'_>,
     state: &mut State,

@@ -17,7 +17,8 @@ use assoc::Link;
 use mac_frame::{Address, MacFrame, Reason};
 use std::alloc::{AllocError, Global};
 
-/// A shard of an access point's link. Some run of the link that began with no stations leads to its readings.
+/// A shard of an access point's link. Some run of the link that began with no stations leads to its
+/// readings.
 #[derive(Drop)]
 pub struct Shard {
     state: State,
@@ -83,9 +84,9 @@ impl Shard {
         self.state.link.associated()
     }
 
-    /// Handles an event that concerns this shard (`shard_of`, or a tick), as one step of the link. An event that
-    /// concerns another shard is handled too, as a step of this one by its readings. An event that is refused for lack
-    /// of memory changes nothing and asks for no verdict.
+    /// Handles an event that concerns this shard (`shard_of`, or a tick), as one step of the link. An
+    /// event that concerns another shard is handled too, as a step of this one by its readings. An
+    /// event that is refused for lack of memory changes nothing and asks for no verdict.
     pub fn handle<J: Judge>(
         &mut self,
         alloc: Global,

@@ -1,5 +1,5 @@
-//! Time: the agreements that time out end (IEEE 802.11-2016, 11.5.4). A tick's memory is allocated before it, so
-//! several shards tick together or not at all.
+//! Time: the agreements that time out end (IEEE 802.11-2016, 11.5.4). A tick's memory is allocated
+//! before it, so several shards tick together or not at all.
 
 ghost use Rattle.std.specs.Prelude.{◌≡◌, ℕ, ◌+◌, ◌-◌, ◌^◌, min, ◌≤◌, ◌<◌, List, [], ◌∷◌, ◌++◌, IfOk, OnOk, OnErr, vec_len, vec_capacity, length};
 ghost use Rattle.ap_model.specs.declared.event.Out.{Out};
@@ -52,8 +52,8 @@ pub(crate) fn tick_room(alloc: Global, state: &State, units: u32) -> Result<Tick
     Ok(TickRoom { ended, frames })
 }
 
-/// The most outputs that a tick can have: the frames that the ending agreements hold, and a DELBA for each.
-/// `usize::MAX` if there are more, for which no allocation succeeds.
+/// The most outputs that a tick can have: the frames that the ending agreements hold, and a DELBA
+/// for each. `usize::MAX` if there are more, for which no allocation succeeds.
 pub(crate) fn most_outs(state: &State, units: u32) -> usize
     ensures { result ≡ min (late_outs state.now units) (2 ^ 64 - 1) }
 {
