@@ -10,18 +10,19 @@ ghost use Rattle.ap_laws.specs.Identifiers.{OpeningHoldsOnce, RunHoldsOnce, Acce
 
 use ap_model::Judge;
 
-/// No two stations of an access point hold one association identifier (IEEE 802.11-2016, 9.4.1.8). In the opening of a
-/// shard none is held; every run keeps that none is held twice; and the identifiers of different shards differ.
+/// No two stations of an access point hold one association identifier (IEEE 802.11-2016, 9.4.1.8).
+/// In the opening of a shard none is held; every run keeps that none is held twice; and the
+/// identifiers of different shards differ.
 pub fn identifiers_law()
     ensures opening { OpeningHoldsOnce }
     ensures run { RunHoldsOnce }
     ensures access_point { AccessPointHoldsOnce }
 {}
 
-/// Data that is passed up came in a frame whose source was associated when it arrived and before each entry since
-/// (IEEE 802.11-2016, 11.3), and a verdict let it through with its mark. If a run starts from readings that hold data
-/// already, that data's source was associated all the time. All agreements are of associated stations. There is a run
-/// in which data is passed up.
+/// Data that is passed up came in a frame whose source was associated when it arrived and before
+/// each entry since (IEEE 802.11-2016, 11.3), and a verdict let it through with its mark. If a run
+/// starts from readings that hold data already, that data's source was associated all the time. All
+/// agreements are of associated stations. There is a run in which data is passed up.
 pub fn origin_law()
     ensures opening { OpeningHoldsAgreements }
     ensures run { RunHoldsAgreements }
@@ -30,19 +31,20 @@ pub fn origin_law()
     ensures some { SomeIsPassedUp }
 {}
 
-/// A verdict on data never moves a window (IEEE 802.11-2016, 10.24.7.6). Take two runs from the same readings, in
-/// which no identifier is held twice and all agreements are of associated stations. If they have the same events, and
-/// agree in all verdicts except those on data, they leave the same agreements with the same window starts: in a shard,
-/// and in a whole access point.
+/// A verdict on data never moves a window (IEEE 802.11-2016, 10.24.7.6). Take two runs from the
+/// same readings, in which no identifier is held twice and all agreements are of associated
+/// stations. If they have the same events, and agree in all verdicts except those on data, they
+/// leave the same agreements with the same window starts: in a shard, and in a whole access point.
 pub fn window_law()
     ensures shard { RunsLeaveSameStarts }
     ensures access_point { LinkRunsLeaveSameStarts }
 {}
 
-/// What is passed up of each agreement (IEEE 802.11-2016, 10.24.7.6.1). A history describes at most one agreement per
-/// station and TID. Since it was opened, exactly its accepted numbers below its window's start were passed up, once
-/// each, in increasing order of whole numbers; when it ends or is replaced, all that it accepted. If an exchange of
-/// the station discards it, that entry passes up nothing of it. There is a run in which an agreement passes data up.
+/// What is passed up of each agreement (IEEE 802.11-2016, 10.24.7.6.1). A history describes at most
+/// one agreement per station and TID. Since it was opened, exactly its accepted numbers below its
+/// window's start were passed up, once each, in increasing order of whole numbers; when it ends or
+/// is replaced, all that it accepted. If an exchange of the station discards it, that entry passes
+/// up nothing of it. There is a run in which an agreement passes data up.
 pub fn order_law()
     ensures told { TellsOne }
     ensures going_on { GoesOnInOrder }
@@ -51,10 +53,11 @@ pub fn order_law()
     ensures some { SomeIsPassedInOrder }
 {}
 
-/// Steps over readings are steps over histories. The readings that a run leaves are those of its history: each
-/// station's standing follows from its exchanges (IEEE 802.11-2016, 11.3), and each agreement is what the history
-/// describes. For all readings of one history, the same entries follow it, and lead to readings of the longer history.
-/// So a list of entries is a run exactly if each follows those before it.
+/// Steps over readings are steps over histories. The readings that a run leaves are those of its
+/// history: each station's standing follows from its exchanges (IEEE 802.11-2016, 11.3), and each
+/// agreement is what the history describes. For all readings of one history, the same entries
+/// follow it, and lead to readings of the longer history. So a list of entries is a run exactly if
+/// each follows those before it.
 pub fn history_law()
     ensures readings { RunsAreRead }
     ensures steps { ReadingsServe }
@@ -62,12 +65,13 @@ pub fn history_law()
     ensures runs { RunsAreHistories }
 {}
 
-/// The link's half of the main theorem, for any judge. If the entries of shards so far are runs from the opening, an
-/// event at one shard or a list of events at eight lead only to entries that extend these to runs from the opening. So
-/// the source of each frame that is passed up was associated without interruption since the frame arrived; at each
-/// moment exactly the accepted numbers below its window's start have been passed up of each agreement, once each, in
-/// increasing order, and all that it accepted once it ends; no two stations hold one identifier; and no verdict on
-/// data moves a window.
+/// The link's half of the main theorem, for any judge. If the entries of shards so far are runs
+/// from the opening, an event at one shard or a list of events at eight lead only to entries that
+/// extend these to runs from the opening. So the source of each frame that is passed up was
+/// associated without interruption since the frame arrived; at each moment exactly the accepted
+/// numbers below its window's start have been passed up of each agreement, once each, in increasing
+/// order, and all that it accepted once it ends; no two stations hold one identifier; and no
+/// verdict on data moves a window.
 pub fn link_law<J: Judge>()
     ensures access_point { AccessPointsHold J.gives }
     ensures shard { EventsHold J.gives }
@@ -75,22 +79,22 @@ pub fn link_law<J: Judge>()
     ensures windows_of_a_shard { WindowsStandApart }
 {}
 
-/// The link's half of the main theorem for one shard, whose entries so far are a run from the opening: what `link_law`
-/// says of such entries holds.
+/// The link's half of the main theorem for one shard, whose entries so far are a run from the
+/// opening: what `link_law` says of such entries holds.
 pub fn run_law()
     ensures { RunsHold }
 {}
 
-/// Runs one after another form a run: of a shard, and of eight with a judge. If each of eight shards has a history,
-/// there are eight histories together.
+/// Runs one after another form a run: of a shard, and of eight with a judge. If each of eight
+/// shards has a history, there are eight histories together.
 pub fn appending_law<J: Judge>()
     ensures runs { RunsAppend }
     ensures leads { LeadsAppend J.gives }
     ensures histories { HistoriesMeet }
 {}
 
-/// A step asks for at most one verdict, on the received frame, with the hook and the context of its kind. A judge's
-/// list grows by exactly the queries that a contract names.
+/// A step asks for at most one verdict, on the received frame, with the hook and the context of its
+/// kind. A judge's list grows by exactly the queries that a contract names.
 pub fn asks_law<J: Judge>()
     ensures once { StepsAskOnce }
     ensures listed { ListsAsks J.asks J.gives }
