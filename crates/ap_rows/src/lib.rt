@@ -1,3 +1,3 @@
-//! Rows: two lists whose elements at each index belong together, such as queues and their handles, or tables and their
-//! seats. Definitions and lemmas only, which depend only on std.
+//! Rows: two lists whose elements at each index belong together, such as queues and their handles,
+//! or tables and their seats. Definitions and lemmas only, which depend only on std.
 #![tactic(auto)]
