@@ -29,7 +29,8 @@ pub struct Queued {
     pub item: Item,
 }
 
-/// What a handle may do (make operators, take, put), and what it has done. Only proofs have such values.
+/// What a handle may do (make operators, take, put), and what it has done. Only proofs have such
+/// values.
 pub struct View {
     pub makes: bool,
     pub made: u8,

@@ -94,8 +94,8 @@ impl EventQueue {
         Some(OperatorPass { number, pass })
     }
 
-    /// Puts an item, which becomes the last that the operator put. Fails, and returns the item, only if the queue held
-    /// 256 items at a moment of the call.
+    /// Puts an item, which becomes the last that the operator put. Fails, and returns the item, only if
+    /// the queue held 256 items at a moment of the call.
     pub fn put<R: Wait>(
         &self,
         rt: &R,
@@ -136,8 +136,8 @@ impl EventQueue {
         self.queue.pop_as::<Takes, R>(rt, &mut worker.pass)
     }
 
-    /// Brings a worker and an operator together: what was taken of this operator is a prefix of what it put, in its
-    /// order, once each. Does nothing at run time.
+    /// Brings a worker and an operator together: what was taken of this operator is a prefix of what it
+    /// put, in its order, once each. Does nothing at run time.
     pub fn meet(&self, worker: &mut WorkerPass, operator: OperatorPass) -> OperatorPass
         requires worker { IsWorkerOf self.now worker.old }
         requires operator { IsOperatorOf self.now operator }

@@ -3,7 +3,8 @@
 use crate::item::{Queued, View};
 use crossbeam_queue::protocol::{Join, Lesson, Outcome, Protocol, Split};
 
-/// What was put is what was taken followed by what the queue holds, and each operator knows what it put.
+/// What was put is what was taken followed by what the queue holds, and each operator knows what it
+/// put.
 pub struct OneQueue;
 
 impl Protocol<Queued, View> for OneQueue {

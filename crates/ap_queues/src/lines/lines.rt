@@ -70,8 +70,8 @@ impl EventLines {
         &self.queues[worker]
     }
 
-    /// The handles of the next operator. Fault 62: a queue has given all 8; fault 40: lack of memory. No clause says
-    /// when it succeeds; only tests show that 8 operators get theirs.
+    /// The handles of the next operator. Fault 62: a queue has given all 8; fault 40: lack of memory.
+    /// No clause says when it succeeds; only tests show that 8 operators get theirs.
     pub fn operator(&self, alloc: Global, left: &mut LinePasses) -> Result<OperatorLines, LineFault>
         requires { ArePassesOf self.now left.old }
         ensures left { ArePassesOf self.now left.new }
