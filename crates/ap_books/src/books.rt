@@ -69,7 +69,8 @@ impl<B: Ledgers, const SHARD: usize> ShardBooks<B, SHARD> {
         )
     }
 
-    /// Counts a handled event in the books and in the shares, by its outputs and whether a data verdict dropped.
+    /// Counts a handled event in the books and in the shares, by its outputs and whether a data verdict
+    /// dropped.
     pub fn count(&mut self, mine: &mut Shares<B, SHARD>, outs: &[Out], dropped: bool)
         requires { 0 < mine.old.parts }
         ensures books { self.new ≡ plus self.old (counts_of outs.now dropped) }
@@ -95,7 +96,8 @@ impl<B: Ledgers, const SHARD: usize> ShardBooks<B, SHARD> {
         }
     }
 
-    /// Given all parts of the ledgers: what the books have counted, which is what the shares have counted.
+    /// Given all parts of the ledgers: what the books have counted, which is what the shares have
+    /// counted.
     pub fn read(&mut self, all: &mut Shares<B, SHARD>) -> Totals
         requires { all.old.parts ≡ B.shares }
         ensures books { self.new ≡ self.old }

@@ -1,7 +1,9 @@
-//! The books of a shard: how many events it handled, with what outcomes, and shares for those who count.
+//! The books of a shard: how many events it handled, with what outcomes, and shares for those who
+//! count.
 //!
-//! Main calls: `ShardBooks::count` and `ShardBooks::read`. It depends on `ap_model`. Each count is a ledger of its
-//! own: a book holds the sum of all its shares, modulo 2^64, so all shares together give the books.
+//! Main calls: `ShardBooks::count` and `ShardBooks::read`. It depends on `ap_model`. Each count is
+//! a ledger of its own: a book holds the sum of all its shares, modulo 2^64, so all shares together
+//! give the books.
 #![tactic(auto)]
 
 mod blanks;

@@ -44,7 +44,8 @@ impl<L: Ledger> Tally<L> {
         self.number
     }
 
-    /// Given all parts of the ledger: what the book has counted, mod 2^64, which is what the share has counted.
+    /// Given all parts of the ledger: what the book has counted, mod 2^64, which is what the share has
+    /// counted.
     pub(crate) fn read(&mut self, all: &mut Share<L>) -> u64
         requires { all.old.parts ≡ L.parts }
         ensures number { result ≡ all.old.amount % 2 ^ 64 }
