@@ -58,8 +58,9 @@ fn next_turn<E: Entry>(word: &Word<E, u64, Law>, seen: &Seen<E, u64, Law>, last:
 }
 
 impl<E: Entry> Author<E> {
-    /// Prepares adding one more entry after `known`. Returns false, and changes nothing, if `known` isn't the whole
-    /// journal, or has about 2^61 entries, which no run reaches. No clause says when it returns true.
+    /// Prepares adding one more entry after `known`. Returns false, and changes nothing, if `known`
+    /// isn't the whole journal, or has about 2^61 entries, which no run reaches. No clause says when it
+    /// returns true.
     pub fn prepare(&mut self, known: &Known<E>) -> bool
         requires { MayAdd self.old known.now }
         ensures { MatchBool result (IsPrepared self.new known.now) (self.new ≡ self.old) }
@@ -77,8 +78,8 @@ impl<E: Entry> Author<E> {
         true
     }
 
-    /// Proves that whatever is known of a journal is a prefix of what its author has prepared to extend; changes
-    /// nothing.
+    /// Proves that whatever is known of a journal is a prefix of what its author has prepared to
+    /// extend; changes nothing.
     pub fn look(&mut self, known: &Known<E>, other: &Known<E>)
         requires turn { IsPrepared self.old known.now }
         requires one_journal { other.now.journal ≡ known.now.journal }
