@@ -1,7 +1,7 @@
 //! Who is informed of each event that a worker takes.
 
-/// Is asked and informed by workers, possibly concurrently. It may block one. Nothing is promised about the calls that
-/// it gets.
+/// Is asked and informed by workers, possibly concurrently. It may block one. Nothing is promised
+/// about the calls that it gets.
 pub trait Gate {
     /// Before the shard's lock is taken.
     fn begin(&self, _call: u64) {}
