@@ -5,8 +5,8 @@ use ap_model::{AskLog, Event, Judge, Out};
 use std::marker::Model;
 use std::snapshot::Snapshot;
 
-/// An entry of a journal: a handled event, its queries with their answers, and its outputs. Only proofs have such
-/// values.
+/// An entry of a journal: a handled event, its queries with their answers, and its outputs. Only
+/// proofs have such values.
 #[derive(Drop)]
 pub struct JournalEntry {
     event: Event,
@@ -29,7 +29,8 @@ impl Entry for JournalEntry {
     ghost unwritten = { record { event = event.Tick 0; asked = []; outs = [] } };
 }
 
-/// What was just done: an event, its outputs, and the judge before and after, whose list grew by the queries.
+/// What was just done: an event, its outputs, and the judge before and after, whose list grew by
+/// the queries.
 #[derive(Drop)]
 pub(crate) struct Deed<'a, J: Judge> {
     pub(crate) event: &'a Event,

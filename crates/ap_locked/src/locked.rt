@@ -42,7 +42,8 @@ impl<B: Ledgers + Journals, const SHARD: usize> Model for Locked<B, SHARD> {
 }
 
 impl<B: Ledgers + Journals, const SHARD: usize> Locked<B, SHARD> {
-    /// A shard that has handled nothing, with a copy of the configuration, and a token with all parts of its ledgers.
+    /// A shard that has handled nothing, with a copy of the configuration, and a token with all parts
+    /// of its ledgers.
     pub fn new(
         alloc: Global,
         config: &LinkConfig,
@@ -110,7 +111,8 @@ impl<B: Ledgers + Journals, const SHARD: usize> Locked<B, SHARD> {
         self.books.totals()
     }
 
-    /// Given all parts of the ledgers: what the books have counted, mod 2^64, which is what the shares have counted.
+    /// Given all parts of the ledgers: what the books have counted, mod 2^64, which is what the shares
+    /// have counted.
     pub fn read(&mut self, all: &mut Shares<B, SHARD>) -> Totals
         requires { all.old.parts ≡ B.shares }
         ensures same { self.new ≡ self.old }

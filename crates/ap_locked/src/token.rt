@@ -11,8 +11,8 @@ use ap_journal::{Known, Past};
 use std::marker::Model;
 use std::mem;
 
-/// A right to decide events at a shard: parts of its ledgers, the prefix of its journal that was seen, and one's own
-/// entries there. At run time it is the number of entries seen.
+/// A right to decide events at a shard: parts of its ledgers, the prefix of its journal that was
+/// seen, and one's own entries there. At run time it is the number of entries seen.
 #[derive(Drop)]
 pub struct ShardToken<B: Ledgers + Journals, const SHARD: usize> {
     pub(crate) shares: Shares<B, SHARD>,
@@ -39,7 +39,8 @@ impl<B: Ledgers + Journals, const SHARD: usize> ShardToken<B, SHARD> {
         let _shares = &self.shares;
     }
 
-    /// Splits off a token with this many parts. It has seen what this one has, and has no entries of its own.
+    /// Splits off a token with this many parts. It has seen what this one has, and has no entries of
+    /// its own.
     pub fn split_off(&mut self, parts: u64) -> ShardToken<B, SHARD>
         requires some { 0 < parts }
         requires more { parts < self.old.portion.parts }
@@ -67,8 +68,8 @@ impl<B: Ledgers + Journals, const SHARD: usize> ShardToken<B, SHARD> {
         other.seen = seen;
     }
 
-    /// Exchanges its parts, with what they have counted, for others that have counted nothing. It then has no entries
-    /// of its own; what it has seen is unchanged.
+    /// Exchanges its parts, with what they have counted, for others that have counted nothing. It then
+    /// has no entries of its own; what it has seen is unchanged.
     pub fn renew(&mut self, fresh: Shares<B, SHARD>) -> Shares<B, SHARD>
         requires some { 0 < fresh.parts }
         requires nothing { fresh.counts ≡ none }
