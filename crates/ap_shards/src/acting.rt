@@ -42,8 +42,8 @@ fn act_under<B: Ledgers + Journals, const SHARD: usize, R: Wait>(
 }
 
 impl<B: Ledgers + Journals> Shards<B> {
-    /// Decides a command under the lock of this shard, concurrently with its worker. If it fails, for lack of memory,
-    /// the tokens are unchanged.
+    /// Decides a command under the lock of this shard, concurrently with its worker. If it fails, for
+    /// lack of memory, the tokens are unchanged.
     pub fn act<R: Wait>(
         &self,
         rt: &R,

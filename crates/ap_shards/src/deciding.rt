@@ -68,9 +68,9 @@ fn decide_under<B: Ledgers + Journals, const SHARD: usize, R: Wait>(
 }
 
 impl<B: Ledgers + Journals> Shards<B> {
-    /// Decides an event under the lock of this shard, by the programs of a published set over a worker's tables.
-    /// `mine` then has its entry, and counts it. An event that is refused for lack of memory changes neither the
-    /// tokens nor the worker's state.
+    /// Decides an event under the lock of this shard, by the programs of a published set over a
+    /// worker's tables. `mine` then has its entry, and counts it. An event that is refused for lack of
+    /// memory changes neither the tokens nor the worker's state.
     pub fn decide<R: Wait>(
         &self,
         rt: &R,

@@ -23,7 +23,8 @@ fn read_under<B: Ledgers + Journals, const SHARD: usize, R: Wait>(
 }
 
 impl<B: Ledgers + Journals> Shards<B> {
-    /// Given all parts of all ledgers: the sum of the books, which is what all shares have counted, mod 2^64.
+    /// Given all parts of all ledgers: the sum of the books, which is what all shares have counted, mod
+    /// 2^64.
     pub fn gather<R: Wait>(&self, rt: &R, all: &mut Portions<B>) -> Totals
         requires { HasParts B.shares all.old }
         ensures same { all.new ≡ all.old }

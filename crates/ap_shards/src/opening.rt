@@ -70,7 +70,8 @@ struct OpenedFour<
     high: OpenedTwo<B, THIRD, FOURTH>,
 }
 
-/// Pairs `kept` with what was made. If making failed, frees `kept` by this one call, since shards have many parts.
+/// Pairs `kept` with what was made. If making failed, frees `kept` by this one call, since shards
+/// have many parts.
 fn beside<K: Drop, M: Drop>(kept: K, made: Result<M, AllocError>) -> Result<(K, M), AllocError>
     ensures kept { IfOk result (λ r. r.0 ≡ kept) }
     ensures made { IfOk result (λ r. made ≡ Ok r.1) }

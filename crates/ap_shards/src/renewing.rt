@@ -9,8 +9,8 @@ impl<B: Ledgers + Journals> ShardTokens<B> {
     ghost use Rattle.ap_shards.specs.Renewal.{AreFresh, AreRenewed};
     ghost use Rattle.ap_shards.specs.Tokens.{holding_of};
 
-    /// Exchanges its parts of the ledgers, with what they have counted, for others that have counted nothing. It then
-    /// has no entries of its own.
+    /// Exchanges its parts of the ledgers, with what they have counted, for others that have counted
+    /// nothing. It then has no entries of its own.
     pub fn renew(&mut self, fresh: Portions<B>) -> Portions<B>
         requires { AreFresh fresh }
         ensures given { result ≡ holding_of self.old }

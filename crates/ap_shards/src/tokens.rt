@@ -4,7 +4,8 @@ use ap_books::{Ledgers, Portions};
 use ap_locked::{Journals, ShardToken};
 use std::marker::Model;
 
-/// A token of each shard: parts of its ledgers, the seen prefix of its journal, and one's own entries there.
+/// A token of each shard: parts of its ledgers, the seen prefix of its journal, and one's own
+/// entries there.
 #[derive(Drop)]
 pub struct ShardTokens<B: Ledgers + Journals> {
     pub(crate) of0: ShardToken<B, 0>,
@@ -61,7 +62,8 @@ impl<B: Ledgers + Journals> ShardTokens<B> {
         }
     }
 
-    /// Of each journal both then have seen the longer of their two prefixes. Each keeps its own entries.
+    /// Of each journal both then have seen the longer of their two prefixes. Each keeps its own
+    /// entries.
     pub fn meet(&mut self, other: &mut ShardTokens<B>)
         ensures this { KeepOwn self.old self.new }
         ensures that { KeepOwn other.old other.new }
