@@ -19,8 +19,8 @@ use std::marker::Model;
 use std::sync::Wait;
 use versions::{Entrance, News};
 
-/// What an access point is made from: its link, the shapes of its maps, the first word that each worker draws, and the
-/// number of workers, from 1 to 8.
+/// What an access point is made from: its link, the shapes of its maps, the first word that each
+/// worker draws, and the number of workers, from 1 to 8.
 #[derive(Drop)]
 pub struct Settings {
     pub link: LinkConfig,
@@ -50,7 +50,8 @@ impl<B: Ledgers + Journals> Model for LiveAp<B> {
 }
 
 impl<B: Ledgers + Journals> LiveAp<B> {
-    /// Given all parts of all ledgers: the sum of the books, which is what all shares have counted, mod 2^64.
+    /// Given all parts of all ledgers: the sum of the books, which is what all shares have counted, mod
+    /// 2^64.
     pub fn gather<R: Wait>(&self, rt: &R, all: &mut Portions<B>) -> Totals
         requires { HasParts B.shares all.old }
         ensures same { all.new ≡ all.old }

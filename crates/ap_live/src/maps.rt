@@ -21,8 +21,8 @@ impl<B: Ledgers + Journals> LiveAp<B> {
         self.tables.has_word(scope, map, word)
     }
 
-    /// Stores a number in a word of a shared map, mod 2^(8 * width): one access in its legal history. It never blocks
-    /// or allocates.
+    /// Stores a number in a word of a shared map, mod 2^(8 * width): one access in its legal history.
+    /// It never blocks or allocates.
     pub fn store(&self, operator: &mut OperatorToken<B>, map: usize, word: u32, value: u64)
         requires own { IsOperator self.now operator.old }
         requires there { Names Shared self.now.stock.maps map word }
@@ -46,8 +46,8 @@ impl<B: Ledgers + Journals> LiveAp<B> {
         self.tables.read(&mut operator.seats, map, word)
     }
 
-    /// Loads a word of a worker's map once from each worker's table, by worker number, and returns the sum mod 2^(8 *
-    /// width). It never blocks or allocates.
+    /// Loads a word of a worker's map once from each worker's table, by worker number, and returns the
+    /// sum mod 2^(8 * width). It never blocks or allocates.
     pub fn sum(&self, operator: &mut OperatorToken<B>, map: usize, word: u32) -> u64
         requires own { IsOperator self.now operator.old }
         requires there { Names Worker self.now.stock.maps map word }

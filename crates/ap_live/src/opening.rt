@@ -21,7 +21,8 @@ use std::sync::Wait;
 use versions::opening::published;
 use versions::{Published, Publisher};
 
-/// The number of parts of each ledger: one for each of 8 operators and of 8 workers, and one that stays.
+/// The number of parts of each ledger: one for each of 8 operators and of 8 workers, and one that
+/// stays.
 pub const PARTS: u64 = 17;
 
 /// A new access point, its publisher, and the tokens to give.
@@ -97,8 +98,8 @@ fn assembled<B: Ledgers + Journals>(
 }
 
 impl<B: Ledgers + Journals> LiveAp<B> {
-    /// An access point before any event, with no program, and tables of zeros. Its ledgers, each divided into `PARTS`
-    /// parts, and its journals are those of the new shards.
+    /// An access point before any event, with no program, and tables of zeros. Its ledgers, each
+    /// divided into `PARTS` parts, and its journals are those of the new shards.
     pub fn open<R: Wait>(
         rt: &R,
         alloc: Global,
@@ -139,8 +140,8 @@ impl<B: Ledgers + Journals> LiveAp<B> {
         Ok(assembled(shards, places, list, draw, workers))
     }
 
-    /// The token of the next operator. Fault 62: all were given. Only tests show that 8 are. If it fails, no part of a
-    /// ledger is given.
+    /// The token of the next operator. Fault 62: all were given. Only tests show that 8 are. If it
+    /// fails, no part of a ledger is given.
     pub fn operator(
         &mut self,
         alloc: Global,
@@ -170,8 +171,8 @@ impl<B: Ledgers + Journals> LiveAp<B> {
         })
     }
 
-    /// The token of a worker, given once; after that, fault 62. Only tests show that it is given. If it fails, no part
-    /// of a ledger is given.
+    /// The token of a worker, given once; after that, fault 62. Only tests show that it is given. If it
+    /// fails, no part of a ledger is given.
     pub fn worker(
         &mut self,
         alloc: Global,

@@ -24,9 +24,9 @@ struct Taken<'a, G: Gate> {
 }
 
 impl<B: Ledgers + Journals> LiveAp<B> {
-    /// Serves the worker's queue until it is found empty or the gate says stop. Each event that was taken is reported,
-    /// in order; if an allocation fails, the list has what was served. The main theorem holds of the reports, whatever
-    /// other workers and operators do meanwhile.
+    /// Serves the worker's queue until it is found empty or the gate says stop. Each event that was
+    /// taken is reported, in order; if an allocation fails, the list has what was served. The main
+    /// theorem holds of the reports, whatever other workers and operators do meanwhile.
     pub fn serve<R: Wait, G: Gate>(
         &self,
         rt: &R,
@@ -59,9 +59,9 @@ impl<B: Ledgers + Journals> LiveAp<B> {
         unreachable!()
     }
 
-    /// Serves the oldest event of the worker's queue, and reports it; `None` if there is none. The event is decided
-    /// under its shard's lock, by the programs of one whole published set, unless the gate says stop: then it is
-    /// reported as not handled.
+    /// Serves the oldest event of the worker's queue, and reports it; `None` if there is none. The
+    /// event is decided under its shard's lock, by the programs of one whole published set, unless the
+    /// gate says stop: then it is reported as not handled.
     fn serve_one<R: Wait, G: Gate>(
         &self,
         rt: &R,

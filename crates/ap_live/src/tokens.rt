@@ -25,8 +25,8 @@ impl<B: Ledgers + Journals> Model for OperatorToken<B> {
     ghost view = { λ o. record { lines = o.lines; seats = o.seats; shards = o.shards } };
 }
 
-/// The right of a worker: the handle on its queue, a reader of the published sets, the state of its programs, a part
-/// of each ledger. It may move to another thread.
+/// The right of a worker: the handle on its queue, a reader of the published sets, the state of its
+/// programs, a part of each ledger. It may move to another thread.
 #[derive(Drop)]
 pub struct WorkerToken<B: Ledgers + Journals> {
     pub(crate) number: usize,
@@ -85,8 +85,8 @@ impl<B: Ledgers + Journals> WorkerToken<B> {
     ghost use Rattle.ap_live.specs.Lives.{Live};
     ghost use Rattle.ap_live.specs.Tokens.{IsWorker};
 
-    /// Exchanges its parts of the ledgers, with what they have counted, for others that have counted nothing. It then
-    /// has no entries of its own.
+    /// Exchanges its parts of the ledgers, with what they have counted, for others that have counted
+    /// nothing. It then has no entries of its own.
     pub fn renew(&mut self, fresh: Portions<B>) -> Portions<B>
         requires { AreFresh fresh }
         ensures given { result ≡ holding_of self.old.shards }
