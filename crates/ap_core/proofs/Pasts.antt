@@ -36,7 +36,6 @@ module _ (s s2 : State) (config : Config) (shard : s2.link.shard ≡ s.link.shar
       same (rules s.link.shard config) (rules s2.link.shard config) (reading s2) (reading s2) (ap (λ n. rules n config) shard) refl
       (longer (rules s.link.shard config) (reading s) (reading s2) event asked outs step past)
 
-  -- nothing changed
   pub stayed : s2 ≡ s → ∥ History (rules s2.link.shard config) (reading s2) ∥₁
   stayed e = same (rules s.link.shard config) (rules s2.link.shard config) (reading s) (reading s2) (ap (λ n. rules n config) shard) (ap reading e) past
 

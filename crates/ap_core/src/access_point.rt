@@ -12,7 +12,6 @@ use ap_model::{Event, Judge, LinkConfig, Out};
 use mac_frame::Address;
 use std::alloc::{AllocError, Global};
 
-/// The shard of an address.
 fn shard_of_address(station: Address) -> usize
     ensures is { result ≡ shard_of_address station }
     ensures fits { result < 8 }

@@ -71,7 +71,6 @@ fn close(
     }
 }
 
-/// The operator ends an agreement.
 pub(crate) fn on_close(
     alloc: Global,
     state: &mut State,

@@ -21,7 +21,6 @@ pub(crate) struct Four {
     pub(crate) high: Two,
 }
 
-/// Two shards that have handled nothing.
 fn new_two(alloc: Global, number: u16, config: &LinkConfig) -> Result<Two, AllocError>
     requires { number < 7 }
     ensures first { IfOk result (λ t. IsFresh config.now number t.first) }
@@ -32,7 +31,6 @@ fn new_two(alloc: Global, number: u16, config: &LinkConfig) -> Result<Two, Alloc
     Ok(Two { first, second })
 }
 
-/// Four shards that have handled nothing.
 pub(crate) fn new_four(alloc: Global, number: u16, config: &LinkConfig) -> Result<Four, AllocError>
     requires { number < 5 }
     ensures first { IfOk result (λ f. IsFresh config.now number f.low.first) }

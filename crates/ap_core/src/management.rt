@@ -19,7 +19,6 @@ use hooks::{Asker, assoc_verdict, association_context};
 use mac_frame::{AidField, Capability, ElementsBuf, MacFrame, Status};
 use std::alloc::AllocError;
 
-/// The status of the reply to an authentication.
 fn authentication_status(state: &State, asker: Asker, algorithm: u16, transaction: u16) -> Status
     requires { asker.standing ≡ standing state.now.link asker.station }
     ensures { AuthenticationStatus (reading state.now) asker.station algorithm transaction result }
@@ -41,7 +40,6 @@ fn authentication_status(state: &State, asker: Asker, algorithm: u16, transactio
     }
 }
 
-/// Handles an authentication.
 pub(crate) fn on_authentication(
     setting: Setting<'_>,
     state: &mut State,
@@ -98,7 +96,6 @@ fn names(config: &LinkConfig, asked: &Asked<'_, '_>) -> bool
     }
 }
 
-/// The response to a request.
 fn response(
     config: &LinkConfig,
     asked: &Asked<'_, '_>,

@@ -24,7 +24,6 @@ pub(crate) fn authenticate(state: &mut State, station: Address) -> Result<(), Al
     Ok(())
 }
 
-/// The station becomes associated, with this identifier.
 pub(crate) fn associate(state: &mut State, station: Address, aid: u16)
     requires known { IsSome (standing state.old.link station) }
     requires free { IsFree state.old.link.shard (standing state.old.link) station aid }

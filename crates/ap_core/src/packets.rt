@@ -190,7 +190,6 @@ fn on_wanted_data<J: Judge>(
     Ok(Outcome { outs, dropped })
 }
 
-/// Handles QoS data.
 pub(crate) fn on_qos_data<J: Judge>(
     alloc: Global,
     state: &mut State,

@@ -10,7 +10,6 @@ use ap_agreements::{Entry, Released};
 use ap_model::{Held, Out};
 use mac_frame::{Address, SequenceNumber, Tid};
 
-/// Passes up a held frame.
 fn push_held(station: Address, tid: Tid, number: u16, held: Held, outs: &mut Vec<Out>)
     requires number { number < 4096 }
     requires room { vec_len outs.old < vec_capacity outs.old }

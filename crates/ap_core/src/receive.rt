@@ -29,7 +29,7 @@ fn noted(alloc: Global, number: u8) -> Result<Vec<Out>, AllocError>
     Ok(room.note(number))
 }
 
-/// The note of the fault of bytes that weren't read; fails if they weren't for lack of memory.
+/// The note of the fault, for bytes that weren't read. Fails if memory ran out.
 fn unread(alloc: Global, fault: FrameFault) -> Result<Vec<Out>, AllocError>
     ensures { IfOk result (λ outs. IsNoted fault outs.items) }
 {
@@ -125,7 +125,6 @@ fn on_frame<J: Judge>(
     Ok(outcome)
 }
 
-/// Handles received bytes.
 pub(crate) fn receive<J: Judge>(
     alloc: Global,
     state: &mut State,

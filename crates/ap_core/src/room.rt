@@ -47,7 +47,7 @@ impl FrameRoom {
     }
 }
 
-/// The empty list, with this output added; it has capacity for it.
+/// A list with this output, in place of the empty one that has capacity for it.
 pub(crate) fn with_out(outs: Vec<Out>, out: Out) -> Vec<Out>
     requires empty { vec_len outs ≡ 0 }
     requires room { 1 ≤ vec_capacity outs }

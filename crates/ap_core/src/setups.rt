@@ -169,7 +169,6 @@ fn decline(setting: Setting<'_>, request: &SetupRequest<'_, '_>) -> Result<Vec<O
     Ok(room.send(&answer))
 }
 
-/// Handles an ADDBA request.
 pub(crate) fn on_setup<J: Judge>(
     setting: Setting<'_>,
     state: &mut State,

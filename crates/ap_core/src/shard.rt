@@ -174,7 +174,6 @@ impl Shard {
         tick(setting, &mut self.state, units, room, outs);
     }
 
-    /// Time passes.
     fn on_tick(&mut self, alloc: Global, units: u32) -> Result<Vec<Out>, AllocError>
         ensures step { IfOk result
             (λ outs. Step (ruled self.old) (reads self.old) (Event.Tick units) [] outs.items

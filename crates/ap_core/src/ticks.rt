@@ -23,14 +23,12 @@ pub(crate) struct TickRoom {
     frames: Vec<FrameRoom>,
 }
 
-/// The sum of the ticks after this one.
 fn clock_after(state: &State, units: u32) -> u64
     ensures { result ≡ clock_after state.now units }
 {
     state.clock.saturating_add(u64::from(units))
 }
 
-/// Memory for this many frames.
 fn frame_rooms(alloc: Global, count: usize) -> Result<Vec<FrameRoom>, AllocError>
     ensures { IfOk result (λ frames. vec_len frames ≡ count) }
 {
