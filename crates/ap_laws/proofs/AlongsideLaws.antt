@@ -212,7 +212,6 @@ module _ (c : Rules) (r s : Readings) (alike : Alike r s) (one_once : HoldsOnce 
       (record { window = opened_alike q.start grants.window grants2.window (grants.sized ∙ size ∙ sym grants2.sized) grants.opens grants2.opens; timeout = refl; last_use = alike.clock })
       grants.agrees grants2.agrees
 
-  -- the agreement of both
   pair : (a : List ℕ) (tid : ℕ) (u v : Using) → r.agreement a tid ≡ Some u → s.agreement a tid ≡ Some v → AlikeUses u v
   pair a tid u v is is2 =
       let t = there (r.agreement a tid) (s.agreement a tid) u (alike.agreement a tid) is in
@@ -240,7 +239,6 @@ module _ (c : Rules) (r s : Readings) (alike : Alike r s) (one_once : HoldsOnce 
       })
       one.agrees other.agrees
 
-  -- data under an agreement, taken or not
   used_alike : (a : List ℕ) (p : Packet) (tid : ℕ) (u v : Using) (x y : Option Held) (took took2 : Bool) (new new2 : Reading Held) (out out2 : List (ℕ × Held)) →
       r.agreement a tid ≡ Some u → s.agreement a tid ≡ Some v → new.size ≡ u.window.size → new2.size ≡ v.window.size →
       DataMovesWindow took p.number x u.window new out → DataMovesWindow took2 p.number y v.window new2 out2 →

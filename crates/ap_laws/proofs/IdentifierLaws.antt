@@ -54,7 +54,6 @@ run_holds c holds (goes_on r mid r2 e later step run) = run_holds c (change_hold
 pub runs_hold : RunHoldsOnce
 runs_hold c r r2 entries holds run = run_holds c holds run
 
--- identifiers of different shards differ
 pub access_points_hold : AccessPointHoldsOnce
 access_points_hold c r r2 turns places holds runs s t a b n s_fits t_fits p q =
     let one = run_holds (c s) (holds s s_fits) (runs s s_fits) in

@@ -37,7 +37,6 @@ are_below window =
 passed_in_order : (a : List ℕ) (tid : ℕ) (window : Window Held) (outs : List Out) → outs ≡ ups a tid (numbered (passed window)) → PassedInOrder a tid window outs
 passed_in_order a tid window outs is = record { frames = passed window; below = are_below window; are = is }
 
--- one more step
 grown : (a : List ℕ) (tid : ℕ) (old new : Window Held) (out : List (ℕ × Held)) (before now : List Out) → PassesUp old new out → before ≡ ups a tid (numbered (passed old)) → now ≡ ups a tid out → before ++ now ≡ ups a tid (numbered (passed new))
 grown a tid old new out before now passes was is =
     ap (λ xs. xs ++ now) was ∙

@@ -87,7 +87,6 @@ Body = List ℕ × ℕ × List ℕ
 abbrev pub data_of : List ℕ → ℕ → ℕ → Body → Up
 data_of a tid k h = record { source = a; destination = h.0; tid = Some tid; number = k; mark = h.1; body = h.2 }
 
--- what is passed up of a window's frames
 pub record UpOf (a : List ℕ) (tid : ℕ) (passed : List (ℕ × Held)) (d : Up) : Type 0 where
   pub number : ℕ
   pub frame : Body
@@ -118,7 +117,6 @@ up_of a tid (p ∷ passed) d inside =
     (λ tail. let u = up_of a tid passed d tail in record { number = u.number; frame = u.frame; inside = Contains-append_right (p ∷ []) passed (u.number, Some u.frame) u.inside; is = u.is })
     (Contains-append_cases (up_held a tid p.0 p.1) (ups a tid passed) (out.Up d) inside)
 
--- data that an agreement held
 pub record WasHeld (a : List ℕ) (tid : ℕ) (o : Option Using) (d : Up) : Type 0 where
   pub using : Using
   pub is : o ≡ Some using
@@ -219,7 +217,6 @@ if_there true first last d inside = Contains-append_cases first last (out.Up d) 
 if_there false first last d inside = absurd (none_in_none (out.Up d) inside)
 
 module _ (c : Rules) (r0 : Readings) (entries : List Entry) (r r2 : Readings) (e : Entry) (run : Run c r0 entries r) (holds : HoldsAgreements r) (backed : Backed c r0 entries r) (step : Handles c r e r2) where
-  -- what was held before the step
   keep : (a : List ℕ) (tid : ℕ) (u : Using) (k : ℕ) (h : Body) → r.agreement a tid ≡ Some u → HoldsAt u.window k (Some h) → Origin c r0 (entries ++ e ∷ []) r2 (data_of a tid k h)
   keep a tid u k h is held = extend c r0 r r2 entries e (data_of a tid k h) (holds.associated a tid u is) step (backed a tid u k h is held)
 
@@ -364,7 +361,6 @@ module _ (c : Rules) (r0 : Readings) (entries : List Entry) (r r2 : Readings) (e
 
 -- ---- whole runs
 
--- what was held at the start
 at_start : (c : Rules) (r : Readings) → Backed c r [] r
 at_start c r a tid u k h is held =
     inr (record { tid = tid; numbered = refl; using = u; is = is; place = held.place; held = held.is; number = held.residue; since = while_rests r })

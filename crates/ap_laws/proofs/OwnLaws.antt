@@ -329,7 +329,6 @@ module _ (c : Rules) (e : Entry) (clock : ℕ) (r r2 : Readings) (now : r2.clock
 
   -- ---- data
 
-  -- without an agreement
   passed_plain : (p : Packet) → (t : Option ℕ) → p.tid ≡ t → (v : DataVerdict) → e.outs ≡ let_through f.sender p v → t ≡ None → ups_of f.sender tid e.outs ≡ []
   passed_plain p t told_tid v is none =
       none_of f.sender tid e.outs (λ d inside. let P : List Out → Type 0 = λ xs. Contains xs (out.Up d) in no_tid f.sender tid d (by_verdict v d (subst P is inside)))

@@ -357,7 +357,6 @@ module _ (c : Rules) (standing : Standings) (clock : ℕ) (one other : List ℕ 
     in_turn (one_end a tid keys first rest held later) =
         one_end a tid keys first rest (passes a tid (one a tid) (other a tid) first (same a tid) held) (in_turn later)
 
-    -- what is left of an agreement at this time
     left_by : (time : ℕ) (u : Using) → IsTimedOut c q time u ⊎ (IsTimedOut c q time u → ⊥) → Option Using
     left_by time u (inl late) = None
     left_by time u (inr not) = Some u

@@ -173,7 +173,6 @@ module _ (c : Rules) (e : Entry) (clock : ℕ) (r2 : Readings) (a : List ℕ) (t
     it_is_alone : LeavesAlone c e a tid clock g → ReadsAgreed g (r2.agreement a tid) → ((old : Agreement) → g ≡ Some old → ups_of a tid e.outs ≡ []) → Telling g
 
   module _ (r : Readings) (g : Option Agreement) (reads : ReadsAgreed g (r.agreement a tid)) where
-    -- it is unchanged
     pub unchanged : LeavesAlone c e a tid clock g → r2.agreement a tid ≡ r.agreement a tid → ((old : Agreement) → g ≡ Some old → ups_of a tid e.outs ≡ []) → Telling g
     unchanged leaves_alone same none = it_is_alone leaves_alone (subst (ReadsAgreed g) (sym same) reads) none
 

@@ -21,8 +21,9 @@ pub fn identifiers_law()
 
 /// Data that is passed up came in a frame whose source was associated when it arrived and before
 /// each entry since (IEEE 802.11-2016, 11.3), and a verdict let it through with its mark. If a run
-/// starts from readings that hold data already, that data's source was associated all the time. All
-/// agreements are of associated stations. There is a run in which data is passed up.
+/// starts from readings for which `HoldsAgreements` holds, the data may have been held already;
+/// then its source was associated all the time. `HoldsAgreements` holds in the opening, and every
+/// run keeps it. There is a run in which data is passed up.
 pub fn origin_law()
     ensures opening { OpeningHoldsAgreements }
     ensures run { RunHoldsAgreements }
@@ -31,10 +32,10 @@ pub fn origin_law()
     ensures some { SomeIsPassedUp }
 {}
 
-/// A verdict on data never moves a window (IEEE 802.11-2016, 10.24.7.6). Take two runs from the
-/// same readings, in which no identifier is held twice and all agreements are of associated
-/// stations. If they have the same events, and agree in all verdicts except those on data, they
-/// leave the same agreements with the same window starts: in a shard, and in a whole access point.
+/// A verdict on data never moves a window (IEEE 802.11-2016, 10.24.7.6). Take two runs over the
+/// same events from the same readings, for which `HoldsOnce` and `HoldsAgreements` hold. If they
+/// agree in all verdicts except those on data, they leave the same agreements with the same window
+/// starts: in a shard, and in a whole access point.
 pub fn window_law()
     ensures shard { RunsLeaveSameStarts }
     ensures access_point { LinkRunsLeaveSameStarts }
@@ -55,9 +56,9 @@ pub fn order_law()
 
 /// Steps over readings are steps over histories. The readings that a run leaves are those of its
 /// history: each station's standing follows from its exchanges (IEEE 802.11-2016, 11.3), and each
-/// agreement is what the history describes. For all readings of one history, the same entries
-/// follow it, and lead to readings of the longer history. So a list of entries is a run exactly if
-/// each follows those before it.
+/// agreement is what the history describes. The same entries follow all readings of one history,
+/// and lead to readings of the longer history. So a list of entries is a run exactly if each
+/// follows those before it.
 pub fn history_law()
     ensures readings { RunsAreRead }
     ensures steps { ReadingsServe }
@@ -79,8 +80,8 @@ pub fn link_law<J: Judge>()
     ensures windows_of_a_shard { WindowsStandApart }
 {}
 
-/// The link's half of the main theorem for one shard, whose entries so far are a run from the
-/// opening: what `link_law` says of such entries holds.
+/// The link's half of the main theorem for one shard: what `link_law` says holds of its entries so
+/// far, if they are a run from the opening.
 pub fn run_law()
     ensures { RunsHold }
 {}
