@@ -48,7 +48,6 @@ module _ {A B : Type 0} (R : A → B → Type 0) where
   stands_too : (x a : A) (y b : B) → x ≡ a → y ≡ b → R x y → R a b
   stands_too x a y b a_is b_is holds = subst (λ (u : A). R u b) a_is (subst (λ (v : B). R x v) b_is holds)
 
-  -- an empty second list
   pub stand_none : (xs : List A) → Stand R xs []
   stand_none xs at x y here there = let low : at < 0 = slice_get_within {A = B} [] at y there in absurd (omega arith)
 
