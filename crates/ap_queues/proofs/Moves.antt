@@ -143,7 +143,6 @@ founds pass v a b items views h at =
           ((λ p. no p), (λ _. (refl, (mine.1 b).1)), (λ p. no p)),
     )
 
--- a new operator
 pub hires : (pass : ℕ) (v : View) → v.makes ≡ true → Forks OneQueue pass v (maker (v.made + 1)) (operator v.made [])
 hires pass v a items views h at =
     let mine = (h.8 pass v at).0 a in

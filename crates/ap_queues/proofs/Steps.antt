@@ -20,7 +20,6 @@ put_is ps k x p p' low at put is =
     ap (λ (l : List Item). slice_set (map put_by ps) k l) (put ∙ ap (λ (l : List Item). l ++ x ∷ []) (sym here)) in
     map-set put_by ps k p' ∙ (one ∙ ap (λ (j : ℕ). slice_set (map put_by ps) j (get_or (map put_by ps) j [] ++ x ∷ [])) k_is)
 
--- nothing was put
 pub put_nothing : (ps : List OperatorPass) (k : ℕ) (p p' : OperatorPass) → p ≡ get_or ps k p → put_by p' ≡ put_by p → map put_by (slice_set ps k p') ≡ map put_by ps
 put_nothing ps k p p' at put = map-set_same put_by ps k p' p (put ∙ ap put_by at)
 
@@ -33,7 +32,6 @@ full_still p p' put number full =
       (full.2.0, put ∙ (full.2.1 ∙ ap (λ (n : ℕ). full.2.0 ++ of n full.0) same)),
     )
 
--- one more shard
 pub served_next : (puts : List (List Item)) (call : ℕ) (e : Event) (first next : ℕ) → first ≤ next
     → with_item (served puts call e first (next - first)) (item call next e) ≡ served puts call e first (next + 1 - first)
 served_next puts call e first next le =

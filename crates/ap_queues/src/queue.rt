@@ -13,7 +13,6 @@ use std::sync::Wait;
 /// The most events that a queue holds.
 const ROOM: usize = 256;
 
-/// The most operators of a queue.
 const MOST_OPERATORS: u8 = 8;
 
 /// The events that wait for one worker, at most 256, oldest first. Threads share it by reference.
@@ -126,7 +125,7 @@ impl EventQueue {
         }
     }
 
-    /// Takes the oldest item, or returns `None` if there is none.
+    /// Takes the oldest item, or returns `None` if the queue is empty, which no clause says.
     pub fn take<R: Wait>(&self, rt: &R, worker: &mut WorkerPass) -> Option<Queued>
         requires { IsWorkerOf self.now worker.old }
         ensures worker { IsWorkerOf self.now worker.new }
