@@ -1,4 +1,4 @@
-//! Journals: lists of entries that only proofs have, and that take no memory. The owner of a
+//! Journals: lists of entries that only proofs have, so they take no memory. The owner of a
 //! journal's `Author` adds to it; whoever has seen some of it has a `Known`, which always remains a
 //! prefix of it. It depends on `logbook`, whose ghost log is the journal. Promised: `prepare`, and
 //! after it `add`, which can't fail, append exactly the described entry; whatever is known is a
