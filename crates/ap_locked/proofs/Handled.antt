@@ -4,7 +4,6 @@ use Rattle.ap_journal.specs.Beginnings.{Beginning}
 use Rattle.ap_model.specs.Runs.{Entry, rests, opening}
 use Rattle.ap_locked.specs.Tokens.{AreHandled}
 
--- the empty list
 pub none_handled : (n : ℕ) → AreHandled n []
 none_handled n =
     record {

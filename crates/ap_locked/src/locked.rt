@@ -20,7 +20,7 @@ use ap_model::LinkConfig;
 use std::alloc::{AllocError, Global};
 use std::marker::Model;
 
-/// A shard as its lock guards it: with its books, and its journal, which takes no memory.
+/// A shard as its lock guards it: with its books, and its journal, whose entries take no memory.
 #[derive(Drop)]
 pub struct Locked<B: Ledgers + Journals, const SHARD: usize> {
     pub(crate) shard: Shard,
