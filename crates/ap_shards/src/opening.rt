@@ -82,7 +82,6 @@ fn beside<K: Drop, M: Drop>(kept: K, made: Result<M, AllocError>) -> Result<(K, 
     }
 }
 
-/// A new shard.
 fn open_one<B: Ledgers + Journals, const SHARD: usize>(
     alloc: Global,
     config: &LinkConfig,
@@ -100,7 +99,6 @@ fn open_one<B: Ledgers + Journals, const SHARD: usize>(
     })
 }
 
-/// Two new shards.
 fn open_two<B: Ledgers + Journals, const FIRST: usize, const SECOND: usize>(
     alloc: Global,
     config: &LinkConfig,
@@ -119,7 +117,6 @@ fn open_two<B: Ledgers + Journals, const FIRST: usize, const SECOND: usize>(
     Ok(OpenedTwo { first, second })
 }
 
-/// Four new shards.
 fn open_four<
     B: Ledgers + Journals,
     const FIRST: usize,
