@@ -43,7 +43,6 @@ tally_none : tally [] ≡ none
 unfolding tally
 tally_none = refl
 
--- one more was served
 serves_one : (a : Live) (n : ℕ) (p m q : Progress) (xs : List Queued) (ts : List Tagged) (x : Queued) (t : Tagged) → ServesAll a n p xs ts m → Serves a n m x t q → ServesAll a n p (xs ++ x ∷ []) (ts ++ t ∷ []) q
 serves_one a n p m q [] [] x t is s = (q, subst (λ (z : Progress). Serves a n z x t q) is s, refl)
 serves_one a n p m q (y ∷ xs) (u ∷ ts) x t r s = (r.0, r.1, serves_one a n r.0 m q xs ts x t r.2 s)
@@ -88,7 +87,6 @@ left_alone a n p e s =
       inside = tt;
     }
 
--- what one item adds
 pub served_item : (a : Live) (w w2 : Worker) (x : Queued) (t : Tagged) → Serves a w.number (progress_of w) x t (progress_of w2) → ServedOne a w t w2
 served_item a w w2 x t s =
     let b = s.became in
@@ -118,7 +116,6 @@ served_none a w w2 list list2 is listed =
       parts = subst (λ (e : Eight). KeepParts w.shards e) (sym same) (same_eight w.shards);
     }
 
--- nothing more was served
 pub served_still : (a : Live) (w w1 w2 : Worker) (list list1 list2 : List Tagged) → Served a w w1 list list1 → progress_of w2 ≡ progress_of w1 → list2 ≡ list1 → Served a w w2 list list2
 served_still a w w1 w2 list list1 list2 s is listed =
     let same : w2.shards ≡ w1.shards = ap (λ (p : Progress). p.shards) is in
@@ -133,7 +130,6 @@ served_still a w w1 w2 list list1 list2 s is listed =
       parts = subst (λ (e : Eight). KeepParts w.shards e) (sym same) s.parts;
     }
 
--- one more was served
 pub served_more : (a : Live) (w w1 w2 : Worker) (list list1 list2 : List Tagged) (t : Tagged) → Served a w w1 list list1 → w1.number ≡ w.number → ServedOne a w1 t w2
     → list2 ≡ list1 ++ t ∷ [] → Served a w w2 list list2
 served_more a w w1 w2 list list1 list2 t s number one listed =

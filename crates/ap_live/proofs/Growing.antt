@@ -30,7 +30,6 @@ by_shard P p0 p1 p2 p3 p4 p5 p6 p7 (suc (suc (suc (suc (suc (suc zero)))))) low 
 by_shard P p0 p1 p2 p3 p4 p5 p6 p7 (suc (suc (suc (suc (suc (suc (suc zero))))))) low = p7
 by_shard P p0 p1 p2 p3 p4 p5 p6 p7 (suc (suc (suc (suc (suc (suc (suc (suc n)))))))) low = absurd (omega arith)
 
--- for one shard
 grown_token : (V : Readings → List (Ask × ℕ) → Type 0) (s : ℕ) (e : Event) (f : Fate) (here : Bool) (t u : Token) → ChangesIf here (λ t u. Comes V s t e f u) t u
     → u.portion ≡ grown_if here t.portion f
 grown_token V s e (Decided outs dropped) true t u c = c.portion
@@ -38,7 +37,6 @@ grown_token V s e Refused true t u c = ap (λ (x : Token). x.portion) c
 grown_token V s e NotHandled true t u c = ap (λ (x : Token). x.portion) c
 grown_token V s e f false t u c = ap (λ (x : Token). x.portion) c
 
--- for all shards
 pub grown_tokens : (V : Readings → List (Ask × ℕ) → Type 0) (s : ℕ) (e : Event) (f : Fate) (a b : Eight) → ComesAt V s a e f b → holding_of b ≡ grown_at (holding_of a) s f
 grown_tokens V s e f a b c i =
     record {
@@ -59,7 +57,6 @@ same_parts Refused true p = refl
 same_parts NotHandled true p = refl
 same_parts f false p = refl
 
--- for all shards
 pub keep_parts : (s : ℕ) (f : Fate) (a b : Eight) → holding_of b ≡ grown_at (holding_of a) s f → KeepParts a b
 keep_parts s f a b is = (
   ap (λ (h : Holding). h.of0.parts) is ∙ same_parts f (s == 0) a.of0.portion,
@@ -242,7 +239,6 @@ act_gains e outs a b s low =
     (λ c. (c.of7.0, λ i. record { of0 = (c.of0 i).portion; of1 = (c.of1 i).portion; of2 = (c.of2 i).portion; of3 = (c.of3 i).portion; of4 = (c.of4 i).portion; of5 = (c.of5 i).portion; of6 = (c.of6 i).portion; of7 = c.of7.1.portion i }))
     s low
 
--- the parts after a command
 gains_parts : (here : Bool) (p : Portion) (c : Counts) → (gains_if here p c).parts ≡ p.parts
 gains_parts true p c = refl
 gains_parts false p c = refl
@@ -259,7 +255,6 @@ act_parts s c a b is = (
   ap (λ (h : Holding). h.of7.parts) is ∙ gains_parts (s == 7) a.of7.portion c,
 )
 
--- a command that was decided
 pub acted_at : (o o2 : Operator) (e : Event) (outs : List Out) (s : ℕ) → shard_of e ≡ Some s → s < 8 → ActsAt s o.shards e outs o2.shards → Acted o e outs o2
 acted_at o o2 e outs s is low acts =
     let g = act_gains e outs o.shards o2.shards s low acts in

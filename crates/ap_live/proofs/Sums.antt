@@ -15,7 +15,6 @@ together a b c = omega arith
 swapped : (a b c : ℕ) → a + b + c ≡ a + c + b
 swapped a b c = omega arith
 
--- nothing more
 pub plus_none : (a : Counts) → plus a none ≡ a
 plus_none a = same_counts (plus a none) a (zero_right a.events) (zero_right a.sent) (zero_right a.up) (zero_right a.dropped) (zero_right a.notes)
 

@@ -24,9 +24,9 @@ struct Taken<'a, G: Gate> {
 }
 
 impl<B: Ledgers + Journals> LiveAp<B> {
-    /// Serves the worker's queue until it is found empty or the gate says stop. Each event that was
-    /// taken is reported, in order; if an allocation fails, the list has what was served. The main
-    /// theorem holds of the reports, whatever other workers and operators do meanwhile.
+    /// Serves the worker's queue until it is found empty, the gate says stop, or an allocation fails;
+    /// no clause says how many events that are. Each event that was taken is reported in `list`, in
+    /// order. The main theorem holds of the reports, whatever other workers and operators do meanwhile.
     pub fn serve<R: Wait, G: Gate>(
         &self,
         rt: &R,
