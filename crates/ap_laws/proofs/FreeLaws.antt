@@ -1,4 +1,4 @@
--- If two shards have equally many associated stations, both have a free identifier or neither.
+-- If equally many stations are associated in two readings of a shard, an identifier is free in both or in neither.
 use Rattle.std.proofs.Common.{◌≡◌, ◌≢◌, ℕ, ◌%◌, ◌<◌, ◌≤◌, ◌⊎◌, inl, inr, ⊎_elim, None, Some, List, refl, sym, ap, ◌∙◌, subst, arith}
 use Rattle.std.proofs.lemmas.Bool.{cases_lt, cases_eq}
 use Rattle.assoc.specs.declared.standing.Known.TheVariants.{Authenticated, Associated}

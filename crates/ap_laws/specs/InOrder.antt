@@ -63,7 +63,7 @@ GoesOnInOrder =
     (c : Rules) (entries : List Entry) (r : Readings) (a : List ℕ) (tid : ℕ) → Run c opening entries r →
     (g : Agreement) (since : List Entry) → Agreed c a tid (reverse entries) (Some g) since → PassedInOrder a tid g.window (ups_since a tid since)
 
--- at the end or replacement the window has moved past the last number that it took
+-- the order at its end or replacement, when the window has moved past the last number that it took
 pub record EndedInOrder (a : List ℕ) (tid : ℕ) (old : Window Held) (passed : List Out) : Type 0 where
   pub last : Window Held
   pub ends : EndStep old last

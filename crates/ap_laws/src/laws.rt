@@ -67,12 +67,12 @@ pub fn history_law()
 {}
 
 /// The link's half of the main theorem, for any judge. If the entries of shards so far are runs
-/// from the opening, an event at one shard or a list of events at eight lead only to entries that
+/// from the opening, an event at one shard or a list of events at eight leads only to entries that
 /// extend these to runs from the opening. So the source of each frame that is passed up was
 /// associated without interruption since the frame arrived; at each moment exactly the accepted
 /// numbers below its window's start have been passed up of each agreement, once each, in increasing
-/// order, and all that it accepted once it ends; no two stations hold one identifier; and no
-/// verdict on data moves a window.
+/// order, and all that it accepted once it ends or is replaced; no two stations hold one
+/// identifier; and no verdict on data moves a window.
 pub fn link_law<J: Judge>()
     ensures access_point { AccessPointsHold J.gives }
     ensures shard { EventsHold J.gives }
