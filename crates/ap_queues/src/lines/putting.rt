@@ -34,8 +34,8 @@ impl EventLines {
 
     /// Puts an event into the queue of its shard's worker; worker s modulo the number of workers serves
     /// shard s. A tick is put for each shard, by shard number. `call` is the caller's number for it.
-    /// Fails with 61 only if that queue held 256 items at a moment of the call, and returns the event
-    /// and the first shard that did not get it.
+    /// Fails with 61 only if a queue held 256 items at a moment of the call, and returns the event and
+    /// that queue's shard, the first that did not get it.
     pub fn submit<R: Wait>(
         &self,
         rt: &R,
