@@ -103,8 +103,8 @@ impl ApTables {
         }
     }
 
-    /// The seats of the next operator. Fault 62: a table has no seat left; fault 40: lack of memory; in both cases
-    /// seats already taken by this call are lost. Only tests show that 8 operators get theirs.
+    /// The seats of the next operator. Fault 62: a table has no seat left; fault 40: lack of memory; either way the
+    /// seats taken so far are lost. Only tests show that 8 operators get theirs.
     pub fn operator(&mut self, alloc: Global) -> Result<OperatorSeats, MapFault>
         ensures tables { KeepTables self.old.maps self.new.maps }
         ensures workers { self.new.workers ≡ self.old.workers }
@@ -115,8 +115,7 @@ impl ApTables {
     }
 
     /// The mutable state of a worker's programs: the next seat of each table that they use, and the first word to
-    /// draw. Fault 62: a table has no seat left; fault 40: lack of memory; in both cases seats already taken by this
-    /// call are lost.
+    /// draw. Faults 62 and 40 as for `operator`.
     pub fn worker(
         &mut self,
         alloc: Global,
