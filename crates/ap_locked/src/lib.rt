@@ -1,10 +1,10 @@
 //! A shard of the link as its lock guards it: with its books, and its journal, which only proofs
-//! have. `Locked::new` makes one, with a `ShardToken` that has all parts of its ledgers;
+//! have. `Locked::new` makes one, and a `ShardToken` with all parts of its ledgers;
 //! `Locked::decide` decides an event. It depends on `ap_core`, `ap_journal` and `ap_books`.
 //! Promised of every `Locked`: the entries of its journal lead from the opening to its state, each
-//! as a step of the link, and its books have counted exactly those entries. Promised of every
-//! `ShardToken`: the shard handled, from the opening, the prefix of the journal that it has seen;
-//! its own entries are among these in order, and its shares have counted them.
+//! as a step of the link, and its books have counted exactly these. Promised of every `ShardToken`:
+//! the shard handled, from the opening, the prefix of the journal that it has seen; its own entries
+//! are among these in order, and its shares have counted them.
 #![tactic(auto)]
 
 mod deciding;

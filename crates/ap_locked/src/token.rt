@@ -57,7 +57,7 @@ impl<B: Ledgers + Journals, const SHARD: usize> ShardToken<B, SHARD> {
         }
     }
 
-    /// Both then have seen the longer of their two prefixes. Each keeps its own entries.
+    /// Both then have seen the same, which extends what each had seen. Each keeps its own entries.
     pub fn meet(&mut self, other: &mut ShardToken<B, SHARD>)
         ensures this { KeepsOwn self.old self.new }
         ensures that { KeepsOwn other.old other.new }
