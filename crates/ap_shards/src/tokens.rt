@@ -62,8 +62,8 @@ impl<B: Ledgers + Journals> ShardTokens<B> {
         }
     }
 
-    /// Of each journal both then have seen the longer of their two prefixes. Each keeps its own
-    /// entries.
+    /// Of each journal both then have seen the same, which extends what each had seen. Each keeps its
+    /// own entries.
     pub fn meet(&mut self, other: &mut ShardTokens<B>)
         ensures this { KeepOwn self.old self.new }
         ensures that { KeepOwn other.old other.new }
