@@ -16,8 +16,8 @@ use std::sync::Wait;
 
 impl<B: Ledgers + Journals> LiveAp<B> {
     /// Puts an event into the queue of its shard's worker, and a tick into those of all shards, as
-    /// `EventLines::submit`. Fails with 61 only if that queue held 256 items at a moment of the call,
-    /// and returns the event and the first shard that did not get it.
+    /// `EventLines::submit`. Fails with 61 only if a queue held 256 items at a moment of the call, and
+    /// returns the event and that queue's shard, the first that did not get it.
     pub fn submit<R: Wait>(
         &self,
         rt: &R,

@@ -20,8 +20,8 @@ impl<B: Ledgers + Journals> WorkerToken<B> {
         self.shards.known();
     }
 
-    /// Of each shard's journal both workers then have seen the longer of their two prefixes. Each keeps
-    /// its own entries.
+    /// Of each shard's journal both workers then have seen the same, which extends what each had seen.
+    /// Each keeps its own entries.
     pub fn meet(&mut self, other: &mut WorkerToken<B>)
         ensures this { KeepOwn self.old.shards self.new.shards }
         ensures that { KeepOwn other.old.shards other.new.shards }
