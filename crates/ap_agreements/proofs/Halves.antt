@@ -73,7 +73,6 @@ module _ (p : Kept → Bool) where
   pub all_moved : (all now ended : List Kept) (at : ℕ) → Halfway p all now ended at → length now ≤ at → ended ≡ filter p all
   all_moved all now ended at h l = h.moved ∙ ap (λ (t : List Kept). filter p t) (sym (all_done all now ended at h l))
 
-  -- there is room for the next one
   pub room_for : (all now ended : List Kept) (at : ℕ) (d : Kept) → Halfway p all now ended at → at < length now → p (slice_index_or now at d) ≡ true →
       length ended < count_by p all
   room_for all now ended at d h l e =

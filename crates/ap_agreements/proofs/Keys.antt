@@ -18,7 +18,6 @@ use Rattle.ap_agreements.specs.Tables.{Kept, key_of, key_cmp, is_for}
 pub key_total : IsTotalOrder key_cmp
 key_total = then_total (on_total (λ (p : List ℕ × ℕ). p.0) nat_list_cmp_total) (on_total (λ (p : List ℕ × ℕ). p.1) nat_cmp_total)
 
--- a key is not before itself
 pub not_itself : (p q : List ℕ × ℕ) → p ≡ q → key_cmp p q ≡ Less → ⊥
 not_itself p q e h = let t = tied_itself key_total p in let s = ap (λ k. key_cmp p k) e in cc
 
