@@ -8,7 +8,7 @@ use Rattle.assoc.specs.declared.standing.Known.TheVariants.{Authenticated, Assoc
 use Rattle.assoc.specs.Standings.{Standing, Linked, standing, state_of, HoldsAsTheyStand, associated_count}
 use Rattle.ap_model.specs.Stations.{AreAssociated}
 
--- who holds an identifier
+-- the stations that hold identifiers
 held : List (Option (List ℕ)) → List (List ℕ)
 held [] = []
 held (None ∷ xs) = held xs

@@ -19,7 +19,6 @@ ups-more a tid [] n h = append-nil (up_held a tid n h)
 ups-more a tid (x ∷ xs) n h =
     ap (λ (t : List Out). up_held a tid x.0 x.1 ++ t) (ups-more a tid xs n h) ∙ sym (append_assoc (up_held a tid x.0 x.1) (ups a tid xs) (up_held a tid n h))
 
--- a held frame, passed up
 abbrev pub as_up : List ℕ → ℕ → ℕ → List ℕ × ℕ × List ℕ → Up
 as_up a tid n h = record { source = a; destination = h.0; tid = Some tid; number = n; mark = h.1; body = h.2 }
 

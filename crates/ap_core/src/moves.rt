@@ -11,7 +11,7 @@ use crate::state::State;
 use mac_frame::Address;
 use std::alloc::AllocError;
 
-/// The station becomes authenticated. If an allocation fails, nothing changes.
+/// The station becomes authenticated. If that fails, nothing changes.
 pub(crate) fn authenticate(state: &mut State, station: Address) -> Result<(), AllocError>
     requires { IsSome (standing state.old.link station) ⊎ (IsFull (standing state.old.link) → ⊥) }
     ensures moves { OnOk result

@@ -21,7 +21,6 @@ use std::alloc::{AllocError, Global};
 /// The note for a frame for another access point, or from a group address.
 const NOT_OURS: u8 = 56;
 
-/// A note alone.
 fn noted(alloc: Global, number: u8) -> Result<Vec<Out>, AllocError>
     ensures { IfOk result (λ outs. outs.items ≡ Out.Note number ∷ []) }
 {
