@@ -53,7 +53,6 @@ known_at s = record { standing = alone_at s; agreement = λ b t. None; clock = 0
 abbrev pub first_entry : Entry
 first_entry = record { event = event.Frame (spelling first_frame); asked = []; outs = authentication_answer c station 0 0 ∷ [] }
 
--- 512 stations can't be known if none is
 none_is_known : IsFull opening.standing → ⊥
 none_is_known full = by_list full.stations full.many full.known
   where

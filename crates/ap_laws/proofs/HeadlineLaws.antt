@@ -28,7 +28,6 @@ cut c before after {r} {r2} entries e run = go before r (subst (λ (es : List En
         let more = go before mid run in
         record { mid = more.mid; first = goes_on r mid more.mid x before step more.first; rest = more.rest }
 
--- the step of an entry
 record First (c : Rules) (r : Readings) (e : Entry) : Type 0 where
   pub next : Readings
   pub step : Handles c r e next

@@ -116,7 +116,6 @@ follows_from c h e r reads f = same_step c f.from r f.to e.event e.asked e.outs 
 pub readings_serve : ReadingsServe
 readings_serve c h e r reads = (follows_from c h e r reads, λ x. record { from = r; reads = reads; to = x.0; step = x.1 })
 
--- a history is a run
 run_of : (c : Rules) {h : List Entry} → IsHistory c h → (r : Readings) × Run c opening (reverse h) r
 run_of c nothing_yet = (opening, rests opening)
 run_of c (and_then h e f older) =

@@ -88,7 +88,6 @@ pub record Past (c : Rules) (h : List Entry) (r : Readings) : Type 0 where
   pub stands : (a : List ℕ) → StandsBy c h a (r.standing a)
   pub agrees : (a : List ℕ) (tid : ℕ) → Tells c h a tid (r.agreement a tid)
 
--- so the readings are those of the history
 pub reading_of : (c : Rules) (h : List Entry) (r : Readings) → Past c h r → IsReadingOf c h r
 reading_of c h r past =
     record {

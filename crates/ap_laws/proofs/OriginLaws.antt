@@ -65,7 +65,7 @@ extend c r at r2 entries e d associated step (inr o) =
       since = while_then c (IsAssociated d.source) r2 e o.since associated step;
     })
 
--- it comes with this entry
+-- the data arrives with this entry
 arrive : (c : Rules) (r at r2 : Readings) (entries : List Entry) (e : Entry) (d : Up) → IsAssociated d.source at → Handles c at e r2 → Run c r entries at → IsArrival c e d → Origin c r (entries ++ e ∷ []) r2 d
 arrive c r at r2 entries e d associated step run is =
     inl (record {

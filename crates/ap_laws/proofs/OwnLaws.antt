@@ -105,7 +105,6 @@ discarded_here r r2 a s tid moves =
     (λ other. absurd (other.1 refl))
     (address_tells a a)
 
--- the agreement that changed
 pub agreed_here : (r r2 : Readings) (a : List ℕ) (tid : ℕ) (u : Option Using) → Agrees r a tid u r2 → r2.agreement a tid ≡ u
 agreed_here r r2 a tid u agrees =
     ⊎_elim

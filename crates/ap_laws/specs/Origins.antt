@@ -91,7 +91,7 @@ FromAnyReadings =
     HoldsAgreements r → Run c r entries at → Handles c at e r2 → Contains e.outs (out.Up d) →
     ComesAssociated c r (entries ++ e ∷ []) r2 d ⊎ WaitsAssociated c r (entries ++ e ∷ []) r2 d
 
--- what is passed up after a run from the opening comes from an associated station
+-- data passed up after a run from the opening came from a source that was associated from its arrival on
 abbrev pub FromTheOpening : Type 0
 FromTheOpening =
     (c : Rules) (at r2 : Readings) (entries : List Entry) (e : Entry) (d : Up) →
