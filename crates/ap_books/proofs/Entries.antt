@@ -9,7 +9,7 @@ use Rattle.ap_books.specs.Counts.{none, plus, entry_counts, counts_in}
 one_more : (f : Entry → ℕ) (es : List Entry) (e : Entry) → sum_by f (es ++ e ∷ []) ≡ sum_by f es + f e
 one_more f es e = omega (arith, sum_by-append f es (e ∷ []))
 
--- no entry counts nothing
+-- the empty list counts nothing
 pub counts_in-none : counts_in [] ≡ none
 counts_in-none = refl
 
