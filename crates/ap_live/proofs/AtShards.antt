@@ -68,7 +68,6 @@ none_is o s = λ (no : o ≡ None) (is : o ≡ Some s). cc
 below : (n s : ℕ) → s ≡ n % 8 → s < 8
 below n s is = omega (arith, is)
 
--- it is one of eight
 pub shard_below : (e : Event) (s : ℕ) → shard_of e ≡ Some s → s < 8
 shard_below (event.Frame bytes) s is = below _ s (same_some (shard_of_bytes bytes) s is)
 shard_below (event.Tick n) s is = absurd (none_is (shard_of (event.Tick n)) s refl is)

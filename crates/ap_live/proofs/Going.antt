@@ -49,7 +49,6 @@ serves_one a n p m q (y ∷ xs) (u ∷ ts) x t r s = (r.0, r.1, serves_one a n r
 serves_one a n p m q [] (u ∷ ts) x t r s = absurd r
 serves_one a n p m q (y ∷ xs) [] x t r s = absurd r
 
--- a list is a prefix of itself
 pub begins_same : (b : Beginning) → Begins b b
 begins_same b = record { same_list = refl; same_shapes = refl; has_all = ([], append-nil b.loads) }
 

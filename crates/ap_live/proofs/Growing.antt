@@ -221,7 +221,6 @@ counted_at h s (Decided outs dropped) low = sum_gains h (counts_of outs.items dr
 counted_at h s Refused inside = ap sum_of (unchanged h s) ∙ sym (plus_none (sum_of h))
 counted_at h s NotHandled inside = ap sum_of (not_handled h s) ∙ sym (plus_none (sum_of h))
 
--- a command that was decided counts
 abbrev ActGains : Event → List Out → Eight → Eight → ℕ → Type 0
 ActGains e outs a b s =
     ActsAt s a e outs b → (dropped : Bool) × (holding_of b ≡ gains_at (holding_of a) s (counts_of outs dropped))

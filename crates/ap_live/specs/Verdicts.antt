@@ -28,10 +28,10 @@ pub record ByProgram (programs : Programs) (ask : Ask) (verdict : ℕ) : Type 0 
   pub ends : Ends (setting_of accepted.code ask.frame ask.context) asked steps verdict notes
   pub within : steps ≤ accepted.budget
 
--- one or the other
+-- either of these
 abbrev pub IsJudged : Programs → Ask → ℕ → Type 0
 IsJudged programs ask verdict = ByTable programs ask verdict ⊎ ByProgram programs ask verdict
 
--- each of these verdicts
+-- the same for each verdict of a list
 abbrev pub AreJudged : Programs → List (Ask × ℕ) → Type 0
 AreJudged programs asked = All (λ x. IsJudged programs x.0 x.1) asked
