@@ -2,8 +2,9 @@
 //!
 //! Main calls: `EventLines::submit` and `submit_at`, which put an event into the queue of its shard's worker, a tick
 //! once for each shard; `EventLines::queue`, from which its worker takes; `EventQueue::put` and `take`, for one queue.
-//! A queue holds 256 events. What the worker took is a prefix of what was put, in order. Of each operator, exactly the
-//! events that returned `Ok` were put, in its order, once each. If a queue is full (61), the event is returned.
+//! A queue holds 256 events. What the worker took is a prefix of what was put, in order. Of each operator, a queue
+//! gets exactly the items whose `put` returned `Ok`, in order, once each. If a queue is full (61), the event is
+//! returned; a tick has then reached exactly the shards before.
 #![tactic(auto)]
 
 mod item;
