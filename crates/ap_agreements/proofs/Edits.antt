@@ -11,7 +11,7 @@ module _ (ks now : List Kept) (e : ks ≡ now) (rising : IsRising ks) (a : List 
   inside : IsPlaceOf ks (a, tid) at
   inside = subst (λ (l : List Kept). IsPlaceOf l (a, tid) at) (sym e) place
 
-  -- what stands there
+  -- what is at the index
   pub got : (x : Kept) → x ≡ slice_index_or ks at x → agreement_in now a tid ≡ Some x.using
   got x f =
       subst (λ (l : List Kept). agreement_in l a tid ≡ Some x.using) e
@@ -49,6 +49,6 @@ pub not_some : (o : Option Using) → o ≡ None → IsSome o → ⊥
 not_some None e h = absurd (cc)
 not_some (Some u) e h = absurd (cc)
 
--- what was read at a place stands there
+-- what was read at an index is there
 pub read_at : (ks now : List Kept) → ks ≡ now → (at : ℕ) → at < length now → (x : Kept) → x ≡ slice_index_or ks at x → (d : Kept) → x ≡ slice_index_or now at d
 read_at ks now e at lt x f d = f ∙ ap (λ (l : List Kept). slice_index_or l at x) e ∙ get_or_default now at x d lt

@@ -1,4 +1,4 @@
--- Tables of which some agreements are left out.
+-- Tables without some of their agreements.
 use Rattle.std.proofs.Common.{◌≡◌, ℕ, ◌<◌, zero, suc, List, [], ◌∷◌, length, map, Bool, true, false, not, cond, Option, Some, None, refl, sym, ap, subst, ◌∙◌, arith, All, slice_index_or, filter}
 use Rattle.std.proofs.lemmas.Bool.{and_left}
 use Rattle.std.proofs.lemmas.List.{get_or_default}
@@ -47,7 +47,7 @@ discarded a (k ∷ ks) q t =
     left a k k.using (filter (λ k. not (same_address k.station a)) ks) ks q t (discarded a ks q t)
     (same_address k.station a) (same_address a q) (is_for q t k) refl refl refl
 
--- ---- the late ones
+-- ---- the timed-out ones
 
 pub rising_tail : (k : Kept) (ks : List Kept) → IsRising (k ∷ ks) → IsRising ks
 rising_tail k ks r i j d lt l = r (suc i) (suc j) d (omega (arith, lt)) (omega (arith, l))
@@ -80,7 +80,7 @@ module _ (clock : ℕ) where
       stays_by k ks (filter timely ks) a tid (none_again k ks r a tid) (stay ks (rising_tail k ks r) a tid)
       (is_late clock k.using) (is_for a tid k) refl refl
 
--- ---- what stands in a table
+-- ---- what is in a table
 
 in_one_more : {X : Type 0} (y : X) (xs : List X) (x : X) → Contains xs x → Contains (y ∷ xs) x
 in_one_more y xs x c = (suc c.0, omega (arith, c.1), c.2)

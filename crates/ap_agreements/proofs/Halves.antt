@@ -1,4 +1,4 @@
--- A table of which the first agreements were split.
+-- A table whose first agreements were split.
 use Rattle.std.proofs.Common.{◌≡◌, ℕ, ◌+◌, ◌<◌, ◌≤◌, suc, List, [], ◌∷◌, ◌++◌, length, take, drop, Bool, true, false, not, cond, refl, sym, ap, ◌∙◌, arith, slice_index_or, filter, drop-cons, append_assoc, count_by, length-append, add-one}
 use Rattle.std.proofs.lemmas.List.{length-take-le, append-nil, take_more}
 use Rattle.std.proofs.lemmas.List.Elements.{filter-append}
@@ -7,7 +7,7 @@ use Rattle.std.proofs.Math.Seq.{drop-append_seam, take-append_seam, drop-length,
 use Rattle.std.specs.Prelude.{remove}
 use Rattle.ap_agreements.specs.Tables.{Kept}
 
--- the first ones are done: those that pass the test moved to `ended`, and the others stand before `at`
+-- the first ones are done: those that pass the test were moved to `ended`, and the others are below `at`
 pub record Halfway (p : Kept → Bool) (all now ended : List Kept) (at : ℕ) : Type 0 where
   pub done : List Kept
   pub whole : all ≡ done ++ drop at now
@@ -73,7 +73,6 @@ module _ (p : Kept → Bool) where
   pub all_moved : (all now ended : List Kept) (at : ℕ) → Halfway p all now ended at → length now ≤ at → ended ≡ filter p all
   all_moved all now ended at h l = h.moved ∙ ap (λ (t : List Kept). filter p t) (sym (all_done all now ended at h l))
 
-  -- there is room for the next one
   pub room_for : (all now ended : List Kept) (at : ℕ) (d : Kept) → Halfway p all now ended at → at < length now → p (slice_index_or now at d) ≡ true →
       length ended < count_by p all
   room_for all now ended at d h l e =

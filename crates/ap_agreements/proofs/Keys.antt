@@ -18,7 +18,6 @@ use Rattle.ap_agreements.specs.Tables.{Kept, key_of, key_cmp, is_for}
 pub key_total : IsTotalOrder key_cmp
 key_total = then_total (on_total (λ (p : List ℕ × ℕ). p.0) nat_list_cmp_total) (on_total (λ (p : List ℕ × ℕ). p.1) nat_cmp_total)
 
--- a key is not before itself
 pub not_itself : (p q : List ℕ × ℕ) → p ≡ q → key_cmp p q ≡ Less → ⊥
 not_itself p q e h = let t = tied_itself key_total p in let s = ap (λ k. key_cmp p k) e in cc
 
@@ -27,7 +26,7 @@ both_equal Less s e = absurd (cc)
 both_equal Equal s e = (refl, e)
 both_equal Greater s e = absurd (cc)
 
--- keys that compare as equal are one
+-- keys that compare as equal are the same
 pub exact_key : (p q : List ℕ × ℕ) → key_cmp p q ≡ Equal → p ≡ q
 exact_key p q e =
     let b = both_equal (slice_cmp nat_cmp p.0 q.0) (nat_cmp p.1 q.1) e in
@@ -45,7 +44,7 @@ below_less x y Less h e = h
 below_less x y Equal h e = absurd (cc)
 below_less x y Greater h e = absurd (cc)
 
--- what comes before by the order of keys comes before by address, then TID
+-- a key that is less comes before, by address, then TID
 pub before_less : (p q : List ℕ × ℕ) → key_cmp p q ≡ Less → IsBefore p q
 before_less p q e =
     elim (less_by (slice_cmp nat_cmp p.0 q.0) (nat_cmp p.1 q.1) e) [
@@ -53,7 +52,7 @@ before_less p q e =
       | inr h ↦ inr (exact_bytes p.0 q.0 h.0, below_less p.1 q.1 (nat_cmp p.1 q.1) (ranked p.1 q.1 (nat_cmp p.1 q.1) refl) h.1)
     ]
 
--- whether an agreement is for a station and a TID
+-- an agreement for a station and a TID has their key
 pub key_is : (a : List ℕ) (tid : ℕ) (k : Kept) → is_for a tid k ≡ true → key_of k ≡ (a, tid)
 key_is a tid k e =
     let b = and_parts (same_address k.station a) (k.tid == tid) e in

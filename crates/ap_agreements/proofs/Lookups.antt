@@ -1,4 +1,4 @@
--- Looking agreements up in a table in rising order.
+-- Looking up agreements in an ordered table.
 use Rattle.std.proofs.Common.{◌≡◌, ℕ, zero, suc, List, [], ◌∷◌, ◌++◌, Bool, true, false, cond, Option, Some, None, refl, sym, ap, subst, ◌∙◌, arith, All, slice_index_or}
 use Rattle.std.specs.Prelude.{◌&&◌, ◌==◌}
 use Rattle.std.specs.declared.cmp.Ordering.TheVariants.{Less}
@@ -7,7 +7,7 @@ use Rattle.ap_agreements.specs.Tables.{Kept, key_of, key_cmp, is_for, agreement_
 use Rattle.assoc.specs.Standings.{same_address}
 use Rattle.ap_agreements.proofs.Keys.{not_itself, key_is, is_key, not_key, same_key}
 
--- an agreement of the first, or else of the second
+-- the first agreement, or else the second
 abbrev pub or_else : Option Using → Option Using → Option Using
 or_else None v = v
 or_else (Some u) v = Some u
@@ -43,7 +43,7 @@ module _ (before after : List Kept) (x : Kept) (below : All (λ k. key_cmp (key_
       ∙ ap (λ o. or_else o (agreement_in (x ∷ after) x.station x.tid)) (none_before x.station x.tid (is_key x))
       ∙ present x after x.station x.tid (is_key x)
 
-  -- one that is put in
+  -- one that is inserted
   put_by : (b : Bool) (o v : Option Using) → (b ≡ true → o ≡ None) → or_else o (cond b (Some x.using) v) ≡ cond b (Some x.using) (or_else o v)
   put_by true o v h = rw (h refl) refl
   put_by false o v h = refl
@@ -73,7 +73,7 @@ module _ (before after : List Kept) (x : Kept) (below : All (λ k. key_cmp (key_
   pub none_after : (a : List ℕ) (tid : ℕ) → is_for a tid x ≡ true → agreement_in after a tid ≡ None
   none_after a tid e = absent after a tid (λ i d l. not_key a tid (slice_index_or after i d) (λ f. not_itself (key_of x) (key_of (slice_index_or after i d)) (key_is a tid x e ∙ sym f) (above i d l)))
 
-  -- one that is taken out
+  -- one that is removed
   out_by : (b : Bool) (o v : Option Using) → (b ≡ true → o ≡ None) → (b ≡ true → v ≡ None) → or_else o v ≡ cond b None (or_else o (cond b (Some x.using) v))
   out_by true o v h g = rw (h refl, g refl) refl
   out_by false o v h g = refl
@@ -84,7 +84,7 @@ module _ (before after : List Kept) (x : Kept) (below : All (λ k. key_cmp (key_
       ∙ out_by (is_for q t x) (agreement_in before q t) (agreement_in after q t) (none_before before after x below q t) (none_after q t)
       ∙ ap (λ o. cond (is_for q t x) None o) (sym (agreement_in-append before (x ∷ after) q t))
 
--- where there is none, there is none afterwards
+-- one that is absent stays absent
 still_by : (b : Bool) (o : Option Using) → (b ≡ true → o ≡ None) → o ≡ cond b None o
 still_by true o h = h refl
 still_by false o h = refl

@@ -1,4 +1,4 @@
--- The numbers of what a window hands up.
+-- The numbers of what a window releases.
 use Rattle.std.proofs.Common.{ℕ, ◌<◌, ◌%◌, List, All, sym, subst, lit<}
 use Rattle.std.proofs.lemmas.List.Elements.{All-map}
 use Rattle.std.proofs.lemmas.Nat.{mod_below}

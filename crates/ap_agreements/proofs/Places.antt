@@ -1,4 +1,4 @@
--- Places in a table.
+-- Indices in a table.
 use Rattle.std.proofs.Common.{◌≡◌, ℕ, ◌+◌, ◌<◌, ◌≤◌, zero, suc, List, [], ◌∷◌, ◌++◌, length, take, drop, Bool, true, false, Some, None, Result, Ok, Err, refl, sym, ap, subst, ◌∙◌, arith, All, slice_index_or, drop-cons}
 use Rattle.std.proofs.lemmas.List.{take-append-drop, get_or-take, get_or-drop, length-take, length-drop}
 use Rattle.std.proofs.Common.{◌≢◌, get_or-set_same, get_or-set_other}
@@ -39,7 +39,7 @@ reversed_greater r Less e f = absurd (cc)
 reversed_greater r Equal e f = absurd (cc)
 reversed_greater r Greater e f = e
 
--- what comes after a key, it comes before
+-- if q comes after p, p comes before q
 pub turned : (p q : List ℕ × ℕ) → key_cmp q p ≡ Greater → key_cmp p q ≡ Less
 turned p q e = reversed_greater (key_cmp p q) (key_cmp q p) (key_total.antisymm p q) e
 
@@ -85,9 +85,9 @@ module _ (ks : List Kept) (key : List ℕ × ℕ) where
       let p = h (searchable rising) in
       record { inside = l; below = λ k d lt. p.0 k d (omega arith) lt; above = λ k d le lt. p.1 k d le lt }
 
--- ---- what an edit at a place makes of a table
+-- ---- how an edit at an index changes a table
 
--- the place of the agreement parts the table
+-- the agreement's index divides the table
 module _ (ks : List Kept) (rising : IsRising ks) (key : List ℕ × ℕ) (at : ℕ) (place : IsPlaceOf ks key at) (d : Kept) where
   abbrev pub the_one : Kept
   the_one = slice_index_or ks at d
@@ -125,7 +125,7 @@ module _ (ks : List Kept) (rising : IsRising ks) (key : List ℕ × ℕ) (at : �
       (subst (λ (l : List Kept). Sets l the_one.station the_one.tid (Some y.using) (take at ks ++ (y ∷ drop (suc at) ks))) parted
       (set_in (take at ks) (drop (suc at) ks) the_one lower y (e ∙ sym (place.is d)))))
 
-  -- the replacement has the key of its place, so that the table still rises
+  -- the replacement has the same key, so the table stays ordered
   key_kept : (y : Kept) → key_of y ≡ key → (i : ℕ) (e : Kept) → key_of (slice_index_or (slice_set ks at y) i e) ≡ key_of (slice_index_or ks i e)
   key_kept y f i e = key_by (i == at) refl
     where
@@ -143,7 +143,7 @@ module _ (ks : List Kept) (rising : IsRising ks) (key : List ℕ × ℕ) (at : �
       same_less (key_of (slice_index_or ks i e)) (key_of (slice_index_or ks j e)) (key_of (slice_index_or (slice_set ks at y) i e)) (key_of (slice_index_or (slice_set ks at y) j e))
       (key_kept y f i e) (key_kept y f j e) (rising i j e lt m)
 
--- ---- where an agreement would stand
+-- ---- where an agreement would be inserted
 
 module _ (ks : List Kept) (rising : IsRising ks) (key : List ℕ × ℕ) (at : ℕ) (place : IsPlaceFor ks key at) where
   none_there : (i : ℕ) (d : Kept) → i < length ks → (b : Bool) → nat_lt i at ≡ b → key_of (slice_index_or ks i d) ≡ key → ⊥

@@ -1,4 +1,4 @@
--- What becomes of an agreement at an event of its own.
+-- How an agreement changes at an event of its own.
 use Rattle.std.specs.Prelude.{◌≡◌, ℕ, Bool, true, Option, Some, List}
 use Rattle.blockack.specs.Window.{opening}
 use Rattle.blockack.specs.Scoreboard.{ReadsScoreboard, blank}
@@ -6,7 +6,7 @@ use Rattle.blockack.specs.Passed.{frame_of}
 use Rattle.blockack.specs.Reading.{Reads, DataMovesWindow, RequestMovesWindow, DataMarksScoreboard, RequestMovesScoreboard}
 use Rattle.ap_model.specs.Readings.{Using, Held}
 
--- it was opened at this time, and nothing came to it yet
+-- it was opened at this time, and nothing has come for it
 pub record Opens (start size asked now : ℕ) (u : Using) : Type 0 where
   pub sized : u.window.size ≡ size
   pub opens : Reads (opening start) u.window
@@ -22,7 +22,7 @@ pub record DataUse (took : Bool) (number : ℕ) (item : Option Held) (clock : �
   pub timeout : new.timeout ≡ old.timeout
   pub last_use : new.last_use ≡ clock
 
--- data came at this time that is passed up at once, and nothing behind it: it was taken, whatever its item is
+-- data came at this time that is passed up at once, and nothing after it: it was taken, whatever its item
 abbrev pub AloneUse : ℕ → ℕ → Using → Using → Type 0
 AloneUse number clock old new = (item : Option Held) → DataUse true number item clock old new (frame_of number (Some item))
 

@@ -14,7 +14,7 @@ use std::alloc::{AllocError, Global};
 use std::marker::Model;
 use std::mem;
 
-/// The agreements of a shard, by rising address and then TID, each once.
+/// The agreements of a shard, ordered by address and then TID, each key once.
 #[derive(Drop)]
 pub struct Agreements {
     entries: Vec<Entry>,
@@ -40,7 +40,7 @@ impl Agreements {
         }
     }
 
-    /// Makes room for one more. Where memory runs out, nothing changes.
+    /// Makes room for one more. If it fails, nothing changes.
     pub fn reserve(&mut self) -> Result<(), AllocError>
         ensures kept { self.new.kept ≡ self.old.kept }
         ensures room { OnOk result (1 ≤ self.new.room) }
@@ -50,7 +50,7 @@ impl Agreements {
         Ok(())
     }
 
-    /// Where the agreement stands, or where it would.
+    /// The index of the agreement, or the one at which it would be inserted.
     fn find(&self, station: Address, tid: Tid) -> Result<usize, usize>
         ensures found { IfOk result (IsPlaceOf self.now.kept (station, tid)) }
         ensures absent { IfErr result (IsPlaceFor self.now.kept (station, tid)) }
@@ -71,8 +71,8 @@ impl Agreements {
         }
     }
 
-    /// How many numbers the window of a station's agreement for a TID holds, those of dropped frames
-    /// among them: none without an agreement.
+    /// How many numbers the window of a station's agreement for a TID holds, dropped ones included; 0
+    /// without an agreement.
     pub fn held(&self, station: Address, tid: Tid) -> usize
         ensures is { result ≡ held_under (agreement_in self.now.kept station tid) }
         ensures fits { result ≤ 64 }
@@ -83,8 +83,8 @@ impl Agreements {
         }
     }
 
-    /// The agreement of a station for a TID, and its place. It stays there until an agreement is put
-    /// in or taken out.
+    /// The agreement of a station for a TID, and its index, which is valid until an agreement is
+    /// inserted or removed.
     pub fn get_placed(&self, station: Address, tid: Tid) -> Option<(usize, &Entry)>
         ensures { MatchOption result (agreement_in self.now.kept station tid ≡ None)
             (λ p. Stands self.now.kept station tid p.0 p.1.now) }
@@ -95,8 +95,8 @@ impl Agreements {
         }
     }
 
-    /// Data that the window of the agreement at this place wants came at this time. The window takes
-    /// its item, None where it was dropped.
+    /// Data that the window of the agreement at this index wants came at this time. The window takes
+    /// its item, `None` if it was dropped.
     pub fn take(
         &mut self,
         at: usize,
@@ -119,8 +119,8 @@ impl Agreements {
         entry.take(number, item, clock, out);
     }
 
-    /// Data that the window of the agreement at this place hands up at once, and nothing behind it,
-    /// came at this time: who calls this passes it up.
+    /// Data came at this time that the window of the agreement at this index releases at once, and
+    /// nothing after it. The caller passes it up.
     pub fn pass_alone(&mut self, at: usize, number: SequenceNumber, clock: u64)
         requires inside { at < length self.old.kept }
         requires alone { (d : Kept) → IsAlone (slice_index_or self.old.kept at d).using.window
@@ -132,7 +132,7 @@ impl Agreements {
         entry.pass_alone(number, clock);
     }
 
-    /// Data that the window of the agreement at this place doesn't want came at this time.
+    /// Data that the window of the agreement at this index doesn't want came at this time.
     pub fn leave(&mut self, at: usize, number: SequenceNumber, clock: u64)
         requires inside { at < length self.old.kept }
         requires unwanted { (d : Kept) → IsWanted (slice_index_or self.old.kept at d).using.window
@@ -144,8 +144,8 @@ impl Agreements {
         entry.leave(number, clock);
     }
 
-    /// A BlockAckReq with this start came for the agreement at this place, at this time: answers the
-    /// scoreboard afterwards, its first number and a bit for each number from there on.
+    /// A BlockAckReq with this start came at this time for the agreement at this index. Returns the
+    /// scoreboard after it: its first number, and a bit for each number from there on.
     pub fn request(
         &mut self,
         at: usize,
@@ -166,7 +166,7 @@ impl Agreements {
         entry.scoreboard()
     }
 
-    /// Takes the agreement of a station for a TID out.
+    /// Removes the agreement of a station for a TID, and returns it.
     pub fn remove(&mut self, station: Address, tid: Tid) -> Option<Entry>
         ensures was { MatchOption result (agreement_in self.old.kept station tid ≡ None)
             (λ e. (agreement_in self.old.kept station tid ≡ Some e.using)
@@ -179,7 +179,7 @@ impl Agreements {
         }
     }
 
-    /// Puts an agreement in, for which there is room, and answers the one that it replaces.
+    /// Enters an agreement, for which there must be room, and returns the one that it replaces.
     pub fn put(&mut self, entry: Entry) -> Option<Entry>
         requires { 1 ≤ self.old.room }
         ensures was { MatchOption result (agreement_in self.old.kept entry.station entry.tid ≡ None)
@@ -199,14 +199,14 @@ impl Agreements {
         }
     }
 
-    /// Drops all agreements of a station, with what they hold.
+    /// Removes all agreements of a station, and frees what they hold.
     pub fn discard(&mut self, station: Address)
         ensures { Discards self.old.kept station self.new.kept }
     {
         self.entries.retain(|entry| entry.station() != station);
     }
 
-    /// How many agreements were not used for as long as their timeouts say.
+    /// How many agreements have timed out: they have a timeout, and were unused for at least that long.
     pub fn late(&self, clock: u64) -> usize
         ensures { result ≡ count_by (λ k. is_late clock k.using) self.now.kept }
     {
@@ -216,8 +216,8 @@ impl Agreements {
             .count()
     }
 
-    /// How many numbers the windows of those agreements hold in all, those of dropped frames among
-    /// them; usize::MAX where they are more.
+    /// How many numbers the windows of the timed-out agreements hold in all, dropped ones included;
+    /// `usize::MAX` if there are more.
     pub fn late_held(&self, clock: u64) -> usize
         ensures { result ≡ min (late_held clock self.now.kept) (2 ^ 64 - 1) }
     {
@@ -230,8 +230,7 @@ impl Agreements {
         held
     }
 
-    /// Moves the agreements that were not used for as long as their timeouts say to `ended`, by
-    /// rising address and then TID.
+    /// Moves the timed-out agreements to `ended`, ordered by address and then TID.
     pub fn take_late(&mut self, clock: u64, ended: &mut Vec<Entry>)
         requires empty { ended.old.items ≡ [] }
         requires room { count_by (λ k. is_late clock k.using) self.old.kept ≤ vec_capacity
@@ -247,7 +246,7 @@ impl Agreements {
     }
 }
 
-/// Moves the late ones to `ended`.
+/// Moves the timed-out ones to `ended`.
 fn split_late(entries: &mut Vec<Entry>, clock: u64, ended: &mut Vec<Entry>)
     requires empty { ended.old.items ≡ [] }
     requires room { count_by (λ k. is_late clock k.using) entries.old.items ≤ vec_capacity

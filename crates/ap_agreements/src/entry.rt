@@ -14,18 +14,17 @@ use std::alloc::{AllocError, Global};
 use std::cmp::Ordering;
 use std::marker::Model;
 
-/// What a window hands up at once: frames with their sequence numbers, in their order.
+/// What a window releases at once: frames with their sequence numbers, in order.
 pub type Released = ArrayVec<(u16, Held), 64>;
 
-/// Whose agreement it is. They are ordered by address, and then by TID.
+/// Whose agreement it is. Keys are ordered by address, then by TID.
 #[derive(Clone, Copy, PartialEq, Eq, PartialOrd, Ord)]
 struct Key {
     station: Address,
     tid: Tid,
 }
 
-/// The agreement of a station for a TID: its window, the timeout that was asked, and when it was
-/// last used.
+/// The agreement of a station for a TID: its window, its timeout, and when it was last used.
 #[derive(Drop)]
 pub struct Entry {
     key: Key,
@@ -47,7 +46,7 @@ impl Model for Entry {
 }
 
 impl Entry {
-    /// Room for the agreement of a station for a TID, which is yet to be opened.
+    /// Allocates the agreement of a station for a TID, which is yet to be opened.
     pub fn new(alloc: Global, station: Address, tid: Tid) -> Result<Self, AllocError>
         ensures { IfOk result (λ e. key_of e ≡ (station, tid)) }
     {
@@ -60,7 +59,8 @@ impl Entry {
         })
     }
 
-    /// The same, opened anew at this time: its window starts at this number and has this size.
+    /// The same agreement, opened anew at this time: its window starts at this number and has this
+    /// size.
     pub fn opened(mut self, start: SequenceNumber, size: u8, timeout: u16, clock: u64) -> Self
         requires some { 1 ≤ size }
         requires fits { size ≤ 64 }
@@ -85,7 +85,7 @@ impl Entry {
         self.key.tid
     }
 
-    /// How its station and TID compare with others.
+    /// How its station and TID compare with these.
     pub(crate) fn compare(&self, station: Address, tid: Tid) -> Ordering
         ensures { result ≡ key_cmp (key_of self.now) (station, tid) }
     {
@@ -109,15 +109,15 @@ impl Entry {
         self.window.wants(number.number())
     }
 
-    /// How many frames data with this number passes up, at most.
+    /// The most frames that data with this number can pass up.
     pub fn most_passed(&self, number: SequenceNumber) -> usize
         ensures { result ≡ most_passed self.now.using.window number }
     {
         self.window.most_passed(number.number())
     }
 
-    /// How many numbers the window holds, those of dropped frames among them: as many frames as a
-    /// BlockAckReq or the end passes up, at most.
+    /// How many numbers the window holds, dropped ones included: the most frames that a BlockAckReq or
+    /// the end can pass up.
     pub fn held(&self) -> usize
         ensures is { result ≡ numbers_held self.now.using.window }
         ensures fits { result ≤ 64 }
@@ -125,21 +125,21 @@ impl Entry {
         self.window.held()
     }
 
-    /// Whether data with this number would be passed up at once, and nothing behind it.
+    /// Whether data with this number would be passed up at once, and nothing after it.
     pub fn passes_alone(&self, number: SequenceNumber) -> bool
         ensures { IsTrue result ↔ IsAlone self.now.using.window number }
     {
         self.window.passes_alone(number.number())
     }
 
-    /// Whether it was not used for as long as its timeout says, if it has one.
+    /// Whether it has a timeout, and was unused for at least that long.
     pub fn is_late(&self, clock: u64) -> bool
         ensures { result ≡ is_late clock self.now.using }
     {
         self.timeout > 0 && clock.saturating_sub(self.last_use) >= u64::from(self.timeout)
     }
 
-    /// Data that is wanted came at this time. The window takes its item, None where it was dropped.
+    /// Wanted data came at this time. The window takes its item, `None` if it was dropped.
     pub fn take(
         &mut self,
         number: SequenceNumber,
@@ -163,8 +163,8 @@ impl Entry {
         }
     }
 
-    /// Data came at this time that is passed up at once, and nothing behind it. The window holds
-    /// nothing of it: who calls this passes it up.
+    /// Data came at this time that is passed up at once, and nothing after it. The window doesn't hold
+    /// it; the caller passes it up.
     pub fn pass_alone(&mut self, number: SequenceNumber, clock: u64)
         requires { IsAlone self.old.using.window number }
         ensures key { key_of self.new ≡ key_of self.old }
@@ -174,7 +174,7 @@ impl Entry {
         self.window.pass_alone(number.number());
     }
 
-    /// Data that isn't wanted came at this time.
+    /// Unwanted data came at this time.
     pub fn leave(&mut self, number: SequenceNumber, clock: u64)
         requires { IsWanted self.old.using.window number → ⊥ }
         ensures key { key_of self.new ≡ key_of self.old }
@@ -203,7 +203,8 @@ impl Entry {
         self.window.on_bar(start.number(), out);
     }
 
-    /// What a BlockAck says: the scoreboard's first number, and a bit for each number from there on.
+    /// The content of a BlockAck: the scoreboard's first number, and a bit for each number from there
+    /// on.
     pub fn scoreboard(&self) -> (SequenceNumber, u64)
         ensures start { result.0 ≡ self.now.using.window.scoreboard_start }
         ensures bits { result.1 ≡ self.now.using.window.scoreboard_bits }
@@ -215,7 +216,7 @@ impl Entry {
         }
     }
 
-    /// The agreement ends: hands up all that it holds.
+    /// The agreement ends, and releases all that it holds.
     pub fn close(self, out: &mut Released)
         requires empty { array_vec_len out.old ≡ 0 }
         ensures passes { EndPassesUp self.using.window out.new.items }

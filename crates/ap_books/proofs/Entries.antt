@@ -1,19 +1,19 @@
--- What entries count, entry by entry.
+-- What entries count, one at a time.
 use Rattle.std.proofs.Common.{◌≡◌, ℕ, ◌+◌, List, [], ◌∷◌, ◌++◌, arith, refl}
 use Rattle.std.proofs.lemmas.List.Sums.{sum_by-append}
 use Rattle.std.specs.Prelude.{sum_by}
 use Rattle.ap_model.specs.Runs.{Entry}
 use Rattle.ap_books.specs.Counts.{none, plus, entry_counts, counts_in}
 
--- a sum with one more
+-- a sum with one more term
 one_more : (f : Entry → ℕ) (es : List Entry) (e : Entry) → sum_by f (es ++ e ∷ []) ≡ sum_by f es + f e
 one_more f es e = omega (arith, sum_by-append f es (e ∷ []))
 
--- no entry counts nothing
+-- the empty list counts nothing
 pub counts_in-none : counts_in [] ≡ none
 counts_in-none = refl
 
--- one entry more counts what it counts
+-- one more entry adds what it counts
 pub counts_in-one : (es : List Entry) (e : Entry) → counts_in (es ++ e ∷ []) ≡ plus (counts_in es) (entry_counts e)
 counts_in-one es e i =
     record {

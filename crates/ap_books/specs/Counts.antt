@@ -5,7 +5,7 @@ use Rattle.ap_model.specs.declared.event.Out.TheVariants.{Send, Up, Note}
 use Rattle.ap_model.specs.Runs.{Entry}
 pub use Rattle.ap_model.specs.Drops.{drops}
 
--- events that were handled, frames sent, data passed up, data verdicts that dropped, and notes given
+-- handled events, sent frames, data passed up, data verdicts that dropped, and notes
 pub record Counts : Type 0 where
   pub events : ℕ
   pub sent : ℕ
@@ -22,7 +22,7 @@ pub record Portion : Type 0 where
 abbrev pub none : Counts
 none = record { events = 0; sent = 0; up = 0; dropped = 0; notes = 0 }
 
--- both together
+-- the sum of two counts
 abbrev pub plus : Counts → Counts → Counts
 plus a b =
     record {
@@ -33,7 +33,7 @@ plus a b =
       notes = a.notes + b.notes;
     }
 
--- a portion that has counted these too
+-- a portion that has counted these in addition
 abbrev pub gains : Portion → Counts → Portion
 gains p c = record { parts = p.parts; counts = plus p.counts c }
 
@@ -55,7 +55,7 @@ is_note (Send b) = false
 is_note (Up u) = false
 is_note (Note n) = true
 
--- what one event counts, by its outs and whether a data verdict dropped
+-- what one event counts, by its outputs and whether a data verdict dropped
 abbrev pub counts_of : List Out → Bool → Counts
 counts_of outs dropped =
     record {

@@ -13,19 +13,19 @@ pub record Holding : Type 0 where
   pub of6 : Portion
   pub of7 : Portion
 
--- all portions are so
+-- P holds of all portions
 abbrev pub Each : (Portion → Type 0) → Holding → Type 0
 Each P h = P h.of0 × P h.of1 × P h.of2 × P h.of3 × P h.of4 × P h.of5 × P h.of6 × P h.of7
 
--- so many parts of each
+-- exactly n parts of each
 abbrev pub HasParts : ℕ → Holding → Type 0
 HasParts n h = Each (λ p. p.parts ≡ n) h
 
--- more parts of each than so many
+-- more than n parts of each
 abbrev pub HasMoreThan : ℕ → Holding → Type 0
 HasMoreThan n h = Each (λ p. n < p.parts) h
 
--- portion by portion, three holdings stand so
+-- P holds of three holdings, portion by portion
 abbrev pub EachOf : (Portion → Portion → Portion → Type 0) → Holding → Holding → Holding → Type 0
 EachOf P a b c =
     P a.of0 b.of0 c.of0
@@ -37,11 +37,11 @@ EachOf P a b c =
     × P a.of6 b.of6 c.of6
     × P a.of7 b.of7 c.of7
 
--- so many parts of each were given away, and what was counted stays
+-- n parts of each were split off, and the counts stayed
 abbrev pub HasSplit : ℕ → Holding → Holding → Type 0
 HasSplit n a b = EachOf (λ p q r. (r.parts + n ≡ p.parts) × (r.counts ≡ p.counts)) a a b
 
--- the parts and the counts of both, portion by portion
+-- the sum of two holdings, portion by portion
 abbrev pub HasMerged : Holding → Holding → Holding → Type 0
 HasMerged a b c =
     EachOf (λ p q r. (r.parts ≡ p.parts + q.parts) × (r.counts ≡ plus p.counts q.counts)) a b c

@@ -2,13 +2,13 @@
 use Rattle.std.specs.Prelude.{◌≡◌, ◌==◌, ℕ, if◌then◌else◌}
 use Rattle.ap_books.specs.declared.blanks.Blanks.{Blanks}
 
--- each is cut into so many parts
+-- each is divided into n parts
 abbrev pub AreInParts : ℕ → Blanks → Type 0
 AreInParts n b =
     (b.events.parts ≡ n) × (b.sent.parts ≡ n) × (b.up.parts ≡ n)
     × (b.dropped.parts ≡ n) × (b.notes.parts ≡ n)
 
--- these are their names, by the counts
+-- these are their names, by count
 abbrev pub AreNamed : (ℕ → ℕ) → Blanks → Type 0
 AreNamed f b =
     (b.events.name ≡ f 0) × (b.sent.name ≡ f 1) × (b.up.name ≡ f 2)

@@ -3,7 +3,7 @@ use Rattle.std.specs.Prelude.{◌≡◌, ◌%◌, ◌^◌}
 use Rattle.ap_books.specs.Counts.{Counts}
 use Rattle.ap_books.specs.declared.totals.Totals.{Totals}
 
--- these numbers are what the counts are mod 2 ^ 64
+-- these numbers are the counts mod 2 ^ 64
 pub record Reads (t : Totals) (c : Counts) : Type 0 where
   pub events : t.events ≡ c.events % 2 ^ 64
   pub sent : t.sent ≡ c.sent % 2 ^ 64

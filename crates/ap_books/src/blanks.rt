@@ -2,7 +2,7 @@
 
 use std::sync::ledger::Blank;
 
-/// One for each count, which no book is of yet.
+/// A ledger for each count, without a book yet.
 #[derive(Drop)]
 pub struct Blanks {
     pub events: Blank,
@@ -15,7 +15,7 @@ pub struct Blanks {
 impl Blanks {
     ghost use Rattle.ap_books.specs.Naming.{AreInParts};
 
-    /// New ledgers, each cut into so many parts.
+    /// New ledgers, each divided into this many parts.
     pub fn new(parts: u64) -> Blanks
         ensures { AreInParts parts result }
     {

@@ -11,7 +11,7 @@ use crate::totals::Totals;
 use ap_model::Out;
 use std::marker::Model;
 
-/// A book for each count of a shard. Contracts see what they have counted.
+/// A book for each count of a shard. Clauses see what they have counted.
 #[derive(Drop)]
 pub struct ShardBooks<B: Ledgers, const SHARD: usize> {
     events: Tally<CountLedger<B, SHARD, 0>>,
@@ -39,7 +39,7 @@ impl<B: Ledgers, const SHARD: usize> ShardBooks<B, SHARD> {
     ghost use Rattle.ap_books.specs.Naming.{AreNamed, AreInParts};
     ghost use Rattle.ap_books.specs.Reading.{Reads};
 
-    /// Books of new ledgers, which have counted nothing, and all their parts.
+    /// The books of new ledgers, which have counted nothing, and all their parts.
     pub fn open(blanks: Blanks) -> (ShardBooks<B, SHARD>, Shares<B, SHARD>)
         requires named { AreNamed (B.name_of SHARD) blanks }
         requires parts { AreInParts B.shares blanks }
@@ -69,8 +69,8 @@ impl<B: Ledgers, const SHARD: usize> ShardBooks<B, SHARD> {
         )
     }
 
-    /// Counts an event that was handled, by its outs and whether a data verdict dropped, in the books
-    /// and in the shares alike.
+    /// Counts a handled event in the books and in the shares, by its outputs and whether a data verdict
+    /// dropped.
     pub fn count(&mut self, mine: &mut Shares<B, SHARD>, outs: &[Out], dropped: bool)
         requires { 0 < mine.old.parts }
         ensures books { self.new ≡ plus self.old (counts_of outs.now dropped) }
@@ -83,7 +83,7 @@ impl<B: Ledgers, const SHARD: usize> ShardBooks<B, SHARD> {
         self.notes.count(&mut mine.notes, notes_in(outs) as u64);
     }
 
-    /// What the books count.
+    /// What the books have counted.
     pub fn totals(&self) -> Totals
         ensures { Reads result self.now }
     {
@@ -96,7 +96,8 @@ impl<B: Ledgers, const SHARD: usize> ShardBooks<B, SHARD> {
         }
     }
 
-    /// With all parts of the ledgers: what the books count, which is what the shares count.
+    /// Given all parts of the ledgers: what the books have counted, which is what the shares have
+    /// counted.
     pub fn read(&mut self, all: &mut Shares<B, SHARD>) -> Totals
         requires { all.old.parts ≡ B.shares }
         ensures books { self.new ≡ self.old }

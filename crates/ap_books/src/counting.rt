@@ -1,11 +1,10 @@
-//! How much an entry counts.
+//! What the outputs of an event count.
 
 ghost use Rattle.std.specs.Prelude.{◌≡◌, count_by};
 ghost use Rattle.ap_books.specs.Counts.{is_send, is_up, is_note};
 
 use ap_model::Out;
 
-/// How many frames are sent.
 pub(crate) fn sent_in(outs: &[Out]) -> usize
     ensures { result ≡ count_by is_send outs.now }
 {
@@ -14,14 +13,12 @@ pub(crate) fn sent_in(outs: &[Out]) -> usize
         .count()
 }
 
-/// How much data is passed up.
 pub(crate) fn up_in(outs: &[Out]) -> usize
     ensures { result ≡ count_by is_up outs.now }
 {
     outs.iter().filter(|out| matches!(out, Out::Up(_))).count()
 }
 
-/// How many notes are given.
 pub(crate) fn notes_in(outs: &[Out]) -> usize
     ensures { result ≡ count_by is_note outs.now }
 {

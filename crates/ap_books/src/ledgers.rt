@@ -5,8 +5,8 @@ ghost use Rattle.std.specs.Prelude.{ℕ};
 use std::marker::{Brand, PhantomData};
 use std::sync::ledger::Ledger;
 
-/// The ledgers of an access point: the name of each, by its shard and its count, and into how many
-/// parts each is cut. Each access point has a type for them.
+/// The ledgers of an access point: the name of each, by shard and count, and into how many parts
+/// each is divided. Each access point has its own type for them.
 pub trait Ledgers {
     ghost name_of: { ℕ → ℕ → ℕ };
 

@@ -1,9 +1,9 @@
-//! The books of a shard: how many events it handled, and what came of them, with shares for those who
+//! The books of a shard: how many events it handled, with what outcomes, and shares for those who
 //! count.
 //!
-//! Main calls: `ShardBooks::count` and `ShardBooks::read`. It stands on `ap_model`. Each count is a ledger
-//! of its own: what a book holds is the sum of all its shares, modulo 2^64, so the shares of all who
-//! counted give the books.
+//! Main calls: `ShardBooks::count` and `ShardBooks::read`. It depends on `ap_model`. Each count is
+//! a ledger of its own: a book holds the sum of all its shares, modulo 2^64, so all shares together
+//! give the books.
 #![tactic(auto)]
 
 mod blanks;

@@ -4,7 +4,7 @@ use crate::ledgers::Ledgers;
 use crate::shares::Shares;
 use std::marker::Model;
 
-/// Some parts of each ledger of each shard, with what they have counted. It takes no bytes.
+/// Some parts of each ledger of each shard, with what they have counted. It has no run-time data.
 #[derive(Drop)]
 pub struct Portions<B: Ledgers> {
     pub of0: Shares<B, 0>,
@@ -39,7 +39,7 @@ impl<B: Ledgers> Portions<B> {
     ghost use Rattle.ap_books.specs.Counts.{none};
     ghost use Rattle.ap_books.specs.Holdings.{HasParts, HasMoreThan, HasSplit, HasMerged, sum_of};
 
-    /// So many parts of each ledger, which have counted nothing.
+    /// Splits off this many parts of each ledger, which have counted nothing; the counts stay here.
     pub fn split_off(&mut self, parts: u64) -> Portions<B>
         requires some { 0 < parts }
         requires more { HasMoreThan parts self.old }
@@ -60,7 +60,7 @@ impl<B: Ledgers> Portions<B> {
         }
     }
 
-    /// Takes other parts in, with what they have counted.
+    /// Adds other parts, with what they have counted.
     pub fn merge(&mut self, other: Portions<B>)
         ensures { HasMerged self.old other self.new }
     {

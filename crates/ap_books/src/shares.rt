@@ -7,7 +7,7 @@ use crate::ledgers::{CountLedger, Ledgers};
 use std::marker::Model;
 use std::sync::ledger::Share;
 
-/// Equally many parts of each ledger of a shard, with what they have counted. It takes no bytes.
+/// Equally many parts of each ledger of a shard, with what they have counted. It has no run-time data.
 #[derive(Drop)]
 pub struct Shares<B: Ledgers, const SHARD: usize> {
     pub(crate) events: Share<CountLedger<B, SHARD, 0>>,
@@ -39,7 +39,7 @@ impl<B: Ledgers, const SHARD: usize> Model for Shares<B, SHARD> {
 }
 
 impl<B: Ledgers, const SHARD: usize> Shares<B, SHARD> {
-    /// So many of the parts, which have counted nothing. What was counted stays with the others.
+    /// Splits off this many parts, which have counted nothing; the counts stay here.
     pub fn split_off(&mut self, parts: u64) -> Shares<B, SHARD>
         requires some { 0 < parts }
         requires more { parts < self.old.parts }
@@ -57,7 +57,7 @@ impl<B: Ledgers, const SHARD: usize> Shares<B, SHARD> {
         }
     }
 
-    /// Takes other parts in, with what they have counted.
+    /// Adds other parts, with what they have counted.
     pub fn merge(&mut self, other: Shares<B, SHARD>)
         ensures parts { self.new.parts ≡ self.old.parts + other.parts }
         ensures counts { self.new.counts ≡ plus self.old.counts other.counts }

@@ -13,7 +13,7 @@ pub struct Tally<L: Ledger> {
 }
 
 impl<L: Ledger> Tally<L> {
-    /// A book of a new ledger, which has counted nothing, and all its parts.
+    /// The book of a new ledger, which has counted nothing, and all its parts.
     pub(crate) fn open(blank: Blank) -> (Tally<L>, Share<L>)
         requires name { blank.name ≡ L.name }
         requires parts { blank.parts ≡ L.parts }
@@ -25,7 +25,7 @@ impl<L: Ledger> Tally<L> {
         (Tally { number: 0, book }, share)
     }
 
-    /// Counts in the book and in a share alike.
+    /// Counts in the book and in a share.
     pub(crate) fn count(&mut self, mine: &mut Share<L>, more: u64)
         requires { 0 < mine.old.parts }
         ensures book { self.new.book.total ≡ self.old.book.total + more }
@@ -37,14 +37,15 @@ impl<L: Ledger> Tally<L> {
         *number = number.wrapping_add(more);
     }
 
-    /// What the book counts, mod 2^64.
+    /// What the book has counted, mod 2^64.
     pub(crate) fn number(&self) -> u64
         ensures { result ≡ self.now.book.total % 2 ^ 64 }
     {
         self.number
     }
 
-    /// With all parts of the ledger, the number is what the shares count.
+    /// Given all parts of the ledger: what the book has counted, mod 2^64, which is what the share has
+    /// counted.
     pub(crate) fn read(&mut self, all: &mut Share<L>) -> u64
         requires { all.old.parts ≡ L.parts }
         ensures number { result ≡ all.old.amount % 2 ^ 64 }

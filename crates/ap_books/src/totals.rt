@@ -17,7 +17,7 @@ impl Totals {
     ghost use Rattle.ap_books.specs.Counts.{Counts, none, plus};
     ghost use Rattle.ap_books.specs.Reading.{Reads};
 
-    /// Nothing.
+    /// Zeros.
     pub fn new() -> Totals
         ensures { Reads result none }
     {
@@ -30,8 +30,7 @@ impl Totals {
         }
     }
 
-    /// Both together: where these are what two lots of counts are mod 2^64, so is the answer of their
-    /// sum.
+    /// The sum: if these are two counts mod 2^64, it is their sum mod 2^64.
     pub fn and(self, other: Totals) -> Totals
         ensures { (x y : Counts) → Reads self x → Reads other y → Reads result (plus x y) }
     {

@@ -109,7 +109,7 @@ module _ {S : Type 0} (R : S → Ask → ℕ → S → Type 0) (shards : List Sh
   set_back : y ≡ x → slice_set shards at y ≡ shards
   set_back same = ap (λ (z : Shard). slice_set shards at z) same ∙ set-get_or shards at d
 
-  -- one that is refused there
+  -- an event that is refused there
   pub refused_there : y ≡ x → j2 ≡ j → RunsOne R shards e j None (slice_set shards at y) j2
   refused_there same stays =
       subst (λ (k : S). RunsOne R shards e j None (slice_set shards at y) k) (sym stays)
@@ -224,7 +224,6 @@ module _ (units : ℕ) (old new : List Shard) (outs : List Out) (p : TickedBelow
         rules = λ s. rules_at d s (nat_lt s 8) refl;
       }
 
--- one of eight
 one_of : (shards : List Shard) → length shards ≡ 8 → Shard
 one_of [] e = absurd (omega arith)
 one_of (x ∷ xs) e = x
@@ -236,7 +235,6 @@ pub tick_runs : {S : Type 0} (R : S → Ask → ℕ → S → Type 0) (j : S) (u
 tick_runs R j units old later None e l = subst (λ (t : List Shard). RunsOne R old (event.Tick units) j None t j) (sym e) (refused_one R old (event.Tick units) j)
 tick_runs R j units old later (Some outs) p l = all_ticked units old later outs.items p l (p.many ∙ l) R j (one_of old l)
 
--- each shard has a history
 pub have_histories : (shards : List Shard) → length shards ≡ 8 → (s : ℕ) → s < 8 → ∥ History (rules_of shards s) (readings_of shards s) ∥₁
 have_histories shards eight s lt =
     let inside : s < length shards = omega (arith, eight, lt) in

@@ -30,7 +30,7 @@ module _ (c : Rules) (r r2 : Readings) (a : List ℕ) (q : Request) (bytes conte
         moves = moves;
       })
 
-  -- one that it refuses
+  -- one that the hook refuses
   pub refused_by : (association_status verdict ≢ 0) → outs ≡ association_answer c a q.again (association_status verdict) 0 ∷ [] →
       Associates c r a q ((record { hook = hook.Association; frame = bytes; context = context }, verdict) ∷ []) outs r
   refused_by z e =
@@ -43,11 +43,11 @@ module _ (c : Rules) (r r2 : Readings) (a : List ℕ) (q : Request) (bytes conte
         stays = unchanged _;
       })
 
--- a frame that takes a station somewhere
+-- a frame that changes a station's standing
 pub departed : (r r2 : Readings) (a : List ℕ) (s : Standing) (outs : List Out) → outs ≡ [] → Moves r a s r2 → Departs r a s [] outs r2
 departed r r2 a s outs e m = record { settles = record { silent = refl; is = e }; moves = m }
 
--- a class 2 frame is permitted to known stations alone
+-- class 2 frames are permitted only to known stations
 pub known_from_class : (s : Standing) → class_answer s Two ≡ Permitted → IsSome s
 known_from_class None e = cc
 known_from_class (Some k) e = refl

@@ -1,4 +1,4 @@
--- What the status that answers an authentication tells.
+-- What the status of an authentication reply implies.
 use Rattle.std.proofs.Common.{◌≡◌, ℕ, List, ◌⊎◌, arith}
 use Rattle.std.specs.Prelude.{IsSome}
 use Rattle.assoc.specs.Standings.{IsFull}

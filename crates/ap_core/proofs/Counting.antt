@@ -1,4 +1,4 @@
--- The stations that hold identifiers, counted.
+-- Counting the stations that hold identifiers.
 use Rattle.std.proofs.Common.{◌≡◌, ◌≢◌, ℕ, zero, suc, ◌+◌, ◌*◌, ◌/◌, ◌≤◌, cond, Option, Some, None, List, [], ◌∷◌, length, refl, sym, ap, ◌∙◌, subst, arith}
 use Rattle.std.specs.Prelude.{Contains, AllPairs, count_by, is_some, slice_index_or}
 use Rattle.std.proofs.lemmas.List.Elements.{All-contains_itself}
@@ -8,7 +8,7 @@ use Rattle.assoc.specs.declared.standing.Known.TheVariants.{Authenticated, Assoc
 use Rattle.assoc.specs.Standings.{Standing, Linked, standing, state_of, HoldsAsTheyStand, associated_count}
 use Rattle.ap_model.specs.Stations.{AreAssociated}
 
--- who holds an identifier
+-- the stations that hold identifiers
 held : List (Option (List ℕ)) → List (List ℕ)
 held [] = []
 held (None ∷ xs) = held xs
@@ -37,7 +37,7 @@ place_of (None ∷ xs) a c = let r = place_of xs a c in (suc r.0, r.1)
 place_of (Some b ∷ xs) a (zero, l, e) = (0, ap (λ (x : List ℕ). Some x) e)
 place_of (Some b ∷ xs) a (suc k, l, e) = let r = place_of xs a (k, omega (arith, l), e) in (suc r.0, r.1)
 
--- nobody holds two
+-- no station holds two
 abbrev HeldOnce : List (Option (List ℕ)) → Type 0
 HeldOnce xs = (i j : ℕ) (a : List ℕ) → slice_index_or xs i None ≡ Some a → slice_index_or xs j None ≡ Some a → i ≡ j
 
@@ -73,7 +73,7 @@ module _ (v : Linked) (h : HoldsAsTheyStand v) where
   held_by a (Some Authenticated) e three = absurd (omega (arith, three))
   held_by a (Some (Associated n)) e three = held_at v.holders a (n / 8) (h.holds a n e)
 
-  -- as many stations are associated as identifiers are held
+  -- the number of associated stations is the number of identifiers held
   pub are_associated : AreAssociated (standing v) (associated_count v)
   are_associated =
       record {

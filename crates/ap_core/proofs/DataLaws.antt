@@ -37,18 +37,18 @@ pub asked_with : (r : Readings) (a : List ℕ) (p : Packet) (o : Option Using) (
 asked_with r a p None bytes context e1 e2 e3 = rw (e1, e2, e3) refl
 asked_with r a p (Some u) bytes context e1 e2 e3 = rw (e1, e2, e3) refl
 
--- what the hook is told of it
+-- the hook's context for it
 pub told : (d : DataFrame) (start : Option ℕ) (st : Standings) → IsRead st d →
     contexts.data_context d.frame.sender d.standing d.tid d.number start ≡ contexts.data_context d.frame.sender (st d.frame.sender) d.tid d.number start
 told d start st read = ap (λ s. contexts.data_context d.frame.sender s d.tid d.number start) read.standing
 
--- data whose verdict was asked so
+-- data with this verdict
 pub judged : (st : Standings) (p : Packet) (start : Option ℕ) (bytes context : List ℕ) (verdict : ℕ) (outs : List Out) → bytes ≡ spelling p.frame →
     context ≡ contexts.data_context p.frame.sender (st p.frame.sender) p.tid p.number start → outs ≡ let_through p.frame.sender p (data_verdict verdict) →
     IsJudged st p start ((record { hook = hook.Data; frame = bytes; context = context }, verdict) ∷ []) outs
 judged st p start bytes context verdict outs e1 e2 e3 = record { verdict = verdict; asks = rw (e1, e2) refl; is = e3 }
 
--- a place that holds nothing is that of a frame that is dropped
+-- an empty item means that the frame is dropped
 pub held_nothing : (destination body : List ℕ) (verdict : ℕ) (o : Option Held) (dropped : Bool) →
     o ≡ held_item destination body (data_verdict verdict) → is_some o ≡ not dropped → dropped ≡ drops_by hook.Data verdict
 held_nothing destination body verdict o dropped e none = by_verdict (data_verdict verdict) dropped (sym (ap is_some e) ∙ none)
@@ -71,13 +71,13 @@ delivered r p asked outs none j =
       stays = unchanged _;
     })
 
--- what is let through at once is what a window passes up that hands up this frame alone
+-- passing a frame up at once is what a window does that releases this frame alone
 pub alone_ups : (p : Packet) (tid : ℕ) (v : DataVerdict) → p.tid ≡ Some tid →
     let_through p.frame.sender p v ≡ ups p.frame.sender tid (frame_of p.number (Some (item p v)))
 alone_ups p tid (Pass mark) is_tid = ap (λ t. up p.frame.sender p.destination t p.number mark p.frame.tail ∷ []) is_tid
 alone_ups p tid Discard is_tid = refl
 
--- what the window takes of it
+-- what the window takes for it
 pub item_is : (p : Packet) (v : DataVerdict) → held_item p.destination p.frame.tail v ≡ item p v
 item_is p (Pass mark) = refl
 item_is p Discard = refl
@@ -106,7 +106,7 @@ module _ (r r2 : Readings) (p : Packet) (tid : ℕ) (u v : Using) (is_tid : p.ti
         agrees = subst (λ (w : Using). Agrees r p.frame.sender tid (Some w) r2) (using_is v u.timeout r.clock uses.timeout uses.last_use) agrees;
       })
 
-  -- data that it leaves
+  -- data that the window doesn't take
   pub left_so : (outs : List Out) → (IsWanted u.window p.number → ⊥) → DataUse false p.number None r.clock u v [] → outs ≡ [] →
       Agrees r p.frame.sender tid (Some v) r2 → DataComes r p.frame.sender p [] outs r2
   left_so outs unwanted uses e agrees =

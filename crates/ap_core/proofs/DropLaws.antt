@@ -1,4 +1,4 @@
--- Frames other than data, of which no ask drops data.
+-- Frames other than data, whose queries never drop data.
 use Rattle.std.proofs.Common.{◌≡◌, ℕ, Bool, true, false, List, [], sym, ap}
 use Rattle.mac_frame.specs.declared.content.Management.{Management}
 use Rattle.mac_frame.specs.declared.content.Management.TheVariants as management
@@ -13,7 +13,7 @@ use Rattle.ap_model.specs.Steps.{ManagementComes, DelbaComes}
 use Rattle.ap_core.specs.Telling.{Tells}
 use Rattle.ap_core.proofs.Handling.{told_undropped}
 
--- nothing was asked
+-- without queries
 unasked : (asked : List (Ask × ℕ)) → asked ≡ [] → false ≡ drops asked
 unasked asked e = ap drops (sym e)
 

@@ -17,7 +17,7 @@ passes_some a tid o u passed e h = subst (λ (p : Option Using). PassesHeld a ti
 pub passes_none : (a : List ℕ) (tid : ℕ) (o : Option Using) → o ≡ None → PassesHeld a tid o []
 passes_none a tid o e = subst (λ (p : Option Using). PassesHeld a tid p []) (sym e) none_held
 
--- one that is there
+-- an agreement that exists
 pub ended_so : (r r2 : Readings) (a : List ℕ) (tid : ℕ) (u : Using) (last outs : List Out) (passed : List (ℕ × Held)) → r.agreement a tid ≡ Some u →
     EndPassesUp u.window passed → outs ≡ ups a tid passed ++ last → Agrees r a tid None r2 → Ends r a tid last [] outs r2
 ended_so r r2 a tid u last outs passed g ends e agrees =
@@ -28,7 +28,7 @@ ended_so r r2 a tid u last outs passed g ends e agrees =
       agrees = agrees;
     }
 
--- one that is not there
+-- one that doesn't exist
 pub not_ended : (r r2 : Readings) (a : List ℕ) (tid : ℕ) (last outs : List Out) → r.agreement a tid ≡ None → outs ≡ [] → Agrees r a tid None r2 → Ends r a tid last [] outs r2
 not_ended r r2 a tid last outs g e agrees =
     record {

@@ -13,13 +13,12 @@ use Rattle.ap_model.specs.Agreements.{ups, up_held}
 pub length-rates_text : (rates : List ℕ) → length rates ≤ 8 → length (rates_text rates) ≤ 12
 length-rates_text rates few = let e = ap length (append-nil rates) in omega arith
 
--- what is passed up of one more
+-- what is passed up with one more
 pub ups-more : (a : List ℕ) (tid : ℕ) (xs : List (ℕ × Held)) (n : ℕ) (h : Held) → ups a tid (xs ++ (n, h) ∷ []) ≡ ups a tid xs ++ up_held a tid n h
 ups-more a tid [] n h = append-nil (up_held a tid n h)
 ups-more a tid (x ∷ xs) n h =
     ap (λ (t : List Out). up_held a tid x.0 x.1 ++ t) (ups-more a tid xs n h) ∙ sym (append_assoc (up_held a tid x.0 x.1) (ups a tid xs) (up_held a tid n h))
 
--- a held frame, passed up
 abbrev pub as_up : List ℕ → ℕ → ℕ → List ℕ × ℕ × List ℕ → Up
 as_up a tid n h = record { source = a; destination = h.0; tid = Some tid; number = n; mark = h.1; body = h.2 }
 
@@ -31,7 +30,7 @@ pub none_up_is : (a : List ℕ) (tid n : ℕ) (h : Held) → None ≡ option_map
 none_up_is a tid n None e = refl
 none_up_is a tid n (Some h) e = absurd (cc)
 
--- what a list of images contains
+-- the members of a list of images
 module _ {X Y : Type 0} (f : X → Y) where
   one_later : (x : X) (xs : List X) (y : Y) → ((z : X) × Contains xs z × (f z ≡ y)) → (z : X) × Contains (x ∷ xs) z × (f z ≡ y)
   one_later x xs y g = (g.0, (suc g.1.0, omega (arith, g.1.1), g.1.2), g.2)
@@ -41,7 +40,7 @@ module _ {X Y : Type 0} (f : X → Y) where
   image_at (x ∷ xs) y zero l e = (x, (zero, omega arith, refl), e)
   image_at (x ∷ xs) y (suc n) l e = one_later x xs y (image_at xs y n (omega (arith, l)) e)
 
-  -- an image is one of an element
+  -- each member is the image of an element
   pub image_of : (xs : List X) (y : Y) → Contains (map f xs) y → (z : X) × Contains xs z × (f z ≡ y)
   image_of xs y c = image_at xs y c.0 c.1 c.2
 
@@ -50,7 +49,7 @@ module _ {X Y : Type 0} (f : X → Y) where
   into_image_at (z ∷ xs) x zero l e = (zero, omega arith, ap f e)
   into_image_at (z ∷ xs) x (suc n) l e = let c = into_image_at xs x n (omega (arith, l)) e in (suc c.0, omega (arith, c.1), c.2)
 
-  -- and that of an element is in the list
+  -- the image of each element is a member
   pub into_image : (xs : List X) (x : X) → Contains xs x → Contains (map f xs) (f x)
   into_image xs x c = into_image_at xs x c.0 c.1 c.2
 

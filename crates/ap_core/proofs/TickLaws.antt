@@ -1,4 +1,4 @@
--- Time that passes.
+-- Passing time.
 use Rattle.std.proofs.Common.{◌≡◌, ℕ, suc, ◌+◌, ◌-◌, ◌^◌, ◌≤◌, min, Bool, true, false, cond, Option, Some, None, List, [], ◌∷◌, ◌++◌, map, refl, sym, ap, subst, ◌∙◌, arith, append_assoc, length, length-append}
 use Rattle.std.proofs.lemmas.List.{append-nil}
 use Rattle.std.proofs.lemmas.Bool.{and_parts}
@@ -38,7 +38,7 @@ module _ (c : Rules) where
       (passes_some k.station k.tid (r.agreement k.station k.tid) k.using passed (h k (0, omega arith, refl)) e)
       (in_turn r t (λ x m. h x (suc m.0, omega (arith, m.1), m.2)))
 
--- what came out so far
+-- the outputs so far
 pub record Ending (c : Rules) (all : List Kept) (old : List Out) (yielded rest : List Kept) (now : List Out) : Type 0 where
   pub parts : all ≡ yielded ++ rest
   pub more : List Out
@@ -69,7 +69,7 @@ all_ended c all old yielded rest now p e =
     let f : all ≡ yielded = p.parts ∙ ap (λ (t : List Kept). yielded ++ t) e ∙ append-nil yielded in
     record { more = p.more; ends = subst (λ (t : List Kept). EndInOrder c t p.more) (sym f) p.ends; is = p.outs }
 
--- ---- whose timeout is over
+-- ---- which agreements have timed out
 
 module _ (c : Rules) (r : Readings) (clock : ℕ) (u : Using) where
   timed : is_late clock u ≡ true → IsTimedOut c r clock u

@@ -1,4 +1,4 @@
--- A data frame that came, and what is made of it.
+-- A received data frame, and how it is handled.
 use Rattle.std.specs.Prelude.{◌≡◌, ◌≤◌, ℕ, Bool, Option, Some, List}
 use Rattle.bpf_regions.specs.declared.hooks.Hook.TheVariants as hook
 use Rattle.mac_frame.specs.Spelling.{spelling}
@@ -22,12 +22,12 @@ use Rattle.ap_core.specs.Telling.{Tells}
 abbrev pub packet : DataFrame → Packet
 packet d = record { frame = d.frame; destination = d.destination; tid = d.tid; number = d.number }
 
--- its bytes spell it, and its sender stands so
+-- its bytes spell it, and this is its sender's standing
 pub record IsRead (st : Standings) (d : DataFrame) : Type 0 where
   pub spelled : d.bytes ≡ spelling d.frame
   pub standing : d.standing ≡ st d.frame.sender
 
--- its agreement stands there, and this holds of its window and its number
+-- its agreement is at that index, and P holds of its window and its number
 pub record IsUnder (ks : List Kept) (d : DataFrame) (under : Under) (P : Reading Held → ℕ → Type 0) : Type 0 where
   pub tid : d.tid ≡ Some under.tid
   pub kept : Kept
@@ -35,21 +35,21 @@ pub record IsUnder (ks : List Kept) (d : DataFrame) (under : Under) (P : Reading
   pub starts : under.start ≡ kept.using.window.start
   pub is : P kept.using.window d.number
 
--- the window wants data with this sequence number, which passes up no more frames than this
+-- the window wants data with this sequence number, which passes up at most this many frames
 pub record IsWantedFor (most : ℕ) (window : Reading Held) (number : ℕ) : Type 0 where
   pub wanted : IsWanted window number
   pub few : most_passed window number ≤ most
 
--- the verdict on it is asked with its window's start, and lets it through or drops it
+-- its verdict is asked for with this window start, and passes it up or drops it
 pub record IsJudged (st : Standings) (p : Packet) (start : Option ℕ) (asked : List (Ask × ℕ)) (outs : List Out) : Type 0 where
   pub verdict : ℕ
   pub asks : Asks (record { hook = hook.Data; frame = spelling p.frame; context = contexts.data_context p.frame.sender (st p.frame.sender) p.tid p.number start }) verdict asked
   pub is : outs ≡ let_through p.frame.sender p (data_verdict verdict)
 
--- so, by the judge
+-- the same, with the judge's verdict
 abbrev pub JudgesData : {S : Type 0} → (S → Ask → ℕ → S → Type 0) → State → DataFrame → Option ℕ → S → List Out → Bool → S → Type 0
 JudgesData R s d start j outs dropped j2 = Tells R (IsJudged (standing s.link) (packet d) start) j outs dropped j2
 
--- data came, by the judge's verdict
+-- data came, with the judge's verdict
 abbrev pub HandlesData : {S : Type 0} → (S → Ask → ℕ → S → Type 0) → State → DataFrame → S → List Out → Bool → State → S → Type 0
 HandlesData R s d j outs dropped s2 j2 = Tells R (λ asked outs. DataComes (reading s) d.frame.sender (packet d) asked outs (reading s2)) j outs dropped j2

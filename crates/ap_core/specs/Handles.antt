@@ -1,4 +1,4 @@
--- What an event is to a shard and a judge.
+-- How a shard handles an event, with a judge.
 use Rattle.std.specs.Prelude.{◌≡◌, ℕ, List, [], ◌∷◌, ◌++◌, Option, Some, None}
 use Rattle.assoc.specs.Standings.{Linked, standing}
 use Rattle.assoc.specs.Classes.{class_of}
@@ -19,23 +19,23 @@ use Rattle.ap_core.specs.declared.state.Came.{Came}
 use Rattle.ap_core.specs.declared.management.Asked.{Asked}
 use Rattle.ap_core.specs.declared.setups.SetupRequest.{SetupRequest}
 
--- what a shard's state is of its history
+-- the readings in a shard's state
 abbrev pub reading : State → Readings
 reading s = record { standing = standing s.link; agreement = agreement_in s.agreements.kept; clock = s.clock }
 
--- what a shard is made with: its number and the configuration
+-- a shard's number and configuration
 abbrev pub rules : ℕ → Config → Rules
 rules shard config = record { shard = shard; config = config }
 
--- the same in a setting
+-- the same, from a setting
 abbrev pub ruled_by : Setting → State → Rules
 ruled_by setting s = rules s.link.shard setting.config.now
 
--- who sent a frame that came
+-- the sender of a received frame
 abbrev pub sender : Came → List ℕ
 sender came = came.frame.sender
 
--- its bytes spell it, and this is its class and where its sender stands
+-- its bytes spell it, and these are its class and its sender's standing
 pub record IsRead (link : Linked) (came : Came) : Type 0 where
   pub spelled : came.bytes ≡ spelling came.frame
   pub class : came.class ≡ class_of (content_subtype came.frame.content)
@@ -51,7 +51,7 @@ pub record PassesAll (k : Kept) (old new : List Out) : Type 0 where
   pub ends : EndPassesUp k.using.window passed
   pub is : new ≡ old ++ ups k.station k.tid passed
 
--- how many numbers an agreement that is replaced holds, none where none is
+-- how many numbers a replaced agreement holds; 0 if none is replaced
 abbrev pub held_replaced : Option Kept → ℕ
 held_replaced None = 0
 held_replaced (Some k) = numbers_held k.using.window
@@ -65,7 +65,7 @@ held_item destination body Discard = None
 abbrev pub setup : SetupRequest → Setup
 setup asked = record { frame = asked.came.now.frame; token = asked.token; parameters = asked.parameters; timeout = asked.timeout; start = asked.start }
 
--- a request that is granted: what comes out, and the agreement
+-- a granted request: its outputs, and the agreement
 pub record IsGranted (c : Rules) (r : Readings) (a : List ℕ) (s : Setup) (size : ℕ) (outs : List Out) (r2 : Readings) : Type 0 where
   pub first : List Out
   pub passes : PassesHeld a s.parameters.tid (r.agreement a s.parameters.tid) first

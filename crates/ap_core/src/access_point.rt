@@ -12,7 +12,6 @@ use ap_model::{Event, Judge, LinkConfig, Out};
 use mac_frame::Address;
 use std::alloc::{AllocError, Global};
 
-/// The shard of an address.
 fn shard_of_address(station: Address) -> usize
     ensures is { result ≡ shard_of_address station }
     ensures fits { result < 8 }
@@ -21,7 +20,7 @@ fn shard_of_address(station: Address) -> usize
     usize::from(last % 8)
 }
 
-/// The shard of a frame's sender, 0 where the bytes are too short to name one.
+/// The shard of a frame's sender; 0 if the bytes are too short to name one.
 fn shard_of_bytes(bytes: &[u8]) -> usize
     ensures is { result ≡ shard_of_bytes bytes.now }
     ensures fits { result < 8 }
@@ -32,8 +31,8 @@ fn shard_of_bytes(bytes: &[u8]) -> usize
     }
 }
 
-/// The shard that an event concerns: a frame that of its sender, which bytes too short to name one
-/// leave at shard 0, an operator's command that of its station. None for a tick, which concerns all.
+/// The shard that an event concerns: of a frame its sender's, or 0 if the bytes are too short to
+/// name one; of an operator's command its station's. `None` for a tick, which concerns all.
 pub fn shard_of(event: &Event) -> Option<usize>
     ensures is { result ≡ shard_of event.now }
     ensures fits { IfSome result (λ s. s < 8) }
@@ -46,7 +45,7 @@ pub fn shard_of(event: &Event) -> Option<usize>
     }
 }
 
-/// Eight shards of an access point that have handled nothing, each at the place of its number.
+/// Eight shards of an access point that have handled nothing, each at the index of its number.
 pub fn new_shards(alloc: Global, config: &LinkConfig) -> Result<[Shard; 8], AllocError>
     ensures fresh { IfOk result (AreFresh config.now) }
     ensures place { IfOk result (λ shards. InPlace (rules_of shards)) }
@@ -65,13 +64,13 @@ pub fn new_shards(alloc: Global, config: &LinkConfig) -> Result<[Shard; 8], Allo
     ])
 }
 
-/// Tells a proof that each of these shards has a history, and does nothing.
+/// Proves that each of these shards has a history; does nothing at run time.
 pub fn known_shards(shards: &[Shard; 8])
     ensures { (s : ℕ) → s < 8 → ∥ History (rules_of shards.now s) (readings_of shards.now s) ∥₁ }
 {}
 
-/// Ticks the first `count` shards, whose outs have room then, and as many outs beside them. All
-/// growths are made first, from the last shard down.
+/// Ticks the first `count` shards. The list has capacity for their outputs and `beside` more.
+/// Everything is allocated first, from the last shard down.
 fn tick_below(
     alloc: Global,
     shards: &mut [Shard; 8],
@@ -99,7 +98,7 @@ fn tick_below(
     Ok(outs)
 }
 
-/// A tick of all eight shards, or of none.
+/// Ticks all eight shards, or none.
 fn tick_all(alloc: Global, shards: &mut [Shard; 8], units: u32) -> Option<Vec<Out>>
     ensures { MatchOption result (shards.new ≡ shards.old)
         (λ outs. TickedBelow 8 units shards.old shards.new outs.items) }
@@ -110,7 +109,7 @@ fn tick_all(alloc: Global, shards: &mut [Shard; 8], units: u32) -> Option<Vec<Ou
     }
 }
 
-/// An event at its shard. None where it is refused for memory.
+/// Handles an event at its shard. `None` if it is refused for lack of memory.
 fn handle_at<J: Judge>(
     alloc: Global,
     shards: &mut [Shard; 8],
@@ -130,7 +129,7 @@ fn handle_at<J: Judge>(
     }
 }
 
-/// An event, at the shards that it concerns. None where it is refused for memory.
+/// Handles an event at the shards that it concerns. `None` if it is refused for lack of memory.
 fn handle_one<J: Judge>(
     alloc: Global,
     shards: &mut [Shard; 8],
@@ -157,20 +156,19 @@ fn handle_one<J: Judge>(
     }
 }
 
-/// Handles events in their order, each at the shard that it concerns: a frame at that of its sender,
-/// which bytes too short to name one leave at shard 0, an operator's command at its station's, and a
-/// tick at all eight, by rising shard, or at none. What came out of each is listed; None stands where
-/// an event was refused for memory, which changed nothing and asked nothing. Where the list itself
-/// is refused, no event is handled.
+/// Handles events in order, each at the shard that it concerns (`shard_of`); a tick at all eight
+/// shards, or at none. Lists the outputs of each, those of a tick ordered by shard. `None` is an
+/// event that was refused for lack of memory, which changed nothing and asked for no verdict. If
+/// allocating the list fails, no event is handled.
 pub fn handle_all<J: Judge>(
     alloc: Global,
     shards: &mut [Shard; 8],
     events: &[Event],
     judge: &mut J,
 ) -> Result<Vec<Option<Vec<Out>>>, AllocError>
-    // Shard s stands at place s.
+    // Shard s is at index s.
     requires place { InPlace (rules_of shards.old) }
-    // The outs and the verdicts of each shard are a run of the link, from its readings on.
+    // The outputs and verdicts of each shard are a run of the link, from its readings.
     ensures run { IfOk result
         (λ results. RunsAll J.gives shards.old events.now judge.old (outs_in results.items)
         shards.new judge.new) }

@@ -13,10 +13,10 @@ use ap_model::{LinkConfig, Out};
 use mac_frame::{Address, MacFrame, Reason, Tid};
 use std::alloc::{AllocError, Global};
 
-/// The note of an operator's command that names an unknown station.
+/// The note for an operator's command that names an unknown station.
 pub(crate) const UNKNOWN_STATION: u8 = 63;
 
-/// A DELBA of the originator.
+/// Handles a DELBA of the originator.
 pub(crate) fn on_delba(
     alloc: Global,
     state: &mut State,
@@ -71,7 +71,6 @@ fn close(
     }
 }
 
-/// The operator ends an agreement.
 pub(crate) fn on_close(
     alloc: Global,
     state: &mut State,

@@ -1,4 +1,4 @@
-//! Shards that have handled nothing, made two by two: where a growth is refused, few are given up.
+//! Shards that have handled nothing, made in pairs: if an allocation fails, few have to be freed.
 
 ghost use Rattle.std.specs.Prelude.{◌+◌, ◌<◌, IfOk};
 ghost use Rattle.ap_core.specs.AccessPoints.{IsFresh};
@@ -7,21 +7,20 @@ use crate::shard::Shard;
 use ap_model::LinkConfig;
 use std::alloc::{AllocError, Global};
 
-/// The shard of a number, and that of the next.
+/// The shard of a number, and that of the next number.
 #[derive(Drop)]
 pub(crate) struct Two {
     pub(crate) first: Shard,
     pub(crate) second: Shard,
 }
 
-/// The shards of four numbers, one after another.
+/// The shards of four consecutive numbers.
 #[derive(Drop)]
 pub(crate) struct Four {
     pub(crate) low: Two,
     pub(crate) high: Two,
 }
 
-/// Two shards that have handled nothing.
 fn new_two(alloc: Global, number: u16, config: &LinkConfig) -> Result<Two, AllocError>
     requires { number < 7 }
     ensures first { IfOk result (λ t. IsFresh config.now number t.first) }
@@ -32,7 +31,6 @@ fn new_two(alloc: Global, number: u16, config: &LinkConfig) -> Result<Two, Alloc
     Ok(Two { first, second })
 }
 
-/// Four shards that have handled nothing.
 pub(crate) fn new_four(alloc: Global, number: u16, config: &LinkConfig) -> Result<Four, AllocError>
     requires { number < 5 }
     ensures first { IfOk result (λ f. IsFresh config.now number f.low.first) }

@@ -1,10 +1,10 @@
-//! The core of the access point: what each event leads to.
+//! The core of the access point: handles its events.
 //!
 //! Main calls: `Shard::handle`, `Shard::handle_with_drop`, and `handle_all` over eight shards. It
-//! stands on `ap_agreements`. A shard's type keeps that its readings are what its history leads to.
-//! `handle` is one step of the link, with the outs that the relation gives, or a refusal for memory
-//! that changes nothing and asks no judge. `handle_with_drop` also tells whether a verdict dropped
-//! data.
+//! depends on `ap_agreements`. A shard's type guarantees that a history leads to its readings.
+//! `handle` is one step of the link, with the relation's outputs, or a refusal for lack of memory
+//! that changes nothing and asks no judge. `handle_with_drop` also returns whether a verdict
+//! dropped data.
 #![tactic(auto)]
 
 mod access_point;

@@ -19,7 +19,6 @@ use hooks::{Asker, assoc_verdict, association_context};
 use mac_frame::{AidField, Capability, ElementsBuf, MacFrame, Status};
 use std::alloc::AllocError;
 
-/// The status that answers an authentication.
 fn authentication_status(state: &State, asker: Asker, algorithm: u16, transaction: u16) -> Status
     requires { asker.standing ≡ standing state.now.link asker.station }
     ensures { AuthenticationStatus (reading state.now) asker.station algorithm transaction result }
@@ -41,7 +40,6 @@ fn authentication_status(state: &State, asker: Asker, algorithm: u16, transactio
     }
 }
 
-/// An authentication.
 pub(crate) fn on_authentication(
     setting: Setting<'_>,
     state: &mut State,
@@ -69,7 +67,7 @@ pub(crate) fn on_authentication(
     Ok(room.send(&answer))
 }
 
-/// An association or reassociation request that came, and what is read of it beside its elements.
+/// A received association or reassociation request, and its fields other than elements.
 #[derive(Clone, Copy)]
 pub(crate) struct Asked<'a, 'b> {
     pub(crate) came: &'a Came<'b>,
@@ -79,7 +77,7 @@ pub(crate) struct Asked<'a, 'b> {
     pub(crate) again: bool,
 }
 
-/// Whether a request asks for an infrastructure network and has rates.
+/// Whether a request asks for an infrastructure network and lists rates.
 fn suits(asked: &Asked<'_, '_>) -> bool
     ensures { IsTrue result ↔ Suits (request asked.now) }
 {
@@ -98,7 +96,6 @@ fn names(config: &LinkConfig, asked: &Asked<'_, '_>) -> bool
     }
 }
 
-/// The answer to a request.
 fn response(
     config: &LinkConfig,
     asked: &Asked<'_, '_>,
@@ -120,14 +117,13 @@ fn response(
     MacFrame::association_response(station, bssid, status, aid, rates)
 }
 
-/// Room for an answer, and the rates that it has.
+/// Memory for a response, and the rates in it.
 #[derive(Drop)]
 struct AnswerRoom {
     room: Room,
     rates: ElementsBuf,
 }
 
-/// Refuses a request.
 fn refuse(room: AnswerRoom, config: &LinkConfig, asked: &Asked<'_, '_>, status: Status) -> Vec<Out>
     requires rates { room.rates ≡ rates_text config.now.rates }
     requires few { length config.now.rates ≤ 8 }
@@ -138,7 +134,7 @@ fn refuse(room: AnswerRoom, config: &LinkConfig, asked: &Asked<'_, '_>, status: 
     room.room.send(&answer)
 }
 
-/// What the hook is told of a request.
+/// The hook's context for a request.
 fn context_of(asked: &Asked<'_, '_>) -> Context
     ensures { result ≡ contexts.association_context (sender asked.now.came.now)
         asked.now.came.now.standing asked.now.capability asked.now.listen_interval
@@ -151,7 +147,7 @@ fn context_of(asked: &Asked<'_, '_>) -> Context
     association_context(asker, asked.capability, asked.listen_interval, asked.again)
 }
 
-/// Answers a request, for which all room is made.
+/// Answers a request, with all memory already allocated.
 fn answer_request<J: Judge>(
     state: &mut State,
     config: &LinkConfig,
@@ -190,7 +186,8 @@ fn answer_request<J: Judge>(
     room.room.send(&answer)
 }
 
-/// An association or reassociation request. All growths are made before the verdict is asked.
+/// Handles an association or reassociation request. Everything is allocated before the verdict is
+/// asked for.
 pub(crate) fn on_association<J: Judge>(
     setting: Setting<'_>,
     state: &mut State,

@@ -1,5 +1,5 @@
-//! Stations that move from one state to another (IEEE 802.11-2016, 11.3): their agreements are
-//! discarded, with what they hold.
+//! Stations that change state (IEEE 802.11-2016, 11.3): their agreements are discarded, with what
+//! they hold.
 
 ghost use Rattle.std.specs.Prelude.{◌≡◌, ◌⊎◌, OnOk, OnErr, None, Some, IsSome};
 ghost use Rattle.assoc.specs.declared.standing.Known.{Known};
@@ -11,7 +11,7 @@ use crate::state::State;
 use mac_frame::Address;
 use std::alloc::AllocError;
 
-/// It is authenticated. Where memory runs out nothing changes.
+/// The station becomes authenticated. If that fails, nothing changes.
 pub(crate) fn authenticate(state: &mut State, station: Address) -> Result<(), AllocError>
     requires { IsSome (standing state.old.link station) ⊎ (IsFull (standing state.old.link) → ⊥) }
     ensures moves { OnOk result
@@ -24,7 +24,6 @@ pub(crate) fn authenticate(state: &mut State, station: Address) -> Result<(), Al
     Ok(())
 }
 
-/// It is associated, with this identifier.
 pub(crate) fn associate(state: &mut State, station: Address, aid: u16)
     requires known { IsSome (standing state.old.link station) }
     requires free { IsFree state.old.link.shard (standing state.old.link) station aid }
@@ -36,7 +35,7 @@ pub(crate) fn associate(state: &mut State, station: Address, aid: u16)
     state.agreements.discard(station);
 }
 
-/// It is disassociated.
+/// A known station falls to State 2.
 pub(crate) fn disassociate(state: &mut State, station: Address)
     ensures moves { Moves (reading state.old) station
         (disassociated (standing state.old.link station)) (reading state.new) }
@@ -46,7 +45,7 @@ pub(crate) fn disassociate(state: &mut State, station: Address)
     state.agreements.discard(station);
 }
 
-/// It is deauthenticated: unknown from now on.
+/// The station becomes unknown.
 pub(crate) fn deauthenticate(state: &mut State, station: Address)
     ensures moves { Moves (reading state.old) station None (reading state.new) }
     ensures shard { state.new.link.shard ≡ state.old.link.shard }

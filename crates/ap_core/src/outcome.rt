@@ -1,8 +1,8 @@
-//! What comes of an event.
+//! The outcome of an event.
 
 use ap_model::Out;
 
-/// What comes of an event: its outs, and whether a verdict dropped data.
+/// The outcome of an event: its outputs, and whether a verdict dropped data.
 #[derive(Drop)]
 pub struct Outcome {
     pub outs: Vec<Out>,

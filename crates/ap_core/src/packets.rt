@@ -21,7 +21,7 @@ use hooks::{Asker, DataVerdict, data_context, data_verdict};
 use mac_frame::{Address, MacFrame, SequenceNumber, Tid};
 use std::alloc::{AllocError, Global};
 
-/// A data frame that came: its grammar, its bytes, what is read of it, and where its sender stands.
+/// A received data frame: as parsed, its bytes, its fields, and its sender's standing.
 #[derive(Drop)]
 pub(crate) struct DataFrame<'a> {
     pub(crate) frame: MacFrame,
@@ -32,7 +32,7 @@ pub(crate) struct DataFrame<'a> {
     pub(crate) standing: Standing,
 }
 
-/// What the hook is told of data, whose agreement's window starts so.
+/// The hook's context for data, with the start of its agreement's window.
 fn context_of(came: &DataFrame<'_>, start: Option<SequenceNumber>) -> Context
     ensures { result ≡ contexts.data_context came.now.frame.sender came.now.standing came.now.tid
         came.now.number start }
@@ -44,8 +44,8 @@ fn context_of(came: &DataFrame<'_>, start: Option<SequenceNumber>) -> Context
     data_context(asker, came.tid, came.number, start)
 }
 
-/// Data that is passed up at once, unless its verdict drops it: all growths are made before the
-/// verdict is asked.
+/// Passes data up at once, unless its verdict drops it. Everything is allocated before the verdict
+/// is asked for.
 fn deliver<J: Judge>(
     alloc: Global,
     state: &State,
@@ -87,7 +87,7 @@ fn deliver<J: Judge>(
     }
 }
 
-/// Data without an agreement.
+/// Handles data without an agreement.
 pub(crate) fn on_plain_data<J: Judge>(
     alloc: Global,
     state: &State,
@@ -105,7 +105,7 @@ pub(crate) fn on_plain_data<J: Judge>(
     Ok(outcome)
 }
 
-/// Where the agreement of a data frame stands: its place, its TID and its window's first number.
+/// The agreement of a data frame: its index, its TID and its window's first number.
 #[derive(Clone, Copy)]
 pub(crate) struct Under {
     pub(crate) at: usize,
@@ -113,15 +113,14 @@ pub(crate) struct Under {
     pub(crate) start: SequenceNumber,
 }
 
-/// Where the agreement stands whose window wants a data frame, and how many frames it then passes
-/// up at most.
+/// An agreement whose window wants a data frame, and the most frames that the window then passes up.
 #[derive(Clone, Copy)]
 struct Wanted {
     under: Under,
     most: usize,
 }
 
-/// Data that its agreement's window hands up at once, and nothing behind it.
+/// Handles data that its agreement's window releases at once, and nothing after it.
 fn on_data_alone<J: Judge>(
     alloc: Global,
     state: &mut State,
@@ -144,7 +143,7 @@ fn on_data_alone<J: Judge>(
     Ok(outcome)
 }
 
-/// What a window takes in place of the frame: nothing where it is dropped.
+/// What a window takes for the frame: nothing if the verdict drops it.
 fn item_of(verdict: u64, destination: Address, body: Octets) -> Option<Held>
     ensures { result ≡ held_item destination body (data_verdict verdict) }
 {
@@ -154,7 +153,8 @@ fn item_of(verdict: u64, destination: Address, body: Octets) -> Option<Held>
     }
 }
 
-/// Data that its agreement's window wants: all growths are made before the verdict is asked.
+/// Handles data that its agreement's window wants. Everything is allocated before the verdict is
+/// asked for.
 fn on_wanted_data<J: Judge>(
     alloc: Global,
     state: &mut State,
@@ -190,7 +190,6 @@ fn on_wanted_data<J: Judge>(
     Ok(Outcome { outs, dropped })
 }
 
-/// QoS data.
 pub(crate) fn on_qos_data<J: Judge>(
     alloc: Global,
     state: &mut State,

@@ -1,4 +1,4 @@
-//! What a window hands up, passed up.
+//! Passing up what a window releases.
 
 ghost use Rattle.std.specs.Prelude.{◌≡◌, ℕ, MatchOption, ◌+◌, ◌<◌, ◌≤◌, ◌++◌, All, vec_len, vec_capacity, List};
 ghost use Rattle.arrayvec.specs.ArrayVec.{array_vec_len};
@@ -10,7 +10,6 @@ use ap_agreements::{Entry, Released};
 use ap_model::{Held, Out};
 use mac_frame::{Address, SequenceNumber, Tid};
 
-/// Passes up a frame that was held.
 fn push_held(station: Address, tid: Tid, number: u16, held: Held, outs: &mut Vec<Out>)
     requires number { number < 4096 }
     requires room { vec_len outs.old < vec_capacity outs.old }
@@ -28,7 +27,7 @@ fn push_held(station: Address, tid: Tid, number: u16, held: Held, outs: &mut Vec
     }
 }
 
-/// Passes up what a window handed up.
+/// Passes up what a window released.
 pub(crate) fn pass_up(station: Address, tid: Tid, passed: Released, outs: &mut Vec<Out>)
     requires numbers { All (λ p. p.0 < 4096) passed.items }
     requires room { vec_len outs.old + array_vec_len passed ≤ vec_capacity outs.old }
@@ -42,7 +41,7 @@ pub(crate) fn pass_up(station: Address, tid: Tid, passed: Released, outs: &mut V
     }
 }
 
-/// An agreement ends: passes up all that it held.
+/// Passes up all that an ending agreement held.
 pub(crate) fn pass_all(entry: Entry, outs: &mut Vec<Out>)
     requires { vec_len outs.old + numbers_held entry.using.window ≤ vec_capacity outs.old }
     ensures passes { PassesAll entry outs.old.items outs.new.items }
@@ -56,7 +55,7 @@ pub(crate) fn pass_all(entry: Entry, outs: &mut Vec<Out>)
     pass_up(station, tid, passed, outs);
 }
 
-/// The same, if an agreement was replaced.
+/// The same for a replaced agreement, if there is one.
 pub(crate) fn pass_replaced(replaced: Option<Entry>, outs: &mut Vec<Out>)
     requires { vec_len outs.old + held_replaced replaced ≤ vec_capacity outs.old }
     ensures passes { MatchOption replaced (outs.new.items ≡ outs.old.items)

@@ -1,4 +1,4 @@
-//! Bytes that came.
+//! Received bytes.
 
 ghost use Rattle.std.specs.Prelude.{◌≡◌, ℕ, [], ◌∷◌, IfOk, IfErr};
 ghost use Rattle.ap_model.specs.declared.event.Out.{Out};
@@ -18,10 +18,9 @@ use bpf_regions::Frame;
 use mac_frame::{FrameFault, MacFrame, parse};
 use std::alloc::{AllocError, Global};
 
-/// The note of a frame for another access point, or from a group.
+/// The note for a frame for another access point, or from a group address.
 const NOT_OURS: u8 = 56;
 
-/// A note, and nothing else.
 fn noted(alloc: Global, number: u8) -> Result<Vec<Out>, AllocError>
     ensures { IfOk result (λ outs. outs.items ≡ Out.Note number ∷ []) }
 {
@@ -29,7 +28,7 @@ fn noted(alloc: Global, number: u8) -> Result<Vec<Out>, AllocError>
     Ok(room.note(number))
 }
 
-/// Bytes that were not read: want of memory, or the note of their fault.
+/// The note of the fault, for bytes that weren't read. Fails if memory ran out.
 fn unread(alloc: Global, fault: FrameFault) -> Result<Vec<Out>, AllocError>
     ensures { IfOk result (λ outs. IsNoted fault outs.items) }
 {
@@ -42,7 +41,7 @@ fn unread(alloc: Global, fault: FrameFault) -> Result<Vec<Out>, AllocError>
     }
 }
 
-/// A frame for this access point.
+/// Handles a frame for this access point.
 fn check<J: Judge>(
     setting: Setting<'_>,
     state: &mut State,
@@ -85,7 +84,7 @@ fn check<J: Judge>(
     }
 }
 
-/// A frame of the grammar.
+/// Handles a well-formed frame.
 fn on_frame<J: Judge>(
     setting: Setting<'_>,
     state: &mut State,
@@ -125,7 +124,6 @@ fn on_frame<J: Judge>(
     Ok(outcome)
 }
 
-/// Bytes that came.
 pub(crate) fn receive<J: Judge>(
     alloc: Global,
     state: &mut State,

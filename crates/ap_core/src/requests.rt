@@ -1,4 +1,4 @@
-//! BlockAckReq (IEEE 802.11-2016, 10.24.7.6.3): what the window passes up, and then the BlockAck.
+//! BlockAckReq (IEEE 802.11-2016, 10.24.7.6.3): what the window passes up, then the BlockAck.
 
 ghost use Rattle.std.specs.Prelude.{◌≡◌, [], IfOk, IfErr};
 ghost use Rattle.ap_model.specs.Agreements.{RequestComes};
@@ -12,7 +12,7 @@ use ap_model::Out;
 use mac_frame::{Address, MacFrame, SequenceNumber, Tid};
 use std::alloc::AllocError;
 
-/// A BlockAckReq of a station. Without an agreement it leads to nothing.
+/// Handles a station's BlockAckReq, which leads to nothing without an agreement.
 pub(crate) fn on_request(
     setting: Setting<'_>,
     state: &mut State,

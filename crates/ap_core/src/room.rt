@@ -1,4 +1,4 @@
-//! Room for what an event leads to, made before the event is handled.
+//! Memory for the outputs of an event, allocated before the event is handled.
 
 ghost use Rattle.std.specs.Prelude.{◌≡◌, ◌≤◌, ◌<◌, [], ◌∷◌, length, vec_len, vec_capacity};
 ghost use Rattle.ap_model.specs.declared.event.Out.{Out};
@@ -8,10 +8,10 @@ use ap_model::{Octets, Out};
 use mac_frame::{LONGEST_HEAD, MacFrame, write};
 use std::alloc::{AllocError, Global};
 
-/// The longest tail of a frame that is sent: a rates element.
+/// The longest tail of a sent frame: a rates element.
 const LONGEST_TAIL: usize = 12;
 
-/// Room for a frame that is sent.
+/// Memory for a frame to send.
 #[derive(Drop)]
 pub(crate) struct FrameRoom {
     bytes: Vec<u8>,
@@ -19,7 +19,7 @@ pub(crate) struct FrameRoom {
     ghost a_frame: { 46 ≤ vec_capacity bytes },
 }
 
-/// Room for one out, and for the frame that it may send.
+/// Memory for one output, and for the frame that it may send.
 #[derive(Drop)]
 pub(crate) struct Room {
     outs: Vec<Out>,
@@ -34,7 +34,7 @@ impl FrameRoom {
         Ok(FrameRoom { bytes })
     }
 
-    /// The frame is sent.
+    /// The output that sends the frame.
     pub(crate) fn send(self, frame: &MacFrame) -> Out
         requires { length frame.now.tail ≤ 12 }
         ensures { result ≡ sends frame.now }
@@ -47,7 +47,7 @@ impl FrameRoom {
     }
 }
 
-/// The list with this out, for which there is room.
+/// A list with this output, in place of the empty one that has capacity for it.
 pub(crate) fn with_out(outs: Vec<Out>, out: Out) -> Vec<Out>
     requires empty { vec_len outs ≡ 0 }
     requires room { 1 ≤ vec_capacity outs }
@@ -65,7 +65,7 @@ impl Room {
         Ok(Room { outs, frame })
     }
 
-    /// A frame is sent.
+    /// The output that sends a frame, alone.
     pub(crate) fn send(self, frame: &MacFrame) -> Vec<Out>
         requires { length frame.now.tail ≤ 12 }
         ensures { result.items ≡ sends frame.now ∷ [] }

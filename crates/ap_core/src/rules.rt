@@ -1,4 +1,4 @@
-//! Which rule a frame falls under.
+//! Dispatches a frame to its rule.
 
 ghost use Rattle.std.specs.Prelude.{◌≡◌, ◌≢◌, ℕ, ◌↔◌, IsTrue, IfOk, IfErr, [], ◌∷◌, None, Some, IsSome};
 ghost use Rattle.mac_frame.specs.Spelling.{management_subtype};
@@ -27,7 +27,7 @@ use hooks::Asker;
 use mac_frame::{Address, Content, Control, DataKind, MacFrame, Management, SequenceNumber};
 use std::alloc::{AllocError, Global};
 
-/// Whether a frame is for this access point, and its sender is no group.
+/// Whether a frame is for this access point, and its sender isn't a group address.
 pub(crate) fn is_ours(config: &LinkConfig, frame: &MacFrame) -> bool
     ensures { (shard : ℕ) → (IsTrue result ↔ IsOurs (rules shard config.now) frame.now) }
 {
@@ -39,7 +39,7 @@ pub(crate) fn is_ours(config: &LinkConfig, frame: &MacFrame) -> bool
     frame.receiver() == bssid && named && !frame.sender().is_group()
 }
 
-/// A management frame of class 1: it asks nothing.
+/// A management frame of class 1, which asks for no verdict.
 fn on_class_one(
     setting: Setting<'_>,
     state: &mut State,
@@ -72,7 +72,7 @@ fn on_class_one(
     }
 }
 
-/// A management frame of class 2, of a station that is known.
+/// A management frame of class 2, from a known station.
 fn on_class_two<J: Judge>(
     setting: Setting<'_>,
     state: &mut State,
@@ -126,7 +126,7 @@ fn on_class_two<J: Judge>(
     }
 }
 
-/// A management frame of class 3: what it says of an agreement.
+/// A management frame of class 3, which concerns an agreement.
 fn on_class_three<J: Judge>(
     setting: Setting<'_>,
     state: &mut State,
@@ -174,7 +174,7 @@ fn on_class_three<J: Judge>(
     }
 }
 
-/// A management frame that its class permits.
+/// A management frame of a permitted class.
 fn on_management<J: Judge>(
     setting: Setting<'_>,
     state: &mut State,
@@ -210,7 +210,7 @@ fn on_management<J: Judge>(
     }
 }
 
-/// A control frame that its class permits.
+/// A control frame of a permitted class.
 fn on_control(
     setting: Setting<'_>,
     state: &mut State,
@@ -233,7 +233,7 @@ fn on_control(
     }
 }
 
-/// What is read of a data frame.
+/// The fields of a data frame.
 #[derive(Clone, Copy)]
 struct DataHead {
     destination: Address,
@@ -241,7 +241,7 @@ struct DataHead {
     kind: DataKind,
 }
 
-/// A data frame that its class permits.
+/// A data frame of a permitted class.
 fn on_data_kind<J: Judge>(
     alloc: Global,
     state: &mut State,
@@ -309,7 +309,7 @@ fn on_data_kind<J: Judge>(
     }
 }
 
-/// A frame that its class permits.
+/// Handles a frame of a permitted class.
 pub(crate) fn follow<J: Judge>(
     setting: Setting<'_>,
     state: &mut State,

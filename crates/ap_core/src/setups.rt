@@ -19,7 +19,7 @@ use hooks::{Asker, addba_context, addba_verdict};
 use mac_frame::{BlockAckParameters, BlockAckPolicy, BufferSize, MacFrame, SequenceNumber, Status};
 use std::alloc::AllocError;
 
-/// An ADDBA request that came, and what it asks for.
+/// A received ADDBA request, and what it asks for.
 #[derive(Clone, Copy)]
 pub(crate) struct SetupRequest<'a, 'b> {
     pub(crate) came: &'a Came<'b>,
@@ -29,7 +29,7 @@ pub(crate) struct SetupRequest<'a, 'b> {
     pub(crate) start: SequenceNumber,
 }
 
-/// Room for a grant: for its outs, for the frame that answers, and for the agreement.
+/// Memory for a grant: for its outputs, the response and the agreement.
 #[derive(Drop)]
 struct GrantRoom {
     outs: Vec<Out>,
@@ -37,7 +37,7 @@ struct GrantRoom {
     entry: Entry,
 }
 
-/// The answer to a request: the size is 0 where it is declined.
+/// The response to a request; its size is 0 in a refusal.
 fn answer(
     setting: Setting<'_>,
     request: &SetupRequest<'_, '_>,
@@ -68,7 +68,7 @@ fn answer(
     )
 }
 
-/// What the hook is told of a request.
+/// The hook's context for a request.
 fn context_of(request: &SetupRequest<'_, '_>) -> Context
     ensures { result ≡ contexts.addba_context (sender request.now.came.now)
         request.now.came.now.standing request.now.parameters.tid
@@ -88,7 +88,7 @@ fn context_of(request: &SetupRequest<'_, '_>) -> Context
     )
 }
 
-/// Grants a request, for which all room is made: an agreement that is there is replaced, and all
+/// Grants a request, with all memory already allocated: an existing agreement is replaced, and all
 /// that it held is passed up first.
 fn grant(
     setting: Setting<'_>,
@@ -121,7 +121,7 @@ fn grant(
     outs
 }
 
-/// A request for an immediate policy: all growths are made before the verdict is asked.
+/// Handles a request for an immediate policy. Everything is allocated before the verdict is asked for.
 fn on_immediate<J: Judge>(
     setting: Setting<'_>,
     state: &mut State,
@@ -158,7 +158,7 @@ fn on_immediate<J: Judge>(
     }
 }
 
-/// A request for a delayed policy is declined, and no verdict is asked.
+/// Declines a request for a delayed policy, without asking for a verdict.
 fn decline(setting: Setting<'_>, request: &SetupRequest<'_, '_>) -> Result<Vec<Out>, AllocError>
     ensures { IfOk result
         (λ outs. (shard : ℕ) → outs.items ≡ setup_answer (rules shard setting.entry.config.now)
@@ -169,7 +169,6 @@ fn decline(setting: Setting<'_>, request: &SetupRequest<'_, '_>) -> Result<Vec<O
     Ok(room.send(&answer))
 }
 
-/// An ADDBA request.
 pub(crate) fn on_setup<J: Judge>(
     setting: Setting<'_>,
     state: &mut State,

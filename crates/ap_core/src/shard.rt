@@ -17,8 +17,8 @@ use assoc::Link;
 use mac_frame::{Address, MacFrame, Reason};
 use std::alloc::{AllocError, Global};
 
-/// A shard of an access point's link. What its steps read of the past is what some run of the link
-/// leaves that began with nobody.
+/// A shard of an access point's link. Some run of the link that began with no stations leads to its
+/// readings.
 #[derive(Drop)]
 pub struct Shard {
     state: State,
@@ -26,7 +26,7 @@ pub struct Shard {
     ghost history: { ∥ History (rules state.link.shard config) (reading state) ∥₁ },
 }
 
-/// What a shard keeps that has handled nothing.
+/// The state of a shard that has handled nothing.
 fn opened(alloc: Global, shard: u16) -> State
     requires { shard < 8 }
     ensures shard { result.link.shard ≡ shard }
@@ -60,7 +60,7 @@ impl Shard {
         Ok(Shard { state, config })
     }
 
-    /// Tells a proof that the shard has a history, and that its number is below 8, and does nothing.
+    /// Proves that the shard has a history, and that its number is below 8; does nothing at run time.
     pub fn known(&self)
         ensures history { ∥ History (ruled self.now) (reads self.now) ∥₁ }
         ensures shard { (ruled self.now).shard < 8 }
@@ -84,9 +84,9 @@ impl Shard {
         self.state.link.associated()
     }
 
-    /// Handles an event that concerns this shard (`shard_of`, or a tick): what comes out is one step of
-    /// the link. Of an event that concerns another shard too it is a step of this one, by what this
-    /// one knows. An event that is refused for memory changes nothing and asks nothing.
+    /// Handles an event that concerns this shard (`shard_of`, or a tick), as one step of the link. An
+    /// event that concerns another shard is handled too, as a step of this one by its readings. An
+    /// event that is refused for lack of memory changes nothing and asks for no verdict.
     pub fn handle<J: Judge>(
         &mut self,
         alloc: Global,
@@ -103,7 +103,7 @@ impl Shard {
         Ok(outs)
     }
 
-    /// Handles an event as `handle` does, and tells beside its outs whether a verdict dropped data.
+    /// Handles an event as `handle` does, and also returns whether a verdict dropped data.
     pub fn handle_with_drop<J: Judge>(
         &mut self,
         alloc: Global,
@@ -145,21 +145,21 @@ impl Shard {
         }
     }
 
-    /// Makes room for a tick.
+    /// Allocates the memory for a tick, except its outputs.
     pub(crate) fn tick_room(&self, alloc: Global, units: u32) -> Result<TickRoom, AllocError>
         ensures { IfOk result (λ room. HasRoom self.now.state units room) }
     {
         tick_room(alloc, &self.state, units)
     }
 
-    /// How many outs a tick leads to, at most; usize::MAX where they are more.
+    /// The most outputs that a tick can have; `usize::MAX` if there are more.
     pub(crate) fn most_outs(&self, units: u32) -> usize
         ensures { result ≡ min (late_outs self.now.state units) (2 ^ 64 - 1) }
     {
         most_outs(&self.state, units)
     }
 
-    /// Time passes, for which all room is made.
+    /// Time passes, with all memory already allocated.
     pub(crate) fn tick(&mut self, alloc: Global, units: u32, room: TickRoom, outs: &mut Vec<Out>)
         requires room { HasRoom self.old.state units room }
         requires outs { vec_len outs.old + late_outs self.old.state units ≤ vec_capacity outs.old }
@@ -174,7 +174,6 @@ impl Shard {
         tick(setting, &mut self.state, units, room, outs);
     }
 
-    /// Time passes.
     fn on_tick(&mut self, alloc: Global, units: u32) -> Result<Vec<Out>, AllocError>
         ensures step { IfOk result
             (λ outs. Step (ruled self.old) (reads self.old) (Event.Tick units) [] outs.items

@@ -1,4 +1,4 @@
-//! What a shard keeps of its history, and what its rules work with.
+//! What a shard keeps of its history, and what its rules need.
 
 use ap_agreements::Agreements;
 use ap_model::LinkConfig;
@@ -7,7 +7,7 @@ use bpf_regions::Frame;
 use mac_frame::MacFrame;
 use std::alloc::Global;
 
-/// Where the stations stand, the agreements, and the sum of the ticks so far, at most 2^64 - 1.
+/// The stations' standing, the agreements, and the sum of the ticks so far, at most 2^64 - 1.
 #[derive(Drop)]
 pub(crate) struct State {
     pub(crate) link: Link,
@@ -15,14 +15,14 @@ pub(crate) struct State {
     pub(crate) clock: u64,
 }
 
-/// What the rules of a shard work with, whatever comes.
+/// What all rules of a shard need.
 #[derive(Clone, Copy)]
 pub(crate) struct Setting<'a> {
     pub(crate) alloc: Global,
     pub(crate) config: &'a LinkConfig,
 }
 
-/// A frame that came: what its grammar reads, its bytes, its class, and where its sender stands.
+/// A received frame: as parsed, its bytes, its class, and its sender's standing.
 #[derive(Drop)]
 pub(crate) struct Came<'a> {
     pub(crate) frame: MacFrame,

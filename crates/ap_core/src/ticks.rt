@@ -1,6 +1,5 @@
-//! Time: the agreements that were not used for as long as their timeouts say end (IEEE 802.11-2016,
-//! 11.5.4). All growths of a tick are made before it, so that several shards tick together or not
-//! at all.
+//! Time: the agreements that time out end (IEEE 802.11-2016, 11.5.4). A tick's memory is allocated
+//! before it, so several shards tick together or not at all.
 
 ghost use Rattle.std.specs.Prelude.{◌≡◌, ℕ, ◌+◌, ◌-◌, ◌^◌, min, ◌≤◌, ◌<◌, List, [], ◌∷◌, ◌++◌, IfOk, OnOk, OnErr, vec_len, vec_capacity, length};
 ghost use Rattle.ap_model.specs.declared.event.Out.{Out};
@@ -17,21 +16,19 @@ use ap_model::{LinkConfig, Out};
 use mac_frame::{MacFrame, Reason};
 use std::alloc::{AllocError, Global};
 
-/// What a tick needs beside its outs, for the agreements that end.
+/// What a tick needs beside its list of outputs, for the agreements that end.
 #[derive(Drop)]
 pub(crate) struct TickRoom {
     ended: Vec<Entry>,
     frames: Vec<FrameRoom>,
 }
 
-/// The sum of the ticks after this one.
 fn clock_after(state: &State, units: u32) -> u64
     ensures { result ≡ clock_after state.now units }
 {
     state.clock.saturating_add(u64::from(units))
 }
 
-/// Room for as many frames.
 fn frame_rooms(alloc: Global, count: usize) -> Result<Vec<FrameRoom>, AllocError>
     ensures { IfOk result (λ frames. vec_len frames ≡ count) }
 {
@@ -43,7 +40,7 @@ fn frame_rooms(alloc: Global, count: usize) -> Result<Vec<FrameRoom>, AllocError
     Ok(frames)
 }
 
-/// Makes room for a tick.
+/// Allocates the memory for a tick, except its outputs.
 pub(crate) fn tick_room(alloc: Global, state: &State, units: u32) -> Result<TickRoom, AllocError>
     ensures { IfOk result (λ room. HasRoom state.now units room) }
 {
@@ -53,8 +50,8 @@ pub(crate) fn tick_room(alloc: Global, state: &State, units: u32) -> Result<Tick
     Ok(TickRoom { ended, frames })
 }
 
-/// How many outs a tick leads to, at most: the frames that the agreements hold which end, and a
-/// DELBA for each. usize::MAX where they are more, for which memory has no room.
+/// The most outputs that a tick can have: the frames that the ending agreements hold, and a DELBA
+/// for each. `usize::MAX` if there are more, for which no allocation succeeds.
 pub(crate) fn most_outs(state: &State, units: u32) -> usize
     ensures { result ≡ min (late_outs state.now units) (2 ^ 64 - 1) }
 {
@@ -63,7 +60,7 @@ pub(crate) fn most_outs(state: &State, units: u32) -> usize
     held.saturating_add(state.agreements.late(clock))
 }
 
-/// Ends an agreement: all that it held is passed up, and then its DELBA is sent.
+/// Ends an agreement: passes up all that it held, then sends its DELBA.
 fn end_one(alloc: Global, config: &LinkConfig, entry: Entry, frame: FrameRoom, outs: &mut Vec<Out>)
     requires { vec_len outs.old + (numbers_held entry.using.window + 1) ≤ vec_capacity outs.old }
     ensures ends { (shard : ℕ) → EndsOne (rules shard config.now) entry outs.old.items
@@ -101,7 +98,7 @@ fn end_all(
     }
 }
 
-/// Time passes, for which all room is made.
+/// Time passes, with all memory already allocated.
 pub(crate) fn tick(
     setting: Setting<'_>,
     state: &mut State,

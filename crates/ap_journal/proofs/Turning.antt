@@ -14,7 +14,7 @@ first_home cells n kept =
     let some : 0 < length cells = omega (arith, kept.counted) in
     (some, kept.home 0 some ∙ lt-ltb 0 n kept.begun)
 
--- the same words, with the first written again
+-- the same words, with the first rewritten
 pub same_turns : (cells : List Cell) (n value : ℕ) → HasTurns cells n → value ≡ (cell cells 0).0 → HasTurns (set cells 0 (value, true)) n
 same_turns [] n value kept is = absurd (omega (arith, kept.counted))
 same_turns (first ∷ others) n value kept is = record {
@@ -28,7 +28,7 @@ same_turns (first ∷ others) n value kept is = record {
     home zero within = sym (lt-ltb 0 n kept.begun)
     home (suc k) within = kept.home (suc k) within
 
--- a word that was added stands last, and is away
+-- an added word is the last, and is away
 added_away : (others : List Cell) (n k : ℕ) → k < length others + 1 → n ≤ length others + 1
     → ((j : ℕ) → j < length others → (cell others j).1 ≡ nat_lt (suc j) n) → (b : Bool) → nat_lt k (length others) ≡ b
     → (cell (others ++ (0, false) ∷ []) k).1 ≡ nat_lt (suc k) n
@@ -57,7 +57,7 @@ more_turns (first ∷ others) n value kept is =
         added_away others n k (omega (arith, length-append others ((0, false) ∷ []))) (omega (arith, kept.ahead))
         (λ j small. kept.home (suc j) (omega arith)) (nat_lt k (length others)) refl
 
--- the word of the turn that was taken is home
+-- the word of the used turn is at home
 turn_home : (cells : List Cell) (n k value j : ℕ) → HasTurns cells n → k < length cells → k ≡ n → j < length cells
     → (b : Bool) → (j == k) ≡ b → (cell (set cells k (value, true)) j).1 ≡ nat_lt j (n + 1)
 turn_home cells n k value j kept in_cells last within true is =
@@ -67,7 +67,7 @@ turn_home cells n k value j kept in_cells last within false is =
     let apart : j ≢ k = grind (arith, nat_tests) in
     ap (λ (c : Cell). c.1) (get_or-set_other cells k j (value, true) (0, false) apart) ∙ (kept.home j within ∙ grind (arith, nat_tests))
 
--- the words after the next turn was taken
+-- the words after the next turn was used
 pub turn_taken : (cells : List Cell) (n k value : ℕ) → HasTurns cells n → k < length cells → k ≡ n → HasTurns (set cells k (value, true)) (n + 1)
 turn_taken cells n k value kept in_cells last =
     let first : cell (set cells k (value, true)) 0 ≡ cell cells 0 = get_or-set_other cells k 0 (value, true) (0, false) (λ zero_is. omega (arith, kept.begun)) in
@@ -78,7 +78,7 @@ turn_taken cells n k value kept in_cells last =
       home = λ j within. turn_home cells n k value j kept in_cells last (omega (arith, length-set cells k (value, true))) (j == k) refl;
     }
 
--- an exchange of a number for itself
+-- exchanging a number for itself
 either_same : (n : ℕ) → either (n == 0) 0 n ≡ n
 either_same n = either_same_at n (n == 0) refl
   where
@@ -93,7 +93,7 @@ module _ {E : Type 0} where
   abbrev pub moved : List E → List E → ℕ → Type 0
   moved before after n = Unit {0}
 
-  -- whatever the book is, the exchange makes the turn after the last one, if that has the number expected
+  -- for every book, the exchange makes the turn after the last one, if that has the expected number
   turn_goes : (v : List E) (e : E) (last : ℕ) (cs : List Cell) (log : List E) → IsKept cs log → (b : Bool) → ((cell cs 0).0 == last) ≡ b
       → Goes IsKept shown moved 0 (v, (no_nib, None)) (λ n. either (n == last) (last + 1) n) (MakesTurn (step 0 last (last + 1) e) (v, (no_nib, None))) cs log
   turn_goes v e last cs log kept true is =
@@ -123,12 +123,12 @@ module _ {E : Type 0} where
   turn_moves v e last cs log kept pre away =
       let first = first_home cs (length log + 1) kept in (first.0, first.1, turn_goes v e last cs log kept ((cell cs 0).0 == last) refl)
 
-  -- a turn that nobody took bounds the journal
+  -- an unused turn bounds the journal
   turn_bounds : (p : Nib) (cs : List Cell) (log : List E) → p.right ≡ may_write → IsKept cs log → Away p cs → (p.key < length cs) × (length log + 1 ≤ p.key)
   turn_bounds p cs log right kept away =
       let at = away right in (at.0, ltb-false p.key (length log + 1) (sym (kept.home p.key at.0) ∙ at.1))
 
-  -- whoever has the turn after all that was seen adds its entry at the end of the journal
+  -- the owner of the turn after all that was seen adds its entry at the end of the journal
   pub add_moves : (v : List E) (e : E) (p : Nib) → p.right ≡ may_write → p.key ≡ length v + 1
       → Moves IsKept shown moved 0 (v, (p, None)) (λ n. either (n == 0) 0 n) (Adds (step 0 0 0 e) (v, (p, None)))
   add_moves v e p right next cs log kept pre away =
@@ -151,7 +151,7 @@ module _ {E : Type 0} where
         ),
       )
 
-  -- whoever has a turn finds that the journal has no more entries than those before it
+  -- the owner of a turn finds that the journal has at most the entries before it
   pub look_moves : (v : List E) (e : E) (p : Nib) → p.right ≡ may_write
       → Moves IsKept shown moved 0 (v, (p, None)) (λ n. either (n == 0) 0 n) (Looks (step 0 0 0 e) (v, (p, None)))
   look_moves v e p right cs log kept pre away =

@@ -1,24 +1,24 @@
--- Beginnings of a journal, and who may add to it.
+-- Prefixes of a journal, and who may add to it.
 use Rattle.std.specs.Prelude.{◌≡◌, ◌+◌, ℕ, List, [], ◌∷◌, ◌++◌, length, Option, Some, IfSome}
 use mathlib.Core.List.{IsPrefix}
 use Rattle.logbook.specs.Pages.{Book}
 
--- a beginning of a journal: which journal it is, and the entries
+-- a prefix of a journal: which journal it is, and the entries
 pub record Beginning (E : Type 0) : Type 0 where
   pub journal : Book
   pub entries : List E
 
--- the right to add to a journal: which journal it is, and, once the next entry is prepared, how many there are then
+-- the right to add to a journal: which journal it is, and, if the next entry is prepared, how many there are with it
 pub record Right : Type 0 where
   pub journal : Book
   pub turn : Option ℕ
 
 module _ {E : Type 0} where
-  -- the beginning that has one more entry
+  -- the prefix with one more entry
   abbrev pub with_entry : Beginning E → E → Beginning E
   with_entry k e = record { journal = k.journal; entries = k.entries ++ e ∷ [] }
 
-  -- one beginning of a journal, and one that goes on from it
+  -- a prefix of a journal, and one that extends it
   pub record Begins (earlier later : Beginning E) : Type 0 where
     pub same_journal : later.journal ≡ earlier.journal
     pub has_all : IsPrefix earlier.entries later.entries

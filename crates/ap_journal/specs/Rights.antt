@@ -1,4 +1,4 @@
--- What the right to add to a journal is made of.
+-- What the right to add to a journal consists of.
 use Rattle.std.specs.Prelude.{◌≡◌, ◌≤◌, ◌^◌, ℕ, Option, Some, None, IfSome}
 use Rattle.logbook.specs.Pages.{Named, may_write}
 use Rattle.logbook.specs.declared.tokens.Pen.{Pen}
@@ -9,7 +9,7 @@ abbrev pub turn_of : Option Pen → Option ℕ
 turn_of None = None
 turn_of (Some p) = Some p.nib.key
 
--- a turn in the journal that the word is of, whose number is small
+-- a turn in the word's journal, whose number is small
 pub record IsTurn (w : Named) (p : Pen) : Type 0 where
   pub same_journal : p.book ≡ w.book
   pub right : p.nib.right ≡ may_write

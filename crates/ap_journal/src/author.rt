@@ -11,10 +11,10 @@ use crate::rule::{Adds, Empty, Law, Looks, MakesTurn, Nothing};
 use logbook::{Offer, Pen, Seen, Start, Word};
 use std::marker::Model;
 
-/// So many entries at most: a word counts them. No run comes near it.
+/// The most entries, since a 64-bit word counts them. No run comes near it.
 const MOST: u64 = 1 << 61;
 
-/// The right to add to a journal, of which there is one.
+/// The right to add to a journal. Each journal has one.
 #[derive(Drop)]
 pub struct Author<E> {
     word: Word<E, u64, Law>,
@@ -33,7 +33,7 @@ impl<E> Model for Author<E> {
     ghost invariant = { λ a. IsTurnOf a.word a.turn };
 }
 
-/// The turn after the last one that was made, if that one's number is `last`.
+/// Makes the turn after the last one, if that one's number is `last`.
 fn next_turn<E: Entry>(word: &Word<E, u64, Law>, seen: &Seen<E, u64, Law>, last: u64) -> Option<Pen>
     requires word { word.now ≡ word_of seen.now.book }
     requires room { last < 2 ^ 62 }
@@ -58,8 +58,9 @@ fn next_turn<E: Entry>(word: &Word<E, u64, Law>, seen: &Seen<E, u64, Law>, last:
 }
 
 impl<E: Entry> Author<E> {
-    /// Makes sure that one more entry can be added after all that is known, which is to be all. It
-    /// answers false where there can't be one, which no run comes near: nothing has changed then.
+    /// Prepares adding one more entry after `known`. Returns false, and changes nothing, if `known`
+    /// isn't the whole journal, or has about 2^61 entries, which no run reaches. No clause says when it
+    /// returns true.
     pub fn prepare(&mut self, known: &Known<E>) -> bool
         requires { MayAdd self.old known.now }
         ensures { MatchBool result (IsPrepared self.new known.now) (self.new ≡ self.old) }
@@ -77,8 +78,8 @@ impl<E: Entry> Author<E> {
         true
     }
 
-    /// Tells a proof that who knows a journal whole knows all that anyone knows of it, and does
-    /// nothing.
+    /// Proves that whatever is known of a journal is a prefix of what its author has prepared to
+    /// extend; changes nothing.
     pub fn look(&mut self, known: &Known<E>, other: &Known<E>)
         requires turn { IsPrepared self.old known.now }
         requires one_journal { other.now.journal ≡ known.now.journal }
@@ -95,7 +96,7 @@ impl<E: Entry> Author<E> {
             .compare_exchange::<Looks, Nothing>(0, 0, &mut both, &mut offer, turn);
     }
 
-    /// Adds the entry that is described to a journal of which all is known.
+    /// Adds the described entry to a journal that is known whole, after `prepare`.
     pub fn add<D: Describes<E>>(&mut self, known: &mut Known<E>, described: &D)
         requires { IsPrepared self.old known.old }
         ensures author { MayAdd self.new known.new }
@@ -113,7 +114,7 @@ impl<E: Entry> Author<E> {
     }
 }
 
-/// A journal without entries, and the right to add to it.
+/// An empty journal, and the right to add to it.
 #[derive(Drop)]
 pub struct Opened<E> {
     author: Author<E>,
@@ -144,7 +145,7 @@ impl<E> Opened<E> {
         }
     }
 
-    /// The right to add to the journal, and all that there is to know of it.
+    /// The right to add to the journal, and what is known of it: no entries.
     pub fn into_parts(self) -> (Author<E>, Known<E>)
         ensures author { MayAdd result.0 result.1 }
         ensures empty { result.1.entries ≡ [] }

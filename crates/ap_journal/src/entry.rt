@@ -1,12 +1,12 @@
-//! What stands in a journal.
+//! What a journal contains.
 
-/// What may stand in a journal. No value of it is made.
+/// A type of journal entries. Only proofs have such values.
 pub trait Entry {
-    /// An entry that is named where a step adds none, since some entry has to stand there.
+    /// A placeholder, which a step names that adds no entry.
     ghost unwritten: { Self };
 }
 
-/// A value at run time that names an entry.
+/// A run-time value that names an entry.
 pub trait Describes<E> {
     /// The entry.
     ghost entry: { Self → E };

@@ -1,4 +1,4 @@
-//! What one knows of a journal.
+//! What is known of a journal.
 
 ghost use Rattle.std.specs.Prelude.{◌≡◌, ◌⊎◌};
 ghost use Rattle.ap_journal.specs.Beginnings.{Begins};
@@ -7,7 +7,7 @@ use crate::rule::Law;
 use logbook::Seen;
 use std::marker::Model;
 
-/// A beginning of a journal: what one knows of it. At run time it is the number of its entries.
+/// A known prefix of a journal. At run time it is the number of its entries.
 #[derive(Drop)]
 pub struct Known<E> {
     pub(crate) count: u64,
@@ -36,7 +36,7 @@ impl<E> Known<E> {
         }
     }
 
-    /// Of two beginnings of one journal the longer, which goes on from the other.
+    /// The longer of two prefixes of one journal; the other is a prefix of it.
     pub fn longer(&self, other: &Known<E>) -> Known<E>
         requires { other.now.journal ≡ self.now.journal }
         ensures this { Begins self.now result }

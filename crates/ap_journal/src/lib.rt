@@ -1,9 +1,9 @@
-//! Journals: lists of entries that exist in proofs alone, and so take no memory that grows with them.
-//! The one who has the `Author` of a journal adds to it; whoever has seen some of it has a `Known`,
-//! which stays a beginning of it for ever. It stands on `logbook`, whose ghost log is the journal.
-//! Promised: `prepare`, and after it `add`, which can't fail, put just the entry that is described at
-//! the end; what anyone knows is a beginning of what the author knows; of two beginnings of one
-//! journal the longer begins with the shorter. `Past` is a list of entries that is nobody else's.
+//! Journals: lists of entries that only proofs have, so they take no memory. The owner of a
+//! journal's `Author` adds to it; whoever has seen some of it has a `Known`, which always remains a
+//! prefix of it. It depends on `logbook`, whose ghost log is the journal. Promised: `prepare`, and
+//! after it `add`, which can't fail, append exactly the described entry; whatever is known is a
+//! prefix of what the author knows; the shorter of two prefixes of one journal is a prefix of the
+//! longer. `Past` is a list of entries of one's own.
 #![tactic(auto)]
 
 mod author;

@@ -1,4 +1,4 @@
-//! Entries that are remembered in proofs alone.
+//! Lists of entries that only proofs have.
 
 ghost use Rattle.std.specs.Prelude.{◌≡◌, ◌∷◌, ◌++◌, []};
 
@@ -26,7 +26,7 @@ impl<E> Rule<E, u64> for Anything {
     ghost moves = { λ ask before after answer. Unit {0} };
 }
 
-/// A list of entries that takes no bytes, and whose methods do nothing at run time.
+/// A list of entries without run-time data, whose methods do nothing at run time.
 #[derive(Drop)]
 pub struct Past<E> {
     seen: Seen<E, u64, Anything>,
@@ -40,7 +40,7 @@ impl<E> Model for Past<E> {
     ghost view = { λ p. p.seen.log };
 }
 
-/// A list, and an entry that is described.
+/// A list, and a described entry.
 #[derive(Clone, Copy)]
 struct Longer<'a, E, D: Describes<E>> {
     past: &'a Past<E>,
@@ -57,7 +57,7 @@ impl<'a, E, D: Describes<E>> Opening<Longer<'a, E, D>, E> for OneMore {
 }
 
 impl<E> Past<E> {
-    /// No entry yet.
+    /// The empty list.
     pub fn new() -> Past<E>
         ensures { result ≡ [] }
     {
@@ -65,7 +65,7 @@ impl<E> Past<E> {
         Past { seen }
     }
 
-    /// Adds the entry that is described.
+    /// Appends the described entry.
     pub fn add<D: Describes<E>>(&mut self, described: &D)
         ensures { self.new ≡ self.old ++ D.entry described.now ∷ [] }
     {

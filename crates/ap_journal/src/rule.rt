@@ -33,7 +33,7 @@ impl<E> Opening<(), E> for Empty {
     ghost log = { λ _ _. [] };
 }
 
-/// Nothing is traded.
+/// Nothing is exchanged.
 pub struct Nothing;
 
 impl<E> Gain<E, u64> for Nothing {
@@ -68,7 +68,7 @@ impl<E, D: Describes<E>> Plain<D, E, u64> for Adds {
     ghost state = { λ _. None };
 }
 
-/// A step that looks.
+/// A step that only looks.
 pub struct Looks;
 
 impl<E> Play<E, u64> for Looks {

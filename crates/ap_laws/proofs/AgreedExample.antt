@@ -1,4 +1,4 @@
--- An associated station asks for an agreement, which is granted, and sends data under it, which is passed up.
+-- An associated station requests an agreement, which is granted, and sends data under it, which is passed up.
 use Rattle.std.proofs.Common.{◌≡◌, ℕ, zero, suc, ◌+◌, ◌<◌, true, false, ◌&&◌, cond, None, Some, IsSome, List, [], ◌∷◌, refl, sym, ap, subst, arith}
 use Rattle.std.specs.Prelude.{◌==◌}
 use Rattle.std.specs.Int.{bit_at}

@@ -1,4 +1,4 @@
--- Readings that differ in no more than verdicts on data make them.
+-- Readings that differ only as verdicts on data can make them.
 use Rattle.std.proofs.Common.{◌≡◌, ℕ, ◌+◌, ◌==◌, ◌&&◌, ◌⊎◌, inl, inr, ⊎_elim, Bool, true, false, cond, Option, None, Some, List, refl, sym, ap, ◌∙◌, subst, arith}
 use Rattle.std.specs.Prelude.{is_some, IsSome}
 use Rattle.std.specs.Option.{option_map}
@@ -16,7 +16,7 @@ use Rattle.ap_model.specs.Steps.{Ticks, IsTimedOut, EndsAt}
 use Rattle.ap_laws.specs.Alongside.{SameStarts}
 use Rattle.std.proofs.lemmas.Option.{none-some, same_Some}
 
--- two agreements whose windows start alike and hold the same numbers
+-- two agreements whose windows have the same start and hold the same numbers
 pub record AlikeUses (u v : Using) : Type 0 where
   pub window : ReadTheSame u.window v.window
   pub timeout : u.timeout ≡ v.timeout
@@ -62,7 +62,7 @@ alike_turned r s alike =
       clock = sym alike.clock;
     }
 
--- an agreement here is one there
+-- an agreement of the first readings is one of the second
 pub record There (u : Using) (p : Option Using) : Type 0 where
   pub using : Using
   pub is : p ≡ Some using
@@ -125,7 +125,7 @@ both_agree r s r2 s2 a tid o p alike same one other =
       clock = one.clock ∙ alike.clock ∙ sym other.clock;
     }
 
--- ---- what is asked of standings
+-- ---- conditions on standings
 
 pub known_too : (x y : Standing) → state_of x ≡ state_of y → IsSome x → IsSome y
 known_too None y e some = absurd (let f : false ≡ true = some in cc)

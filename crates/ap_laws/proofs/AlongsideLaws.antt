@@ -49,7 +49,7 @@ use Rattle.std.proofs.lemmas.Option.{none-some, same_Some}
 
 -- ---- verdicts
 
--- verdicts on another hook than the data hook are the same
+-- verdicts on hooks other than the data hook are the same
 abbrev Agree : List (Ask × ℕ) → List (Ask × ℕ) → Type 0
 Agree asked asked2 = (x y : Ask × ℕ) → Contains asked x → Contains asked2 y → x.0.hook ≡ y.0.hook → x.0.hook ≢ hook.Data → x.1 ≡ y.1
 
@@ -76,7 +76,7 @@ true_is_not_false e = cc
 
 -- ---- authentication
 
--- what a status says of the shard
+-- what a status implies of the shard
 data StatusSays (r : Readings) (a : List ℕ) (algorithm transaction status : ℕ) : Type 0 where
   not_open : algorithm ≢ 0 → StatusSays r a algorithm transaction status
   not_first : transaction ≢ 1 → StatusSays r a algorithm transaction status
@@ -95,7 +95,7 @@ accepted_says r a algorithm transaction status zero (other_transaction e ne) = a
 accepted_says r a algorithm transaction status zero (no_room e f unknown many) = absurd (omega arith)
 accepted_says r a algorithm transaction status zero (accepted e f room) = (e, f, room)
 
--- one accepts and the other refuses: that can't be
+-- one accepting and the other refusing is impossible
 not_both : (r s : Readings) (a : List ℕ) (algorithm transaction status : ℕ) → Alike r s → AuthenticationStatus r a algorithm transaction 0 → status ≢ 0 → AuthenticationStatus s a algorithm transaction status → ⊥
 not_both r s a algorithm transaction status alike one other two = against (accepted_says r a algorithm transaction 0 refl one) (status_says s a algorithm transaction two)
   where
@@ -111,7 +111,7 @@ not_both r s a algorithm transaction status alike one other two = against (accep
 
 -- ---- association
 
--- what became of a request: it was refused before or by its verdict, or admitted
+-- the outcome of a request: refused before or by its verdict, or admitted
 data Outcome (c : Rules) (r : Readings) (a : List ℕ) (q : Request) (asked : List (Ask × ℕ)) (r2 : Readings) : Type 0 where
   unfit : (Suits q → ⊥) ⊎ (Names c q → ⊥) → Stays r r2 → Outcome c r a q asked r2
   none_free : ((n : ℕ) → IsFree c.shard r.standing a n → ⊥) → Stays r r2 → Outcome c r a q asked r2
@@ -126,7 +126,7 @@ outcome_of c r a q asked outs r2 (exhausted suits names none answers) = none_fre
 outcome_of c r a q asked outs r2 (admitted verdict suits names x) = let_in verdict x.identifier suits names x.admits x.asks x.free x.moves
 outcome_of c r a q asked outs r2 (refused verdict suits names x) = turned_away verdict x.refuses x.asks x.stays
 
--- admitted in one and refused in the other: that can't be
+-- admission in one and refusal in the other is impossible
 module _ (c : Rules) (r s : Readings) (alike : Alike r s) (once : HoldsOnce c r) (a : List ℕ) (q : Request) (asked asked2 : List (Ask × ℕ)) (s2 : Readings) (agree : Agree asked asked2)
     (verdict identifier : ℕ) (suits : Suits q) (names : Names c q) (admits : association_status verdict ≡ 0) (asks : asked ≡ (association_ask r a q, verdict) ∷ [])
     (free : IsFree c.shard r.standing a identifier) where
@@ -212,7 +212,6 @@ module _ (c : Rules) (r s : Readings) (alike : Alike r s) (one_once : HoldsOnce 
       (record { window = opened_alike q.start grants.window grants2.window (grants.sized ∙ size ∙ sym grants2.sized) grants.opens grants2.opens; timeout = refl; last_use = alike.clock })
       grants.agrees grants2.agrees
 
-  -- the agreement of both
   pair : (a : List ℕ) (tid : ℕ) (u v : Using) → r.agreement a tid ≡ Some u → s.agreement a tid ≡ Some v → AlikeUses u v
   pair a tid u v is is2 =
       let t = there (r.agreement a tid) (s.agreement a tid) u (alike.agreement a tid) is in
@@ -240,7 +239,6 @@ module _ (c : Rules) (r s : Readings) (alike : Alike r s) (one_once : HoldsOnce 
       })
       one.agrees other.agrees
 
-  -- data under an agreement, taken or not
   used_alike : (a : List ℕ) (p : Packet) (tid : ℕ) (u v : Using) (x y : Option Held) (took took2 : Bool) (new new2 : Reading Held) (out out2 : List (ℕ × Held)) →
       r.agreement a tid ≡ Some u → s.agreement a tid ≡ Some v → new.size ≡ u.window.size → new2.size ≡ v.window.size →
       DataMovesWindow took p.number x u.window new out → DataMovesWindow took2 p.number y v.window new2 out2 →
@@ -254,7 +252,7 @@ module _ (c : Rules) (r s : Readings) (alike : Alike r s) (one_once : HoldsOnce 
       (Some (record { window = new2; timeout = v.timeout; last_use = s.clock }))
       alike (record { window = same.1; timeout = w.timeout; last_use = alike.clock }) one other
 
-  -- what happens to a packet under an agreement
+  -- a packet used an agreement
   record Used (q : Readings) (a : List ℕ) (p : Packet) (tid : ℕ) (q2 : Readings) : Type 0 where
     using : Using
     is : q.agreement a tid ≡ Some using
@@ -283,7 +281,7 @@ module _ (c : Rules) (r s : Readings) (alike : Alike r s) (one_once : HoldsOnce 
   used_left q q2 a p tid u asked3 outs3 is l =
       record { using = u; is = is; thing = None; took = false; window = l.window; size = l.size; out = []; moved = l.moves; agrees = l.agrees }
 
-  -- no agreement for a packet, and one: that can't be
+  -- an agreement for a packet in one but not in the other is impossible
   plain_used : (q q2 : Readings) (a : List ℕ) (p : Packet) (tid : ℕ) (v : Using) → Alike q q2 → agreement_for q a p.tid ≡ None → p.tid ≡ Some tid → q2.agreement a tid ≡ Some v → ⊥
   plain_used q q2 a p tid v same none e is =
       let P : Option ℕ → Type 0 = λ x. agreement_for q a x ≡ None in
@@ -354,7 +352,7 @@ module _ (c : Rules) (r s : Readings) (alike : Alike r s) (one_once : HoldsOnce 
       let checks : check_of c s f ≡ check_of c r f = same_answer (s.standing f.sender) (r.standing f.sender) (class_of (content_subtype f.content)) (sym (alike.standing f.sender)) in
       checked_alike f (check_of c r f) one (subst Q checks (subst P (sym same) other))
 
-  -- bytes with a fault are no frame
+  -- bytes with a fault aren't a frame
   no_frame : (bytes : List ℕ) (fault : Fault) (f : Frame) → first_fault bytes ≡ Some fault → IsFrame f → bytes ≡ spelling f → ⊥
   no_frame bytes fault f is grammar same = none-some fault (sym (fault_free f grammar) ∙ ap first_fault (sym same) ∙ is)
 
@@ -398,7 +396,7 @@ module _ (c : Rules) (r s : Readings) (alike : Alike r s) (one_once : HoldsOnce 
 
 -- ---- whole runs
 
--- what holds of readings that steps led to
+-- what holds of readings after steps
 record Sound (c : Rules) (r : Readings) : Type 0 where
   once : HoldsOnce c r
   agreements : HoldsAgreements r

@@ -1,4 +1,4 @@
--- A step asks at most once, and a judge lists its asks.
+-- A step has at most one query, and a judge lists its queries.
 use Rattle.std.proofs.Common.{◌≡◌, ℕ, Bool, true, false, None, Some, List, [], ◌∷◌, ◌++◌, refl, sym, ap, ◌∙◌, subst, append_assoc}
 use Rattle.std.proofs.lemmas.List.{append-nil}
 use Rattle.mac_frame.specs.declared.content.Management.{Management}

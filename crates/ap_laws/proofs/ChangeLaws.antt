@@ -10,7 +10,7 @@ use Rattle.ap_model.specs.Changes.{Moves, Agrees}
 use Rattle.ap_model.specs.Steps.{Ticks}
 use Rattle.std.proofs.lemmas.Option.{none-some}
 
--- of a station that moved no agreement is left, and the others are as they were
+-- a station that moved has no agreement, and the others are unchanged
 pub moved_agreement : (r r2 : Readings) (a : List ℕ) (s : Standing) → Moves r a s r2 → (q : List ℕ) (t : ℕ) (u : Using) → r2.agreement q t ≡ Some u → (same_address a q ≡ false) × (r.agreement q t ≡ Some u)
 moved_agreement r r2 a s moved q t u is = by_test (same_address a q) (r.agreement q t) (sym (moved.discards q t) ∙ is)
   where
@@ -21,7 +21,7 @@ moved_agreement r r2 a s moved q t u is = by_test (same_address a q) (r.agreemen
 pub moved_standing : (r r2 : Readings) (a : List ℕ) (s : Standing) → Moves r a s r2 → (q : List ℕ) → same_address a q ≡ false → r2.standing q ≡ r.standing q
 moved_standing r r2 a s moved q other = moved.moves q ∙ ap (λ b. cond b s (r.standing q)) other
 
--- after an agreement changed: it is so now, or it is another one, as before
+-- after an agreement changed: this is the one, or it is another, which is unchanged
 pub agreed_cases : (r r2 : Readings) (a : List ℕ) (tid : ℕ) (u : Option Using) → Agrees r a tid u r2 → (q : List ℕ) (t : ℕ) →
     ((a ≡ q) × (tid ≡ t) × (r2.agreement q t ≡ u)) ⊎ (r2.agreement q t ≡ r.agreement q t)
 agreed_cases r r2 a tid u agrees q t =
@@ -34,7 +34,7 @@ agreed_cases r r2 a tid u agrees q t =
     (λ other. inr (agrees.agreement q t ∙ ap (λ b. cond (b && (tid == t)) u (r.agreement q t)) other.0))
     (address_tells a q)
 
--- an agreement that is left after a tick was there before
+-- an agreement that exists after a tick existed before it
 pub ticked_agreement : (c : Rules) (r r2 : Readings) (n : ℕ) (asked : List (Ask × ℕ)) (outs : List Out) → Ticks c r n asked outs r2 → (q : List ℕ) (t : ℕ) (u : Using) → r2.agreement q t ≡ Some u → r.agreement q t ≡ Some u
 ticked_agreement c r r2 n asked outs ticks q t u is =
     let key : List ℕ × ℕ = (q, t) in

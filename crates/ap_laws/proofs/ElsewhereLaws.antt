@@ -1,4 +1,4 @@
--- A step of one station is nothing to the agreements of another.
+-- A step of one station doesn't change the agreements of another.
 use Rattle.std.proofs.Common.{◌≡◌, ◌≢◌, ℕ, ⊎_elim, Bool, true, false, cond, Option, None, List, [], ◌∷◌, ◌++◌, sym, ap, ◌∙◌, subst}
 use Rattle.std.specs.Prelude.{Contains, is_some}
 use Rattle.std.proofs.lemmas.List.Elements.{Contains-append_cases, Contains-push_cases}
@@ -34,7 +34,7 @@ use Rattle.ap_laws.proofs.Forms.{NoUp, none_up, one_send, one_note, no_up_of, on
 use Rattle.ap_laws.proofs.OriginLaws.{up_of, if_there}
 use Rattle.ap_laws.proofs.UpLaws.{none_of, none_of_no_up, other_station}
 
--- all that is passed up is of station b
+-- all data passed up is from station b
 abbrev pub AllOf : List ℕ → List Out → Type 0
 AllOf b outs = (d : Up) → Contains outs (out.Up d) → d.source ≡ b
 
@@ -58,7 +58,7 @@ all_let_through b p (Pass mark) d inside = ⊎_elim (λ none. absurd (none_in_no
     source_of one other e = cc
 all_let_through b p Discard d inside = absurd (none_in_none (out.Up d) inside)
 
--- the agreement of another station is as it was, and nothing of it is passed up
+-- the agreement of another station is unchanged, and nothing of it is passed up
 pub record Elsewhere (r r2 : Readings) (outs : List Out) (a : List ℕ) (tid : ℕ) : Type 0 where
   pub same : r2.agreement a tid ≡ r.agreement a tid
   pub none : ups_of a tid outs ≡ []

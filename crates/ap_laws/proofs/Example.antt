@@ -43,7 +43,7 @@ first_grammar = record { duration = omega arith; receiver = refl; sender = refl;
 first_for_us : IsOurs c first_frame
 first_for_us = record { receiver = refl; bssid = refl; single = refl }
 
--- where the station stands so, and no other is known
+-- the station has this standing, and no other is known
 abbrev alone_at : Standing → Standings
 alone_at s b = cond (same_address station b) s None
 
@@ -53,7 +53,6 @@ known_at s = record { standing = alone_at s; agreement = λ b t. None; clock = 0
 abbrev pub first_entry : Entry
 first_entry = record { event = event.Frame (spelling first_frame); asked = []; outs = authentication_answer c station 0 0 ∷ [] }
 
--- 512 stations are not known where none is
 none_is_known : IsFull opening.standing → ⊥
 none_is_known full = by_list full.stations full.many full.known
   where

@@ -1,4 +1,4 @@
--- The forms that a step may have: what changes, and where what is passed up comes from.
+-- The forms that a step may have: what changes, and the origin of what is passed up.
 use Rattle.std.proofs.Common.{◌≡◌, ℕ, ⊎_elim, Bool, true, false, None, Some, List, [], ◌∷◌, refl, sym, ap, ◌∙◌, subst}
 use Rattle.std.specs.Prelude.{Contains}
 use Rattle.std.proofs.lemmas.List.Elements.{Contains-push_cases}
@@ -46,7 +46,7 @@ one_send bytes d p = ⊎_elim (λ none. none_in_none (out.Up d) none) (λ e. let
 pub one_note : (n : ℕ) (d : Up) → Contains (out.Note n ∷ []) (out.Up d) → ⊥
 one_note n d p = ⊎_elim (λ none. none_in_none (out.Up d) none) (λ e. let f : out.Note n ≡ out.Up d = e in absurd cc) (Contains-push_cases [] (out.Note n) (out.Up d) p)
 
--- the frames that stand among what is passed up
+-- a response alone passes nothing up
 pub no_up_in_answer : (c : Rules) (a : List ℕ) (s : Setup) (status size : ℕ) → NoUp (setup_answer c a s status size ∷ [])
 no_up_in_answer c a s status size = one_send _
 
@@ -62,7 +62,7 @@ no_up_of outs effects is none = subst NoUp (sym is) none
 pub one_sent : (outs : List Out) (bytes : List ℕ) → outs ≡ out.Send bytes ∷ [] → NoUp outs
 one_sent outs bytes is = no_up_of outs (out.Send bytes ∷ []) is (one_send bytes)
 
--- the packet of a frame that came
+-- the packet of a received frame
 pub record IsPacket (c : Rules) (e : Event) (f : Frame) (p : Packet) : Type 0 where
   pub grammar : IsFrame f
   pub came : e ≡ event.Frame (spelling f)
@@ -96,7 +96,7 @@ data_is_three d n kinds.Null = refl
 data_is_three d n (kinds.QosData qos) = refl
 data_is_three d n (kinds.QosNull qos) = refl
 
--- a frame of class 3 that is permitted comes from an associated station
+-- a permitted frame of class 3 comes from an associated station
 pub permitted_three : (c : Rules) (r : Readings) (f : Frame) (body : Content) → check_of c r f ≡ Permitted → f.content ≡ body → class_of (content_subtype body) ≡ Three → IsAssociated f.sender r
 permitted_three c r f body permitted is three =
     not_three (r.standing f.sender) (ap (class_answer (r.standing f.sender)) (sym three ∙ ap (λ x. class_of (content_subtype x)) (sym is)) ∙ permitted)

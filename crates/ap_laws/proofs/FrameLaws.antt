@@ -1,4 +1,4 @@
--- What one entry can be: its bytes are one frame at most, and what came out tells its status.
+-- What one entry can be: its bytes are at most one frame, and its outputs determine its status.
 use Rattle.std.proofs.Common.{◌≡◌, ℕ, ◌/◌, ◌%◌, ◌<◌, ⊎_elim, Bool, true, false, List, [], ◌∷◌, sym, ap, ◌∙◌, arith}
 use Rattle.std.specs.Prelude.{get_or}
 use Rattle.std.proofs.lemmas.Bool.Decides.{nat_tests}
@@ -67,7 +67,7 @@ closed_one a b t u e = (one e, other e)
 pub same_tick : (m n : ℕ) → event.Tick m ≡ event.Tick n → m ≡ n
 same_tick m n e = cc
 
--- ---- the status that was answered
+-- ---- the status of the reply
 
 front : {A : Type 0} (x y : A) (xs ys : List A) → x ∷ xs ≡ y ∷ ys → x ≡ y
 front x y xs ys e = cc
@@ -78,7 +78,7 @@ behind x y xs ys e = cc
 sent_bytes : (x y : List ℕ) → out.Send x ∷ [] ≡ out.Send y ∷ [] → x ≡ y
 sent_bytes x y e = cc
 
--- of two management frames that are one
+-- what two equal management frames have in common
 record SameText (body body2 : Management) (tail tail2 : List ℕ) : Type 0 where
   kind : first_byte (management_subtype body) ≡ first_byte (management_subtype body2)
   text : management_text body tail ≡ management_text body2 tail2
@@ -99,7 +99,7 @@ authentication_status_is c a algorithm algorithm2 status status2 e =
     let t = same_text a c.config.bssid (management.Authentication algorithm 2 status) (management.Authentication algorithm2 2 status2) [] [] e in
     word_same status status2 (ap (λ xs. get_or xs 4 0) t.text) (ap (λ xs. get_or xs 5 0) t.text)
 
--- the status and the AID field of two association answers that are one
+-- the status and the AID field of two equal association responses
 pub record SameAnswer (status status2 aid aid2 : ℕ) : Type 0 where
   pub answered : status % 65536 ≡ status2 % 65536
   pub identifier : aid % 65536 ≡ aid2 % 65536
@@ -118,7 +118,7 @@ association_answer_is c a false true status status2 aid aid2 e =
     let t = same_text a c.config.bssid (management.AssociationResponse 1 status aid) (management.ReassociationResponse 1 status2 aid2) (rates_text c.config.rates) (rates_text c.config.rates) e in
     let k : Path ℕ 0x10 0x30 = t.kind in absurd (omega arith)
 
--- a rejection is no answer to a request
+-- a deauthentication is no response to a request
 pub deauthentication_is_no_answer : (c : Rules) (a : List ℕ) (reason : ℕ) (again : Bool) (status aid : ℕ) → deauthentication c a reason ∷ [] ≡ association_answer c a again status aid ∷ [] → ⊥
 deauthentication_is_no_answer c a reason true status aid e =
     let t = same_text a c.config.bssid (management.Deauthentication reason) (management.ReassociationResponse 1 status aid) [] (rates_text c.config.rates) e in

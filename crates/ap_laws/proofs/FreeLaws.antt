@@ -1,4 +1,4 @@
--- Where as many stations are associated, an identifier is free or none is.
+-- If equally many stations are associated in two readings of a shard, an identifier is free in both or in neither.
 use Rattle.std.proofs.Common.{◌≡◌, ◌≢◌, ℕ, ◌%◌, ◌<◌, ◌≤◌, ◌⊎◌, inl, inr, ⊎_elim, None, Some, List, refl, sym, ap, ◌∙◌, subst, arith}
 use Rattle.std.proofs.lemmas.Bool.{cases_lt, cases_eq}
 use Rattle.assoc.specs.declared.standing.Known.TheVariants.{Authenticated, Associated}
@@ -38,7 +38,7 @@ module _ (s : ℕ) (f g : Standings) (a : List ℕ) (n : ℕ)
     has : g station ≡ Some (Associated m)
     other : station ≢ a
 
-  -- none is free in g: each is taken, if it is one of the shard's
+  -- if none is free in g, each of the shard's is taken
   not_free : ((m : ℕ) → IsFree s g a m → ⊥) → (m : ℕ) → ((IsOwn s m → Taken m) → ⊥) → ⊥
   not_free none m fails =
       ⊎_elim
@@ -76,7 +76,7 @@ module _ (s : ℕ) (f g : Standings) (a : List ℕ) (n : ℕ)
           other = λ e. t.other (free.free t.station (let P : ℕ → Type 0 = λ x. f t.station ≡ Some (Associated x) in subst P e is));
         }
 
-    -- each identifier of the shard to another one, and every other number to itself
+    -- each identifier of the shard goes to another, and every other number to itself
     goes_by : (m : ℕ) → (m < 2008) ⊎ (2008 ≤ m) → IsOwn s m ⊎ (IsOwn s m → ⊥) → ℕ
     goes_by m (inl lt) (inl mine) = (there m lt mine).number
     goes_by m (inl lt) (inr not) = m
@@ -85,7 +85,7 @@ module _ (s : ℕ) (f g : Standings) (a : List ℕ) (n : ℕ)
     goes : ℕ → ℕ
     goes m = goes_by m (cases_lt m 2008) (own_tells s m)
 
-    -- what is known of where it goes
+    -- what is known of its image
     data Going (m k : ℕ) : Type 0 where
       mine_to : IsOwn s m → (t : There m) → k ≡ t.number → Going m k
       itself : (IsOwn s m → ⊥) → k ≡ m → Going m k
@@ -126,6 +126,6 @@ module _ (s : ℕ) (f g : Standings) (a : List ℕ) (n : ℕ)
         let high = free.own.high in
         misses_none 2007 goes n (omega arith) (λ i lt. going_fits i (goes i) lt (going i lt)) apart (λ i lt. going_misses i (goes i) (going i lt))
 
-  -- an identifier that is free in f: not all are taken in g
+  -- if an identifier is free in f, not all are taken in g
   pub some_free : ((m : ℕ) → IsFree s g a m → ⊥) → ⊥
   some_free none = all_at_once (λ m. IsOwn s m → Taken m) 2008 (λ m lt. not_free none m) no_room

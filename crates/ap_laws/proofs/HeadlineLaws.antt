@@ -1,4 +1,4 @@
--- The headline, from the laws of runs.
+-- The main theorem, from the laws of runs.
 use Rattle.std.proofs.Common.{◌≡◌, ℕ, List, [], ◌∷◌, ◌++◌, subst}
 use Rattle.ap_model.specs.Asks.{Ask}
 use Rattle.ap_model.specs.Readings.{Readings, Rules}
@@ -11,9 +11,9 @@ use Rattle.ap_laws.proofs.OriginLaws.{opening_agrees, runs_hold_agreements, from
 use Rattle.ap_laws.proofs.OrderLaws.{tells_one, goes_on_in_order, ends_in_order, drops_silently}
 use Rattle.ap_laws.proofs.AlongsideLaws.{runs_leave_same_starts, link_runs_leave_same_starts}
 
--- ---- a run is cut
+-- ---- splitting a run
 
--- a run over two lists: what the first leaves
+-- a run over two lists: the readings between them
 record Cut (c : Rules) (r : Readings) (before after : List Entry) (r2 : Readings) : Type 0 where
   pub mid : Readings
   pub first : Run c r before mid
@@ -28,7 +28,6 @@ cut c before after {r} {r2} entries e run = go before r (subst (λ (es : List En
         let more = go before mid run in
         record { mid = more.mid; first = goes_on r mid more.mid x before step more.first; rest = more.rest }
 
--- the step of an entry
 record First (c : Rules) (r : Readings) (e : Entry) : Type 0 where
   pub next : Readings
   pub step : Handles c r e next

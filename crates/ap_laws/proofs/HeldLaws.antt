@@ -1,4 +1,4 @@
--- What a window hands up, and what it holds afterwards, was held before or came just now.
+-- What a window releases, and what it holds afterwards, was held before or has just come.
 use Rattle.std.proofs.Common.{◌≡◌, ◌≢◌, ℕ, zero, suc, ◌+◌, ◌-◌, ◌%◌, ◌<◌, ◌≤◌, ◌⊎◌, inl, inr, ⊎_elim, Bool, true, false, cond, Option, Some, List, [], ◌∷◌, ◌++◌, map, refl, sym, ap, ◌∙◌, subst, arith, append_assoc, add-suc, add-zero}
 use Rattle.std.specs.Prelude.{Contains}
 use Rattle.std.proofs.lemmas.Bool.{cases_eq, eq-eqb, ne_eqb}
@@ -10,7 +10,7 @@ use Rattle.blockack.specs.Reading.{Reading, Reads, held_at, window_of, DataMoves
 use Rattle.blockack.proofs.BelowLaws.{none_in_none, frame_in}
 use Rattle.blockack.proofs.SameLaws.{have_windows}
 
--- what is in the image of a list is the image of what is in it
+-- each member of the image of a list is the image of a member
 pub from_map : {X Y : Type 0} (f : X → Y) (xs : List X) (y : Y) → Contains (map f xs) y → (x : X) × Contains xs x × (f x ≡ y)
 from_map f [] y p = absurd (none_in_none y p)
 from_map f (x ∷ xs) y p =
@@ -32,7 +32,7 @@ module _ {F : Type 0} where
       let ih : frames_below taken (w + j) ≡ frames_below taken w ++ span taken w j = below_span taken w j in
       rw add-suc (ap (λ xs. xs ++ frame_of (w + j) (taken (w + j))) ih ∙ append_assoc (frames_below taken w) (span taken w j) (frame_of (w + j) (taken (w + j))))
 
-  -- only what lies below the start counts
+  -- only what is below the start counts
   pub below_alike : (one other : Items F) (w : ℕ) → ((k : ℕ) → k < w → one k ≡ other k) → frames_below one w ≡ frames_below other w
   below_alike one other zero alike = refl
   below_alike one other (suc w) alike =
@@ -49,7 +49,7 @@ module _ {F : Type 0} where
       (λ last. let f = frame_in (w + j) (taken (w + j)) p last in let e = f.0 in (omega arith, omega arith, ap taken f.0 ∙ f.1))
       (Contains-append_cases (span taken w j) (frame_of (w + j) (taken (w + j))) p c)
 
-  -- what a window hands up as it moves on are the frames between its two starts
+  -- what a window releases when it moves is the frames between its two starts
   pub handed_up : (old new : Window F) (frames : List (ℕ × F)) → ((k : ℕ) → k < old.start → new.taken k ≡ old.taken k) → old.start ≤ new.start → passed new ≡ passed old ++ frames → frames ≡ span new.taken old.start (new.start - old.start)
   handed_up old new frames alike le grows =
       let far : old.start + (new.start - old.start) ≡ new.start = omega arith in
@@ -57,14 +57,14 @@ module _ {F : Type 0} where
       (sym grows ∙ ap (frames_below new.taken) (sym far) ∙ below_span new.taken old.start (new.start - old.start) ∙
       ap (λ xs. xs ++ span new.taken old.start (new.start - old.start)) (below_alike new.taken old.taken old.start alike))
 
-  -- a window that waits to hand up this frame, whose sequence number is this
+  -- a window that holds this frame, which has this sequence number
   pub record Holds (window : Window F) (number : ℕ) (frame : F) : Type 0 where
     pub n : ℕ
     pub from_start : window.start ≤ n
     pub is : window.taken n ≡ Some (Some frame)
     pub residue : n % 4096 ≡ number
 
-  -- and a reading that does
+  -- readings that hold it
   pub record HoldsAt (v : Reading F) (number : ℕ) (frame : F) : Type 0 where
     pub place : ℕ
     pub is : held_at v place ≡ Some (Some frame)
@@ -84,7 +84,7 @@ module _ {F : Type 0} where
       let residue = h.residue in
       record { n = window.start + h.place; from_start = omega arith; is = reads.held h.place ∙ h.is; residue = omega arith }
 
-  -- ---- a window that moves on, with what it took
+  -- ---- a window that moves, with what it took
   module _ (old new : Window F) (alike : (k : ℕ) → k < old.start → new.taken k ≡ old.taken k) (le : old.start ≤ new.start) where
     pub out_is : (out : List (ℕ × F)) (p : ℕ × F) → PassesUp old new out → Contains out p → (n : ℕ) × (old.start ≤ n) × (new.taken n ≡ Some (Some p.1)) × (n % 4096 ≡ p.0)
     out_is out p passes inside =
@@ -103,7 +103,7 @@ module _ {F : Type 0} where
   some_item : (x : Option F) (frame : F) → Some x ≡ Some (Some frame) → x ≡ Some frame
   some_item x frame e = cc
 
-  -- the item that came, or one that was held
+  -- the item that has just come, or one that was held
   abbrev pub CameOrHeld : ℕ → Option F → Reading F → ℕ → F → Type 0
   CameOrHeld number item v k frame = ((k ≡ number) × (item ≡ Some frame)) ⊎ HoldsAt v k frame
 
@@ -161,7 +161,7 @@ module _ {F : Type 0} where
   request_alike number old new (inl moves) = let a = moves.next.above in let b = moves.beyond in (moves.same, omega arith)
   request_alike number old new (inr stays) = (ap (λ w. w.taken) stays.stays, (let e : new.start ≡ old.start = ap (λ w. w.start) stays.stays in omega arith))
 
-  -- a window that moves on and takes nothing
+  -- a window that moves and takes nothing
   module _ (v : Reading F) (old new : Window F) (reads : Reads old v) (same : new.taken ≡ old.taken) (le : old.start ≤ new.start) where
     pub moved_out : (out : List (ℕ × F)) (p : ℕ × F) → PassesUp old new out → Contains out p → HoldsAt v p.0 p.1
     moved_out out p passes inside =

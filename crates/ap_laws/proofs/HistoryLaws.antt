@@ -30,7 +30,7 @@ by_number Disassociated n e = (λ k. absurd (omega arith), λ k. refl, λ k. abs
 by_number Deauthenticated n e = (λ k. absurd (omega arith), λ k. absurd (omega arith), λ k. refl)
 
 module _ (c : Rules) (e : Entry) (a : List ℕ) where
-  -- one identifier is answered
+  -- the response has one identifier
   same_identifier : (n m : ℕ) → IsOwn c.shard n → IsOwn c.shard m → (repeated repeated2 : Bool) → e.outs ≡ association_answer c a repeated 0 (aid_field n) ∷ [] → e.outs ≡ association_answer c a repeated2 0 (aid_field m) ∷ [] → n ≡ m
   same_identifier n m own own2 repeated repeated2 p q =
       let s = (association_answer_is c a repeated repeated2 0 0 (aid_field n) (aid_field m) (sym p ∙ q)).identifier in
@@ -116,7 +116,6 @@ follows_from c h e r reads f = same_step c f.from r f.to e.event e.asked e.outs 
 pub readings_serve : ReadingsServe
 readings_serve c h e r reads = (follows_from c h e r reads, λ x. record { from = r; reads = reads; to = x.0; step = x.1 })
 
--- a history is a run
 run_of : (c : Rules) {h : List Entry} → IsHistory c h → (r : Readings) × Run c opening (reverse h) r
 run_of c nothing_yet = (opening, rests opening)
 run_of c (and_then h e f older) =
@@ -127,7 +126,7 @@ run_of c (and_then h e f older) =
     let Q : List Entry → Type 0 = λ xs. Run c opening xs next.0 in
     (next.0, subst Q (sym (reverse_onto h e [])) (run_then c next.0 e past.1 next.1))
 
--- what holds of readings holds of those that say the same
+-- what holds of readings holds of others that say the same
 holds_same : (r q : Readings) → Same r q → HoldsAgreements q → HoldsAgreements r
 holds_same r q same holds =
     record {
@@ -153,7 +152,7 @@ tells_same c h a tid o p x t =
           subst P same.entries (t.order old (same.agreement ∙ at));
     }
 
--- whichever readings of a history are taken, the same is known of them
+-- the same is known of all readings of a history
 past_from : (c : Rules) (h : List Entry) (r : Readings) → IsHistory c h → IsReadingOf c h r → Past c h r
 past_from c h r history reads =
     let run = run_of c history in
@@ -166,7 +165,7 @@ past_from c h r history reads =
       agrees = λ a tid. tells_same c h a tid (r.agreement a tid) (run.0.agreement a tid) (reads.agreement a tid) (past.agrees a tid);
     }
 
--- a run goes on from a history
+-- a run extends a history
 history_on : (c : Rules) {r r2 : Readings} {later : List Entry} (h : List Entry) → IsHistory c h → Past c h r → Run c r later r2 → IsHistory c (reverse later ++ h)
 history_on c h history past (rests r) = history
 history_on c h history past (goes_on r mid r2 e later step run) =

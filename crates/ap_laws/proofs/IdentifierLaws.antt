@@ -14,7 +14,7 @@ no_identifier n e = cc
 pub opening_holds : OpeningHoldsOnce
 opening_holds c = record { own = λ a n e. absurd (no_identifier n e); once = λ a b n p q. absurd (no_identifier n p) }
 
--- station a moves, and has no identifier afterwards but one that was free
+-- station a moves, and gets no identifier but a free one
 module _ (s : ℕ) (f : Standings) (a : List ℕ) (v : Standing) (g : Standings) (m : IsMoved f a v g) (free : (n : ℕ) → v ≡ Some (Associated n) → IsFree s f a n) where
   moved_own : ((b : List ℕ) (n : ℕ) → f b ≡ Some (Associated n) → IsOwn s n) → (b : List ℕ) (n : ℕ) → g b ≡ Some (Associated n) → IsOwn s n
   moved_own own b n e =
@@ -54,7 +54,6 @@ run_holds c holds (goes_on r mid r2 e later step run) = run_holds c (change_hold
 pub runs_hold : RunHoldsOnce
 runs_hold c r r2 entries holds run = run_holds c holds run
 
--- identifiers of different shards differ
 pub access_points_hold : AccessPointHoldsOnce
 access_points_hold c r r2 turns places holds runs s t a b n s_fits t_fits p q =
     let one = run_holds (c s) (holds s s_fits) (runs s s_fits) in

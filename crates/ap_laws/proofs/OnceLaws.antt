@@ -1,4 +1,4 @@
--- A history tells one thing: each entry is one thing at most to an agreement, and leaves it in one way.
+-- A history is unambiguous: each entry is at most one thing to an agreement, and changes it in one way.
 use Rattle.std.proofs.Common.{◌≡◌, ℕ, ◌+◌, ◌-◌, ◌≤◌, inl, inr, ⊎_elim, true, false, Option, None, Some, List, [], ◌∷◌, refl, sym, ap, ◌∙◌, subst, arith}
 use Rattle.std.specs.Prelude.{max, IsSome}
 use Rattle.std.proofs.lemmas.Bool.{cases_lt}
@@ -133,7 +133,7 @@ module _ (c : Rules) (e : Entry) (a : List ℕ) (tid clock : ℕ) where
 
   -- ---- and in one way
 
-  -- the fields of two requests that are one
+  -- the fields of two equal requests
   record SameSetup (p p2 : BlockAckParameters) (o o2 n n2 : ℕ) : Type 0 where
     parameters : p ≡ p2
     timeout : o ≡ o2
@@ -163,7 +163,7 @@ module _ (c : Rules) (e : Entry) (a : List ℕ) (tid clock : ℕ) where
       ap (λ x. record { window = other.window; size = other.size; board = other.board; timeout = x; last_use = one.last_use }) (p.timeout ∙ sym q.timeout) ∙
       ap (λ x. record { window = other.window; size = other.size; board = other.board; timeout = other.timeout; last_use = x }) (p.now ∙ sym q.now)
 
-  -- the fields of two data frames that are one
+  -- the fields of two equal data frames
   record SameData (p q : Packet) : Type 0 where
     frame : p.frame ≡ q.frame
     destination : p.destination ≡ q.destination
@@ -232,7 +232,7 @@ module _ (c : Rules) (e : Entry) (a : List ℕ) (tid clock : ℕ) where
 
 -- ---- whole histories
 
--- two tellings that are one
+-- two descriptions agree
 pub record SameTelling (g g2 : Option Agreement) (since since2 : List Entry) : Type 0 where
   pub agreement : g ≡ g2
   pub entries : since ≡ since2

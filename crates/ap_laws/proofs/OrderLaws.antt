@@ -1,4 +1,4 @@
--- A run's history is told, and what is passed up of each agreement comes in order.
+-- A run's history describes each agreement, and what is passed up of it is in order.
 use Rattle.std.proofs.Common.{◌≡◌, ℕ, ◌%◌, ◌⊎◌, inl, inr, Option, None, Some, List, [], ◌∷◌, ◌++◌, reverse, refl, sym, ap, ◌∙◌, subst, append_assoc}
 use Rattle.std.proofs.lemmas.Grind.{reverse_onto}
 use Rattle.std.proofs.lemmas.List.{append-nil, map-append}
@@ -37,7 +37,6 @@ are_below window =
 passed_in_order : (a : List ℕ) (tid : ℕ) (window : Window Held) (outs : List Out) → outs ≡ ups a tid (numbered (passed window)) → PassedInOrder a tid window outs
 passed_in_order a tid window outs is = record { frames = passed window; below = are_below window; are = is }
 
--- one step more
 grown : (a : List ℕ) (tid : ℕ) (old new : Window Held) (out : List (ℕ × Held)) (before now : List Out) → PassesUp old new out → before ≡ ups a tid (numbered (passed old)) → now ≡ ups a tid out → before ++ now ≡ ups a tid (numbered (passed new))
 grown a tid old new out before now passes was is =
     ap (λ xs. xs ++ now) was ∙
@@ -75,7 +74,7 @@ step_clock c r r2 (event.Close a tid) asked outs k is step = form_clock c r r2 (
 
 -- ---- what is known after a history
 
--- what it tells of an agreement is what the readings hold, and what was passed up since is in order
+-- the agreement that the history describes is what the readings hold, and what was passed up since is in order
 pub record Tells (c : Rules) (h : List Entry) (a : List ℕ) (tid : ℕ) (o : Option Using) : Type 0 where
   pub agreement : Option Agreement
   pub since : List Entry
@@ -89,7 +88,6 @@ pub record Past (c : Rules) (h : List Entry) (r : Readings) : Type 0 where
   pub stands : (a : List ℕ) → StandsBy c h a (r.standing a)
   pub agrees : (a : List ℕ) (tid : ℕ) → Tells c h a tid (r.agreement a tid)
 
--- so the readings are those of the history
 pub reading_of : (c : Rules) (h : List Entry) (r : Readings) → Past c h r → IsReadingOf c h r
 reading_of c h r past =
     record {
@@ -149,7 +147,7 @@ module _ (c : Rules) (h : List Entry) (e : Entry) (r2 : Readings) (a : List ℕ)
         order = λ old there. ap (λ xs. ups_since a tid since ++ xs) (none old there) ∙ append-nil (ups_since a tid since) ∙ order old there;
       }
 
--- what the next step is to an agreement
+-- what the next step does to an agreement
 telling : (c : Rules) (h : List Entry) (r r2 : Readings) (e : Entry) (past : Past c h r) → Handles c r e r2 → (a : List ℕ) (tid : ℕ) → Telling c e (clock_after (e ∷ h)) r2 a tid (past.agrees a tid).agreement
 telling c h r r2 e past step a tid =
     event_tells c e (clock_after (e ∷ h)) r r2 (step_clock c r r2 e.event e.asked e.outs (clock_after h) past.clock step) past.holds a tid (past.agrees a tid).agreement (past.agrees a tid).reads e.event refl step
@@ -201,7 +199,7 @@ goes_on_in_order c entries r a tid run g since tells =
     let P : List Entry → Type 0 = λ xs. ups_since a tid xs ≡ ups a tid (numbered (passed g.window)) in
     passed_in_order a tid g.window (ups_since a tid since) (subst P same.entries (t.order g same.agreement))
 
--- of an agreement that the step ends or replaces
+-- an agreement that the step ends or replaces
 ended_up : (c : Rules) (e : Entry) (clock : ℕ) (r2 : Readings) (a : List ℕ) (tid : ℕ) (g : Agreement) (o : Option Agreement) → o ≡ Some g → Ends c e a tid clock g ⊎ ((new : Agreement) × Opens c e a tid clock new) → Telling c e clock r2 a tid o → EndsUp c e clock r2 a tid g
 ended_up c e clock r2 a tid g o there how (it_opens new opens reads up) = up g there
 ended_up c e clock r2 a tid g o there (inl x) (it_is_used old new out at uses reads passes are) = absurd (use_no_end c e a tid clock old new g uses x)

@@ -1,4 +1,4 @@
--- Data that is passed up came from a station that was associated ever since.
+-- Data that is passed up came from a station that has been associated since.
 use Rattle.std.proofs.Common.{◌≡◌, ℕ, ◌<◌, ◌⊎◌, inl, inr, ⊎_elim, Bool, true, false, Option, None, Some, List, [], ◌∷◌, ◌++◌, refl, sym, ap, ◌∙◌, subst, arith, append_assoc}
 use Rattle.std.specs.Prelude.{Contains, is_some, if◌then◌else◌}
 use Rattle.std.proofs.lemmas.List.{append-nil}
@@ -40,7 +40,7 @@ while_then c P r2 e (while_goes_on r mid at e0 later here first run) holds step 
 abbrev pub Origin : Rules → Readings → List Entry → Readings → Up → Type 0
 Origin c r entries r2 d = ComesAssociated c r entries r2 d ⊎ WaitsAssociated c r entries r2 d
 
--- the source was associated before one entry more
+-- the source was associated before one more entry
 extend : (c : Rules) (r at r2 : Readings) (entries : List Entry) (e : Entry) (d : Up) → IsAssociated d.source at → Handles c at e r2 → Origin c r entries at d → Origin c r (entries ++ e ∷ []) r2 d
 extend c r at r2 entries e d associated step (inl o) =
     inl (record {
@@ -65,7 +65,7 @@ extend c r at r2 entries e d associated step (inr o) =
       since = while_then c (IsAssociated d.source) r2 e o.since associated step;
     })
 
--- it comes with this entry
+-- the data arrives with this entry
 arrive : (c : Rules) (r at r2 : Readings) (entries : List Entry) (e : Entry) (d : Up) → IsAssociated d.source at → Handles c at e r2 → Run c r entries at → IsArrival c e d → Origin c r (entries ++ e ∷ []) r2 d
 arrive c r at r2 entries e d associated step run is =
     inl (record {
@@ -87,7 +87,6 @@ Body = List ℕ × ℕ × List ℕ
 abbrev pub data_of : List ℕ → ℕ → ℕ → Body → Up
 data_of a tid k h = record { source = a; destination = h.0; tid = Some tid; number = k; mark = h.1; body = h.2 }
 
--- what is passed up of a window's frames
 pub record UpOf (a : List ℕ) (tid : ℕ) (passed : List (ℕ × Held)) (d : Up) : Type 0 where
   pub number : ℕ
   pub frame : Body
@@ -118,7 +117,6 @@ up_of a tid (p ∷ passed) d inside =
     (λ tail. let u = up_of a tid passed d tail in record { number = u.number; frame = u.frame; inside = Contains-append_right (p ∷ []) passed (u.number, Some u.frame) u.inside; is = u.is })
     (Contains-append_cases (up_held a tid p.0 p.1) (ups a tid passed) (out.Up d) inside)
 
--- data that an agreement held
 pub record WasHeld (a : List ℕ) (tid : ℕ) (o : Option Using) (d : Up) : Type 0 where
   pub using : Using
   pub is : o ≡ Some using
@@ -201,9 +199,9 @@ run_holds_agreements c holds (goes_on r mid r2 e later step run) = run_holds_agr
 pub runs_hold_agreements : RunHoldsAgreements
 runs_hold_agreements c r r2 entries holds run = run_holds_agreements c holds run
 
--- ---- one step more
+-- ---- one more step
 
--- all that is held came from somewhere
+-- all that is held has an origin
 abbrev pub Backed : Rules → Readings → List Entry → Readings → Type 0
 Backed c r entries at = (a : List ℕ) (tid : ℕ) (u : Using) (k : ℕ) (h : Body) → at.agreement a tid ≡ Some u → HoldsAt u.window k (Some h) → Origin c r entries at (data_of a tid k h)
 
@@ -219,11 +217,10 @@ if_there true first last d inside = Contains-append_cases first last (out.Up d) 
 if_there false first last d inside = absurd (none_in_none (out.Up d) inside)
 
 module _ (c : Rules) (r0 : Readings) (entries : List Entry) (r r2 : Readings) (e : Entry) (run : Run c r0 entries r) (holds : HoldsAgreements r) (backed : Backed c r0 entries r) (step : Handles c r e r2) where
-  -- what was held before the step
   keep : (a : List ℕ) (tid : ℕ) (u : Using) (k : ℕ) (h : Body) → r.agreement a tid ≡ Some u → HoldsAt u.window k (Some h) → Origin c r0 (entries ++ e ∷ []) r2 (data_of a tid k h)
   keep a tid u k h is held = extend c r0 r r2 entries e (data_of a tid k h) (holds.associated a tid u is) step (backed a tid u k h is held)
 
-  -- what came with it
+  -- what came with the step
   come : (f : Frame) (p : Packet) (ask : Ask) (verdict mark : ℕ) → IsPacket c e.event f p → IsAssociated f.sender r → e.asked ≡ (ask, verdict) ∷ [] → data_verdict verdict ≡ Pass mark →
       (d : Up) → d ≡ record { source = f.sender; destination = p.destination; tid = p.tid; number = p.number; mark = mark; body = p.frame.tail } → Origin c r0 (entries ++ e ∷ []) r2 d
   come f p ask verdict mark is associated asked passes d same =
@@ -258,7 +255,7 @@ module _ (c : Rules) (r0 : Readings) (entries : List Entry) (r r2 : Readings) (e
   kept : ((q : List ℕ) (t : ℕ) (u : Using) → r2.agreement q t ≡ Some u → r.agreement q t ≡ Some u) → Backed c r0 (entries ++ e ∷ []) r2
   kept same a tid u k h is held = keep a tid u k h (same a tid u is) held
 
-  -- an agreement that changed holds nothing but what came from somewhere
+  -- all that a changed agreement holds has an origin
   changed : (a : List ℕ) (tid : ℕ) (new : Using) → Agrees r a tid (Some new) r2 → ((k : ℕ) (h : Body) → HoldsAt new.window k (Some h) → Origin c r0 (entries ++ e ∷ []) r2 (data_of a tid k h)) → Backed c r0 (entries ++ e ∷ []) r2
   changed a tid new agrees comes q t u k h is held =
       ⊎_elim
@@ -364,7 +361,6 @@ module _ (c : Rules) (r0 : Readings) (entries : List Entry) (r r2 : Readings) (e
 
 -- ---- whole runs
 
--- what was held at the start
 at_start : (c : Rules) (r : Readings) → Backed c r [] r
 at_start c r a tid u k h is held =
     inr (record { tid = tid; numbered = refl; using = u; is = is; place = held.place; held = held.is; number = held.residue; since = while_rests r })

@@ -1,4 +1,4 @@
--- What a station's own frame is to its agreements.
+-- What a station's own frame does to its agreements.
 use Rattle.std.proofs.Common.{◌≡◌, ◌≢◌, ℕ, ◌<◌, ⊎_elim, Bool, true, false, ◌==◌, ◌&&◌, cond, Option, None, Some, List, [], ◌∷◌, ◌++◌, refl, sym, ap, ◌∙◌, subst, arith}
 use Rattle.std.specs.Prelude.{Contains, is_some, if◌then◌else◌}
 use Rattle.std.proofs.lemmas.Bool.{cases_eq, eq-eqb}
@@ -105,7 +105,6 @@ discarded_here r r2 a s tid moves =
     (λ other. absurd (other.1 refl))
     (address_tells a a)
 
--- the agreement that changed
 pub agreed_here : (r r2 : Readings) (a : List ℕ) (tid : ℕ) (u : Option Using) → Agrees r a tid u r2 → r2.agreement a tid ≡ u
 agreed_here r r2 a tid u agrees =
     ⊎_elim
@@ -119,7 +118,7 @@ agreed_elsewhere r r2 a t tid u ne agrees = ⊎_elim (λ here. absurd (ne here.1
 -- ---- what ends, by a frame or a command
 
 module _ (c : Rules) (e : Entry) (clock : ℕ) (r r2 : Readings) (a : List ℕ) (tid : ℕ) (g : Option Agreement) (reads : ReadsAgreed g (r.agreement a tid)) where
-  -- the list that comes out where the agreement is there
+  -- the outputs if the agreement exists
   ended_outs : (passed last : List Out) (u : Using) → NoUp last → r.agreement a tid ≡ Some u → e.outs ≡ (if is_some (r.agreement a tid) then passed ++ last else []) → ups_of a tid e.outs ≡ ups_of a tid passed
   ended_outs passed last u none there is =
       ap (ups_of a tid) (is ∙ ap (λ o. if is_some o then passed ++ last else []) there) ∙ ups_of-append a tid passed last ∙
@@ -329,7 +328,6 @@ module _ (c : Rules) (e : Entry) (clock : ℕ) (r r2 : Readings) (now : r2.clock
 
   -- ---- data
 
-  -- without an agreement
   passed_plain : (p : Packet) → (t : Option ℕ) → p.tid ≡ t → (v : DataVerdict) → e.outs ≡ let_through f.sender p v → t ≡ None → ups_of f.sender tid e.outs ≡ []
   passed_plain p t told_tid v is none =
       none_of f.sender tid e.outs (λ d inside. let P : List Out → Type 0 = λ xs. Contains xs (out.Up d) in no_tid f.sender tid d (by_verdict v d (subst P is inside)))
@@ -480,7 +478,7 @@ module _ (c : Rules) (e : Entry) (clock : ℕ) (r r2 : Readings) (now : r2.clock
   content_own (content.Control body) is x = control_own body is x
   content_own (content.Data destination number kind) is x = data_own destination number kind is x
 
-  -- a frame that its class doesn't permit: its station isn't associated and has no agreement
+  -- a frame whose class isn't permitted: its station isn't associated and has no agreement
   rejected_own : (bytes : List ℕ) → (check_of c r f ≡ Permitted → ⊥) → Answers (out.Send bytes) r e.asked e.outs r2 → Telling c e clock r2 f.sender tid g
   rejected_own bytes not x = by_case g refl
     where

@@ -1,12 +1,12 @@
--- There are no more identifiers than there are.
+-- The pigeonhole principle.
 use Rattle.std.proofs.Common.{◌≡◌, ◌≢◌, ℕ, zero, suc, ◌+◌, ◌<◌, ◌⊎◌, inl, inr, ⊎_elim, refl, sym, ◌∙◌, subst, arith}
 use Rattle.std.proofs.lemmas.Bool.{cases_lt, cases_eq}
 
--- different numbers below n go to different numbers
+-- f is injective below n
 abbrev pub KeepsApart : ℕ → (ℕ → ℕ) → Type 0
 KeepsApart n f = (i j : ℕ) → i < n → j < n → f i ≡ f j → i ≡ j
 
--- what goes to `from` goes to `to` in its place
+-- `from` becomes `to`; other numbers stay
 redirect : ℕ → ℕ → ℕ → ℕ
 redirect from to x = ⊎_elim (λ e. to) (λ ne. x) (cases_eq x from)
 
@@ -18,7 +18,7 @@ redirect_cases from to x = by_cases (cases_eq x from)
     by_cases (inl e) = inl (e, refl)
     by_cases (inr ne) = inr (ne, refl)
 
--- n + 1 numbers don't go to n apart
+-- no injection of n + 1 numbers into n
 too_few : (n : ℕ) (f : ℕ → ℕ) → ((i : ℕ) → i < n + 1 → f i < n) → KeepsApart (n + 1) f → ⊥
 too_few zero f below apart = let lt : f 0 < 0 = below 0 (omega arith) in absurd (omega arith)
 too_few (suc n) f below apart =
@@ -53,7 +53,7 @@ too_few (suc n) f below apart =
     (redirect_cases n (f (n + 1)) (f i)) in
     too_few n g g_below g_apart
 
--- n + 1 numbers that go to as many apart miss none
+-- an injection of n + 1 numbers into themselves misses none
 pub misses_none : (n : ℕ) (f : ℕ → ℕ) (m : ℕ) → m < n + 1 → ((i : ℕ) → i < n + 1 → f i < n + 1) → KeepsApart (n + 1) f → ((i : ℕ) → i < n + 1 → f i ≢ m) → ⊥
 misses_none n f m fits below apart missed =
     let g : ℕ → ℕ = λ i. redirect n m (f i) in
@@ -77,7 +77,7 @@ misses_none n f m fits below apart missed =
     (redirect_cases n m (f j)))
     (redirect_cases n m (f i)))
 
--- what can't fail to hold at each number can't fail to hold at all of them
+-- if P can't fail at any number below n, it can't fail to hold at all of them
 pub all_at_once : (P : ℕ → Type 0) (n : ℕ) → ((m : ℕ) → m < n → (P m → ⊥) → ⊥) → (((m : ℕ) → m < n → P m) → ⊥) → ⊥
 all_at_once P zero each fails = fails (λ m lt. absurd (omega arith))
 all_at_once P (suc n) each fails =

@@ -1,4 +1,4 @@
--- What is refused is no exchange.
+-- What is refused isn't an exchange.
 use Rattle.std.proofs.Common.{◌≡◌, ◌≢◌, ℕ, ◌<◌, Bool, [], ◌∷◌, sym, ◌∙◌, arith}
 use Rattle.mac_frame.specs.Spelling.{Frame}
 use Rattle.ap_model.specs.Readings.{Rules}
@@ -20,7 +20,7 @@ module _ (c : Rules) (e : Entry) (f : Frame) (comes : ComesFrom c e f.sender f) 
       by_exchange x (deauthentication h bssid sequence reason from at) k = omega arith
       by_exchange x (kick reason at) k = omega arith
 
-  -- only an association is answered as one
+  -- a request counts as an exchange only if the response admits it
   pub no_association : exchange_of f.content ≡ 2 → ((repeated : Bool) (n : ℕ) → e.outs ≡ association_answer c f.sender repeated 0 (aid_field n) ∷ [] → ⊥) → (x : Exchange) → IsExchange c e f.sender x → ⊥
   no_association kind not x exchange = by_exchange x exchange (sym (exchange_number c e f.sender f comes f.sender x exchange) ∙ kind)
     where

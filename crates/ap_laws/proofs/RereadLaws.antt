@@ -116,7 +116,7 @@ module _ (u v : Using) (same : SaysTheSame u v) where
 
 -- ---- the steps
 
--- where they stand and the time are the same
+-- their standings and clocks are the same
 module _ (c : Rules) (standing : Standings) (clock : ℕ) (one other : List ℕ → ℕ → Option Using) (same : (a : List ℕ) (tid : ℕ) → SayTheSame (one a tid) (other a tid)) where
   abbrev r : Readings
   r = record { standing = standing; agreement = one; clock = clock }
@@ -124,7 +124,7 @@ module _ (c : Rules) (standing : Standings) (clock : ℕ) (one other : List ℕ 
   abbrev q : Readings
   q = record { standing = standing; agreement = other; clock = clock }
 
-  -- what q becomes
+  -- the second readings after the change
   abbrev moved : List ℕ → Standing → Readings
   moved a s = record { standing = λ b. cond (same_address a b) s (standing b); agreement = λ b t. cond (same_address a b) None (other b t); clock = clock }
 
@@ -357,7 +357,6 @@ module _ (c : Rules) (standing : Standings) (clock : ℕ) (one other : List ℕ 
     in_turn (one_end a tid keys first rest held later) =
         one_end a tid keys first rest (passes a tid (one a tid) (other a tid) first (same a tid) held) (in_turn later)
 
-    -- what is left of an agreement at this time
     left_by : (time : ℕ) (u : Using) → IsTimedOut c q time u ⊎ (IsTimedOut c q time u → ⊥) → Option Using
     left_by time u (inl late) = None
     left_by time u (inr not) = Some u

@@ -1,4 +1,4 @@
--- What follows where two things that are told apart by their form are the same.
+-- What follows if two terms of different forms are equal.
 use Rattle.std.proofs.Common.{◌≡◌, ℕ, Some, List, [], ◌∷◌, sym, ap, ◌∙◌}
 use Rattle.assoc.specs.declared.class.ClassAnswer.TheVariants.{Permitted, Deauthenticate, Disassociate}
 use Rattle.assoc.specs.declared.standing.Known.TheVariants.{Associated}

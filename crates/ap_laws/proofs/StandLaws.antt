@@ -1,4 +1,4 @@
--- Where a station stands is what its exchanges say.
+-- A station's standing is what its exchanges say.
 use Rattle.std.proofs.Common.{◌≡◌, ◌≢◌, ℕ, ◌<◌, ⊎_elim, Bool, true, false, cond, None, Some, List, [], ◌∷◌, refl, sym, ap, ◌∙◌, subst, arith}
 use Rattle.mac_frame.specs.Faults.{first_fault}
 use Rattle.mac_frame.specs.declared.content.Management.{Management}
@@ -39,7 +39,7 @@ use Rattle.ap_laws.proofs.OwnLaws.{refusal_is_small}
 use Rattle.std.proofs.lemmas.Option.{none-some}
 use Rattle.ap_laws.proofs.Same.{bytes_of, not_deauthenticated, not_disassociated}
 
--- where an exchange leads
+-- the standing after an exchange
 abbrev pub led_to : Exchange → Standing → Standing
 led_to Authenticated s = Some known.Authenticated
 led_to (Associated n) s = Some (known.Associated n)
@@ -52,7 +52,7 @@ led_after (Associated n) older = refl
 led_after Disassociated older = refl
 led_after Deauthenticated older = refl
 
--- an entry is an exchange of the station, which led there, or none, and the station stands as before
+-- an entry is an exchange of the station, which led to s2, or it is none and the standing is unchanged
 pub data Led (c : Rules) (e : Entry) (a : List ℕ) (s s2 : Standing) : Type 0 where
   exchanged : (x : Exchange) → IsExchange c e a x → s2 ≡ led_to x s → Led c e a s s2
   as_before : ((x : Exchange) → IsExchange c e a x → ⊥) → s2 ≡ s → Led c e a s s2
@@ -69,7 +69,7 @@ moved_here r r2 a s moves = ⊎_elim (λ same. moves.moves a ∙ ap (λ b. cond 
 moved_other : (r r2 : Readings) (b a : List ℕ) (s : Standing) → b ≢ a → Moves r b s r2 → r2.standing a ≡ r.standing a
 moved_other r r2 b a s ne moves = ⊎_elim (λ same. absurd (ne same.1)) (λ differ. moves.moves a ∙ ap (λ x. cond x s (r.standing a)) differ.0) (address_tells b a)
 
--- ---- of another station
+-- ---- another station
 
 module _ (c : Rules) (r r2 : Readings) (b a : List ℕ) (ne : b ≢ a) (asked : List (Ask × ℕ)) (outs : List Out) where
   authentication_other : (algorithm transaction : ℕ) → Authenticates c r b algorithm transaction asked outs r2 → r2.standing a ≡ r.standing a
@@ -143,7 +143,7 @@ module _ (c : Rules) (r r2 : Readings) (asked : List (Ask × ℕ)) (outs : List 
   checked_other (Deauthenticate reason) x = x.stays.standing a
   checked_other (Disassociate reason) x = x.stays.standing a
 
--- ---- of the station itself
+-- ---- the station itself
 
 -- class 1 is always permitted, and class 2 from a known station
 class_one : (s : Standing) → class_answer s One ≡ Permitted
@@ -157,7 +157,7 @@ class_two (Some known.Authenticated) not = absurd (not refl)
 class_two (Some (known.Associated n)) not = absurd (not refl)
 
 module _ (c : Rules) (e : Entry) (r r2 : Readings) (f : Frame) (comes : ComesFrom c e f.sender f) where
-  -- a frame that is no exchange
+  -- a frame that isn't an exchange
   no_exchange : (body : Content) → f.content ≡ body → exchange_of body ≡ 0 → r2.standing f.sender ≡ r.standing f.sender → Led c e f.sender (r.standing f.sender) (r2.standing f.sender)
   no_exchange body is none same = as_before (λ x at. some_number x (sym (exchange_number c e f.sender f comes f.sender x at) ∙ ap exchange_of is ∙ none)) same
 
@@ -199,7 +199,7 @@ module _ (c : Rules) (e : Entry) (r r2 : Readings) (f : Frame) (comes : ComesFro
   content_own (content.Control body) is x = no_exchange _ is refl (control_stands c r r2 e.asked e.outs f body x f.sender)
   content_own (content.Data destination number kind) is x = no_exchange _ is refl (data_stands c r r2 e.asked e.outs f destination number kind x f.sender)
 
-  -- a frame that its class does not permit: a disassociation from an unknown station leaves it unknown
+  -- a frame whose class isn't permitted: a disassociation from an unknown station leaves it unknown
   module _ (not : check_of c r f ≡ Permitted → ⊥) (outs : (repeated : Bool) (n : ℕ) → e.outs ≡ association_answer c f.sender repeated 0 (aid_field n) ∷ [] → ⊥) (same : r2.standing f.sender ≡ r.standing f.sender) where
     rejected_management : (bssid : List ℕ) (sequence : ℕ) (body : Management) → f.content ≡ content.Management bssid sequence body → Led c e f.sender (r.standing f.sender) (r2.standing f.sender)
     rejected_management bssid sequence (management.Authentication algorithm transaction status) is = absurd (not (ap (λ x. class_answer (r.standing f.sender) (class_of (content_subtype x))) is ∙ class_one (r.standing f.sender)))
@@ -231,7 +231,7 @@ module _ (c : Rules) (e : Entry) (r r2 : Readings) (f : Frame) (comes : ComesFro
 -- ---- all events
 
 module _ (c : Rules) (e : Entry) (r r2 : Readings) (a : List ℕ) where
-  -- no exchange without a frame for us and without a kick
+  -- without a frame for this access point and without a kick there is no exchange
   none_of_it : ((f : Frame) → ComesFrom c e a f → ⊥) → ((reason : ℕ) → e.event ≡ event.Kick a reason → ⊥) → (x : Exchange) → IsExchange c e a x → ⊥
   none_of_it no_frame no_kick x (authentication f bssid sequence algorithm transaction status comes is outs) = no_frame f comes
   none_of_it no_frame no_kick x (association f repeated n comes is own outs) = no_frame f comes

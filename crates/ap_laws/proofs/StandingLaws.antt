@@ -1,4 +1,4 @@
--- How a step changes where the stations stand.
+-- How a step changes standings.
 use Rattle.std.proofs.Common.{◌≡◌, ℕ, Bool, true, false, None, Some, List, subst}
 use Rattle.mac_frame.specs.declared.content.Management.{Management}
 use Rattle.mac_frame.specs.declared.content.Management.TheVariants as management
@@ -24,7 +24,7 @@ use Rattle.ap_model.specs.Steps.{Step, FrameComes, faulty, foreign, ours, Checke
 use Rattle.std.proofs.lemmas.Option.{none-some}
 use Rattle.ap_laws.proofs.Same.{same_number}
 
--- every station stands as before, or one moves; it gets no identifier but a free one
+-- no standing changes, or one does, and gets no identifier but a free one
 pub data StandingChange (c : Rules) (r r2 : Readings) : Type 0 where
   same : ((q : List ℕ) → r2.standing q ≡ r.standing q) → StandingChange c r r2
   moved : (a : List ℕ) (s : Standing) → IsMoved r.standing a s r2.standing → ((n : ℕ) → s ≡ Some (Associated n) → IsFree c.shard r.standing a n) → StandingChange c r r2

@@ -1,4 +1,4 @@
--- What any step is to any agreement.
+-- What any step does to any agreement.
 use Rattle.std.proofs.Common.{◌≡◌, ◌≢◌, ℕ, ◌+◌, ◌≤◌, ⊎_elim, Option, None, Some, List, [], ◌∷◌, ◌++◌, refl, sym, ap, ◌∙◌, subst, arith}
 use Rattle.std.specs.Prelude.{is_some, Bool, true, false, if◌then◌else◌}
 use Rattle.std.proofs.lemmas.Bool.{cases_eq}
@@ -97,7 +97,7 @@ module _ (c : Rules) (e : Entry) (clock : ℕ) (r r2 : Readings) (now : r2.clock
             let at = read_of g (r.agreement a tid) old reads there in
             ⊎_elim (λ late_now. tick_too_late old there at late_now) (λ not. tick_in_time old there at not) (timed_tells c r r2.clock at.using)
 
-  -- ---- bytes that are no frame for us
+  -- ---- bytes that aren't a frame for this access point
 
   no_frame_for_us : (bytes : List ℕ) → e.event ≡ event.Frame bytes → ((f : Frame) → ComesFrom c e a f → ⊥) → LeavesAlone c e a tid clock g
   no_frame_for_us bytes is not =

@@ -1,4 +1,4 @@
--- What each step is to an agreement as its history tells of it.
+-- What each step does to an agreement that its history describes.
 use Rattle.std.proofs.Common.{◌≡◌, ◌≢◌, ℕ, ◌+◌, ◌≤◌, Bool, true, Option, None, Some, List, [], refl, sym, ap, ◌∙◌, subst, arith}
 use Rattle.mac_frame.specs.declared.content.Management.{Management}
 use Rattle.mac_frame.specs.declared.content.Management.TheVariants as management
@@ -24,7 +24,7 @@ use Rattle.ap_laws.proofs.FrameLaws.{same_frame, same_sender, same_content, fram
 use Rattle.ap_laws.proofs.UpLaws.{own_ups}
 use Rattle.std.proofs.lemmas.Option.{none-some, same_Some}
 
--- ---- what a frame's content may be to an agreement
+-- ---- what a frame's content may do to an agreement
 
 abbrev SetsUpBy : ℕ → Management → Type 0
 SetsUpBy tid (management.AddbaRequest token parameters timeout start) = parameters.tid ≡ tid
@@ -59,7 +59,7 @@ DeletesFor tid (content.Management bssid sequence body) = DeletesBy tid body
 DeletesFor tid (content.Control body) = ⊥
 DeletesFor tid (content.Data destination number kind) = ⊥
 
--- which exchange a content may be, by a number, and 0 for none
+-- which exchange a content may be, as a number; 0 for none
 abbrev exchange_by : Management → ℕ
 exchange_by (management.Authentication algorithm transaction status) = 1
 exchange_by (management.AssociationRequest capability interval) = 2
@@ -153,7 +153,7 @@ read_of None o old reads e = absurd (none-some old e)
 read_of (Some g) None old reads e = absurd reads
 read_of (Some g) (Some u) old reads e = record { using = u; is = refl; reads = (let P : Agreement → Type 0 = λ x. ReadsAgreement x u in subst P (same_Some g old e) reads) }
 
--- ---- what a step is to the agreement
+-- ---- what a step does to the agreement
 
 module _ (c : Rules) (e : Entry) (clock : ℕ) (r2 : Readings) (a : List ℕ) (tid : ℕ) where
   -- its window moves past all that it took, and that is passed up
@@ -173,11 +173,10 @@ module _ (c : Rules) (e : Entry) (clock : ℕ) (r2 : Readings) (a : List ℕ) (t
     it_is_alone : LeavesAlone c e a tid clock g → ReadsAgreed g (r2.agreement a tid) → ((old : Agreement) → g ≡ Some old → ups_of a tid e.outs ≡ []) → Telling g
 
   module _ (r : Readings) (g : Option Agreement) (reads : ReadsAgreed g (r.agreement a tid)) where
-    -- it stays as it is
     pub unchanged : LeavesAlone c e a tid clock g → r2.agreement a tid ≡ r.agreement a tid → ((old : Agreement) → g ≡ Some old → ups_of a tid e.outs ≡ []) → Telling g
     unchanged leaves_alone same none = it_is_alone leaves_alone (subst (ReadsAgreed g) (sym same) reads) none
 
-    -- it is discarded, if it is there
+    -- it is discarded, if it exists
     pub gone : (x : Exchange) → IsExchange c e a x → ((new : Agreement) → Opens c e a tid clock new → ⊥) → r2.agreement a tid ≡ None → ups_of a tid e.outs ≡ [] → Telling g
     gone x is not_opened after none = by_case g refl
       where
@@ -196,7 +195,7 @@ module _ (c : Rules) (e : Entry) (clock : ℕ) (r2 : Readings) (a : List ℕ) (t
             (subst P (sym same) (subst Q (sym after) tt))
             (λ old there. absurd (none-some old (sym same ∙ there)))
 
-    -- nothing but a granted request is anything to an agreement that isn't there
+    -- only a granted request changes an agreement that doesn't exist
     pub none_alone : g ≡ None → ((new : Agreement) → Opens c e a tid clock new → ⊥) → LeavesAlone c e a tid clock g
     none_alone none not_opened =
         record {
@@ -220,7 +219,7 @@ module _ (c : Rules) (e : Entry) (clock : ℕ) (r2 : Readings) (a : List ℕ) (t
             let after = ending old.window (subst Q (sym (same_Some v u is)) read).window in
             record { last = after.next; passed = frames; ends = after.step; passes = after.passes; are = alike ∙ own_ups a tid frames }
 
--- a frame that is nothing to it, by its content
+-- a frame that doesn't change it, by its content
 module _ (c : Rules) (e : Entry) (b : List ℕ) (f : Frame) (comes : ComesFrom c e b f) (a : List ℕ) (tid clock : ℕ) (g : Option Agreement) where
   pub alone_but : (body : Content) → f.content ≡ body → (SetsUpFor tid body → ⊥) → (UsesFor tid body → ⊥) → (DeletesFor tid body → ⊥) → ((x : Exchange) → IsExchange c e a x → ⊥) → LeavesAlone c e a tid clock g
   alone_but body is no_setup no_use no_end no_exchange =
@@ -231,7 +230,7 @@ module _ (c : Rules) (e : Entry) (b : List ℕ) (f : Frame) (comes : ComesFrom c
         not_dropped = λ old there d. no_exchange d.exchange d.is;
       }
 
-  -- one that may open an agreement, and doesn't
+  -- a frame that may open an agreement, and doesn't
   pub alone_with : (body : Content) → f.content ≡ body → ((new : Agreement) → Opens c e a tid clock new → ⊥) → (UsesFor tid body → ⊥) → (DeletesFor tid body → ⊥) → exchange_of body ≡ 0 → LeavesAlone c e a tid clock g
   alone_with body is not_opened no_use no_end none =
       record {
@@ -273,7 +272,7 @@ frames_alone c e b f comes a tid clock g other =
     by_exchange x (deauthentication h bssid sequence reason from at) = other (same_sender c e b a f h comes from)
     by_exchange x (kick reason is) = frame_no_kick (spelling f) a reason e.event comes.came is
 
--- no frame came for us at all, and no command
+-- no frame came for this access point, and no command
 pub nothing_alone : (c : Rules) (e : Entry) (a : List ℕ) (tid clock : ℕ) (g : Option Agreement) → ((f : Frame) → ComesFrom c e a f → ⊥) → ((reason : ℕ) → e.event ≡ event.Kick a reason → ⊥) → (e.event ≡ event.Close a tid → ⊥) →
     ((old : Agreement) (n : ℕ) → g ≡ Some old → e.event ≡ event.Tick n → 1 ≤ old.timeout → old.last_use + old.timeout ≤ clock → ⊥) → LeavesAlone c e a tid clock g
 nothing_alone c e a tid clock g no_frame no_kick no_close not_late =

@@ -1,4 +1,4 @@
--- What ends at a tick ends once, each agreement in its turn.
+-- What ends at a tick ends once, each agreement in turn.
 use Rattle.std.proofs.Common.{◌≡◌, ℕ, suc, ◌<◌, ◌⊎◌, inl, inr, ⊎_elim, true, false, Option, List, [], ◌∷◌, ◌++◌, length, refl, sym, ap, ◌∙◌, subst, arith}
 use Rattle.std.specs.Prelude.{Contains, AllPairs}
 use Rattle.std.specs.Ordering.{is_eq}
@@ -72,7 +72,7 @@ module _ (c : Rules) (r : Readings) (a : List ℕ) (tid : ℕ) where
       let rest_none = none_in_turn later rest turns (λ inside. not (later_in (b, t) (a, tid) later inside)) in
       turn b t passed rest ∙ ap (λ xs. xs ++ ups_of a tid rest) (held_elsewhere b a t tid (r.agreement b t) passed passes differ) ∙ rest_none
 
-  -- what comes out of its turn
+  -- the outputs of its turn
   pub record Turn (outs : List Out) : Type 0 where
     pub first : List Out
     pub passes : PassesHeld a tid (r.agreement a tid) first

@@ -29,7 +29,6 @@ ups_of-append a tid (o ∷ xs) ys =
 skipped : (b : Bool) (o : Out) (xs : List Out) → b ≡ false → xs ≡ [] → (if b then o ∷ xs else xs) ≡ []
 skipped b o xs out none = ap (λ x. if x then o ∷ xs else xs) out ∙ none
 
--- nothing of it is among these
 pub none_of : (a : List ℕ) (tid : ℕ) (outs : List Out) → ((d : Up) → Contains outs (out.Up d) → is_up_of a tid (out.Up d) ≡ false) → ups_of a tid outs ≡ []
 none_of a tid [] others = refl
 none_of a tid (o ∷ outs) others =

@@ -1,4 +1,4 @@
--- What a history tells of an agreement (IEEE 802.11-2016, 10.24 and 11.5): all that it took, over whole numbers that
+-- What a history says of an agreement (IEEE 802.11-2016, 10.24 and 11.5): all that it took, over whole numbers that
 -- never wrap.
 use Rattle.std.specs.Prelude.{◌≡◌, ℕ, ◌+◌, ◌-◌, ◌^◌, ◌≤◌, min, true, false, Option, Some, None, List, [], ◌∷◌}
 use Rattle.mac_types.specs.declared.fields.QosControl.{QosControl}
@@ -20,8 +20,8 @@ use Rattle.ap_model.specs.Agreements.{Packet, item}
 use Rattle.ap_model.specs.Runs.{Entry}
 use Rattle.ap_laws.specs.Exchanges.{Exchange, ComesFrom, IsExchange}
 
--- all that it took and where its window starts, the window's size, the scoreboard, the timeout that was asked, and the
--- time of its last use
+-- all that it took and its window's start, the window's size, the scoreboard, the timeout, and the time of its last
+-- use
 pub record Agreement : Type 0 where
   pub window : Window Held
   pub size : ℕ
@@ -29,22 +29,22 @@ pub record Agreement : Type 0 where
   pub timeout : ℕ
   pub last_use : ℕ
 
--- the sum of the ticks, at most 2 ^ 64 - 1
+-- the clock after an event: the sum of the ticks, at most 2 ^ 64 - 1
 abbrev pub advanced : Event → ℕ → ℕ
 advanced (event.Tick n) clock = min (clock + n) (2 ^ 64 - 1)
 advanced (event.Frame bytes) clock = clock
 advanced (event.Kick a reason) clock = clock
 advanced (event.Close a tid) clock = clock
 
--- after a history, which has the newest entry first
+-- the clock after a history, whose newest entry is first
 abbrev pub clock_after : List Entry → ℕ
 clock_after [] = 0
 clock_after (e ∷ older) = advanced e.event (clock_after older)
 
--- ---- what an entry is to the agreement of station a for a TID, at this time
+-- ---- what an entry does to the agreement of station a for a TID, at this time
 
 module _ (c : Rules) (e : Entry) (a : List ℕ) (tid clock : ℕ) where
-  -- a request for it that the hook grants opens it
+  -- a request that the hook grants opens it
   pub record Opens (new : Agreement) : Type 0 where
     pub frame : Frame
     pub comes : ComesFrom c e a frame
@@ -70,13 +70,13 @@ module _ (c : Rules) (e : Entry) (a : List ℕ) (tid clock : ℕ) where
     pub content : p.frame.content ≡ content.Data p.destination p.number (kinds.QosData qos)
     pub for_tid : qos.tid ≡ tid
 
-  -- it was used now, and keeps its size and its timeout
+  -- this entry uses it, and it keeps its size and its timeout
   pub record IsUsed (old new : Agreement) : Type 0 where
     pub size : new.size ≡ old.size
     pub timeout : new.timeout ≡ old.timeout
     pub now : new.last_use ≡ clock
 
-  -- data uses it, which its window takes by a verdict or leaves without one; so does a BlockAckReq
+  -- data uses it, and its window takes the data by a verdict or leaves it without one; or a BlockAckReq uses it
   pub data Uses (old new : Agreement) : Type 0 where
     takes : (p : Packet) (ask : Ask) (verdict : ℕ) → IsItsData p → e.asked ≡ (ask, verdict) ∷ [] → IsUsed old new →
         DataStep true old.size p.number (item p (data_verdict verdict)) old.window new.window → DataMark old.size p.number old.board new.board → Uses old new
@@ -85,7 +85,7 @@ module _ (c : Rules) (e : Entry) (a : List ℕ) (tid clock : ℕ) where
     requests : (f : Frame) (start : ℕ) → ComesFrom c e a f → f.content ≡ content.Control (control.BlockAckReq tid start) → IsUsed old new →
         RequestStep start old.window new.window → RequestMark old.size start old.board new.board → Uses old new
 
-  -- a DELBA of its originator ends it, a command to close it, or a tick when it was not used for as long as its timeout
+  -- a DELBA of its originator ends it, or a command to close it, or a tick by which its timeout has passed without use
   pub data Ends (old : Agreement) : Type 0 where
     deleted : (f : Frame) (bssid : List ℕ) (sequence : ℕ) (parameters : DelbaParameters) (reason : ℕ) → ComesFrom c e a f →
         f.content ≡ content.Management bssid sequence (management.Delba parameters reason) → parameters.initiator ≡ true → parameters.tid ≡ tid → Ends old
@@ -97,14 +97,14 @@ module _ (c : Rules) (e : Entry) (a : List ℕ) (tid clock : ℕ) where
     pub exchange : Exchange
     pub is : IsExchange c e a exchange
 
-  -- the entry is nothing to it, whether it is there or not
+  -- the entry does nothing to it, whether it exists or not
   pub record LeavesAlone (old : Option Agreement) : Type 0 where
     pub not_opened : (new : Agreement) → Opens new → ⊥
     pub not_used : (g new : Agreement) → old ≡ Some g → Uses g new → ⊥
     pub not_ended : (g : Agreement) → old ≡ Some g → Ends g → ⊥
     pub not_dropped : (g : Agreement) → old ≡ Some g → Drops → ⊥
 
--- what a history tells of the agreement of station a for a TID, and the entries since it was opened; the newest first
+-- what a history says of the agreement of station a for a TID, and the entries since it was opened, newest first
 pub data Agreed (c : Rules) (a : List ℕ) (tid : ℕ) : List Entry → Option Agreement → List Entry → Type 0 where
   never_yet : Agreed c a tid [] None []
   opened : (e : Entry) (older since : List Entry) (old : Option Agreement) (new : Agreement) →

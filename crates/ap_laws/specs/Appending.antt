@@ -7,11 +7,11 @@ use Rattle.ap_model.specs.Readings.{Readings, Rules}
 use Rattle.ap_model.specs.Runs.{Entry, Run, opening, History}
 use Rattle.ap_model.specs.AccessPoint.{EventsLead}
 
--- a run and one that goes on from what it leaves are a run
+-- a run, followed by one from the readings that it leaves, is a run
 abbrev pub RunsAppend : Type 0
 RunsAppend = (c : Rules) (r mid r2 : Readings) (first more : List Entry) → Run c r first mid → Run c mid more r2 → Run c r (first ++ more) r2
 
--- what events lead to, and what others lead to from there, is what all of them lead to
+-- what events lead to, followed by what others lead to from there, is what all of them lead to
 abbrev pub LeadsAppend : {S : Type 0} → (S → Ask → ℕ → S → Type 0) → Type 0
 LeadsAppend {S} R =
     (c : ℕ → Rules) (r mid r2 : ℕ → Readings) (events more : List Event) (j k l : S) (results others : List (Option (List Out))) →
@@ -23,6 +23,6 @@ pub record Histories (c : ℕ → Rules) (r : ℕ → Readings) : Type 0 where
   pub entries : ℕ → List Entry
   pub runs : (s : ℕ) → s < 8 → Run (c s) opening (entries s) (r s)
 
--- where each of eight shards has some history, there are eight such
+-- if each of eight shards has a history, there are eight histories together
 abbrev pub HistoriesMeet : Type 0
 HistoriesMeet = (c : ℕ → Rules) (r : ℕ → Readings) → ((s : ℕ) → s < 8 → ∥ History (c s) (r s) ∥₁) → ∥ Histories c r ∥₁

@@ -1,4 +1,4 @@
--- Where a station stands, by the exchanges that its history tells of (IEEE 802.11-2016, 11.3).
+-- A station's standing, by the exchanges in its history (IEEE 802.11-2016, 11.3).
 use Rattle.std.specs.Prelude.{◌≡◌, ℕ, Bool, true, false, Some, None, List, [], ◌∷◌}
 use Rattle.mac_frame.specs.declared.content.Management.TheVariants as management
 use Rattle.mac_frame.specs.declared.content.Content.{Content}
@@ -12,15 +12,15 @@ use Rattle.ap_model.specs.Associations.{authentication_answer, association_answe
 use Rattle.ap_model.specs.Steps.{IsOurs}
 use Rattle.ap_model.specs.Runs.{Entry}
 
--- what is accepted of a station: a (re)association with the identifier that it was given; a deauthentication by the
--- station or by the operator
+-- the exchanges of a station: a (re)association has the identifier that it was given; a deauthentication is the
+-- station's or the operator's
 pub data Exchange : Type 0 where
   Authenticated : Exchange
   Associated : (identifier : ℕ) → Exchange
   Disassociated : Exchange
   Deauthenticated : Exchange
 
--- where a station stands after these exchanges, the newest first
+-- a station's standing after these exchanges, the newest first
 abbrev pub standing_after : List Exchange → Standing
 standing_after [] = None
 standing_after (Authenticated ∷ older) = Some known.Authenticated
@@ -42,7 +42,7 @@ pub data IsRequest : Bool → Content → Type 0 where
   again : (bssid : List ℕ) (sequence capability interval : ℕ) (current : List ℕ) →
       IsRequest true (content.Management bssid sequence (management.ReassociationRequest capability interval current))
 
--- the entry is this exchange of station a; authentication and association where they are answered with status 0
+-- the entry is this exchange of station a; authentication and association count if the reply has status 0
 pub data IsExchange (c : Rules) (e : Entry) (a : List ℕ) : Exchange → Type 0 where
   authentication : (f : Frame) (bssid : List ℕ) (sequence algorithm transaction status : ℕ) → ComesFrom c e a f →
       f.content ≡ content.Management bssid sequence (management.Authentication algorithm transaction status) →
@@ -55,7 +55,7 @@ pub data IsExchange (c : Rules) (e : Entry) (a : List ℕ) : Exchange → Type 0
       f.content ≡ content.Management bssid sequence (management.Deauthentication reason) → IsExchange c e a Deauthenticated
   kick : (reason : ℕ) → e.event ≡ event.Kick a reason → IsExchange c e a Deauthenticated
 
--- the exchanges of station a in a history; both have the newest first
+-- the exchanges of station a in a history; both lists have the newest first
 pub data Exchanges (c : Rules) (a : List ℕ) : List Entry → List Exchange → Type 0 where
   none_yet : Exchanges c a [] []
   one_more : (e : Entry) (x : Exchange) (older : List Entry) (exchanges : List Exchange) →

@@ -11,21 +11,21 @@ pub record HoldsOnce (c : Rules) (r : Readings) : Type 0 where
   pub own : (a : List ℕ) (n : ℕ) → r.standing a ≡ Some (Associated n) → IsOwn c.shard n
   pub once : NoneTwice r.standing
 
--- no two stations of eight shards hold one identifier
+-- in eight shards no two stations hold one identifier
 abbrev pub NoTwoHold : (ℕ → Readings) → Type 0
 NoTwoHold r =
     (s t : ℕ) (a b : List ℕ) (n : ℕ) → s < 8 → t < 8 →
     (r s).standing a ≡ Some (Associated n) → (r t).standing b ≡ Some (Associated n) → (s ≡ t) × (a ≡ b)
 
--- nobody holds an association identifier in the opening
+-- in the opening no association identifier is held
 abbrev pub OpeningHoldsOnce : Type 0
 OpeningHoldsOnce = (c : Rules) → HoldsOnce c opening
 
--- a run leaves each association identifier of a shard held at most once
+-- a run keeps that each association identifier of a shard is held at most once
 abbrev pub RunHoldsOnce : Type 0
 RunHoldsOnce = (c : Rules) (r r2 : Readings) (entries : List Entry) → HoldsOnce c r → Run c r entries r2 → HoldsOnce c r2
 
--- no two stations of any shards hold one association identifier after a run of the link
+-- after a run of the link no two stations of any shards hold one association identifier
 abbrev pub AccessPointHoldsOnce : Type 0
 AccessPointHoldsOnce =
     (c : ℕ → Rules) (r r2 : ℕ → Readings) (turns : List Turn) →

@@ -17,11 +17,11 @@ use Rattle.ap_model.specs.Readings.{Readings, Rules, Using}
 use Rattle.ap_model.specs.Steps.{IsOurs}
 use Rattle.ap_model.specs.Runs.{Entry, Handles, Run, opening}
 
--- a station stands in State 3 (11.3.1)
+-- a station is in State 3 (11.3.1)
 abbrev pub IsAssociated : List ℕ → Readings → Type 0
 IsAssociated a r = state_of (r.standing a) ≡ 3
 
--- data frames that carry data: of Data no TID is told
+-- kinds of frames that carry data; plain Data has no TID
 pub data Carries : DataKind → Option ℕ → Type 0 where
   plain : Carries kinds.Data None
   with_qos : (qos : QosControl) → Carries (kinds.QosData qos) (Some qos.tid)
@@ -43,12 +43,12 @@ pub record IsArrival (c : Rules) (e : Entry) (d : Up) : Type 0 where
   pub passes : data_verdict verdict ≡ Pass d.mark
 
 module _ (c : Rules) where
-  -- a run before each of whose entries this holds
+  -- a run before each entry of which P holds
   pub data RunWhile (P : Readings → Type 0) : Readings → List Entry → Readings → Type 0 where
     rests : (r : Readings) → RunWhile P r [] r
     goes_on : (r mid r2 : Readings) (e : Entry) (later : List Entry) → P r → Handles c r e mid → RunWhile P mid later r2 → RunWhile P r (e ∷ later) r2
 
-  -- among these entries is the arrival of this data, and from it on its source was associated without a break
+  -- this data arrived among these entries, and from then on its source was associated without interruption
   pub record ComesAssociated (r : Readings) (entries : List Entry) (r2 : Readings) (d : Up) : Type 0 where
     pub before : List Entry
     pub arrival : Entry
@@ -70,35 +70,35 @@ module _ (c : Rules) where
     pub number : (using.window.start + place) % 4096 ≡ d.number
     pub since : RunWhile (IsAssociated d.source) r entries r2
 
--- what holds at every moment of the agreements of a shard: their stations are associated, and their windows start at
--- sequence numbers
+-- what always holds of a shard's agreements: their stations are associated, and their windows start at sequence
+-- numbers
 pub record HoldsAgreements (r : Readings) : Type 0 where
   pub associated : (a : List ℕ) (tid : ℕ) (u : Using) → r.agreement a tid ≡ Some u → IsAssociated a r
   pub start : (a : List ℕ) (tid : ℕ) (u : Using) → r.agreement a tid ≡ Some u → u.window.start < 4096
 
--- each agreement of the opening is held by an associated station: there is none
+-- it holds in the opening, which has no agreements
 abbrev pub OpeningHoldsAgreements : Type 0
 OpeningHoldsAgreements = HoldsAgreements opening
 
--- a run leaves agreements with associated stations alone
+-- every run keeps it
 abbrev pub RunHoldsAgreements : Type 0
 RunHoldsAgreements = (c : Rules) (r r2 : Readings) (entries : List Entry) → HoldsAgreements r → Run c r entries r2 → HoldsAgreements r2
 
--- data that is passed up by the entry after these
+-- the origin of data that an entry passes up after a run from such readings
 abbrev pub FromAnyReadings : Type 0
 FromAnyReadings =
     (c : Rules) (r at r2 : Readings) (entries : List Entry) (e : Entry) (d : Up) →
     HoldsAgreements r → Run c r entries at → Handles c at e r2 → Contains e.outs (out.Up d) →
     ComesAssociated c r (entries ++ e ∷ []) r2 d ⊎ WaitsAssociated c r (entries ++ e ∷ []) r2 d
 
--- what is passed up after a run from the opening comes from an associated station
+-- data passed up after a run from the opening came from a source that was associated from its arrival on
 abbrev pub FromTheOpening : Type 0
 FromTheOpening =
     (c : Rules) (at r2 : Readings) (entries : List Entry) (e : Entry) (d : Up) →
     Run c opening entries at → Handles c at e r2 → Contains e.outs (out.Up d) →
     ComesAssociated c opening (entries ++ e ∷ []) r2 d
 
--- data is passed up in some run, so these laws speak of something
+-- data is passed up in some run, so these laws aren't vacuous
 pub record SomeIsPassedUp : Type 0 where
   pub rules : Rules
   pub entries : List Entry

@@ -1,9 +1,9 @@
 //! Laws of the link: what holds of every run of an access point (IEEE 802.11-2016, 10.24, 11.3 and
-//! 11.5), whatever came and whatever was decided.
+//! 11.5), for all events and verdicts.
 //!
-//! Main laws: `link_law`, for lists of events at eight shards or at one, and `appending_law`, by which
-//! runs go on. It stands on `ap_model` alone. A law is a function without a body to speak of: its
-//! contract is the theorem, and a caller has it after the call.
+//! Main laws: `link_law`, for lists of events at eight shards or at one, and `appending_law`, which
+//! joins runs. It depends only on `ap_model`. A law is a function with an empty body: its contract
+//! is the theorem, which a caller has after the call.
 #![tactic(auto)]
 
 mod laws;

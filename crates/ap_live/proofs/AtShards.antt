@@ -1,4 +1,4 @@
--- What changes at one shard of eight.
+-- What changes at one of eight shards.
 use Rattle.std.proofs.Common.{◌≡◌, ◌<◌, ◌%◌, ℕ, Bool, true, false, Option, Some, None, List, refl, arith}
 use Rattle.std.specs.Prelude.{◌==◌}
 use Rattle.ap_model.specs.AccessPoint.{shard_of, shard_of_address, shard_of_bytes}
@@ -13,7 +13,7 @@ use Rattle.ap_tagged.specs.declared.tagged.Fate.TheVariants.{Refused, NotHandled
 use Rattle.ap_live.specs.Upholding.{token_at}
 use Rattle.ap_live.proofs.Growing.{by_shard}
 
--- the token of the shard where something was done
+-- the token of the shard that changed
 pub at_shard : (P : Token → Token → Type 0) (a b : Eight) (s : ℕ) → s < 8 → ChangesAt s P a b → P (token_at s a) (token_at s b)
 at_shard P a b =
     by_shard (λ s. ChangesAt s P a b → P (token_at s a) (token_at s b)) (λ c. c.of0) (λ c. c.of1) (λ c. c.of2) (λ c. c.of3) (λ c. c.of4) (λ c. c.of5) (λ c. c.of6) (λ c. c.of7)
@@ -68,7 +68,6 @@ none_is o s = λ (no : o ≡ None) (is : o ≡ Some s). cc
 below : (n s : ℕ) → s ≡ n % 8 → s < 8
 below n s is = omega (arith, is)
 
--- it is one of eight
 pub shard_below : (e : Event) (s : ℕ) → shard_of e ≡ Some s → s < 8
 shard_below (event.Frame bytes) s is = below _ s (same_some (shard_of_bytes bytes) s is)
 shard_below (event.Tick n) s is = absurd (none_is (shard_of (event.Tick n)) s refl is)

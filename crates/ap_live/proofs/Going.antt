@@ -1,4 +1,4 @@
--- How the list that a worker hands on grows.
+-- How the list of a worker's reports grows.
 use Rattle.std.proofs.Common.{◌≡◌, ◌==◌, ◌<◌, ℕ, Bool, true, false, List, [], ◌∷◌, ◌++◌, refl, sym, ap, subst, ◌∙◌, append_assoc}
 use Rattle.std.proofs.lemmas.List.{append-nil}
 use Rattle.ap_books.specs.Counts.{Counts, none, plus}
@@ -43,14 +43,12 @@ tally_none : tally [] ≡ none
 unfolding tally
 tally_none = refl
 
--- one more was served
 serves_one : (a : Live) (n : ℕ) (p m q : Progress) (xs : List Queued) (ts : List Tagged) (x : Queued) (t : Tagged) → ServesAll a n p xs ts m → Serves a n m x t q → ServesAll a n p (xs ++ x ∷ []) (ts ++ t ∷ []) q
 serves_one a n p m q [] [] x t is s = (q, subst (λ (z : Progress). Serves a n z x t q) is s, refl)
 serves_one a n p m q (y ∷ xs) (u ∷ ts) x t r s = (r.0, r.1, serves_one a n r.0 m q xs ts x t r.2 s)
 serves_one a n p m q [] (u ∷ ts) x t r s = absurd r
 serves_one a n p m q (y ∷ xs) [] x t r s = absurd r
 
--- a list begins with itself
 pub begins_same : (b : Beginning) → Begins b b
 begins_same b = record { same_list = refl; same_shapes = refl; has_all = ([], append-nil b.loads) }
 
@@ -72,13 +70,13 @@ not_handled_stays V s e a =
       of7 = stays_if V s e (s == 7) a.of7;
     }
 
--- at a shard of 0 to 7
+-- at a shard from 0 to 7
 pub is_inside : (f : Fate) (s : ℕ) → s < 8 → IsInside f s
 is_inside (Decided outs dropped) s low = low
 is_inside Refused s low = tt
 is_inside NotHandled s low = tt
 
--- nothing becomes of an event that is left alone
+-- an event that isn't handled changes nothing
 pub left_alone : (a : Live) (n : ℕ) (p : Progress) (e : Event) (s : ℕ) → Becomes a n p e s NotHandled p
 left_alone a n p e s =
     record {
@@ -88,7 +86,6 @@ left_alone a n p e s =
       inside = tt;
     }
 
--- what one item adds
 pub served_item : (a : Live) (w w2 : Worker) (x : Queued) (t : Tagged) → Serves a w.number (progress_of w) x t (progress_of w2) → ServedOne a w t w2
 served_item a w w2 x t s =
     let b = s.became in
@@ -118,7 +115,6 @@ served_none a w w2 list list2 is listed =
       parts = subst (λ (e : Eight). KeepParts w.shards e) (sym same) (same_eight w.shards);
     }
 
--- served no more
 pub served_still : (a : Live) (w w1 w2 : Worker) (list list1 list2 : List Tagged) → Served a w w1 list list1 → progress_of w2 ≡ progress_of w1 → list2 ≡ list1 → Served a w w2 list list2
 served_still a w w1 w2 list list1 list2 s is listed =
     let same : w2.shards ≡ w1.shards = ap (λ (p : Progress). p.shards) is in
@@ -133,7 +129,6 @@ served_still a w w1 w2 list list1 list2 s is listed =
       parts = subst (λ (e : Eight). KeepParts w.shards e) (sym same) s.parts;
     }
 
--- served one more
 pub served_more : (a : Live) (w w1 w2 : Worker) (list list1 list2 : List Tagged) (t : Tagged) → Served a w w1 list list1 → w1.number ≡ w.number → ServedOne a w1 t w2
     → list2 ≡ list1 ++ t ∷ [] → Served a w w2 list list2
 served_more a w w1 w2 list list1 list2 t s number one listed =

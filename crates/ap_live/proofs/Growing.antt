@@ -30,7 +30,6 @@ by_shard P p0 p1 p2 p3 p4 p5 p6 p7 (suc (suc (suc (suc (suc (suc zero)))))) low 
 by_shard P p0 p1 p2 p3 p4 p5 p6 p7 (suc (suc (suc (suc (suc (suc (suc zero))))))) low = p7
 by_shard P p0 p1 p2 p3 p4 p5 p6 p7 (suc (suc (suc (suc (suc (suc (suc (suc n)))))))) low = absurd (omega arith)
 
--- of one shard
 grown_token : (V : Readings → List (Ask × ℕ) → Type 0) (s : ℕ) (e : Event) (f : Fate) (here : Bool) (t u : Token) → ChangesIf here (λ t u. Comes V s t e f u) t u
     → u.portion ≡ grown_if here t.portion f
 grown_token V s e (Decided outs dropped) true t u c = c.portion
@@ -38,7 +37,6 @@ grown_token V s e Refused true t u c = ap (λ (x : Token). x.portion) c
 grown_token V s e NotHandled true t u c = ap (λ (x : Token). x.portion) c
 grown_token V s e f false t u c = ap (λ (x : Token). x.portion) c
 
--- of all
 pub grown_tokens : (V : Readings → List (Ask × ℕ) → Type 0) (s : ℕ) (e : Event) (f : Fate) (a b : Eight) → ComesAt V s a e f b → holding_of b ≡ grown_at (holding_of a) s f
 grown_tokens V s e f a b c i =
     record {
@@ -52,14 +50,13 @@ grown_tokens V s e f a b c i =
       of7 = grown_token V s e f (s == 7) a.of7 b.of7 c.of7 i;
     }
 
--- as many parts as before
+-- the number of parts is unchanged
 same_parts : (f : Fate) (here : Bool) (p : Portion) → (grown_if here p f).parts ≡ p.parts
 same_parts (Decided outs dropped) true p = refl
 same_parts Refused true p = refl
 same_parts NotHandled true p = refl
 same_parts f false p = refl
 
--- of all shards
 pub keep_parts : (s : ℕ) (f : Fate) (a b : Eight) → holding_of b ≡ grown_at (holding_of a) s f → KeepParts a b
 keep_parts s f a b is = (
   ap (λ (h : Holding). h.of0.parts) is ∙ same_parts f (s == 0) a.of0.portion,
@@ -119,7 +116,7 @@ not_handled h s i =
       of7 = not_handled_if (s == 7) h.of7 i;
     }
 
--- where one of eight counts has grown, their sum has
+-- if one of eight counts has grown, so has their sum
 module _ (c a0 a1 a2 a3 a4 a5 a6 a7 : Counts) where
   abbrev s1 : Counts
   s1 = plus a0 a1
@@ -184,7 +181,7 @@ module _ (c a0 a1 a2 a3 a4 a5 a6 a7 : Counts) where
   pub in7 : plus s6 (plus a7 c) ≡ plus all c
   in7 = grown_second c s6 a7
 
--- the portions after that of this shard has counted these
+-- the portion of one shard, after these counts if they are its own
 abbrev gains_if : Bool → Portion → Counts → Portion
 gains_if here p c = if here then gains p c else p
 
@@ -201,7 +198,7 @@ gains_at h s c =
       of7 = gains_if (s == 7) h.of7 c;
     }
 
--- their sum has counted these too
+-- their sum has gained these counts
 abbrev SumGains : Holding → Counts → ℕ → Type 0
 SumGains h c s = sum_of (gains_at h s c) ≡ plus (sum_of h) c
 
@@ -218,13 +215,12 @@ sum_gains h c s low =
     (in7 c h.of0.counts h.of1.counts h.of2.counts h.of3.counts h.of4.counts h.of5.counts h.of6.counts h.of7.counts)
     s low
 
--- what became of an event counts
+-- the fate of an event counts
 pub counted_at : (h : Holding) (s : ℕ) (f : Fate) → IsInside f s → sum_of (grown_at h s f) ≡ plus (sum_of h) (fate_counts f)
 counted_at h s (Decided outs dropped) low = sum_gains h (counts_of outs.items dropped) s low
 counted_at h s Refused inside = ap sum_of (unchanged h s) ∙ sym (plus_none (sum_of h))
 counted_at h s NotHandled inside = ap sum_of (not_handled h s) ∙ sym (plus_none (sum_of h))
 
--- a command that was decided counts
 abbrev ActGains : Event → List Out → Eight → Eight → ℕ → Type 0
 ActGains e outs a b s =
     ActsAt s a e outs b → (dropped : Bool) × (holding_of b ≡ gains_at (holding_of a) s (counts_of outs dropped))
@@ -242,7 +238,6 @@ act_gains e outs a b s low =
     (λ c. (c.of7.0, λ i. record { of0 = (c.of0 i).portion; of1 = (c.of1 i).portion; of2 = (c.of2 i).portion; of3 = (c.of3 i).portion; of4 = (c.of4 i).portion; of5 = (c.of5 i).portion; of6 = (c.of6 i).portion; of7 = c.of7.1.portion i }))
     s low
 
--- the parts after a command
 gains_parts : (here : Bool) (p : Portion) (c : Counts) → (gains_if here p c).parts ≡ p.parts
 gains_parts true p c = refl
 gains_parts false p c = refl
@@ -259,7 +254,6 @@ act_parts s c a b is = (
   ap (λ (h : Holding). h.of7.parts) is ∙ gains_parts (s == 7) a.of7.portion c,
 )
 
--- a command that was decided
 pub acted_at : (o o2 : Operator) (e : Event) (outs : List Out) (s : ℕ) → shard_of e ≡ Some s → s < 8 → ActsAt s o.shards e outs o2.shards → Acted o e outs o2
 acted_at o o2 e outs s is low acts =
     let g = act_gains e outs o.shards o2.shards s low acts in

@@ -1,4 +1,4 @@
--- What is handed on, event by event.
+-- What is reported, event by event.
 use Rattle.std.proofs.Common.{◌≡◌, ◌<◌, ℕ, Bool, true, false, Option, Some, None, List, [], ◌∷◌, ◌++◌, inl, inr, refl, sym, ap, subst, ◌∙◌, append_assoc, append-nil}
 use Rattle.std.specs.Prelude.{◌==◌}
 use Rattle.std.proofs.lemmas.List.Elements.{All-nil, All-cons}
@@ -60,7 +60,7 @@ are_judged g programs h h' (x ∷ asked) v =
 -- ---- one event
 
 module _ (law : RunsHold) (V : Readings → List (Ask × ℕ) → Type 0) where
-  -- the link's half of the headline, of the journal with its entry
+  -- the link's half of the main theorem, for the journal with its entry
   link_after : (s : ℕ) (t : Token) (e : Event) (outs : List Out) (dropped : Bool) (u : Token) (x : Adds V s t e outs dropped u)
       → LinkHolds x.rules (x.before ++ entry_of e x.asked outs ∷ []) x.after
   link_after s t e outs dropped u x =
@@ -117,9 +117,9 @@ module _ (law : RunsHold) (a : Live) (worker : ℕ) where
   holds_each p [] (t ∷ ts) q r = absurd r
   holds_each p (x ∷ xs) [] q r = absurd r
 
--- ---- of one shard
+-- ---- one shard
 
--- what goes on from what goes on
+-- a prefix of a prefix is a prefix
 prefix_more : (a b : List Entry) {c : List Entry} → IsPrefix a b → IsPrefix b c → IsPrefix a c
 prefix_more a b p q = (p.0 ++ q.0, sym (append_assoc a p.0 q.0) ∙ (ap (λ (w : List Entry). w ++ q.0) p.1 ∙ q.1))
 

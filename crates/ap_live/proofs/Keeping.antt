@@ -23,7 +23,7 @@ worker_kept a b w keep own =
       fitting = fitting_kept a.stock.maps b.stock.maps keep.tables w.number w.held.seats own.fitting;
     }
 
--- what is so of an access point stays so
+-- what holds of an access point still holds
 pub live_kept : (a b : Live) → KeepsLive a b → IsLive a → IsLive b
 live_kept a b keep live =
     record {

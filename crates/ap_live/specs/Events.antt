@@ -1,4 +1,4 @@
--- The headline of one event that was decided.
+-- The main theorem for one decided event.
 use Rattle.std.specs.Prelude.{◌≡◌, ◌<◌, ℕ, Bool, List, [], ◌∷◌, ◌++◌}
 use mathlib.Core.List.{IsPrefix}
 use Rattle.ap_model.specs.declared.event.Event.{Event}
@@ -19,9 +19,9 @@ use Rattle.ap_live.specs.Serving.{Progress}
 use Rattle.ap_live.specs.Upholding.{token_at}
 use Rattle.ap_live.specs.Verdicts.{AreJudged}
 
--- At the shard of this number the event was decided after all that had been decided there, of which the token had seen
--- a beginning, with these verdicts and these outs. The headline of the link holds of the whole journal with this entry
--- at its end, which the token has then seen, and which is the last of its own.
+-- The event was decided at this shard after all that had been decided there, of which the token had seen a prefix,
+-- with these verdicts and outputs. The link's half of the main theorem holds of the whole journal with this entry at
+-- its end, which the token then has seen, and which is the last of its own.
 pub record EntryHolds (shard : ℕ) (t : Token) (event : Event) (outs : List Out) (u : Token) : Type 0 where
   pub inside : shard < 8
   pub before : List Entry
@@ -34,8 +34,8 @@ pub record EntryHolds (shard : ℕ) (t : Token) (event : Event) (outs : List Out
   pub readings : Readings
   pub holds : LinkHolds rules (before ++ entry_of event asked outs ∷ []) readings
 
--- And each verdict is that of a program that was accepted, within its budget, or of the verdict tables where there is
--- none: of the one whole published set that the worker then had seen, over its own tables. The flag tells whether one
+-- In addition, each verdict is that of an accepted program, within its budget, or of the verdict tables if there is
+-- none: of the one whole published set that the worker then had seen, over its own tables. The flag says whether one
 -- of them dropped data.
 pub record EventHolds (a : Live) (worker : ℕ) (p : Progress) (event : Event) (shard : ℕ) (outs : List Out) (dropped : Bool) (q : Progress) : Type 0 where
   pub entry : EntryHolds shard (token_at shard p.shards) event outs (token_at shard q.shards)
@@ -44,7 +44,7 @@ pub record EventHolds (a : Live) (worker : ℕ) (p : Progress) (event : Event) (
   pub judged : AreJudged (set_of q.seen.loads) entry.asked
   pub flag : dropped ≡ drops entry.asked
 
--- what became of an event that a worker took: one that was not decided changes no token
+-- the main theorem for an event that a worker took: one that was not decided changes no token
 abbrev pub FateHolds : Live → ℕ → Progress → Event → ℕ → Fate → Progress → Type 0
 FateHolds a worker p event shard (Decided outs dropped) q = EventHolds a worker p event shard outs.items dropped q
 FateHolds a worker p event shard Refused q = q.shards ≡ p.shards

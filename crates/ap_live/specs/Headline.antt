@@ -1,4 +1,4 @@
--- The whole headline, of what one who has tokens handed on.
+-- The whole main theorem, for what the owner of a token reports.
 use Rattle.std.specs.Prelude.{◌≡◌, ◌==◌, ◌<◌, ℕ, Bool, true, false, List, [], ◌∷◌, ◌++◌, map, Some}
 use mathlib.Core.List.{IsPrefix}
 use Rattle.ap_model.specs.AccessPoint.{shard_of}
@@ -19,7 +19,7 @@ use Rattle.ap_live.specs.Tokens.{Operator, Worker}
 use Rattle.ap_live.specs.Events.{EntryHolds, FateHolds}
 use Rattle.ap_live.specs.Upholding.{token_at}
 
--- for each item that was taken one was handed on, in order, and the headline holds of each
+-- there is one report for each item taken, in order, and the main theorem holds of each
 abbrev pub HoldsOfEach : Live → ℕ → Progress → List Queued → List Tagged → Progress → Type 0
 HoldsOfEach a worker p [] [] q = q ≡ p
 HoldsOfEach a worker p (x ∷ xs) (t ∷ ts) q =
@@ -28,28 +28,29 @@ HoldsOfEach a worker p (x ∷ xs) (t ∷ ts) q =
 HoldsOfEach a worker p [] (t ∷ ts) q = ⊥
 HoldsOfEach a worker p (x ∷ xs) [] q = ⊥
 
--- with the outs of one event more, if it was decided at the shard
+-- adds the outputs of one event, if it was decided at the shard
 abbrev pub with_outs : Bool → Fate → List (List Out) → List (List Out)
 with_outs true (Decided outs dropped) later = outs.items ∷ later
 with_outs true Refused later = later
 with_outs true NotHandled later = later
 with_outs false f later = later
 
--- the outs of the events that were handed on as decided at this shard, event by event
+-- the outputs of the events that were reported as decided at this shard, event by event
 abbrev pub outs_at : ℕ → List Tagged → List (List Out)
 outs_at s [] = []
 outs_at s (t ∷ ts) = with_outs (t.shard == s) t.fate (outs_at s ts)
 
--- What was handed on at one shard is, event by event, what the token's own entries say that are new. It has seen what
--- it had, and more.
+-- What was reported at one shard is, event by event, the outputs of the token's own new entries. What it has seen
+-- extends what it had seen.
 pub record HandsOn (t : Token) (handed : List (List Out)) (u : Token) : Type 0 where
   pub entries : List Entry
   pub own : u.own ≡ t.own ++ entries
   pub outs : map (λ e. e.outs) entries ≡ handed
   pub goes_on : IsPrefix t.seen u.seen
 
--- The headline of a worker that served. With what `Upholds` says of its token afterwards: what it handed on at a shard
--- are, in order, the outs of entries of one history of that shard from nobody on, of which all the link's laws hold.
+-- The main theorem of a worker that served. With what `Upholds` says of its token afterwards: what it reported at a
+-- shard is, in order, the outputs of entries of one history of that shard from the opening, of which all laws of the
+-- link hold.
 pub record WorkerHeadline (a : Live) (w w2 : Worker) (list list2 : List Tagged) : Type 0 where
   pub items : List Queued
   pub tags : List Tagged
@@ -59,7 +60,7 @@ pub record WorkerHeadline (a : Live) (w w2 : Worker) (list list2 : List Tagged) 
   pub shards : (s : ℕ) → s < 8 → HandsOn (token_at s w.shards) (outs_at s tags) (token_at s w2.shards)
   pub counted : counted_by w2.shards ≡ plus (counted_by w.shards) (tally tags)
 
--- the headline of an operator's command
+-- the main theorem of an operator's command
 pub record OperatorHeadline (o : Operator) (event : Event) (outs : List Out) (o2 : Operator) : Type 0 where
   pub shard : ℕ
   pub shard_is : shard_of event ≡ Some shard

@@ -19,7 +19,7 @@ pub record IsLive (a : Live) : Type 0 where
   pub as_many : a.stock.workers ≡ length a.queues
   pub for_maps : a.list.shapes ≡ shapes_of a.stock.maps
 
--- it is the same one, whatever tokens it gave
+-- it is the same access point, whatever tokens it gave
 pub record KeepsLive (a b : Live) : Type 0 where
   pub queues : b.queues ≡ a.queues
   pub tables : KeepTables a.stock.maps b.stock.maps

@@ -1,4 +1,4 @@
--- A new access point, and tokens that are given out.
+-- A new access point, and giving tokens.
 use Rattle.std.specs.Prelude.{◌≡◌, ◌+◌, ℕ, List, [], length}
 use Rattle.bpf_regions.specs.declared.maps.Shape.{Shape}
 use Rattle.bpf_helpers.specs.Hooked.{shapes_of}
@@ -12,18 +12,18 @@ use Rattle.ap_shards.specs.Tokens.{HasGivenOne}
 use Rattle.ap_live.specs.Lives.{Live}
 use Rattle.ap_live.specs.Tokens.{AreLeft, Left}
 
--- into how many parts each ledger is cut: one for each of 8 operators, one for each of 8 workers, and one that stays
+-- the number of parts of each ledger: one for each of 8 operators, one for each of 8 workers, and one that stays
 abbrev pub parts_in_all : ℕ
 parts_in_all = 17
 
--- empty queues of so many workers, with all passes, and their tables of maps of these shapes
+-- the queues of this many workers, with their handles, and their tables of maps of these shapes
 pub record ArePlaces (workers : ℕ) (shapes : List Shape) (queues : List EventQueue) (passes : LinePasses) (stock : Stock) : Type 0 where
   pub count : length queues ≡ workers
   pub passes_are : ArePassesOf queues passes
   pub maps : shapes_of stock.maps ≡ shapes
   pub many : stock.workers ≡ workers
 
--- so many workers and maps of these shapes; nothing is published, and no token is given out
+-- this many workers, and maps of these shapes; nothing is published, and no token was given
 pub record IsOpened (workers : ℕ) (shapes : List Shape) (draw : ℕ) (a : Live) (published : Beginning) (left : Left) : Type 0 where
   pub queues : length a.queues ≡ workers
   pub maps : shapes_of a.stock.maps ≡ shapes
@@ -35,12 +35,12 @@ pub record IsOpened (workers : ℕ) (shapes : List Shape) (draw : ℕ) (a : Live
   pub parts : left.parts ≡ parts_in_all
   pub shards : left.shards ≡ whole parts_in_all
 
--- one part of each ledger was given out
+-- one part of each ledger was given
 pub record GaveToken (l l2 : Left) : Type 0 where
   pub parts : l2.parts + 1 ≡ l.parts
   pub shards : HasGivenOne l.shards l2.shards
 
--- no part was
+-- no part was given
 pub record GaveNothing (l l2 : Left) : Type 0 where
   pub parts : l2.parts ≡ l.parts
   pub shards : l2.shards ≡ l.shards

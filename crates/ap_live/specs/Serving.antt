@@ -1,4 +1,4 @@
--- What workers and operators hand on, and what their tokens then are.
+-- What workers and operators report, and what their tokens then are.
 use Rattle.std.specs.Prelude.{◌≡◌, ◌<◌, ℕ, Bool, true, false, List, [], ◌∷◌, ◌++◌, Some}
 use Rattle.bpf_helpers.specs.Hooked.{Held}
 use Rattle.versions.specs.Lists.{Beginning, Begins}
@@ -22,32 +22,33 @@ use Rattle.ap_live.specs.Counting.{KeepParts, counted_by, fate_counts, tally}
 use Rattle.ap_live.specs.Lives.{Live}
 use Rattle.ap_live.specs.Tokens.{Operator, Worker}
 
--- how far a worker is: what it took, the loads that it has seen, what its programs change, its tokens
+-- the progress of a worker: what it took, the loads that it has seen, the state of its programs, its tokens
 pub record Progress : Type 0 where
   pub taken : List Queued
   pub seen : Beginning
   pub held : Held
   pub shards : Eight
 
--- what a worker's token has taken, seen and held, and its shares
+-- the progress that a worker's token shows
 abbrev pub progress_of : Worker → Progress
 progress_of w = record { taken = taken_by w.pass; seen = w.seen; held = w.held; shards = w.shards }
 
--- an event is decided at a shard of 0 to 7
+-- an event is decided only at a shard from 0 to 7
 abbrev pub IsInside : Fate → ℕ → Type 0
 IsInside (Decided outs dropped) shard = shard < 8
 IsInside Refused shard = Unit {0}
 IsInside NotHandled shard = Unit {0}
 
--- What became of an event at its shard: if it was decided, then by the programs of the set that the worker then had seen,
--- which is one whole published set, with all loads that it had seen or was told of before; over its own tables.
+-- What became of an event at its shard. If it was decided, then by the programs of the set that the worker then had
+-- seen, which is one whole published set, with all loads that it had seen or been told of before; and over its own
+-- tables.
 pub record Becomes (a : Live) (worker : ℕ) (p : Progress) (e : Event) (shard : ℕ) (f : Fate) (q : Progress) : Type 0 where
   pub begins : Begins p.seen q.seen
   pub came : ComesAt (JudgedBy a.stock.maps worker (set_of q.seen.loads) p.held q.held) shard p.shards e f q.shards
   pub held : HoldsOn f p.held q.held
   pub inside : IsInside f shard
 
--- the worker took this item, and handed on what became of its event at its shard, which is one that is told of it
+-- the worker took this item, and reported the fate of its event at its shard, which the event concerns
 pub record Serves (a : Live) (worker : ℕ) (p : Progress) (x : Queued) (t : Tagged) (q : Progress) : Type 0 where
   pub took : q.taken ≡ p.taken ++ x ∷ []
   pub call : t.call ≡ x.item.call
@@ -55,14 +56,14 @@ pub record Serves (a : Live) (worker : ℕ) (p : Progress) (x : Queued) (t : Tag
   pub told : IsTold x.item.event t.shard
   pub became : Becomes a worker p x.item.event t.shard t.fate q
 
--- one was handed on for each item, in order
+-- there is one report for each item, in order
 abbrev pub ServesAll : Live → ℕ → Progress → List Queued → List Tagged → Progress → Type 0
 ServesAll a worker p [] [] q = q ≡ p
 ServesAll a worker p (x ∷ xs) (t ∷ ts) q = (mid : Progress) × Serves a worker p x t mid × ServesAll a worker mid xs ts q
 ServesAll a worker p [] (t ∷ ts) q = ⊥
 ServesAll a worker p (x ∷ xs) [] q = ⊥
 
--- the worker served one item: its parts of the ledgers have grown by just what was handed on
+-- the worker served one item: its parts of the ledgers have grown by exactly what was reported
 pub record ServedOne (a : Live) (w : Worker) (t : Tagged) (w2 : Worker) : Type 0 where
   pub item : Queued
   pub served : Serves a w.number (progress_of w) item t (progress_of w2)
@@ -70,7 +71,8 @@ pub record ServedOne (a : Live) (w : Worker) (t : Tagged) (w2 : Worker) : Type 0
   pub counted : counted_by w2.shards ≡ plus (counted_by w.shards) (fate_counts t.fate)
   pub parts : KeepParts w.shards w2.shards
 
--- the worker served all of these: they were added to the list, in order, and its parts have grown by just them
+-- the worker served all of these: the reports were appended to the list, in order, and its parts have grown by exactly
+-- them
 pub record Served (a : Live) (w w2 : Worker) (list list2 : List Tagged) : Type 0 where
   pub items : List Queued
   pub tags : List Tagged
@@ -88,7 +90,7 @@ is_command (event.Tick units) = false
 is_command (event.Kick station reason) = true
 is_command (event.Close station tid) = true
 
--- the command was decided at its shard, and the operator's parts of the ledgers have grown by just its answer
+-- the command was decided at its shard, and the operator's parts of the ledgers have grown by exactly its outputs
 pub record Acted (o : Operator) (e : Event) (outs : List Out) (o2 : Operator) : Type 0 where
   pub shard : ℕ
   pub shard_is : shard_of e ≡ Some shard

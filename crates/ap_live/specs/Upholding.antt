@@ -1,4 +1,4 @@
--- What tokens uphold: what one who decides events knows of the shards, by its token alone.
+-- What tokens uphold: what a token alone shows of the shards.
 use Rattle.std.specs.Prelude.{◌≡◌, ◌==◌, ◌<◌, ℕ, if◌then◌else◌}
 use Rattle.ap_model.specs.Readings.{Readings, Rules}
 use Rattle.ap_laws.specs.Headline.{LinkHolds}
@@ -6,15 +6,15 @@ use Rattle.ap_books.specs.Counts.{Counts, counts_in, plus}
 use Rattle.ap_locked.specs.Tokens.{Token, IsAmong}
 use Rattle.ap_shards.specs.Tokens.{Eight}
 
--- the token of this shard, of 0 to 7
+-- the token of this shard, from 0 to 7
 abbrev pub token_at : ℕ → Eight → Token
 token_at s e =
     if s == 0 then e.of0 else (if s == 1 then e.of1 else (if s == 2 then e.of2 else (if s == 3 then e.of3 else
     (if s == 4 then e.of4 else (if s == 5 then e.of5 else (if s == 6 then e.of6 else e.of7))))))
 
--- The link's half of the headline holds of all entries of the shard's journal that the token has seen, from the first
--- one on. Its own stand among them, each at a place of its own, in their order; and its parts of the ledgers have
--- counted just its own.
+-- The link's half of the main theorem holds of all entries of the shard's journal that the token has seen, from the
+-- first on. Its own are among them in order, each at a position of its own; and its parts of the ledgers have counted
+-- exactly its own.
 pub record Upholds (shard : ℕ) (t : Token) : Type 0 where
   pub rules : Rules
   pub number : rules.shard ≡ shard
@@ -23,11 +23,11 @@ pub record Upholds (shard : ℕ) (t : Token) : Type 0 where
   pub among : IsAmong t.own t.seen
   pub counted : t.portion.counts ≡ counts_in t.own
 
--- it is so of each shard
+-- it holds of each shard
 abbrev pub UpholdAll : Eight → Type 0
 UpholdAll e = (s : ℕ) → s < 8 → Upholds s (token_at s e)
 
--- what one's own entries count, of all shards together
+-- what the token's own entries count, of all shards together
 abbrev pub own_counts : Eight → Counts
 own_counts e =
     plus (plus (plus (plus (plus (plus (plus (counts_in e.of0.own) (counts_in e.of1.own)) (counts_in e.of2.own))

@@ -15,8 +15,9 @@ use std::alloc::{AllocError, Global};
 use std::sync::Wait;
 
 impl<B: Ledgers + Journals> LiveAp<B> {
-    /// Decides a `Kick` or a `Close` at once, under its shard's lock, beside that shard's worker. The
-    /// headline holds of what is answered. A command that is refused for memory changes nothing.
+    /// Decides a `Kick` or a `Close` at once, under its shard's lock, concurrently with that shard's
+    /// worker. The main theorem holds of the returned outputs. A command that is refused for lack of
+    /// memory leaves the token unchanged.
     pub fn act<R: Wait>(
         &self,
         rt: &R,

@@ -1,4 +1,4 @@
-//! What is so of tokens.
+//! What holds of tokens.
 
 ghost use Rattle.std.specs.Prelude.{◌≡◌};
 ghost use Rattle.ap_books.specs.Counts.{none};
@@ -8,7 +8,7 @@ ghost use Rattle.ap_live.specs.Counting.{counted_by};
 ghost use Rattle.ap_live.specs.Lives.{KeepsLive, Live};
 ghost use Rattle.ap_live.specs.Tokens.{IsOperator, IsWorker, Operator, Worker};
 
-/// Tokens that were given stay those of the access point, whatever tokens it gives.
+/// Tokens remain valid for their access point, whatever further tokens it gives.
 pub fn tokens_law()
     ensures operators { (a b : Live) (o : Operator) → KeepsLive a b → IsOperator a o →
         IsOperator b o }

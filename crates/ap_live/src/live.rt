@@ -19,8 +19,8 @@ use std::marker::Model;
 use std::sync::Wait;
 use versions::{Entrance, News};
 
-/// What an access point is made with: its link, the shapes of its maps, the first word that each worker
-/// draws, and how many workers there are, of 1 to 8.
+/// What an access point is made from: its link, the shapes of its maps, the first word that each
+/// worker draws, and the number of workers, from 1 to 8.
 #[derive(Drop)]
 pub struct Settings {
     pub link: LinkConfig,
@@ -50,7 +50,8 @@ impl<B: Ledgers + Journals> Model for LiveAp<B> {
 }
 
 impl<B: Ledgers + Journals> LiveAp<B> {
-    /// With all parts of all ledgers: the sum of the books, which is what all shares count, mod 2^64.
+    /// Given all parts of all ledgers: the sum of the books, which is what all shares have counted, mod
+    /// 2^64.
     pub fn gather<R: Wait>(&self, rt: &R, all: &mut Portions<B>) -> Totals
         requires { HasParts B.shares all.old }
         ensures same { all.new ≡ all.old }
@@ -59,7 +60,7 @@ impl<B: Ledgers + Journals> LiveAp<B> {
         self.shards.gather(rt, all)
     }
 
-    /// From now on the worker takes no set without the loads of the news.
+    /// From this call on, the worker enters only sets that include the loads in `news`.
     pub fn learn(&self, worker: &mut WorkerToken<B>, news: News)
         requires own { IsWorker self.now worker.old }
         requires news { news.list ≡ self.now.list.list }
@@ -73,7 +74,7 @@ impl<B: Ledgers + Journals> LiveAp<B> {
         })
     }
 
-    /// The worker with a reader that has learned the news.
+    /// The worker, whose reader has learned `news`.
     fn learned(&self, worker: WorkerToken<B>, news: News) -> WorkerToken<B>
         requires own { IsWorker self.now worker }
         requires news { news.list ≡ self.now.list.list }

@@ -14,15 +14,15 @@ use ap_locked::Journals;
 use bpf_regions::Scope;
 
 impl<B: Ledgers + Journals> LiveAp<B> {
-    /// Whether there is a map of that number and scope, and the word is one of its words.
+    /// Whether there is a map of that number and scope that has this word.
     pub fn has_word(&self, scope: Scope, map: usize, word: u32) -> bool
         ensures { IsTrue result ↔ Names scope self.now.stock.maps map word }
     {
         self.tables.has_word(scope, map, word)
     }
 
-    /// Stores a number in a word of a shared map, mod 2^(8 * width): one access in its legal history. It
-    /// never waits and takes no memory.
+    /// Stores a number in a word of a shared map, mod 2^(8 * width): one access in its legal history.
+    /// It never blocks or allocates.
     pub fn store(&self, operator: &mut OperatorToken<B>, map: usize, word: u32, value: u64)
         requires own { IsOperator self.now operator.old }
         requires there { Names Shared self.now.stock.maps map word }
@@ -34,8 +34,7 @@ impl<B: Ledgers + Journals> LiveAp<B> {
         self.tables.store(&mut operator.seats, map, word, value)
     }
 
-    /// Loads a word of a shared map: one access in its legal history. It never waits and takes no
-    /// memory.
+    /// Loads a word of a shared map: one access in its legal history. It never blocks or allocates.
     pub fn read(&self, operator: &mut OperatorToken<B>, map: usize, word: u32) -> u64
         requires own { IsOperator self.now operator.old }
         requires there { Names Shared self.now.stock.maps map word }
@@ -47,8 +46,8 @@ impl<B: Ledgers + Journals> LiveAp<B> {
         self.tables.read(&mut operator.seats, map, word)
     }
 
-    /// Loads a word of a worker's map once from each worker's table, by rising worker, and answers the
-    /// sum mod 2^(8 * width). It never waits and takes no memory.
+    /// Loads a word of a worker's map once from each worker's table, by worker number, and returns the
+    /// sum mod 2^(8 * width). It never blocks or allocates.
     pub fn sum(&self, operator: &mut OperatorToken<B>, map: usize, word: u32) -> u64
         requires own { IsOperator self.now operator.old }
         requires there { Names Worker self.now.stock.maps map word }

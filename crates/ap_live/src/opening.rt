@@ -1,4 +1,4 @@
-//! A new access point, and the tokens of those who use it.
+//! A new access point, and the tokens of its users.
 
 ghost use Rattle.std.specs.Prelude.{◌≡◌, ◌<◌, ◌≤◌, [], IfOk, OnErr, OnOk};
 ghost use Rattle.versions.specs.Lists.{readers_of};
@@ -21,18 +21,18 @@ use std::sync::Wait;
 use versions::opening::published;
 use versions::{Published, Publisher};
 
-/// Into how many parts each ledger is cut: one for each of 8 operators and of 8 workers, and one that
+/// The number of parts of each ledger: one for each of 8 operators and of 8 workers, and one that
 /// stays.
 pub const PARTS: u64 = 17;
 
-/// A new access point, its publisher, and what gives its tokens.
+/// A new access point, its publisher, and the tokens to give.
 pub struct Opened<B: Ledgers + Journals> {
     pub ap: LiveAp<B>,
     pub publisher: Publisher,
     pub left: LeftTokens<B>,
 }
 
-/// The queues of so many workers, with all their passes, and their tables.
+/// The queues of all workers, with all their handles, and their tables.
 #[derive(Drop)]
 struct Places {
     lines: EventLines,
@@ -40,7 +40,7 @@ struct Places {
     tables: ApTables,
 }
 
-/// Empty queues, and tables of zeros.
+/// Makes empty queues, and tables of zeros.
 fn open_places(alloc: Global, shapes: &Shapes, workers: u32) -> Result<Places, AllocError>
     requires some { 0 < workers }
     requires few { workers ≤ 8 }
@@ -55,7 +55,7 @@ fn open_places(alloc: Global, shapes: &Shapes, workers: u32) -> Result<Places, A
     })
 }
 
-/// An access point of shards, places, and a list of published loads.
+/// An access point from shards, queues, tables, and a list of published loads.
 fn assembled<B: Ledgers + Journals>(
     shards: (Shards<B>, ShardTokens<B>),
     places: Places,
@@ -98,8 +98,8 @@ fn assembled<B: Ledgers + Journals>(
 }
 
 impl<B: Ledgers + Journals> LiveAp<B> {
-    /// An access point before any event, with no program, and tables of zeros. Its ledgers, which are
-    /// cut into `PARTS` parts, and its journals are those of the new shards.
+    /// An access point before any event, with no program, and tables of zeros. Its ledgers, each
+    /// divided into `PARTS` parts, and its journals are those of the new shards.
     pub fn open<R: Wait>(
         rt: &R,
         alloc: Global,
@@ -120,7 +120,7 @@ impl<B: Ledgers + Journals> LiveAp<B> {
             workers,
         } = settings;
         let shards = Shards::open(alloc, &link, new)?;
-        // Given up by calls on each way out, since eight shards and the places have many parts.
+        // Freed by one call on each path, since eight shards, queues and tables have many parts.
         drop(link);
         let places = match open_places(alloc, &shapes, workers) {
             Ok(places) => places,
@@ -140,7 +140,8 @@ impl<B: Ledgers + Journals> LiveAp<B> {
         Ok(assembled(shards, places, list, draw, workers))
     }
 
-    /// The token of the next operator. 62 comes where all are given out: only tests show that 8 are.
+    /// The token of the next operator. Fault 62: all were given. Only tests show that 8 are. If it
+    /// fails, no part of a ledger is given.
     pub fn operator(
         &mut self,
         alloc: Global,
@@ -170,7 +171,8 @@ impl<B: Ledgers + Journals> LiveAp<B> {
         })
     }
 
-    /// The token of a worker, once. Then 62 comes. Only tests show that it is given.
+    /// The token of a worker, given once; after that, fault 62. Only tests show that it is given. If it
+    /// fails, no part of a ledger is given.
     pub fn worker(
         &mut self,
         alloc: Global,

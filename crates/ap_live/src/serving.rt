@@ -1,4 +1,4 @@
-//! What a worker does.
+//! How a worker serves its queue.
 
 ghost use Rattle.std.specs.Prelude.{◌≡◌, IfNone, IfSome};
 ghost use Rattle.ap_live.specs.Headline.{WorkerHeadline};
@@ -17,16 +17,16 @@ use core::mem::replace_with;
 use std::alloc::{AllocError, Global};
 use std::sync::Wait;
 
-/// An item that a worker took, and the gate that is told of it.
+/// An item that a worker took, and the gate to inform.
 struct Taken<'a, G: Gate> {
     item: &'a Item,
     gate: &'a G,
 }
 
 impl<B: Ledgers + Journals> LiveAp<B> {
-    /// Serves what the worker's queue holds, until it is found empty or the gate says stop. Each event
-    /// that was taken is handed on, in order. At a refusal the list holds what was served. The whole
-    /// headline holds of what is handed on, whatever other workers and operators do meanwhile.
+    /// Serves the worker's queue until it is found empty, the gate says stop, or an allocation fails;
+    /// no clause says how many events that are. Each event that was taken is reported in `list`, in
+    /// order. The main theorem holds of the reports, whatever other workers and operators do meanwhile.
     pub fn serve<R: Wait, G: Gate>(
         &self,
         rt: &R,
@@ -59,9 +59,9 @@ impl<B: Ledgers + Journals> LiveAp<B> {
         unreachable!()
     }
 
-    /// Serves the oldest event of the worker's queue, and hands it on, or None where there is none. It
-    /// is decided under its shard's lock, by the programs of one whole published set, unless the gate
-    /// says stop: then it is handed on as one that was not handled.
+    /// Serves the oldest event of the worker's queue, and reports it; `None` if there is none. The
+    /// event is decided under its shard's lock, by the programs of one whole published set, unless the
+    /// gate says stop: then it is reported as not handled.
     fn serve_one<R: Wait, G: Gate>(
         &self,
         rt: &R,
@@ -87,7 +87,7 @@ impl<B: Ledgers + Journals> LiveAp<B> {
         })
     }
 
-    /// What becomes of an event that was taken.
+    /// The fate of an event that was taken.
     fn handle<R: Wait, G: Gate>(
         &self,
         rt: &R,

@@ -1,4 +1,4 @@
-//! What an operator puts.
+//! How an operator puts events.
 
 ghost use Rattle.std.specs.Prelude.{◌≡◌, ◌<◌, ◌-◌, IfErr, OnOk};
 ghost use Rattle.ap_queues.specs.Lines.{puts_of};
@@ -15,10 +15,9 @@ use ap_queues::Unserved;
 use std::sync::Wait;
 
 impl<B: Ledgers + Journals> LiveAp<B> {
-    /// Puts an event into the queue of the worker of its shard, shard s being served by worker s modulo
-    /// their number; a tick for each shard, by rising shard. `call` is the caller's number for it. 61
-    /// comes only where that queue held 256 items at a moment of the call: with the event, and the
-    /// first shard that was not told of it.
+    /// Puts an event into the queue of its shard's worker, and a tick into those of all shards, as
+    /// `EventLines::submit`. Fails with 61 only if a queue held 256 items at a moment of the call, and
+    /// returns the event and that queue's shard, the first that did not get it.
     pub fn submit<R: Wait>(
         &self,
         rt: &R,
@@ -39,7 +38,7 @@ impl<B: Ledgers + Journals> LiveAp<B> {
         self.lines.submit(rt, &mut operator.lines, call, event)
     }
 
-    /// Goes on with a tick at this shard, as `submit`.
+    /// Continues a tick at this shard, as `submit`.
     pub fn submit_at<R: Wait>(
         &self,
         rt: &R,

@@ -1,4 +1,4 @@
-//! What one who uses an access point has of it.
+//! The tokens of an access point's users.
 
 use ap_books::{Ledgers, Portions};
 use ap_locked::Journals;
@@ -9,7 +9,7 @@ use bpf_helpers::WorkerState;
 use std::marker::Model;
 use versions::{Published, Reader};
 
-/// The right of an operator: a pass of each queue, a seat at each table, a part of each ledger.
+/// The right of an operator: a handle on each queue, a seat at each table, a part of each ledger.
 #[derive(Drop)]
 pub struct OperatorToken<B: Ledgers + Journals> {
     pub(crate) lines: OperatorLines,
@@ -25,8 +25,8 @@ impl<B: Ledgers + Journals> Model for OperatorToken<B> {
     ghost view = { λ o. record { lines = o.lines; seats = o.seats; shards = o.shards } };
 }
 
-/// The right of a worker: the pass of its queue, a reader of the published sets, what its programs
-/// change, a part of each ledger. It may move to another thread.
+/// The right of a worker: the handle on its queue, a reader of the published sets, the state of its
+/// programs, a part of each ledger. It may move to another thread.
 #[derive(Drop)]
 pub struct WorkerToken<B: Ledgers + Journals> {
     pub(crate) number: usize,
@@ -44,7 +44,7 @@ impl<B: Ledgers + Journals> Model for WorkerToken<B> {
     ghost view = { λ w. record { number = w.number; pass = w.pass; seen = w.reader; held = w.state; shards = w.shards } };
 }
 
-/// What was not given out yet. It stays in one thread.
+/// What was not given yet. It stays in one thread.
 #[derive(Drop)]
 pub struct LeftTokens<B: Ledgers + Journals> {
     pub(crate) readers: Published,
@@ -85,8 +85,8 @@ impl<B: Ledgers + Journals> WorkerToken<B> {
     ghost use Rattle.ap_live.specs.Lives.{Live};
     ghost use Rattle.ap_live.specs.Tokens.{IsWorker};
 
-    /// Takes other parts of the ledgers, which have counted nothing, and gives its own away, with what
-    /// they have counted.
+    /// Exchanges its parts of the ledgers, with what they have counted, for others that have counted
+    /// nothing. It then has no entries of its own.
     pub fn renew(&mut self, fresh: Portions<B>) -> Portions<B>
         requires { AreFresh fresh }
         ensures given { result ≡ holding_of self.old.shards }
@@ -111,7 +111,7 @@ impl<B: Ledgers + Journals> LeftTokens<B> {
     ghost use Rattle.ap_books.specs.Holdings.{HasParts};
     ghost use Rattle.ap_shards.specs.Tokens.{holding_of};
 
-    /// The parts of the ledgers that were not given out.
+    /// The parts of the ledgers that were not given.
     pub fn into_shares(self) -> Portions<B>
         ensures is { result ≡ holding_of self.shards }
         ensures parts { HasParts self.parts result }

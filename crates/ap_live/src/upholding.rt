@@ -11,7 +11,7 @@ use ap_laws::run_law;
 use ap_locked::Journals;
 
 impl<B: Ledgers + Journals> WorkerToken<B> {
-    /// Tells a proof what the token upholds, and does nothing.
+    /// Proves what the token upholds; does nothing at run time.
     pub fn known(&self)
         ensures upholds { UpholdAll self.now.shards }
         ensures counted { counted_by self.now.shards ≡ own_counts self.now.shards }
@@ -20,8 +20,8 @@ impl<B: Ledgers + Journals> WorkerToken<B> {
         self.shards.known();
     }
 
-    /// Of each shard's journal both workers have then seen the longer of the two beginnings. Each keeps
-    /// its own entries.
+    /// Of each shard's journal both workers then have seen the same, which extends what each had seen.
+    /// Each keeps its own entries.
     pub fn meet(&mut self, other: &mut WorkerToken<B>)
         ensures this { KeepOwn self.old.shards self.new.shards }
         ensures that { KeepOwn other.old.shards other.new.shards }
@@ -32,7 +32,7 @@ impl<B: Ledgers + Journals> WorkerToken<B> {
         self.shards.meet(&mut other.shards);
     }
 
-    /// The same of a worker and an operator.
+    /// The same for a worker and an operator.
     pub fn meet_operator(&mut self, operator: &mut OperatorToken<B>)
         ensures this { KeepOwn self.old.shards self.new.shards }
         ensures that { KeepOwn operator.old.shards operator.new.shards }
@@ -45,7 +45,7 @@ impl<B: Ledgers + Journals> WorkerToken<B> {
 }
 
 impl<B: Ledgers + Journals> OperatorToken<B> {
-    /// Tells a proof what the token upholds, and does nothing.
+    /// Proves what the token upholds; does nothing at run time.
     pub fn known(&self)
         ensures upholds { UpholdAll self.now.shards }
         ensures counted { counted_by self.now.shards ≡ own_counts self.now.shards }
@@ -56,7 +56,7 @@ impl<B: Ledgers + Journals> OperatorToken<B> {
 }
 
 impl<B: Ledgers + Journals> LeftTokens<B> {
-    /// Tells a proof what the tokens uphold, and does nothing.
+    /// Proves what the tokens uphold; does nothing at run time.
     pub fn known(&self)
         ensures upholds { UpholdAll self.now.shards }
         ensures counted { counted_by self.now.shards ≡ own_counts self.now.shards }

@@ -1,4 +1,4 @@
--- One more entry: what is kept under a lock, and what a token has.
+-- One more entry: what a lock guards, and what a token has.
 use Rattle.std.proofs.Common.{◌≡◌, ℕ, List, [], ◌∷◌, ◌++◌, drop, length, ap, sym, subst, ◌∙◌}
 use Rattle.std.proofs.Math.Seq.{drop-append_seam}
 use mathlib.Core.List.{IsPrefix}
@@ -15,7 +15,7 @@ use Rattle.ap_locked.specs.Kept.{Kept, Holds, rules_of, readings_of}
 use Rattle.ap_locked.specs.Tokens.{AreHandled, IsToken, Token}
 use Rattle.ap_locked.proofs.Among.{among_prefix, among_one}
 
--- what lies under the lock after an entry
+-- what the lock guards after an entry
 abbrev pub kept_with : Kept → Shard → Entry → Kept
 kept_with k s2 e = record { shard = s2; journal = k.journal ++ e ∷ []; counts = plus k.counts (entry_counts e) }
 
@@ -32,7 +32,7 @@ holds_with n k s2 e h step same =
       counted = ap (λ c. plus c (entry_counts e)) h.counted ∙ sym (counts_in-one k.journal e);
     }
 
--- the shard handled what its journal has
+-- the shard handled the entries of its journal
 pub journal_handled : (n : ℕ) (k : Kept) → Holds n k → AreHandled n k.journal
 journal_handled n k h = record { rules = rules_of k; number = h.number; readings = readings_of k; run = h.run }
 
@@ -45,7 +45,7 @@ is_token_with n t journal e is had_seen handled =
       counted = ap (λ c. plus c (entry_counts e)) is.counted ∙ sym (counts_in-one t.own e);
     }
 
--- what a judge lists past what it had listed is what was asked
+-- the queries since a snapshot are what the judge's list gained
 pub asked_since : {S : Type 0} (asks : S → List (Ask × ℕ)) (R : S → Ask → ℕ → S → Type 0) → ListsAsks asks R → (before j j2 : S) (asked : List (Ask × ℕ)) → before ≡ j → Answered R j asked j2
     → drop (length (asks before)) (asks j2) ≡ asked
 asked_since asks R law before j j2 asked same answered =

@@ -4,7 +4,6 @@ use Rattle.ap_journal.specs.Beginnings.{Beginning}
 use Rattle.ap_model.specs.Runs.{Entry, rests, opening}
 use Rattle.ap_locked.specs.Tokens.{AreHandled}
 
--- it handled none yet
 pub none_handled : (n : ℕ) → AreHandled n []
 none_handled n =
     record {
@@ -14,7 +13,7 @@ none_handled n =
       run = rests opening;
     }
 
--- what is one of two beginnings of its journal
+-- either of two prefixes of its journal
 pub either_handled : (n : ℕ) (a b c : Beginning Entry) → (c ≡ a) ⊎ (c ≡ b) → AreHandled n a.entries → AreHandled n b.entries → AreHandled n c.entries
 either_handled n a b c (inl is) h k = subst (λ (x : Beginning Entry). AreHandled n x.entries) (sym is) h
 either_handled n a b c (inr is) h k = subst (λ (x : Beginning Entry). AreHandled n x.entries) (sym is) k

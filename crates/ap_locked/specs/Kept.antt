@@ -1,4 +1,4 @@
--- What lies under a shard's lock, and what one event makes of it.
+-- What a shard's lock guards, and how one event changes it.
 use Rattle.std.specs.Prelude.{◌≡◌, ℕ, Bool, List, [], ◌∷◌, ◌++◌}
 use mathlib.Core.List.{IsPrefix}
 use Rattle.ap_model.specs.declared.event.Event.{Event}
@@ -19,16 +19,16 @@ pub record Kept : Type 0 where
   pub journal : List Entry
   pub counts : Counts
 
--- what the shard is made with
+-- the shard's number and configuration
 abbrev pub rules_of : Kept → Rules
 rules_of k = ruled k.shard
 
--- what its later steps read of its history
+-- what its next step needs of its history
 abbrev pub readings_of : Kept → Readings
 readings_of k = reads k.shard
 
--- what is so under the lock of the shard of this number: the readings are what the journal's entries lead to from nobody
--- on, each a step of the link, and the books hold the counts of those entries
+-- what holds under the lock of this shard: the journal's entries lead from the opening to the readings, each as a step
+-- of the link, and the books have counted exactly these entries
 pub record Holds (shard : ℕ) (k : Kept) : Type 0 where
   pub number : (rules_of k).shard ≡ shard
   pub run : Run (rules_of k) opening k.journal (readings_of k)
@@ -38,9 +38,9 @@ pub record Holds (shard : ℕ) (k : Kept) : Type 0 where
 abbrev pub entry_of : Event → List (Ask × ℕ) → List Out → Entry
 entry_of event asked outs = record { event = event; asked = asked; outs = outs }
 
--- the event is one step of the link with these outs, whose verdicts are the judge's, and the flag tells whether one of
--- them dropped data. The journal has just its entry more, the books and the token's parts its counts. The token, which
--- had seen a beginning of the journal, has seen all of it then, and has just this entry more of its own.
+-- the event is one step of the link with these outputs and the judge's verdicts, and the flag says whether one of
+-- these dropped data. The journal gains exactly its entry, the books and the token's parts its counts. The token,
+-- which had seen a prefix of the journal, then has seen all of it, and gains exactly this entry of its own.
 pub record Decided {S : Type 0} (R : S → Ask → ℕ → S → Type 0) (k : Kept) (t : Token) (event : Event) (j : S) (outs : List Out) (dropped : Bool)
     (k2 : Kept) (t2 : Token) (j2 : S) : Type 0 where
   pub asked : List (Ask × ℕ)

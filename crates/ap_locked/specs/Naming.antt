@@ -4,7 +4,7 @@ use Rattle.logbook.specs.Pages.{Book}
 use Rattle.ap_books.specs.Naming.{AreInParts, AreNamed}
 use Rattle.ap_locked.specs.declared.naming.NewShard.{NewShard}
 
--- its ledgers have these names, by the counts, and so many parts, and this is its journal
+-- its ledgers have these names, by count, and this many parts, and this is its journal
 pub record IsNamed (names : ℕ → ℕ) (parts : ℕ) (journal : Book) (n : NewShard) : Type 0 where
   pub named : AreNamed names n.blanks
   pub parted : AreInParts parts n.blanks

@@ -15,11 +15,11 @@ use std::alloc::{AllocError, Global};
 use std::snapshot::Snapshot;
 
 impl<B: Ledgers + Journals, const SHARD: usize> Locked<B, SHARD> {
-    /// Decides an event: its entry stands at the end of the journal, with the outs that are answered,
-    /// and is counted in the books and in the token's shares alike. The flag tells whether a data
-    /// verdict dropped. The token has then seen the whole journal. An event that is refused for
-    /// memory changes nothing, asks nothing and has no entry; so it is where a journal can't have one
-    /// more entry, about 2^61 of them, which no run comes near.
+    /// Decides an event. Its entry, with the returned outputs, is appended to the journal, and counted
+    /// in the books and in the token's shares. The flag says whether a data verdict dropped. The token
+    /// has then seen the whole journal. An event that is refused for lack of memory changes nothing,
+    /// asks for no verdict and has no entry; so does one if the journal is full, at about 2^61 entries,
+    /// which no run reaches.
     pub fn decide<J: Judge>(
         &mut self,
         alloc: Global,

@@ -5,8 +5,8 @@ use ap_model::{AskLog, Event, Judge, Out};
 use std::marker::Model;
 use std::snapshot::Snapshot;
 
-/// An entry of a journal: an event that was handled, what was asked and answered, and what came out.
-/// No value of it is made.
+/// An entry of a journal: a handled event, its queries with their answers, and its outputs. Only
+/// proofs have such values.
 #[derive(Drop)]
 pub struct JournalEntry {
     event: Event,
@@ -29,8 +29,8 @@ impl Entry for JournalEntry {
     ghost unwritten = { record { event = event.Tick 0; asked = []; outs = [] } };
 }
 
-/// What was just done: an event, what came out, and the judge before and after, whose list grew by
-/// what was asked.
+/// What was just done: an event, its outputs, and the judge before and after, whose list grew by
+/// the queries.
 #[derive(Drop)]
 pub(crate) struct Deed<'a, J: Judge> {
     pub(crate) event: &'a Event,

@@ -1,10 +1,10 @@
-//! A shard of the link as it lies under its lock: with its journal, which proofs alone have, and its
-//! books. `Locked::new` makes one, with the `ShardToken` of all who may decide events there;
-//! `Locked::decide` decides one. It stands on `ap_core`, `ap_journal` and `ap_books`.
-//! Promised of a `Locked`, whoever had it before: its state is what the entries of its journal lead
-//! to from nobody on, each a step of the link, and its books hold the counts of those entries. Of a
-//! `ShardToken`: what it has seen is a beginning of the journal, which the shard handled from nobody on;
-//! its own entries stand there in their order, and its shares hold their counts.
+//! A shard of the link as its lock guards it: with its books, and its journal, which only proofs
+//! have. `Locked::new` makes one, and a `ShardToken` with all parts of its ledgers;
+//! `Locked::decide` decides an event. It depends on `ap_core`, `ap_journal` and `ap_books`.
+//! Promised of every `Locked`: the entries of its journal lead from the opening to its state, each
+//! as a step of the link, and its books have counted exactly these. Promised of every `ShardToken`:
+//! the shard handled, from the opening, the prefix of the journal that it has seen; its own entries
+//! are among these in order, and its shares have counted them.
 #![tactic(auto)]
 
 mod deciding;

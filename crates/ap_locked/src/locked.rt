@@ -20,8 +20,7 @@ use ap_model::LinkConfig;
 use std::alloc::{AllocError, Global};
 use std::marker::Model;
 
-/// A shard as it lies under its lock: with its journal, which takes no memory that grows, and its
-/// books.
+/// A shard as its lock guards it: with its books, and its journal, whose entries take no memory.
 #[derive(Drop)]
 pub struct Locked<B: Ledgers + Journals, const SHARD: usize> {
     pub(crate) shard: Shard,
@@ -44,7 +43,7 @@ impl<B: Ledgers + Journals, const SHARD: usize> Model for Locked<B, SHARD> {
 
 impl<B: Ledgers + Journals, const SHARD: usize> Locked<B, SHARD> {
     /// A shard that has handled nothing, with a copy of the configuration, and a token with all parts
-    /// of its ledgers. It answers want of memory alone.
+    /// of its ledgers.
     pub fn new(
         alloc: Global,
         config: &LinkConfig,
@@ -75,14 +74,14 @@ impl<B: Ledgers + Journals, const SHARD: usize> Locked<B, SHARD> {
         Ok((locked, token))
     }
 
-    /// Tells a proof what is so under each lock, and does nothing.
+    /// Proves what holds under each lock; does nothing at run time.
     pub fn known(&self)
         ensures { Holds SHARD self.now }
     {
         let _books = &self.books;
     }
 
-    /// Tells a proof the link's half of the headline, of the shard at this moment, and does nothing.
+    /// Proves the main theorem of the shard at this moment; does nothing at run time.
     pub fn headline(&self)
         ensures { LinkHolds (rules_of self.now) self.now.journal (readings_of self.now) }
     {
@@ -105,14 +104,15 @@ impl<B: Ledgers + Journals, const SHARD: usize> Locked<B, SHARD> {
         self.shard.stations()
     }
 
-    /// What the books count, mod 2^64.
+    /// What the books have counted, mod 2^64.
     pub fn totals(&self) -> Totals
         ensures { Reads result self.now.counts }
     {
         self.books.totals()
     }
 
-    /// With all parts of the ledgers: what the books count, mod 2^64, which is what the shares count.
+    /// Given all parts of the ledgers: what the books have counted, mod 2^64, which is what the shares
+    /// have counted.
     pub fn read(&mut self, all: &mut Shares<B, SHARD>) -> Totals
         requires { all.old.parts ≡ B.shares }
         ensures same { self.new ≡ self.old }

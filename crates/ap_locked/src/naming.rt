@@ -1,4 +1,4 @@
-//! Which journal and which ledgers are a shard's.
+//! Which journal and ledgers a shard has.
 
 ghost use Rattle.ap_books.specs.Naming.{AreInParts};
 
@@ -7,7 +7,7 @@ use ap_books::Blanks;
 use ap_journal::Opened;
 use std::marker::Brand;
 
-/// The journals of an access point: that of each shard. Each access point has a type for them.
+/// The journal of each shard of an access point. Each access point has its own type for them.
 pub trait Journals {
     ghost use Rattle.std.specs.Prelude.{ℕ};
     ghost use Rattle.logbook.specs.Pages.{Book};
@@ -19,7 +19,7 @@ impl Journals for Brand {
     ghost journal_of = { λ shard. record { number = 0; log_name = 0; cells_name = 0 } };
 }
 
-/// What a shard begins with, which has no name yet: new ledgers, and a journal without entries.
+/// What a shard begins with, not yet named: new ledgers, and an empty journal.
 #[derive(Drop)]
 pub struct NewShard {
     pub blanks: Blanks,
@@ -27,7 +27,7 @@ pub struct NewShard {
 }
 
 impl NewShard {
-    /// New ledgers, each cut into so many parts, and a new journal.
+    /// New ledgers, each divided into this many parts, and a new journal.
     pub fn new(parts: u64) -> NewShard
         ensures { AreInParts parts result.blanks }
     {

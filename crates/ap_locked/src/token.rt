@@ -1,4 +1,4 @@
-//! What one who decides events has of a shard.
+//! A right to decide events at a shard.
 
 ghost use Rattle.std.specs.Prelude.{◌≡◌, ◌+◌, ◌<◌, []};
 ghost use Rattle.ap_books.specs.Counts.{none};
@@ -11,8 +11,8 @@ use ap_journal::{Known, Past};
 use std::marker::Model;
 use std::mem;
 
-/// What one who decides events has of a shard: parts of its ledgers, what it has seen of its journal,
-/// and its own entries there. At run time it is the number of the entries that it has seen.
+/// A right to decide events at a shard: parts of its ledgers, the prefix of its journal that was
+/// seen, and one's own entries there. At run time it is the number of entries seen.
 #[derive(Drop)]
 pub struct ShardToken<B: Ledgers + Journals, const SHARD: usize> {
     pub(crate) shares: Shares<B, SHARD>,
@@ -32,15 +32,15 @@ impl<B: Ledgers + Journals, const SHARD: usize> Model for ShardToken<B, SHARD> {
 }
 
 impl<B: Ledgers + Journals, const SHARD: usize> ShardToken<B, SHARD> {
-    /// Tells a proof what is so of each token, and does nothing.
+    /// Proves what holds of each token; does nothing at run time.
     pub fn known(&self)
         ensures { IsToken SHARD self.now }
     {
         let _shares = &self.shares;
     }
 
-    /// Another token, with so many of the parts. It has seen what this one has, and has no entries of
-    /// its own yet.
+    /// Splits off a token with this many parts. It has seen what this one has, and has no entries of
+    /// its own.
     pub fn split_off(&mut self, parts: u64) -> ShardToken<B, SHARD>
         requires some { 0 < parts }
         requires more { parts < self.old.portion.parts }
@@ -57,7 +57,7 @@ impl<B: Ledgers + Journals, const SHARD: usize> ShardToken<B, SHARD> {
         }
     }
 
-    /// Both have then seen the longer of the two beginnings. Each keeps its own entries.
+    /// Both then have seen the same, which extends what each had seen. Each keeps its own entries.
     pub fn meet(&mut self, other: &mut ShardToken<B, SHARD>)
         ensures this { KeepsOwn self.old self.new }
         ensures that { KeepsOwn other.old other.new }
@@ -68,8 +68,8 @@ impl<B: Ledgers + Journals, const SHARD: usize> ShardToken<B, SHARD> {
         other.seen = seen;
     }
 
-    /// Takes other parts, which have counted nothing, and gives its own away, with what they have
-    /// counted. Then it has no entries of its own; it has seen what it had.
+    /// Exchanges its parts, with what they have counted, for others that have counted nothing. It then
+    /// has no entries of its own; what it has seen is unchanged.
     pub fn renew(&mut self, fresh: Shares<B, SHARD>) -> Shares<B, SHARD>
         requires some { 0 < fresh.parts }
         requires nothing { fresh.counts ≡ none }
@@ -82,7 +82,7 @@ impl<B: Ledgers + Journals, const SHARD: usize> ShardToken<B, SHARD> {
         mem::replace(&mut self.shares, fresh)
     }
 
-    /// The parts of the ledgers alone.
+    /// Its parts of the ledgers.
     pub fn into_shares(self) -> Shares<B, SHARD>
         ensures { result ≡ self.portion }
     {

@@ -1,4 +1,4 @@
--- Runs one after another are a run: of a shard, and of an access point.
+-- Runs one after another form a run: of a shard, and of an access point.
 use Rattle.std.proofs.Common.{◌≡◌, ℕ, Bool, true, false, cond, Option, List, [], ◌∷◌, ◌++◌, refl, sym, ap, subst, ◌∙◌, append_assoc}
 use Rattle.std.specs.Prelude.{◌==◌}
 use Rattle.ap_model.specs.declared.event.Event.{Event}
@@ -39,7 +39,7 @@ pub answered_append : {S : Type 0} (R : S → Ask → ℕ → S → Type 0) (p m
 answered_append R p mid p2 [] ys e h = subst (λ q. Answered R q ys p2) e h
 answered_append R p mid p2 (x ∷ xs) ys h g = (h.0, h.1, answered_append R h.0 mid p2 xs ys h.2 g)
 
--- what events lead to, and then others
+-- what events lead to, followed by what later events lead to
 pub leads_append : {S : Type 0} (R : S → Ask → ℕ → S → Type 0) (c : ℕ → Rules) (r mid r2 : ℕ → Readings) (es fs : List Event) (j k l : S) (rs ss : List (Option (List Out))) →
     EventsLead R c r es j rs mid k → EventsLead R c mid fs k ss r2 l → EventsLead R c r (es ++ fs) j (rs ++ ss) r2 l
 leads_append R c r mid r2 es fs j k l rs ss h g =

@@ -1,4 +1,4 @@
--- A step that the two walks of the log share: a struct without fields is made. Assumes `Logic`.
+-- A step that both proofs about the log share: making a struct without fields. Assumes `Logic`.
 use Rattle.std.proofs.Common.{List, [], ◌∷◌, refl}
 use seplogic.Ra.Ura.{Ura}
 use mir.Val.{Val, vstruct, vnil}

@@ -1,5 +1,5 @@
 -- Data and block acknowledgement (IEEE 802.11-2016, 10.24 and 11.5): one definition for each rule. Windows and
--- scoreboards move by the steps of their own definitions, over whole numbers that never wrap.
+-- scoreboards move by their own definitions, over whole numbers that never wrap.
 use Rattle.std.specs.Prelude.{◌≡◌, ℕ, true, false, Option, Some, None, is_some, List, [], ◌∷◌, ◌++◌, if◌then◌else◌}
 use Rattle.std.specs.Option.{option_map}
 use Rattle.mac_types.specs.declared.fields.BlockAckPolicy.TheVariants.{Delayed, Immediate}
@@ -25,34 +25,34 @@ use Rattle.ap_model.specs.Changes.{sends, Settles, Asks, Stays, Agrees, Nothing,
 
 -- ---- what is passed up
 
--- a data frame: the frame, its destination, its TID where it is QoS data, and its sequence number
+-- a data frame: the frame, its destination, its TID if it is QoS data, and its sequence number
 pub record Packet : Type 0 where
   pub frame : Frame
   pub destination : List ℕ
   pub tid : Option ℕ
   pub number : ℕ
 
--- data that is passed up, by its parts
+-- data passed up, from its parts
 abbrev pub up : List ℕ → List ℕ → Option ℕ → ℕ → ℕ → List ℕ → Out
 up source destination tid number mark body =
     Up (record { source = source; destination = destination; tid = tid; number = number; mark = mark; body = body })
 
--- what a verdict lets through at once
+-- what a verdict passes up at once
 abbrev pub let_through : List ℕ → Packet → DataVerdict → List Out
 let_through a p (Pass mark) = up a p.destination p.tid p.number mark p.frame.tail ∷ []
 let_through a p Discard = []
 
--- what a window takes at the packet's place: nothing where it is dropped
+-- what a window takes at the packet's number: nothing if the verdict drops it
 abbrev pub item : Packet → DataVerdict → Option Held
 item p (Pass mark) = Some (Some (p.destination, mark, p.frame.tail))
 item p Discard = None
 
--- a frame that was held, passed up; the place of none holds nothing
+-- a held frame, passed up; the placeholder holds nothing
 abbrev pub up_held : List ℕ → ℕ → ℕ → Held → List Out
 up_held a tid number None = []
 up_held a tid number (Some h) = up a h.0 (Some tid) number h.1 h.2 ∷ []
 
--- what a window hands up, passed up in its order
+-- what a window releases, passed up in its order
 abbrev pub ups : List ℕ → ℕ → List (ℕ × Held) → List Out
 ups a tid [] = []
 ups a tid (p ∷ passed) = up_held a tid p.0 p.1 ++ ups a tid passed
@@ -62,7 +62,7 @@ abbrev pub agreement_for : Readings → List ℕ → Option ℕ → Option Using
 agreement_for r a None = None
 agreement_for r a (Some tid) = r.agreement a tid
 
--- the window's start is told as it was before the packet
+-- the query about a data frame; it has the window's start from before the packet
 abbrev pub data_ask : Readings → List ℕ → Packet → Ask
 data_ask r a p =
     record {
@@ -71,9 +71,9 @@ data_ask r a p =
       context = contexts.data_context a (r.standing a) p.tid p.number (option_map (λ u. u.window.start) (agreement_for r a p.tid));
     }
 
--- ---- data without an agreement is passed up at once
+-- ---- data without an agreement
 
--- data for which there is no agreement: the judge's verdict alone decides whether it is passed up
+-- data without an agreement: the verdict alone decides whether it is passed up
 pub record Delivers (r : Readings) (a : List ℕ) (p : Packet) (asked : List (Ask × ℕ)) (outs : List Out) (r2 : Readings) : Type 0 where
   pub plain : agreement_for r a p.tid ≡ None
   pub verdict : ℕ
@@ -81,9 +81,9 @@ pub record Delivers (r : Readings) (a : List ℕ) (p : Packet) (asked : List (As
   pub is : outs ≡ let_through a p (data_verdict verdict)
   pub stays : Stays r r2
 
--- ---- data under an agreement (10.24.7.6.2), whose last use it is
+-- ---- data of an agreement (10.24.7.6.2), which counts as a use of it
 
--- the window takes the packet's item; a packet that is dropped keeps its place
+-- the window takes the packet's item; a dropped packet's number counts as taken
 pub record Takes (r : Readings) (a : List ℕ) (p : Packet) (tid : ℕ) (u : Using) (asked : List (Ask × ℕ)) (outs : List Out) (r2 : Readings) : Type 0 where
   pub wanted : IsWanted u.window p.number
   pub verdict : ℕ
@@ -96,7 +96,7 @@ pub record Takes (r : Readings) (a : List ℕ) (p : Packet) (tid : ℕ) (u : Usi
   pub is : outs ≡ ups a tid passed
   pub agrees : Agrees r a tid (Some (record { window = window; timeout = u.timeout; last_use = r.clock })) r2
 
--- it is old, or a duplicate: discarded, and no verdict is asked
+-- the packet is old or a duplicate: it is discarded, and no judge is asked
 pub record Leaves (r : Readings) (a : List ℕ) (p : Packet) (tid : ℕ) (u : Using) (asked : List (Ask × ℕ)) (outs : List Out) (r2 : Readings) : Type 0 where
   pub unwanted : IsWanted u.window p.number → ⊥
   pub settles : Settles [] asked outs
@@ -112,14 +112,15 @@ pub data DataComes (r : Readings) (a : List ℕ) (p : Packet) (asked : List (Ask
   taken : (tid : ℕ) (u : Using) → p.tid ≡ Some tid → r.agreement a tid ≡ Some u → Takes r a p tid u asked outs r2 → DataComes r a p asked outs r2
   left : (tid : ℕ) (u : Using) → p.tid ≡ Some tid → r.agreement a tid ≡ Some u → Leaves r a p tid u asked outs r2 → DataComes r a p asked outs r2
 
--- ---- BlockAckReq (10.24.7.6.3): what the window passes up, and then the BlockAck with the scoreboard; a use of the
--- agreement
+-- ---- BlockAckReq (10.24.7.6.3): what the window passes up, then the BlockAck with the scoreboard; it counts as a use
+-- of the agreement
 
 -- the BlockAck that reports a window's scoreboard (IEEE 802.11-2016, 9.3.1.9)
 abbrev pub block_ack : Rules → List ℕ → ℕ → Reading Held → Out
 block_ack c a tid v = sends (sent_control a c.config.bssid (control.BlockAck tid v.scoreboard_start v.scoreboard_bits))
 
--- a BlockAckReq: the window moves, what it passes by is passed up, and a BlockAck reports it
+-- a BlockAckReq under an agreement: the window moves, what it releases is passed up, and a BlockAck reports the
+-- scoreboard
 pub record Reports (c : Rules) (r : Readings) (a : List ℕ) (tid start : ℕ) (u : Using) (asked : List (Ask × ℕ)) (outs : List Out) (r2 : Readings) : Type 0 where
   pub window : Reading Held
   pub size : window.size ≡ u.window.size
@@ -129,26 +130,26 @@ pub record Reports (c : Rules) (r : Readings) (a : List ℕ) (tid start : ℕ) (
   pub settles : Settles (ups a tid passed ++ block_ack c a tid window ∷ []) asked outs
   pub agrees : Agrees r a tid (Some (record { window = window; timeout = u.timeout; last_use = r.clock })) r2
 
--- a BlockAckReq: nothing without an agreement, else a report
+-- a BlockAckReq: a report if there is an agreement, otherwise nothing
 pub data RequestComes (c : Rules) (r : Readings) (a : List ℕ) (tid start : ℕ) (asked : List (Ask × ℕ)) (outs : List Out) (r2 : Readings) : Type 0 where
   unagreed : r.agreement a tid ≡ None → Nothing r asked outs r2 → RequestComes c r a tid start asked outs r2
   agreed : (u : Using) → r.agreement a tid ≡ Some u → Reports c r a tid start u asked outs r2 → RequestComes c r a tid start asked outs r2
 
--- ---- the end of an agreement (11.5.3): all that is held is passed up first
+-- ---- the end of an agreement (11.5.3): all that it holds is passed up first
 
--- what an agreement that ends still holds is passed up
+-- what an ending agreement holds is passed up
 pub data PassesHeld (a : List ℕ) (tid : ℕ) : Option Using → List Out → Type 0 where
   none_held : PassesHeld a tid None []
   held_up : (u : Using) (passed : List (ℕ × Held)) → EndPassesUp u.window passed → PassesHeld a tid (Some u) (ups a tid passed)
 
--- then this comes out; without an agreement nothing does
+-- an agreement ends: what it held is passed up, then `last` is output; without an agreement there is no output
 pub record Ends (r : Readings) (a : List ℕ) (tid : ℕ) (last : List Out) (asked : List (Ask × ℕ)) (outs : List Out) (r2 : Readings) : Type 0 where
   pub first : List Out
   pub passes : PassesHeld a tid (r.agreement a tid) first
   pub settles : Settles (if is_some (r.agreement a tid) then first ++ last else []) asked outs
   pub agrees : Agrees r a tid None r2
 
--- the end, by the recipient (9.6.5.4): reason 37 is 'no longer used', 39 'timeout' (Table 9-45)
+-- a DELBA from the recipient (9.6.5.4): reason 37 is 'no longer used', 39 'timeout' (Table 9-45)
 abbrev pub delba : Rules → List ℕ → ℕ → ℕ → Out
 delba c a tid reason = sends (sent_management a c.config.bssid (management.Delba (record { initiator = false; tid = tid }) reason) [])
 
@@ -162,13 +163,13 @@ pub record Setup : Type 0 where
   pub timeout : ℕ
   pub start : ℕ
 
--- the answer (9.6.5.3): the token, the status, the TID, the immediate policy and no A-MSDU, the size, 0 where it is
--- declined, and the timeout that was asked
+-- the response (9.6.5.3): the request's token, TID and timeout, the status, the immediate policy, no A-MSDU, and the
+-- size, which is 0 in a refusal
 abbrev pub setup_answer : Rules → List ℕ → Setup → ℕ → ℕ → Out
 setup_answer c a s status size =
     sends (sent_management a c.config.bssid (management.AddbaResponse s.token status (immediate_parameters s.parameters.tid size) s.timeout) [])
 
--- what the judge of agreements is asked of an ADDBA request
+-- the query about an ADDBA request
 abbrev pub setup_ask : Readings → List ℕ → Setup → Ask
 setup_ask r a s =
     record {
@@ -177,14 +178,14 @@ setup_ask r a s =
       context = contexts.addba_context a (r.standing a) s.parameters.tid s.parameters.buffer_size s.timeout s.start;
     }
 
--- the hook declines: an agreement that is there stays
+-- the hook declines: an existing agreement stays
 pub record Declines (c : Rules) (r : Readings) (a : List ℕ) (s : Setup) (verdict : ℕ) (asked : List (Ask × ℕ)) (outs : List Out) (r2 : Readings) : Type 0 where
   pub declines : agreement_size verdict s.parameters.buffer_size ≡ None
   pub asks : Asks (setup_ask r a s) verdict asked
   pub is : outs ≡ setup_answer c a s 37 0 ∷ []
   pub stays : Stays r r2
 
--- it grants: an agreement that is there is replaced, and all that it held is passed up first
+-- the hook grants: an existing agreement is replaced, and all that it held is passed up first
 pub record Grants (c : Rules) (r : Readings) (a : List ℕ) (s : Setup) (verdict : ℕ) (asked : List (Ask × ℕ)) (outs : List Out) (r2 : Readings) : Type 0 where
   pub size : ℕ
   pub grants : agreement_size verdict s.parameters.buffer_size ≡ Some size
@@ -198,7 +199,7 @@ pub record Grants (c : Rules) (r : Readings) (a : List ℕ) (s : Setup) (verdict
   pub blanks : ReadsScoreboard (blank s.start size) size window.scoreboard_start window.scoreboard_bits
   pub agrees : Agrees r a s.parameters.tid (Some (record { window = window; timeout = s.timeout; last_use = r.clock })) r2
 
--- a delayed policy is declined with 37, and no verdict is asked
+-- an ADDBA request: a delayed policy is declined with 37, and no judge is asked
 pub data SetsUp (c : Rules) (r : Readings) (a : List ℕ) (s : Setup) (asked : List (Ask × ℕ)) (outs : List Out) (r2 : Readings) : Type 0 where
   delayed : s.parameters.policy ≡ Delayed → Answers (setup_answer c a s 37 0) r asked outs r2 → SetsUp c r a s asked outs r2
   declined : (verdict : ℕ) → s.parameters.policy ≡ Immediate → Declines c r a s verdict asked outs r2 → SetsUp c r a s asked outs r2

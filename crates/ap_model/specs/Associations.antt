@@ -16,19 +16,19 @@ use Rattle.ap_model.specs.Asks.{Ask}
 use Rattle.ap_model.specs.Readings.{Readings, Rules}
 use Rattle.ap_model.specs.Changes.{sends, Settles, Asks, Stays, Moves, Answers}
 
--- which status answers an authentication of station a (11.3.4.3, 9.4.1.9): 13 where the algorithm isn't Open System, 14
--- where the transaction isn't the first, 17 where 512 other stations are known
+-- the status of the reply to an authentication of station a (11.3.4.3, 9.4.1.9): 13 if the algorithm isn't Open
+-- System, 14 if the transaction isn't the first, 17 if the station is new and 512 others are known
 pub data AuthenticationStatus (r : Readings) (a : List ℕ) (algorithm transaction : ℕ) : ℕ → Type 0 where
   other_algorithm : (algorithm ≢ 0) → AuthenticationStatus r a algorithm transaction 13
   other_transaction : (algorithm ≡ 0) → (transaction ≢ 1) → AuthenticationStatus r a algorithm transaction 14
   no_room : (algorithm ≡ 0) → (transaction ≡ 1) → (r.standing a ≡ None) → IsFull r.standing → AuthenticationStatus r a algorithm transaction 17
   accepted : (algorithm ≡ 0) → (transaction ≡ 1) → (IsSome (r.standing a) ⊎ (IsFull r.standing → ⊥)) → AuthenticationStatus r a algorithm transaction 0
 
--- the answer has the algorithm that was asked, transaction 2, and the status
+-- the reply has the request's algorithm, transaction 2, and the status
 abbrev pub authentication_answer : Rules → List ℕ → ℕ → ℕ → Out
 authentication_answer c a algorithm status = sends (sent_management a c.config.bssid (management.Authentication algorithm 2 status) [])
 
--- an authentication: status 0 leads to State 2 from any state, another one changes nothing
+-- an authentication: status 0 leads to State 2 from any state; any other status changes nothing
 pub data Authenticates (c : Rules) (r : Readings) (a : List ℕ) (algorithm transaction : ℕ) (asked : List (Ask × ℕ)) (outs : List Out) (r2 : Readings) : Type 0 where
   accepts : AuthenticationStatus r a algorithm transaction 0 → Settles (authentication_answer c a algorithm 0 ∷ []) asked outs →
       Moves r a (Some Authenticated) r2 → Authenticates c r a algorithm transaction asked outs r2
@@ -42,12 +42,12 @@ pub record Request : Type 0 where
   pub listen_interval : ℕ
   pub again : Bool
 
--- the answer to a request (IEEE 802.11-2016, 9.3.3.7 and 9.3.3.9)
+-- the kind of the response to a request (IEEE 802.11-2016, 9.3.3.7 and 9.3.3.9)
 abbrev pub response : Bool → ℕ → ℕ → Management
 response true status aid = management.ReassociationResponse 1 status aid
 response false status aid = management.AssociationResponse 1 status aid
 
--- the answer (9.3.3.7, 9.3.3.9): capability 1, the status, the AID field, 0 where the request is refused, and the rates
+-- the response (9.3.3.7, 9.3.3.9): capability 1, the status, the AID field, which is 0 in a refusal, and the rates
 abbrev pub association_answer : Rules → List ℕ → Bool → ℕ → ℕ → Out
 association_answer c a again status aid = sends (sent_management a c.config.bssid (response again status aid) (rates_text c.config.rates))
 
@@ -55,16 +55,16 @@ association_answer c a again status aid = sends (sent_management a c.config.bssi
 abbrev pub aid_field : ℕ → ℕ
 aid_field n = 49152 + n
 
--- it asks for an infrastructure network, and some Supported Rates element is not empty
+-- the request asks for an infrastructure network, and some Supported Rates element isn't empty
 pub record Suits (q : Request) : Type 0 where
   pub infrastructure : bits q.capability 0 1 ≡ 1
   pub rates : IsSome (rates_of q.frame)
 
--- its first SSID element names this network
+-- the request's first SSID element names this network
 abbrev pub Names : Rules → Request → Type 0
 Names c q = ssid_of q.frame ≡ Some c.config.ssid
 
--- what the judge of associations is asked of a request
+-- the query about a request
 abbrev pub association_ask : Readings → List ℕ → Request → Ask
 association_ask r a q =
     record {
@@ -73,7 +73,7 @@ association_ask r a q =
       context = contexts.association_context a (r.standing a) q.capability q.listen_interval q.again;
     }
 
--- a request that the hook admits, with any free identifier: it leads to State 3
+-- the hook admits a request, which gets any free identifier and leads to State 3
 pub record Admits (c : Rules) (r : Readings) (a : List ℕ) (q : Request) (verdict : ℕ) (asked : List (Ask × ℕ)) (outs : List Out) (r2 : Readings) : Type 0 where
   pub admits : association_status verdict ≡ 0
   pub identifier : ℕ
@@ -82,7 +82,7 @@ pub record Admits (c : Rules) (r : Readings) (a : List ℕ) (q : Request) (verdi
   pub is : outs ≡ association_answer c a q.again 0 (aid_field identifier) ∷ []
   pub moves : Moves r a (Some (Associated identifier)) r2
 
--- one that it refuses
+-- the hook refuses a request
 pub record Refuses (c : Rules) (r : Readings) (a : List ℕ) (q : Request) (verdict : ℕ) (asked : List (Ask × ℕ)) (outs : List Out) (r2 : Readings) : Type 0 where
   pub refuses : association_status verdict ≢ 0
   pub identifier : ℕ
@@ -91,7 +91,7 @@ pub record Refuses (c : Rules) (r : Readings) (a : List ℕ) (q : Request) (verd
   pub is : outs ≡ association_answer c a q.again (association_status verdict) 0 ∷ []
   pub stays : Stays r r2
 
--- a (re)association request: the tests in their order, and then the verdict
+-- a (re)association request: the checks in order, then the verdict
 pub data Associates (c : Rules) (r : Readings) (a : List ℕ) (q : Request) (asked : List (Ask × ℕ)) (outs : List Out) (r2 : Readings) : Type 0 where
   unsuited : (Suits q → ⊥) → Answers (association_answer c a q.again 10 0) r asked outs r2 → Associates c r a q asked outs r2
   elsewhere : Suits q → (Names c q → ⊥) → Answers (association_answer c a q.again 12 0) r asked outs r2 → Associates c r a q asked outs r2
@@ -99,7 +99,7 @@ pub data Associates (c : Rules) (r : Readings) (a : List ℕ) (q : Request) (ask
   admitted : (verdict : ℕ) → Suits q → Names c q → Admits c r a q verdict asked outs r2 → Associates c r a q asked outs r2
   refused : (verdict : ℕ) → Suits q → Names c q → Refuses c r a q verdict asked outs r2 → Associates c r a q asked outs r2
 
--- a frame that takes a station somewhere, without an answer
+-- a frame that changes a station's standing, without a reply
 pub record Departs (r : Readings) (a : List ℕ) (s : Standing) (asked : List (Ask × ℕ)) (outs : List Out) (r2 : Readings) : Type 0 where
   pub settles : Settles [] asked outs
   pub moves : Moves r a s r2

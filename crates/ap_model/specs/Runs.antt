@@ -6,7 +6,7 @@ use Rattle.ap_model.specs.Asks.{Ask}
 use Rattle.ap_model.specs.Readings.{Readings, Rules}
 use Rattle.ap_model.specs.Steps.{Step}
 
--- an event that was handled: the verdicts that it asked, each with its answer, and what came out
+-- a handled event: its queries, each with its answer, and its outputs
 pub record Entry : Type 0 where
   pub event : Event
   pub asked : List (Ask × ℕ)
@@ -21,12 +21,12 @@ module _ (c : Rules) where
   abbrev pub Handles : Readings → Entry → Readings → Type 0
   Handles r e r2 = Step c r e.event e.asked e.outs r2
 
-  -- entries of which each is a step after those before it
+  -- entries, each a step after those before it
   pub data Run : Readings → List Entry → Readings → Type 0 where
     rests : (r : Readings) → Run r [] r
     goes_on : (r mid r2 : Readings) (e : Entry) (later : List Entry) → Handles r e mid → Run mid later r2 → Run r (e ∷ later) r2
 
--- a history of these readings: a run that leaves them, from the opening on
+-- a history of these readings: a run from the opening that leaves them
 pub record History (c : Rules) (r : Readings) : Type 0 where
   pub entries : List Entry
   pub run : Run c opening entries r

@@ -2,7 +2,7 @@
 use Rattle.std.specs.Prelude.{◌≡◌, ◌≢◌, ℕ, ◌↔◌, List, length, Contains, AllPairs}
 use Rattle.assoc.specs.Standings.{Standings, state_of}
 
--- n stations stand in State 3 (11.3.1): they are in a list without repetition that has n of them, and no others are
+-- exactly n stations are in State 3 (11.3.1): a list without repetition has exactly these, and n of them
 pub record AreAssociated (f : Standings) (n : ℕ) : Type 0 where
   pub stations : List (List ℕ)
   pub apart : AllPairs (λ a b. a ≢ b) stations

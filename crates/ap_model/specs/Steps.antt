@@ -1,4 +1,4 @@
--- The step that an event is to a shard: one case for each rule of the link.
+-- The step of a shard at an event: one case for each rule of the link.
 use Rattle.std.specs.Prelude.{◌≡◌, ℕ, ◌+◌, ◌-◌, ◌%◌, ◌^◌, ◌<◌, ◌≤◌, ◌↔◌, ◌⊎◌, min, Bool, true, false, Option, Some, None, IsSome, List, [], ◌∷◌, ◌++◌, slice_index, Contains, AllPairs}
 use Rattle.std.specs.Ordering.{nat_cmp}
 use Rattle.std.specs.declared.cmp.Ordering.TheVariants.{Less}
@@ -29,12 +29,12 @@ use Rattle.ap_model.specs.Changes.{sends, Settles, Moves, Nothing, Answers}
 use Rattle.ap_model.specs.Associations.{Authenticates, Associates, Departs}
 use Rattle.ap_model.specs.Agreements.{DataComes, RequestComes, SetsUp, PassesHeld, Ends, delba}
 
--- a BSSID that a frame names is this access point's
+-- the BSSID, if the frame names one, is this access point's
 abbrev pub NamesBssid : List ℕ → Option (List ℕ) → Type 0
 NamesBssid bssid None = Unit {0}
 NamesBssid bssid (Some named) = named ≡ bssid
 
--- the frame is for this access point, and its sender isn't a group (9.2.4.3)
+-- the frame is for this access point, and its sender isn't a group address (9.2.4.3)
 pub record IsOurs (c : Rules) (f : Frame) : Type 0 where
   pub receiver : f.receiver ≡ c.config.bssid
   pub bssid : NamesBssid c.config.bssid (bssid_of f)
@@ -48,22 +48,21 @@ disassociation c a reason = sends (sent_management a c.config.bssid (management.
 abbrev pub deauthentication : Rules → List ℕ → ℕ → Out
 deauthentication c a reason = sends (sent_management a c.config.bssid (management.Deauthentication reason) [])
 
--- one address and TID come before another: by the first octet in which the addresses differ, and then by the TID
+-- one address comes before another: by the first octet in which they differ
 abbrev pub OctetsBefore : List ℕ → List ℕ → Type 0
 OctetsBefore a b = slice_cmp nat_cmp a b ≡ Less
 
--- agreements in the order of their stations' addresses, and of their TIDs
+-- agreements, ordered by their stations' addresses, then by their TIDs
 abbrev pub IsBefore : (List ℕ × ℕ) → (List ℕ × ℕ) → Type 0
 IsBefore p q = OctetsBefore p.0 q.0 ⊎ ((p.0 ≡ q.0) × (p.1 < q.1))
 
 module _ (c : Rules) (r : Readings) where
-  -- a DELBA of an agreement's originator ends it; one of a recipient is nothing to us
+  -- a DELBA from the originator ends the agreement; one from the recipient leads to nothing
   abbrev pub DelbaComes : List ℕ → Bool → ℕ → List (Ask × ℕ) → List Out → Readings → Type 0
   DelbaComes a true tid asked outs r2 = Ends r a tid [] asked outs r2
   DelbaComes a false tid asked outs r2 = Nothing r asked outs r2
 
-  -- a management frame that its class permits; what only a station or an agreement's originator would get is nothing to
-  -- us
+  -- a management frame of a permitted class; kinds that only a station or an originator receives lead to nothing
   abbrev pub ManagementComes : Frame → Management → List (Ask × ℕ) → List Out → Readings → Type 0
   ManagementComes f (management.Authentication algorithm transaction status) asked outs r2 = Authenticates c r f.sender algorithm transaction asked outs r2
   ManagementComes f (management.AssociationRequest capability interval) asked outs r2 =
@@ -91,13 +90,13 @@ module _ (c : Rules) (r : Readings) where
   DataKindComes f destination number kinds.Null asked outs r2 = Nothing r asked outs r2
   DataKindComes f destination number (kinds.QosNull qos) asked outs r2 = Nothing r asked outs r2
 
-  -- a frame that its class permits
+  -- a frame of a permitted class
   abbrev pub Follows : Frame → Content → List (Ask × ℕ) → List Out → Readings → Type 0
   Follows f (content.Management bssid sequence body) asked outs r2 = ManagementComes f body asked outs r2
   Follows f (content.Control body) asked outs r2 = ControlComes f body asked outs r2
   Follows f (content.Data destination sequence kind) asked outs r2 = DataKindComes f destination sequence kind asked outs r2
 
-  -- a frame for us, by what the check of its class answers (11.3.3)
+  -- a frame for this access point, by the result of its class check (11.3.3)
   abbrev pub Checked : Frame → ClassAnswer → List (Ask × ℕ) → List Out → Readings → Type 0
   Checked f Permitted asked outs r2 = Follows f f.content asked outs r2
   Checked f (Deauthenticate reason) asked outs r2 = Answers (deauthentication c f.sender reason) r asked outs r2
@@ -106,7 +105,7 @@ module _ (c : Rules) (r : Readings) where
   abbrev pub check_of : Frame → ClassAnswer
   check_of f = class_answer (r.standing f.sender) (class_of (content_subtype f.content))
 
-  -- bytes that came: no frame, a frame for another, or one for us
+  -- received bytes: not a frame, a frame for another receiver, or one for this access point
   pub data FrameComes (bytes : List ℕ) (asked : List (Ask × ℕ)) (outs : List Out) (r2 : Readings) : Type 0 where
     faulty : (fault : Fault) → first_fault bytes ≡ Some fault → Answers (Note (number_of_fault fault)) r asked outs r2 → FrameComes bytes asked outs r2
     foreign : (f : Frame) → IsFrame f → bytes ≡ spelling f → (IsOurs c f → ⊥) → Answers (Note 56) r asked outs r2 → FrameComes bytes asked outs r2
@@ -114,7 +113,7 @@ module _ (c : Rules) (r : Readings) where
 
   -- ---- time
 
-  -- the agreement was not used for as long as its timeout says, if it has one
+  -- the agreement has a timeout, and was unused for at least that long
   pub record IsTimedOut (clock : ℕ) (u : Using) : Type 0 where
     pub limited : 1 ≤ u.timeout
     pub idle : u.last_use + u.timeout ≤ clock
@@ -125,13 +124,13 @@ module _ (c : Rules) (r : Readings) where
     pub is : r.agreement key.0 key.1 ≡ Some using
     pub late : IsTimedOut clock using
 
-  -- of each what it held is passed up, and then its DELBA is sent
+  -- for each agreement in turn, what it held is passed up and then its DELBA is sent
   pub data EndInTurn : List (List ℕ × ℕ) → List Out → Type 0 where
     nobody_ends : EndInTurn [] []
     one_end : (a : List ℕ) (tid : ℕ) (keys : List (List ℕ × ℕ)) (first rest : List Out) →
         PassesHeld a tid (r.agreement a tid) first → EndInTurn keys rest → EndInTurn ((a, tid) ∷ keys) (first ++ (delba c a tid 39 ∷ rest))
 
-  -- time passes: the agreements that time out end, by rising address and then TID, and no others
+  -- time passes: exactly the agreements that time out end, by increasing address and TID
   pub record Ticks (n : ℕ) (asked : List (Ask × ℕ)) (outs : List Out) (r2 : Readings) : Type 0 where
     pub silent : asked ≡ []
     pub clock : r2.clock ≡ min (r.clock + n) (2 ^ 64 - 1)
@@ -143,7 +142,7 @@ module _ (c : Rules) (r : Readings) where
     pub gone : (key : List ℕ × ℕ) → Contains ending key → r2.agreement key.0 key.1 ≡ None
     pub others : (key : List ℕ × ℕ) → (Contains ending key → ⊥) → r2.agreement key.0 key.1 ≡ r.agreement key.0 key.1
 
-  -- ---- the operator's commands: at a known station, or at another
+  -- ---- the operator's commands: for a known station, or for another
 
   pub data Kicks (a : List ℕ) (reason : ℕ) (asked : List (Ask × ℕ)) (outs : List Out) (r2 : Readings) : Type 0 where
     kicked : IsSome (r.standing a) → Settles (deauthentication c a reason ∷ []) asked outs → Moves r a None r2 → Kicks a reason asked outs r2

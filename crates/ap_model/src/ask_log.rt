@@ -1,4 +1,4 @@
-//! What a judge was asked: a list that only proofs read.
+//! The queries put to a judge: a list that only proofs read.
 
 ghost use Rattle.std.specs.Prelude.{◌≡◌, ℕ, List, [], ◌∷◌, ◌++◌};
 ghost use Rattle.std.specs.Borrow.{ftrue};
@@ -7,7 +7,7 @@ ghost use Rattle.ap_model.specs.Asks.{Ask};
 use bpf_regions::{Context, Frame, Hook};
 use std::marker::Model;
 
-/// One ask and its answer, as it is noted.
+/// One query and its answer, as recorded.
 #[derive(Clone, Copy)]
 pub(crate) struct Asked<'a> {
     pub(crate) hook: Hook,
@@ -16,8 +16,8 @@ pub(crate) struct Asked<'a> {
     pub(crate) answer: u64,
 }
 
-/// The asks of a judge so far, each with its answer, in their order. It takes no bytes, and its
-/// methods do nothing at run time; a clause reads the list as `asks`.
+/// The queries put to a judge so far, in order, each with its answer. The log has no run-time data,
+/// and its methods do nothing at run time; clauses read the list as `asks`.
 #[derive(Drop)]
 pub struct AskLog {
     pub ghost asks: { List (Ask × ℕ) },
@@ -30,21 +30,21 @@ impl Model for AskLog {
 impl AskLog {
     ghost use Rattle.ap_model.specs.Noting.{noted};
 
-    /// Nothing was asked yet.
+    /// An empty log.
     pub fn new() -> AskLog
         ensures { result.asks ≡ [] }
     {
         AskLog {}
     }
 
-    /// The log with one more ask.
+    /// The log with one more entry at the end.
     pub(crate) fn then(&self, _asked: &Asked<'_>) -> AskLog
         ensures { result.asks ≡ noted self.now.asks _asked.now }
     {
         AskLog {}
     }
 
-    /// Lists an ask and its answer.
+    /// Appends a query and its answer.
     pub fn note(&mut self, hook: Hook, frame: &Frame<'_>, context: &Context, answer: u64)
         ensures { self.new.asks ≡ self.old.asks ++
             (record { hook = hook; frame = frame.now; context = context.now }, answer) ∷ [] }

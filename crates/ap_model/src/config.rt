@@ -1,4 +1,4 @@
-//! What an access point is made with.
+//! The configuration of an access point.
 
 ghost use Rattle.std.specs.Prelude.{◌≡◌, ◌≤◌, length, vec_len, IsSome, IfSome, ◌↔◌};
 
@@ -25,7 +25,7 @@ impl Model for LinkConfig {
     ghost invariant = { λ c. IsConfig (record { bssid = c.bssid; ssid = c.ssid; rates = c.rates }) };
 }
 
-/// A copy in memory of its own.
+/// A deep copy.
 impl Clone for LinkConfig {
     ghost is_clone = { λ a b. b ≡ a };
 
@@ -43,7 +43,7 @@ impl Clone for LinkConfig {
 impl LinkConfig {
     ghost use Rattle.ap_model.specs.Readings.{IsConfig};
 
-    /// None where the name is longer than 32 bytes, or there are no rates or more than 8.
+    /// `None` if the name is longer than 32 bytes, or there are no rates or more than 8.
     pub fn new(bssid: Address, ssid: Octets, rates: Octets) -> Option<Self>
         ensures valid { IsSome result ↔ IsConfig
             (record { bssid = bssid; ssid = ssid; rates = rates }) }

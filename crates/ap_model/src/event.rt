@@ -1,22 +1,22 @@
-//! Events, and what they lead to.
+//! Events and their outputs.
 
 use crate::octets::Octets;
 use mac_frame::{Address, Reason, SequenceNumber, Tid};
 
-/// What may happen to a shard.
+/// An event at a shard.
 #[derive(Drop)]
 pub enum Event {
-    /// Bytes came: a frame without its FCS.
+    /// Bytes were received: a frame without its FCS.
     Frame(Octets),
-    /// As many units of time passed.
+    /// This many units of time passed.
     Tick(u32),
-    /// The operator sends a station away.
+    /// The operator deauthenticates a station.
     Kick { station: Address, reason: Reason },
     /// The operator ends an agreement.
     Close { station: Address, tid: Tid },
 }
 
-/// Data that is passed up. The TID is that of QoS data.
+/// Data that is passed up. Only QoS data has a TID.
 #[derive(Drop)]
 pub struct Up {
     pub source: Address,
@@ -27,13 +27,13 @@ pub struct Up {
     pub body: Octets,
 }
 
-/// What an event leads to.
+/// An output of an event.
 #[derive(Drop)]
 pub enum Out {
-    /// A frame to be sent, without its FCS.
+    /// A frame to send, without its FCS.
     Send(Octets),
     Up(Up),
-    /// 50 to 55: the bytes are no frame. 56: the frame isn't for this access point, or its sender is
+    /// 50 to 55: the bytes aren't a frame. 56: the frame isn't for this access point, or its sender is
     /// a group address. 63: an operator's command names an unknown station.
     Note(u8),
 }

@@ -8,8 +8,8 @@ use crate::octets::Octets;
 use mac_frame::{Address, SequenceNumber, Tid};
 use std::marker::Model;
 
-/// What a window holds of a data frame that was let through: its destination, its mark and its data.
-/// A list of such has a place for none, which no window ever holds.
+/// What a window holds of a data frame that the verdict passed: destination, mark and data. `None`
+/// is a placeholder in lists, which no window ever holds.
 #[derive(Drop)]
 pub struct Held {
     frame: Option<(Address, u8, Octets)>,
@@ -23,7 +23,7 @@ impl Model for Held {
     ghost view = { λ h. h.frame };
 }
 
-/// The place of none.
+/// The placeholder.
 impl Default for Held {
     ghost is_default = { λ h. h ≡ None };
 
@@ -42,7 +42,7 @@ impl Held {
         }
     }
 
-    /// The frame with its source, its TID and its number, passed up. None of the place of none.
+    /// The frame as data passed up, with its source, TID and number. `None` for the placeholder.
     pub fn up(self, source: Address, tid: Tid, number: SequenceNumber) -> Option<Up>
         ensures { result ≡ option_map (λ h.
             record {

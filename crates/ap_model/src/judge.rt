@@ -1,4 +1,4 @@
-//! Who decides.
+//! Who gives verdicts.
 
 ghost use Rattle.std.specs.Prelude.{◌≡◌, ℕ, List, [], ◌∷◌, ◌++◌, drop, slice_index};
 ghost use Rattle.ap_model.specs.Asks.{Ask};
@@ -6,26 +6,26 @@ ghost use Rattle.ap_model.specs.Asks.{Ask};
 use crate::ask_log::AskLog;
 use bpf_regions::{Context, Frame, Hook};
 
-/// What gives the verdicts. It names the relation in which its answers stand, and lists its asks:
-/// each ask makes the list longer by itself and its answer, so a judge whose list is as it was was
-/// asked nothing.
+/// Gives the verdicts. An implementation names the relation that its answers satisfy, and lists its
+/// queries: each query appends exactly itself and its answer, so a judge whose list is unchanged
+/// was not queried.
 pub trait Judge {
-    /// What the judge was asked so far, with its answers, in their order.
+    /// The queries put to the judge so far, in order, with its answers.
     ghost asks: { Self → List (Ask × ℕ) };
 
-    /// From a judge, this ask may be answered so, and the judge is then that one.
+    /// A judge may give this answer to this query, and become that judge.
     ghost gives: { Self → Ask → ℕ → Self → Type 0 };
 
-    /// One ask and its answer.
+    /// Answers one query.
     fn judge(&mut self, hook: Hook, frame: &Frame<'_>, context: &Context) -> u64
         ensures { gives self.old (record { hook = hook; frame = frame.now; context = context.now })
             result self.new };
 
-    /// Each ask is listed, once, at the end.
+    /// Each query is appended once.
     ghost lists: { (p p2 : Self) (q : Ask) (a : ℕ) → gives p q a p2 → asks p2 ≡ asks p ++ (q, a) ∷ [] };
 }
 
-/// Answers from a list, and 0 past its end.
+/// Answers from a list, and with 0 after its end.
 #[derive(Drop)]
 pub struct ListJudge<'a> {
     pub answers: &'a [u64],
@@ -33,7 +33,7 @@ pub struct ListJudge<'a> {
 }
 
 impl<'a> ListJudge<'a> {
-    /// A judge that was asked nothing yet.
+    /// A judge that was not queried yet.
     pub fn new(answers: &'a [u64]) -> Self
         ensures answers { result.answers.now ≡ answers.now }
         ensures unasked { result.asked.asks ≡ [] }
@@ -44,7 +44,7 @@ impl<'a> ListJudge<'a> {
         }
     }
 
-    /// The next answer, which is taken off the list.
+    /// Removes and returns the first answer, or returns 0 if none is left.
     fn next(&mut self) -> u64
         ensures answer { result ≡ slice_index self.old.answers.now 0 }
         ensures rest { self.new.answers.now ≡ drop 1 self.old.answers.now }

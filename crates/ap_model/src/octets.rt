@@ -1,11 +1,11 @@
-//! Bytes in memory of their own.
+//! Owned bytes.
 
 ghost use Rattle.std.specs.Prelude.{◌≡◌, IfOk};
 
 use std::alloc::{AllocError, Global};
 use std::marker::Model;
 
-/// Bytes: of a frame, or of its data. A clause sees the list.
+/// The bytes of a frame, or of its data. Clauses see a list.
 #[derive(Debug, Drop)]
 pub struct Octets {
     bytes: Vec<u8>,
@@ -19,7 +19,7 @@ impl Model for Octets {
     ghost view = { λ o. o.bytes.items };
 }
 
-/// A copy in memory of its own.
+/// A deep copy.
 impl Clone for Octets {
     ghost is_clone = { λ a b. b ≡ a };
 

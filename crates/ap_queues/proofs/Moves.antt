@@ -11,29 +11,29 @@ use Rattle.ap_queues.specs.declared.item.Queued.{Queued}
 use Rattle.ap_queues.specs.declared.item.View.{View}
 use Rattle.ap_queues.specs.Queues.{of, nobody, maker, worker, operator, both, founder, Fits, OneQueue, EndsIn}
 
--- what stands in a list with one more is in the list, or is the one more
+-- a member of a list with one more is in the list, or is that one
 at_last_or : (l : List View) (a b : View) (j : ℕ) → get_elem? (l ++ a ∷ []) j ≡ some b → (get_elem? l j ≡ some b) ⊎ ((j ≡ length l) × (a ≡ b))
 at_last_or [] a b zero e = inr (refl, some-injective a b e)
 at_last_or [] a b (suc j) e = absurd (some-ne-none b (sym e))
 at_last_or (x ∷ xs) a b zero e = inl e
 at_last_or (x ∷ xs) a b (suc j) e = ⊎_elim (λ h. inl h) (λ (t : (j ≡ length xs) × (a ≡ b)). inr (ap suc t.0, t.1)) (at_last_or xs a b j e)
 
--- each view fits at its place
+-- each view fits at its index
 abbrev All : (ℕ → View → Type 0) → List View → Type 0
 All F views = (pass : ℕ) (v : View) → get_elem? views pass ≡ some v → F pass v
 
--- one view is exchanged
+-- one view is replaced
 all_set : (F : ℕ → View → Type 0) (views : List View) (pass : ℕ) (w : View) → F pass w → ((j : ℕ) (u : View) → j ≢ pass → get_elem? views j ≡ some u → F j u) → All F (set views pass w)
 all_set F views pass w mine others j u e = ⊎_elim (λ (x : (j ≡ pass) × (w ≡ u)). subst (λ (y : ℕ × View). F y.0 y.1) (λ i. (sym x.0 i, x.1 i)) mine)
     (λ (x : (j ≢ pass) × (get_elem? views j ≡ some u)). others j u x.0 x.1) (at_set views pass j w u e)
 
--- a pass is split
+-- a handle is split
 fork_all : (F : ℕ → View → Type 0) (views : List View) (pass : ℕ) (l r : View) → F pass l → ((j : ℕ) (u : View) → j ≢ pass → get_elem? views j ≡ some u → F j u) → F (length (set views pass l)) r
     → All F (set views pass l ++ r ∷ [])
 fork_all F views pass l r mine others new j u e = ⊎_elim (all_set F views pass l mine others j u) (λ (x : (j ≡ length (set views pass l)) × (r ≡ u)). subst (λ (y : ℕ × View). F y.0 y.1) (λ i. (sym x.0 i, x.1 i)) new)
     (at_last_or (set views pass l) r u j e)
 
--- one more item before, where it is the operator's
+-- one more item at the front, if it is the operator's
 of_step : (x : Item) (xs ys zs : List Item) (b : Bool) → zs ≡ xs ++ ys → (if b then x ∷ zs else zs) ≡ (if b then x ∷ xs else xs) ++ ys
 of_step x xs ys zs true h = ap (λ l. x ∷ l) h
 of_step x xs ys zs false h = h
@@ -59,7 +59,7 @@ of_stays p put x n =
 no : {P : Type 0} → false ≡ true → P
 no p = absurd (true≢false (sym p))
 
--- the seats, where p has moved to the pass k
+-- the seats, after p moved to handle k
 abbrev moved : ℕ → ℕ → (ℕ → ℕ) → ℕ → ℕ
 moved p k seat q = if q == p then k else seat q
 
@@ -69,7 +69,7 @@ moved_here p k seat = let t : (p == p) ≡ true = grind (arith, nat_tests) in rw
 moved_else : (p k q : ℕ) (seat : ℕ → ℕ) → q ≢ p → seat q ≡ moved p k seat q
 moved_else p k q seat n = let t : (q == p) ≡ false = grind (arith, nat_tests) in rw t refl
 
--- an empty queue and its first pass
+-- an empty queue and its first handle
 pub begins : OneQueue [] (founder ∷ [])
 begins = (0, 0, 0, (λ p. 0), [], [], refl, (λ p le. refl), at_first)
   where
@@ -125,7 +125,7 @@ takes pass v may x items views h at =
       refl,
     )
 
--- the first pass gives away the right to take
+-- the first handle gives away the right to take
 pub founds : (pass : ℕ) (v : View) → v.makes ≡ true → v.takes ≡ true → Forks OneQueue pass v (maker v.made) (worker v.taken)
 founds pass v a b items views h at =
     let mine = h.8 pass v at in
@@ -143,7 +143,6 @@ founds pass v a b items views h at =
           ((λ p. no p), (λ _. (refl, (mine.1 b).1)), (λ p. no p)),
     )
 
--- a new operator
 pub hires : (pass : ℕ) (v : View) → v.makes ≡ true → Forks OneQueue pass v (maker (v.made + 1)) (operator v.made [])
 hires pass v a items views h at =
     let mine = (h.8 pass v at).0 a in
@@ -165,7 +164,7 @@ hires pass v a items views h at =
           ((λ p. no p), (λ p. no p), (λ _. (moved_here v.made k h.3, (omega arith), sym (h.7 v.made (omega arith))))),
     )
 
--- the worker takes an operator's place in
+-- the worker takes an operator's handle
 pub meets : (pass : ℕ) (v : View) (other : ℕ) (w : View) → v.takes ≡ true → w.puts ≡ true → Merges OneQueue pass v other w (both v.taken w.operator w.put) nobody
 meets pass v other w a b items views h at two at' =
     let mine = (h.8 pass v at).1 a in
@@ -181,7 +180,7 @@ meets pass v other w a b items views h at two at' =
     (t.0, t.1, λ p. let it = t.2 p in (it.0 ∙ moved_else w.operator pass u.operator h.3 (λ is. apart (it.0 ∙ (ap h.3 is ∙ sym theirs.0))), it.1, it.2))) in
     (h.0, h.1, h.2, seat, h.4, h.5, h.6, h.7, all_set F (set views pass all) other nobody ((λ p. no p), (λ p. no p), (λ p. no p)) (λ j u apart e. now j u e apart))
 
--- and gives it back
+-- the worker returns it
 pub parts : (pass : ℕ) (v : View) → v.takes ≡ true → v.puts ≡ true → Forks OneQueue pass v (worker v.taken) (operator v.operator v.put)
 parts pass v a b items views h at =
     let mine = h.8 pass v at in
@@ -203,12 +202,12 @@ parts pass v a b items views h at =
           ((λ p. no p), (λ p. no p), (λ _. (moved_here v.operator k h.3, me.1, me.2))),
     )
 
--- what was taken of that operator is a beginning of what it put, and the rest is in the queue
+-- what was taken of that operator is a prefix of what it put, and the rest is in the queue
 pub learns : (pass : ℕ) (v : View) → v.takes ≡ true → v.puts ≡ true → Learns OneQueue pass v (λ items. v.put ≡ of v.operator v.taken ++ of v.operator items)
 learns pass v a b items views h at =
     let mine = h.8 pass v at in
     (mine.2 b).2 ∙ (ap (of v.operator) (h.6 ∙ ap (λ l. l ++ items) (sym (mine.1 a).1)) ∙ of_append v.operator v.taken items)
 
--- what is in the queue of an operator is the end of what it put
+-- the operator's items in the queue are the last that it put
 pub ends_in : (pass : ℕ) (v : View) → v.puts ≡ true → Learns OneQueue pass v (EndsIn v)
 ends_in pass v b items views h at = (of v.operator h.5, ((h.8 pass v at).2 b).2 ∙ (ap (of v.operator) h.6 ∙ of_append v.operator h.5 items))

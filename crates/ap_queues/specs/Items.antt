@@ -9,7 +9,7 @@ pub record Item : Type 0 where
   pub shard : ℕ
   pub event : Event
 
--- the shard of 0 to 7 is one that is told of the event: of a tick each is, of any other event its own
+-- the event concerns this shard of 0 to 7: a tick concerns each, any other event its own
 pub record IsTold (event : Event) (shard : ℕ) : Type 0 where
   pub below : shard < 8
   pub own : IfSome (shard_of event) (λ s. shard ≡ s)

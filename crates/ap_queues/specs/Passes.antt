@@ -1,4 +1,4 @@
--- What the passes of a queue are to its callers.
+-- What callers see of a queue's handles.
 use Rattle.std.specs.Prelude.{◌≡◌, ℕ, List, ◌++◌}
 use Rattle.crossbeam_queue.specs.Passes.{view, IsPassOf}
 use Rattle.crossbeam_queue.specs.Fifo.{Held}
@@ -26,18 +26,18 @@ IsWorkerOf q w = IsPassOf q.queue w.pass
 abbrev pub number_of : OperatorPass → ℕ
 number_of p = p.number
 
--- the items that the operator put so far, in their order
+-- the items that the operator put so far, in order
 abbrev pub put_by : OperatorPass → List Item
 put_by p = (view p.pass).put
 
--- what the worker took so far, in its order
+-- what the worker took so far, in order
 abbrev pub taken_by : WorkerPass → List Queued
 taken_by w = (view w.pass).taken
 
--- at a moment of the call the queue held 256 items, those of this operator among them being the last that it had put
+-- at a moment of the call the queue held 256 items, of which this operator's own were the last that it had put
 abbrev pub WasFull : OperatorPass → Type 0
 WasFull p = Held 256 (EndsIn (view p.pass))
 
--- what was taken of this operator is a beginning of what it put
+-- what was taken of this operator is a prefix of what it put
 abbrev pub AreTaken : OperatorPass → WorkerPass → Type 0
 AreTaken p w = (rest : List Item) × (put_by p ≡ of (number_of p) (taken_by w) ++ rest)

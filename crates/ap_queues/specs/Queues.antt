@@ -1,5 +1,5 @@
--- The rule of a worker's queue: what was put is what was taken and then what the queue holds, and each operator knows
--- what it put.
+-- The rule of a worker's queue: what was put is what was taken followed by what the queue holds, and each operator
+-- knows what it put.
 use Rattle.std.specs.Prelude.{◌≡◌, ◌==◌, ◌<◌, ◌≤◌, ℕ, true, false, List, [], ◌∷◌, ◌++◌, if◌then◌else◌}
 use mathlib.Core.Option.{some}
 use lib.ListN.{get_elem?}
@@ -7,7 +7,7 @@ use Rattle.ap_queues.specs.Items.{Item}
 use Rattle.ap_queues.specs.declared.item.Queued.{Queued}
 use Rattle.ap_queues.specs.declared.item.View.{View}
 
--- the items of one operator, in their order
+-- the items of one operator, in order
 abbrev pub of : ℕ → List Queued → List Item
 of p [] = []
 of p (x ∷ xs) = if x.operator == p then x.item ∷ of p xs else of p xs
@@ -25,11 +25,11 @@ nobody =
       put = [];
     }
 
--- makes operators, so many so far
+-- makes operators, and has made n
 abbrev pub maker : ℕ → View
 maker n = record nobody { makes = true; made = n }
 
--- has taken these
+-- a worker, which has taken these
 abbrev pub worker : List Queued → View
 worker taken = record nobody { takes = true; taken = taken }
 
@@ -37,7 +37,7 @@ worker taken = record nobody { takes = true; taken = taken }
 abbrev pub operator : ℕ → List Item → View
 operator p put = record nobody { puts = true; operator = p; put = put }
 
--- has taken these, and holds the place of the operator p meanwhile
+-- a worker, which has taken these, and meanwhile holds the handle of operator p
 abbrev pub both : List Queued → ℕ → List Item → View
 both taken p put =
     record nobody { takes = true; taken = taken; puts = true; operator = p; put = put }
@@ -46,16 +46,16 @@ both taken p put =
 abbrev pub founder : View
 founder = record nobody { makes = true; takes = true }
 
--- one pass makes operators, one takes, and one puts for each operator; they know what was taken and what that operator
--- put
+-- one handle makes operators, one takes, and each operator has one that puts; they know what was taken and what that
+-- operator put
 abbrev pub Fits : ℕ → ℕ → ℕ → (ℕ → ℕ) → List Queued → List Queued → ℕ → View → Type 0
 Fits root taker made seat put taken pass v =
     (v.makes ≡ true → (pass ≡ root) × (v.made ≡ made))
     × (v.takes ≡ true → (pass ≡ taker) × (v.taken ≡ taken))
     × (v.puts ≡ true → (pass ≡ seat v.operator) × (v.operator < made) × (v.put ≡ of v.operator put))
 
--- what was taken is a beginning of what was put, in order, and the rest is in the queue; nothing of an operator that
--- wasn't made was put
+-- what was taken is a prefix of what was put, in order, and the rest is in the queue; only operators that were made
+-- put anything
 abbrev pub OneQueue : List Queued → List View → Type 0
 OneQueue items views =
     (root : ℕ) × (taker : ℕ) × (made : ℕ) × (seat : ℕ → ℕ)
@@ -64,6 +64,6 @@ OneQueue items views =
     × ((pass : ℕ) (v : View) → get_elem? views pass ≡ some v →
     Fits root taker made seat put taken pass v)
 
--- of what the operator put, the last ones are those of its own among these
+-- this operator's items among these are the last that it put
 abbrev pub EndsIn : View → List Queued → Type 0
 EndsIn v items = (before : List Item) × (v.put ≡ before ++ of v.operator items)

@@ -1,4 +1,4 @@
--- An event that not all of its shards were told of.
+-- An event that not all of its shards got.
 use Rattle.std.specs.Prelude.{◌≡◌, ℕ, ◌<◌, ◌≤◌, ◌+◌, ◌-◌, ◌%◌, List, length}
 use Rattle.ap_model.specs.declared.event.Event.{Event}
 use Rattle.ap_queues.specs.declared.queue.EventQueue.{EventQueue}
@@ -7,8 +7,7 @@ use Rattle.ap_queues.specs.declared.lines.passes.OperatorLines.{OperatorLines}
 use Rattle.ap_queues.specs.Lines.{puts_of, WasFullAt}
 use Rattle.ap_queues.specs.Putting.{served}
 
--- The event comes back. The shards before the one that is named were told of it, as if that were all; that one's
--- worker had a full queue.
+-- The event is returned. Exactly the shards before the named one got it; the queue of that one's worker was full.
 pub record StopsAt (queues : List EventQueue) (old new : OperatorLines) (call : ℕ) (e : Event)
     (first count : ℕ) (u : Unserved) : Type 0 where
   pub event : u.event ≡ e

@@ -1,10 +1,10 @@
-//! What goes through the queue, and what a pass knows.
+//! What goes through a queue, and what a handle knows.
 
 use ap_model::Event;
 use std::collections::LinkedList;
 use std::marker::Model;
 
-/// An event for a shard of 0 to 7 that is told of it, under the number that its caller gave it.
+/// An event for one shard (0 to 7) that it concerns, with its caller's number for it.
 #[derive(Drop)]
 pub struct Item {
     pub call: u64,
@@ -22,14 +22,15 @@ impl Model for Item {
     ghost invariant = { λ i. items.IsTold i.event i.shard };
 }
 
-/// An item, with the number of the operator that put it, of 0 to 7.
+/// An item, with the number (0 to 7) of the operator that put it.
 #[derive(Drop)]
 pub struct Queued {
     pub operator: u8,
     pub item: Item,
 }
 
-/// What a pass may do (make operators, take, put), and what it has done. No value of it is made.
+/// What a handle may do (make operators, take, put), and what it has done. Only proofs have such
+/// values.
 pub struct View {
     pub makes: bool,
     pub made: u8,

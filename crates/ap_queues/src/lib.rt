@@ -1,9 +1,10 @@
 //! The queues of an access point's workers: operators put events, and the worker of an event's shard takes them.
 //!
-//! Main calls: `EventLines::submit` and `submit_at`, which put an event into the queue of the worker of its shard, a tick once
-//! for each shard; `EventLines::queue`, from which its worker takes; `EventQueue::put` and `take`, of one queue. A queue holds
-//! 256 events. What the worker took is a beginning of what was put, in order; what was put has of each operator the events
-//! that were answered with Ok, in its order, each once. A full queue (61) hands the event back.
+//! Main calls: `EventLines::submit` and `submit_at`, which put an event into the queue of its shard's worker, a tick
+//! once for each shard; `EventLines::queue`, from which its worker takes; `EventQueue::put` and `take`, for one queue.
+//! A queue holds 256 events. What the worker took is a prefix of what was put, in order. Of each operator, a queue
+//! gets exactly the items whose `put` returned `Ok`, in order, once each. If a queue is full (61), the event is
+//! returned; a tick has then reached exactly the shards before.
 #![tactic(auto)]
 
 mod item;

@@ -1,4 +1,4 @@
-//! The queue and its passes.
+//! A queue and its handles.
 
 ghost use Rattle.std.specs.Prelude.{◌≡◌, ◌+◌, ◌<◌, ◌≤◌, ◌++◌, ◌∷◌, [], true, IfOk, IfErr, OnOk, OnErr, IfSome, IfNone};
 ghost use Rattle.crossbeam_queue.specs.Passes.{view, ruled_capacity};
@@ -10,20 +10,19 @@ use std::alloc::{AllocError, Global};
 use std::fmt;
 use std::sync::Wait;
 
-/// The most events that the queue holds.
+/// The most events that a queue holds.
 const ROOM: usize = 256;
 
-/// The most operators of a queue.
 const MOST_OPERATORS: u8 = 8;
 
-/// The events that wait for one worker, at most 256, from the oldest on. Threads share it by reference.
+/// The events that wait for one worker, at most 256, oldest first. Threads share it by reference.
 #[derive(Drop)]
 pub struct EventQueue {
     queue: RuledArrayQueue<Queued, View, OneQueue>,
     ghost room: { ruled_capacity queue ≡ 256 },
 }
 
-/// Makes the operators of a queue, 8 at most.
+/// Makes the operators of a queue, at most 8.
 #[derive(Drop)]
 pub struct PassMaker {
     made: u8,
@@ -32,7 +31,7 @@ pub struct PassMaker {
     ghost count: { (view pass).made ≡ made },
 }
 
-/// The right to put events, as the operator of a number of 0 to 7. It is in one hand at a time.
+/// The right to put events as the operator with this number (0 to 7). It has one owner at a time.
 #[derive(Drop)]
 pub struct OperatorPass {
     number: u8,
@@ -41,14 +40,14 @@ pub struct OperatorPass {
     ghost own: { (view pass).operator ≡ number },
 }
 
-/// The right to take events. A queue has one.
+/// The right to take events. Each queue has one.
 #[derive(Drop)]
 pub struct WorkerPass {
     pass: Pass<Queued, View>,
     ghost takes: { (view pass).takes ≡ true },
 }
 
-/// 61: the queue was full. The item is handed back.
+/// 61: the queue was full. Returns the item.
 #[derive(Drop)]
 pub struct QueueFull {
     pub item: Item,
@@ -58,7 +57,7 @@ impl EventQueue {
     ghost use Rattle.std.specs.Prelude.{◌≡◌, ◌+◌, ◌<◌, ◌≤◌, ◌++◌, ◌∷◌, [], IfOk, IfErr, OnOk, OnErr, IfSome, IfNone, MatchOption};
     ghost use Rattle.ap_queues.specs.Passes.{IsMakerOf, IsOperatorOf, IsWorkerOf, number_of, put_by, taken_by, WasFull, AreTaken};
 
-    /// An empty queue, what makes its operators, and the pass of its worker.
+    /// An empty queue, the maker of its operators, and the handle of its worker.
     pub fn open(alloc: Global) -> Result<(EventQueue, PassMaker, WorkerPass), AllocError>
         ensures maker { IfOk result (λ r. IsMakerOf r.0 r.1) }
         ensures worker { IfOk result (λ r. IsWorkerOf r.0 r.2) }
@@ -74,7 +73,7 @@ impl EventQueue {
         ))
     }
 
-    /// The pass of the next operator, or None where all 8 are given out.
+    /// The handle of the next operator; `None` only if all 8 were given already.
     pub fn operator(&self, maker: &mut PassMaker) -> Option<OperatorPass>
         requires { IsMakerOf self.now maker.old }
         ensures maker { IsMakerOf self.now maker.new }
@@ -94,8 +93,8 @@ impl EventQueue {
         Some(OperatorPass { number, pass })
     }
 
-    /// Puts an item, which is then the last one of what the operator put. It comes back where the
-    /// queue held 256 items at a moment of the call.
+    /// Puts an item, which becomes the last that the operator put. Fails, and returns the item, only if
+    /// the queue held 256 items at a moment of the call.
     pub fn put<R: Wait>(
         &self,
         rt: &R,
@@ -126,7 +125,7 @@ impl EventQueue {
         }
     }
 
-    /// Takes the oldest item, or None where there is none.
+    /// Takes the oldest item, or returns `None` if the queue is empty, which no clause says.
     pub fn take<R: Wait>(&self, rt: &R, worker: &mut WorkerPass) -> Option<Queued>
         requires { IsWorkerOf self.now worker.old }
         ensures worker { IsWorkerOf self.now worker.new }
@@ -136,8 +135,8 @@ impl EventQueue {
         self.queue.pop_as::<Takes, R>(rt, &mut worker.pass)
     }
 
-    /// Brings a worker and an operator together: what was taken of this operator is a beginning of
-    /// what it put, in its order, each once. Nothing happens.
+    /// Brings a worker and an operator together: what was taken of this operator is a prefix of what it
+    /// put, in its order, once each. Does nothing at run time.
     pub fn meet(&self, worker: &mut WorkerPass, operator: OperatorPass) -> OperatorPass
         requires worker { IsWorkerOf self.now worker.old }
         requires operator { IsOperatorOf self.now operator }

@@ -1,9 +1,10 @@
-//! The rule of the queue, and what its steps tell.
+//! The rule of the queue, and what its steps show.
 
 use crate::item::{Queued, View};
 use crossbeam_queue::protocol::{Join, Lesson, Outcome, Protocol, Split};
 
-/// What was put is what was taken and then what the queue holds, and each operator knows what it put.
+/// What was put is what was taken followed by what the queue holds, and each operator knows what it
+/// put.
 pub struct OneQueue;
 
 impl Protocol<Queued, View> for OneQueue {
@@ -14,7 +15,7 @@ impl Protocol<Queued, View> for OneQueue {
     ghost first = { founder };
 }
 
-/// An operator puts. Where there is no room, it learns what the queue holds of it.
+/// An operator puts. If the queue is full, it learns which of its items are in it.
 pub(crate) struct Puts;
 
 impl Outcome<Queued, View> for Puts {
@@ -42,7 +43,7 @@ impl Lesson<Queued, View> for Takes {
     ghost fact = { λ v items. Unit {0} };
 }
 
-/// Who takes and has an operator's place knows what became of what that operator put.
+/// A worker that holds an operator's handle knows what became of what that operator put.
 pub(crate) struct Whole;
 
 impl Lesson<Queued, View> for Whole {
@@ -52,7 +53,7 @@ impl Lesson<Queued, View> for Whole {
     ghost fact = { λ v items. v.put ≡ of v.operator v.taken ++ of v.operator items };
 }
 
-/// The first pass gives away the right to take.
+/// The first handle gives away the right to take.
 pub(crate) struct Founding;
 
 impl Split<View> for Founding {
@@ -75,7 +76,7 @@ impl Split<View> for Hiring {
     ghost right = { λ v. operator v.made [] };
 }
 
-/// The worker takes an operator's place in.
+/// The worker takes an operator's handle.
 pub(crate) struct Meeting;
 
 impl Join<View> for Meeting {
@@ -86,7 +87,7 @@ impl Join<View> for Meeting {
     ghost spent = { nobody };
 }
 
-/// The worker gives the operator's place back.
+/// The worker returns the operator's handle.
 pub(crate) struct Parting;
 
 impl Split<View> for Parting {

@@ -1,4 +1,3 @@
-//! Rows: two lists of which the elements at one place belong together, as queues and the passes of
-//! them, or tables and the seats at them. Definitions and lemmas, which stand on std alone; there is
-//! no code.
+//! Rows: two lists whose elements at each index belong together, such as queues and their handles,
+//! or tables and their seats. Definitions and lemmas only, which depend only on std.
 #![tactic(auto)]

@@ -8,7 +8,7 @@ use Rattle.ap_locked.specs.Kept.{Kept, Holds, Decided, rules_of, readings_of}
 use Rattle.ap_locked.specs.Tokens.{Token}
 use Rattle.ap_shards.specs.Fates.{Adds}
 
--- by whatever judge it was decided, whose verdicts were so
+-- for any judge and what V says of its verdicts
 pub adds : {S : Type 0} {R : S → Ask → ℕ → S → Type 0} (V : Readings → List (Ask × ℕ) → Type 0) (shard : ℕ)
     {k : Kept} {t : Token} {event : Event} {j : S} {outs : List Out} {dropped : Bool} {k2 : Kept} {t2 : Token} {j2 : S}
     → Holds shard k → Decided R k t event j outs dropped k2 t2 j2

@@ -1,4 +1,4 @@
--- Verdicts by what a worker brought.
+-- Verdicts by what a worker decides with.
 use Rattle.std.proofs.Common.{◌≡◌, ℕ, List, subst, Bor}
 use Rattle.ap_model.specs.Asks.{Ask, Answered}
 use Rattle.ap_model.specs.Readings.{Readings}
@@ -13,7 +13,7 @@ use Rattle.hook_judge.specs.Verdicts.{GivesVerdict}
 use Rattle.ap_shards.specs.declared.desk.Desk.{Desk}
 use Rattle.ap_shards.specs.Desks.{ByDesk}
 
--- a judge over the worker's tables, by the set that was entered, at the clock and the stations of these readings
+-- a judge over the worker's tables, by the entered set, with the clock and the stations of these readings
 pub by_desk : (d : Desk) (h h2 : Held) (r : Readings) (n : ℕ) (j : SetJudge) (asked : List (Ask × ℕ)) → AreAssociated r.standing n
     → given_by j.view ≡ record { maps = d.maps.now; worker = d.worker; clock = r.clock; stations = n }
     → j.set ≡ d.set → j.state.now ≡ h

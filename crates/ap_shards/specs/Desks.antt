@@ -1,4 +1,4 @@
--- By what a worker judges.
+-- What a worker decides with.
 use Rattle.std.specs.Prelude.{ℕ, List}
 use Rattle.ap_model.specs.Asks.{Ask}
 use Rattle.ap_model.specs.Readings.{Readings}
@@ -7,6 +7,6 @@ use Rattle.versions.specs.Sets.{set_of}
 use Rattle.ap_shards.specs.declared.desk.Desk.{Desk}
 use Rattle.ap_shards.specs.Judged.{JudgedBy}
 
--- the programs of the set that was entered gave the verdicts, over the worker's tables
+-- the programs of the entered set gave the verdicts, over the worker's tables
 abbrev pub ByDesk : Desk → Held → Held → Readings → List (Ask × ℕ) → Type 0
 ByDesk d h h2 r asked = JudgedBy d.maps.now d.worker (set_of d.set.now.loads) h h2 r asked

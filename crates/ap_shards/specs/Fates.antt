@@ -1,4 +1,4 @@
--- What becomes of the tokens when an event is decided.
+-- How tokens change when an event is decided.
 use Rattle.std.specs.Prelude.{◌≡◌, ◌==◌, ℕ, Bool, true, false, List, [], ◌∷◌, ◌++◌}
 use mathlib.Core.List.{IsPrefix}
 use Rattle.ap_model.specs.declared.event.Event.{Event}
@@ -15,10 +15,10 @@ use Rattle.ap_tagged.specs.declared.tagged.Fate.TheVariants.{Decided, Refused, N
 use Rattle.ap_shards.specs.Judged.{AnyVerdicts}
 use Rattle.ap_shards.specs.Tokens.{Eight}
 
--- The event is one step of the link with these outs, after the journal's entries so far, of which the token had seen a
--- beginning: a run of the shard of this number from nobody on. `V` tells of the verdicts that were asked, by what was
--- read before the step; the flag tells whether one of them dropped data. The token has then seen the whole journal, and
--- has just this entry more of its own, which its parts have counted.
+-- The event is one step of the link with these outputs, after the journal's entries so far: a run of this shard from
+-- the opening, of which the token had seen a prefix. `V` holds of the readings before the step and the verdicts; the
+-- flag says whether one of them dropped data. The token then has seen the whole journal, and gains exactly this entry
+-- of its own, which its parts have counted.
 pub record Adds (V : Readings → List (Ask × ℕ) → Type 0) (shard : ℕ) (t : Token) (event : Event) (outs : List Out) (dropped : Bool) (u : Token) : Type 0 where
   pub before : List Entry
   pub had_seen : IsPrefix t.seen before
@@ -35,7 +35,7 @@ pub record Adds (V : Readings → List (Ask × ℕ) → Type 0) (shard : ℕ) (t
   pub own : u.own ≡ t.own ++ entry_of event asked outs ∷ []
   pub portion : u.portion ≡ gains t.portion (counts_of outs dropped)
 
--- a token of that shard, after this became of an event: one that was not decided changes nothing
+-- a token of that shard after this fate of an event: one that was not decided changes nothing
 abbrev pub Comes : (Readings → List (Ask × ℕ) → Type 0) → ℕ → Token → Event → Fate → Token → Type 0
 Comes V shard t event (Decided outs dropped) u = Adds V shard t event outs.items dropped u
 Comes V shard t event Refused u = u ≡ t
@@ -45,12 +45,12 @@ Comes V shard t event NotHandled u = u ≡ t
 abbrev pub Acts : ℕ → Token → Event → List Out → Token → Type 0
 Acts shard t event outs u = (dropped : Bool) × Adds AnyVerdicts shard t event outs dropped u
 
--- a token of the shard where something was done, or of another one, which stays as it is
+-- P relates a token of this shard before and after; a token of another shard is unchanged
 abbrev pub ChangesIf : Bool → (Token → Token → Type 0) → Token → Token → Type 0
 ChangesIf true P t u = P t u
 ChangesIf false P t u = u ≡ t
 
--- of the tokens of all shards that of this shard changes so
+-- of the tokens of all shards, only that of shard s changes, as P says
 pub record ChangesAt (s : ℕ) (P : Token → Token → Type 0) (a b : Eight) : Type 0 where
   pub of0 : ChangesIf (s == 0) P a.of0 b.of0
   pub of1 : ChangesIf (s == 1) P a.of1 b.of1
@@ -61,7 +61,7 @@ pub record ChangesAt (s : ℕ) (P : Token → Token → Type 0) (a b : Eight) : 
   pub of6 : ChangesIf (s == 6) P a.of6 b.of6
   pub of7 : ChangesIf (s == 7) P a.of7 b.of7
 
--- the tokens of all shards, after this became of an event at one of them
+-- the tokens of all shards, after this fate of an event at one of them
 abbrev pub ComesAt : (Readings → List (Ask × ℕ) → Type 0) → ℕ → Eight → Event → Fate → Eight → Type 0
 ComesAt V s a event fate b = ChangesAt s (λ t u. Comes V s t event fate u) a b
 

@@ -10,24 +10,24 @@ use Rattle.hook_judge.specs.Verdicts.{GivesVerdict}
 use Rattle.ap_tagged.specs.declared.tagged.Fate.{Fate}
 use Rattle.ap_tagged.specs.declared.tagged.Fate.TheVariants.{Decided, Refused, NotHandled}
 
--- These programs gave the verdicts over this worker's tables, from what it held to what it holds, by the clock that the
--- shard has before the entry, and by how many stations are associated there.
+-- These programs gave the verdicts over this worker's tables, whose state went from h to h2, with the shard's clock
+-- before the entry and the number of stations associated there.
 pub record JudgedBy (maps : List Tables) (worker : ℕ) (programs : Programs) (h h2 : Held) (r : Readings) (asked : List (Ask × ℕ)) : Type 0 where
   pub stations : ℕ
   pub associated : AreAssociated r.standing stations
   pub verdicts : Answered (GivesVerdict (record { maps = maps; worker = worker; clock = r.clock; stations = stations }) programs) h asked h2
 
--- whoever gave them
+-- any judge gave them
 abbrev pub AnyVerdicts : Readings → List (Ask × ℕ) → Type 0
 AnyVerdicts r asked = Unit {0}
 
--- what a worker holds stays as it is, unless the event was decided
+-- a worker's state is unchanged unless the event was decided
 abbrev pub HoldsOn : Fate → Held → Held → Type 0
 HoldsOn (Decided outs dropped) h h2 = Unit {0}
 HoldsOn Refused h h2 = h2 ≡ h
 HoldsOn NotHandled h h2 = h2 ≡ h
 
--- the event was not left alone: it was decided, or refused
+-- the event was decided or refused
 abbrev pub WasTaken : Fate → Type 0
 WasTaken (Decided outs dropped) = Unit {0}
 WasTaken Refused = Unit {0}

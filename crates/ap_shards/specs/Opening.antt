@@ -8,7 +8,7 @@ use Rattle.ap_locked.specs.Tokens.{newcomer}
 use Rattle.ap_shards.specs.Tokens.{Eight}
 use Rattle.ap_shards.specs.declared.opening.NewShards.{NewShards}
 
--- the ledgers of each shard have these names and so many parts, and these are the journals
+-- the ledgers of each shard have these names and this many parts, and these are the journals
 pub record AreNamed (names : ℕ → ℕ → ℕ) (parts : ℕ) (journals : ℕ → Book) (n : NewShards) : Type 0 where
   pub of0 : IsNamed (names 0) parts (journals 0) n.of0
   pub of1 : IsNamed (names 1) parts (journals 1) n.of1
@@ -19,7 +19,7 @@ pub record AreNamed (names : ℕ → ℕ → ℕ) (parts : ℕ) (journals : ℕ 
   pub of6 : IsNamed (names 6) parts (journals 6) n.of6
   pub of7 : IsNamed (names 7) parts (journals 7) n.of7
 
--- the ledgers of each shard are cut into so many parts
+-- the ledgers of each shard are divided into this many parts
 pub record AreParted (parts : ℕ) (n : NewShards) : Type 0 where
   pub of0 : AreInParts parts n.of0.blanks
   pub of1 : AreInParts parts n.of1.blanks
@@ -30,7 +30,7 @@ pub record AreParted (parts : ℕ) (n : NewShards) : Type 0 where
   pub of6 : AreInParts parts n.of6.blanks
   pub of7 : AreInParts parts n.of7.blanks
 
--- all parts of each ledger, with nothing counted, of journals of which nothing was seen
+-- all parts of each ledger, which have counted nothing, and nothing seen of the journals
 abbrev pub whole : ℕ → Eight
 whole parts =
     let all = newcomer parts [] in
@@ -42,7 +42,7 @@ new_at n shard =
     if shard == 0 then n.of0 else (if shard == 1 then n.of1 else (if shard == 2 then n.of2 else (if shard == 3 then n.of3 else
     (if shard == 4 then n.of4 else (if shard == 5 then n.of5 else (if shard == 6 then n.of6 else n.of7))))))
 
--- the names of its ledgers, by the counts
+-- the names of its ledgers, by count
 abbrev pub names_of : NewShards → ℕ → ℕ → ℕ
 names_of n shard = name_at (new_at n shard).blanks
 

@@ -1,4 +1,4 @@
--- What a token has of all shards.
+-- Tokens of all shards.
 use Rattle.std.specs.Prelude.{◌≡◌, ◌+◌, ◌<◌}
 use Rattle.ap_books.specs.Holdings.{Holding}
 use Rattle.ap_locked.specs.Tokens.{Token, IsToken, KeepsOwn, newcomer}
@@ -28,7 +28,7 @@ holding_of e =
       of7 = e.of7.portion;
     }
 
--- shard by shard, two of them stand so
+-- P holds of them, shard by shard
 abbrev pub EachOf : (Token → Token → Type 0) → Eight → Eight → Type 0
 EachOf P a b =
     P a.of0 b.of0 × P a.of1 b.of1 × P a.of2 b.of2 × P a.of3 b.of3
@@ -38,11 +38,11 @@ EachOf P a b =
 abbrev pub HasMoreThanOne : Eight → Type 0
 HasMoreThanOne e = EachOf (λ t u. 1 < t.portion.parts) e e
 
--- one part of each, for one who has seen as much and has no entries yet
+-- one part of each ledger, for one who has seen as much and has no entries
 abbrev pub IsNewcomer : Eight → Eight → Type 0
 IsNewcomer a b = EachOf (λ t u. u ≡ newcomer 1 t.seen) a b
 
--- a token that gave one part away, and keeps all else
+-- the token gave one part away, and nothing else changed
 pub record GaveOne (t u : Token) : Type 0 where
   pub parts : u.portion.parts + 1 ≡ t.portion.parts
   pub counts : u.portion.counts ≡ t.portion.counts
@@ -53,16 +53,16 @@ pub record GaveOne (t u : Token) : Type 0 where
 abbrev pub HasGivenOne : Eight → Eight → Type 0
 HasGivenOne a b = EachOf GaveOne a b
 
--- what is so of each token, of that of each shard
+-- what holds of each shard's token
 abbrev pub AreTokens : Eight → Type 0
 AreTokens e =
     IsToken 0 e.of0 × IsToken 1 e.of1 × IsToken 2 e.of2 × IsToken 3 e.of3
     × IsToken 4 e.of4 × IsToken 5 e.of5 × IsToken 6 e.of6 × IsToken 7 e.of7
 
--- they have seen more, and nothing else has changed
+-- they may have seen more; nothing else changed
 abbrev pub KeepOwn : Eight → Eight → Type 0
 KeepOwn a b = EachOf KeepsOwn a b
 
--- of each journal both have seen the same
+-- both have seen the same of each journal
 abbrev pub HaveSeenAlike : Eight → Eight → Type 0
 HaveSeenAlike a b = EachOf (λ t u. t.seen ≡ u.seen) a b

@@ -11,7 +11,6 @@ use ap_model::{Event, ListJudge, Out};
 use std::alloc::{AllocError, Global};
 use std::sync::{Mutex, Wait};
 
-/// Decides the command. It asks no verdict.
 fn act_at<B: Ledgers + Journals, const SHARD: usize>(
     alloc: Global,
     locked: &mut Locked<B, SHARD>,
@@ -27,7 +26,7 @@ fn act_at<B: Ledgers + Journals, const SHARD: usize>(
     Ok(outs)
 }
 
-/// Takes the lock, and decides the command there.
+/// Locks the shard, and decides the command.
 fn act_under<B: Ledgers + Journals, const SHARD: usize, R: Wait>(
     rt: &R,
     alloc: Global,
@@ -43,8 +42,8 @@ fn act_under<B: Ledgers + Journals, const SHARD: usize, R: Wait>(
 }
 
 impl<B: Ledgers + Journals> Shards<B> {
-    /// Decides a command under the lock of this shard, beside its worker. It answers want of memory
-    /// alone, and then nothing has changed.
+    /// Decides a command under the lock of this shard, concurrently with its worker. If it fails, for
+    /// lack of memory, the tokens are unchanged.
     pub fn act<R: Wait>(
         &self,
         rt: &R,

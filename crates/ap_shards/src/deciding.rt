@@ -17,7 +17,7 @@ use bpf_helpers::{WorkerState, WorkerView};
 use hook_judge::{SetJudge, judging_law};
 use std::sync::{Mutex, Wait};
 
-/// Decides the event at the shard's clock and stations.
+/// Decides the event with the shard's clock and number of stations.
 fn decide_at<B: Ledgers + Journals, const SHARD: usize>(
     locked: &mut Locked<B, SHARD>,
     mine: &mut ShardToken<B, SHARD>,
@@ -47,7 +47,7 @@ fn decide_at<B: Ledgers + Journals, const SHARD: usize>(
     }
 }
 
-/// Takes the lock, and decides the event there.
+/// Locks the shard, and decides the event.
 fn decide_under<B: Ledgers + Journals, const SHARD: usize, R: Wait>(
     rt: &R,
     lock: &Mutex<Locked<B, SHARD>>,
@@ -69,8 +69,8 @@ fn decide_under<B: Ledgers + Journals, const SHARD: usize, R: Wait>(
 
 impl<B: Ledgers + Journals> Shards<B> {
     /// Decides an event under the lock of this shard, by the programs of a published set over a
-    /// worker's tables. `mine` then has its entry, and what it counts. An event that is refused for
-    /// memory changes nothing.
+    /// worker's tables. `mine` then has its entry, and counts it. An event that is refused for lack of
+    /// memory changes neither the tokens nor the worker's state.
     pub fn decide<R: Wait>(
         &self,
         rt: &R,

@@ -1,4 +1,4 @@
-//! What a worker brings to each event.
+//! What a worker needs for each event.
 
 ghost use Rattle.std.specs.Prelude.{◌≡◌};
 ghost use Rattle.bpf_helpers.specs.Hooked.{shapes_of};
@@ -7,7 +7,7 @@ use bpf_helpers::MapTables;
 use std::alloc::Global;
 use versions::ProgramSet;
 
-/// What a worker judges by: a published set that it entered, and its tables of the maps.
+/// What a worker decides with: a published set that it entered, and its tables of the maps.
 #[derive(Clone, Copy)]
 pub struct Desk<'p, 't> {
     pub alloc: Global,

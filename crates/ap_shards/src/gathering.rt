@@ -1,4 +1,4 @@
-//! What all shares count.
+//! What all shares have counted.
 
 ghost use Rattle.std.specs.Prelude.{◌≡◌};
 ghost use Rattle.ap_books.specs.Holdings.{HasParts, sum_of};
@@ -9,7 +9,7 @@ use ap_books::{Ledgers, Portions, Shares, Totals};
 use ap_locked::{Journals, Locked};
 use std::sync::{Mutex, Wait};
 
-/// Reads the books of one shard, which say what all shares of it count.
+/// Reads the books of one shard, which say what all shares of it have counted.
 fn read_under<B: Ledgers + Journals, const SHARD: usize, R: Wait>(
     rt: &R,
     lock: &Mutex<Locked<B, SHARD>>,
@@ -23,7 +23,8 @@ fn read_under<B: Ledgers + Journals, const SHARD: usize, R: Wait>(
 }
 
 impl<B: Ledgers + Journals> Shards<B> {
-    /// With all parts of all ledgers: the sum of the books, which is what all shares count, mod 2^64.
+    /// Given all parts of all ledgers: the sum of the books, which is what all shares have counted, mod
+    /// 2^64.
     pub fn gather<R: Wait>(&self, rt: &R, all: &mut Portions<B>) -> Totals
         requires { HasParts B.shares all.old }
         ensures same { all.new ≡ all.old }

@@ -1,11 +1,11 @@
-//! Eight shards, each under its own lock, and the tokens of those who decide events there.
+//! Eight shards, each under its own lock, and the tokens with which events are decided there.
 //!
-//! Main calls: `Shards::decide`, by which a worker decides an event under its shard's lock and by the
-//! programs of a published set; `Shards::act`, by which an operator decides a command there; and
-//! `Shards::gather`, which reads the totals. It stands on `ap_locked` and `hook_judge`. Promised: a
-//! token has one entry more of its own for each event that was decided by it, with the outs that were
-//! answered, and its shares grow by just what these count; with all shares the totals are the sum of
-//! the books.
+//! Main calls of `Shards`: `decide`, by which a worker decides an event by the programs of a
+//! published set; `act`, by which an operator decides a command; both under the shard's lock; and
+//! `gather`, which reads the totals. It depends on `ap_locked` and `hook_judge`. Promised: a token
+//! gains one entry of its own, with the returned outputs, for each event that it decided, and its
+//! shares grow by exactly what these entries count; given all shares, the totals are the sum of the
+//! books.
 #![tactic(auto)]
 
 mod acting;

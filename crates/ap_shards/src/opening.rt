@@ -12,7 +12,7 @@ use ap_model::LinkConfig;
 use std::alloc::{AllocError, Global};
 use std::sync::Mutex;
 
-/// What the eight shards begin with, which has no name yet: new ledgers and journals.
+/// What the eight shards begin with, not yet named: new ledgers and journals.
 #[derive(Drop)]
 pub struct NewShards {
     pub of0: NewShard,
@@ -28,7 +28,7 @@ pub struct NewShards {
 impl NewShards {
     ghost use Rattle.ap_shards.specs.Opening.{AreParted};
 
-    /// New ledgers, each cut into so many parts, and a new journal for each shard.
+    /// For each shard new ledgers, each divided into this many parts, and a new journal.
     pub fn new(parts: u64) -> NewShards
         ensures { AreParted parts result }
     {
@@ -45,21 +45,19 @@ impl NewShards {
     }
 }
 
-/// A shard under its lock, and all parts of its ledgers.
+/// A shard under its lock, and a token with all parts of its ledgers.
 #[derive(Drop)]
 struct Opened<B: Ledgers + Journals, const SHARD: usize> {
     lock: Mutex<Locked<B, SHARD>>,
     mine: ShardToken<B, SHARD>,
 }
 
-/// Two shards.
 #[derive(Drop)]
 struct OpenedTwo<B: Ledgers + Journals, const FIRST: usize, const SECOND: usize> {
     first: Opened<B, FIRST>,
     second: Opened<B, SECOND>,
 }
 
-/// Four shards.
 #[derive(Drop)]
 struct OpenedFour<
     B: Ledgers + Journals,
@@ -72,8 +70,8 @@ struct OpenedFour<
     high: OpenedTwo<B, THIRD, FOURTH>,
 }
 
-/// What was made, beside what is kept meanwhile. At a refusal that is given up here, by one call, since
-/// what shards are made of has many parts.
+/// Pairs `kept` with what was made. If making failed, frees `kept` by this one call, since shards
+/// have many parts.
 fn beside<K: Drop, M: Drop>(kept: K, made: Result<M, AllocError>) -> Result<(K, M), AllocError>
     ensures kept { IfOk result (λ r. r.0 ≡ kept) }
     ensures made { IfOk result (λ r. made ≡ Ok r.1) }
@@ -84,7 +82,6 @@ fn beside<K: Drop, M: Drop>(kept: K, made: Result<M, AllocError>) -> Result<(K, 
     }
 }
 
-/// A shard before any event.
 fn open_one<B: Ledgers + Journals, const SHARD: usize>(
     alloc: Global,
     config: &LinkConfig,
@@ -102,7 +99,6 @@ fn open_one<B: Ledgers + Journals, const SHARD: usize>(
     })
 }
 
-/// Two shards before any event.
 fn open_two<B: Ledgers + Journals, const FIRST: usize, const SECOND: usize>(
     alloc: Global,
     config: &LinkConfig,
@@ -121,7 +117,6 @@ fn open_two<B: Ledgers + Journals, const FIRST: usize, const SECOND: usize>(
     Ok(OpenedTwo { first, second })
 }
 
-/// Four shards before any event.
 fn open_four<
     B: Ledgers + Journals,
     const FIRST: usize,
@@ -152,7 +147,7 @@ fn open_four<
     Ok(OpenedFour { low, high })
 }
 
-/// Eight shards, and the tokens of all who decide events there.
+/// Eight shards, and tokens with all parts of their ledgers.
 fn joined<B: Ledgers + Journals>(
     low: OpenedFour<B, 0, 1, 2, 3>,
     high: OpenedFour<B, 4, 5, 6, 7>,
@@ -201,7 +196,7 @@ fn joined<B: Ledgers + Journals>(
 impl<B: Ledgers + Journals> Shards<B> {
     ghost use Rattle.ap_shards.specs.Opening.{AreNamed, whole};
 
-    /// Eight shards before any event, and all parts of their ledgers.
+    /// Eight new shards, and tokens with all parts of their ledgers.
     pub fn open(
         alloc: Global,
         config: &LinkConfig,

@@ -1,4 +1,4 @@
-//! Parts of the ledgers that are exchanged.
+//! Exchanging parts of the ledgers.
 
 use crate::tokens::ShardTokens;
 use ap_books::{Ledgers, Portions};
@@ -9,8 +9,8 @@ impl<B: Ledgers + Journals> ShardTokens<B> {
     ghost use Rattle.ap_shards.specs.Renewal.{AreFresh, AreRenewed};
     ghost use Rattle.ap_shards.specs.Tokens.{holding_of};
 
-    /// Takes other parts of the ledgers, which have counted nothing, and gives its own away, with what
-    /// they have counted.
+    /// Exchanges its parts of the ledgers, with what they have counted, for others that have counted
+    /// nothing. It then has no entries of its own.
     pub fn renew(&mut self, fresh: Portions<B>) -> Portions<B>
         requires { AreFresh fresh }
         ensures given { result ≡ holding_of self.old }

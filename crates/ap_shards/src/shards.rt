@@ -4,8 +4,7 @@ use ap_books::Ledgers;
 use ap_locked::{Journals, Locked};
 use std::sync::Mutex;
 
-/// Each shard under its own lock. They are eight fields, since which ledgers a shard has is part of its
-/// type.
+/// Each shard under its own lock. They are eight fields, since a shard's type names its ledgers.
 #[derive(Drop)]
 pub struct Shards<B: Ledgers + Journals> {
     pub(crate) of0: Mutex<Locked<B, 0>>,

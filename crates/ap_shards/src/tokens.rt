@@ -1,10 +1,11 @@
-//! What one who decides events has of all shards.
+//! Rights to decide events at all shards.
 
 use ap_books::{Ledgers, Portions};
 use ap_locked::{Journals, ShardToken};
 use std::marker::Model;
 
-/// A token of each shard: parts of its ledgers, what was seen of its journal, one's own entries there.
+/// A token of each shard: parts of its ledgers, the seen prefix of its journal, and one's own
+/// entries there.
 #[derive(Drop)]
 pub struct ShardTokens<B: Ledgers + Journals> {
     pub(crate) of0: ShardToken<B, 0>,
@@ -29,7 +30,7 @@ impl<B: Ledgers + Journals> ShardTokens<B> {
     ghost use Rattle.std.specs.Prelude.{◌≡◌};
     ghost use Rattle.ap_shards.specs.Tokens.{AreTokens, HasGivenOne, HasMoreThanOne, HaveSeenAlike, IsNewcomer, KeepOwn, holding_of};
 
-    /// Tells a proof what is so of each token, and does nothing.
+    /// Proves what holds of each token; does nothing at run time.
     pub fn known(&self)
         ensures { AreTokens self.now }
     {
@@ -43,7 +44,7 @@ impl<B: Ledgers + Journals> ShardTokens<B> {
         self.of7.known();
     }
 
-    /// One part of each ledger, for one who has no entries yet.
+    /// Splits off one part of each ledger, for a newcomer without entries.
     pub fn split_one(&mut self) -> ShardTokens<B>
         requires { HasMoreThanOne self.old }
         ensures new { IsNewcomer self.old result }
@@ -61,7 +62,8 @@ impl<B: Ledgers + Journals> ShardTokens<B> {
         }
     }
 
-    /// Of each journal both have then seen the longer of the two beginnings. Each keeps its own entries.
+    /// Of each journal both then have seen the same, which extends what each had seen. Each keeps its
+    /// own entries.
     pub fn meet(&mut self, other: &mut ShardTokens<B>)
         ensures this { KeepOwn self.old self.new }
         ensures that { KeepOwn other.old other.new }

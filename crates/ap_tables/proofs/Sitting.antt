@@ -1,4 +1,4 @@
--- Maps that keep their tables, and the seats there.
+-- Maps that keep their tables, and the seats at them.
 use Rattle.std.proofs.Common.{◌≡◌, ◌<◌, ℕ, List, [], ◌∷◌, ◌++◌, length, take, slice_get, slice_set, Some, sym, ap, ◌∙◌, subst, arith}
 use Rattle.std.proofs.Math.Seq.{take-append_seam}
 use mathlib.Core.Logic.{dite}
@@ -16,7 +16,7 @@ use Rattle.bpf_helpers.proofs.Keeping.{keep_all}
 use Rattle.ap_rows.proofs.Standing.{stand_set, there_too, last_is, earlier}
 use Rattle.ap_tables.specs.Stocks.{Stock, IsStocked, AreOperators}
 
--- the table that a worker uses is there
+-- the table that a worker uses exists
 place_low : (scope : Scope) (worker workers : ℕ) → worker < workers → place_of scope worker < table_count scope workers
 place_low Shared worker workers low = omega arith
 place_low Worker worker workers low = low
@@ -33,7 +33,7 @@ keep_set maps at m m' here keeps = record {
   each = stand_set KeepsTables maps maps at m m' (slice_get_within maps at m here) here keeps (keep_all maps).each;
 }
 
--- maps that keep their tables have as many as before
+-- maps that keep their tables have as many tables
 pub stocked_kept : (maps maps' : List Tables) (workers : ℕ) → KeepTables maps maps' → IsStocked (record { maps = maps; workers = workers }) → IsStocked (record { maps = maps'; workers = workers })
 stocked_kept maps maps' workers keep stocked = record {
   some = stocked.some;
@@ -43,7 +43,7 @@ stocked_kept maps maps' workers keep stocked = record {
       kept.tables.as_many ∙ (stocked.each at was.0 was.1 ∙ ap (λ (s : Shape). table_count s.scope workers) (sym kept.shape));
 }
 
--- seats at tables that stay the same ones
+-- seats at tables that are kept
 seated_kept : (tables tables' : List Map) (seats : List Place) → AreSameTables tables tables' → AreSeated tables seats → AreSeated tables' seats
 seated_kept tables tables' seats same seated = (
   seated.0 ∙ sym same.as_many,
@@ -62,14 +62,14 @@ operators_kept maps maps' seats keep own = record {
       seated_kept was.0.tables m'.tables s kept.tables (own.each at was.0 s was.1 there);
 }
 
--- what holds of each map holds of them and one more
+-- what holds of each map, and of one more
 pub each_more : (P : Tables → Type 0) (maps maps' : List Tables) (m : Tables) → maps' ≡ maps ++ m ∷ [] → ((at : ℕ) (x : Tables) → slice_get maps at ≡ Some x → P x) → P m
     → (at : ℕ) (x : Tables) → slice_get maps' at ≡ Some x → P x
 each_more P maps maps' m are each holds at x here' =
     let here : slice_get (maps ++ m ∷ []) at ≡ Some x = subst (λ (zs : List Tables). slice_get zs at ≡ Some x) are here' in
     dite (ℕ_discrete at (length maps)) (λ e. subst P (last_is maps m at x e here) holds) (λ ne. each at x (earlier maps m at x ne here))
 
--- maps that came back from a call in their whole length
+-- maps after a call on all of them
 pub stocked_back : (maps maps' more : List Tables) (len workers : ℕ) → len ≡ length maps → KeepTables maps maps' → IsStocked (record { maps = maps; workers = workers })
     → IsStocked (record { maps = take len (maps' ++ more); workers = workers })
 stocked_back maps maps' more len workers many keep stocked =

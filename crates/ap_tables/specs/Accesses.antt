@@ -7,8 +7,8 @@ use Rattle.bpf_helpers.specs.Tables.{Tables, table_of}
 use Rattle.bpf_helpers.specs.Sums.{Loads}
 use Rattle.bpf_helpers.specs.Hooked.{AccessedBy}
 
--- One access to the one table of a shared map, by the operator's seat there: what the seat has seen goes on to a legal
--- history that ends with this access. All other seats are as they were.
+-- One access to the one table of a shared map, by the operator's seat there: the seat's history extends to a legal one
+-- that ends with this access. All other seats are unchanged.
 pub record Accesses (maps : List Tables) (seats : List (List Place)) (at word : ℕ) (operation : MapOp) (answer : ℕ) (seats' : List (List Place)) : Type 0 where
   pub map : Tables
   pub map_is : slice_get maps at ≡ Some map
@@ -20,8 +20,8 @@ pub record Accesses (maps : List Tables) (seats : List (List Place)) (at word : 
   pub made : AccessedBy table before 0 word operation answer after
   pub seats_are : seats' ≡ slice_set seats at after
 
--- One load of the word from each table of a map, by rising worker, each in that table's legal history, and their sum. All
--- other seats are as they were.
+-- One load of the word from each table of a map, by worker number, each in that table's legal history, and their sum.
+-- All other seats are unchanged.
 pub record Sums (maps : List Tables) (seats : List (List Place)) (at word result : ℕ) (seats' : List (List Place)) : Type 0 where
   pub map : Tables
   pub map_is : slice_get maps at ≡ Some map

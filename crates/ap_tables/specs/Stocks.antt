@@ -12,7 +12,7 @@ pub record Stock : Type 0 where
   pub maps : List Tables
   pub workers : ℕ
 
--- there is a worker, and each map has as many tables as its scope asks for
+-- there is a worker, and each map has as many tables as its scope requires
 pub record IsStocked (s : Stock) : Type 0 where
   pub some : 0 < s.workers
   pub each : (at : ℕ) (m : Tables) → slice_get s.maps at ≡ Some m → length m.tables ≡ table_count m.shape.scope s.workers
@@ -25,7 +25,7 @@ SitsAt m seats = AreSeated m.tables seats
 abbrev pub AreOperators : List Tables → List (List Place) → Type 0
 AreOperators maps seats = Rows SitsAt maps seats
 
--- there is a map of that number and scope, and the word is one of its words
+-- there is a map of that number and scope that has this word
 pub record Names (scope : Scope) (maps : List Tables) (at word : ℕ) : Type 0 where
   pub map : Tables
   pub here : slice_get maps at ≡ Some map

@@ -1,10 +1,10 @@
-//! The tables of an access point's maps: one of each shared map, and of each worker's map one for each
-//! worker.
+//! The tables of an access point's maps: one for each shared map, and one per worker for each
+//! worker's map.
 //!
-//! Main calls: `ApTables::store`, `read` and `sum`, each by an operator's seats, none of which waits or
-//! takes memory. It stands on `bpf_helpers`. Promised: `store` and `read` are one access each, `sum` is
-//! one load from each worker's table, by rising worker, and each of these stands in its table's legal
-//! history.
+//! Main calls: `ApTables::store`, `read` and `sum`, each by an operator's seats; none blocks or
+//! allocates. It depends on `bpf_helpers`. Promised: `store` and `read` are one access each, `sum`
+//! is one load from each worker's table, by worker number, and each of these is in its table's
+//! legal history.
 #![tactic(auto)]
 
 mod laws;

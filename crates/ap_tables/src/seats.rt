@@ -12,7 +12,7 @@ use bpf_regions::MapOp;
 use shared_maps::{MapSeat, MapTable};
 use std::marker::Model;
 
-/// An operator's seats at the tables of one map, one at each, by their order.
+/// An operator's seats at the tables of one map, one at each, in their order.
 #[derive(Drop)]
 pub struct MapSeats {
     seats: Vec<MapSeat>,
@@ -27,7 +27,7 @@ impl Model for MapSeats {
     ghost view = { λ s. s.seats.items };
 }
 
-/// An operator's seats at all tables of all maps, by the maps' order. Only that operator has them.
+/// An operator's seats at all tables of all maps, in the maps' order. Only that operator has them.
 #[derive(Drop)]
 pub struct OperatorSeats {
     pub(crate) maps: Vec<MapSeats>,
@@ -49,7 +49,7 @@ impl MapSeats {
         MapSeats { seats }
     }
 
-    /// One access to a word of a map's first table, by the seat at it.
+    /// One access to a word of a map's first table, by its seat.
     pub(crate) fn access(&mut self, table: &MapTable, word: u32, operation: MapOp) -> u64
         requires there { 0 < length self.old }
         requires own { (s : Place) → slice_get self.old 0 ≡ Some s → s.table ≡ table.now.table }
@@ -60,7 +60,7 @@ impl MapSeats {
         table.access(&mut self.seats[0], word, operation)
     }
 
-    /// One load of a word from each table, by rising worker, and their sum mod 2^(8 * width).
+    /// Loads a word once from each table, by worker number, and returns the sum mod 2^(8 * width).
     pub(crate) fn sum(&mut self, tables: &MapTables, word: u32) -> u64
         requires seated { AreSeated tables.now.tables self.old }
         requires inside { word < word_count tables.now.shape }

@@ -19,7 +19,7 @@ use std::marker::Model;
 /// The most operators.
 const OPERATORS: u32 = 8;
 
-/// The tables of all maps, for so many workers. Threads share it by reference.
+/// The tables of all maps, for this many workers. Threads share it by reference.
 #[derive(Drop)]
 pub struct ApTables {
     maps: Vec<MapTables>,
@@ -36,7 +36,7 @@ impl Model for ApTables {
     ghost invariant = { λ t. IsStocked (record { maps = t.maps.items; workers = t.workers }) };
 }
 
-/// How many seats each table of a map has: the operators', and those of the workers that use it.
+/// How many seats each table of a map has: one for each operator and for each worker that uses it.
 fn seats_for(scope: Scope, workers: u32) -> u32
     requires { workers ≤ 8 }
     ensures some { 1 ≤ result }
@@ -48,7 +48,6 @@ fn seats_for(scope: Scope, workers: u32) -> u32
     }
 }
 
-/// The next seat of each table of each map.
 fn seats_of_all(alloc: Global, maps: &mut [MapTables]) -> Result<Vec<MapSeats>, MapFault>
     ensures tables { KeepTables maps.old maps.new }
     ensures seated { IfOk result (λ s. AreOperators maps.new s.items) }
@@ -62,7 +61,7 @@ fn seats_of_all(alloc: Global, maps: &mut [MapTables]) -> Result<Vec<MapSeats>, 
 }
 
 impl ApTables {
-    /// Tables of zeros for maps of these shapes and for so many workers.
+    /// Tables of zeros for maps of these shapes and this many workers.
     pub fn new(alloc: Global, shapes: &Shapes, workers: u32) -> Result<ApTables, AllocError>
         requires some { 0 < workers }
         requires few { workers ≤ 8 }
@@ -84,14 +83,14 @@ impl ApTables {
         })
     }
 
-    /// The maps, of which a worker's programs use that worker's tables.
+    /// The maps; a worker's programs use that worker's tables.
     pub fn maps(&self) -> &[MapTables]
         ensures is { result.now ≡ self.now.maps }
     {
         self.maps.as_slice()
     }
 
-    /// Whether there is a map of that number and scope, and the word is one of its words.
+    /// Whether there is a map of that number and scope that has this word.
     pub fn has_word(&self, scope: Scope, map: usize, word: u32) -> bool
         ensures { IsTrue result ↔ Names scope self.now.maps map word }
     {
@@ -104,8 +103,8 @@ impl ApTables {
         }
     }
 
-    /// The seats of the next operator. Fault 62 comes where a table has no seat left, fault 40 only for want of
-    /// memory; the seats that were given till then are gone. Only tests show that 8 operators get theirs.
+    /// The seats of the next operator. Fault 62: a table has no seat left; fault 40: lack of memory; either way the
+    /// seats taken so far are lost. Only tests show that 8 operators get theirs.
     pub fn operator(&mut self, alloc: Global) -> Result<OperatorSeats, MapFault>
         ensures tables { KeepTables self.old.maps self.new.maps }
         ensures workers { self.new.workers ≡ self.old.workers }
@@ -115,9 +114,8 @@ impl ApTables {
         Ok(OperatorSeats { maps })
     }
 
-    /// What the programs of a worker change: the next seat of each table that they use, and the first word to draw.
-    /// Fault 62 comes where a table has no seat left, fault 40 only for want of memory; the seats that were given
-    /// till then are gone.
+    /// The mutable state of a worker's programs: the next seat of each table that they use, and the first word to
+    /// draw. Faults 62 and 40 as for `operator`.
     pub fn worker(
         &mut self,
         alloc: Global,
@@ -145,7 +143,7 @@ impl ApTables {
         operator.maps[map].access(table, word, operation)
     }
 
-    /// Stores a number in a word of a shared map, mod 2^(8 * width). It never waits and takes no memory.
+    /// Stores a number in a word of a shared map, mod 2^(8 * width). It never blocks or allocates.
     pub fn store(&self, operator: &mut OperatorSeats, map: usize, word: u32, value: u64)
         requires own { AreOperators self.now.maps operator.old }
         requires there { Names Shared self.now.maps map word }
@@ -155,7 +153,7 @@ impl ApTables {
         self.access(operator, map, word, MapOp::Store(value));
     }
 
-    /// Loads a word of a shared map. It never waits and takes no memory.
+    /// Loads a word of a shared map. It never blocks or allocates.
     pub fn read(&self, operator: &mut OperatorSeats, map: usize, word: u32) -> u64
         requires own { AreOperators self.now.maps operator.old }
         requires there { Names Shared self.now.maps map word }
@@ -165,8 +163,8 @@ impl ApTables {
         self.access(operator, map, word, MapOp::Load)
     }
 
-    /// Loads a word of a worker's map once from each worker's table, by rising worker, and answers the sum mod
-    /// 2^(8 * width). It never waits and takes no memory.
+    /// Loads a word of a worker's map once from each worker's table, by worker number, and returns the sum mod 2^(8 *
+    /// width). It never blocks or allocates.
     pub fn sum(&self, operator: &mut OperatorSeats, map: usize, word: u32) -> u64
         requires own { AreOperators self.now.maps operator.old }
         requires there { Names Worker self.now.maps map word }

@@ -1,4 +1,4 @@
--- How shares of the books grow by what was handed on.
+-- How shares of the books grow with what is reported.
 use Rattle.std.specs.Prelude.{◌==◌, ℕ, Bool, List, [], ◌∷◌, if◌then◌else◌}
 use Rattle.ap_books.specs.Counts.{Portion, counts_of, gains}
 use Rattle.ap_books.specs.Holdings.{Holding}
@@ -6,7 +6,7 @@ use Rattle.ap_tagged.specs.declared.tagged.Fate.{Fate}
 use Rattle.ap_tagged.specs.declared.tagged.Fate.TheVariants.{Decided, Refused, NotHandled}
 use Rattle.ap_tagged.specs.declared.tagged.Tagged.{Tagged}
 
--- a portion of a shard's ledgers, after it has counted what became of an event there: one that was not handled counts
+-- a portion of a shard's ledgers, after it has counted an event's fate there: an event that was not decided counts
 -- nothing
 abbrev pub grown : Portion → Fate → Portion
 grown p (Decided outs dropped) = gains p (counts_of outs.items dropped)
@@ -17,7 +17,7 @@ grown p NotHandled = p
 abbrev pub grown_if : Bool → Portion → Fate → Portion
 grown_if here p f = if here then grown p f else p
 
--- the portions of all shards, after that of this shard has counted what became of an event
+-- the portions of all shards, after that of shard s has counted an event's fate
 abbrev pub grown_at : Holding → ℕ → Fate → Holding
 grown_at h s f =
     record {
@@ -31,7 +31,7 @@ grown_at h s f =
       of7 = grown_if (s == 7) h.of7 f;
     }
 
--- the portions after all of these
+-- the portions after all of these reports
 unfoldable pub grown_by : Holding → List Tagged → Holding
 grown_by h [] = h
 grown_by h (t ∷ ts) = grown_by (grown_at h t.shard t.fate) ts

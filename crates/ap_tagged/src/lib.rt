@@ -1,8 +1,8 @@
-//! What workers of an access point hand on, and who is told of it.
+//! What workers of an access point report, and who is informed.
 //!
-//! `Tagged` is what became of one event, under its caller's number. A `Gate` is asked and told of each
-//! event that a worker takes. It stands on `ap_books`: `specs/` says how shares of the books grow by
-//! what was handed on.
+//! `Tagged` is the fate of one event, with its caller's number. A `Gate` is asked and informed
+//! about each event that a worker takes. It depends on `ap_books`: `specs/` says how shares of the
+//! books grow with what is reported.
 #![tactic(auto)]
 
 mod gate;

@@ -1,4 +1,4 @@
-//! Why an event was not put, or no pass given.
+//! Why an event was not put, or no handle was given.
 
 ghost use Rattle.std.specs.Prelude.{◌≡◌};
 ghost use Rattle.ap_queues.specs.Faults.{number_of};
@@ -8,7 +8,7 @@ use ap_model::Event;
 use std::alloc::AllocError;
 use std::fmt;
 
-/// 61: a queue was full. The event is handed back, with the first shard that was not served.
+/// 61: a queue was full. Returns the event, with the first shard that did not get it.
 #[derive(Drop)]
 pub struct Unserved {
     pub event: Event,
@@ -30,16 +30,16 @@ impl fmt::Display for Unserved {
     }
 }
 
-/// Why no passes were given.
+/// Why no handles were given.
 #[derive(Clone, Copy, Debug, PartialEq, Eq)]
 pub enum LineFault {
     NoMemory,
-    /// All are given out.
+    /// All were given already.
     NoPass,
 }
 
 impl LineFault {
-    /// 40 for want of memory, 62 where all are given out.
+    /// 40 for lack of memory, 62 if all were given already.
     pub fn number(self) -> u8
         ensures is { result ≡ number_of self }
     {

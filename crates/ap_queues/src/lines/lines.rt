@@ -11,7 +11,7 @@ use crate::{EventQueue, WorkerPass};
 use std::alloc::{AllocError, Global};
 use std::marker::Model;
 
-/// The queue of each worker, by the workers' numbers. Threads share it by reference.
+/// The queue of each worker, by worker number. Threads share it by reference.
 #[derive(Drop)]
 pub struct EventLines {
     pub(crate) queues: Vec<EventQueue>,
@@ -29,7 +29,7 @@ impl Model for EventLines {
 }
 
 impl EventLines {
-    /// An empty queue for each of so many workers, and what gives their passes.
+    /// An empty queue for each of this many workers, and the source of their handles.
     pub fn open(alloc: Global, workers: usize) -> Result<(EventLines, LinePasses), AllocError>
         requires some { 0 < workers }
         ensures workers { IfOk result (λ r. length r.0 ≡ workers) }
@@ -70,9 +70,8 @@ impl EventLines {
         &self.queues[worker]
     }
 
-    /// The passes of the next operator. Fault 62 comes where all are given out, fault 40 only for want
-    /// of memory. Nothing is said of passes that are left: only tests show that 8 operators are given
-    /// them.
+    /// The handles of the next operator. Fault 62: a queue has given all 8; fault 40: lack of memory.
+    /// No clause says when it succeeds; only tests show that 8 operators get theirs.
     pub fn operator(&self, alloc: Global, left: &mut LinePasses) -> Result<OperatorLines, LineFault>
         requires { ArePassesOf self.now left.old }
         ensures left { ArePassesOf self.now left.new }
@@ -89,7 +88,7 @@ impl EventLines {
         Ok(OperatorLines { passes })
     }
 
-    /// The pass of a worker, once. Then the fault is 62. Only tests show that it is given.
+    /// The handle of a worker, given once; after that, fault 62. Only tests show that it is given.
     pub fn worker(&self, left: &mut LinePasses, worker: usize) -> Result<WorkerPass, LineFault>
         requires own { ArePassesOf self.now left.old }
         requires there { worker < length self.now }

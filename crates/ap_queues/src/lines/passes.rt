@@ -1,14 +1,14 @@
-//! What gives the right to put and to take.
+//! The rights to put and to take.
 
 use crate::{OperatorPass, PassMaker, WorkerPass};
 
-/// The right of one operator to put events: a pass of each queue, by the workers' numbers.
+/// The right of one operator to put events: a handle on each queue, by worker number.
 #[derive(Drop)]
 pub struct OperatorLines {
     pub(crate) passes: Vec<OperatorPass>,
 }
 
-/// What is not given out yet: of each queue what makes its operators, and the pass of its worker.
+/// The handles not given yet: for each queue, the maker of its operators and the handle of its worker.
 #[derive(Drop)]
 pub struct LinePasses {
     pub(crate) makers: Vec<PassMaker>,

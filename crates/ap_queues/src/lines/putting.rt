@@ -1,4 +1,4 @@
-//! What an operator puts.
+//! How an operator puts events.
 
 ghost use Rattle.std.specs.Prelude.{◌≡◌, ◌<◌, ◌%◌, ◌-◌, length, IfErr, OnOk, OnErr};
 ghost use Rattle.ap_queues.specs.Items.{IsTold};
@@ -15,7 +15,7 @@ use ap_model::Event;
 use std::sync::Wait;
 
 impl EventLines {
-    /// Puts an item into the queue of the worker of its shard. It comes back where that queue was full.
+    /// Puts an item into the queue of its shard's worker, or returns it if that queue was full.
     fn put_one<R: Wait>(&self, rt: &R, operator: &mut OperatorLines, item: Item) -> Result<(), Item>
         requires own { AreLinesOf self.now operator.old }
         ensures own { AreLinesOf self.now operator.new }
@@ -32,10 +32,10 @@ impl EventLines {
         }
     }
 
-    /// Puts an event into the queue of the worker of its shard, shard s being served by worker s modulo
-    /// their number; a tick for each shard, by rising shard. `call` is the caller's number for it. 61
-    /// comes only where that queue held 256 items at a moment of the call: with the event, and the
-    /// first shard that was not told of it.
+    /// Puts an event into the queue of its shard's worker; worker s modulo the number of workers serves
+    /// shard s. A tick is put for each shard, by shard number. `call` is the caller's number for it.
+    /// Fails with 61 only if a queue held 256 items at a moment of the call, and returns the event and
+    /// that queue's shard, the first that did not get it.
     pub fn submit<R: Wait>(
         &self,
         rt: &R,
@@ -56,7 +56,7 @@ impl EventLines {
         }
     }
 
-    /// Goes on with a tick at this shard, as `submit`.
+    /// Continues a tick at this shard, as `submit`.
     pub fn submit_at<R: Wait>(
         &self,
         rt: &R,
@@ -94,7 +94,7 @@ impl EventLines {
         Ok(())
     }
 
-    /// Puts an event for one shard that is told of it.
+    /// Puts an event for one shard that it concerns.
     fn submit_one<R: Wait>(
         &self,
         rt: &R,

@@ -13,7 +13,7 @@ use Rattle.assoc.specs.Standings.{Linked}
 use Rattle.ap_core.specs.declared.management.Asked.{Asked}
 use Rattle.ap_core.specs.Handles.{IsRead}
 
--- what the hook is told
+-- the hook's context
 told : (a : Asked) (link : Linked) → IsRead link a.came.now → association_context a.came.now.frame.sender a.came.now.standing a.capability a.listen_interval a.again
     ≡ association_context a.came.now.frame.sender (standing link a.came.now.frame.sender) a.capability a.listen_interval a.again
 told a link read = ap (λ s. association_context a.came.now.frame.sender s a.capability a.listen_interval a.again) read.standing

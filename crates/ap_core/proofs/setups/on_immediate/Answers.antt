@@ -13,7 +13,7 @@ use Rattle.assoc.specs.Standings.{Linked}
 use Rattle.ap_core.specs.declared.setups.SetupRequest.{SetupRequest}
 use Rattle.ap_core.specs.Handles.{IsRead}
 
--- what the hook is told
+-- the hook's context
 told : (r : SetupRequest) (link : Linked) → IsRead link r.came.now → addba_context r.came.now.frame.sender r.came.now.standing r.parameters.tid r.parameters.buffer_size r.timeout r.start
     ≡ addba_context r.came.now.frame.sender (standing link r.came.now.frame.sender) r.parameters.tid r.parameters.buffer_size r.timeout r.start
 told r link read = ap (λ s. addba_context r.came.now.frame.sender s r.parameters.tid r.parameters.buffer_size r.timeout r.start) read.standing

@@ -7,7 +7,7 @@ use Rattle.ap_core.specs.Ticking.{late_count, late_outs, outs_of_ends}
 use Rattle.ap_core.proofs.TickLaws.{ticked}
 use Rattle.ap_core.proofs.ticks.tick.Goals as goal
 
--- as many end as are late
+-- the agreements that end are the timed-out ones
 many : (c : goal.After-end_all-arg-1) → vec_len c.take_late.new.ended ≡ late_count c.args.state.now c.args.units
 many c = c.take_late.ensures.many ∙ ap (λ (n : ℕ). count_by (λ (k : Kept). is_late n k.using) c.args.state.now.agreements.kept) c.clock_after-clock.ensures
 

@@ -1,4 +1,4 @@
--- `new` lists no asks. Assumes `Logic`.
+-- `new` makes an empty log. Assumes `Logic`.
 use Rattle.std.proofs.Common.{[], ◌∷◌, refl}
 use seplogic.Ra.Ura.{Ura}
 use mir.Syntax.{Fn}

@@ -1,4 +1,4 @@
--- `then` lists one more ask. Assumes `Logic`.
+-- `then` appends one query. Assumes `Logic`.
 use Rattle.std.proofs.Common.{List, [], ◌∷◌, ◌++◌, refl}
 use seplogic.Ra.Ura.{Ura}
 use mir.Syntax.{Fn}
