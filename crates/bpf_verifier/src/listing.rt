@@ -82,15 +82,11 @@ pub fn explain_within(
     ensures small { IfOk result (λ x. IfOk x.verdict (λ budget. budget ≤ limit)) }
     ensures walk { IfOk result (λ x. IfOk x.verdict
         (λ budget. IsPlain program.now.slots → HasWalk program.now.slots budget)) }
-    ensures plain { IfOk result (λ x. IfErr x.verdict
-        (λ e. limit ≡ 2 ^ 22 → IsPlain program.now.slots → e.fault ≡ Fault.NoMemory)) }
     ensures begins { IfOk result (λ x. IfErr x.verdict (λ e. Begins program.now.slots e.pc)) }
     ensures clear { IfOk result
         (λ x. IfErr x.verdict (λ e. IsClear program.now entry_view limit → e.fault
         ≡ Fault.NoMemory)) }
 {
-    program.whole();
-    plain_law();
     let mut exploration = Exploration::new(alloc, program, Observer::listening(alloc))?;
     let verdict = observed_budget(alloc, program, &mut exploration, limit);
     Ok(explained(alloc, verdict, exploration.into_observer()))
