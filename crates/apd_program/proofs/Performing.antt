@@ -62,8 +62,8 @@ complained files a output o (fault.OddDigits path) (inr h) = Refrained h (Keeps-
 complained files a output o (fault.Config path f) (inr h) = Refrained h (Keeps-same o)
 complained files a output o fault.LongFrame (inr h) = Refrained h (Keeps-same o)
 
-pub Performs-complained : (files : Held) (a : Asked) (output o : Option (List ℕ)) (f : ProgramFault) (status : ℕ) → (f ≡ fault.NoMemory) ⊎ HasNoAnswer files a → status ≡ fault_status f → Performs files a o o status
-Performs-complained files a o f status h is = rw is (complained files a o f h)
+pub Performs-complained : (files : Held) (a : Asked) (output o : Option (List ℕ)) (f : ProgramFault) (status : ℕ) → (f ≡ fault.NoMemory) ⊎ HasNoAnswer files a → status ≡ fault_status f → Performs files a output o o status
+Performs-complained files a output o f status h is = rw is (complained files a output o f h)
 
 status_within : (answer : Answer) → status_of answer ≤ 1
 status_within (Accepted budget) = omega arith

@@ -68,9 +68,13 @@ fn admit(
     }
     let explanation = explain_within(alloc, &program, limit)?;
     reason.explain(alloc, &program, &explanation);
-    let budget = explanation.verdict?;
-    let accepted = Accepted::new(alloc, program, terms.hook, budget)?;
-    Ok(accepted)
+    match explanation.verdict {
+        Ok(budget) => {
+            let accepted = Accepted::new(alloc, program, terms.hook, budget)?;
+            Ok(accepted)
+        }
+        Err(refusal) => Err(refusal),
+    }
 }
 
 /// The verifier's verdict on a program.

@@ -8,14 +8,14 @@ pub returns-in-Ok-Run : goal.returns-in-Ok-Run
 returns-in-Ok-Run g c = record {
   fulfils = λ w spelled.
       let P : Wanted → Type 0 = λ v. Fulfils (g.F.Files.held c.args.files.now) v (g.O.Write.contents c.args.out) (g.O.Write.contents c.run_watched.result.0) c.run_watched.result.1 in
-      subst P (c.in-Ok.ensures.spelled w spelled) c.run_watched.ensures.runs;
+      subst P ((rw c.in-Ok-Run.field-0-is at c.in-Ok-Run.ensures.spelled) w spelled) c.run_watched.ensures.runs;
 }
 
 pub returns-in-Ok-Answer : goal.returns-in-Ok-Answer
 returns-in-Ok-Answer g c = record {
   fulfils = λ w spelled.
       let P : Wanted → Type 0 = λ v. Fulfils (g.F.Files.held c.args.files.now) v (g.O.Write.contents c.args.out) (g.O.Write.contents c.respond-status.new.out) c.respond-status.result in
-      subst P (c.in-Ok.ensures.spelled w spelled) c.respond-status.ensures.is;
+      subst P ((rw c.in-Ok-Answer.field-0-is at c.in-Ok-Answer.ensures.spelled) w spelled) c.respond-status.ensures.is;
 }
 
 pub returns-in-Err : goal.returns-in-Err

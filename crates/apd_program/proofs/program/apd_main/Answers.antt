@@ -1,8 +1,57 @@
-use Rattle.std.proofs.Common.{subst}
-use Rattle.apd_words.specs.Asked.{Wanted}
+use Rattle.std.proofs.Common.{inl, refl, subst}
+use Rattle.apd_words.specs.Asked.{Wanted, wanted_answer, wanted_run}
 use Rattle.apd_program.specs.Program.{Responds, Performed}
 use Rattle.apd_program.proofs.Performing.{Responds-status, Responds-memory, Responds-told, Tells-status, Tells-memory, Does-told}
 use Rattle.apd_program.proofs.program.apd_main.Goals as goal
 
 pub returns-in-Ok-Answer-clause-status : goal.returns-in-Ok-Answer-clause-status
-returns-in-Ok-Answer-clause-status g c = Responds-status _ (AnswerWanted _ _) _ _ _ c.respond.ensures.is
+returns-in-Ok-Answer-clause-status g c = Responds-status _ (wanted_answer c.in-Ok-Answer.query) _ _ _ c.respond.ensures.is
+
+pub returns-in-Ok-Answer-clause-memory : goal.returns-in-Ok-Answer-clause-memory
+returns-in-Ok-Answer-clause-memory g c = Responds-memory _ (wanted_answer c.in-Ok-Answer.query) _ _ _ c.respond.ensures.is
+
+pub returns-in-Ok-Answer-clause-runs : goal.returns-in-Ok-Answer-clause-runs
+returns-in-Ok-Answer-clause-runs g c =
+    let reads = rw c.in-Ok-Answer.field-0-is at c.in-Ok-Answer.ensures.reads in
+    record {
+      hooks = reads.hooks;
+      numbers = reads.numbers;
+      takes_hooks = reads.takes_hooks;
+      takes_numbers = reads.takes_numbers;
+      does = Performed (wanted_answer c.in-Ok-Answer.query) _ reads.at c.respond.ensures.is;
+    }
+
+pub returns-in-Ok-Answer-clause-spelled : goal.returns-in-Ok-Answer-clause-spelled
+returns-in-Ok-Answer-clause-spelled g c = λ w spelled.
+    let P : Wanted → Type 0 = λ v. Responds (g.F.Files.held c.args.files.now) v (g.O.Write.contents c.args.out.now) (g.O.Write.contents c.respond.new.out) c.respond.result in
+    subst P ((rw c.in-Ok-Answer.field-0-is at c.in-Ok-Answer.ensures.spelled) w spelled) c.respond.ensures.is
+
+pub returns-in-Ok-Run-clause-runs : goal.returns-in-Ok-Run-clause-runs
+returns-in-Ok-Run-clause-runs g c =
+    let reads = rw c.in-Ok-Run.field-0-is at c.in-Ok-Run.ensures.reads in
+    record {
+      hooks = reads.hooks;
+      numbers = reads.numbers;
+      takes_hooks = reads.takes_hooks;
+      takes_numbers = reads.takes_numbers;
+      does = Performed (wanted_run c.in-Ok-Run.field-0-0) _ reads.at (refl, inl c.complain.ensures.is);
+    }
+
+pub returns-in-Ok-Run-clause-spelled : goal.returns-in-Ok-Run-clause-spelled
+returns-in-Ok-Run-clause-spelled g c = λ w spelled.
+    let P : Wanted → Type 0 = λ v. Responds (g.F.Files.held c.args.files.now) v (g.O.Write.contents c.args.out.now) (g.O.Write.contents c.args.out.now) c.complain.result in
+    subst P ((rw c.in-Ok-Run.field-0-is at c.in-Ok-Run.ensures.spelled) w spelled) (refl, inl c.complain.ensures.is)
+
+pub returns-in-Err-clause-runs : goal.returns-in-Err-clause-runs
+returns-in-Err-clause-runs g c =
+    let reads = c.in-Err.ensures.reads in
+    record {
+      hooks = reads.hooks;
+      numbers = reads.numbers;
+      takes_hooks = reads.takes_hooks;
+      takes_numbers = reads.takes_numbers;
+      does = Does-told _ _ _ _ _ _ _ _ reads.at c.tell.ensures.is;
+    }
+
+pub returns-in-Err-clause-spelled : goal.returns-in-Err-clause-spelled
+returns-in-Err-clause-spelled g c = λ w spelled. Responds-told _ w _ _ _ _ (c.in-Err.ensures.spelled w spelled) c.tell.ensures.is

@@ -1,15 +1,14 @@
-use Rattle.std.proofs.Common.{◌≤◌, IfOk, subst}
-use Rattle.apd_program.specs.Verifying.{Admitted, IsRun, IsVerdict}
+use Rattle.bpf_verifier.specs.Limits.{nearest}
+use Rattle.apd_program.specs.Verifying.{Admitted, IsRun}
 use Rattle.apd_program.proofs.Said.{IsVerdict-refused, IsTrace-of}
 use Rattle.apd_program.proofs.verifying.run.Goals as goal
 
 pub returns-in_ok-text-in-Ok-clause-run : goal.returns-in_ok-text-in-Ok-clause-run
 returns-in_ok-text-in-Ok-clause-run c =
-    Admitted c.in-Ok.accepted.budget _ c.in-Ok.ensures.safe (subst (λ n. c.in-Ok.accepted.budget ≤ n) c.limit_of-limit.ensures.is c.in-Ok.ensures.small) c.in-Ok.ensures.walk
+    Admitted c.in-Ok.accepted.budget _ c.in-Ok.ensures.safe c.in-Ok.ensures.small c.in-Ok.ensures.walk
     (IsTrace-of c.in-Ok.accepted _ _ _ _ _ _ c.in-Ok.ensures.code c.in-Ok.ensures.hook c.in_ok-text-in-Ok.ensures.is)
 
 pub returns-in-Err-clause-run : goal.returns-in-Err-clause-run
 returns-in-Err-clause-run c =
-    let says = IsRun c.args.stimulus.terms.hook c.args.stimulus.frame.now c.args.stimulus.context.now c.args.stimulus.draw in
-    subst (λ n. IfOk c.refused.result (IsVerdict n says c.args.program)) c.limit_of-limit.ensures.is
-    (IsVerdict-refused c.limit_of-limit.result says _ _ c.in-Err.refusal c.in-Err.ensures.plain c.in-Err.ensures.clear c.in-Err.ensures.begins c.refused.ensures.refusal)
+    IsVerdict-refused (nearest c.args.stimulus.terms.states) (IsRun c.args.stimulus.terms.hook c.args.stimulus.frame.now c.args.stimulus.context.now c.args.stimulus.draw) _ _
+    c.in-Err.refusal c.in-Err.ensures.plain c.in-Err.ensures.clear c.in-Err.ensures.begins c.refused.ensures.refusal
