@@ -72,7 +72,7 @@ pub fn words(workers: u8) -> RunWords<'static> {
 }
 
 /// A run of files in memory. The watcher is told of each event.
-fn outcome<R: Threads + Wait + Sync, G: Watcher + Copy + Send>(
+fn run_of<R: Threads + Wait + Sync, G: Watcher + Copy + Send>(
     rt: &R,
     alloc: Global,
     files: &[File<'_>],
@@ -103,7 +103,7 @@ pub fn watched<R: Threads + Wait + Sync, G: Watcher + Copy + Send>(
     workers: u8,
     gate: G,
 ) -> Outcome {
-    outcome(rt, alloc, files, words(workers), gate)
+    run_of(rt, alloc, files, words(workers), gate)
 }
 
 /// Runs files as words ask for it.
@@ -113,7 +113,7 @@ pub fn ran_as<R: Threads + Wait + Sync>(
     files: &[File<'_>],
     words: RunWords<'_>,
 ) -> Outcome {
-    outcome(rt, alloc, files, words, OpenGate)
+    run_of(rt, alloc, files, words, OpenGate)
 }
 
 /// Runs the file `script` with the configuration `config` by so many workers.

@@ -98,21 +98,48 @@ fn any_number_of_workers_prints_the_same(rt: HostRuntime) {
     }
 }
 
-const REFUSED: &str = "load data absent\ntick 10\nwait\ntick 20\n";
+/// Scripts with a refused line in their first interval, what a strict run prints of each, and its status.
+const STRICT: &[(&str, &str, u8)] = &[
+    (
+        "load data absent\ntick 0\nload data absent\nwait\ntick 20\n",
+        "1 unreadable\n3 unreadable\ntotal events 0 sent 0 up 0 dropped 0 notes 0\n",
+        1,
+    ),
+    (
+        "load data absent\ntick 10\nwait\ntick 20\n",
+        "1 unreadable\n2 memory\ntotal events 0 sent 0 up 0 dropped 0 notes 0\n",
+        3,
+    ),
+    (
+        "tick 0\nwait\nload data absent\n",
+        "3 unreadable\ntotal events 0 sent 0 up 0 dropped 0 notes 0\n",
+        1,
+    ),
+    (
+        "tick 10\nwait\ntick 20\n",
+        "1 memory\n3 memory\ntotal events 0 sent 0 up 0 dropped 0 notes 0\n",
+        3,
+    ),
+];
 
-const PRINTED_STRICTLY: &str = "1 unreadable\n2 word 10\n\
-    total events 0 sent 0 up 0 dropped 0 notes 0\n";
+/// Fails where a strict run of a script, by one, two or eight workers, prints something else, or has another status.
+fn prints_strictly<R: Threads + Wait + Abort + Sync>(
+    rt: &R,
+    alloc: Global,
+    script: &str,
+    printed: &str,
+    status: u8,
+) {
+    for workers in [1, 2, 8] {
+        let (page, ended) = ran(rt, alloc, workers, script, true);
+        same(rt, page.text.as_slice(), printed.as_bytes(), "the text");
+        same(rt, ended, status, "the status");
+    }
+}
 
 #[test]
 fn a_strict_run_ends_with_the_interval_of_a_refused_line(rt: HostRuntime) {
-    for workers in [1, 2, 8] {
-        let (page, status) = ran(&rt, rt.alloc(), workers, REFUSED, true);
-        same(
-            &rt,
-            page.text.as_slice(),
-            PRINTED_STRICTLY.as_bytes(),
-            "the text",
-        );
-        same(&rt, status, 1, "the status");
+    for (script, printed, status) in STRICT {
+        prints_strictly(&rt, rt.alloc(), script, printed, *status);
     }
 }
