@@ -42,7 +42,7 @@ fn a_refused_load_says_what_is_in_force(rt: HostRuntime) {
     let script = "load data absent\nload data mark.hex\nwait\nload data exit.hex\n\
         adopt assoc mark.hex exit.hex\nunload data\nadopt data exit.hex mark.hex\n";
     let told =
-        "apd: script:1: absent is not loaded; data has no program: all data passes, with mark 0\n\
+        "apd: script:1: cannot read absent: there is no such file; data has no program: all data passes, with mark 0\n\
         apd: script:4: exit.hex is not loaded; data keeps the program of line 2\n\
         apd: script:5: mark.hex is not loaded; assoc has no program: each station is admitted\n\
         apd: script:7: exit.hex is not loaded; data has no program: all data passes, with mark 0\n";
