@@ -163,14 +163,26 @@ const TOLD: &[(&[&str], &str, &str)] = &[
     ),
 ];
 
+/// Words, and others behind them.
+fn joined<'a, R: Abort>(
+    rt: &R,
+    alloc: Global,
+    words: &[&'a str],
+    more: &[&'a str],
+) -> Vec<&'a str> {
+    let mut all = Vec::from_slice(alloc, words).expect(rt, "memory");
+    for word in more {
+        all.push(*word).expect(rt, "memory");
+    }
+    all
+}
+
 #[test]
 fn a_traced_program_is_told_what_is_given(rt: HostRuntime) {
     let alloc = rt.alloc();
     for (given, code, r0) in TOLD {
         let words = ["apd", "trace", "data", *code, FRAME];
-        let words = [words.as_slice(), given]
-            .concat(alloc)
-            .expect(&rt, "memory");
+        let words = joined(&rt, alloc, &words, given);
         let (told, _) = answer(alloc, words.as_slice());
         let end = format!(in alloc; "r0 {r0} steps 2\n").expect(&rt, "memory");
         same(&rt, told.status, 0, "the status");
@@ -201,9 +213,7 @@ fn what_no_context_has_is_a_fault(rt: HostRuntime) {
     let alloc = rt.alloc();
     for (given, why) in NOT_GIVEN {
         let words = ["apd", "trace", "data", "one.hex", FRAME];
-        let words = [words.as_slice(), given]
-            .concat(alloc)
-            .expect(&rt, "memory");
+        let words = joined(&rt, alloc, &words, given);
         let err = format!(in alloc; "apd: {why}\n").expect(&rt, "memory");
         says(&rt, alloc, words.as_slice(), 2, "", err.as_str());
     }
