@@ -10,7 +10,7 @@ commands=(
     'run:Run a script of frames and commands on an access point'
     'cert:Verify a program and print its certificate in hex'
     'check:Check a program'\''s certificate and print the budget'
-    'explain:Explain the number of a refusal'
+    'explain:Explain the number of a refusal, or list all numbers'
     'frames:Print a capture'\''s frames as a script for `apd run`'
     'help:Print this help, or that of a command'
 )
@@ -33,7 +33,7 @@ case $state in
                 _arguments -C '1:HOOK:(assoc addba data)' '2:FILE:_files -g "*.hex"' '3:FRAME: ' '--config=[The configuration\: shapes of maps, first draw word]:config:_files -g "*.toml"' '--states=[How many states the verifier may examine, 1 to 4194304 \[default\: 4194304\]]:states: ' '--context=[What the program is told, as KEY=VALUE,.. (see the manual)]:context: ' '--from-frame[Tell the program what the frame says of itself]' '--explain[Tell on standard error why, and what is known there]' '--help[Print help]'
                 ;;
             run)
-                _arguments -C '1:C:_files -g "*.toml"' '2:SCRIPT:_files -g "*.script"' '--workers=[How many worker threads serve the shards, 1 to 8 \[default\: 2\]]:workers:(1 2 3 4 5 6 7 8)' '--states=[How many states the verifier may examine, 1 to 4194304 \[default\: 4194304\]]:states: ' '--quiet[Tell no progress on standard error]' '--strict[End after the first refused line, with status 1]' '--verbose[Tell on standard error what becomes of each load]' '--help[Print help]'
+                _arguments -C '1:C:_files -g "*.toml"' '2:SCRIPT:_files -g "*.script"' '--workers=[How many worker threads serve the shards, 1 to 8 \[default\: 2\]]:workers:(1 2 3 4 5 6 7 8)' '--states=[How many states the verifier may examine, 1 to 4194304 \[default\: 4194304\]]:states: ' '--quiet[Tell no progress on standard error]' '--strict[End after the interval of the first refused load, with status 1]' '--verbose[Tell on standard error what becomes of each load]' '--help[Print help]'
                 ;;
             cert)
                 _arguments -C '1:HOOK:(assoc addba data)' '2:FILE:_files -g "*.hex"' '--config=[The configuration\: shapes of maps, first draw word]:config:_files -g "*.toml"' '--states=[How many states the verifier may examine, 1 to 4194304 \[default\: 4194304\]]:states: ' '--output=[Write to this file, and only if the command succeeds]:output:_files -g "*.hex"' '--help[Print help]'

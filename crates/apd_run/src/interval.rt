@@ -25,6 +25,9 @@ struct Place {
     interval: u64,
 }
 
+/// The most lines of an interval, so that what is kept of one doesn't grow with the script.
+const MOST_LINES: usize = 4096;
+
 /// The result of an interval: the index of the next command, and what the printed lines say.
 #[derive(Clone, Copy)]
 struct Passed {
@@ -129,7 +132,8 @@ pub(crate) fn intervals<W: Serving + Drop, O: Operating<W> + Drop, R: Wait, P: C
             line,
             interval: interval_number,
         };
-        let passed = match interval(setting, staff, commands, from, writer) {
+        let end = commands.len().min(line.saturating_add(MOST_LINES));
+        let passed = match interval(setting, staff, &commands[..end], from, writer) {
             Ok(passed) => passed,
             Err(fault) => return Err(fault),
         };

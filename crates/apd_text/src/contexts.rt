@@ -62,7 +62,7 @@ const COMMON: [Field; 3] = [
         place: 10,
         is_wide: false,
         first: 0,
-        last: 255,
+        last: 7,
     },
 ];
 
@@ -333,7 +333,8 @@ fn put_number(bytes: &mut [u8; 32], field: Field, number: u16) {
 
 fn number_in(field: Field, value: &str) -> Option<u16> {
     let number = value.parse::<u16>().ok()?;
-    if field.first <= number && number <= field.last {
+    let is_none = field.key == "tid" && number == u16::from(NO_TID);
+    if is_none || field.first <= number && number <= field.last {
         Some(number)
     } else {
         None

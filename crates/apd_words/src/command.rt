@@ -22,7 +22,7 @@ const VERSION: &str = "0.1.0";
 
 const STATUSES: &str = "Exit status:
   0  success
-  1  the program, text or certificate was refused
+  1  the program, text or certificate was refused, or the capture is cut
   2  the command line, a configuration, a script or a file is at fault
   3  out of memory
 
@@ -208,7 +208,7 @@ fn run<'a>(alloc: Global, numbers: &'a [&'a str]) -> Made<'a>
     let command = with_arg(command, states(alloc));
     let quiet = "Tell no progress on standard error";
     let command = with_arg(command, flag(alloc, "quiet", quiet));
-    let strict = "End after the first refused line, with status 1";
+    let strict = "End after the interval of the first refused load, with status 1";
     let command = with_arg(command, flag(alloc, "strict", strict));
     let verbose = "Tell on standard error what becomes of each load";
     with_arg(command, flag(alloc, "verbose", verbose))
@@ -236,7 +236,11 @@ fn check<'a>(alloc: Global, hooks: &'a [&'a str]) -> Made<'a>
 fn explain<'a>(alloc: Global) -> Made<'a>
     ensures is { IfOk result (IsCommand explain) }
 {
-    let command = named(alloc, "explain", "Explain the number of a refusal");
+    let command = named(
+        alloc,
+        "explain",
+        "Explain the number of a refusal, or list all numbers",
+    );
     let number = "The number, as `fault N` or `refused N` names it; without one all are listed";
     with_arg(command, optional(alloc, "NUMBER", number))
 }

@@ -46,6 +46,7 @@ impl fmt::Display for Reach {
     fn fmt<W: fmt::Write>(&self, f: &mut fmt::Formatter<W>) -> fmt::Result {
         match self {
             Reach::To(end) => write!(f, "it reaches to byte {end}"),
+            Reach::Before(1) => f.write_str("it begins 1 byte before the first byte"),
             Reach::Before(bytes) => write!(f, "it begins {bytes} bytes before the first byte"),
             Reach::Anywhere => f.write_str("its offset may wrap, so that it reaches to any byte"),
         }

@@ -62,7 +62,7 @@ pub(crate) const DISTANCE: Cure = Cure::Advice(
 );
 
 pub(crate) const FIXED_END: Cure = Cure::Advice(
-    "Nothing is added to `end`: move the other side, `p + 4 > end`.",
+    "Nothing is added to `end`: move the other side, as in `frame + 30 > end`.",
 );
 
 pub(crate) const COMPARE_WITH_END: Cure = Cure::Advice(
