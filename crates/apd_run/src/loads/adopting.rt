@@ -52,7 +52,7 @@ impl Loads {
     fn adopt_code<R: Wait>(&mut self, rt: &R, hook: Hook, code: &[u8], certificate: &[u8]) -> Told
         ensures { AdoptsCode hook code.now certificate.now self.old self.new result }
     {
-        let Ok(shapes) = self.shapes.clone() else {
+        let Ok(shapes) = self.shapes() else {
             return Told::Memory;
         };
         match decode(self.alloc, code, shapes) {

@@ -1,6 +1,6 @@
 //! Loading and unloading programs.
 
-ghost use Rattle.std.specs.Prelude.{◌≡◌, None, OnOk, OnErr};
+ghost use Rattle.std.specs.Prelude.{◌≡◌, IfOk, None, OnOk, OnErr};
 ghost use Rattle.versions.specs.Lists.{with_load};
 ghost use Rattle.versions.specs.Sets.{load};
 ghost use Rattle.apd_run.specs.Loading.{PutsInForce, LoadsProgram, LoadsCode, LoadsFile};
@@ -22,7 +22,7 @@ use versions::{News, PublishFault, Publisher};
 pub struct Loads {
     pub(crate) alloc: Global,
     pub(crate) publisher: Publisher,
-    pub(crate) shapes: Shapes,
+    shapes: Shapes,
 }
 
 impl Model for Loads {
@@ -105,10 +105,17 @@ impl Loads {
         }
     }
 
+    /// A copy of the maps' shapes.
+    pub(crate) fn shapes(&self) -> Result<Shapes, AllocError>
+        ensures is { IfOk result (λ shapes. shapes ≡ self.now.shapes) }
+    {
+        self.shapes.clone()
+    }
+
     fn load_code<R: Wait>(&mut self, rt: &R, hook: Hook, code: &[u8], limit: StateLimit) -> Told
         ensures { LoadsCode limit hook code.now self.old self.new result }
     {
-        let Ok(shapes) = self.shapes.clone() else {
+        let Ok(shapes) = self.shapes() else {
             return Told::Memory;
         };
         match decode(self.alloc, code, shapes) {

@@ -9,7 +9,7 @@ returns-in_default g c = NoRoomToDecode refl
 pub returns-in-Ok-decode : goal.returns-in-Ok-decode
 returns-in-Ok-decode g c =
     Decoded c.in-Ok-decode.program c.load_program-told.result c.in-Ok-decode.ensures.ok
-    (c.in-Ok-decode.ensures.shapes ∙ c.in-Ok.ensures.cases) c.load_program-told.ensures
+    (c.in-Ok-decode.ensures.shapes ∙ c.in-Ok.ensures.is) c.load_program-told.ensures
 
 pub returns-in-NoMemory : goal.returns-in-NoMemory
 returns-in-NoMemory g c = NoRoomToDecode refl
@@ -17,4 +17,4 @@ returns-in-NoMemory g c = NoRoomToDecode refl
 pub returns-in_default-fault : goal.returns-in_default-fault
 returns-in_default-fault g c =
     NotDecoded c.in-Err.fault c.in_default-fault.not-NoMemory
-    (subst (λ shapes. Refuses c.args.code.now shapes c.in-Err.fault) c.in-Ok.ensures.cases c.in-Err.ensures.err) refl
+    (subst (λ shapes. Refuses c.args.code.now shapes c.in-Err.fault) c.in-Ok.ensures.is c.in-Err.ensures.err) refl
