@@ -28,6 +28,7 @@ use Rattle.apd_program.proofs.Kept.{Keeps-same}
 failed : (e : Undelivered) → e ≢ undelivered.NoMemory → status_after (Err e) ≡ 2
 failed undelivered.NoMemory other = absurd (other refl)
 failed (undelivered.Unwritten why) other = refl
+failed (undelivered.Unsaved why) other = refl
 
 pub Performs-delivered : (files : Held) (a : Asked) (answer : Answer) (output old new : Option (List ℕ)) (r : Result ℕ Undelivered) (status : ℕ) → IsAnswer files a answer → Delivers answer output old new r → status ≡ status_after r
     → Performs files a output old new status

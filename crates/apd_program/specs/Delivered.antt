@@ -6,7 +6,7 @@ use Rattle.apd_files.specs.Held.{Saved, Saves}
 use Rattle.apd_program.specs.Lines.{printed, status_of}
 use Rattle.apd_program.specs.declared.answer.Answer.{Answer}
 use Rattle.apd_program.specs.declared.output.Undelivered.{Undelivered}
-use Rattle.apd_program.specs.declared.output.Undelivered.TheVariants.{NoMemory, Unwritten}
+use Rattle.apd_program.specs.declared.output.Undelivered.TheVariants.{NoMemory, Unwritten, Unsaved}
 
 -- no file is named for the answer, or it is no success
 abbrev pub GoesOut : Option (List ℕ) → ℕ → Type 0
@@ -37,3 +37,4 @@ abbrev pub status_after : Result ℕ Undelivered → ℕ
 status_after (Ok status) = status
 status_after (Err NoMemory) = 3
 status_after (Err (Unwritten why)) = 2
+status_after (Err (Unsaved why)) = 2

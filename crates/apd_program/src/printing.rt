@@ -4,7 +4,7 @@ ghost use Rattle.std.specs.Prelude.{◌≡◌};
 ghost use Rattle.apd_program.specs.Printed.{PrintsText, fault_status};
 
 use crate::fault::ProgramFault;
-use apd_files::{Unwritten, write_whole};
+use apd_files::{Unwritten, shown, write_whole};
 use std::alloc::{AllocError, Global};
 use std::io::{ErrorKind, Write};
 
@@ -31,6 +31,29 @@ pub(crate) fn unwritten<E: Write>(alloc: Global, why: ErrorKind, err: &mut E) ->
     ensures is { result ≡ 2 }
 {
     if let Ok(text) = format!(in alloc; "apd: cannot write: {why}\n") {
+        say(text.as_str(), err);
+    }
+    2
+}
+
+/// Tells why a file can't be written, and returns the status 2.
+pub(crate) fn unsaved<E: Write>(alloc: Global, path: &str, why: ErrorKind, err: &mut E) -> u8
+    ensures is { result ≡ 2 }
+{
+    let Ok(path) = shown(alloc, path) else {
+        say(NO_MEMORY, err);
+        return 2;
+    };
+    let told = match why {
+        ErrorKind::NotFound => format!(in alloc;
+            "apd: cannot write {path}: there is no such folder\n"
+        ),
+        ErrorKind::PermissionDenied => format!(in alloc;
+            "apd: cannot write {path}: it is not allowed\n"
+        ),
+        _ => format!(in alloc; "apd: cannot write {path}: {why}\n"),
+    };
+    if let Ok(text) = told {
         say(text.as_str(), err);
     }
     2

@@ -84,7 +84,7 @@ pub(crate) fn respond<F: Files, O: Write, E: Write>(
             let sentence = explaining::sentence(alloc, &answer, reason.insn());
             let hint = hints::of(alloc, &question, &answer);
             let delivered = deliver(alloc, answer, output, files, out);
-            let status = conclude(alloc, delivered, err);
+            let status = conclude(alloc, delivered, output, err);
             say_if_any(&sentence, err);
             say_if_any(&hint, err);
             say_if_any(reason.text(), err);

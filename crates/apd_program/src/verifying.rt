@@ -1,12 +1,7 @@
 //! The verdict on code, and the run of what is admitted: the commands `verify` and `trace`.
 
-ghost use Rattle.std.specs.Prelude.{◌≡◌, ◌≤◌, ◌^◌, IfOk, IfErr};
-ghost use Rattle.bpf_decode.specs.Program.{Begins};
-ghost use Rattle.bpf_model.specs.Run.{Safe};
-ghost use Rattle.bpf_absstate.specs.View.{entry_view};
-ghost use Rattle.bpf_plain.specs.Clear.{IsClear};
-ghost use Rattle.bpf_plain.specs.Walks.{IsPlain, HasWalk};
-ghost use Rattle.bpf_rules.specs.declared.fault.Fault.{Fault};
+ghost use Rattle.std.specs.Prelude.{◌≡◌, IfOk, IfErr};
+ghost use Rattle.bpf_verifier.specs.Admission.{IsSafeBudget, IsRefusal};
 ghost use Rattle.bpf_verifier.specs.Limits.{nearest};
 ghost use Rattle.apd_program.specs.Programs.{IsOfProgram};
 ghost use Rattle.apd_program.specs.Verifying.{IsVerified, IsRunWithin};
@@ -18,7 +13,6 @@ use apd_text::trace_text;
 use apd_words::Terms;
 use bpf_decode::{Program, decode};
 use bpf_machine::Accepted;
-use bpf_plain::laws::plain_law;
 use bpf_regions::{Context, Frame, Shapes};
 use bpf_verifier::{Refusal, StateLimit, explain_within, verify_within};
 use std::alloc::Global;
@@ -50,18 +44,11 @@ fn admit(
 ) -> Result<Accepted, Refusal>
     ensures code { IfOk result (λ accepted. accepted.code ≡ program) }
     ensures hook { IfOk result (λ accepted. accepted.hook ≡ terms.hook) }
-    ensures safe { IfOk result (λ accepted. Safe program.slots program.shapes accepted.budget) }
-    ensures small { IfOk result (λ accepted. accepted.budget ≤ nearest terms.states) }
-    ensures walk { IfOk result
-        (λ accepted. IsPlain program.slots → HasWalk program.slots accepted.budget) }
-    ensures plain { IfErr result
-        (λ e. nearest terms.states ≡ 2 ^ 22 → IsPlain program.slots → e.fault ≡ Fault.NoMemory) }
-    ensures begins { IfErr result (λ e. Begins program.slots e.pc) }
-    ensures clear { IfErr result
-        (λ e. IsClear program entry_view (nearest terms.states) → e.fault ≡ Fault.NoMemory) }
+    ensures budget { IfOk result
+        (λ accepted. IsSafeBudget program (nearest terms.states) accepted.budget) }
+    ensures refused { IfErr result (IsRefusal program (nearest terms.states)) }
 {
     program.whole();
-    plain_law();
     let limit = limit_of(terms);
     if !reason.is_wanted() {
         return verify_within(alloc, program, terms.hook, limit);

@@ -20,7 +20,7 @@ fn reads(rt: &impl Abort, alloc: Global, file: &[u8], wanted: &[Packet<'_>]) {
     same(rt, packets.as_slice(), wanted, "packets");
 }
 
-/// A header with big-endian numbers, nanoseconds and the link type 127, and three packets with radiotap headers.
+/// A header with big-endian numbers, nanoseconds and the link type 127, and four packets with radiotap headers.
 const RADIOTAP: &[&[u8]] = &[
     &[
         0xa1, 0xb2, 0x3c, 0x4d, 0, 2, 0, 4, 0, 0, 0, 0, 0, 0, 0, 0, 0, 4, 0, 0, 0, 0, 0, 127,
@@ -32,6 +32,10 @@ const RADIOTAP: &[&[u8]] = &[
     // No time, two present words, the flags at 12 without a check sequence.
     &[0, 0, 0, 1, 0, 0, 0, 9, 0, 0, 0, 14, 0, 0, 0, 14],
     &[0, 0, 13, 0, 2, 0, 0, 0x80, 0, 0, 0, 0, 0, 0x49],
+    // Flags that say that the check sequence is wrong.
+    &[0, 0, 0, 1, 0, 0, 0, 9, 0, 0, 0, 14, 0, 0, 0, 14],
+    &[0, 0, 9, 0, 2, 0, 0, 0, 0x50],
+    &[0x4a, 1, 2, 3, 4],
     // A header that is longer than the packet.
     &[0, 0, 0, 1, 0, 0, 0, 9, 0, 0, 0, 8, 0, 0, 0, 8],
     &[0, 0, 9, 0, 0, 0, 0, 0],
@@ -49,6 +53,7 @@ fn check_sequences_are_taken_off(rt: HostRuntime) {
     let wanted = [
         packet(time, Ok(&[0x48])),
         packet(time, Ok(&[0x49])),
+        packet(time, Err(LeftOut::WrongCheckSequence)),
         packet(time, Err(LeftOut::Radiotap)),
     ];
     reads(&rt, rt.alloc(), &file, &wanted);

@@ -118,7 +118,7 @@ fn a_refusal_is_written_to_no_file(rt: HostRuntime) {
 #[test]
 fn a_file_that_is_not_written_is_a_fault(rt: HostRuntime) {
     let words = ["apd", "asm", "good.s", "-o", "other"];
-    let why = "apd: cannot write: permission denied\n";
+    let why = "apd: cannot write other: it is not allowed\n";
     says(&rt, rt.alloc(), &words, 2, "", why);
 }
 

@@ -143,3 +143,35 @@ fn a_strict_run_ends_with_the_interval_of_a_refused_line(rt: HostRuntime) {
         prints_strictly(&rt, rt.alloc(), script, printed, *status);
     }
 }
+
+/// A refused line, as many others as fill its interval, and a line that is refused in the next.
+fn an_interval_and_a_line(rt: &impl Abort, alloc: Global) -> String {
+    let mut script = String::from_str(alloc, "load data absent\n").expect(rt, "memory");
+    for _ in 1..4096 {
+        script
+            .push_str("kick 02000000000a 8\n")
+            .expect(rt, "memory");
+    }
+    script.push_str("tick 10\n").expect(rt, "memory");
+    script
+}
+
+#[test]
+fn an_interval_has_at_most_4096_lines(rt: HostRuntime) {
+    let alloc = rt.alloc();
+    let script = an_interval_and_a_line(&rt, alloc);
+    let totals = "total events 0 sent 0 up 0 dropped 0 notes 0\n";
+    let (page, status) = ran(&rt, alloc, 2, script.as_str(), true);
+    let strict = format!(in alloc; "1 unreadable\n{totals}").expect(&rt, "memory");
+    same(
+        &rt,
+        page.text.as_slice(),
+        strict.as_bytes(),
+        "the text of a strict run",
+    );
+    same(&rt, status, 1, "the status of a strict run");
+    let (page, status) = ran(&rt, alloc, 2, script.as_str(), false);
+    let whole = format!(in alloc; "1 unreadable\n4097 memory\n{totals}").expect(&rt, "memory");
+    same(&rt, page.text.as_slice(), whole.as_bytes(), "the text");
+    same(&rt, status, 3, "the status");
+}

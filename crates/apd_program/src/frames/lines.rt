@@ -17,6 +17,7 @@ fn reason(left_out: LeftOut) -> &'static str
         LeftOut::Cut => "it was cut when it was captured",
         LeftOut::Radiotap => "its radiotap header is damaged",
         LeftOut::CheckSequence => "its frame check sequence is cut",
+        LeftOut::WrongCheckSequence => "its frame check sequence is wrong",
     }
 }
 
