@@ -42,7 +42,7 @@ IsVerdict-refused limit says p r e plain clear begins told =
     let P : Answer → Type 0 = IsVerdict limit says p in
     IfOk-weaker r (IsRefused e) P (λ a h. subst P (sym h.0) (NotAdmitted e h.1 begins (λ most is_plain. h.1 (plain most is_plain)) (λ is_clear. h.1 (clear is_clear)))) told
 
--- a refusal for memory, or at the start
+-- a refusal for lack of memory, or at the start
 at_start : (e : Refusal) → e.fault ≢ verify_fault.NoMemory → (e.fault ≡ verify_fault.NoMemory) ⊎ (e.pc ≡ 0) → e.pc ≡ 0
 at_start e other (inl memory) = absurd (other memory)
 at_start e other (inr start) = start

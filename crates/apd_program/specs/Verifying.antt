@@ -1,4 +1,4 @@
--- What `verify` and `trace` answer for a program.
+-- The answers of `verify` and `trace` for a program.
 use Rattle.std.specs.Prelude.{◌≡◌, ◌≢◌, ℕ, ◌≤◌, ◌^◌, List, string_bytes}
 use Rattle.bpf_regions.specs.declared.hooks.Hook.{Hook}
 use Rattle.bpf_decode.specs.Program.{Code, Begins}
@@ -14,9 +14,9 @@ use Rattle.apd_words.specs.declared.Terms.{Terms}
 use Rattle.apd_program.specs.declared.answer.Answer.{Answer}
 use Rattle.apd_program.specs.declared.answer.Answer.TheVariants.{Accepted, Run, Refused}
 
--- The verdict on a program, of which no more states than the limit are examined: a refusal at one of its instructions,
--- which none gets that is clear by the rules within the limit, nor a plain one under the greatest limit, or what is said
--- of it with a budget within which it is safe, and which for a plain program is no more than its longest walk.
+-- The verdict on a program, within a limit of examined states: a refusal at one of its instructions, or what is said
+-- of it with a budget, at most the limit, within which it is safe; a plain program's is at most its longest walk. No
+-- program that is clear by the rules within the limit is refused, nor, under the greatest limit, a plain one.
 pub data IsVerdict (limit : ℕ) (says : Code → ℕ → Answer → Type 0) (p : Code) : Answer → Type 0 where
   Admitted : (budget : ℕ) (a : Answer) → Safe p.slots p.shapes budget → budget ≤ limit →
       (IsPlain p.slots → HasWalk p.slots budget) → says p budget a → IsVerdict limit says p a
@@ -24,20 +24,20 @@ pub data IsVerdict (limit : ℕ) (says : Code → ℕ → Answer → Type 0) (p 
       (limit ≡ 2 ^ 22 → IsPlain p.slots → ⊥) → (IsClear p entry_view limit → ⊥) →
       IsVerdict limit says p (Refused e)
 
--- `verify` says the budget
+-- `verify`: the budget
 abbrev pub IsBudget : Code → ℕ → Answer → Type 0
 IsBudget p budget a = a ≡ Accepted budget
 
--- `trace` says the run on a frame with a context
+-- `trace`: the run on a frame with a context
 abbrev pub IsRun : Hook → List ℕ → List ℕ → ℕ → Code → ℕ → Answer → Type 0
 IsRun hook frame context draw p budget (Run text) =
     IsTrace (record { code = p; hook = hook; budget = budget }) frame context draw (string_bytes text)
 IsRun hook frame context draw p budget _ = ⊥
 
--- what `verify` says within the states that are asked for
+-- `verify`, within the states that are asked for
 abbrev pub IsVerified : Terms → Code → Answer → Type 0
 IsVerified terms = IsVerdict (nearest terms.states) IsBudget
 
--- what `trace` says within them, for the hook
+-- `trace`, within them, for the hook
 abbrev pub IsRunWithin : Terms → List ℕ → List ℕ → ℕ → Code → Answer → Type 0
 IsRunWithin terms frame context draw = IsVerdict (nearest terms.states) (IsRun terms.hook frame context draw)
