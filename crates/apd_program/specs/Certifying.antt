@@ -1,4 +1,4 @@
--- What `cert` and `check` answer for a program.
+-- The answers of `cert` and `check` for a program.
 use Rattle.std.specs.Prelude.{◌≡◌, ◌≢◌, ℕ, List, Vec}
 use Rattle.std.specs.declared.alloc.Global.{Global}
 use Rattle.bpf_regions.specs.declared.hooks.Hook.{Hook}
@@ -24,7 +24,7 @@ pub data IsCertificate (limit : ℕ) (hook : Hook) (p : Code) : Answer → Type 
 abbrev pub IsCertificateWithin : Terms → Code → Answer → Type 0
 IsCertificateWithin terms = IsCertificate (nearest terms.states) terms.hook
 
--- `check` says the budget within which the bytes show that the program is safe, or why they show none
+-- `check`: the budget within which the bytes show the program safe, or why they show none
 pub data IsChecked (hook : Hook) (bytes : List ℕ) (p : Code) : Answer → Type 0 where
   Shown : (b : ℕ) → Covered p hook bytes b → Safe p.slots p.shapes b → IsChecked hook bytes p (Accepted b)
   NotShown : (e : CertFault) → e ≢ NoMemory → Refuses p hook bytes e → IsChecked hook bytes p (Unaccepted e)

@@ -1,4 +1,4 @@
--- What `verify` and `trace` answer for a program.
+-- The answers of `verify` and `trace` for a program.
 use Rattle.std.specs.Prelude.{◌≡◌, ◌≢◌, ℕ, List, string_bytes}
 use Rattle.bpf_regions.specs.declared.hooks.Hook.{Hook}
 use Rattle.bpf_decode.specs.Program.{Code}
@@ -17,20 +17,20 @@ pub data IsVerdict (limit : ℕ) (says : Code → ℕ → Answer → Type 0) (p 
   Admitted : (budget : ℕ) (a : Answer) → IsSafeBudget p limit budget → says p budget a → IsVerdict limit says p a
   NotAdmitted : (e : Refusal) → e.fault ≢ NoMemory → IsRefusal p limit e → IsVerdict limit says p (Refused e)
 
--- `verify` says the budget
+-- `verify`: the budget
 abbrev pub IsBudget : Code → ℕ → Answer → Type 0
 IsBudget p budget a = a ≡ Accepted budget
 
--- `trace` says the run on a frame with a context
+-- `trace`: the run on a frame with a context
 abbrev pub IsRun : Hook → List ℕ → List ℕ → ℕ → Code → ℕ → Answer → Type 0
 IsRun hook frame context draw p budget (Run text) =
     IsTrace (record { code = p; hook = hook; budget = budget }) frame context draw (string_bytes text)
 IsRun hook frame context draw p budget _ = ⊥
 
--- what `verify` says within the states that are asked for
+-- `verify`, within the states that are asked for
 abbrev pub IsVerified : Terms → Code → Answer → Type 0
 IsVerified terms = IsVerdict (nearest terms.states) IsBudget
 
--- what `trace` says within them, for the hook
+-- `trace`, within them, for the hook
 abbrev pub IsRunWithin : Terms → List ℕ → List ℕ → ℕ → Code → Answer → Type 0
 IsRunWithin terms frame context draw = IsVerdict (nearest terms.states) (IsRun terms.hook frame context draw)

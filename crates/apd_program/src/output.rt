@@ -1,4 +1,4 @@
-//! Where an answer goes: standard output, or the file that is named for it if the answer is a success.
+//! Delivering an answer: to standard output, or to the file named for it if it is a success.
 
 ghost use Rattle.std.specs.Prelude.{◌≡◌, ◌==◌, None, if◌then◌else◌};
 ghost use Rattle.apd_words.specs.Asked.{text_of};
@@ -20,14 +20,14 @@ pub(crate) enum Undelivered {
     Unsaved(ErrorKind),
 }
 
-/// The file for an answer with this status: the one that is named, if the answer is a success.
+/// The file for an answer with this status: the named one, if the answer is a success.
 fn file_for<'a>(output: Option<&'a str>, status: u8) -> Option<&'a str>
     ensures is { text_of result ≡ (if status == 0 then text_of output.entry else None) }
 {
     if status == 0 { output } else { None }
 }
 
-/// Writes an answer, and answers its status.
+/// Writes an answer, and returns its status.
 pub(crate) fn deliver<F: Files, W: Write>(
     alloc: Global,
     answer: Answer,
@@ -56,8 +56,8 @@ pub(crate) fn deliver<F: Files, W: Write>(
     }
 }
 
-/// Tells why an answer wasn't delivered, and returns the program's status: the answer's, 2 if a write failed, 3 if memory
-/// ran out. `output` is the file that is named for the answer.
+/// Reports why an answer wasn't delivered, and returns the exit status: the answer's, 2 if a write failed, 3 if
+/// memory ran out. `output` is the file that is named for the answer.
 pub(crate) fn conclude<E: Write>(
     alloc: Global,
     delivered: Result<u8, Undelivered>,

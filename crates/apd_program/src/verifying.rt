@@ -1,4 +1,4 @@
-//! The verdict on code, and the run of what is admitted: the commands `verify` and `trace`.
+//! Verifying code, and running what is admitted: the commands `verify` and `trace`.
 
 ghost use Rattle.std.specs.Prelude.{◌≡◌, IfOk, IfErr};
 ghost use Rattle.bpf_verifier.specs.Admission.{IsSafeBudget, IsRefusal};
@@ -17,25 +17,25 @@ use bpf_regions::{Context, Frame, Shapes};
 use bpf_verifier::{Refusal, StateLimit, explain_within, verify_within};
 use std::alloc::Global;
 
-/// What a program is verified for, and run on.
+/// How a program is verified, and the input of its run.
 #[derive(Clone, Copy)]
 pub(crate) struct Stimulus<'a> {
     pub terms: Terms,
     pub frame: &'a Frame<'a>,
     pub context: &'a Context,
-    /// The word that is drawn first.
+    /// The first number drawn.
     pub draw: u64,
 }
 
-/// How many states may be examined.
+/// The most states that the verifier may examine, 1 to 4194304.
 pub(crate) fn limit_of(terms: Terms) -> StateLimit
     ensures is { result ≡ nearest terms.states }
 {
     StateLimit::nearest(terms.states)
 }
 
-/// Admits a program, or says why not. The program is explored once, and what the reason tells of it, if that is wanted, is
-/// told of the same exploration.
+/// Admits a program, or returns why not. The program is explored once, and the reason, if it is wanted, describes
+/// that exploration.
 fn admit(
     alloc: Global,
     program: Program,
@@ -64,7 +64,7 @@ fn admit(
     }
 }
 
-/// The verifier's verdict on a program.
+/// Verifies a program.
 fn admitted(
     alloc: Global,
     program: Program,
@@ -82,7 +82,7 @@ fn admitted(
     }
 }
 
-/// The verdict on code, for maps of these shapes. The reason is told where it is asked for.
+/// Verifies code, with maps of these shapes. Sets the reason if it is wanted.
 pub(crate) fn verify(
     alloc: Global,
     code: &[u8],
@@ -103,7 +103,7 @@ pub(crate) fn verify(
     }
 }
 
-/// The run of a program on a frame, or the verifier's refusal.
+/// Runs a program on a frame, or returns the verifier's refusal.
 fn run(
     alloc: Global,
     program: Program,
@@ -129,7 +129,7 @@ fn run(
     }
 }
 
-/// The run of the program that the code spells, on a frame.
+/// Runs the program that the code spells on a frame, if it is admitted.
 pub(crate) fn trace(
     alloc: Global,
     code: &[u8],

@@ -1,4 +1,4 @@
-//! Scripts that are run by one and by more workers.
+//! Scripts that run with one worker and with several.
 
 ghost use Rattle.std.specs.Prelude.{◌≡◌, vec_len};
 
@@ -15,7 +15,7 @@ use std::process::Abort;
 use std::sync::{Arc, Mutex, Wait};
 use std::thread::Threads;
 
-/// Standard output in memory; what else there is to tell is forgotten.
+/// Standard output in memory; messages are dropped.
 #[derive(Drop)]
 struct Page {
     text: Vec<u8>,
@@ -42,7 +42,7 @@ impl Console for Page {
     fn tell(&mut self, _commands: &[Numbered<'_>], _reports: &[Report]) {}
 }
 
-/// So many workers, and an operator who has a place for each.
+/// An operator and `workers` workers, with a place for each.
 fn staff(rt: &impl Abort, alloc: Global, workers: usize) -> Staff<Echo, Places>
     ensures { vec_len result.workers ≡ result.operator.workers }
 {
@@ -66,7 +66,7 @@ fn staff(rt: &impl Abort, alloc: Global, workers: usize) -> Staff<Echo, Places>
     }
 }
 
-/// What a script prints with so many workers, and its status.
+/// Runs a script with `workers` workers; returns its output and status.
 fn ran<R: Threads + Wait + Abort + Sync>(
     rt: &R,
     alloc: Global,
@@ -122,7 +122,7 @@ const STRICT: &[(&str, &str, u8)] = &[
     ),
 ];
 
-/// Fails where a strict run of a script, by one, two or eight workers, prints something else, or has another status.
+/// Fails if a strict run of a script, by one, two or eight workers, prints something else, or has another status.
 fn prints_strictly<R: Threads + Wait + Abort + Sync>(
     rt: &R,
     alloc: Global,
