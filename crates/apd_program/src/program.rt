@@ -29,7 +29,7 @@ use std::io::Write;
 /// Does what the words ask for, the first being the program's own name, and answers the program's
 /// status: 0 for success, 1 where something was refused, 2 for a fault of the words, a
 /// configuration, a file or a write, 3 for want of memory. Texts of the statuses 2 and 3 go to
-/// `err`, all else to `out`. A script is not run, since that takes threads (`perform`).
+/// `err`, all else to `out`. A script is not run, nor lines as they come, since that takes threads (`perform`).
 pub fn apd_main<'a, F: Files, O: Write, E: Write>(
     alloc: Global,
     words: &'a [&'a str],
@@ -47,6 +47,7 @@ pub fn apd_main<'a, F: Files, O: Write, E: Write>(
     match read_words(alloc, words) {
         Ok(Request::Answer(query)) => respond(alloc, query, files, out, err),
         Ok(Request::Run(_)) => complain(alloc, &ProgramFault::NoThreads, err),
+        Ok(Request::Live(_)) => complain(alloc, &ProgramFault::NoThreads, err),
         Err(told) => tell(alloc, &told, out, err),
     }
 }

@@ -4,3 +4,4 @@ mod Numbers
 mod Many
 mod Parts
 mod Reading
+mod Batching
