@@ -78,7 +78,8 @@ fn any_malformed(reports: &[Report]) -> bool
 pub(crate) fn any_fault(strict: bool, reports: &[Report]) -> bool
     ensures is { result ≡ any_fault strict reports.now }
 {
-    let malformed = any_malformed(reports);
-    let refused = any_refusal(reports);
-    malformed || (strict && refused)
+    if any_malformed(reports) {
+        return true;
+    }
+    strict && any_refusal(reports)
 }

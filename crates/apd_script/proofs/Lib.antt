@@ -5,3 +5,4 @@ mod Many
 mod Parts
 mod Reading
 mod Batching
+mod Chunks

@@ -1,10 +1,9 @@
 -- Lines that are read as they come: commands and malformed lines, side by side.
-use Rattle.std.specs.Borrow.{Bor}
-use Rattle.std.specs.Prelude.{◌≡◌, ◌⊎◌, ◌<◌, ◌≤◌, ℕ, ◌+◌, List, [], ◌∷◌, ◌++◌, length, map, Some}
+use Rattle.std.specs.Prelude.{◌≡◌, ◌⊎◌, ◌<◌, ◌≤◌, ℕ, ◌+◌, List, [], ◌∷◌, ◌++◌, length, map}
 use Rattle.bpf_regions.specs.declared.maps.Shape.{Shape}
 use Rattle.apd_script.specs.Asked.{Asked}
 use Rattle.apd_script.specs.Lines.{line_asks, IsWellFormed}
-use Rattle.apd_script.specs.Script.{numbered, Cuts}
+use Rattle.apd_script.specs.Script.{lines_of, numbered}
 use Rattle.apd_script.specs.declared.batch.MalformedLine.{MalformedLine}
 
 -- the most bytes of a line
@@ -30,5 +29,5 @@ pub data Adds (maps : List Shape) (number : ℕ) (line : List ℕ) (asked : List
 -- the numbers of the malformed ones, how many they are, and the text behind the last one's line feed.
 pub data Takes (maps : List Shape) (first : ℕ) (text : List ℕ) : List (ℕ × Asked) → List ℕ → ℕ → List ℕ → Type 0 where
   NoLine : Takes maps first text [] [] 0 text
-  OneMore : (asked asked2 : List (ℕ × Asked)) (bad bad2 : List ℕ) (lines : ℕ) (mid line : List ℕ) (rest : Bor (List ℕ)) → Takes maps first text asked bad lines mid
-      → Cuts mid line (Some rest) → Adds maps (first + lines) line asked bad asked2 bad2 → Takes maps first text asked2 bad2 (lines + 1) rest.now
+  OneMore : (asked asked2 : List (ℕ × Asked)) (bad bad2 : List ℕ) (lines : ℕ) (mid line rest : List ℕ) → Takes maps first text asked bad lines mid
+      → lines_of mid ≡ line ∷ lines_of rest → Adds maps (first + lines) line asked bad asked2 bad2 → Takes maps first text asked2 bad2 (lines + 1) rest

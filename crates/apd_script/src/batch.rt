@@ -1,6 +1,6 @@
 //! Reading lines as they come, malformed ones beside commands.
 
-ghost use Rattle.std.specs.Prelude.{◌≡◌, ◌≤◌, ◌^◌, Some, IfOk, OnOk, IfErr, IfSome};
+ghost use Rattle.std.specs.Prelude.{◌≡◌, ◌≤◌, ◌^◌, Some, IfOk, OnOk, OnErr, IfSome};
 ghost use Rattle.apd_script.specs.Asked.{asked_by, commands_of};
 ghost use Rattle.apd_script.specs.Batches.{numbers_of, IsTaken, Adds, Takes};
 ghost use Rattle.apd_script.specs.Lines.{line_asks};
@@ -52,7 +52,7 @@ fn is_quit(line: &[u8]) -> bool {
 fn take_line<'a>(shapes: &Shapes, line: &'a [u8]) -> Result<Option<Command<'a>>, LineFault<'a>>
     ensures taken { OnOk result (IsTaken shapes.now line.entry.now) }
     ensures asks { IfOk result (λ said. asked_by said ≡ line_asks shapes.now line.entry.now) }
-    ensures malformed { IfErr result (λ _. IsTaken shapes.now line.entry.now → ⊥) }
+    ensures malformed { OnErr result (IsTaken shapes.now line.entry.now → ⊥) }
 {
     if line.len() > MOST_BYTES {
         return Err(LineFault::TooLong);
@@ -107,9 +107,7 @@ fn next_line(text: &[u8]) -> Option<(&[u8], &[u8])>
     ensures cut { IfSome result (λ x. Cuts text.now x.0.now (Some x.1)) }
 {
     let (line, next) = first_line(text);
-    let Some(next) = next else {
-        return None;
-    };
+    let next = next?;
     if is_quit(line) {
         return None;
     }
