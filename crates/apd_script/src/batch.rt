@@ -85,18 +85,21 @@ fn add_line<'a>(
 {
     match take_line(shapes, line) {
         Ok(Some(command)) => {
-            commands.push(Numbered {
+            let ends = matches!(&command, Command::Wait);
+            commands.reserve(1)?;
+            commands.push_reserved(Numbered {
                 line: number,
                 command,
-            })?;
-            return Ok(matches!(command, Command::Wait));
+            });
+            return Ok(ends);
         }
         Ok(None) => return Ok(false),
         Err(fault) => {
-            malformed.push(MalformedLine {
+            malformed.reserve(1)?;
+            malformed.push_reserved(MalformedLine {
                 line: number,
                 fault,
-            })?;
+            });
             return Ok(false);
         }
     }
