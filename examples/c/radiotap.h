@@ -5,9 +5,9 @@
 #include <stddef.h>
 #include <stdint.h>
 
-enum { RADIOTAP_HAS_CHECK = 0x10 };
+enum { RADIOTAP_HAS_CHECK = 0x10, RADIOTAP_WRONG_CHECK = 0x40 };
 
-/* A frame without what stands around it; no bytes where the header is damaged. */
+/* A frame without what stands around it; no bytes if the header is damaged or says that the frame is. */
 typedef struct radiotap {
     const uint8_t *frame;
     size_t length;
@@ -40,7 +40,7 @@ static radiotap radiotap_frame(const uint8_t *packet, size_t length)
     int has_flags = header && packet[4] & 2;
     radiotap got = {packet + header, length - header};
 
-    if (!header || (has_flags && at >= header)) {
+    if (!header || (has_flags && (at >= header || packet[at] & RADIOTAP_WRONG_CHECK))) {
         got.length = 0;
     } else if (has_flags && packet[at] & RADIOTAP_HAS_CHECK) {
         got.length = got.length < 4 ? 0 : got.length - 4;

@@ -43,14 +43,16 @@ def capture_of(packets, link):
 
 
 def frames_in(capture):
-    """The numbers and frames of a capture file, without radiotap headers (each here has flags alone) and check sequences."""
+    """The numbers and frames of a capture file, without radiotap headers (each here has flags alone) and check sequences, and without those received damaged."""
     link, at, number = struct.unpack_from("<I", capture, 20)[0], 24, 0
     while at < len(capture):
         (length,) = struct.unpack_from("<I", capture, at + 8)
         packet, at, number = capture[at + 16 : at + 16 + length], at + 16 + length, number + 1
         if link == 127:
-            has_check = packet[8] & 16
-            packet = packet[packet[2] : -4 if has_check else None]
+            flags = packet[8]
+            if flags & 64:
+                continue
+            packet = packet[packet[2] : -4 if flags & 16 else None]
         yield number, packet
 
 
@@ -109,10 +111,11 @@ class Policies(unittest.TestCase):
         self.beside(str(TOP / "examples/voice.pcap"))
 
     def test_radiotap(self):
-        """Frames behind radiotap headers, some with a check sequence, and one that is too long."""
+        """Frames behind radiotap headers: some with a check sequence, one received damaged, and one that is too long."""
         plain, checked = bytes.fromhex("000009000200000000"), bytes.fromhex("000009000200000010")
+        damaged = bytes.fromhex("000009000200000050")
         packets = [plain + ASSOCIATION, checked + ADDBA + b"\1\2\3\4", checked + VOICE + b"\1\2\3\4", plain + ARP,
-                   plain + VOICE + bytes(2400)]
+                   damaged + VOICE + b"\1\2\3\4", plain + VOICE + bytes(2400)]
         with tempfile.NamedTemporaryFile(suffix=".pcap") as file:
             file.write(capture_of(packets, 127))
             file.flush()

@@ -1,4 +1,4 @@
--- What is at fault in files.
+-- Faults of files.
 use Rattle.std.proofs.Math.Nat.{lt_of_not-le}
 use Rattle.std.proofs.Common.{◌≡◌, ◌≢◌, ◌⊎◌, ◌<◌, ◌≤◌, ◌^◌, Bool, true, false, length, List, ℕ, Err, Option, None, Some, inl, inr, refl, subst}
 use Rattle.std.specs.Prelude.{IfSome, slice_index}

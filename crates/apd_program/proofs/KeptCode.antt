@@ -17,7 +17,7 @@ use Rattle.apd_program.specs.Setups.{IsLoaded}
 use Rattle.apd_program.specs.Answers.{IsOfCode, IsOfSlots}
 use Rattle.apd_program.specs.Programs.{IsOfProgram, Undecoded, Decoded}
 
--- code past the longest has the fault of what is kept of it
+-- code that is too long has the fault of what is kept of it
 refuses : (code kept : List ℕ) (shapes : List Shape) (e : DecodeFault) → 2 ^ 17 < length code → 2 ^ 17 < length kept → length kept % 8 ≡ length code % 8 → Refuses kept shapes e → Refuses code shapes e
 refuses code kept shapes fault.NoMemory long longer even r = tt
 refuses code kept shapes fault.Length long longer even r = λ h. r (omega (arith, h, even))

@@ -24,10 +24,11 @@ use Rattle.apd_program.specs.declared.output.Undelivered.TheVariants as undelive
 use Rattle.apd_program.specs.Program.{Performs, Wrote, Saved, Stopped, Unsaved, Refrained, Exhausted, Responds, Fulfils, Tells, Does, Performed, Complained, Helped, StoppedHelp}
 use Rattle.apd_program.proofs.Kept.{Keeps-same}
 
--- a write that failed has the status 2
+-- a failed write has status 2
 failed : (e : Undelivered) → e ≢ undelivered.NoMemory → status_after (Err e) ≡ 2
 failed undelivered.NoMemory other = absurd (other refl)
 failed (undelivered.Unwritten why) other = refl
+failed (undelivered.Unsaved why) other = refl
 
 pub Performs-delivered : (files : Held) (a : Asked) (answer : Answer) (output old new : Option (List ℕ)) (r : Result ℕ Undelivered) (status : ℕ) → IsAnswer files a answer → Delivers answer output old new r → status ≡ status_after r
     → Performs files a output old new status
@@ -114,7 +115,7 @@ Responds-memory files (AnswerWanted a output) old new status h e = Performs-memo
 Responds-memory files (RunWanted config script workers states quiet strict verbose) old new status h e = kept_same old new h.0
 Responds-memory files (LiveWanted config workers states strict verbose) old new status h e = kept_same old new h.0
 
--- want of memory does of everything what it does
+-- unchanged output with status 3 is a response to any request
 pub Responds-nothing : (files : Held) (w : Wanted) (o : Option (List ℕ)) → Responds files w o o 3
 Responds-nothing files (AnswerWanted a output) o = Exhausted (Keeps-same o)
 Responds-nothing files (RunWanted config script workers states quiet strict verbose) o = (refl, inr refl)
@@ -125,7 +126,7 @@ Fulfils-nothing files (AnswerWanted a output) o = Exhausted (Keeps-same o)
 Fulfils-nothing files (RunWanted config script workers states quiet strict verbose) o = runs_nothing strict o none 3 (inr refl)
 Fulfils-nothing files (LiveWanted config workers states strict verbose) o = runs_nothing strict o none 3 (inr refl)
 
--- words that always ask for something are told of only for want of memory
+-- words that always make a request are reported only for lack of memory
 pub Responds-told : (files : Held) (w : Wanted) (t : Told) (old new : Option (List ℕ)) (status : ℕ) → t ≡ told.NoMemory → Tells t old new status → Responds files w old new status
 Responds-told files w (told.Help text) old new status e tells = cc
 Responds-told files w (told.Fault text) old new status e tells = cc

@@ -1,5 +1,5 @@
 -- From parts of an answer to the answer.
-use Rattle.std.proofs.Common.{◌≡◌, ◌≢◌, ◌⊎◌, ◌^◌, ℕ, List, Result, IfOk, IsUtf8, take, sym, subst, inl, inr}
+use Rattle.std.proofs.Common.{◌≡◌, ◌≢◌, ℕ, List, Result, IfOk, IsUtf8, take, sym, subst}
 use Rattle.std.specs.Str.Lossy.{utf8_valid_len}
 use Rattle.std.proofs.lemmas.Result.{IfOk-weaker}
 use Rattle.bpf_regions.specs.declared.hooks.Hook.{Hook}
@@ -9,11 +9,10 @@ use Rattle.bpf_decode.specs.Answer.{Refuses}
 use Rattle.bpf_decode.specs.declared.fault.DecodeFault.{DecodeFault}
 use Rattle.bpf_machine.specs.Verified.{Verified}
 use Rattle.bpf_text.specs.declared.fault.AsmFault.TheVariants as asm_fault
-use Rattle.bpf_absstate.specs.View.{entry_view}
-use Rattle.bpf_plain.specs.Clear.{IsClear}
-use Rattle.bpf_plain.specs.Walks.{IsPlain}
+use Rattle.bpf_verifier.specs.Admission.{IsRefusal}
 use Rattle.bpf_verifier.specs.declared.refusal.Refusal.{Refusal}
 use Rattle.bpf_cert.specs.Certified as shown
+use Rattle.bpf_cert.specs.Certified.{IsUncertified}
 use Rattle.bpf_cert.specs.declared.fault.CertFault.{CertFault}
 use Rattle.bpf_rules.specs.declared.fault.Fault.TheVariants as verify_fault
 use Rattle.apd_text.specs.Trace.{IsTrace}
@@ -35,24 +34,17 @@ module _ (says : decoded.Code → Answer → Type 0) (code : List ℕ) (shapes :
       let P : Answer → Type 0 = IsOfProgram says code shapes in
       IfOk-weaker r (IsUndecoded e) P (λ a h. subst P (sym h.0) (Undecoded e h.1 refuses)) told
 
-pub IsVerdict-refused : (limit : ℕ) (says : decoded.Code → ℕ → Answer → Type 0) (p : decoded.Code) (r : Result Answer ProgramFault) (e : Refusal) →
-    (limit ≡ 2 ^ 22 → IsPlain p.slots → e.fault ≡ verify_fault.NoMemory) → (IsClear p entry_view limit → e.fault ≡ verify_fault.NoMemory) → decoded.Begins p.slots e.pc
+pub IsVerdict-refused : (limit : ℕ) (says : decoded.Code → ℕ → Answer → Type 0) (p : decoded.Code) (r : Result Answer ProgramFault) (e : Refusal) → IsRefusal p limit e
     → IfOk r (IsRefused e) → IfOk r (IsVerdict limit says p)
-IsVerdict-refused limit says p r e plain clear begins told =
+IsVerdict-refused limit says p r e refusal told =
     let P : Answer → Type 0 = IsVerdict limit says p in
-    IfOk-weaker r (IsRefused e) P (λ a h. subst P (sym h.0) (NotAdmitted e h.1 begins (λ most is_plain. h.1 (plain most is_plain)) (λ is_clear. h.1 (clear is_clear)))) told
+    IfOk-weaker r (IsRefused e) P (λ a h. subst P (sym h.0) (NotAdmitted e h.1 refusal)) told
 
--- a refusal for memory, or at the start
-at_start : (e : Refusal) → e.fault ≢ verify_fault.NoMemory → (e.fault ≡ verify_fault.NoMemory) ⊎ (e.pc ≡ 0) → e.pc ≡ 0
-at_start e other (inl memory) = absurd (other memory)
-at_start e other (inr start) = start
-
-pub IsCertificate-refused : (limit : ℕ) (hook : Hook) (p : decoded.Code) (r : Result Answer ProgramFault) (e : Refusal) → decoded.Begins p.slots e.pc
-    → (IsClear p entry_view limit → (e.fault ≡ verify_fault.NoMemory) ⊎ (e.pc ≡ 0))
+pub IsCertificate-refused : (limit : ℕ) (hook : Hook) (p : decoded.Code) (r : Result Answer ProgramFault) (e : Refusal) → IsUncertified p limit e
     → IfOk r (IsRefused e) → IfOk r (IsCertificate limit hook p)
-IsCertificate-refused limit hook p r e begins clear told =
+IsCertificate-refused limit hook p r e refusal told =
     let P : Answer → Type 0 = IsCertificate limit hook p in
-    IfOk-weaker r (IsRefused e) P (λ a h. subst P (sym h.0) (NotMade e h.1 begins (λ is_clear. at_start e h.1 (clear is_clear)))) told
+    IfOk-weaker r (IsRefused e) P (λ a h. subst P (sym h.0) (NotMade e h.1 refusal)) told
 
 pub IsChecked-refused : (hook : Hook) (bytes : List ℕ) (p : decoded.Code) (r : Result Answer ProgramFault) (e : CertFault) → shown.Refuses p hook bytes e
     → IfOk r (IsUnaccepted e) → IfOk r (IsChecked hook bytes p)

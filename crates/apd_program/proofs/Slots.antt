@@ -1,4 +1,4 @@
--- Lines of slots, the first one taken off.
+-- Lines of slots: the first, and the rest.
 use Rattle.std.proofs.Common.{◌≡◌, ◌≤◌, ◌<◌, ◌/◌, ℕ, suc, List, [], ◌++◌, length, take, drop, refl, append_assoc, arith, length-drop}
 use Rattle.hex.specs.Hex.{encode_lower}
 use Rattle.apd_program.specs.Slots.{line_of, slot_lines}
@@ -15,7 +15,7 @@ slot_lines-none rest few =
     let count : length rest / 8 ≡ 0 = omega arith in
     rw count refl
 
--- the text with one more line, and the lines of what is left then
+-- the text with one more line, and the lines of the rest
 pub lines_go_on : (old new rest slot left all : List ℕ) → old ++ slot_lines (length rest / 8) rest ≡ all → 8 ≤ length rest → slot ≡ take 8 rest → left ≡ drop 8 rest → new ≡ old ++ line_of (encode_lower slot)
     → new ++ slot_lines (length left / 8) left ≡ all
 lines_go_on old new rest slot left all far enough first after grown =

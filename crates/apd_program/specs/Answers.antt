@@ -1,4 +1,4 @@
--- What the program answers to what is asked of it.
+-- The program's answers to questions.
 use Rattle.std.specs.Prelude.{◌^◌, Bool, List, ℕ, Option}
 use Rattle.bpf_regions.specs.declared.hooks.Hook.{Hook}
 use Rattle.bpf_decode.specs.Program.{Code}
@@ -31,7 +31,7 @@ pub record IsOfText (says : List ℕ → Answer → Type 0) (files : Held) (file
   pub there : Holds files file text
   pub said : says text a
 
--- what is said of what is kept of the code in the file, once the configuration is read, too
+-- what is said of what is kept of the file's code; the configuration is read, too
 pub record IsOfSlots (says : List ℕ → Answer → Type 0) (files : Held) (file : List ℕ) (config : Option (List ℕ)) (a : Answer) : Type 0 where
   pub setup : Setup
   pub configured : Configures files config setup
@@ -39,7 +39,7 @@ pub record IsOfSlots (says : List ℕ → Answer → Type 0) (files : Held) (fil
   pub held : HoldsKept (2 ^ 17) files file kept
   pub said : says kept a
 
--- the run of the program in the file on the frame that the word spells, with what it is told
+-- the run of the program in the file on the frame that the word spells, with its context
 pub record IsTraced (files : Held) (limit : ℕ) (hook : Hook) (file word : List ℕ) (config words : Option (List ℕ)) (from_frame : Bool) (a : Answer) : Type 0 where
   pub frame : List ℕ
   pub spelled : IsFrame word frame
@@ -53,7 +53,7 @@ pub record IsCheckedFile (files : Held) (hook : Hook) (file certificate : List �
   pub held : HoldsCode files certificate bytes
   pub said : IsOfCode (λ setup. IsChecked hook bytes) files file config a
 
--- what is answered to each command, by what the files hold
+-- the answer to each question, by what the files hold
 abbrev pub IsAnswer : Held → Asked → Answer → Type 0
 IsAnswer files (Verify hook file config states) a = IsOfCode (λ setup. IsVerdict (nearest states) IsBudget) files file config a
 IsAnswer files (Assemble file) a = IsOfText IsAssembly files file a
@@ -67,7 +67,7 @@ IsAnswer files (Help command) a = IsHelpText (help_words command) a
 IsAnswer files (Certify hook file config states) a = IsOfCode (λ setup. IsCertificate (nearest states) hook) files file config a
 IsAnswer files (Check hook file certificate config) a = IsCheckedFile files hook file certificate config a
 
--- there is no answer: a file or a word is at fault
+-- there is no answer: a file or a word is faulty
 abbrev pub HasNoAnswer : Held → Asked → Type 0
 HasNoAnswer files (Verify hook file config states) = IsAtFault files file config
 HasNoAnswer files (Assemble file) = Lacks kind.Text files file

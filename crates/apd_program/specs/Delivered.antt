@@ -6,9 +6,9 @@ use Rattle.apd_files.specs.Held.{Saved, Saves}
 use Rattle.apd_program.specs.Lines.{printed, status_of}
 use Rattle.apd_program.specs.declared.answer.Answer.{Answer}
 use Rattle.apd_program.specs.declared.output.Undelivered.{Undelivered}
-use Rattle.apd_program.specs.declared.output.Undelivered.TheVariants.{NoMemory, Unwritten}
+use Rattle.apd_program.specs.declared.output.Undelivered.TheVariants.{NoMemory, Unwritten, Unsaved}
 
--- no file is named for the answer, or it is no success
+-- no file is named for the answer, or it isn't a success
 abbrev pub GoesOut : Option (List ℕ) → ℕ → Type 0
 GoesOut None status = Unit {0}
 GoesOut (Some path) status = status ≢ 0
@@ -26,14 +26,15 @@ pub data Delivers (a : Answer) (output old new : Option (List ℕ)) : Result ℕ
   Unstored : (e : Undelivered) → e ≢ NoMemory → IsForFile output (status_of a) → Keeps old new → Delivers a output old new (Err e)
   Nothing : Keeps old new → Delivers a output old new (Err NoMemory)
 
--- what files get of an answer: one of them the whole text, if the answer is a success; if writing it fails nothing is said
+-- what files get of an answer: one the whole text, if the answer is a success; if writing fails, nothing is said
 pub data Stores (a : Answer) (output : Option (List ℕ)) (old new : Saved) (r : Result ℕ Undelivered) : Type 0 where
   OneFile : (path : List ℕ) → output ≡ Some path → status_of a ≡ 0 → Saves path (printed a) old new → Stores a output old new r
   BrokenFile : (e : Undelivered) → r ≡ Err e → IsForFile output (status_of a) → Stores a output old new r
   NoFile : new ≡ old → Stores a output old new r
 
--- the status after that: the answer's, 2 where a write failed, 3 where memory ran out
+-- the status after that: the answer's, 2 if a write failed, 3 if memory ran out
 abbrev pub status_after : Result ℕ Undelivered → ℕ
 status_after (Ok status) = status
 status_after (Err NoMemory) = 3
 status_after (Err (Unwritten why)) = 2
+status_after (Err (Unsaved why)) = 2

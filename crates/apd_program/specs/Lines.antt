@@ -9,7 +9,7 @@ use Rattle.apd_program.specs.Slots.{line_of, slot_lines}
 use Rattle.apd_program.specs.declared.answer.Answer.{Answer}
 use Rattle.apd_program.specs.declared.answer.Answer.TheVariants.{Accepted, Code, Instructions, Run, Page, Script, CutScript, Help, Fault, Refused, LineFault, Certificate, Unaccepted}
 
--- what is printed of an answer
+-- the printed text of an answer
 abbrev pub printed : Answer → List ℕ
 printed (Accepted budget) = line_of (codes "accepted budget " ++ decimal budget)
 printed (Code code) = slot_lines (length code.items / 8) code.items
@@ -25,7 +25,7 @@ printed (LineFault e) = line_of (line.text_of e)
 printed (Certificate bytes) = line_of (encode_lower bytes.items)
 printed (Unaccepted e) = line_of (codes "certificate " ++ decimal (certificate.number_of e))
 
--- 0 for a success, 1 for a refusal
+-- 0 for a success, 1 for a refusal or a cut capture
 abbrev pub status_of : Answer → ℕ
 status_of (Accepted budget) = 0
 status_of (Code code) = 0

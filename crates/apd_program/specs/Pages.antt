@@ -1,4 +1,4 @@
--- What `explain` and `help` answer.
+-- The answers of `explain` and `help`.
 use Rattle.std.specs.Prelude.{ℕ, List, [], ◌∷◌, codes, Option, None, Some, string_bytes}
 use Rattle.clap.specs.declared.builder.value_parser.ValueParser.{ValueParser}
 use Rattle.apd_words.specs.CommandLine.{TakesNames, hook_names, worker_names}
@@ -7,7 +7,7 @@ use Rattle.apd_text.specs.Pages.{IsPageOf}
 use Rattle.apd_program.specs.declared.answer.Answer.{Answer}
 use Rattle.apd_program.specs.declared.answer.Answer.TheVariants.{Page, Help}
 
--- `explain` says the page on the number that the word spells
+-- `explain`: the page on the number that the word spells
 abbrev pub IsPage : List ℕ → Answer → Type 0
 IsPage word (Page text) = IsPageOf word (string_bytes text)
 IsPage word _ = ⊥
@@ -22,7 +22,7 @@ abbrev pub IsPageFor : Option (List ℕ) → Answer → Type 0
 IsPageFor None a = IsSomePage a
 IsPageFor (Some word) a = IsPage word a
 
--- of which words have no page nothing is said
+-- nothing is said of which words have no page
 abbrev pub HasNoPage : Option (List ℕ) → Type 0
 HasNoPage number = Unit {0}
 
@@ -31,7 +31,7 @@ abbrev pub help_words : Option (List ℕ) → List (List ℕ)
 help_words None = codes "apd" ∷ codes "--help" ∷ []
 help_words (Some command) = codes "apd" ∷ command ∷ codes "--help" ∷ []
 
--- help or the version is what the words come to
+-- the words ask for help or the version
 pub record IsHelpFor (words : List (List ℕ)) : Type 0 where
   pub hooks : ValueParser
   pub numbers : ValueParser
@@ -39,11 +39,11 @@ pub record IsHelpFor (words : List (List ℕ)) : Type 0 where
   pub takes_numbers : TakesNames numbers worker_names
   pub help : IsHelp hooks numbers words
 
--- `help` says what `--help` says behind the command
+-- `help`: a help text, of which nothing is said, for words that ask for help
 abbrev pub IsHelpText : List (List ℕ) → Answer → Type 0
 IsHelpText words (Help text) = IsHelpFor words
 IsHelpText words _ = ⊥
 
--- of which words have no help nothing is said
+-- nothing is said of which words have no help
 abbrev pub HasNoHelp : List (List ℕ) → Type 0
 HasNoHelp words = Unit {0}

@@ -17,8 +17,8 @@ use Rattle.apd_program.specs.Answers.{IsAnswer, HasNoAnswer}
 use Rattle.apd_program.specs.Delivered.{GoesOut, IsForFile}
 use Rattle.apd_program.specs.Printed.{PrintsText}
 
--- What is written to standard output where this is asked, with a file for the answer or without, and the status. Want of
--- memory and all that is at fault leave standard output as it was, and so does an answer that goes into a file.
+-- What is written to standard output for a question, with a file for the answer or without, and the status. Lack of
+-- memory, faulty files and words, and an answer for a file leave it unchanged; a failed write leaves a prefix.
 pub data Performs (files : Held) (a : Asked) (output old new : Option (List ℕ)) : ℕ → Type 0 where
   Wrote : (answer : answers.Answer) → IsAnswer files a answer → GoesOut output (status_of answer) → Appends old new (printed answer) → Performs files a output old new (status_of answer)
   Saved : (answer : answers.Answer) → IsAnswer files a answer → IsForFile output (status_of answer) → Keeps old new → Performs files a output old new 0
@@ -27,17 +27,17 @@ pub data Performs (files : Held) (a : Asked) (output old new : Option (List ℕ)
   Refrained : HasNoAnswer files a → Keeps old new → Performs files a output old new 2
   Exhausted : Keeps old new → Performs files a output old new 3
 
--- nothing is written, and the status is that of a fault or of want of memory
+-- nothing is written, and the status is that of a fault or of lack of memory
 abbrev pub Refuses : Option (List ℕ) → Option (List ℕ) → ℕ → Type 0
 Refuses old new status = (new ≡ old) × ((status ≡ 2) ⊎ (status ≡ 3))
 
--- what is wanted is done, where no threads are at hand: no script is run, nor lines as they come
+-- what is wanted is done without threads: no script runs, nor lines as they come
 abbrev pub Responds : Held → Wanted → Option (List ℕ) → Option (List ℕ) → ℕ → Type 0
 Responds files (Answer a output) old new status = Performs files a output old new status
 Responds files (Run config script workers states quiet strict verbose) old new status = Refuses old new status
 Responds files (Live config workers states strict verbose) old new status = Refuses old new status
 
--- what is wanted is done: a script is run from its first line, or lines as they come
+-- what is wanted is done: a script runs from its first line, or lines as they come
 abbrev pub Fulfils : Held → Wanted → Option (List ℕ) → Option (List ℕ) → ℕ → Type 0
 Fulfils files (Answer a output) old new status = Performs files a output old new status
 Fulfils files (Run config script workers states quiet strict verbose) old new status =
@@ -45,13 +45,13 @@ Fulfils files (Run config script workers states quiet strict verbose) old new st
 Fulfils files (Live config workers states strict verbose) old new status =
     shows.Runs strict old new none status
 
--- what is written of words that ask for nothing to be done, and the status
+-- what is written for words that make no request, and the status
 abbrev pub Tells : Told → Option (List ℕ) → Option (List ℕ) → ℕ → Type 0
 Tells (told.Help text) old new status = PrintsText (string_bytes text) old new status
 Tells (told.Fault text) old new status = (new ≡ old) × (status ≡ 2)
 Tells told.NoMemory old new status = (new ≡ old) × (status ≡ 3)
 
--- The same, for all words: they want something, or help, or nothing.
+-- The same for all words: they make a request, ask for help, or neither.
 pub data Does (hooks numbers : ValueParser) (words : List (List ℕ)) (files : Held) (old new : Option (List ℕ)) : ℕ → Type 0 where
   Performed : (w : Wanted) (status : ℕ) → AsksFor hooks numbers words w → Responds files w old new status → Does hooks numbers words files old new status
   Helped : (text : List ℕ) → IsHelp hooks numbers words → Appends old new text → Does hooks numbers words files old new 0

@@ -1,4 +1,4 @@
--- The answers that say a refusal, which is none for want of memory.
+-- Answers that are refusals, never for lack of memory.
 use Rattle.std.specs.Prelude.{◌≡◌, ◌≢◌}
 use Rattle.bpf_decode.specs.declared.fault.DecodeFault.{DecodeFault}
 use Rattle.bpf_decode.specs.declared.fault.DecodeFault.TheVariants as decode_fault

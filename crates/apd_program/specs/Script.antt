@@ -1,10 +1,10 @@
--- A capture as a script: `frame HEX` for each frame, `tick N` for the time that passes before it in
--- units of 1024 microseconds, and a comment for each packet that is left out; `wait` behind each 1000th
--- packet, so that a run prints what it has and keeps no more.
+-- A capture as a script: `frame HEX` for each frame, `tick N` for the time that passes before it in units of 1024
+-- microseconds, and a comment for each packet that is left out; `wait` after each 1000th packet, so that a run
+-- prints its reports and keeps no more.
 use Rattle.std.specs.Prelude.{ℕ, ◌+◌, ◌-◌, ◌/◌, ◌%◌, ◌==◌, ◌&&◌, Bool, nat_lt, min, max, List, [], ◌∷◌, ◌++◌, length, codes, decimal, Option, Some, None, Result, Ok, Err, if◌then◌else◌}
 use Rattle.hex.specs.Hex.{encode_lower}
 use Rattle.capture.specs.declared.fault.LeftOut.{LeftOut}
-use Rattle.capture.specs.declared.fault.LeftOut.TheVariants.{Cut, Radiotap, CheckSequence}
+use Rattle.capture.specs.declared.fault.LeftOut.TheVariants.{Cut, Radiotap, CheckSequence, WrongCheckSequence}
 use Rattle.capture.specs.Packets.{Seen}
 
 -- why a packet has no frame, in words
@@ -12,6 +12,7 @@ abbrev pub reason_of : LeftOut → List ℕ
 reason_of Cut = codes "it was cut when it was captured"
 reason_of Radiotap = codes "its radiotap header is damaged"
 reason_of CheckSequence = codes "its frame check sequence is cut"
+reason_of WrongCheckSequence = codes "its frame check sequence is wrong"
 
 -- packets are counted from 1; a line ends with a line feed (10)
 abbrev pub left_out_line : ℕ → List ℕ → List ℕ
@@ -22,7 +23,7 @@ left_out_line number reason =
 abbrev pub frame_line : List ℕ → List ℕ
 frame_line frame = codes "frame " ++ (encode_lower frame ++ 10 ∷ [])
 
--- a script has frames of 1 to 2400 bytes
+-- frames in a script have 1 to 2400 bytes
 abbrev pub frame_lines : ℕ → List ℕ → List ℕ
 frame_lines number frame =
     (if length frame == 0 then left_out_line number (codes "it has no bytes") else
@@ -38,38 +39,38 @@ packet_lines number (Err left_out) = left_out_line number (reason_of left_out)
 abbrev pub tick_line : ℕ → List ℕ
 tick_line units = codes "tick " ++ (decimal units ++ 10 ∷ [])
 
--- the time from a unit to a later one, at most 2^32 - 1 units, which is what a line can say
+-- the time from a unit to a later one, at most 2^32 - 1 units, the most that a line can say
 abbrev pub time_lines : Bool → ℕ → ℕ → List ℕ
 time_lines ticks clock now =
     (if ticks && nat_lt clock now then tick_line (min (now - clock) 4294967295) else [])
 
--- `wait`, behind each 1000th packet
+-- `wait`, after each 1000th packet
 abbrev pub wait_lines : ℕ → List ℕ
 wait_lines number = (if number % 1000 == 0 then codes "wait" ++ 10 ∷ [] else [])
 
--- in which unit after the start a time in nanoseconds lies; in unit 0 where it is earlier, or isn't
--- known, so that no time passes before the packet
+-- the unit after the start in which a time in nanoseconds lies; 0 if it is earlier or unknown, so that no time
+-- passes before the packet
 abbrev pub unit_of : ℕ → Option ℕ → ℕ
 unit_of start None = 0
 unit_of start (Some time) = (time - start) / 1024000
 
--- the packets from this number on, `clock` being the latest unit so far
+-- the packets from this number on; `clock` is the latest unit so far
 abbrev pub lines_from : Bool → ℕ → ℕ → ℕ → List Seen → List ℕ
 lines_from ticks start number clock [] = []
 lines_from ticks start number clock (packet ∷ packets) =
     time_lines ticks clock (unit_of start packet.time) ++ (packet_lines number packet.frame ++ (wait_lines number
     ++ lines_from ticks start (number + 1) (max clock (unit_of start packet.time)) packets))
 
--- a packet's time, or the first one behind it
+-- a packet's time, or the first one after it
 abbrev pub time_or : Option ℕ → ℕ → ℕ
 time_or None later = later
 time_or (Some time) later = time
 
--- the first time that is known, 0 where none is
+-- the first known time; 0 if there is none
 abbrev pub start_of : List Seen → ℕ
 start_of [] = 0
 start_of (packet ∷ packets) = time_or packet.time (start_of packets)
 
--- the whole capture, with its times or without; the first time is the start
+-- the whole capture, with times or without; the first known time is the start
 abbrev pub script_of : Bool → List Seen → List ℕ
 script_of ticks packets = lines_from ticks (start_of packets) 1 0 packets

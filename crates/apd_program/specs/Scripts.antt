@@ -1,4 +1,4 @@
--- What `frames` answers for a capture.
+-- The answer of `frames` for a capture.
 use Rattle.std.specs.Prelude.{◌≡◌, ℕ, Bool, List, ◌++◌, string_bytes}
 use Rattle.capture.specs.Packets.{Seen}
 use Rattle.capture.specs.Captures.{Holds, Refuses}
@@ -13,7 +13,7 @@ pub record IsScriptOf (ticks : Bool) (file text : List ℕ) : Type 0 where
   pub held : Holds file packets
   pub is : text ≡ script_of ticks packets
 
--- the file has the fault, and the text is the script of what is before it
+-- the file has the fault, and the text is the script of some prefix of the file
 pub record IsCutScriptOf (ticks : Bool) (file text : List ℕ) (fault : CaptureFault) : Type 0 where
   pub refused : Refuses file fault
   pub front : List ℕ
@@ -21,7 +21,7 @@ pub record IsCutScriptOf (ticks : Bool) (file text : List ℕ) (fault : CaptureF
   pub cut : file ≡ front ++ rest
   pub script : IsScriptOf ticks front text
 
--- `frames` says the script
+-- `frames`: the script
 abbrev pub IsScript : Bool → List ℕ → Answer → Type 0
 IsScript ticks file (Script text) = IsScriptOf ticks file (string_bytes text)
 IsScript ticks file (CutScript text fault) = IsCutScriptOf ticks file (string_bytes text) fault

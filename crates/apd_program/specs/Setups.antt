@@ -17,8 +17,8 @@ pub record IsFrame (word frame : List ℕ) : Type 0 where
   pub spelled : decode_of word ≡ Ok frame
   pub short : length frame ≤ 2400
 
--- The context that a program is told: zeros but for the hook's number, where nothing is given for it; else it has the hook's
--- number, and the rest of it is shown by tests.
+-- The context of a traced program: 0 except for the hook's number, if nothing is given for it; otherwise it has the
+-- hook's number, and only tests show the rest.
 abbrev pub IsContext : Hook → Option (List ℕ) → Bool → List ℕ → Type 0
 IsContext hook None false context = context ≡ context_of hook
 IsContext hook None true context = slice_index context 6 ≡ number_of hook
@@ -33,12 +33,12 @@ pub record HoldsSetup (files : Held) (path : List ℕ) (setup : Setup) : Type 0 
   pub maps : setup.shapes ≡ configuration.maps
   pub draw : setup.draw ≡ configuration.draw
 
--- without a configuration no maps, and 0 to draw first
+-- without a configuration: no maps, and 0 is drawn first
 abbrev pub Configures : Held → Option (List ℕ) → Setup → Type 0
 Configures files None setup = setup ≡ record { shapes = []; draw = 0 }
 Configures files (Some path) setup = HoldsSetup files path setup
 
--- what is read of a source: its configuration's setup, and what is kept of its code
+-- what is read from a source: its configuration's setup, and what is kept of its code
 pub record IsLoaded (files : Held) (source : Source) (loaded : Loaded) : Type 0 where
   pub configured : Configures files (config_of source) loaded.setup
   pub kept : HoldsKept (2 ^ 17) files source.file.now loaded.code.items

@@ -6,7 +6,7 @@ use Rattle.hex.specs.Hex.{encode_lower}
 abbrev pub line_of : List ℕ → List ℕ
 line_of text = text ++ 10 ∷ []
 
--- bytes in hex digits, on one line
+-- bytes as hex digits, on one line
 abbrev pub digits_line : List ℕ → List ℕ
 digits_line bytes = line_of (encode_lower bytes)
 

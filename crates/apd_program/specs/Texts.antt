@@ -1,4 +1,4 @@
--- What `asm` answers for a text, and `disasm` for a program.
+-- The answers of `asm` for a text, and of `disasm` for a program.
 use Rattle.std.specs.Prelude.{◌≡◌, ◌≢◌, ◌+◌, ◌==◌, Bool, true, false, nat_lt, ℕ, List, [], take, count_by, Vec, Result, Ok, Err, if◌then◌else◌, string_bytes, IsUtf8}
 use Rattle.std.specs.Str.Lossy.{utf8_valid_len}
 use Rattle.std.specs.declared.alloc.Global.{Global}
@@ -12,16 +12,16 @@ use Rattle.bpf_text.specs.declared.fault.AsmFault.TheVariants as asm_fault
 use Rattle.apd_program.specs.declared.answer.Answer.{Answer}
 use Rattle.apd_program.specs.declared.answer.Answer.TheVariants.{Code, Instructions, LineFault}
 
--- the first faulty line where the text breaks off in its last line, which is then none (20)
+-- the first faulty line of a text that breaks off in its last line, which therefore has fault 20
 abbrev pub first_broken : ℕ → Result (List ℕ) (ℕ × ℕ) → ℕ × ℕ
 first_broken last (Ok code) = (last, 20)
 first_broken last (Err (line, number)) = (if nat_lt line last then (line, number) else (last, 20))
 
--- the same for the front of a text: it has a line more than line feeds
+-- the same for the front of a text: it has one line more than line feeds
 abbrev pub broken_off : List ℕ → ℕ × ℕ
 broken_off front = first_broken (count_by (λ b. b == 10) front + 1) (assembled 1 [] (lines_of front))
 
--- the fault is that of the line at which the text's reading broke off
+-- the line fault of a text that breaks off after this front
 abbrev pub BreaksOff : List ℕ → Answer → Type 0
 BreaksOff front (LineFault (asm_fault.Line line number)) = broken_off front ≡ (line, number)
 BreaksOff front _ = ⊥
@@ -36,22 +36,22 @@ pub data IsAssembly (text : List ℕ) : Answer → Type 0 where
   NotAssembled : (e : AsmFault) → IsUtf8 text → e ≢ asm_fault.NoMemory → Refuses text e → IsAssembly text (LineFault e)
   Broken : (line number : ℕ) → (IsUtf8 text → ⊥) → broken text ≡ (line, number) → IsAssembly text (LineFault (asm_fault.Line line number))
 
--- `disasm` says the program's text
+-- `disasm`: the program's text
 abbrev pub IsListing : decoded.Code → Answer → Type 0
 IsListing p (Instructions text) = string_bytes text ≡ disassembled p.slots
 IsListing p _ = ⊥
 
--- `disasm --slots` says it with the slots
+-- `disasm --slots`: its text with slots
 abbrev pub IsSlotListing : decoded.Code → Answer → Type 0
 IsSlotListing p (Instructions text) = listing.IsListing p.slots (string_bytes text)
 IsSlotListing p _ = ⊥
 
--- `disasm --raw` says all slots of code
+-- `disasm --raw`: all slots of code
 abbrev pub IsRawListing : Bool → List ℕ → Answer → Type 0
 IsRawListing slots code (Instructions text) = IsRaw slots code (string_bytes text)
 IsRawListing slots code _ = ⊥
 
--- a program's text, with the numbers of its slots or without them
+-- a program's text, with the numbers of its slots or without
 abbrev pub IsListingWith : Bool → decoded.Code → Answer → Type 0
 IsListingWith true p a = IsSlotListing p a
 IsListingWith false p a = IsListing p a

@@ -1,11 +1,8 @@
--- What `verify` and `trace` answer for a program.
-use Rattle.std.specs.Prelude.{◌≡◌, ◌≢◌, ℕ, ◌≤◌, ◌^◌, List, string_bytes}
+-- The answers of `verify` and `trace` for a program.
+use Rattle.std.specs.Prelude.{◌≡◌, ◌≢◌, ℕ, List, string_bytes}
 use Rattle.bpf_regions.specs.declared.hooks.Hook.{Hook}
-use Rattle.bpf_decode.specs.Program.{Code, Begins}
-use Rattle.bpf_model.specs.Run.{Safe}
-use Rattle.bpf_absstate.specs.View.{entry_view}
-use Rattle.bpf_plain.specs.Clear.{IsClear}
-use Rattle.bpf_plain.specs.Walks.{IsPlain, HasWalk}
+use Rattle.bpf_decode.specs.Program.{Code}
+use Rattle.bpf_verifier.specs.Admission.{IsSafeBudget, IsRefusal}
 use Rattle.bpf_verifier.specs.Limits.{nearest}
 use Rattle.bpf_verifier.specs.declared.refusal.Refusal.{Refusal}
 use Rattle.bpf_rules.specs.declared.fault.Fault.TheVariants.{NoMemory}
@@ -14,30 +11,26 @@ use Rattle.apd_words.specs.declared.Terms.{Terms}
 use Rattle.apd_program.specs.declared.answer.Answer.{Answer}
 use Rattle.apd_program.specs.declared.answer.Answer.TheVariants.{Accepted, Run, Refused}
 
--- The verdict on a program, of which no more states than the limit are examined: a refusal at one of its instructions,
--- which none gets that is clear by the rules within the limit, nor a plain one under the greatest limit, or what is said
--- of it with a budget within which it is safe, and which for a plain program is no more than its longest walk.
+-- The verdict on a program, of which at most `limit` states are examined: what is said of it with a budget, or a refusal
+-- that isn't for lack of memory.
 pub data IsVerdict (limit : ℕ) (says : Code → ℕ → Answer → Type 0) (p : Code) : Answer → Type 0 where
-  Admitted : (budget : ℕ) (a : Answer) → Safe p.slots p.shapes budget → budget ≤ limit →
-      (IsPlain p.slots → HasWalk p.slots budget) → says p budget a → IsVerdict limit says p a
-  NotAdmitted : (e : Refusal) → e.fault ≢ NoMemory → Begins p.slots e.pc →
-      (limit ≡ 2 ^ 22 → IsPlain p.slots → ⊥) → (IsClear p entry_view limit → ⊥) →
-      IsVerdict limit says p (Refused e)
+  Admitted : (budget : ℕ) (a : Answer) → IsSafeBudget p limit budget → says p budget a → IsVerdict limit says p a
+  NotAdmitted : (e : Refusal) → e.fault ≢ NoMemory → IsRefusal p limit e → IsVerdict limit says p (Refused e)
 
--- `verify` says the budget
+-- `verify`: the budget
 abbrev pub IsBudget : Code → ℕ → Answer → Type 0
 IsBudget p budget a = a ≡ Accepted budget
 
--- `trace` says the run on a frame with a context
+-- `trace`: the run on a frame with a context
 abbrev pub IsRun : Hook → List ℕ → List ℕ → ℕ → Code → ℕ → Answer → Type 0
 IsRun hook frame context draw p budget (Run text) =
     IsTrace (record { code = p; hook = hook; budget = budget }) frame context draw (string_bytes text)
 IsRun hook frame context draw p budget _ = ⊥
 
--- what `verify` says within the states that are asked for
+-- `verify`, within the states that are asked for
 abbrev pub IsVerified : Terms → Code → Answer → Type 0
 IsVerified terms = IsVerdict (nearest terms.states) IsBudget
 
--- what `trace` says within them, for the hook
+-- `trace`, within them, for the hook
 abbrev pub IsRunWithin : Terms → List ℕ → List ℕ → ℕ → Code → Answer → Type 0
 IsRunWithin terms frame context draw = IsVerdict (nearest terms.states) (IsRun terms.hook frame context draw)

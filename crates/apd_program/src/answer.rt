@@ -1,4 +1,4 @@
-//! What a command answers.
+//! The answers of commands.
 
 ghost use Rattle.std.specs.Prelude.{◌≡◌, ◌/◌, ◌++◌, IfOk, IfErr, OnOk, string_bytes, length};
 ghost use Rattle.apd_program.specs.Refusing.{IsUndecoded, IsRefused};
@@ -12,41 +12,41 @@ use bpf_verifier::{Fault, Refusal};
 use capture::CaptureFault;
 use std::alloc::{AllocError, Global};
 
-/// What a command answers on standard output.
+/// The answer of a command, for standard output or a file.
 #[derive(Drop)]
 pub enum Answer {
-    /// The program is safe within the budget.
+    /// The program is safe, and executes at most `budget` instructions.
     Accepted { budget: u32 },
-    /// The code of a text.
+    /// The code of assembler text.
     Code(Vec<u8>),
-    /// The text of a program: a line for each instruction.
+    /// The text of code: a line for each instruction, or for each slot.
     Instructions(String),
-    /// The text of a run: a line for each step and each note, and what the run came to.
+    /// The text of a run: a line for each step and each note, and the result.
     Run(String),
-    /// The page on a refusal's number.
+    /// The page on a refusal's number, or the list of all numbers.
     Page(String),
     /// The frames of a capture as a script.
     Script(String),
-    /// The frames that are before the fault of a capture that is cut, as a script.
+    /// The frames before the fault of a cut capture, as a script.
     CutScript { text: String, fault: CaptureFault },
-    /// A text of help.
+    /// A help text.
     Help(String),
-    /// The code isn't well formed.
+    /// The code isn't well formed (1 to 3, 10 to 19).
     Fault(DecodeFault),
-    /// The verifier doesn't admit the program.
+    /// The verifier refuses the program (30 to 38).
     Refused(Refusal),
-    /// A line of the text is no instruction.
+    /// A line of the text isn't an instruction (20 to 22).
     LineFault(AsmFault),
-    /// A certificate's bytes.
+    /// The bytes of a certificate.
     Certificate(Vec<u8>),
-    /// The certificate isn't accepted.
+    /// The certificate isn't accepted (70 to 72).
     Unaccepted(CertFault),
 }
 
 impl Answer {
     ghost use Rattle.apd_program.specs.Lines.{status_of, printed};
 
-    /// The program's status after the answer: 0 for a success, 1 for a refusal.
+    /// The exit status for the answer: 0 for a success, 1 for a refusal or a cut capture.
     pub fn status(&self) -> u8
         ensures is { result ≡ status_of self.now }
     {
@@ -63,7 +63,7 @@ impl Answer {
         }
     }
 
-    /// What is printed for the answer, with the ends of its lines.
+    /// The text that is printed for the answer, with its line feeds.
     pub fn printed(self, alloc: Global) -> Result<String, AllocError>
         ensures is { IfOk result (λ text. string_bytes text ≡ printed self) }
     {
@@ -82,7 +82,7 @@ impl Answer {
     }
 }
 
-/// The answer to code that isn't well formed.
+/// The answer for code that isn't well formed.
 pub(crate) fn undecoded(fault: DecodeFault) -> Result<Answer, ProgramFault>
     ensures fault { IfOk result (IsUndecoded fault) }
     ensures memory { IfErr result (λ e. e ≡ ProgramFault.NoMemory) }
@@ -93,7 +93,7 @@ pub(crate) fn undecoded(fault: DecodeFault) -> Result<Answer, ProgramFault>
     }
 }
 
-/// The answer to a program that isn't admitted.
+/// The answer for a program that isn't admitted.
 pub(crate) fn refused(refusal: Refusal) -> Result<Answer, ProgramFault>
     ensures refusal { IfOk result (IsRefused refusal) }
     ensures memory { IfErr result (λ e. e ≡ ProgramFault.NoMemory) }
@@ -104,7 +104,7 @@ pub(crate) fn refused(refusal: Refusal) -> Result<Answer, ProgramFault>
     }
 }
 
-/// A certificate in hex digits, on one line.
+/// A certificate as one line of hex digits.
 fn certificate_line(alloc: Global, bytes: &[u8]) -> Result<String, AllocError>
     ensures is { IfOk result (λ text. string_bytes text ≡ digits_line bytes.now) }
 {
@@ -113,7 +113,7 @@ fn certificate_line(alloc: Global, bytes: &[u8]) -> Result<String, AllocError>
     Ok(line)
 }
 
-/// Adds the line of a slot.
+/// Appends the line of a slot.
 fn append_slot(alloc: Global, text: &mut String, slot: &[u8]) -> Result<(), AllocError>
     ensures ok { OnOk result
         (string_bytes text.new ≡ string_bytes text.old ++ digits_line slot.now) }
@@ -124,7 +124,7 @@ fn append_slot(alloc: Global, text: &mut String, slot: &[u8]) -> Result<(), Allo
     Ok(())
 }
 
-/// Code in hex digits, a line for each slot.
+/// Code as lines of hex digits, one for each slot.
 fn slot_lines(alloc: Global, code: &[u8]) -> Result<String, AllocError>
     ensures is { IfOk result
         (λ text. string_bytes text ≡ slot_lines (length code.now / 8) code.now) }

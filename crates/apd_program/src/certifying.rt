@@ -1,4 +1,4 @@
-//! Certificates, made and checked: the commands `cert` and `check`.
+//! Making and checking certificates: the commands `cert` and `check`.
 
 ghost use Rattle.std.specs.Prelude.{◌≡◌, IfOk, IfErr};
 ghost use Rattle.apd_program.specs.Certifying.{IsCertificateWithin, IsChecked};
@@ -15,7 +15,7 @@ use bpf_regions::{Hook, Shapes};
 use bpf_verifier::verify_within;
 use std::alloc::Global;
 
-/// The answer to a certificate that isn't accepted.
+/// The answer for a certificate that isn't accepted.
 fn unaccepted(fault: CertFault) -> Result<Answer, ProgramFault>
     ensures fault { IfOk result (IsUnaccepted fault) }
     ensures memory { IfErr result (λ e. e ≡ ProgramFault.NoMemory) }
@@ -26,7 +26,7 @@ fn unaccepted(fault: CertFault) -> Result<Answer, ProgramFault>
     }
 }
 
-/// The certificate of a program, or the verifier's refusal.
+/// Makes the certificate of a program, or returns the refusal.
 fn certified(alloc: Global, program: Program, terms: Terms) -> Result<Answer, ProgramFault>
     ensures certificate { IfOk result (IsCertificateWithin terms program) }
     ensures memory { IfErr result (λ e. e ≡ ProgramFault.NoMemory) }
@@ -41,7 +41,7 @@ fn certified(alloc: Global, program: Program, terms: Terms) -> Result<Answer, Pr
     }
 }
 
-/// The certificate of the program that the code spells, for maps of these shapes.
+/// Makes the certificate of the program that the code spells, with maps of these shapes.
 pub(crate) fn certify(
     alloc: Global,
     code: &[u8],
@@ -57,7 +57,7 @@ pub(crate) fn certify(
     }
 }
 
-/// What the bytes of a certificate show of a program.
+/// Checks the bytes of a certificate for a program.
 fn checked(
     alloc: Global,
     program: Program,
@@ -75,7 +75,7 @@ fn checked(
     }
 }
 
-/// What the bytes of a certificate show of the program that the code spells, for maps of these shapes.
+/// Checks the bytes of a certificate for the program that the code spells, with maps of these shapes.
 pub(crate) fn check(
     alloc: Global,
     code: &[u8],

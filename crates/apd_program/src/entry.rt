@@ -1,4 +1,4 @@
-//! From words to a status: what `apd` does with its words, the run of a script or of lines by threads, or an answer.
+//! From words to a status: `apd` runs a script, or lines as they come, with threads, or answers a question.
 
 ghost use Rattle.std.specs.Prelude.{◌≡◌, map};
 ghost use Rattle.apd_run.specs.Counts.{none};
@@ -17,15 +17,15 @@ use std::sync::Wait;
 use std::thread::Threads;
 use std::time::Clock;
 
-/// Where texts of faults go. `watched` says that somebody looks on, as at a terminal: then the progress of
-/// a long run is told there too.
+/// Where texts of faults go. `watched` says that somebody is watching, as at a terminal: then the progress of a long
+/// run goes to standard error.
 #[derive(Drop)]
 pub struct Messages<'a, E> {
     pub err: &'a mut E,
     pub watched: bool,
 }
 
-/// Runs a script, and tells its progress where somebody looks on who wants it.
+/// Runs a script, and reports its progress to whoever watches, if wanted.
 fn run_watched<R, F, O, E>(
     rt: &R,
     alloc: Global,
@@ -90,9 +90,10 @@ where
     return live(rt, alloc, words, supplies, streams, err);
 }
 
-/// Does what the words ask for, the first being the program's own name. Answers are written to `out`, which
-/// is handed back with the program's status: 0 for success, 1 where something was refused, 2 for a fault of
-/// the words, a configuration, a script, a file or a write, 3 for want of memory.
+/// Does what the words ask for; the first is the program's own name. An answer goes to `out`, or, if it is a
+/// success, to the file named for it. Returns `out` and the exit status: 0 for success; 1 if something was refused
+/// (in a script's run, only if it is strict), a line of `live` is malformed or a capture is cut; 2 for a fault of the
+/// words, a configuration, a script, a file, a read or a write; 3 for lack of memory.
 pub fn perform<'a, R, F, O, E>(
     rt: &R,
     alloc: Global,

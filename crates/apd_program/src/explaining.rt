@@ -1,5 +1,5 @@
-//! The page on a refusal's number, or the list of all, the command `explain`; and what `--explain` and others tell beside an
-//! answer.
+//! The page on a refusal's number or the list of all, for the command `explain`; and what `--explain` and others add
+//! to an answer.
 
 ghost use Rattle.std.specs.Prelude.{IfOk, IfErr};
 ghost use Rattle.apd_words.specs.Asked.{text_of};
@@ -19,7 +19,7 @@ use bpf_text::AsmFault;
 use bpf_verifier::{Explanation, Refusal};
 use std::alloc::{AllocError, Global};
 
-/// The page on the number that a word spells, or without one the list of all numbers.
+/// The page on the number that a word spells, or, without a word, the list of all numbers.
 pub(crate) fn page(alloc: Global, number: Option<&str>) -> Result<Answer, ProgramFault>
     ensures page { IfOk result (IsPageFor (text_of number.entry)) }
     ensures fault { IfErr result (IsMemoryOr (HasNoPage (text_of number.entry))) }
@@ -51,7 +51,7 @@ fn unknown(alloc: Global, word: &str) -> ProgramFault {
     }
 }
 
-/// What a refusal means in one sentence, with the instruction that is refused; none where nothing is refused.
+/// The meaning of a refusal in one sentence, with the refused instruction; `None` if nothing is refused.
 pub(crate) fn sentence(
     alloc: Global,
     answer: &Answer,
@@ -66,13 +66,13 @@ pub(crate) fn sentence(
     }
 }
 
-/// What a number means at a slot or a line.
+/// The meaning of a number at a slot or a line.
 fn at(alloc: Global, place: &str, at: u64, number: u8) -> Result<Option<String>, AllocError> {
     let place = format!(in alloc; "{place} {at}: ")?;
     told(alloc, place.as_str(), number)
 }
 
-/// What a refusal means at its slot, with the instruction there.
+/// The meaning of a refusal at its slot, with the instruction there.
 fn at_insn(
     alloc: Global,
     refusal: Refusal,
@@ -86,7 +86,7 @@ fn at_insn(
     told(alloc, place.as_str(), refusal.number())
 }
 
-/// What a number means behind the name of a place; none where it has no page.
+/// The meaning of a number, after the name of a place; `None` if it has no page.
 fn told(alloc: Global, place: &str, number: u8) -> Result<Option<String>, AllocError> {
     let Some(page) = explain(number) else {
         return Ok(None);
@@ -98,13 +98,13 @@ fn told(alloc: Global, place: &str, number: u8) -> Result<Option<String>, AllocE
     Ok(Some(text))
 }
 
-/// How the bytes of a certificate begin.
+/// The first bytes of a certificate.
 const CERTIFICATE: &[u8] = b"APC2";
 
-/// What is told where code begins so.
+/// The message if code begins so.
 const EXCHANGED: &str = "apd: the code file begins like a certificate: are the two exchanged?\n";
 
-/// What makes code no program for maps of these shapes: its first fault, and each slot that is no instruction.
+/// Why code isn't a program with maps of these shapes: each slot that isn't an instruction, or else its first fault.
 fn faults_of(alloc: Global, code: &[u8], shapes: Shapes) -> Result<String, AllocError> {
     let mut text = raw_faults(alloc, code)?;
     if let Err(fault) = decode(alloc, code, shapes) {
@@ -117,17 +117,17 @@ fn faults_of(alloc: Global, code: &[u8], shapes: Shapes) -> Result<String, Alloc
     Ok(text)
 }
 
-/// The reason for a verdict in words, where it is asked for.
+/// The reason for a verdict in words, if it is wanted.
 #[derive(Drop)]
 pub(crate) struct Reason {
     wanted: bool,
     text: Result<Option<String>, AllocError>,
-    /// The instruction that is refused, as text.
+    /// The refused instruction, as text.
     insn: Option<String>,
 }
 
 impl Reason {
-    /// No reason yet; it is wanted where the question says so.
+    /// No reason yet; it is wanted if the question says so.
     pub(crate) fn wanted_by(question: &Question<'_>) -> Reason {
         let wanted = match question {
             Question::Verify { explain, .. } => *explain,
@@ -146,12 +146,12 @@ impl Reason {
         self.wanted
     }
 
-    /// What the verifier found of a program.
+    /// Explains what the verifier found of a program.
     pub(crate) fn explain(&mut self, alloc: Global, program: &Program, explanation: &Explanation) {
         self.text = reason_text(alloc, program, explanation).map(Some);
     }
 
-    /// What is wrong with code, for maps of these shapes.
+    /// Explains the fault of code with maps of these shapes, if that is wanted.
     pub(crate) fn explain_fault(
         &mut self,
         alloc: Global,
@@ -164,7 +164,7 @@ impl Reason {
         }
     }
 
-    /// What makes code no program for maps of these shapes, and slots of it no instructions.
+    /// Explains why code isn't a program with maps of these shapes.
     pub(crate) fn tells_faults(&mut self, alloc: Global, code: &[u8], shapes: Shapes) {
         self.text = faults_of(alloc, code, shapes).map(Some);
     }
@@ -176,7 +176,7 @@ impl Reason {
         }
     }
 
-    /// Points at the instruction that is refused, in its code.
+    /// Keeps the refused instruction of the code, as text.
     pub(crate) fn points_at(
         &mut self,
         alloc: Global,
@@ -188,12 +188,12 @@ impl Reason {
         }
     }
 
-    /// The instruction that is refused, if it is known.
+    /// The refused instruction, if it is known.
     pub(crate) fn insn(&self) -> &Option<String> {
         &self.insn
     }
 
-    /// The text, if there is one.
+    /// Its text, if there is one.
     pub(crate) fn text(&self) -> &Result<Option<String>, AllocError> {
         &self.text
     }

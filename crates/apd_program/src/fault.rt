@@ -1,4 +1,4 @@
-//! Why a command gives no answer.
+//! Why a command has no answer.
 
 ghost use Rattle.std.specs.Prelude.{◌≡◌};
 ghost use Rattle.apd_program.specs.declared.fault.ProgramFault.TheVariants.{NoMemory};
@@ -11,7 +11,7 @@ use hex::FromHexError;
 use std::alloc::{AllocError, Global};
 use std::fmt;
 
-/// Why a command gives no answer. Its text is told on standard error.
+/// Why a command has no answer. Its text goes to standard error.
 #[derive(Drop)]
 pub(crate) enum ProgramFault {
     Unreadable { path: String, why: FileFault },
@@ -63,7 +63,7 @@ impl From<AllocError> for ProgramFault {
     }
 }
 
-/// The fault of what doesn't spell bytes, by its name.
+/// The fault of a named text that doesn't spell bytes.
 pub(crate) fn of_digits(alloc: Global, name: &str, fault: FromHexError) -> ProgramFault
     ensures memory { fault ≡ FromHexError.OutOfMemory → result ≡ ProgramFault.NoMemory }
 {
@@ -77,7 +77,7 @@ pub(crate) fn of_digits(alloc: Global, name: &str, fault: FromHexError) -> Progr
     }
 }
 
-/// The fault of a file that isn't read.
+/// The fault of a file that wasn't read.
 pub(crate) fn of_file(alloc: Global, path: &str, why: FileFault) -> ProgramFault
     ensures memory { why ≡ FileFault.NoMemory → result ≡ ProgramFault.NoMemory }
 {
@@ -101,8 +101,8 @@ pub(crate) fn of_no_code(alloc: Global, path: &str, fault: CodeFault) -> Program
     }
 }
 
-/// The fault of a file that spells no code: its first character that is no hex digit, with its line, or
-/// that a digit is missing.
+/// The fault of a file that spells no code: its first character that isn't a hex digit, with its line, or a missing
+/// digit.
 fn of_code(alloc: Global, path: &str, fault: DigitFault) -> ProgramFault {
     let Ok(path) = shown(alloc, path) else {
         return ProgramFault::NoMemory;
@@ -113,7 +113,7 @@ fn of_code(alloc: Global, path: &str, fault: DigitFault) -> ProgramFault {
     }
 }
 
-/// The fault of a file with this text, which is no configuration.
+/// The fault of a file whose text isn't a configuration.
 pub(crate) fn of_configuration(
     alloc: Global,
     path: &str,
@@ -134,7 +134,7 @@ pub(crate) fn of_configuration(
     }
 }
 
-/// The fault of what a traced program is to be told.
+/// The fault of what is given for a traced program's context.
 pub(crate) fn of_context(alloc: Global, fault: ContextFault<'_>) -> ProgramFault {
     let Ok(why) = format!(in alloc; "{fault}") else {
         return ProgramFault::NoMemory;
@@ -145,7 +145,7 @@ pub(crate) fn of_context(alloc: Global, fault: ContextFault<'_>) -> ProgramFault
     }
 }
 
-/// The fault of a file that is no capture.
+/// The fault of a file that isn't a capture.
 pub(crate) fn of_capture(alloc: Global, path: &str, fault: CaptureFault) -> ProgramFault
     ensures memory { fault ≡ CaptureFault.NoMemory → result ≡ ProgramFault.NoMemory }
 {

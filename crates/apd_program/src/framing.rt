@@ -14,8 +14,8 @@ use apd_files::{FileKind, Files};
 use capture::{CaptureFault, read_capture};
 use std::alloc::Global;
 
-/// The script of the frames in a capture, with the time between them where `ticks` says so. Of a capture that is cut the
-/// frames before the cut are written.
+/// The script of the frames in a capture, with the time between them if `ticks` is set. Of a cut capture, it has the
+/// frames before the cut.
 pub(crate) fn frames<F: Files>(
     alloc: Global,
     path: &str,
@@ -38,7 +38,7 @@ pub(crate) fn frames<F: Files>(
     }
 }
 
-/// The script of what is before the fault of a capture that is cut; None where it has another fault.
+/// The script of what comes before the fault of a cut capture; `None` if it has another fault.
 fn cut_script(
     alloc: Global,
     file: &[u8],
@@ -65,7 +65,7 @@ fn cut_script(
     }
 }
 
-/// How many bytes of a capture that is cut come before the record or block that is.
+/// The bytes before the record or block that is cut; `None` for another fault.
 fn cut_at(file: &[u8], fault: CaptureFault) -> Option<usize> {
     match fault {
         CaptureFault::CutRecord(records) => end_of_records(file, records),
@@ -74,13 +74,13 @@ fn cut_at(file: &[u8], fault: CaptureFault) -> Option<usize> {
     }
 }
 
-/// How many bytes a classic capture's header has.
+/// The bytes of a classic capture's header.
 const HEADER: usize = 24;
 
-/// How many bytes the header of a record has.
+/// The bytes of a record's header.
 const RECORD: usize = 16;
 
-/// Where so many records of a classic capture end.
+/// Where the first `records` records of a classic capture end.
 fn end_of_records(file: &[u8], records: u64) -> Option<usize> {
     let mut end = HEADER;
     for _ in 0..records {
@@ -90,7 +90,7 @@ fn end_of_records(file: &[u8], records: u64) -> Option<usize> {
     Some(end)
 }
 
-/// How many bytes of a packet were captured, as four bytes of its record say in the byte order of the file.
+/// The captured bytes of a packet, as four bytes of its record say in the file's byte order.
 fn length_at(file: &[u8], place: usize) -> Option<usize> {
     let (bytes, _) = file.get(place..)?.split_first_chunk::<4>()?;
     let length = match file.first()? {

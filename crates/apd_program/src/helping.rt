@@ -1,4 +1,4 @@
-//! Help by a command of its own: `apd help`, `apd help COMMAND`.
+//! Help as a command: `apd help`, `apd help COMMAND`.
 
 ghost use Rattle.std.specs.Prelude.{IfOk, IfErr};
 ghost use Rattle.apd_words.specs.Asked.{text_of, texts_of};
@@ -11,7 +11,7 @@ use apd_files::shown;
 use apd_words::{Told, read_words};
 use std::alloc::{AllocError, Global};
 
-/// The help that `--help` prints behind a command, or without one that of the program.
+/// The help that `--help` prints after a command, or, without a command, the program's.
 pub(crate) fn help(alloc: Global, command: Option<&str>) -> Result<Answer, ProgramFault>
     ensures help { IfOk result (IsHelpText (help_words (text_of command.entry))) }
     ensures fault { IfErr result (IsMemoryOr (HasNoHelp (help_words (text_of command.entry)))) }

@@ -1,14 +1,14 @@
-//! What more there is to say of an answer than what its number means.
+//! Hints beyond the meaning of an answer's number.
 
 use crate::answer::Answer;
 use apd_files::shown;
 use apd_words::Question;
 use std::alloc::{AllocError, Global};
 
-/// The number of a map that isn't there.
+/// The number of the fault of a missing map.
 const NO_MAP: u8 = 19;
 
-/// What the question and its answer suggest together; none where they suggest nothing.
+/// The hint that a question and its answer suggest; `None` if there is none.
 pub(crate) fn of(
     alloc: Global,
     question: &Question<'_>,
@@ -30,7 +30,7 @@ pub(crate) fn of(
     }
 }
 
-/// Whether a configuration is named.
+/// Whether the question names a configuration, or takes none.
 fn has_config(question: &Question<'_>) -> bool {
     match question {
         Question::Verify { subject, .. } | Question::Certify { subject } => {

@@ -1,7 +1,7 @@
-//! The commands of `apd`: what it does with its words.
+//! The commands of `apd`: what it does with its command line.
 //!
-//! Main calls: `perform`, for all, and `apd_main`, for all commands but `run` and `live`, which take threads. Each reads the
-//! words once, and what they ask for decides the rest.
+//! Main calls: `perform` for all commands, and `apd_main` for all but `run` and `live`, which take threads. Each reads
+//! the words once; what they ask for determines the rest.
 #![tactic(auto)]
 
 mod answer;

@@ -1,11 +1,11 @@
-//! Where an answer goes: standard output, or the file that is named for it if the answer is a success.
+//! Delivering an answer: to standard output, or to the file named for it if it is a success.
 
 ghost use Rattle.std.specs.Prelude.{◌≡◌, ◌==◌, None, if◌then◌else◌};
 ghost use Rattle.apd_words.specs.Asked.{text_of};
 ghost use Rattle.apd_program.specs.Delivered.{Delivers, Stores, status_after};
 
 use crate::answer::Answer;
-use crate::printing::{NO_MEMORY, say, unwritten};
+use crate::printing::{NO_MEMORY, say, unsaved, unwritten};
 use apd_files::{Files, Unwritten, write_whole};
 use std::alloc::Global;
 use std::io::{ErrorKind, Write};
@@ -14,18 +14,20 @@ use std::io::{ErrorKind, Write};
 #[derive(Clone, Copy, Debug)]
 pub(crate) enum Undelivered {
     NoMemory,
-    /// A writer, or the file, took no more.
+    /// Standard output took no more.
     Unwritten(ErrorKind),
+    /// The file can't be written.
+    Unsaved(ErrorKind),
 }
 
-/// The file for an answer with this status: the one that is named, if the answer is a success.
+/// The file for an answer with this status: the named one, if the answer is a success.
 fn file_for<'a>(output: Option<&'a str>, status: u8) -> Option<&'a str>
     ensures is { text_of result ≡ (if status == 0 then text_of output.entry else None) }
 {
     if status == 0 { output } else { None }
 }
 
-/// Writes an answer, and answers its status.
+/// Writes an answer, and returns its status.
 pub(crate) fn deliver<F: Files, W: Write>(
     alloc: Global,
     answer: Answer,
@@ -45,7 +47,7 @@ pub(crate) fn deliver<F: Files, W: Write>(
     match file_for(output, status) {
         Some(path) => match files.save(path, text.as_bytes()) {
             Ok(()) => return Ok(0),
-            Err(Unwritten(why)) => return Err(Undelivered::Unwritten(why)),
+            Err(Unwritten(why)) => return Err(Undelivered::Unsaved(why)),
         },
         None => match write_whole(out, text.as_bytes()) {
             Ok(()) => return Ok(status),
@@ -54,11 +56,12 @@ pub(crate) fn deliver<F: Files, W: Write>(
     }
 }
 
-/// Tells why an answer wasn't delivered, and answers the program's status: the answer's, 2 where a write failed, 3 where
-/// memory ran out.
+/// Reports why an answer wasn't delivered, and returns the exit status: the answer's, 2 if a write failed, 3 if
+/// memory ran out. `output` is the file that is named for the answer.
 pub(crate) fn conclude<E: Write>(
     alloc: Global,
     delivered: Result<u8, Undelivered>,
+    output: Option<&str>,
     err: &mut E,
 ) -> u8
     ensures is { result ≡ status_after delivered }
@@ -70,5 +73,6 @@ pub(crate) fn conclude<E: Write>(
             return 3;
         }
         Err(Undelivered::Unwritten(why)) => return unwritten(alloc, why, err),
+        Err(Undelivered::Unsaved(why)) => return unsaved(alloc, output.unwrap_or("-"), why, err),
     }
 }

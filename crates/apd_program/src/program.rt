@@ -26,10 +26,10 @@ use bpf_regions::{Context, Frame, Hook};
 use std::alloc::Global;
 use std::io::Write;
 
-/// Does what the words ask for, the first being the program's own name, and answers the program's
-/// status: 0 for success, 1 where something was refused, 2 for a fault of the words, a
-/// configuration, a file or a write, 3 for want of memory. Texts of the statuses 2 and 3 go to
-/// `err`, all else to `out`. A script is not run, nor lines as they come, since that takes threads (`perform`).
+/// Does what the words ask for; the first is the program's own name. Returns the exit status: 0 for success; 1 if
+/// something was refused or a capture is cut; 2 for a fault of the words, a configuration, a file or a write; 3 for
+/// lack of memory. An answer goes to `out`, or, if it is a success, to the file named for it; all messages go to
+/// `err`. No script runs, nor lines as they come, since that takes threads (`perform`): the status is 2.
 pub fn apd_main<'a, F: Files, O: Write, E: Write>(
     alloc: Global,
     words: &'a [&'a str],
@@ -52,7 +52,7 @@ pub fn apd_main<'a, F: Files, O: Write, E: Write>(
     }
 }
 
-/// Tells what the words came to that ask for nothing to be done, and answers the status.
+/// Prints help, or reports a fault of the words or lack of memory, and returns the exit status.
 pub(crate) fn tell<O: Write, E: Write>(alloc: Global, told: &Told, out: &mut O, err: &mut E) -> u8
     ensures is { Tells told.now (O.contents out.old) (O.contents out.new) result }
 {
@@ -66,7 +66,7 @@ pub(crate) fn tell<O: Write, E: Write>(alloc: Global, told: &Told, out: &mut O, 
     }
 }
 
-/// Answers a question on standard output, or into the file that is named for it, and answers the status.
+/// Writes the answer to a question to standard output, or to the file named for it; returns the exit status.
 pub(crate) fn respond<F: Files, O: Write, E: Write>(
     alloc: Global,
     query: Query<'_>,
@@ -85,7 +85,7 @@ pub(crate) fn respond<F: Files, O: Write, E: Write>(
             let sentence = explaining::sentence(alloc, &answer, reason.insn());
             let hint = hints::of(alloc, &question, &answer);
             let delivered = deliver(alloc, answer, output, files, out);
-            let status = conclude(alloc, delivered, err);
+            let status = conclude(alloc, delivered, output, err);
             say_if_any(&sentence, err);
             say_if_any(&hint, err);
             say_if_any(reason.text(), err);
@@ -119,7 +119,7 @@ fn answer<F: Files>(
     }
 }
 
-/// The verdict on the code of a file, for the maps of a configuration.
+/// Verifies the code of a file, with the maps of a configuration.
 fn verify<F: Files>(
     alloc: Global,
     subject: Subject<'_>,
@@ -136,7 +136,7 @@ fn verify<F: Files>(
     answer
 }
 
-/// The code of the text of a file.
+/// Assembles the text of a file.
 fn assemble<F: Files>(alloc: Global, file: &str, files: &mut F) -> Result<Answer, ProgramFault>
     ensures assembly { IfOk result (λ a. IsOfText IsAssembly (F.held files.old) file.now a) }
     ensures fault { IfErr result (IsMemoryOr (Lacks FileKind.Text (F.held files.old) file.now)) }
@@ -145,7 +145,7 @@ fn assemble<F: Files>(alloc: Global, file: &str, files: &mut F) -> Result<Answer
     texts::assemble(alloc, text.as_slice())
 }
 
-/// The text of the code of a file, for the maps of a configuration.
+/// Disassembles the code of a file, with the maps of a configuration.
 fn disassemble<F: Files>(
     alloc: Global,
     source: Source<'_>,
@@ -161,7 +161,7 @@ fn disassemble<F: Files>(
     texts::disassemble(alloc, code.as_slice(), setup.shapes, slots)
 }
 
-/// All slots of the code of a file. What makes it no program is told beside them.
+/// Lists all slots of a file's code. The reason says why it isn't a program.
 fn list_raw<F: Files>(
     alloc: Global,
     source: Source<'_>,
@@ -178,7 +178,7 @@ fn list_raw<F: Files>(
     texts::list_raw(alloc, code.as_slice(), slots)
 }
 
-/// The run of the code of a file on the frame that a word spells.
+/// Runs the code of a file on the frame that a word spells.
 fn trace<F: Files>(
     alloc: Global,
     trial: Trial<'_>,
@@ -208,7 +208,7 @@ fn trace<F: Files>(
     answer
 }
 
-/// What a traced program is told of the frame.
+/// The context of a traced program on a frame.
 fn context(
     alloc: Global,
     hook: Hook,
@@ -226,7 +226,7 @@ fn context(
     }
 }
 
-/// The certificate of the program in a file, for the maps of a configuration.
+/// Makes the certificate of a file's program, with the maps of a configuration.
 fn certify<F: Files>(
     alloc: Global,
     subject: Subject<'_>,
@@ -244,7 +244,7 @@ fn certify<F: Files>(
     answer
 }
 
-/// What a certificate in a file shows of the program in another.
+/// Checks the certificate in a file for the program in another.
 fn check<F: Files>(
     alloc: Global,
     claim: Claim<'_>,

@@ -14,24 +14,24 @@ use apd_words::Source;
 use bpf_regions::Shapes;
 use std::alloc::Global;
 
-/// What a configuration tells of the maps and the draws.
+/// The maps and the first draw of a configuration.
 #[derive(Drop)]
 pub(crate) struct Setup {
-    /// The maps' shapes, by number.
+    /// The maps' shapes; a map's number is its index.
     pub shapes: Shapes,
-    /// The word that is drawn first.
+    /// The first number drawn.
     pub draw: u64,
 }
 
-/// What is read of a source.
+/// What is read from a source.
 #[derive(Drop)]
 pub(crate) struct Loaded {
-    /// What is kept of the code: all that decides what is said of it.
+    /// What is kept of the code: as much as decides its verdict.
     pub code: Vec<u8>,
     pub setup: Setup,
 }
 
-/// The bytes of a file of this kind.
+/// Reads a file of this kind.
 pub(crate) fn read<F: Files>(
     alloc: Global,
     path: &str,
@@ -58,7 +58,7 @@ fn no_shapes(alloc: Global) -> Shapes
     }
 }
 
-/// The setup of a configuration.
+/// Reads the setup of a configuration.
 fn configured<F: Files>(alloc: Global, path: &str, files: &mut F) -> Result<Setup, ProgramFault>
     ensures setup { IfOk result (λ setup. HoldsSetup (F.held files.old) path.now setup) }
     ensures fault { IfErr result (IsMemoryOr (HasBadConfiguration (F.held files.old) path.now)) }
@@ -74,7 +74,7 @@ fn configured<F: Files>(alloc: Global, path: &str, files: &mut F) -> Result<Setu
     }
 }
 
-/// The setup of a configuration. Without one there are no maps, and 0 is drawn first.
+/// Reads the setup of a configuration. Without one, there are no maps, and 0 is drawn first.
 fn setup_of<F: Files>(
     alloc: Global,
     config: Option<&str>,
@@ -94,7 +94,7 @@ fn setup_of<F: Files>(
     }
 }
 
-/// What is kept of the code that a file spells: all that decides what is said of it.
+/// Reads code from a file, and keeps as much of it as decides its verdict.
 fn code<F: Files>(alloc: Global, path: &str, files: &mut F) -> Result<Vec<u8>, ProgramFault>
     ensures code { IfOk result
         (λ code. HoldsKept (2 ^ 17) (F.held files.old) path.now code.items) }
@@ -107,7 +107,7 @@ fn code<F: Files>(alloc: Global, path: &str, files: &mut F) -> Result<Vec<u8>, P
     }
 }
 
-/// The code and the setup of a source.
+/// Reads the setup and the code of a source.
 pub(crate) fn load<F: Files>(
     alloc: Global,
     source: Source<'_>,
@@ -122,7 +122,7 @@ pub(crate) fn load<F: Files>(
     Ok(Loaded { code, setup })
 }
 
-/// The certificate that a file spells.
+/// Reads the certificate that a file spells.
 pub(crate) fn certificate<F: Files>(
     alloc: Global,
     path: &str,
@@ -139,7 +139,7 @@ pub(crate) fn certificate<F: Files>(
     }
 }
 
-/// The bytes that the hex digits of a word spell.
+/// The bytes that a word's hex digits spell.
 pub(crate) fn frame(alloc: Global, word: &str) -> Result<Vec<u8>, ProgramFault>
     ensures frame { IfOk result (λ bytes. decode_of word.now ≡ Ok bytes.items) }
     ensures fault { IfErr result (IsMemoryOr (IsNoFrame word.now)) }

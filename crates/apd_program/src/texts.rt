@@ -1,4 +1,4 @@
-//! Code from text and text from code: the commands `asm` and `disasm`.
+//! Assembling text and disassembling code: the commands `asm` and `disasm`.
 
 ghost use Rattle.std.specs.Prelude.{◌≡◌, ◌==◌, ◌<◌, ◌^◌, IfOk, IfErr, count_by};
 ghost use Rattle.apd_program.specs.Programs.{IsOfProgram};
@@ -13,8 +13,8 @@ use bpf_text::AsmFault;
 use std::alloc::Global;
 use std::str;
 
-/// The code of a file's bytes, or its first faulty line. The line with the first byte that isn't
-/// UTF-8 has fault 20.
+/// Assembles a file's bytes, or returns the first faulty line. The line with the first byte that isn't UTF-8 has
+/// fault 20.
 pub(crate) fn assemble(alloc: Global, text: &[u8]) -> Result<Answer, ProgramFault>
     ensures assembly { IfOk result (IsAssembly text.now) }
     ensures memory { IfErr result (λ e. e ≡ ProgramFault.NoMemory) }
@@ -66,7 +66,7 @@ fn assembled(alloc: Global, text: &str) -> Result<Answer, ProgramFault>
     }
 }
 
-/// The text of the program that the code spells, for maps of these shapes, with slots or without.
+/// Disassembles the program that the code spells for maps of these shapes, with slots or without.
 pub(crate) fn disassemble(
     alloc: Global,
     code: &[u8],
@@ -112,7 +112,7 @@ fn written(alloc: Global, program: &Program) -> Result<Answer, ProgramFault>
     }
 }
 
-/// All slots of code, with their numbers or without.
+/// Lists all slots of code, with numbers or without.
 pub(crate) fn list_raw(alloc: Global, code: &[u8], slots: bool) -> Result<Answer, ProgramFault>
     ensures listing { IfOk result (IsRawListing slots code.now) }
     ensures memory { IfErr result (λ e. e ≡ ProgramFault.NoMemory) }

@@ -1,12 +1,7 @@
-//! The verdict on code, and the run of what is admitted: the commands `verify` and `trace`.
+//! Verifying code, and running what is admitted: the commands `verify` and `trace`.
 
-ghost use Rattle.std.specs.Prelude.{◌≡◌, ◌≤◌, ◌^◌, IfOk, IfErr};
-ghost use Rattle.bpf_decode.specs.Program.{Begins};
-ghost use Rattle.bpf_model.specs.Run.{Safe};
-ghost use Rattle.bpf_absstate.specs.View.{entry_view};
-ghost use Rattle.bpf_plain.specs.Clear.{IsClear};
-ghost use Rattle.bpf_plain.specs.Walks.{IsPlain, HasWalk};
-ghost use Rattle.bpf_rules.specs.declared.fault.Fault.{Fault};
+ghost use Rattle.std.specs.Prelude.{◌≡◌, IfOk, IfErr};
+ghost use Rattle.bpf_verifier.specs.Admission.{IsSafeBudget, IsRefusal};
 ghost use Rattle.bpf_verifier.specs.Limits.{nearest};
 ghost use Rattle.apd_program.specs.Programs.{IsOfProgram};
 ghost use Rattle.apd_program.specs.Verifying.{IsVerified, IsRunWithin};
@@ -18,30 +13,29 @@ use apd_text::trace_text;
 use apd_words::Terms;
 use bpf_decode::{Program, decode};
 use bpf_machine::Accepted;
-use bpf_plain::laws::plain_law;
 use bpf_regions::{Context, Frame, Shapes};
 use bpf_verifier::{Refusal, StateLimit, explain_within, verify_within};
 use std::alloc::Global;
 
-/// What a program is verified for, and run on.
+/// How a program is verified, and the input of its run.
 #[derive(Clone, Copy)]
 pub(crate) struct Stimulus<'a> {
     pub terms: Terms,
     pub frame: &'a Frame<'a>,
     pub context: &'a Context,
-    /// The word that is drawn first.
+    /// The first number drawn.
     pub draw: u64,
 }
 
-/// How many states may be examined.
+/// The most states that the verifier may examine, 1 to 4194304.
 pub(crate) fn limit_of(terms: Terms) -> StateLimit
     ensures is { result ≡ nearest terms.states }
 {
     StateLimit::nearest(terms.states)
 }
 
-/// Admits a program, or says why not. The program is explored once, and what the reason tells of it, if that is wanted, is
-/// told of the same exploration.
+/// Admits a program, or returns why not. The program is explored once, and the reason, if it is wanted, describes
+/// that exploration.
 fn admit(
     alloc: Global,
     program: Program,
@@ -50,18 +44,11 @@ fn admit(
 ) -> Result<Accepted, Refusal>
     ensures code { IfOk result (λ accepted. accepted.code ≡ program) }
     ensures hook { IfOk result (λ accepted. accepted.hook ≡ terms.hook) }
-    ensures safe { IfOk result (λ accepted. Safe program.slots program.shapes accepted.budget) }
-    ensures small { IfOk result (λ accepted. accepted.budget ≤ nearest terms.states) }
-    ensures walk { IfOk result
-        (λ accepted. IsPlain program.slots → HasWalk program.slots accepted.budget) }
-    ensures plain { IfErr result
-        (λ e. nearest terms.states ≡ 2 ^ 22 → IsPlain program.slots → e.fault ≡ Fault.NoMemory) }
-    ensures begins { IfErr result (λ e. Begins program.slots e.pc) }
-    ensures clear { IfErr result
-        (λ e. IsClear program entry_view (nearest terms.states) → e.fault ≡ Fault.NoMemory) }
+    ensures budget { IfOk result
+        (λ accepted. IsSafeBudget program (nearest terms.states) accepted.budget) }
+    ensures refused { IfErr result (IsRefusal program (nearest terms.states)) }
 {
     program.whole();
-    plain_law();
     let limit = limit_of(terms);
     if !reason.is_wanted() {
         return verify_within(alloc, program, terms.hook, limit);
@@ -77,7 +64,7 @@ fn admit(
     }
 }
 
-/// The verifier's verdict on a program.
+/// Verifies a program.
 fn admitted(
     alloc: Global,
     program: Program,
@@ -95,7 +82,7 @@ fn admitted(
     }
 }
 
-/// The verdict on code, for maps of these shapes. The reason is told where it is asked for.
+/// Verifies code, with maps of these shapes. Sets the reason if it is wanted.
 pub(crate) fn verify(
     alloc: Global,
     code: &[u8],
@@ -116,7 +103,7 @@ pub(crate) fn verify(
     }
 }
 
-/// The run of a program on a frame, or the verifier's refusal.
+/// Runs a program on a frame, or returns the verifier's refusal.
 fn run(
     alloc: Global,
     program: Program,
@@ -142,7 +129,7 @@ fn run(
     }
 }
 
-/// The run of the program that the code spells, on a frame.
+/// Runs the program that the code spells on a frame, if it is admitted.
 pub(crate) fn trace(
     alloc: Global,
     code: &[u8],

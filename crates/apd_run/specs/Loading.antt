@@ -1,16 +1,14 @@
 -- What a load does and returns.
-use Rattle.std.specs.Prelude.{◌≡◌, ◌≢◌, ◌≤◌, ◌^◌, ℕ, List, length, Some}
+use Rattle.std.specs.Prelude.{◌≡◌, ◌≢◌, ◌≤◌, ℕ, List, length, Some}
 use Rattle.bpf_regions.specs.declared.hooks.Hook.{Hook}
-use Rattle.bpf_decode.specs.Program.{Code, Spells, Begins}
+use Rattle.bpf_decode.specs.Program.{Code, Spells}
 use Rattle.bpf_decode.specs.Answer.{Refuses}
 use Rattle.bpf_decode.specs.declared.fault.DecodeFault.{DecodeFault}
 use Rattle.bpf_decode.specs.declared.fault.DecodeFault.TheVariants as decode
 use Rattle.bpf_model.specs.Run.{Safe}
 use Rattle.bpf_machine.specs.Verified.{Verified}
-use Rattle.bpf_absstate.specs.View.{entry_view}
-use Rattle.bpf_plain.specs.Clear.{IsClear}
-use Rattle.bpf_plain.specs.Walks.{IsPlain}
 use Rattle.bpf_rules.specs.declared.fault.Fault.TheVariants as verify
+use Rattle.bpf_verifier.specs.Admission.{IsRefusal}
 use Rattle.bpf_verifier.specs.declared.refusal.Refusal.{Refusal}
 use Rattle.versions.specs.Lists.{Beginning, with_load}
 use Rattle.versions.specs.Sets.{load}
@@ -38,14 +36,11 @@ pub data PutsInForce (hook : Hook) (a : Verified) (old new : Beginning) : Told �
   InForce : IsInForce hook a.code old new a.budget → PutsInForce hook a old new (Loaded a.budget (length a.code.slots))
   NoRoomToPut : new ≡ old → PutsInForce hook a old new Memory
 
--- the verifier refuses the program within the limit of states, so the program isn't clear within it, nor plain if the
--- limit is the greatest; nothing changes
+-- the verifier refuses the program within the limit of states, and nothing changes
 pub record IsRefused
     (limit : ℕ) (program : Code) (old new : Beginning) (refusal : Refusal) : Type 0 where
   pub reason : refusal.fault ≢ verify.NoMemory
-  pub place : Begins program.slots refusal.pc
-  pub not_plain : limit ≡ 2 ^ 22 → IsPlain program.slots → ⊥
-  pub not_clear : IsClear program entry_view limit → ⊥
+  pub of_verifier : IsRefusal program limit refusal
   pub unchanged : new ≡ old
 
 -- a load of a program, and its report

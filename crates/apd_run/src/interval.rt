@@ -1,4 +1,4 @@
-//! Intervals between two waits.
+//! Intervals: consecutive lines up to a `wait`, and at most 4096 of them.
 
 ghost use Rattle.std.specs.Prelude.{◌≡◌, ◌<◌, length, drop, vec_len, IfOk, OnOk, OnErr};
 ghost use Rattle.ap_books.specs.Counts.{Counts};

@@ -1,4 +1,4 @@
-//! Runs of scripts: the commands of a script, its intervals from one `wait` to the next, the access point with its
+//! Runs of scripts: the commands of a script, its intervals (up to a `wait` or 4096 lines), the access point with its
 //! worker threads, and the messages about a run.
 //!
 //! Main calls: `run` and `live`, for the commands `apd run` and `apd live`, and `run_script`, for any access point. They write, for each interval,

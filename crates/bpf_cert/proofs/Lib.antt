@@ -7,3 +7,4 @@ pub mod Builds
 pub mod Roomy
 pub mod Free
 pub mod Entries
+pub mod Uncertified

@@ -1,10 +1,14 @@
 -- When a certificate's bytes show that a program is safe.
-use Rattle.std.specs.Prelude.{◌≡◌, ◌≤◌, ◌^◌, ℕ, ◌+◌, ℤ, List, drop, map, Result, Ok, Err, Option, Some, IfSome, MatchOption, ◌<◌}
+use Rattle.std.specs.Prelude.{◌≡◌, ◌⊎◌, ◌≤◌, ◌^◌, ℕ, ◌+◌, ℤ, List, drop, map, Result, Ok, Err, Option, Some, IfSome, MatchOption, ◌<◌}
 use Rattle.std.specs.List.{All}
 use Rattle.bpf_insn.specs.declared.insn.Insn.TheVariants as insn
 use Rattle.bpf_regions.specs.declared.hooks.Hook.{Hook}
 use Rattle.bpf_decode.specs.Program.{Code, Holds, Begins, Spells as SpellsCode}
 use Rattle.bpf_machine.specs.Verified.{Verified}
+use Rattle.bpf_absstate.specs.View.{entry_view}
+use Rattle.bpf_plain.specs.Clear.{IsClear}
+use Rattle.bpf_rules.specs.declared.fault.Fault.TheVariants as fault
+use Rattle.bpf_verifier.specs.declared.refusal.Refusal.{Refusal}
 use Rattle.bpf_cert_format.specs.Answers.{Spells}
 use Rattle.bpf_cert_format.specs.declared.frame.Frame.{Frame}
 use Rattle.bpf_cert_format.specs.Views.{EntryView, CertificateView}
@@ -42,6 +46,16 @@ pub record Covered (c : Code) (hook : Hook) (bytes : List ℕ) (b : ℕ) : Type 
   pub spelled : Spells c.shapes bytes certificate
   pub is_for : IsFor c hook certificate
   pub shows : Shows c certificate.entries b
+
+-- with some budget, the bytes show that the program is safe
+abbrev pub IsCertificate : Verified → List ℕ → Type 0
+IsCertificate a bytes = (b : ℕ) × Covered a.code a.hook bytes b
+
+-- A refusal at an instruction. A program that is clear by the rules within the limit of states is refused only for lack
+-- of memory, or at slot 0.
+pub record IsUncertified (program : Code) (limit : ℕ) (refusal : Refusal) : Type 0 where
+  pub begins : Begins program.slots refusal.pc
+  pub clear : IsClear program entry_view limit → (refusal.fault ≡ fault.NoMemory) ⊎ (refusal.pc ≡ 0)
 
 -- why bytes are refused: the first of these that applies; lack of memory says nothing
 abbrev pub Refuses : Code → Hook → List ℕ → CertFault → Type 0

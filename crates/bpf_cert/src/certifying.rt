@@ -1,11 +1,7 @@
 //! Makes certificates: explores an admitted program again, and writes down what was found.
 
-ghost use Rattle.std.specs.Prelude.{◌≡◌, ◌⊎◌, ℕ, IfOk, IfErr};
-ghost use Rattle.bpf_decode.specs.Program.{Begins};
-ghost use Rattle.bpf_absstate.specs.View.{entry_view};
-ghost use Rattle.bpf_plain.specs.Clear.{IsClear};
-ghost use Rattle.bpf_rules.specs.declared.fault.Fault.{Fault};
-ghost use Rattle.bpf_cert.specs.Certified.{Covered};
+ghost use Rattle.std.specs.Prelude.{◌≡◌, ◌^◌, ℕ, IfOk, IfErr};
+ghost use Rattle.bpf_cert.specs.Certified.{Covered, IsCertificate, IsUncertified};
 
 use crate::checking::certified_budget;
 use crate::describing::described;
@@ -103,31 +99,23 @@ fn proved(alloc: Global, program: &Program, hook: Hook, bytes: Vec<u8>) -> Resul
 /// ones. The certificate has been checked: `check` accepts it, unless memory is lacking.
 ///
 /// A program that `verify` refuses is refused here too; one admitted through `check` may be such a program. 36 at slot
-/// 0 can also mean that its states don't fit a certificate.
+/// 0 can also mean that its states don't fit a certificate. A program whose states, each counted once for every path to
+/// it, are within the limit of states and meet no fault is refused only for lack of memory, or at slot 0.
 pub fn certificate(alloc: Global, accepted: &Accepted) -> Result<Vec<u8>, Refusal>
-    // The bytes show, with some budget, that the program is safe.
-    ensures covered { IfOk result
-        (λ bytes. (b : ℕ) × Covered accepted.now.code accepted.now.hook bytes.items b) }
-    ensures begins { IfErr result (λ e. Begins accepted.now.code.slots e.pc) }
+    ensures certificate { IfOk result (λ bytes. IsCertificate accepted.now bytes.items) }
+    ensures refused { IfErr result (IsUncertified accepted.now.code (2 ^ 22)) }
 {
     certificate_within(alloc, accepted, StateLimit::MOST)
 }
 
 /// Like `certificate`, but examines at most `limit` states: a program that needs more is refused as by `verify_within`.
-/// If its states, each counted once for every path to it, are at most the limit and meet no fault, it is refused only
-/// for lack of memory, or at slot 0.
 pub fn certificate_within(
     alloc: Global,
     accepted: &Accepted,
     limit: StateLimit,
 ) -> Result<Vec<u8>, Refusal>
-    // The bytes show, with some budget, that the program is safe.
-    ensures covered { IfOk result
-        (λ bytes. (b : ℕ) × Covered accepted.now.code accepted.now.hook bytes.items b) }
-    ensures begins { IfErr result (λ e. Begins accepted.now.code.slots e.pc) }
-    ensures clear { IfErr result
-        (λ e. IsClear accepted.now.code entry_view limit → (e.fault ≡ Fault.NoMemory)
-        ⊎ (e.pc ≡ 0)) }
+    ensures certificate { IfOk result (λ bytes. IsCertificate accepted.now bytes.items) }
+    ensures refused { IfErr result (IsUncertified accepted.now.code limit) }
 {
     let program = accepted.program();
     let hook = accepted.hook();

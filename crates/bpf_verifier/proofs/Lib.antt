@@ -8,3 +8,4 @@ pub mod Tables
 pub mod Walking
 pub mod Folding
 pub mod Tracing
+pub mod Admitting

@@ -1,3 +1,4 @@
+pub mod Admission
 pub mod Clear
 pub mod Counting
 pub mod Folded

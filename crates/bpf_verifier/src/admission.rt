@@ -1,12 +1,7 @@
 //! Admits programs.
 
-ghost use Rattle.std.specs.Prelude.{◌≡◌, ◌≤◌, ◌^◌, IfOk, IfErr};
-ghost use Rattle.bpf_decode.specs.Program.{Begins};
-ghost use Rattle.bpf_model.specs.Run.{Safe};
-ghost use Rattle.bpf_absstate.specs.View.{entry_view};
-ghost use Rattle.bpf_plain.specs.Clear.{IsClear};
-ghost use Rattle.bpf_rules.specs.declared.fault.Fault.{Fault};
-ghost use Rattle.bpf_plain.specs.Walks.{IsPlain, HasWalk};
+ghost use Rattle.std.specs.Prelude.{◌≡◌, ◌^◌, IfOk, IfErr};
+ghost use Rattle.bpf_verifier.specs.Admission.{IsSafeBudget, IsRefusal};
 
 use crate::exploration::find_budget;
 use crate::limit::StateLimit;
@@ -26,14 +21,8 @@ use std::alloc::Global;
 pub fn verify(alloc: Global, program: Program, hook: Hook) -> Result<Accepted, Refusal>
     ensures code { IfOk result (λ accepted. accepted.code ≡ program) }
     ensures hook { IfOk result (λ accepted. accepted.hook ≡ hook) }
-    ensures safe { IfOk result (λ accepted. Safe program.slots program.shapes accepted.budget) }
-    ensures small { IfOk result (λ accepted. accepted.budget ≤ 2 ^ 22) }
-    ensures walk { IfOk result
-        (λ accepted. IsPlain program.slots → HasWalk program.slots accepted.budget) }
-    ensures plain { IfErr result (λ e. IsPlain program.slots → e.fault ≡ Fault.NoMemory) }
-    ensures begins { IfErr result (λ e. Begins program.slots e.pc) }
-    ensures clear { IfErr result
-        (λ e. IsClear program entry_view (2 ^ 22) → e.fault ≡ Fault.NoMemory) }
+    ensures budget { IfOk result (λ accepted. IsSafeBudget program (2 ^ 22) accepted.budget) }
+    ensures refused { IfErr result (IsRefusal program (2 ^ 22)) }
 {
     verify_within(alloc, program, hook, StateLimit::MOST)
 }
@@ -51,15 +40,8 @@ pub fn verify_within(
 ) -> Result<Accepted, Refusal>
     ensures code { IfOk result (λ accepted. accepted.code ≡ program) }
     ensures hook { IfOk result (λ accepted. accepted.hook ≡ hook) }
-    ensures safe { IfOk result (λ accepted. Safe program.slots program.shapes accepted.budget) }
-    ensures small { IfOk result (λ accepted. accepted.budget ≤ limit) }
-    ensures walk { IfOk result
-        (λ accepted. IsPlain program.slots → HasWalk program.slots accepted.budget) }
-    ensures plain { IfErr result
-        (λ e. limit ≡ 2 ^ 22 → IsPlain program.slots → e.fault ≡ Fault.NoMemory) }
-    ensures begins { IfErr result (λ e. Begins program.slots e.pc) }
-    ensures clear { IfErr result
-        (λ e. IsClear program entry_view limit → e.fault ≡ Fault.NoMemory) }
+    ensures budget { IfOk result (λ accepted. IsSafeBudget program limit accepted.budget) }
+    ensures refused { IfErr result (IsRefusal program limit) }
 {
     program.whole();
     plain_law();

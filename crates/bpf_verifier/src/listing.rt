@@ -1,12 +1,7 @@
 //! The states that an exploration finishes.
 
-ghost use Rattle.std.specs.Prelude.{◌≡◌, ◌≤◌, ◌^◌, ℕ, IfOk, IfErr, OnOk};
-ghost use Rattle.bpf_decode.specs.Program.{Begins};
-ghost use Rattle.bpf_model.specs.Run.{Safe};
-ghost use Rattle.bpf_absstate.specs.View.{entry_view};
-ghost use Rattle.bpf_plain.specs.Clear.{IsClear};
-ghost use Rattle.bpf_plain.specs.Walks.{IsPlain, HasWalk};
-ghost use Rattle.bpf_rules.specs.declared.fault.Fault.{Fault};
+ghost use Rattle.std.specs.Prelude.{◌≡◌, ◌^◌, ℕ, IfOk, IfErr, OnOk};
+ghost use Rattle.bpf_verifier.specs.Admission.{IsSafeBudget, IsRefusal};
 
 use crate::exploration::{Exploration, observed_budget};
 use crate::limit::StateLimit;
@@ -24,12 +19,8 @@ use std::alloc::{AllocError, Global};
 ///
 /// The contract says nothing about the list, only that the program is safe: whoever uses the list checks it.
 pub fn explore(alloc: Global, program: &Program, _hook: Hook) -> Result<Vec<Entry>, Refusal>
-    ensures safe { OnOk result
-        ((b : ℕ) × (b ≤ 2 ^ 22) × Safe program.now.slots program.now.shapes b) }
-    ensures plain { IfErr result (λ e. IsPlain program.now.slots → e.fault ≡ Fault.NoMemory) }
-    ensures begins { IfErr result (λ e. Begins program.now.slots e.pc) }
-    ensures clear { IfErr result
-        (λ e. IsClear program.now entry_view (2 ^ 22) → e.fault ≡ Fault.NoMemory) }
+    ensures budget { OnOk result ((b : ℕ) × IsSafeBudget program.now (2 ^ 22) b) }
+    ensures refused { IfErr result (IsRefusal program.now (2 ^ 22)) }
 {
     explore_within(alloc, program, StateLimit::MOST)
 }
@@ -40,13 +31,8 @@ pub fn explore_within(
     program: &Program,
     limit: StateLimit,
 ) -> Result<Vec<Entry>, Refusal>
-    ensures safe { OnOk result
-        ((b : ℕ) × (b ≤ limit) × Safe program.now.slots program.now.shapes b) }
-    ensures plain { IfErr result
-        (λ e. limit ≡ 2 ^ 22 → IsPlain program.now.slots → e.fault ≡ Fault.NoMemory) }
-    ensures begins { IfErr result (λ e. Begins program.now.slots e.pc) }
-    ensures clear { IfErr result
-        (λ e. IsClear program.now entry_view limit → e.fault ≡ Fault.NoMemory) }
+    ensures budget { OnOk result ((b : ℕ) × IsSafeBudget program.now limit b) }
+    ensures refused { IfErr result (IsRefusal program.now limit) }
 {
     program.whole();
     plain_law();
@@ -78,15 +64,11 @@ pub fn explain_within(
     program: &Program,
     limit: StateLimit,
 ) -> Result<Explanation, AllocError>
-    ensures safe { IfOk result (λ x. IfOk x.verdict (Safe program.now.slots program.now.shapes)) }
-    ensures small { IfOk result (λ x. IfOk x.verdict (λ budget. budget ≤ limit)) }
-    ensures walk { IfOk result (λ x. IfOk x.verdict
-        (λ budget. IsPlain program.now.slots → HasWalk program.now.slots budget)) }
-    ensures begins { IfOk result (λ x. IfErr x.verdict (λ e. Begins program.now.slots e.pc)) }
-    ensures clear { IfOk result
-        (λ x. IfErr x.verdict (λ e. IsClear program.now entry_view limit → e.fault
-        ≡ Fault.NoMemory)) }
+    ensures budget { IfOk result (λ x. IfOk x.verdict (IsSafeBudget program.now limit)) }
+    ensures refused { IfOk result (λ x. IfErr x.verdict (IsRefusal program.now limit)) }
 {
+    program.whole();
+    plain_law();
     let mut exploration = Exploration::new(alloc, program, Observer::listening(alloc))?;
     let verdict = observed_budget(alloc, program, &mut exploration, limit);
     Ok(explained(alloc, verdict, exploration.into_observer()))

@@ -32,11 +32,13 @@ flags_after header words =
 abbrev pub flags_of : List ℕ → Option ℕ
 flags_of header = option_and_then (flags_after header) (words_len (drop 4 header))
 
--- a frame without its frame check sequence of 4 bytes, which it has if bit 4 of the flags is set
+-- a frame without its frame check sequence of 4 bytes, which it has if bit 4 of the flags is set; bit 6 says that the
+-- sequence is wrong
 abbrev pub without_check : ℕ → List ℕ → Result (List ℕ) LeftOut
 without_check flags frame =
+    (if flags / 64 % 2 == 1 then Err out.WrongCheckSequence else
     (if flags / 16 % 2 == 0 then Ok frame else
-    (if nat_lt (length frame) 4 then Err out.CheckSequence else Ok (take (length frame - 4) frame)))
+    (if nat_lt (length frame) 4 then Err out.CheckSequence else Ok (take (length frame - 4) frame))))
 
 -- the frame after a header with these flags; a header whose flags are cut is damaged
 abbrev pub with_flags : Option ℕ → List ℕ → Result (List ℕ) LeftOut

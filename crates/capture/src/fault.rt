@@ -57,4 +57,7 @@ pub enum LeftOut {
     /// There are fewer bytes than a frame check sequence takes.
     #[error("the frame check sequence is cut")]
     CheckSequence,
+    /// The radiotap header says that the frame check sequence is wrong: the frame was received damaged.
+    #[error("the frame check sequence is wrong")]
+    WrongCheckSequence,
 }

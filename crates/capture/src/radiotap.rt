@@ -51,10 +51,13 @@ fn flags(header: &[u8]) -> Option<u8>
     header.get(flags_place(fields % 2 == 1, 4 + words)).copied()
 }
 
-/// A frame without its frame check sequence, if it has one.
+/// A frame without its frame check sequence, if it has one. A frame whose sequence is wrong is left out.
 fn without_check(flags: u8, frame: &[u8]) -> Result<&[u8], LeftOut>
     ensures is { bytes_in result ≡ without_check flags frame.now }
 {
+    if flags / 64 % 2 == 1 {
+        return Err(LeftOut::WrongCheckSequence);
+    }
     if flags / 16 % 2 == 0 {
         return Ok(frame);
     }

@@ -1,8 +1,8 @@
 //! Whole sessions of `apd`: each line of standard input is a command line, and its answer follows it.
 //!
-//! A line is words with one space between them; `""` is a word of no characters, an empty line has no words, and a
-//! line that begins with `#` is printed alone. What is written to standard error follows the answer, with `! ` before
-//! each line, and then the status, if it is not 0.
+//! A line is words with spaces between them; `""` is an empty word, an empty line has no words, and a line that
+//! begins with `#` is only printed. What is written to standard error follows the answer, with `! ` before each
+//! line, and then the status, if it isn't 0.
 #![tactic(auto)]
 
 use apd_files::RealFiles;
@@ -29,7 +29,7 @@ fn main(rt: HostRuntime) -> io::Result<()> {
     Ok(())
 }
 
-/// Answers a line: what is printed, what is told, and the status.
+/// Runs a line, and prints the answer, the messages and the status.
 fn answer<R, O>(rt: &R, alloc: Global, line: &str, out: O) -> io::Result<()>
 where
     R: Threads + Wait + Sync + Clock + Input + Print + Eprint + Files + AllocGlobal,
@@ -50,7 +50,7 @@ where
     Ok(())
 }
 
-/// Runs `apd` on the words of a line, and answers its status.
+/// Runs `apd` on the words of a line, and returns its status.
 fn perform<R, O, E>(
     rt: &R,
     alloc: Global,

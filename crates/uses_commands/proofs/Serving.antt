@@ -1,4 +1,4 @@
--- What is handed on and counts nothing.
+-- Reports that count nothing.
 use Rattle.std.proofs.Common.{◌≡◌, List, [], ◌∷◌, ◌++◌, refl, sym, ap, ◌∙◌, append_assoc, append-nil}
 use Rattle.ap_books.specs.Counts.{Counts, none, plus}
 use Rattle.ap_live.specs.Counting.{fate_counts, tally}
@@ -7,12 +7,12 @@ use Rattle.apd_run.specs.Tallies.{Serves}
 use Rattle.apd_run.proofs.Served.{tally_two}
 use Rattle.apd_run.proofs.Sums.{plus_three}
 
--- nothing was
+-- there was none
 pub serves_still : (xs ys : List Tagged) → ys ≡ xs → Serves none none xs ys
 unfolding tally
 serves_still xs ys is = record { tags = []; listed = is ∙ sym (append-nil xs); counts = refl }
 
--- one thing was
+-- there was one
 pub serves_one : (xs mid ys : List Tagged) (t : Tagged) → fate_counts t.fate ≡ none → mid ≡ xs → ys ≡ mid ++ t ∷ [] → Serves none none xs ys
 unfolding tally
 serves_one xs mid ys t is before after =
@@ -22,7 +22,7 @@ serves_one xs mid ys t is before after =
       counts = ap (λ (c : Counts). plus none (plus c none)) (sym is);
     }
 
--- and then more was
+-- and then there were more
 pub serves_more : (xs ys zs : List Tagged) → Serves none none xs ys → Serves none none ys zs → Serves none none xs zs
 serves_more xs ys zs h k =
     record {

@@ -1,4 +1,4 @@
-//! What `apd` answers for files in memory.
+//! Answers of `apd` for files in memory.
 
 use crate::same::{holds, same};
 use crate::told::{Told, answer, complains, repeated, tells};
@@ -8,7 +8,7 @@ use apd_program::apd_main;
 use std::alloc::Global;
 use std::process::Abort;
 
-/// Files in memory, by their names, and what is left of the open one, which is read in blocks of 7 bytes.
+/// Files in memory, by name, and the unread part of the open one, which is read in blocks of 7 bytes.
 #[derive(Drop)]
 struct Folder<'a> {
     files: &'a [(&'a str, &'a [u8])],
@@ -16,7 +16,7 @@ struct Folder<'a> {
     alloc: Global,
 }
 
-/// Files in memory, of which none is open.
+/// Files in memory; none is open.
 fn folder_of<'a>(files: &'a [(&'a str, &'a [u8])], alloc: Global) -> Folder<'a> {
     Folder {
         files,
@@ -57,7 +57,7 @@ impl Files for NoRoom {
     }
 }
 
-/// A program of two steps.
+/// A program of two instructions.
 const ONE: [(&str, &[u8]); 1] = [("one.hex", b"b700000001000000\n9500000000000000\n")];
 
 #[test]
@@ -85,7 +85,7 @@ fn without_words_it_tells_how_it_is_used(rt: HostRuntime) {
     holds(&rt, !told.err.is_empty(), "how it is used");
 }
 
-/// What `verify` answers where there is room for so much output.
+/// The result of `verify` if the output takes at most `room` bytes.
 fn verified_in(alloc: Global, room: usize) -> Told {
     let mut out = Narrow {
         taken: Vec::new(alloc),
@@ -114,7 +114,7 @@ fn leaves_a_beginning_where_a_write_fails(rt: HostRuntime) {
     }
 }
 
-/// Traces the program on a frame of so many bytes.
+/// Traces the program on a frame of `size` bytes.
 fn traced(rt: &impl Abort, alloc: Global, size: usize) -> Told {
     let digits = repeated(rt, alloc, "5a", size);
     let words = ["apd", "trace", "data", "one.hex", digits.as_str()];

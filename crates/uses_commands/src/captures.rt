@@ -5,7 +5,7 @@ use capture::{CaptureFault, LeftOut, Packet, read_capture};
 use std::alloc::Global;
 use std::process::Abort;
 
-/// Parts of a file one after the other.
+/// Concatenates parts of a file.
 fn joined(rt: &impl Abort, alloc: Global, parts: &[&[u8]]) -> Vec<u8> {
     let mut file = Vec::new(alloc);
     for part in parts {
@@ -14,13 +14,13 @@ fn joined(rt: &impl Abort, alloc: Global, parts: &[&[u8]]) -> Vec<u8> {
     file
 }
 
-/// Fails where a file isn't read as these packets.
+/// Fails if a file isn't read as these packets.
 fn reads(rt: &impl Abort, alloc: Global, file: &[u8], wanted: &[Packet<'_>]) {
     let packets = read_capture(alloc, file).ok().expect(rt, "a capture");
     same(rt, packets.as_slice(), wanted, "packets");
 }
 
-/// A header with big-endian numbers, nanoseconds and the link type 127, and three packets with radiotap headers.
+/// A header with big-endian numbers, nanoseconds and link type 127, and four packets with radiotap headers.
 const RADIOTAP: &[&[u8]] = &[
     &[
         0xa1, 0xb2, 0x3c, 0x4d, 0, 2, 0, 4, 0, 0, 0, 0, 0, 0, 0, 0, 0, 4, 0, 0, 0, 0, 0, 127,
@@ -32,6 +32,10 @@ const RADIOTAP: &[&[u8]] = &[
     // No time, two present words, the flags at 12 without a check sequence.
     &[0, 0, 0, 1, 0, 0, 0, 9, 0, 0, 0, 14, 0, 0, 0, 14],
     &[0, 0, 13, 0, 2, 0, 0, 0x80, 0, 0, 0, 0, 0, 0x49],
+    // Flags that say that the check sequence is wrong.
+    &[0, 0, 0, 1, 0, 0, 0, 9, 0, 0, 0, 14, 0, 0, 0, 14],
+    &[0, 0, 9, 0, 2, 0, 0, 0, 0x50],
+    &[0x4a, 1, 2, 3, 4],
     // A header that is longer than the packet.
     &[0, 0, 0, 1, 0, 0, 0, 9, 0, 0, 0, 8, 0, 0, 0, 8],
     &[0, 0, 9, 0, 0, 0, 0, 0],
@@ -49,25 +53,26 @@ fn check_sequences_are_taken_off(rt: HostRuntime) {
     let wanted = [
         packet(time, Ok(&[0x48])),
         packet(time, Ok(&[0x49])),
+        packet(time, Err(LeftOut::WrongCheckSequence)),
         packet(time, Err(LeftOut::Radiotap)),
     ];
     reads(&rt, rt.alloc(), &file, &wanted);
 }
 
-/// A section header with little-endian numbers, of version 1.0 and no known length.
+/// A section header with little-endian numbers, version 1.0 and no known length.
 const LITTLE_SECTION: [u8; 28] = [
     0x0a, 0x0d, 0x0d, 0x0a, 28, 0, 0, 0, 0x4d, 0x3c, 0x2b, 0x1a, 1, 0, 0, 0, 0xff, 0xff, 0xff,
     0xff, 0xff, 0xff, 0xff, 0xff, 28, 0, 0, 0,
 ];
 
-/// The same with big-endian numbers, of version 1.2.
+/// The same with big-endian numbers and version 1.2.
 const BIG_SECTION: [u8; 28] = [
     0x0a, 0x0d, 0x0d, 0x0a, 0, 0, 0, 28, 0x1a, 0x2b, 0x3c, 0x4d, 0, 1, 0, 2, 0xff, 0xff, 0xff,
     0xff, 0xff, 0xff, 0xff, 0xff, 0, 0, 0, 28,
 ];
 
-/// A little-endian interface of link type 105 that captures 3 bytes of a packet, named `a`, with times
-/// of this resolution.
+/// A little-endian interface of link type 105, named `a`, that captures 3 bytes of a packet, with times of this
+/// resolution.
 fn interface(resolution: u8) -> [u8; 40] {
     [
         1, 0, 0, 0, 40, 0, 0, 0, 105, 0, 0, 0, 3, 0, 0, 0, 2, 0, 1, 0, b'a', 0, 0, 0, 9, 0, 1, 0,
@@ -75,7 +80,7 @@ fn interface(resolution: u8) -> [u8; 40] {
     ]
 }
 
-/// A little-endian packet of two bytes on interface 0, at the time 2^32 + 2 of its units.
+/// A little-endian packet of two bytes on interface 0, at time 2^32 + 2 in its units.
 const ENHANCED: [u8; 36] = [
     6, 0, 0, 0, 36, 0, 0, 0, 0, 0, 0, 0, 1, 0, 0, 0, 2, 0, 0, 0, 2, 0, 0, 0, 2, 0, 0, 0, 0xaa,
     0xbb, 0, 0, 36, 0, 0, 0,
@@ -86,8 +91,7 @@ const SIMPLE: [u8; 20] = [
     3, 0, 0, 0, 20, 0, 0, 0, 3, 0, 0, 0, 0xcc, 0xdd, 0xee, 0, 20, 0, 0, 0,
 ];
 
-/// A section with an interface of this resolution, a block of type 5, which is none that is read, and
-/// two packets.
+/// A section with an interface of this resolution, a block of type 5, which isn't read, and two packets.
 fn section(rt: &impl Abort, alloc: Global, resolution: u8) -> Vec<u8> {
     let interface = interface(resolution);
     let other = [5, 0, 0, 0, 12, 0, 0, 0, 12, 0, 0, 0];
@@ -95,7 +99,7 @@ fn section(rt: &impl Abort, alloc: Global, resolution: u8) -> Vec<u8> {
     joined(rt, alloc, &parts)
 }
 
-/// A section with an interface of link type 127 in microseconds, and a packet of it whose radiotap header is cut.
+/// A section with an interface of link type 127 in microseconds, and a packet on it whose radiotap header is cut.
 const CUT_HEADER: &[&[u8]] = &[
     &BIG_SECTION,
     &[
@@ -119,8 +123,8 @@ fn sections_are_read(rt: HostRuntime) {
     reads(&rt, alloc, &file, &wanted);
 }
 
-/// Resolutions, and the time of the first packet in nanoseconds: the units are seconds, 100 ns, tenths of a nanosecond,
-/// 2^-10 s and 2^-63 s.
+/// Resolutions, and the time of the first packet in nanoseconds: the units are seconds, 100 ns, tenths of a
+/// nanosecond, 2^-10 s and 2^-63 s.
 const RESOLUTIONS: &[(u8, u64)] = &[
     (0, 4_294_967_298_000_000_000),
     (7, 429_496_729_800),
@@ -129,7 +133,7 @@ const RESOLUTIONS: &[(u8, u64)] = &[
     (0xbf, 0),
 ];
 
-/// The fault of a file, None where it is read.
+/// The fault of a file; `None` if it is read.
 fn fault_of(alloc: Global, file: &[u8]) -> Option<CaptureFault> {
     read_capture(alloc, file).err()
 }
@@ -155,7 +159,7 @@ fn times_are_of_any_resolution(rt: HostRuntime) {
 /// Where each block of a section begins, and its end.
 const STARTS: [usize; 6] = [0, 28, 68, 80, 116, 136];
 
-/// The fault of a section that is cut at this length: that of the block in which it is cut, if it is cut in one.
+/// The fault of a section cut at this length: that of the cut block, or `None` between blocks.
 fn fault_of_cut(len: usize) -> Option<CaptureFault> {
     let mut last = 0;
     for start in STARTS {

@@ -9,7 +9,7 @@ use std::process::Abort;
 /// A configuration without maps.
 const BASE: &str = "bssid = \"02000000000A\"\nssid = \"lab\"\nrates = \"82848b96\"\ndraw = 0\n";
 
-/// A configuration that is read.
+/// Reads a configuration.
 fn read(rt: &impl Abort, alloc: Global, text: &str) -> Configuration {
     read_configuration(alloc, text.as_bytes())
         .ok()
@@ -48,7 +48,7 @@ fn reads_each_key(rt: HostRuntime) {
     same(&rt, read.maps.as_slice(), SHAPES.as_slice(), "maps");
 }
 
-/// The address and the draw of a configuration, and how many rates, bytes of a name and maps it has.
+/// A configuration's address and draw, and the numbers of its rates, of bytes of its name, and of its maps.
 fn sizes_of(rt: &impl Abort, alloc: Global, text: &str) -> ([u8; 6], u64, [usize; 3]) {
     let read = read(rt, alloc, text);
     let sizes = [read.rates.len(), read.ssid.len(), read.maps.len()];
@@ -67,7 +67,7 @@ fn reads_values_at_their_limits(rt: HostRuntime) {
     same(&rt, found, ([0; 6], 0, [1, 0, 0]), "the smallest");
 }
 
-/// Fails where a text is read, or refused for another reason.
+/// Fails if a text is read, or refused for another reason.
 fn refuses(rt: &impl Abort, alloc: Global, text: &[u8], why: &str) {
     let fault = read_configuration(alloc, text).err().expect(rt, why);
     let shown = format!(in alloc; "{fault}").expect(rt, "memory");
@@ -81,7 +81,7 @@ const LINES: [&str; 3] = [
     "rates = \"01\"\n",
 ];
 
-/// What a configuration is, and how its fault is told.
+/// Configurations, and how their faults are told.
 const TOLD: &[(&str, &str)] = &[
     ("bssid = 1\n", "line 1: `bssid` must be 12 hex digits"),
     (
@@ -104,7 +104,7 @@ fn tells_a_fault_with_its_line(rt: HostRuntime) {
     }
 }
 
-/// What comes after a configuration without maps, and how the fault is told.
+/// What follows a configuration without maps, and how the fault is told.
 const TOLD_OF_A_MAP: &[(&str, &str)] = &[
     (
         "[[map]]\nentries = 0\n",
@@ -137,7 +137,7 @@ fn tells_a_fault_of_a_map_with_its_line(rt: HostRuntime) {
     }
 }
 
-/// How many of those lines come first, what comes next, and the text of the fault.
+/// The number of those lines that come first, what follows, and the text of the fault.
 const AT_THE_TOP: &[(usize, &str, &str)] = &[
     (0, "", "`bssid` is missing"),
     (
@@ -191,7 +191,7 @@ fn names_the_key_at_the_top(rt: HostRuntime) {
 
 const NO_MAPS: &str = "`map` must be tables `[[map]]`, at most 16";
 
-/// What comes after a configuration without maps, and the text of the fault.
+/// What follows a configuration without maps, and the text of the fault.
 const IN_A_MAP: &[(&str, &str)] = &[
     ("name = 1\n", "unknown key `name`"),
     ("[map]\n", NO_MAPS),
@@ -243,7 +243,7 @@ fn names_the_key_in_a_map(rt: HostRuntime) {
     refuses(&rt, alloc, b"ssid = \"\xff\"", "not UTF-8");
 }
 
-/// A configuration with so many maps.
+/// A configuration with `count` maps.
 fn with_maps(rt: &impl Abort, alloc: Global, count: usize) -> String {
     let mut text = String::from_str(alloc, BASE).expect(rt, "memory");
     for _ in 0..count {

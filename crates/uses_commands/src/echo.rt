@@ -1,5 +1,5 @@
-//! An access point that hands each tick on: as refused, or, if it has no units, as not handled. It is what `run_script`
-//! asks of one.
+//! An access point that reports each tick as refused, or, if it has no units, as not handled. It does what
+//! `run_script` requires of one.
 
 ghost use Rattle.std.specs.Prelude.{◌≡◌};
 ghost use Rattle.ap_books.specs.Counts.{none};
@@ -15,7 +15,7 @@ use apd_text::{Told, Unread};
 use std::alloc::AllocError;
 use std::sync::{Arc, Mutex, Wait};
 
-/// A tick that waits: its line and its units.
+/// A waiting tick: its line and its units.
 #[derive(Clone, Copy)]
 pub struct Tick {
     pub line: u64,
@@ -37,7 +37,7 @@ fn taken<R: Wait>(rt: &R, place: &Place) -> Option<Tick> {
     tick
 }
 
-/// What becomes of a tick.
+/// The fate of a tick.
 fn fate_of(units: u32) -> Fate
     ensures nothing { fate_counts result ≡ none }
 {
@@ -48,7 +48,7 @@ fn fate_of(units: u32) -> Fate
     }
 }
 
-/// Hands on the tick of a place, if there is one. True where there was none.
+/// Reports the tick of a place, if there is one; returns `true` if there is none.
 fn list_tick<R: Wait>(rt: &R, place: &Place, list: &mut Vec<Tagged>) -> Result<bool, AllocError>
     ensures { Serves none none list.old.items list.new.items }
 {
@@ -66,7 +66,7 @@ fn list_tick<R: Wait>(rt: &R, place: &Place, list: &mut Vec<Tagged>) -> Result<b
     }
 }
 
-/// Hands on ticks until there is none.
+/// Reports ticks until there is none.
 fn list_ticks<R: Wait>(rt: &R, place: &Place, list: &mut Vec<Tagged>) -> Result<(), AllocError>
     ensures { Serves none none list.old.items list.new.items }
 {
@@ -88,14 +88,14 @@ impl Serving for Echo {
     }
 }
 
-/// A place for each worker, and how many workers have their rights.
+/// A place for each worker, and the number of workers not dismissed.
 #[derive(Drop)]
 pub struct Places {
     pub places: Vec<Place>,
     pub workers: u64,
 }
 
-/// Puts a tick into the place of its line. False where another waits there.
+/// Puts a tick into the place of its line; returns `false` if another waits there.
 fn put<R: Wait>(rt: &R, places: &[Place], tick: Tick) -> bool {
     if places.is_empty() {
         return true;
@@ -108,7 +108,7 @@ fn put<R: Wait>(rt: &R, places: &[Place], tick: Tick) -> bool {
     true
 }
 
-/// A tick is put; all else is forgotten.
+/// Puts a tick; drops any other event.
 fn put_event<R: Wait>(rt: &R, places: &[Place], line: u64, event: Event) -> Result<(), Waiting> {
     match event {
         Event::Tick(units) => {

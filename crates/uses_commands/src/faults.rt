@@ -1,4 +1,4 @@
-//! Scripts and files at fault, of which nothing is run.
+//! Faulty scripts and files, with which nothing runs.
 
 use crate::lab::{AUTHENTICATION, COUNTING, LAB, file, joined, prints};
 use crate::memory::{File, ran};
@@ -8,14 +8,14 @@ use std::process::Abort;
 use std::sync::Wait;
 use std::thread::Threads;
 
-/// What is told to standard error of files at fault, with which two workers run nothing.
+/// What standard error says of faulty files, with which two workers run nothing.
 fn told<R: Threads + Wait + Abort + Sync>(rt: &R, alloc: Global, files: &[File<'_>]) -> Vec<u8> {
     let ran = ran(rt, alloc, files, 2);
     same(rt, (ran.out.len(), ran.status), (0, 2), "nothing is run");
     ran.err
 }
 
-/// A malformed line of each kind, and why it is.
+/// A malformed line of each kind, and the reason.
 const MALFORMED: &[(&str, &str)] = &[
     ("frame abc", "frame: an odd number of hex digits"),
     ("frame", "`frame` takes HEX"),
@@ -86,7 +86,7 @@ fn a_malformed_line_of_each_kind_refuses_its_script(rt: HostRuntime) {
     }
 }
 
-/// Texts that are no script at all, and why.
+/// Texts that aren't scripts at all, and why.
 const NO_SCRIPTS: &[(&str, &str)] = &[
     ("\u{feff}wait\n", "script line 1: a byte order mark"),
     ("\n\r\r\n", "script line 2: a capture: see `apd frames`"),

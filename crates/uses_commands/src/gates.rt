@@ -1,4 +1,4 @@
-//! Who is told of each event, and workers that run beside each other.
+//! Watchers that are told of each event, and workers that run concurrently.
 
 use crate::lab::{ASSOCIATION, AUTHENTICATION, LAB, OTHER_AUTHENTICATION, file, joined};
 use crate::memory::watched;
@@ -16,7 +16,7 @@ struct Sums {
 }
 
 impl Sums {
-    /// How many lines there are, and the sums of the calls that were begun and of those that were ended.
+    /// The number of lines, and the sums of the calls that began and of those that ended.
     fn told(&self) -> (u64, u64, u64) {
         (
             self.lines.load(Ordering::SeqCst),
@@ -42,8 +42,8 @@ impl Watcher for &Sums {
     }
 }
 
-/// The sum of the lines of the events below: those of lines 1, 2 and 5 are each of one shard, and the tick of line 4 is
-/// told of by all eight.
+/// The sum of the lines of the events below: lines 1, 2 and 5 concern one shard each, and all eight tell of the tick
+/// of line 4.
 const CALLS: u64 = 1 + 2 + 8 * 4 + 5;
 
 #[test]
@@ -64,7 +64,7 @@ fn a_watcher_is_told_of_each_event_by_its_line(rt: HostRuntime) {
     }
 }
 
-/// How many turns the first call waits for the second.
+/// How many iterations the first call waits at most.
 const TURNS: u64 = 1000000;
 
 /// Holds call 1 until call 2 has ended.

@@ -1,4 +1,4 @@
-//! Whole scripts, well formed and at fault.
+//! Whole scripts, well formed and malformed.
 
 use crate::same::{holds, same};
 use apd_script::{Command, HexText, MapWord, Numbered, ScriptFault, read_script};
@@ -25,7 +25,7 @@ fn shapes(rt: &impl Abort, alloc: Global) -> Shapes {
     Shapes::new(shapes).expect(rt, "maps within the limits")
 }
 
-/// The fault of a script, None where it is read.
+/// The fault of a script; `None` if it is read.
 fn fault_of(rt: &impl Abort, alloc: Global, text: &[u8]) -> Option<ScriptFault> {
     let shapes = shapes(rt, alloc);
     read_script(alloc, text, &shapes).err()
@@ -109,7 +109,7 @@ const AT_THE_HOOKS: [(u64, Command<'static>); 7] = [
     (14, Command::Wait),
 ];
 
-/// Fails where these aren't the commands that are read.
+/// Fails if other commands are read.
 fn are_read(rt: &impl Abort, commands: &[Numbered<'_>], wanted: &[(u64, Command<'_>)]) {
     same(rt, commands.len(), wanted.len(), "commands");
     for (read, (line, command)) in commands.iter().zip(wanted) {
@@ -127,7 +127,7 @@ fn each_command_is_read(rt: HostRuntime) {
     are_read(&rt, rest, &AT_THE_HOOKS);
 }
 
-/// Lines that are no command.
+/// Lines that aren't commands.
 const MALFORMED: &[&str] = &[
     "frame",
     "frame 0",
@@ -184,7 +184,7 @@ fn malformed_lines_are_refused(rt: HostRuntime) {
     }
 }
 
-/// Texts, and the line that is at fault, if one is.
+/// Texts, and the faulty line, if there is one.
 const TEXTS: &[(&[u8], Option<ScriptFault>)] = &[
     (b"wait\n# \xff", Some(ScriptFault::Line(2))),
     (b"what\n\xff\n", Some(ScriptFault::Line(1))),

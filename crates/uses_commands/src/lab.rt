@@ -1,4 +1,4 @@
-//! The configurations and lines of the tests' scripts.
+//! Configurations and lines of the tests' scripts.
 
 use crate::memory::{File, ran};
 use crate::same::same;
@@ -26,7 +26,7 @@ pub const ANSWERS: &str = "1 send b000000002000000000a02000000000102000000000100
     2 send 1000000002000000000a020000000001020000000001000001000000\
     02c0010482848b96\n";
 
-/// Fails where a run of the files, by one, two or eight workers, doesn't print these texts one after the other, or ends
+/// Fails if a run of the files, by one, two or eight workers, doesn't print these texts one after the other, or ends
 /// with another status.
 pub fn prints<R: Threads + Wait + Abort + Sync>(
     rt: &R,
@@ -48,7 +48,7 @@ pub fn file<'a>(path: &'a str, text: &'a str) -> File<'a> {
     File { path, text }
 }
 
-/// Parts of a text one after the other.
+/// Concatenates parts of a text.
 pub fn joined(rt: &impl Abort, alloc: Global, parts: &[&str]) -> String {
     parts.concat(alloc).expect(rt, "memory")
 }

@@ -1,4 +1,4 @@
-//! Files at and past the longest that is read, files without an end, and faults in long files of hex digits.
+//! Files of the greatest length and longer ones, files without an end, and faults in long files of hex digits.
 
 use crate::same::{holds, same};
 use crate::told::{Told, answer, complains, repeated, tells};
@@ -6,16 +6,16 @@ use apd_files::{FileFault, FileKind, Files};
 use std::alloc::Global;
 use std::process::Abort;
 
-/// A program of two steps.
+/// A program of two instructions.
 const ONE: &str = "b700000001000000\n9500000000000000\n";
 
-/// The same in assembler text.
+/// The same as assembler text.
 const TEXT: &str = "mov r0, 1\nexit\n";
 
 /// A configuration without maps.
 const CONFIG: &str = "bssid = \"020000000001\"\nssid = \"lab\"\nrates = \"82848b96\"\ndraw = 0\n";
 
-/// How many bytes a block has at most.
+/// The most bytes of a block.
 const BLOCK: usize = 1 << 16;
 
 /// The file `long`, which ends in white space, a program and a directory, and how far the open one was read.
@@ -28,7 +28,7 @@ struct Padded {
 }
 
 impl Padded {
-    /// What is still to come of the open file.
+    /// The unread part of the open file.
     fn rest(&self) -> &[u8] {
         let bytes = if self.is_long {
             self.long.as_slice()
@@ -59,7 +59,7 @@ impl Files for Padded {
     }
 }
 
-/// A file of one byte without an end, and how many blocks of it were read.
+/// A file that repeats one byte without end, and the number of its blocks read.
 #[derive(Drop)]
 struct Endless {
     alloc: Global,
@@ -78,7 +78,7 @@ impl Files for Endless {
     }
 }
 
-/// A text with so many spaces behind it that it has a length, if it isn't longer.
+/// A text with spaces after it, up to this size, if it isn't longer.
 fn with_spaces(rt: &impl Abort, alloc: Global, text: &str, size: usize) -> Padded {
     let mut long = Vec::from_slice(alloc, text.as_bytes()).expect(rt, "memory");
     long.resize(size, b' ').expect(rt, "memory");
@@ -90,12 +90,12 @@ fn with_spaces(rt: &impl Abort, alloc: Global, text: &str, size: usize) -> Padde
     }
 }
 
-/// What a command answers, with a file `long` of so many bytes.
+/// Runs a command, with a file `long` of `size` bytes.
 fn answer_to(rt: &impl Abort, alloc: Global, words: &[&str], text: &str, size: usize) -> Told {
     answer(alloc, words, &mut with_spaces(rt, alloc, text, size))
 }
 
-/// The words are done with a file of so many bytes, and not with one of a byte more.
+/// Fails unless a command reads a file of the greatest length, but none a byte longer.
 fn reads_at_most(rt: &impl Abort, alloc: Global, words: &[&str], text: &str, kind: FileKind) {
     let most = kind.most() as usize;
     let at = answer_to(rt, alloc, words, text, most);
@@ -117,7 +117,7 @@ fn reads_code_of_any_length(rt: HostRuntime) {
     same(&rt, told.out.as_slice(), accepted, "output");
 }
 
-/// What a command answers of a file of this byte without an end, and how many blocks of it are read.
+/// Runs a command on a file that repeats this byte without end, and counts the blocks that are read.
 fn answer_without_end(alloc: Global, words: &[&str], byte: u8) -> (Told, u32) {
     let mut files = Endless {
         alloc,
@@ -165,14 +165,14 @@ fn tells_of_a_directory(rt: HostRuntime) {
     tells(&rt, &told, 2, "", why);
 }
 
-/// What `verify` answers for more code than there may be, and a text behind it.
+/// The result of `verify` for code that is too long, with a text after it.
 fn verifies_long(rt: &impl Abort, alloc: Global, rest: &str) -> Told {
     let mut text = repeated(rt, alloc, "b700000000000000\n", 20000);
     text.push_str(rest).expect(rt, "memory");
     answer_to(rt, alloc, &VERIFY, text.as_str(), text.len())
 }
 
-/// What stands behind such code, with the status, the output, and what the error begins with.
+/// What follows such code, the status, the output, and a prefix of the error.
 const BEHIND: &[(&str, u8, &str, &str)] = &[
     ("", 1, "fault 3 at 0\n", ""),
     ("b7", 1, "fault 1 at 0\n", ""),

@@ -1,4 +1,4 @@
-//! What a run prints of what was handed over.
+//! What a run prints of its reports.
 
 use crate::same::{holds, same};
 use ap_books::Totals;
@@ -21,7 +21,7 @@ fn bytes(rt: &impl Abort, alloc: Global, digits: &str) -> Octets {
     Octets::new(hex::decode(alloc, digits).ok().expect(rt, digits))
 }
 
-/// A report of a shard with one out.
+/// A shard's report with one output.
 fn handled(rt: &impl Abort, alloc: Global, line: u64, shard: u16, out: Out) -> Report {
     let outs = vec![in alloc; out].expect(rt, "memory");
     Report {
@@ -34,7 +34,7 @@ fn handled(rt: &impl Abort, alloc: Global, line: u64, shard: u16, out: Out) -> R
     }
 }
 
-/// A report of a line that no shard had a part in.
+/// A report on a line that concerned no shard.
 fn told(line: u64, told: Told) -> Report {
     Report {
         line,
@@ -55,7 +55,7 @@ fn up(rt: &impl Abort, alloc: Global, tid: Option<Tid>, body: &str) -> Out {
     })
 }
 
-/// Fails where the reports, put in order, aren't printed as these lines.
+/// Fails if the reports, put in order, aren't printed as these lines.
 fn prints(rt: &impl Abort, alloc: Global, reports: Vec<Report>, lines: &str) {
     let mut reports = reports;
     put_in_order(&mut reports).expect(rt, "memory");

@@ -1,4 +1,4 @@
-//! Files in memory, and runs over them.
+//! Files in memory, and runs with them.
 
 use apd_files::{FileFault, Files};
 use apd_run::{OpenGate, RunWords, StateLimit, Supplies, Watcher, run};
@@ -6,14 +6,14 @@ use std::alloc::Global;
 use std::sync::Wait;
 use std::thread::Threads;
 
-/// A file by its path.
+/// A file with its path.
 #[derive(Clone, Copy)]
 pub struct File<'a> {
     pub path: &'a str,
     pub text: &'a str,
 }
 
-/// Files of which no contract knows what they hold, and what is left of the open one.
+/// Files of which no contract knows the contents, and the unread part of the open one.
 #[derive(Drop)]
 pub struct Memory<'a> {
     pub alloc: Global,
@@ -21,7 +21,7 @@ pub struct Memory<'a> {
     pub left: &'a [u8],
 }
 
-/// The text of a file, if it is there.
+/// The text of a file, if it exists.
 fn text_of<'a>(files: &'a [File<'a>], path: &str) -> Option<&'a str> {
     for file in files {
         if file.path == path {
@@ -60,7 +60,7 @@ pub struct Outcome {
     pub status: u8,
 }
 
-/// The run of the file `script` with the configuration `config` by so many workers.
+/// The arguments to run the file `script` with the configuration `config` by `workers` workers.
 pub fn words(workers: u8) -> RunWords<'static> {
     RunWords {
         config: "config",
@@ -71,7 +71,7 @@ pub fn words(workers: u8) -> RunWords<'static> {
     }
 }
 
-/// A run of files in memory. The watcher is told of each event.
+/// Runs files in memory. The watcher is told of each event.
 fn run_of<R: Threads + Wait + Sync, G: Watcher + Copy + Send>(
     rt: &R,
     alloc: Global,
@@ -94,8 +94,7 @@ fn run_of<R: Threads + Wait + Sync, G: Watcher + Copy + Send>(
     Outcome { out, err, status }
 }
 
-/// Runs the file `script` with the configuration `config` by so many workers. The watcher is told of each
-/// event.
+/// Runs the file `script` with the configuration `config` by `workers` workers. The watcher is told of each event.
 pub fn watched<R: Threads + Wait + Sync, G: Watcher + Copy + Send>(
     rt: &R,
     alloc: Global,
@@ -106,7 +105,7 @@ pub fn watched<R: Threads + Wait + Sync, G: Watcher + Copy + Send>(
     run_of(rt, alloc, files, words(workers), gate)
 }
 
-/// Runs files as words ask for it.
+/// Runs files with these arguments.
 pub fn ran_as<R: Threads + Wait + Sync>(
     rt: &R,
     alloc: Global,
@@ -116,7 +115,7 @@ pub fn ran_as<R: Threads + Wait + Sync>(
     run_of(rt, alloc, files, words, OpenGate)
 }
 
-/// Runs the file `script` with the configuration `config` by so many workers.
+/// Runs the file `script` with the configuration `config` by `workers` workers.
 pub fn ran<R: Threads + Wait + Sync>(
     rt: &R,
     alloc: Global,

@@ -8,7 +8,7 @@ use std::alloc::Global;
 use std::io::ErrorKind;
 use std::process::Abort;
 
-/// Files in memory, by their names, what is left of the open one, and what was written to another, `saved`.
+/// Files in memory, by name, the unread part of the open one, and what was written to another, `saved`.
 #[derive(Drop)]
 struct Desk<'a> {
     files: &'a [(&'a str, &'a str)],
@@ -63,7 +63,7 @@ const FILES: &[(&str, &str)] = &[
     ("one.cert", "4150433203"),
 ];
 
-/// What a command answers, and what it writes to a file.
+/// The result of a command, and what it writes to a file.
 fn answer(alloc: Global, words: &[&str]) -> (Told, Vec<u8>) {
     let mut desk = Desk {
         files: FILES,
@@ -77,14 +77,14 @@ fn answer(alloc: Global, words: &[&str]) -> (Told, Vec<u8>) {
     (Told { status, out, err }, desk.saved)
 }
 
-/// Fails where a command answers something else, or writes a file.
+/// Fails if a command has another result, or writes a file.
 fn says(rt: &impl Abort, alloc: Global, words: &[&str], status: u8, out: &str, err: &str) {
     let (told, saved) = answer(alloc, words);
     tells(rt, &told, status, out, err);
     same(rt, saved.len(), 0, "what is saved");
 }
 
-/// Fails where a command doesn't answer by a file of this text alone.
+/// Fails if a command does anything but write a file of this text.
 fn saves(rt: &impl Abort, alloc: Global, words: &[&str], text: &str) {
     let (told, saved) = answer(alloc, words);
     tells(rt, &told, 0, "", "");
@@ -118,7 +118,7 @@ fn a_refusal_is_written_to_no_file(rt: HostRuntime) {
 #[test]
 fn a_file_that_is_not_written_is_a_fault(rt: HostRuntime) {
     let words = ["apd", "asm", "good.s", "-o", "other"];
-    let why = "apd: cannot write: permission denied\n";
+    let why = "apd: cannot write other: it is not allowed\n";
     says(&rt, rt.alloc(), &words, 2, "", why);
 }
 
@@ -138,10 +138,10 @@ fn code_at_fault_is_listed_raw(rt: HostRuntime) {
     says(&rt, alloc, &words, 0, "mov r0, 1\nexit\n", "");
 }
 
-/// Data with QoS: TID 6, number 100.
+/// QoS data with TID 6 and number 100.
 const FRAME: &str = "8801000002000000000102000000000a0200000000ff40060600";
 
-/// What a program is told that returns eight bytes of its context, and what it returns.
+/// Options for the context, a program that returns eight bytes of it, and what it returns.
 const TOLD: &[(&[&str], &str, &str)] = &[
     (&[], "tells.hex", "844424930131968"),
     (
@@ -163,7 +163,7 @@ const TOLD: &[(&[&str], &str, &str)] = &[
     ),
 ];
 
-/// Words, and others behind them.
+/// Words, followed by others.
 fn joined<'a, R: Abort>(
     rt: &R,
     alloc: Global,
@@ -190,7 +190,7 @@ fn a_traced_program_is_told_what_is_given(rt: HostRuntime) {
     }
 }
 
-/// What is given that no context has, and why.
+/// Options that spell no context, and why.
 const NOT_GIVEN: &[(&[&str], &str)] = &[
     (&["--context", "state"], "`state` is no KEY=VALUE"),
     (&["--context", "state=4"], "`state` is 1 to 3"),

@@ -7,7 +7,7 @@ use std::alloc::Global;
 use std::process::Abort;
 use std::test::Fail;
 
-/// The shapes that the pages speak of: one map of 4 entries of one word of 8 bytes.
+/// The shapes of the pages' maps: one map of 4 entries of one word of 8 bytes.
 fn shapes(rt: &impl Abort, alloc: Global) -> Result<Shapes, Fail> {
     let mut shapes = Vec::new(alloc);
     shapes.push(Shape {
@@ -29,7 +29,7 @@ fn code_of_digits(rt: &impl Abort, alloc: Global, digits: &str) -> Result<Vec<u8
     Ok(code)
 }
 
-/// The number that an example is refused with, 0 where it is admitted.
+/// The number with which an example is refused; 0 if it is admitted.
 fn number_of(rt: &impl Abort, alloc: Global, example: Example) -> Result<u8, Fail> {
     let code = match example {
         Example::Code(digits) => code_of_digits(rt, alloc, digits)?,

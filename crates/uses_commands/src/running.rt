@@ -1,4 +1,4 @@
-//! Scripts that are run by one and by more workers.
+//! Scripts that run with one worker and with several.
 
 ghost use Rattle.std.specs.Prelude.{◌≡◌, vec_len};
 
@@ -15,7 +15,7 @@ use std::process::Abort;
 use std::sync::{Arc, Mutex, Wait};
 use std::thread::Threads;
 
-/// Standard output in memory; what else there is to tell is forgotten.
+/// Standard output in memory; messages are dropped.
 #[derive(Drop)]
 struct Page {
     text: Vec<u8>,
@@ -42,7 +42,7 @@ impl Console for Page {
     fn tell(&mut self, _commands: &[Numbered<'_>], _reports: &[Report]) {}
 }
 
-/// So many workers, and an operator who has a place for each.
+/// An operator and `workers` workers, with a place for each.
 fn staff(rt: &impl Abort, alloc: Global, workers: usize) -> Staff<Echo, Places>
     ensures { vec_len result.workers ≡ result.operator.workers }
 {
@@ -66,7 +66,7 @@ fn staff(rt: &impl Abort, alloc: Global, workers: usize) -> Staff<Echo, Places>
     }
 }
 
-/// What a script prints with so many workers, and its status.
+/// Runs a script with `workers` workers; returns its output and status.
 fn ran<R: Threads + Wait + Abort + Sync>(
     rt: &R,
     alloc: Global,
@@ -122,7 +122,7 @@ const STRICT: &[(&str, &str, u8)] = &[
     ),
 ];
 
-/// Fails where a strict run of a script, by one, two or eight workers, prints something else, or has another status.
+/// Fails if a strict run of a script, by one, two or eight workers, prints something else, or has another status.
 fn prints_strictly<R: Threads + Wait + Abort + Sync>(
     rt: &R,
     alloc: Global,
@@ -142,4 +142,36 @@ fn a_strict_run_ends_with_the_interval_of_a_refused_line(rt: HostRuntime) {
     for (script, printed, status) in STRICT {
         prints_strictly(&rt, rt.alloc(), script, printed, *status);
     }
+}
+
+/// A refused line, as many others as fill its interval, and a line that is refused in the next.
+fn an_interval_and_a_line(rt: &impl Abort, alloc: Global) -> String {
+    let mut script = String::from_str(alloc, "load data absent\n").expect(rt, "memory");
+    for _ in 1..4096 {
+        script
+            .push_str("kick 02000000000a 8\n")
+            .expect(rt, "memory");
+    }
+    script.push_str("tick 10\n").expect(rt, "memory");
+    script
+}
+
+#[test]
+fn an_interval_has_at_most_4096_lines(rt: HostRuntime) {
+    let alloc = rt.alloc();
+    let script = an_interval_and_a_line(&rt, alloc);
+    let totals = "total events 0 sent 0 up 0 dropped 0 notes 0\n";
+    let (page, status) = ran(&rt, alloc, 2, script.as_str(), true);
+    let strict = format!(in alloc; "1 unreadable\n{totals}").expect(&rt, "memory");
+    same(
+        &rt,
+        page.text.as_slice(),
+        strict.as_bytes(),
+        "the text of a strict run",
+    );
+    same(&rt, status, 1, "the status of a strict run");
+    let (page, status) = ran(&rt, alloc, 2, script.as_str(), false);
+    let whole = format!(in alloc; "1 unreadable\n4097 memory\n{totals}").expect(&rt, "memory");
+    same(&rt, page.text.as_slice(), whole.as_bytes(), "the text");
+    same(&rt, status, 3, "the status");
 }

@@ -1,14 +1,14 @@
-//! Assertions as calls: they are proved once, where a macro of its own is proved anew in each function.
+//! Assertions as functions, which are proved once; a macro is proved again in each function.
 
 use std::fmt::Debug;
 use std::process::Abort;
 
-/// Fails where what was found isn't what was wanted.
+/// Fails if what was found isn't what was wanted.
 pub fn same<T: PartialEq + Debug + Copy>(rt: &impl Abort, found: T, wanted: T, what: &str) {
     assert_eq!(rt; found, wanted, "{what}");
 }
 
-/// Fails where it is not so.
+/// Fails if this doesn't hold.
 pub fn holds(rt: &impl Abort, is_so: bool, what: &str) {
     assert!(rt; is_so, "{what}");
 }

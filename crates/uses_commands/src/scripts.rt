@@ -1,4 +1,4 @@
-//! Scripts that are run by one, two and eight workers.
+//! Scripts that run with one, two and eight workers.
 
 use crate::lab::{
     ANSWERS, ASSOCIATION, AUTHENTICATION, COUNTING, LAB, OTHER_AUTHENTICATION, file, joined, prints,

@@ -1,4 +1,4 @@
-//! What a run tells on standard error of its loads and stores, and a strict run.
+//! What runs, also strict ones, tell on standard error of loads and stores.
 
 use crate::lab::{LAB, file};
 use crate::memory::{File, ran_as, words};
@@ -9,7 +9,7 @@ use std::process::Abort;
 use std::sync::Wait;
 use std::thread::Threads;
 
-/// Fails where a run of the files isn't told so, or ends with another status.
+/// Fails if a run of the files tells something else, or ends with another status.
 fn tells<R: Threads + Wait + Abort + Sync>(
     rt: &R,
     alloc: Global,
@@ -27,7 +27,7 @@ const MARK: &str = "b700000002050000 9500000000000000\n";
 
 const EXIT: &str = "9500000000000000\n";
 
-/// A configuration, a script, and two programs of which the second is refused.
+/// A configuration, a script, and two programs, the second of which is refused.
 fn files_of(script: &str) -> [File<'_>; 4] {
     [
         file("config", LAB),

@@ -1,4 +1,4 @@
-//! What `apd` answers, and the long texts that it is given.
+//! Results of `apd`, and long texts for it.
 
 use crate::same::{holds, same};
 use apd_files::Files;
@@ -6,7 +6,7 @@ use apd_program::apd_main;
 use std::alloc::Global;
 use std::process::Abort;
 
-/// What a command answers: its status, and what it writes to standard output and to standard error.
+/// The result of a command: its status, and what it writes to standard output and to standard error.
 #[derive(Drop)]
 pub struct Told {
     pub status: u8,
@@ -14,7 +14,7 @@ pub struct Told {
     pub err: Vec<u8>,
 }
 
-/// What a command answers, with these files.
+/// Runs a command with these files.
 pub fn answer<F: Files>(alloc: Global, words: &[&str], files: &mut F) -> Told {
     let mut out = Vec::new(alloc);
     let mut err = Vec::new(alloc);
@@ -22,21 +22,21 @@ pub fn answer<F: Files>(alloc: Global, words: &[&str], files: &mut F) -> Told {
     Told { status, out, err }
 }
 
-/// Fails where the status, the output or the error isn't this one.
+/// Fails if the status, the output or the error isn't this one.
 pub fn tells(rt: &impl Abort, told: &Told, status: u8, out: &str, err: &str) {
     same(rt, told.status, status, "status");
     same(rt, told.out.as_slice(), out.as_bytes(), "output");
     same(rt, told.err.as_slice(), err.as_bytes(), "error");
 }
 
-/// Fails where the status or the output isn't this one, or the error doesn't begin so.
+/// Fails if the status or the output isn't this one, or the error doesn't begin so.
 pub fn complains(rt: &impl Abort, told: &Told, status: u8, out: &str, err: &str) {
     same(rt, told.status, status, "status");
     same(rt, told.out.as_slice(), out.as_bytes(), "output");
     holds(rt, told.err.starts_with(err.as_bytes()), err);
 }
 
-/// A text so many times.
+/// A text, `times` times.
 pub fn repeated(rt: &impl Abort, alloc: Global, text: &str, times: usize) -> String {
     let mut whole = String::new(alloc);
     for _ in 0..times {

@@ -1,4 +1,4 @@
-//! What is told of a run, by a clock that a test moves.
+//! What is told of a run, by a clock that a test sets.
 
 use crate::same::same;
 use ap_tagged::Gate;
@@ -8,7 +8,7 @@ use std::io;
 use std::sync::atomic::{AtomicU64, Ordering};
 use std::time::{Clock, Duration};
 
-/// A clock that says how many milliseconds it was told, and standard error in memory.
+/// A clock that tests set, in milliseconds, and the number of lines on standard error.
 #[derive(Drop)]
 struct Desk {
     milliseconds: AtomicU64,
@@ -36,7 +36,7 @@ impl Eprint for Desk {
     }
 }
 
-/// Tells of so many events, and answers how many lines stand then.
+/// Tells of `events` events, and returns the number of lines then.
 fn lines_after(desk: &Desk, gate: &impl Gate, events: u64) -> u64 {
     for call in 1..=events {
         gate.begin(call);

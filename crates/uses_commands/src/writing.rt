@@ -4,7 +4,7 @@ use crate::same::{holds, same};
 use apd_files::{Unwritten, write_whole};
 use std::io::{self, Error, ErrorKind, Write};
 
-/// Takes `step` bytes a write, and fails from the write that would pass `room`.
+/// Takes at most `step` bytes a write and `room` in all, and then fails.
 #[derive(Drop)]
 pub struct Narrow {
     pub taken: Vec<u8>,

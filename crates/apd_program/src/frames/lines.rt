@@ -1,4 +1,4 @@
-//! The lines of a script, one by one.
+//! Single lines of a script.
 
 ghost use Rattle.std.specs.Prelude.{◌≡◌, ◌++◌, ◌<◌, IfOk, codes};
 ghost use Rattle.std.specs.String.{string_bytes};
@@ -9,7 +9,7 @@ use capture::LeftOut;
 use std::alloc::{AllocError, Global};
 use std::fmt::Write;
 
-/// Why a packet is left out, for people.
+/// Why a packet is left out, in words.
 fn reason(left_out: LeftOut) -> &'static str
     ensures is { result.now ≡ reason_of left_out }
 {
@@ -17,6 +17,7 @@ fn reason(left_out: LeftOut) -> &'static str
         LeftOut::Cut => "it was cut when it was captured",
         LeftOut::Radiotap => "its radiotap header is damaged",
         LeftOut::CheckSequence => "its frame check sequence is cut",
+        LeftOut::WrongCheckSequence => "its frame check sequence is wrong",
     }
 }
 
@@ -37,7 +38,7 @@ fn append_frame(alloc: Global, text: &mut String, frame: &[u8]) -> Result<(), Al
     Ok(())
 }
 
-/// The line of a frame. A script has none for a frame of no bytes, nor for one that is too long.
+/// Appends the line of a frame, or says that it is left out, since it has no bytes or more than 2400.
 fn append_bytes(
     alloc: Global,
     text: &mut String,
@@ -56,7 +57,7 @@ fn append_bytes(
     append_frame(alloc, text, frame)
 }
 
-/// The line of a packet.
+/// Appends the line of a packet: its frame, or why it is left out.
 pub(crate) fn append_packet(
     alloc: Global,
     text: &mut String,
@@ -80,7 +81,7 @@ fn append_tick(text: &mut String, units: u64) -> Result<(), AllocError>
     Ok(())
 }
 
-/// The line of the time from one unit to a later one.
+/// Appends `tick N` for the N units from `clock` to a later `now`, at most 4294967295, if `ticks` is set.
 pub(crate) fn append_time(
     text: &mut String,
     ticks: bool,
@@ -96,7 +97,7 @@ pub(crate) fn append_time(
     Ok(())
 }
 
-/// The line that waits, behind each 1000th packet.
+/// Appends `wait` after each 1000th packet.
 pub(crate) fn append_wait(text: &mut String, number: u64) -> Result<(), AllocError>
     ensures ok { IfOk result
         (λ _. string_bytes text.new ≡ string_bytes text.old ++ wait_lines number) }

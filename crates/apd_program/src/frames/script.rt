@@ -9,7 +9,7 @@ use crate::frames::lines::{append_packet, append_time, append_wait};
 use capture::Packet;
 use std::alloc::{AllocError, Global};
 
-/// The first time that is known, 0 where none is.
+/// The first known time, in nanoseconds; 0 if there is none.
 fn start(packets: &[Packet<'_>]) -> u64
     ensures is { result ≡ start_of (map seen_of packets.now) }
 {
@@ -21,8 +21,7 @@ fn start(packets: &[Packet<'_>]) -> u64
     0
 }
 
-/// In which unit of 1024 microseconds after the start a time lies; in unit 0 where it is earlier, or
-/// isn't known.
+/// The unit of 1024 microseconds after the start in which a time lies; 0 if it is earlier or unknown.
 fn unit(start: u64, time: Option<u64>) -> u64
     ensures is { result ≡ unit_of start time }
 {
@@ -32,10 +31,9 @@ fn unit(start: u64, time: Option<u64>) -> u64
     }
 }
 
-/// The packets of a capture as a script: a line `frame HEX` for each frame, where `ticks` says so
-/// with `tick N` before it for the units of 1024 microseconds that have passed, a comment for each
-/// packet that is left out, and a line `wait` behind each 1000th packet. Before a packet of no known
-/// time none passes.
+/// The packets of a capture as a script: a line `frame HEX` for each frame, after `tick N` for the units of 1024
+/// microseconds that have passed, if `ticks` is set; a comment for each packet that is left out; and a line `wait`
+/// after each 1000th packet. No time passes before a packet whose time is unknown.
 pub fn script_text(alloc: Global, packets: &[Packet<'_>], ticks: bool) -> Result<String, AllocError>
     ensures is { IfOk result
         (λ text. string_bytes text ≡ script_of ticks (map seen_of packets.now)) }

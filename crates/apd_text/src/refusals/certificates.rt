@@ -24,7 +24,7 @@ pub(crate) const EXPLANATIONS: [Explanation; 3] = [
     Explanation {
         number: 72,
         title: "the certificate does not show that the program is safe",
-        meaning: "Some way from one of its states meets a fault, takes longer than the budget it names, or leads \
+        meaning: "Some path from one of its states meets a fault, takes longer than the budget it names, or leads \
 to a state that it does not have.",
         habit: "It was made for other maps, or by something that is not to be trusted.",
         programs: None,

@@ -27,7 +27,7 @@ pub(crate) const EXPLANATIONS: [Explanation; 13] = [
         number: 3,
         title: "the code is too long",
         meaning: "A program has at most 16384 slots.",
-        habit: "A loop of many turns was unrolled.",
+        habit: "A loop of many iterations was unrolled.",
         programs: None,
         cure: "Keep the loop: `#pragma clang loop unroll(disable)`.",
     },
@@ -82,7 +82,7 @@ of the values that are defined.",
         title: "a wide instruction is not whole",
         meaning: "An instruction with a number of 64 bits takes two slots, and the first four bytes of the second \
 are zero.",
-        habit: "The code ends after the first of its slots, or a jump was counted in instructions where slots count.",
+        habit: "The code ends after the first of its slots, or a jump was counted in instructions instead of slots.",
         programs: Some((
             Example::Code("1800000001000000"),
             Example::Code("1800000001000000 0000000000000000 9500000000000000"),
@@ -142,7 +142,7 @@ are zero.",
             Example::Text("lddw r1, map 7\nmov r0, 0\nexit\n"),
             Example::Text("lddw r1, map 0\nmov r0, 0\nexit\n"),
         )),
-        cure: "Declare the map in the configuration; the first `[[map]]` is map 0. `apd_lookup` gives entries behind \
+        cure: "Declare the map in the configuration; the first `[[map]]` is map 0. `apd_lookup` gives entries after \
 the first.",
     },
 ];

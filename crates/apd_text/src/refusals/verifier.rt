@@ -8,8 +8,8 @@ pub(crate) const EXPLANATIONS: [Explanation; 10] = [
     Explanation {
         number: 30,
         title: "something unset is read",
-        meaning: "A register or a byte of the stack is read that was not written on some way to this instruction. \
-At the start only r1 (the frame), r2 (its end), r3 (the context) and r10 are set; after a call r1 to r5 are not.",
+        meaning: "The instruction reads a register or a byte of the stack that some path to it leaves unset. At the \
+start only r1 (the frame), r2 (its end), r3 (the context) and r10 are set; after a call r1 to r5 are not.",
         habit: "A variable has no first value; a function returns nothing; a struct on the stack is read whole \
 though its padding was never written.",
         programs: Some((Example::Text("exit\n"), MOVES)),
@@ -19,8 +19,8 @@ though its padding was never written.",
         number: 31,
         title: "the operation does not take such a value",
         meaning: "Pointers are moved, added to numbers, and numbers are subtracted from them; they are compared \
-with the frame's end or with 0, spilled to the stack, and used for accesses. All else is for numbers. The frame and \
-the context are only read.",
+with the frame's end or with 0, spilled to the stack, and used for accesses. Everything else is for numbers. The \
+frame and the context are only read.",
         habit: "Two pointers were subtracted (`end - frame`), `end` was moved (`end - 4`), a pointer was multiplied or \
 masked, or the frame was written to.",
         programs: Some((
@@ -32,10 +32,10 @@ masked, or the frame was written to.",
     Explanation {
         number: 32,
         title: "an access may leave its region",
-        meaning: "Nothing shows that the bytes are there: in a frame a test against its end has to come before, in \
-the context (32 bytes), a stack frame (512) and a map's entry the offset has to be in range whatever its value.",
-        habit: "A byte of the frame is read without a test, or another pointer was tested than the one that is read; or \
-an array on the stack has a variable index.",
+        meaning: "Nothing shows that the bytes are there: in a frame, a test against its end must come first; in the \
+context (32 bytes), a stack frame (512) and a map's entry, the offset must be in range whatever its value.",
+        habit: "A byte of the frame is read without a test, or the test was of another pointer; or an array on the \
+stack has a variable index.",
         programs: Some((
             Example::Text("ldxb r0, [r1+24]\nexit\n"),
             Example::Text(
@@ -43,7 +43,7 @@ an array on the stack has a variable index.",
             ),
         )),
         cure: "Test what is read: byte 24 needs `if (frame + 25 > end) return APD_PASS;`. A variable offset is masked \
-first (`at &= 63`). In place of an array on the stack take a map.",
+first (`at &= 63`). Take a map instead of an array on the stack.",
     },
     Explanation {
         number: 33,
@@ -60,7 +60,7 @@ stack whole, at multiples of 8, and an atomic works at a multiple of its size.",
     Explanation {
         number: 34,
         title: "a lookup was not tested",
-        meaning: "A lookup gives 0 where the map has no such entry, so what it gave is compared with 0 before it \
+        meaning: "A lookup gives 0 if the map has no such entry, so its result must be compared with 0 before it \
 is used.",
         habit: "The test is missing, or (without optimisation) looks at a copy.",
         programs: Some((
@@ -86,21 +86,23 @@ is used.",
         number: 36,
         title: "the verifier gives up",
         meaning: "It examined 4194304 states without an end, or as many as `--states` lets it: the program never ends, \
-or it has too many ways. The slot says where it stood.",
-        habit: "A loop without a bound, or one that moves a pointer on in each turn, so that no two turns are alike.",
+or it has too many paths. The slot says where it stood.",
+        habit: "A loop without a bound, or one that advances a pointer in each iteration, so that no two iterations \
+are alike.",
         programs: Some((
             Example::Text("ja -1\nexit\n"),
             Example::Text("mov r1, 64\nsub r1, 1\njne r1, 0, -2\nmov r0, 0\nexit\n"),
         )),
-        cure: "Bound the loop; keep a place in the frame as a masked number, and make the pointer anew each turn.",
+        cure: "Bound the loop; keep a position in the frame as a masked number, and make the pointer anew in each \
+iteration.",
     },
     Explanation {
         number: 37,
         title: "a pointer to the stack is stored elsewhere",
         meaning: "A pointer into a stack frame is stored in that frame alone, so that none is left when the \
-function is.",
+function returns.",
         habit: "A function was handed the address of a local variable, and stored it (without optimisation each \
-argument is).",
+argument is stored).",
         programs: Some((
             Example::Text(
                 "mov r1, r10\ncall local +2\nmov r0, 0\nexit\nstxdw [r10-8], r1\nmov r0, 0\nexit\n",
@@ -115,8 +117,8 @@ argument is).",
         number: 38,
         title: "the verdict is no number",
         meaning: "At the exit r0 is a number: the verdict. Functions that the program calls return numbers too.",
-        habit: "A pointer was returned, by the policy or by a function that was not inlined; without optimisation none \
-is, as `apd_body`.",
+        habit: "A pointer was returned, by the policy or by a function that was not inlined; without optimisation, \
+functions such as `apd_body` are not inlined.",
         programs: Some((Example::Text("mov r0, r1\nexit\n"), MOVES)),
         cure: "Return a number, and compile with -O1, -Os or -O2.",
     },

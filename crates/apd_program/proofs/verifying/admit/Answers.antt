@@ -1,14 +1,30 @@
-use Rattle.std.proofs.Common.{sym, subst, ◌∙◌}
-use Rattle.bpf_absstate.specs.View.{entry_view}
-use Rattle.bpf_model.specs.Run.{Safe}
-use Rattle.bpf_plain.specs.Clear.{IsClear}
+use Rattle.std.proofs.Common.{refl, sym, subst}
+use Rattle.std.proofs.lemmas.Result.{err_from_is_err_and}
+use Rattle.bpf_verifier.specs.Admission.{IsSafeBudget, IsRefusal}
 use Rattle.apd_program.proofs.verifying.admit.Goals as goal
 
-pub returns-in-Err-clause-plain : goal.returns-in-Err-clause-plain
-returns-in-Err-clause-plain c = λ most plain.
-    (rw c.in-Err.is at c.in_ok-explanation.ensures.clear)
-    (subst (IsClear c.args.program entry_view) (sym (c.limit_of-limit.ensures.is ∙ most)) (c.plain_law.ensures.clear c.args.program c.whole.ensures.is plain))
+pub returns-clause-budget : goal.returns-clause-budget
+returns-clause-budget c = rw c.limit_of-limit.ensures.is at c.verify_within.ensures.budget
 
-pub returns-in_ok-accepted-in-Ok-clause-safe : goal.returns-in_ok-accepted-in-Ok-clause-safe
-returns-in_ok-accepted-in-Ok-clause-safe c =
-    subst (Safe c.args.program.slots c.args.program.shapes) (sym c.in_ok-accepted-in-Ok.ensures.budget) (rw c.in-Ok.is at c.in_ok-explanation.ensures.safe)
+pub returns-clause-refused : goal.returns-clause-refused
+returns-clause-refused c = rw c.limit_of-limit.ensures.is at c.verify_within.ensures.refused
+
+pub returns-in_err-explanation-clause-refused : goal.returns-in_err-explanation-clause-refused
+returns-in_err-explanation-clause-refused c =
+    let p = err_from_is_err_and c.from_residual.result c.from_residual.ensures.1 in
+    rw (p.1, p.2) (record { begins = c.whole.ensures.is.first; plain = λ most plain. refl; clear = λ clear. refl })
+
+pub returns-in_err-accepted-in-Ok-clause-refused : goal.returns-in_err-accepted-in-Ok-clause-refused
+returns-in_err-accepted-in-Ok-clause-refused c =
+    let p = err_from_is_err_and c.from_residual-in_err-accepted-in-Ok.result c.from_residual-in_err-accepted-in-Ok.ensures.1 in
+    rw (p.1, p.2) (record { begins = c.whole.ensures.is.first; plain = λ most plain. refl; clear = λ clear. refl })
+
+pub returns-in_ok-accepted-in-Ok-clause-budget : goal.returns-in_ok-accepted-in-Ok-clause-budget
+returns-in_ok-accepted-in-Ok-clause-budget c =
+    let OfLimit = λ n. IsSafeBudget c.args.program n c.in_ok-accepted-in-Ok.accepted.budget in
+    subst OfLimit c.limit_of-limit.ensures.is
+    (subst (IsSafeBudget c.args.program c.limit_of-limit.result) (sym c.in_ok-accepted-in-Ok.ensures.budget) (rw c.in-Ok.is at c.in_ok-explanation.ensures.budget))
+
+pub returns-in-Err-clause-refused : goal.returns-in-Err-clause-refused
+returns-in-Err-clause-refused c =
+    subst (λ n. IsRefusal c.args.program n c.in-Err.refusal) c.limit_of-limit.ensures.is (rw c.in-Err.is at c.in_ok-explanation.ensures.refused)

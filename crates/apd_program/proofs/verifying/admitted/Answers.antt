@@ -5,9 +5,8 @@ use Rattle.apd_program.proofs.Said.{IsVerdict-refused}
 use Rattle.apd_program.proofs.verifying.admitted.Goals as goal
 
 pub returns-in-Ok-clause-verdict : goal.returns-in-Ok-clause-verdict
-returns-in-Ok-clause-verdict c =
-    Admitted c.budget.result _ (rw c.budget.ensures.is c.in-Ok.ensures.safe) (rw c.budget.ensures.is c.in-Ok.ensures.small) (rw c.budget.ensures.is c.in-Ok.ensures.walk) refl
+returns-in-Ok-clause-verdict c = Admitted c.budget.result _ (rw c.budget.ensures.is c.in-Ok.ensures.budget) refl
 
 pub returns-in-Err-clause-verdict : goal.returns-in-Err-clause-verdict
 returns-in-Err-clause-verdict c =
-    IsVerdict-refused (nearest c.args.terms.states) IsBudget _ _ c.in-Err.refusal c.in-Err.ensures.plain c.in-Err.ensures.clear c.in-Err.ensures.begins c.refused.ensures.refusal
+    IsVerdict-refused (nearest c.args.terms.states) IsBudget _ _ c.in-Err.refusal c.in-Err.ensures.refused c.refused.ensures.refusal

@@ -5,10 +5,10 @@ use Rattle.apd_program.proofs.verifying.run.Goals as goal
 
 pub returns-in_ok-text-in-Ok-clause-run : goal.returns-in_ok-text-in-Ok-clause-run
 returns-in_ok-text-in-Ok-clause-run c =
-    Admitted c.in-Ok.accepted.budget _ c.in-Ok.ensures.safe c.in-Ok.ensures.small c.in-Ok.ensures.walk
+    Admitted c.in-Ok.accepted.budget _ c.in-Ok.ensures.budget
     (IsTrace-of c.in-Ok.accepted _ _ _ _ _ _ c.in-Ok.ensures.code c.in-Ok.ensures.hook c.in_ok-text-in-Ok.ensures.is)
 
 pub returns-in-Err-clause-run : goal.returns-in-Err-clause-run
 returns-in-Err-clause-run c =
     IsVerdict-refused (nearest c.args.stimulus.terms.states) (IsRun c.args.stimulus.terms.hook c.args.stimulus.frame.now c.args.stimulus.context.now c.args.stimulus.draw) _ _
-    c.in-Err.refusal c.in-Err.ensures.plain c.in-Err.ensures.clear c.in-Err.ensures.begins c.refused.ensures.refusal
+    c.in-Err.refusal c.in-Err.ensures.refused c.refused.ensures.refusal

@@ -1,15 +1,21 @@
 use Rattle.std.proofs.Common.{sym, subst}
 use Rattle.std.proofs.lemmas.Result.{err_from_is_err_and}
-use Rattle.bpf_absstate.specs.View.{entry_view}
-use Rattle.bpf_model.specs.Run.{Safe}
-use Rattle.bpf_plain.specs.Clear.{IsClear}
+use Rattle.bpf_verifier.specs.Admission.{IsSafeBudget}
+use Rattle.bpf_verifier.proofs.Admitting.{refusal, starved}
 use Rattle.bpf_verifier.proofs.admission.verify_within.Goals as goal
 
-pub returns-in_err-budget-clause-plain : goal.returns-in_err-budget-clause-plain
-returns-in_err-budget-clause-plain c =
+pub returns-in_err-budget-clause-refused : goal.returns-in_err-budget-clause-refused
+returns-in_err-budget-clause-refused c =
     let p = err_from_is_err_and c.from_residual.result c.from_residual.ensures.1 in
     rw (p.1, p.2)
-    (λ most plain. c.in_err-budget.ensures.clear (subst (IsClear c.args.program entry_view) (sym most) (c.plain_law.ensures.clear c.args.program c.whole.ensures.is plain)))
+    (refusal c.args.program c.args.limit _ (c.plain_law.ensures.clear c.args.program c.whole.ensures.is) c.in_err-budget.ensures.begins c.in_err-budget.ensures.clear)
 
-pub returns-clause-safe : goal.returns-clause-safe
-returns-clause-safe c = subst (Safe c.args.program.slots c.args.program.shapes) (sym c.in_ok-accepted.ensures.budget) c.in_ok-budget.ensures.safe
+pub returns-in_err-accepted-clause-refused : goal.returns-in_err-accepted-clause-refused
+returns-in_err-accepted-clause-refused c =
+    let p = err_from_is_err_and c.from_residual-in_err-accepted.result c.from_residual-in_err-accepted.ensures.1 in
+    rw (p.1, p.2) (starved c.args.program c.args.limit c.whole.ensures.is.first)
+
+pub returns-clause-budget : goal.returns-clause-budget
+returns-clause-budget c =
+    let found = c.in_ok-budget.ensures in
+    subst (IsSafeBudget c.args.program c.args.limit) (sym c.in_ok-accepted.ensures.budget) (record { safe = found.safe; small = found.small; walk = found.walk })

@@ -1,4 +1,4 @@
--- The lines so far and those of the packets that are left are those of the capture.
+-- The lines so far and those of the remaining packets are those of the capture.
 use Rattle.std.proofs.Common.{◌≡◌, ◌+◌, ◌++◌, drop, map}
 use Rattle.std.specs.String.{string_bytes}
 use Rattle.capture.specs.Packets.{seen_of}

@@ -10,11 +10,9 @@ pub returns-in_default : goal.returns-in_default
 returns-in_default g c =
     NotAdmitted c.in-Err.refusal (record {
       reason = c.in_default.not-NoMemory;
-      place = c.in-Err.ensures.begins;
-      not_plain = λ most plain. c.in_default.not-NoMemory (c.in-Err.ensures.plain most plain);
-      not_clear = λ clear. c.in_default.not-NoMemory (c.in-Err.ensures.clear clear);
+      of_verifier = c.in-Err.ensures.refused;
       unchanged = refl;
     })
 
 pub returns-in-Ok : goal.returns-in-Ok
-returns-in-Ok g c = loaded _ _ c.in-Ok.accepted _ _ _ _ c.in-Ok.ensures.code c.in-Ok.ensures.small c.put_in_force-told.ensures
+returns-in-Ok g c = loaded _ _ c.in-Ok.accepted _ _ _ _ c.in-Ok.ensures.code c.in-Ok.ensures.budget.small c.put_in_force-told.ensures

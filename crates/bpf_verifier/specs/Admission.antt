@@ -1,0 +1,23 @@
+-- What an exploration within a limit of states says of a program.
+use Rattle.std.specs.Prelude.{◌≡◌, ◌≤◌, ◌^◌, ℕ}
+use Rattle.bpf_decode.specs.Program.{Code, Begins}
+use Rattle.bpf_model.specs.Run.{Safe}
+use Rattle.bpf_absstate.specs.View.{entry_view}
+use Rattle.bpf_plain.specs.Clear.{IsClear}
+use Rattle.bpf_plain.specs.Walks.{IsPlain, HasWalk}
+use Rattle.bpf_rules.specs.declared.fault.Fault.TheVariants.{NoMemory}
+use Rattle.bpf_verifier.specs.declared.refusal.Refusal.{Refusal}
+
+-- The program is safe within the budget, which is at most the limit; that of a plain program is at most the length of
+-- one of its walks.
+pub record IsSafeBudget (program : Code) (limit budget : ℕ) : Type 0 where
+  pub safe : Safe program.slots program.shapes budget
+  pub small : budget ≤ limit
+  pub walk : IsPlain program.slots → HasWalk program.slots budget
+
+-- A refusal at an instruction. A program that is clear by the rules within the limit is refused only for lack of memory;
+-- so is a plain one, if the limit is the greatest.
+pub record IsRefusal (program : Code) (limit : ℕ) (refusal : Refusal) : Type 0 where
+  pub begins : Begins program.slots refusal.pc
+  pub plain : limit ≡ 2 ^ 22 → IsPlain program.slots → refusal.fault ≡ NoMemory
+  pub clear : IsClear program entry_view limit → refusal.fault ≡ NoMemory
