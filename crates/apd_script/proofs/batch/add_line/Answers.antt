@@ -7,10 +7,10 @@ use Rattle.apd_script.proofs.batch.add_line.Goals as goal
 pub returns-in-Ok-Some : goal.returns-in-Ok-Some
 returns-in-Ok-Some c =
     let n : Numbered = record { line = c.args.number; command = c.in-Ok-Some.command } in
-    record { adds = adds_command _ _ _ _ _ _ n c.in-Ok-Some.ensures.taken c.in-Ok-Some.ensures.asks (rw c.in_ok-reserve.ensures.items at c.push_reserved.ensures.items) refl }
+    record { adds = adds_command _ _ _ _ _ _ n c.in-Ok-Some.ensures.taken (rw c.in-Ok-Some.field-0-is at c.in-Ok-Some.ensures.asks) (rw c.in_ok-reserve-in-Ok-Some.ensures.items at c.push_reserved.ensures.items) refl }
 
 pub returns-in-Ok-None : goal.returns-in-Ok-None
-returns-in-Ok-None c = record { adds = adds_nothing _ _ _ _ _ _ _ c.in-Ok-None.ensures.taken c.in-Ok-None.ensures.asks refl refl }
+returns-in-Ok-None c = record { adds = adds_nothing _ _ _ _ _ _ _ c.in-Ok-None.ensures.taken (rw c.in-Ok-None.field-0-is at c.in-Ok-None.ensures.asks) refl refl }
 
 pub returns-in-Err : goal.returns-in-Err
 returns-in-Err c =
