@@ -15,7 +15,7 @@ use apd_files::{FileFault, block_of};
 use apd_script::{Batch, MOST_BYTES, begins_with_quit, read_batch};
 use apd_text::PrintFault;
 use bpf_regions::Shapes;
-use std::alloc::Global;
+use std::alloc::{AllocError, Global};
 use std::io::{Read, Write};
 use std::sync::Wait;
 
@@ -40,6 +40,17 @@ struct Step {
     lines: u64,
     left: usize,
     quits: bool,
+}
+
+/// The beginning of a line and the bytes behind it; if there are none, a line feed that ends the line.
+fn continued(alloc: Global, line: &[u8], block: &[u8]) -> Result<Vec<u8>, AllocError> {
+    let mut text = Vec::from_slice(alloc, line)?;
+    text.extend_from_slice(block)?;
+    if block.is_empty() && !line.is_empty() {
+        text.reserve(1)?;
+        text.push_reserved(b'\n');
+    }
+    Ok(text)
 }
 
 impl<I: Read + Drop> Input<I> {
@@ -82,21 +93,15 @@ impl<I: Read + Drop> Input<I> {
 
     /// Reads the next bytes, behind the beginning of a line. At the end of the input, it ends that line.
     fn fill(&mut self, alloc: Global) -> Result<(), PrintFault> {
-        let mut text = Vec::from_slice(alloc, self.kept())?;
         let block = match block_of(alloc, &mut self.reader) {
             Ok(block) => block,
             Err(FileFault::NoMemory) => return Err(PrintFault::NoMemory),
             Err(_) => return Err(PrintFault::Unread),
         };
-        text.extend_from_slice(block.as_slice())?;
-        if block.is_empty() {
-            self.has_ended = true;
-            if !text.is_empty() {
-                text.push(b'\n')?;
-            }
-        }
+        let text = continued(alloc, self.kept(), block.as_slice())?;
         self.text = text;
         self.done = 0;
+        self.has_ended = block.is_empty();
         Ok(())
     }
 

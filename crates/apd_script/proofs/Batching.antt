@@ -1,14 +1,13 @@
 -- Taking lines one after another.
-use Rattle.std.specs.Prelude.{◌≡◌, ℕ, List, [], ◌∷◌, ◌++◌, Option, Some, None, refl}
+use Rattle.std.specs.Prelude.{◌≡◌, ℕ, List, [], ◌∷◌, ◌++◌, Some, None}
 use Rattle.std.proofs.Common.{◌∙◌, ap, sym, append-nil}
 use Rattle.std.proofs.lemmas.List.{map-append}
 use Rattle.bpf_regions.specs.declared.maps.Shape.{Shape}
-use Rattle.apd_script.specs.Asked.{Asked, asked_by, asked_of, commands_of, numbered_of}
+use Rattle.apd_script.specs.Asked.{asked_by, commands_of, numbered_of}
 use Rattle.apd_script.specs.Batches.{IsTaken, Adds, Taken, Malformed, numbers_of}
 use Rattle.apd_script.specs.Lines.{line_asks}
 use Rattle.apd_script.specs.Script.{numbered}
 use Rattle.apd_script.specs.declared.batch.MalformedLine.{MalformedLine}
-use Rattle.apd_script.specs.declared.command.Command.{Command}
 use Rattle.apd_script.specs.declared.command.Numbered.{Numbered}
 
 module _ (maps : List Shape) (line : List ℕ) (old new : List Numbered) (bad bad2 : List MalformedLine) where

@@ -1,5 +1,5 @@
 -- Lines that are read as they come: commands and malformed lines, side by side.
-use Rattle.std.specs.Prelude.{◌≡◌, ◌⊎◌, ◌<◌, ◌≤◌, ℕ, ◌+◌, List, [], ◌∷◌, ◌++◌, length, map}
+use Rattle.std.specs.Prelude.{◌≡◌, ◌≤◌, ℕ, ◌+◌, List, [], ◌∷◌, ◌++◌, length, map}
 use Rattle.bpf_regions.specs.declared.maps.Shape.{Shape}
 use Rattle.apd_script.specs.Asked.{Asked}
 use Rattle.apd_script.specs.Lines.{line_asks, IsWellFormed}
