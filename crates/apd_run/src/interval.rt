@@ -94,7 +94,8 @@ fn interval<W: Serving + Drop, O: Operating<W> + Drop, R: Wait, P: Console>(
         ((O.crew staff.new.operator).workers ≡ (O.crew staff.old.operator).workers) }
     ensures on { IfOk result (λ passed. from.line < passed.next) }
     ensures rest { IfOk result (λ passed.
-        drop passed.next given.commands.now ≡ after_wait (drop from.line given.commands.now)) }
+        drop passed.next given.entry.commands.now
+        ≡ after_wait (drop from.line given.entry.commands.now)) }
     ensures shows { IfOk result (λ passed. ShowsOne setting.now.strict
         (P.contents writer.old) (P.contents writer.new)
         (O.crew staff.old.operator).counted (O.crew staff.new.operator).counted

@@ -6,8 +6,8 @@ ghost use Rattle.apd_run.specs.Shows.{Runs};
 
 use crate::access::{NewShards, Opening, Supplies, run_live};
 use crate::console::{Console, Notes, Terminal};
+use crate::input::Input;
 use crate::lines::{Lines, Script};
-use crate::live::Input;
 use crate::progress::Watcher;
 use crate::runner::fault::{
     RunFault, complain, of_script, say_if_group, say_why, say_why_live, unreadable,

@@ -1,6 +1,6 @@
 use Rattle.std.proofs.Common.{refl, sym, ◌∙◌}
 use Rattle.apd_run.specs.Shows.{Nothing, Then, Before}
-use Rattle.apd_run.proofs.live.InputLines.run.Goals as goal
+use Rattle.apd_run.proofs.input.InputLines.run.Goals as goal
 
 pub intervals-init : goal.intervals-init
 intervals-init g c =

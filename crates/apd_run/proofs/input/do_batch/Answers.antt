@@ -1,5 +1,5 @@
 use Rattle.apd_run.proofs.Flushed.{shows_flushed, breaks_flushed}
-use Rattle.apd_run.proofs.live.do_batch.Goals as goal
+use Rattle.apd_run.proofs.input.do_batch.Goals as goal
 
 pub returns-in-Ok-flush-clause-shows : goal.returns-in-Ok-flush-clause-shows
 returns-in-Ok-flush-clause-shows g c = shows_flushed _ _ _ _ _ _ _ _ c.in-Ok.ensures.shows c.flush.ensures.keeps
