@@ -5,5 +5,5 @@ pub returns-in-Ok-clause-shows : goal.returns-in-Ok-clause-shows
 returns-in-Ok-clause-shows g c = λ counted. record {
   handed = c.tell_malformed.new.told.items;
   prints = c.in-Ok.ensures.prints;
-  counts = counted_nothing counted _ c.in_ok-tell_malformed.ensures.told;
+  counts = counted_nothing counted _ (rw c.new-told.ensures.items at c.in_ok-tell_malformed.ensures.told);
 }
