@@ -182,23 +182,30 @@ fn do_batch<W: Serving + Drop, O: Operating<W> + Drop, R: Wait, P: Console>(
     }
 }
 
+/// What the printed lines of a batch say, and how far it went.
+#[derive(Clone, Copy)]
+struct Passed {
+    found: Found,
+    step: Step,
+}
+
 impl<I: Read + Drop> Input<I> {
     /// Does the whole lines that are there, up to a `wait` or a `quit`, in the interval with this number.
-    fn step<W: Serving + Drop, O: Operating<W> + Drop, R: Wait, P: Console>(
-        &mut self,
+    fn do_lines<W: Serving + Drop, O: Operating<W> + Drop, R: Wait, P: Console>(
+        &self,
         setting: &Setting<'_, W, R>,
         staff: &mut Staff<W, O>,
         number: u64,
         writer: &mut P,
-    ) -> Result<Found, PrintFault>
+    ) -> Result<Passed, PrintFault>
         requires home { vec_len staff.old.workers ≡ length setting.now.desks.now }
         ensures home { OnOk result (vec_len staff.new.workers ≡ length setting.now.desks.now) }
         ensures workers { OnOk result
             ((O.crew staff.new.operator).workers ≡ (O.crew staff.old.operator).workers) }
-        ensures shows { IfOk result (λ found. ShowsOne setting.now.strict
+        ensures shows { IfOk result (λ passed. ShowsOne setting.now.strict
             (P.contents writer.old) (P.contents writer.new)
             (O.crew staff.old.operator).counted (O.crew staff.new.operator).counted
-            found.memory found.refused) }
+            passed.found.memory passed.found.refused) }
         ensures breaks { OnErr result
             (BreaksOff (P.contents writer.old) (P.contents writer.new)) }
     {
@@ -209,12 +216,10 @@ impl<I: Read + Drop> Input<I> {
             left: batch.rest.len(),
             quits: begins_with_quit(batch.rest),
         };
-        let found = match do_batch(setting, staff, batch, number, writer) {
-            Ok(found) => found,
+        match do_batch(setting, staff, batch, number, writer) {
+            Ok(found) => return Ok(Passed { found, step }),
             Err(fault) => return Err(fault),
-        };
-        self.pass(step);
-        Ok(found)
+        }
     }
 }
 
@@ -237,11 +242,12 @@ impl<I: Read + Drop> Lines for Input<I> {
                 Ok(false) => return Ok(found),
                 Err(fault) => return Err(fault),
             }
-            let more = match input.step(setting, staff, number, writer) {
-                Ok(more) => more,
+            let passed = match input.do_lines(setting, staff, number, writer) {
+                Ok(passed) => passed,
                 Err(fault) => return Err(fault),
             };
-            found = found.and(more);
+            input.pass(passed.step);
+            found = found.and(passed.found);
             number += 1;
         }
         Ok(found)

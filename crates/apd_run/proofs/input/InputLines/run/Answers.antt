@@ -10,9 +10,9 @@ pub intervals-preserved : goal.intervals-preserved
 intervals-preserved g c =
     let goes_on = sym c.is_over.ensures.is ∙ c.if-is_over.false in
     record {
-      home = c.in-Ok-step.ensures.home;
-      workers = c.in-Ok-step.ensures.workers ∙ c.intervals.invariant.workers;
-      shown = rw c.and-found.ensures.memory (rw c.and-found.ensures.refused (Then _ _ _ _ _ _ _ _ c.intervals.invariant.shown goes_on c.in-Ok-step.ensures.shows));
+      home = c.in-Ok.ensures.home;
+      workers = c.in-Ok.ensures.workers ∙ c.intervals.invariant.workers;
+      shown = rw c.and-found.ensures.memory (rw c.and-found.ensures.refused (Then _ _ _ _ _ _ _ _ c.intervals.invariant.shown goes_on c.in-Ok.ensures.shows));
     }
 
 pub returns-in-Err-clause-breaks : goal.returns-in-Err-clause-breaks
@@ -27,8 +27,8 @@ returns-in-Err-clause-breaks g c =
       last = Before refl;
     }
 
-pub returns-in-Err-step-clause-breaks : goal.returns-in-Err-step-clause-breaks
-returns-in-Err-step-clause-breaks g c =
+pub returns-in-Err-do_lines-clause-breaks : goal.returns-in-Err-do_lines-clause-breaks
+returns-in-Err-do_lines-clause-breaks g c =
     record {
       mid = g.P.Write.contents c.intervals.writer;
       before = (g.O.Operating.crew c.intervals.staff.operator).counted;
@@ -36,5 +36,5 @@ returns-in-Err-step-clause-breaks g c =
       refused = c.intervals.found.refused;
       shown = c.intervals.invariant.shown;
       goes_on = sym c.is_over.ensures.is ∙ c.if-is_over.false;
-      last = c.in-Err-step.ensures.breaks;
+      last = c.in-Err-do_lines.ensures.breaks;
     }
