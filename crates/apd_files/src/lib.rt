@@ -14,4 +14,4 @@ pub use inputs::{
     read_whole, shown,
 };
 pub use outputs::{Unwritten, write_whole};
-pub use system::RealFiles;
+pub use system::{RealFiles, block_of};

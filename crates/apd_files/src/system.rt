@@ -68,7 +68,7 @@ fn fault_of(error: &Error) -> FileFault {
 }
 
 /// The next bytes of a reader, none at its end. An interrupted read is repeated.
-fn block_of<F: Read>(alloc: Global, file: &mut F) -> Result<Vec<u8>, FileFault> {
+pub fn block_of<F: Read>(alloc: Global, file: &mut F) -> Result<Vec<u8>, FileFault> {
     let Ok(mut block) = vec![in alloc; 0u8; BLOCK] else {
         return Err(FileFault::NoMemory);
     };

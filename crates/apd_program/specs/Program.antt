@@ -5,7 +5,7 @@ use Rattle.clap.specs.declared.builder.value_parser.ValueParser.{ValueParser}
 use Rattle.apd_files.specs.Beginning.{AppendsBeginning}
 use Rattle.apd_run.specs.Counts.{none}
 use Rattle.apd_run.specs.Shows as shows
-use Rattle.apd_words.specs.Asked.{Asked, Wanted, Run, Answer}
+use Rattle.apd_words.specs.Asked.{Asked, Wanted, Run, Live, Answer}
 use Rattle.apd_words.specs.CommandLine.{TakesNames, hook_names, worker_names}
 use Rattle.apd_words.specs.Reads.{AsksFor, IsHelp}
 use Rattle.apd_words.specs.declared.Told.{Told}
@@ -31,15 +31,18 @@ pub data Performs (files : Held) (a : Asked) (output old new : Option (List ℕ)
 abbrev pub Refuses : Option (List ℕ) → Option (List ℕ) → ℕ → Type 0
 Refuses old new status = (new ≡ old) × ((status ≡ 2) ⊎ (status ≡ 3))
 
--- what is wanted is done without threads: no script runs
+-- what is wanted is done without threads: no script runs, nor lines as they come
 abbrev pub Responds : Held → Wanted → Option (List ℕ) → Option (List ℕ) → ℕ → Type 0
 Responds files (Answer a output) old new status = Performs files a output old new status
 Responds files (Run config script workers states quiet strict verbose) old new status = Refuses old new status
+Responds files (Live config workers states strict verbose) old new status = Refuses old new status
 
--- what is wanted is done: a script runs from its first line
+-- what is wanted is done: a script runs from its first line, or lines as they come
 abbrev pub Fulfils : Held → Wanted → Option (List ℕ) → Option (List ℕ) → ℕ → Type 0
 Fulfils files (Answer a output) old new status = Performs files a output old new status
 Fulfils files (Run config script workers states quiet strict verbose) old new status =
+    shows.Runs strict old new none status
+Fulfils files (Live config workers states strict verbose) old new status =
     shows.Runs strict old new none status
 
 -- what is written for words that make no request, and the status

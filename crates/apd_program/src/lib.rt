@@ -1,7 +1,7 @@
 //! The commands of `apd`: what it does with its command line.
 //!
-//! Main calls: `perform` for all commands, and `apd_main` for all but `run`, which takes threads. Each reads the
-//! words once; what they ask for determines the rest.
+//! Main calls: `perform` for all commands, and `apd_main` for all but `run` and `live`, which take threads. Each reads
+//! the words once; what they ask for determines the rest.
 #![tactic(auto)]
 
 mod answer;

@@ -29,7 +29,7 @@ use std::io::Write;
 /// Does what the words ask for; the first is the program's own name. Returns the exit status: 0 for success; 1 if
 /// something was refused or a capture is cut; 2 for a fault of the words, a configuration, a file or a write; 3 for
 /// lack of memory. An answer goes to `out`, or, if it is a success, to the file named for it; all messages go to
-/// `err`. No script runs, since that takes threads (`perform`): the status is 2.
+/// `err`. No script runs, nor lines as they come, since that takes threads (`perform`): the status is 2.
 pub fn apd_main<'a, F: Files, O: Write, E: Write>(
     alloc: Global,
     words: &'a [&'a str],
@@ -47,6 +47,7 @@ pub fn apd_main<'a, F: Files, O: Write, E: Write>(
     match read_words(alloc, words) {
         Ok(Request::Answer(query)) => respond(alloc, query, files, out, err),
         Ok(Request::Run(_)) => complain(alloc, &ProgramFault::NoThreads, err),
+        Ok(Request::Live(_)) => complain(alloc, &ProgramFault::NoThreads, err),
         Err(told) => tell(alloc, &told, out, err),
     }
 }

@@ -9,3 +9,4 @@ pub mod Keeping
 pub mod Loading
 pub mod OneByOne
 pub mod Ending
+pub mod Flushed

@@ -62,6 +62,12 @@ counted_all c d xs ys t h =
     ∙ counts_append c.counted xs h.reports
     ∙ ap (λ l. plus c.counted (tallied l)) (sym h.listed)
 
+-- nothing was collected, and the reports count nothing
+pub counted_nothing : (c : Counts) (xs : List Report) → Tells [] xs → c ≡ plus c (tallied xs)
+counted_nothing c xs t =
+    let crew : Crew = record { workers = 0; counted = c } in
+    counted_all crew crew xs xs t (collects_none crew xs)
+
 -- the operator has reported nothing
 pub tells_none : (xs : List Report) → Tells xs xs
 tells_none xs = record { reports = []; listed = sym (append-nil xs); nothing = refl }

@@ -10,7 +10,7 @@ use Rattle.apd_text.specs.Lines.{reports_text, totals_text}
 use Rattle.apd_text.specs.Order.{IsOrdered}
 use Rattle.apd_text.specs.declared.reports.report.Report.{Report}
 use Rattle.apd_text.specs.declared.reports.report.Told.{Told}
-use Rattle.apd_text.specs.declared.reports.report.Told.TheVariants.{Memory, Fault, Refused, Certificate, Unreadable}
+use Rattle.apd_text.specs.declared.reports.report.Told.TheVariants.{Memory, Fault, Refused, Certificate, Unreadable, Malformed}
 use Rattle.apd_run.specs.Tallies.{tallied}
 
 -- the report says `memory`
@@ -34,17 +34,30 @@ is_refusal _ = false
 abbrev pub any_refusal : List Report → Bool
 any_refusal reports = list_any (λ r. is_refusal r.told) reports
 
--- a strict run ends after a refused line
+-- the report says that a line is malformed
+abbrev pub is_malformed : Told → Bool
+is_malformed (Malformed why) = true
+is_malformed _ = false
+
+-- one of the reports says so
+abbrev pub any_malformed : List Report → Bool
+any_malformed reports = list_any (λ r. is_malformed r.told) reports
+
+-- one of the reports says that a line is at fault: it is malformed or, in a strict run, was refused
+abbrev pub any_fault : Bool → List Report → Bool
+any_fault strict reports = any_malformed reports || (strict && any_refusal reports)
+
+-- a strict run ends after a line at fault
 abbrev pub is_over : Bool → Bool → Bool
 is_over strict refused = strict && refused
 
--- the reports are printed in order; the flags say whether a line says `memory`, and whether one was refused
-pub record Prints (old new : Option (List ℕ)) (handed : List Report) (memory refused : Bool) : Type 0 where
+-- the reports are printed in order; the flags say whether a line says `memory`, and whether one is at fault
+pub record Prints (strict : Bool) (old new : Option (List ℕ)) (handed : List Report) (memory refused : Bool) : Type 0 where
   pub printed : List Report
   pub ordered : IsOrdered handed printed
   pub text : Appends old new (reports_text printed)
   pub memory_is : memory ≡ any_memory printed
-  pub refused_is : refused ≡ any_refusal printed
+  pub refused_is : refused ≡ any_fault strict printed
 
 -- printing an interval breaks off: before it begins, or within the reports
 pub data BreaksOff (old new : Option (List ℕ)) : Type 0 where
@@ -52,16 +65,16 @@ pub data BreaksOff (old new : Option (List ℕ)) : Type 0 where
   Within : (handed printed : List Report) → IsOrdered handed printed → AppendsBeginning old new (reports_text printed) → BreaksOff old new
 
 -- one interval: the reports are printed, and are what was counted
-pub record ShowsOne (old new : Option (List ℕ)) (counted counted2 : Counts) (memory refused : Bool) : Type 0 where
+pub record ShowsOne (strict : Bool) (old new : Option (List ℕ)) (counted counted2 : Counts) (memory refused : Bool) : Type 0 where
   pub handed : List Report
-  pub prints : Prints old new handed memory refused
+  pub prints : Prints strict old new handed memory refused
   pub counts : counted2 ≡ plus counted (tallied handed)
 
--- consecutive intervals; in a strict run, none follows a refused line
+-- consecutive intervals; in a strict run, none follows a line at fault
 pub data Shows (strict : Bool) (old : Option (List ℕ)) (counted : Counts) : Option (List ℕ) → Counts → Bool → Bool → Type 0 where
   Nothing : Shows strict old counted old counted false false
   Then : (mid new : Option (List ℕ)) (before after : Counts) (memory more refused again : Bool) → Shows strict old counted mid before memory refused
-      → is_over strict refused ≡ false → ShowsOne mid new before after more again → Shows strict old counted new after (memory || more) (refused || again)
+      → is_over strict refused ≡ false → ShowsOne strict mid new before after more again → Shows strict old counted new after (memory || more) (refused || again)
 
 -- consecutive intervals, the last of which breaks off
 pub record Breaks (strict : Bool) (old new : Option (List ℕ)) (counted : Counts) : Type 0 where
@@ -73,9 +86,9 @@ pub record Breaks (strict : Bool) (old new : Option (List ℕ)) (counted : Count
   pub goes_on : is_over strict refused ≡ false
   pub last : BreaksOff mid new
 
--- 3 if a line says `memory`; otherwise 1 if a strict run ends after a refused line; otherwise 0
-abbrev pub status_of : Bool → Bool → Bool → ℕ
-status_of strict memory refused = if memory then 3 else (if is_over strict refused then 1 else 0)
+-- 3 if a line says `memory`; otherwise 1 if a line is at fault; otherwise 0
+abbrev pub status_of : Bool → Bool → ℕ
+status_of memory refused = if memory then 3 else (if refused then 1 else 0)
 
 -- 2 for a failed write, 3 for lack of memory
 abbrev pub IsBroken : ℕ → Type 0
@@ -90,5 +103,5 @@ pub data Finishes (old new : Option (List ℕ)) (counted : Counts) (own : ℕ) :
 -- a whole run and its status: its intervals and then the last line, or it breaks off in its intervals
 pub data Runs (strict : Bool) (old new : Option (List ℕ)) (counted : Counts) : ℕ → Type 0 where
   Ends : (mid : Option (List ℕ)) (all : Counts) (memory refused : Bool) (status : ℕ) → Shows strict old counted mid all memory refused
-      → Finishes mid new all (status_of strict memory refused) status → Runs strict old new counted status
+      → Finishes mid new all (status_of memory refused) status → Runs strict old new counted status
   Fails : (status : ℕ) → Breaks strict old new counted → IsBroken status → Runs strict old new counted status

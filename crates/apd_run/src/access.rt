@@ -1,4 +1,4 @@
-//! Running a script on a live access point.
+//! Running a script, or lines as they come, on a live access point.
 //!
 //! Main call: `run_live`. It depends on `ap_live`, `loads` and `running`. A worker of the run serves the queue of one
 //! worker of the access point by `LiveAp::serve`, and reports each event. The operator submits events, loads and
@@ -17,5 +17,6 @@ pub use ap_shards::NewShards;
 pub use ap_tagged::{Gate, OpenGate};
 pub use naming::Publications;
 pub use operator::LiveOperator;
-pub use running::{Opening, Supplies, run_live};
+pub(crate) use running::run_live;
+pub use running::{Opening, Supplies};
 pub use worker::LiveWorker;

@@ -9,9 +9,9 @@ use crate::crew::{Serving, Signs};
 use crate::operating::Operating;
 use crate::setting::Setting;
 use ap_model::Event;
-use apd_script::Numbered;
+use apd_script::{MalformedLine, Numbered};
 use apd_text::{Report, Told};
-use std::alloc::AllocError;
+use std::alloc::{AllocError, Global};
 use std::sync::Wait;
 use std::sync::atomic::Ordering;
 use std::thread;
@@ -95,6 +95,35 @@ fn tell_memory(told: &mut Vec<Report>, line: u64) -> Result<(), AllocError>
 {
     told.reserve(1)?;
     told.push_reserved(of_line(line, Told::Memory));
+    Ok(())
+}
+
+/// Lists a report that a line is malformed.
+fn tell_malformed_line(
+    alloc: Global,
+    malformed: &MalformedLine<'_>,
+    told: &mut Vec<Report>,
+) -> Result<(), AllocError>
+    ensures told { OnOk result (Tells told.old.items told.new.items) }
+{
+    let MalformedLine { line, fault } = *malformed;
+    let why = format!(in alloc; "{fault}")?;
+    told.reserve(1)?;
+    told.push_reserved(of_line(line, Told::Malformed { why }));
+    Ok(())
+}
+
+/// Lists a report on each malformed line.
+pub(crate) fn tell_malformed(
+    alloc: Global,
+    malformed: &[MalformedLine<'_>],
+    told: &mut Vec<Report>,
+) -> Result<(), AllocError>
+    ensures told { OnOk result (Tells told.old.items told.new.items) }
+{
+    for line in malformed {
+        tell_malformed_line(alloc, line, told)?;
+    }
     Ok(())
 }
 

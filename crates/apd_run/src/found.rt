@@ -1,7 +1,7 @@
 //! What printed lines say, as far as the run's status or end depends on it.
 
 ghost use Rattle.std.specs.Prelude.{◌≡◌, false, ◌||◌};
-ghost use Rattle.apd_run.specs.Shows.{is_refusal, any_refusal, is_over};
+ghost use Rattle.apd_run.specs.Shows.{is_refusal, any_refusal, is_malformed, any_malformed, any_fault, is_over};
 
 use apd_text::{Report, Told};
 
@@ -10,7 +10,7 @@ use apd_text::{Report, Told};
 pub(crate) struct Found {
     /// One of them says `memory`.
     pub memory: bool,
-    /// One of them says that a program, or a file of one, was refused.
+    /// One of them says that a line is malformed or, in a strict run, that a program or a file of one was refused.
     pub refused: bool,
 }
 
@@ -38,7 +38,7 @@ impl Found {
     }
 }
 
-/// Whether a run ends after lines of which one was refused.
+/// Whether a run ends after lines of which one was at fault.
 pub(crate) fn is_over(strict: bool, refused: bool) -> bool
     ensures is { result ≡ is_over strict refused }
 {
@@ -46,7 +46,7 @@ pub(crate) fn is_over(strict: bool, refused: bool) -> bool
 }
 
 /// Whether a report says that a program, or a file of one, was refused.
-pub(crate) fn is_refusal(told: &Told) -> bool
+fn is_refusal(told: &Told) -> bool
     ensures is { result ≡ is_refusal told.now }
 {
     matches!(
@@ -55,8 +55,31 @@ pub(crate) fn is_refusal(told: &Told) -> bool
     )
 }
 
-pub(crate) fn any_refusal(reports: &[Report]) -> bool
+fn any_refusal(reports: &[Report]) -> bool
     ensures is { result ≡ any_refusal reports.now }
 {
     reports.iter().any(|report| is_refusal(&report.told))
+}
+
+fn is_malformed(told: &Told) -> bool
+    ensures is { result ≡ is_malformed told.now }
+{
+    matches!(told, Told::Malformed { .. })
+}
+
+fn any_malformed(reports: &[Report]) -> bool
+    ensures is { result ≡ any_malformed reports.now }
+{
+    reports.iter().any(|report| is_malformed(&report.told))
+}
+
+/// Whether one of the reports says that a line is malformed or, in a strict run, that a program or a file of one was
+/// refused.
+pub(crate) fn any_fault(strict: bool, reports: &[Report]) -> bool
+    ensures is { result ≡ any_fault strict reports.now }
+{
+    if any_malformed(reports) {
+        return true;
+    }
+    strict && any_refusal(reports)
 }

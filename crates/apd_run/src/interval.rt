@@ -1,17 +1,18 @@
 //! Intervals: consecutive lines up to a `wait`, and at most 4096 of them.
 
 ghost use Rattle.std.specs.Prelude.{◌≡◌, ◌<◌, length, drop, vec_len, IfOk, OnOk, OnErr};
+ghost use Rattle.ap_books.specs.Counts.{Counts};
 ghost use Rattle.apd_run.specs.Intervals.{after_wait};
 ghost use Rattle.apd_run.specs.Shows.{is_memory, any_memory, Prints, BreaksOff, ShowsOne, Shows, Breaks};
 
 use crate::collecting::{collect, send_out};
 use crate::console::Console;
 use crate::crew::Serving;
-use crate::feeding::feed;
-use crate::found::{Found, any_refusal, is_over};
+use crate::feeding::{feed, tell_malformed};
+use crate::found::{Found, any_fault, is_over};
 use crate::operating::Operating;
 use crate::setting::{Setting, Staff};
-use apd_script::Numbered;
+use apd_script::{MalformedLine, Numbered};
 use apd_text::{PrintFault, Report, Told, print_reports, put_in_order};
 use std::alloc::Global;
 use std::io::Write;
@@ -23,6 +24,13 @@ use std::sync::atomic::Ordering;
 struct Place {
     line: usize,
     interval: u64,
+}
+
+/// Commands, of which an interval does some, and malformed lines, which it answers.
+#[derive(Clone, Copy)]
+pub(crate) struct Given<'a> {
+    pub commands: &'a [Numbered<'a>],
+    pub malformed: &'a [MalformedLine<'a>],
 }
 
 /// The most lines of an interval, so that what is kept of one doesn't grow with the script.
@@ -50,11 +58,12 @@ fn any_memory(reports: &[Report]) -> bool
 /// Prints reports in order, and returns what their lines say.
 fn print_interval<P: Write>(
     alloc: Global,
+    strict: bool,
     handed: Vec<Report>,
     writer: &mut P,
 ) -> Result<Found, PrintFault>
-    ensures prints { IfOk result (λ found. Prints (P.contents writer.old) (P.contents writer.new)
-        handed.items found.memory found.refused) }
+    ensures prints { IfOk result (λ found. Prints strict (P.contents writer.old)
+        (P.contents writer.new) handed.items found.memory found.refused) }
     ensures breaks { OnErr result (BreaksOff (P.contents writer.old) (P.contents writer.new)) }
 {
     let mut reports = handed;
@@ -62,7 +71,7 @@ fn print_interval<P: Write>(
     match print_reports(alloc, writer, reports.as_slice()) {
         Ok(()) => {
             let memory = any_memory(reports.as_slice());
-            let refused = any_refusal(reports.as_slice());
+            let refused = any_fault(strict, reports.as_slice());
             return Ok(Found { memory, refused });
         }
         Err(fault) => return Err(fault),
@@ -70,37 +79,90 @@ fn print_interval<P: Write>(
 }
 
 /// Runs an interval: workers go out, the operator follows the lines from an index on, up to a `wait` or the end,
-/// messages tell what became of them, workers come back, and all reports are printed.
+/// messages tell what became of them, workers come back, and all reports are printed, with those of malformed lines.
 fn interval<W: Serving + Drop, O: Operating<W> + Drop, R: Wait, P: Console>(
     setting: &Setting<'_, W, R>,
     staff: &mut Staff<W, O>,
-    commands: &[Numbered<'_>],
+    given: Given<'_>,
     from: Place,
     writer: &mut P,
 ) -> Result<Passed, PrintFault>
     requires home { vec_len staff.old.workers ≡ length setting.now.desks.now }
-    requires more { from.line < length commands.now }
+    requires more { from.line < length given.commands.now }
     ensures home { OnOk result (vec_len staff.new.workers ≡ length setting.now.desks.now) }
     ensures workers { OnOk result
         ((O.crew staff.new.operator).workers ≡ (O.crew staff.old.operator).workers) }
     ensures on { IfOk result (λ passed. from.line < passed.next) }
     ensures rest { IfOk result (λ passed.
-        drop passed.next commands.now ≡ after_wait (drop from.line commands.now)) }
-    ensures shows { IfOk result (λ passed. ShowsOne (P.contents writer.old) (P.contents writer.new)
+        drop passed.next given.entry.commands.now
+        ≡ after_wait (drop from.line given.entry.commands.now)) }
+    ensures shows { IfOk result (λ passed. ShowsOne setting.now.strict
+        (P.contents writer.old) (P.contents writer.new)
         (O.crew staff.old.operator).counted (O.crew staff.new.operator).counted
         passed.found.memory passed.found.refused) }
     ensures breaks { OnErr result (BreaksOff (P.contents writer.old) (P.contents writer.new)) }
 {
     send_out(setting, &mut staff.workers, from.interval);
     let mut told = Vec::new(setting.alloc);
+    let commands = given.commands;
     let fed = feed(setting, &mut staff.operator, commands, from.line, &mut told);
     setting.signs.closed.store(from.interval, Ordering::SeqCst);
     let next = fed?;
     let followed = &commands[from.line..next];
     writer.tell(followed, told.as_slice());
+    tell_malformed(setting.alloc, given.malformed, &mut told)?;
     collect(setting, staff, &mut told)?;
-    let found = print_interval(setting.alloc, told, writer)?;
+    let found = print_interval(setting.alloc, setting.strict, told, writer)?;
     Ok(Passed { next, found })
+}
+
+/// Runs the interval with this number of all commands, or those up to a `wait`.
+pub(crate) fn first_interval<W: Serving + Drop, O: Operating<W> + Drop, R: Wait, P: Console>(
+    setting: &Setting<'_, W, R>,
+    staff: &mut Staff<W, O>,
+    given: Given<'_>,
+    number: u64,
+    writer: &mut P,
+) -> Result<Found, PrintFault>
+    requires home { vec_len staff.old.workers ≡ length setting.now.desks.now }
+    requires some { 0 < length given.commands.now }
+    ensures home { OnOk result (vec_len staff.new.workers ≡ length setting.now.desks.now) }
+    ensures workers { OnOk result
+        ((O.crew staff.new.operator).workers ≡ (O.crew staff.old.operator).workers) }
+    ensures shows { IfOk result (λ found. ShowsOne setting.now.strict
+        (P.contents writer.old) (P.contents writer.new)
+        (O.crew staff.old.operator).counted (O.crew staff.new.operator).counted
+        found.memory found.refused) }
+    ensures breaks { OnErr result (BreaksOff (P.contents writer.old) (P.contents writer.new)) }
+{
+    let from = Place {
+        line: 0,
+        interval: number,
+    };
+    match interval(setting, staff, given, from, writer) {
+        Ok(passed) => return Ok(passed.found),
+        Err(fault) => return Err(fault),
+    }
+}
+
+/// Answers malformed lines without commands, for which no worker goes out.
+pub(crate) fn answer<P: Write>(
+    alloc: Global,
+    strict: bool,
+    malformed: &[MalformedLine<'_>],
+    writer: &mut P,
+) -> Result<Found, PrintFault>
+    ensures shows { (counted : Counts) → IfOk result (λ found. ShowsOne strict
+        (P.contents writer.old) (P.contents writer.new)
+        counted counted found.memory found.refused) }
+    ensures breaks { OnErr result (BreaksOff (P.contents writer.old) (P.contents writer.new)) }
+{
+    let mut told = Vec::new(alloc);
+    tell_malformed(alloc, malformed, &mut told)?;
+    match print_interval(alloc, strict, told, writer) {
+        Ok(found) => return Ok(found),
+        Err(fault) => return Err(fault),
+    }
 }
 
 /// Runs all intervals of a script, or those up to a refused line if the run is strict, and returns what the printed
@@ -133,7 +195,11 @@ pub(crate) fn intervals<W: Serving + Drop, O: Operating<W> + Drop, R: Wait, P: C
             interval: interval_number,
         };
         let end = commands.len().min(line.saturating_add(MOST_LINES));
-        let passed = match interval(setting, staff, &commands[..end], from, writer) {
+        let given = Given {
+            commands: &commands[..end],
+            malformed: &[],
+        };
+        let passed = match interval(setting, staff, given, from, writer) {
             Ok(passed) => passed,
             Err(fault) => return Err(fault),
         };

@@ -1,7 +1,7 @@
 //! Runs of scripts: the commands of a script, its intervals (up to a `wait` or 4096 lines), the access point with its
 //! worker threads, and the messages about a run.
 //!
-//! Main calls: `run`, for the command `apd run`, and `run_script`, for any access point. They write, for each interval,
+//! Main calls: `run` and `live`, for the commands `apd run` and `apd live`, and `run_script`, for any access point. They write, for each interval,
 //! reports ordered by line and shard, and then a line of totals, which are what the reports count; or a prefix of that.
 #![tactic(auto)]
 
@@ -12,7 +12,9 @@ mod console;
 mod crew;
 mod feeding;
 mod found;
+mod input;
 mod interval;
+mod lines;
 mod loads;
 mod operating;
 mod progress;
@@ -27,6 +29,6 @@ pub use apd_text::{Report, Told, Unread};
 pub use console::Console;
 pub use operating::{Operating, Waiting};
 pub use progress::{Progress, Watcher};
-pub use runner::{Gate, OpenGate, RunWords, StateLimit, Supplies, run};
+pub use runner::{Gate, OpenGate, RunWords, StateLimit, Streams, Supplies, live, run};
 pub use script::run_script;
 pub use setting::Staff;

@@ -6,10 +6,9 @@ ghost use Rattle.apd_run.specs.Shows.{Shows, Breaks};
 use crate::console::Console;
 use crate::crew::{Desk, Serving, Signs, Task, start_all, work};
 use crate::found::Found;
-use crate::interval::intervals;
+use crate::lines::Lines;
 use crate::operating::Operating;
 use crate::setting::{Setting, Staff};
-use apd_script::Numbered;
 use apd_text::PrintFault;
 use std::alloc::Global;
 use std::sync::Wait;
@@ -48,10 +47,10 @@ fn end_all<W: Serving + Drop, R: Wait>(setting: &Setting<'_, W, R>) {
 }
 
 /// The operator's whole work, if all threads have started. Then each thread is told to end.
-fn beside<W: Serving + Drop, O: Operating<W> + Drop, R: Wait, P: Console + Drop>(
+fn beside<W: Serving + Drop, O: Operating<W> + Drop, R: Wait, L: Lines + Drop, P: Console + Drop>(
     setting: &Setting<'_, W, R>,
     staff: Staff<W, O>,
-    commands: &[Numbered<'_>],
+    lines: L,
     writer: P,
     started: bool,
 ) -> Ran<W, O, P>
@@ -70,7 +69,7 @@ fn beside<W: Serving + Drop, O: Operating<W> + Drop, R: Wait, P: Console + Drop>
     let mut staff = staff;
     let mut writer = writer;
     let found = if started {
-        intervals(setting, &mut staff, commands, &mut writer)
+        lines.run(setting, &mut staff, &mut writer)
     } else {
         Err(PrintFault::NoMemory)
     };
@@ -88,14 +87,9 @@ pub(crate) fn run_threads<
     O: Operating<W> + Drop,
     R: Threads + Wait + Sync,
     T: Task<R> + Sync,
+    L: Lines + Drop,
     P: Console + Drop,
->(
-    setting: &Setting<'_, W, R>,
-    task: &T,
-    staff: Staff<W, O>,
-    commands: &[Numbered<'_>],
-    writer: P,
-) -> Ran<W, O, P>
+>(setting: &Setting<'_, W, R>, task: &T, staff: Staff<W, O>, lines: L, writer: P) -> Ran<W, O, P>
     requires home { vec_len staff.workers ≡ length setting.now.desks.now }
     ensures home { OnOk result.found (vec_len result.staff.workers
         ≡ length setting.now.desks.now) }
@@ -117,7 +111,7 @@ pub(crate) fn run_threads<
             requires { vec_len staff.workers ≡ length setting.now.desks.now }
         {
             let started = start_all(scope, rt, task, many);
-            beside(setting, staff, commands, writer, started)
+            beside(setting, staff, lines, writer, started)
         },
     )
 }

@@ -5,7 +5,8 @@ ghost use Rattle.apd_run.specs.Shows.{Shows, Breaks, IsBroken, status_of, Finish
 
 use crate::console::Console;
 use crate::crew::{Desk, Ready, Serving, Signs};
-use crate::found::{Found, is_over};
+use crate::found::Found;
+use crate::lines::{Lines, Script};
 use crate::operating::Operating;
 use crate::running::{Ran, Work, run_threads};
 use crate::setting::{Setting, Staff};
@@ -31,17 +32,18 @@ fn broken(fault: PrintFault) -> u8
 {
     match fault {
         PrintFault::Unwritten => 2,
+        PrintFault::Unread => 2,
         PrintFault::NoMemory => 3,
     }
 }
 
 /// The status of a run, by what its printed lines say.
-fn ended(strict: bool, found: Found) -> u8
-    ensures { result ≡ status_of strict found.memory found.refused }
+fn ended(found: Found) -> u8
+    ensures { result ≡ status_of found.memory found.refused }
 {
     if found.memory {
         3
-    } else if is_over(strict, found.refused) {
+    } else if found.refused {
         1
     } else {
         0
@@ -85,18 +87,19 @@ fn finish<W: Serving + Drop, O: Operating<W> + Drop, R: Wait, P: Write>(
     }
 }
 
-/// Runs threads for all workers, and the script beside them.
-fn run<W, O, R, P>(
+/// Runs threads for all workers, and the lines beside them.
+fn run<W, O, R, L, P>(
     rt: &R,
     alloc: Global,
     staff: Staff<W, O>,
-    commands: &[Numbered<'_>],
+    lines: L,
     writer: P,
 ) -> Ran<W, O, P>
 where
     W: Serving + Send + Drop,
     O: Operating<W> + Drop,
     R: Threads + Wait + Sync,
+    L: Lines + Drop,
     P: Console + Drop,
     ensures home { OnOk result.found (vec_len result.staff.workers ≡ vec_len staff.workers) }
     ensures workers { OnOk result.found
@@ -128,7 +131,7 @@ where
         desks: desks.as_slice(),
         signs: &signs,
     };
-    run_threads(&setting, &task, staff, commands, writer)
+    run_threads(&setting, &task, staff, lines, writer)
 }
 
 /// Runs a script: between two waits the operator follows the lines while the workers handle events. It returns the
@@ -151,16 +154,37 @@ where
     ensures runs { Runs (P.strict writer) (P.contents writer) (P.contents result.0)
         (O.crew staff.operator).counted result.1 }
 {
-    let strict = writer.is_strict();
+    run_lines(rt, alloc, staff, Script { commands }, writer)
+}
+
+/// Runs lines as `run_script` does. A malformed line is answered, and makes a status of 0 to 1; if the writer is strict,
+/// it ends the run after its interval. The status is 2 also if lines can't be read.
+pub(crate) fn run_lines<W, O, R, L, P>(
+    rt: &R,
+    alloc: Global,
+    staff: Staff<W, O>,
+    lines: L,
+    writer: P,
+) -> (P, u8)
+where
+    W: Serving + Send + Drop,
+    O: Operating<W> + Drop,
+    R: Threads + Wait + Sync,
+    L: Lines + Drop,
+    P: Console + Drop,
+    requires all { vec_len staff.workers ≡ (O.crew staff.operator).workers }
+    ensures runs { Runs (P.strict writer) (P.contents writer) (P.contents result.0)
+        (O.crew staff.operator).counted result.1 }
+{
     let Ran {
         staff,
         writer,
         found,
-    } = run(rt, alloc, staff, commands, writer);
+    } = run(rt, alloc, staff, lines, writer);
     let mut writer = writer;
     match found {
         Ok(found) => {
-            let own = ended(strict, found);
+            let own = ended(found);
             let status = finish(rt, alloc, staff, &mut writer, own);
             return (writer, status);
         }

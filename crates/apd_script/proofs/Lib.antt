@@ -4,3 +4,5 @@ mod Numbers
 mod Many
 mod Parts
 mod Reading
+mod Batching
+mod Chunks

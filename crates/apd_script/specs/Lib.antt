@@ -4,3 +4,4 @@ pub mod Words
 pub mod Lines
 pub mod Script
 pub mod Faults
+pub mod Batches

@@ -1,19 +1,23 @@
-//! The script of a run, which is parsed as a whole before any line runs.
+//! The script of a run, which is parsed as a whole before any line runs, and lines that are read as they come.
 //!
-//! Main call: `read_script`. It depends on `bpf_regions` and `mac_types`. It returns exactly the commands of the text,
-//! each with its line number, or the number of the first malformed line. `line_fault` says in words why that line is
-//! malformed.
+//! Main calls: `read_script` and `read_batch`. It depends on `bpf_regions` and `mac_types`. `read_script` returns exactly
+//! the commands of the text, each with its line number, or the number of the first malformed line. `line_fault` says in
+//! words why that line is malformed. `read_batch` takes whole lines from the beginning of a text, and returns the
+//! malformed ones beside the commands; [`laws`] shows that lines do not depend on how a text is divided.
 #![tactic(auto)]
 
+mod batch;
 mod command;
 mod fault;
 mod hex_text;
+pub mod laws;
 mod line;
 mod operands;
 mod read;
 mod why;
 mod words;
 
+pub use batch::{Batch, MOST_BYTES, MalformedLine, begins_with_quit, read_batch};
 pub use command::{Command, MapWord, Numbered};
 pub use fault::ScriptFault;
 pub use hex_text::HexText;

@@ -18,6 +18,10 @@ pub enum LineFault<'a> {
     Tab,
     CarriageReturn,
     Encoding,
+    /// A line that is read as it comes has more than 8192 bytes.
+    TooLong,
+    /// None of the other variants says why.
+    Other,
     /// No command has this name; `near` is a similar one, if there is one.
     UnknownWord {
         word: &'a str,
@@ -490,6 +494,8 @@ impl fmt::Display for LineFault<'_> {
             LineFault::Tab => f.write_str("a tab"),
             LineFault::CarriageReturn => f.write_str("a carriage return"),
             LineFault::Encoding => f.write_str("not UTF-8"),
+            LineFault::TooLong => f.write_str("the line has more than 8192 bytes"),
+            LineFault::Other => f.write_str("malformed"),
             LineFault::UnknownWord { word, near: None } => {
                 write!(f, "unknown word `{}`", Shown(word))
             }

@@ -1,5 +1,5 @@
 -- The lines of a run.
-use Rattle.std.specs.Prelude.{ℕ, List, [], ◌∷◌, ◌++◌, codes, decimal}
+use Rattle.std.specs.Prelude.{ℕ, List, [], ◌∷◌, ◌++◌, codes, decimal, string_bytes}
 use Rattle.std.specs.List.{flat_map}
 use Rattle.bpf_decode.specs.Answer.{fault_text}
 use Rattle.bpf_verifier.specs.Refusals.{refusal_text}
@@ -29,6 +29,7 @@ told_text number (told.Certificate fault) =
     line_of number (then (codes "certificate") (decimal fault))
 told_text number (told.Unreadable why) = line_of number (codes "unreadable")
 told_text number (told.Word value) = line_of number (then (codes "word") (decimal value))
+told_text number (told.Malformed why) = line_of number (then (codes "error") (string_bytes why))
 
 -- the lines of one report
 abbrev pub report_text : Report → List ℕ

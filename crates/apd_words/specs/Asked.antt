@@ -10,6 +10,7 @@ use Rattle.bpf_regions.specs.declared.hooks.Hook.{Hook}
 use Rattle.bpf_regions.specs.declared.hooks.Hook.TheVariants.{Association, Addba, Data}
 use Rattle.apd_words.specs.CommandLine.{most_states}
 use Rattle.apd_words.specs.declared.Claim.{Claim}
+use Rattle.apd_words.specs.declared.LiveRun.{LiveRun}
 use Rattle.apd_words.specs.declared.Query.{Query}
 use Rattle.apd_words.specs.declared.Question.{Question}
 use Rattle.apd_words.specs.declared.Request.{Request}
@@ -33,9 +34,10 @@ pub data Asked : Type 0 where
   Frames : Text → Bool → Asked
   Help : Option Text → Asked
 
--- the run of a script, or a question and the file for its answer, if there is one
+-- the run of a script, or of lines as they come, or a question and the file for its answer, if there is one
 pub data Wanted : Type 0 where
   Run : Text → Text → ℕ → ℕ → Bool → Bool → Bool → Wanted
+  Live : Text → ℕ → ℕ → Bool → Bool → Wanted
   Answer : Asked → Option Text → Wanted
 
 -- the text of a word, if there is one
@@ -98,6 +100,10 @@ abbrev pub wanted_run : ScriptRun → Wanted
 wanted_run run =
     Run run.config.now run.script.now run.workers run.states run.quiet run.strict run.verbose
 
+-- the run of lines as they come
+abbrev pub wanted_live : LiveRun → Wanted
+wanted_live run = Live run.config.now run.workers run.states run.strict run.verbose
+
 -- what a query wants
 abbrev pub wanted_answer : Query → Wanted
 wanted_answer query = Answer (asked_of query.question) (text_of query.output)
@@ -105,6 +111,7 @@ wanted_answer query = Answer (asked_of query.question) (text_of query.output)
 -- what a request wants
 abbrev pub wanted_of : Request → Wanted
 wanted_of (request.Run run) = wanted_run run
+wanted_of (request.Live run) = wanted_live run
 wanted_of (request.Answer query) = wanted_answer query
 
 infixl 10 ◌>>=◌
@@ -188,6 +195,14 @@ run_of rows = do
   Some (Run config script workers states (is_set (codes "quiet") rows)
       (is_set (codes "strict") rows) (is_set (codes "verbose") rows))
 
+-- `live C [--workers N] [--states N] [--strict] [--verbose]`
+abbrev pub live_of : List Row → Option Wanted
+live_of rows = do
+  config ← first_of (codes "C") rows
+  workers ← option_and_then workers_named (first_of (codes "workers") rows)
+  states ← states_at rows
+  Some (Live config workers states (is_set (codes "strict") rows) (is_set (codes "verbose") rows))
+
 -- `cert HOOK FILE [--config C] [--states N]`
 abbrev pub certify_of : List Row → Option Asked
 certify_of rows = do
@@ -239,7 +254,8 @@ answers_to name rows =
 -- what a command with these arguments wants
 abbrev pub command_wants : Text → List Row → Option Wanted
 command_wants name rows =
-    (if bytes_eq name (codes "run") then run_of rows else answers_to name rows)
+    (if bytes_eq name (codes "run") then run_of rows
+    else (if bytes_eq name (codes "live") then live_of rows else answers_to name rows))
 
 -- what the words want, by the command that they name, and its arguments
 abbrev pub wanted_in : Option (Text × List Row) → Option Wanted

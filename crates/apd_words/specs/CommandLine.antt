@@ -112,6 +112,12 @@ run numbers =
     ∷ workers numbers ∷ states ∷ flag (codes "quiet") ∷ flag (codes "strict")
     ∷ flag (codes "verbose") ∷ [])
 
+-- `live C [--workers N] [--states N] [--strict] [--verbose]`
+abbrev pub live : ValueParser → Shape
+live numbers =
+    command (codes "live") (required (codes "C") ∷ workers numbers ∷ states
+    ∷ flag (codes "strict") ∷ flag (codes "verbose") ∷ [])
+
 -- `cert HOOK FILE [--config C] [--states N] [-o FILE]`
 abbrev pub certify : ValueParser → Shape
 certify hooks = hook_command (codes "cert") hooks (config ∷ states ∷ output ∷ [])
@@ -153,7 +159,8 @@ with_code_commands hooks a =
 
 -- the commands that run programs
 abbrev pub with_run_commands : ValueParser → ValueParser → App → App
-with_run_commands hooks numbers a = with_subcommand (with_subcommand a (trace hooks)) (run numbers)
+with_run_commands hooks numbers a =
+    with_subcommand (with_subcommand (with_subcommand a (trace hooks)) (run numbers)) (live numbers)
 
 -- the commands on certificates
 abbrev pub with_certificate_commands : ValueParser → App → App

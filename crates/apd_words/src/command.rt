@@ -5,7 +5,7 @@ ghost use Rattle.clap.specs.Words.{App, Rule, Shape, app_of, rule_of, with_subco
 ghost use Rattle.clap.specs.Simple.{new_shape};
 ghost use Rattle.clap.specs.declared.builder.value_parser.ValueParser.TheVariants.{Names};
 ghost use Rattle.apd_words.specs.Built.{IsProgram, IsCommand, with_argument};
-ghost use Rattle.apd_words.specs.CommandLine.{command_line, program, with_code_commands, with_run_commands, with_certificate_commands, with_reading_commands, hook_command, required, optional, flag, hook, file, config, output, context, workers, states, verify, assemble, disassemble, trace, run, certify, check, explain, frames, help};
+ghost use Rattle.apd_words.specs.CommandLine.{command_line, program, with_code_commands, with_run_commands, with_certificate_commands, with_reading_commands, hook_command, required, optional, flag, hook, file, config, output, context, workers, states, verify, assemble, disassemble, trace, run, live, certify, check, explain, frames, help};
 
 use clap::builder::ValueParser;
 use clap::{Arg, ArgAction, Command};
@@ -96,7 +96,8 @@ fn with_run_commands<'a>(
         (IsProgram (with_run_commands (Names hooks.entry) (Names numbers.entry) a)) }
 {
     let line = with_command(line, trace(alloc, hooks));
-    with_command(line, run(alloc, numbers))
+    let line = with_command(line, run(alloc, numbers));
+    with_command(line, live(alloc, numbers))
 }
 
 fn with_certificate_commands<'a>(alloc: Global, line: Made<'a>, hooks: &'a [&'a str]) -> Made<'a>
@@ -209,6 +210,22 @@ fn run<'a>(alloc: Global, numbers: &'a [&'a str]) -> Made<'a>
     let quiet = "Tell no progress on standard error";
     let command = with_arg(command, flag(alloc, "quiet", quiet));
     let strict = "End after the interval of the first refused load, with status 1";
+    let command = with_arg(command, flag(alloc, "strict", strict));
+    let verbose = "Tell on standard error what becomes of each load";
+    with_arg(command, flag(alloc, "verbose", verbose))
+}
+
+fn live<'a>(alloc: Global, numbers: &'a [&'a str]) -> Made<'a>
+    ensures is { IfOk result (IsCommand (live (Names numbers.entry))) }
+{
+    let about = "Answer lines of a script as they come on standard input";
+    let command = with_arg(
+        named(alloc, "live", about),
+        required(alloc, "C", "The configuration"),
+    );
+    let command = with_arg(command, workers(alloc, numbers));
+    let command = with_arg(command, states(alloc));
+    let strict = "End after the interval of the first malformed line or refused load";
     let command = with_arg(command, flag(alloc, "strict", strict));
     let verbose = "Tell on standard error what becomes of each load";
     with_arg(command, flag(alloc, "verbose", verbose))

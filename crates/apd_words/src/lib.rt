@@ -75,6 +75,17 @@ pub struct ScriptRun<'a> {
     pub verbose: bool,
 }
 
+/// An access point of 1 to 8 workers that answers lines as they come on standard input. `strict` ends it after the first
+/// interval in which a line was malformed or refused, and `verbose` reports each load on standard error.
+#[derive(Clone, Copy)]
+pub struct LiveRun<'a> {
+    pub config: &'a str,
+    pub workers: u8,
+    pub states: u32,
+    pub strict: bool,
+    pub verbose: bool,
+}
+
 /// A request that runs no script. Paths, frames and numbers are as they were written. The verifier may examine 1 to
 /// 4194304 states.
 #[derive(Clone, Copy)]
@@ -106,6 +117,7 @@ pub struct Query<'a> {
 #[derive(Clone, Copy)]
 pub enum Request<'a> {
     Run(ScriptRun<'a>),
+    Live(LiveRun<'a>),
     Answer(Query<'a>),
 }
 

@@ -4,10 +4,12 @@ ghost use Rattle.std.specs.Prelude.{◌≡◌, ◌≤◌, ◌^◌, IfSome, optio
 ghost use Rattle.clap.specs.Matches.{found_of};
 ghost use Rattle.clap.specs.Simple.{subcommand_rows_of};
 ghost use Rattle.clap.specs.Walk.{first_of, rows_of};
-ghost use Rattle.apd_words.specs.Asked.{asked_of, command_asks, answers_to, wanted_of, wanted_in, asked_verdict, asked_certificate, hook_named, hook_at, workers_named, states_named, states_at, verify_of, assemble_of, disassemble_of, trace_of, run_of, certify_of, check_of, explain_of, frames_of, help_of, is_set};
+ghost use Rattle.apd_words.specs.Asked.{asked_of, command_asks, answers_to, wanted_of, wanted_in, asked_verdict, asked_certificate, hook_named, hook_at, workers_named, states_named, states_at, verify_of, assemble_of, disassemble_of, trace_of, run_of, live_of, certify_of, check_of, explain_of, frames_of, help_of, is_set};
 
 use crate::command::MOST_STATES;
-use crate::{Claim, Given, Query, Question, Request, ScriptRun, Source, Subject, Terms, Trial};
+use crate::{
+    Claim, Given, LiveRun, Query, Question, Request, ScriptRun, Source, Subject, Terms, Trial,
+};
 use bpf_regions::Hook;
 use clap::ArgMatches;
 
@@ -18,6 +20,7 @@ pub(crate) fn request<'a>(matches: &ArgMatches<'a>) -> Option<Request<'a>>
     let (name, matches) = matches.subcommand()?;
     match name {
         "run" => run(matches),
+        "live" => live(matches),
         _ => answer(name, matches),
     }
 }
@@ -114,6 +117,23 @@ fn run<'a>(matches: &ArgMatches<'a>) -> Option<Request<'a>>
         workers,
         states,
         quiet,
+        strict,
+        verbose,
+    }))
+}
+
+fn live<'a>(matches: &ArgMatches<'a>) -> Option<Request<'a>>
+    ensures is { option_map wanted_of result ≡ live_of (rows_of (found_of matches.now)) }
+{
+    let config = value(matches, "C")?;
+    let workers = workers_named(value(matches, "workers")?)?;
+    let states = states(matches)?;
+    let strict = flag(matches, "strict");
+    let verbose = flag(matches, "verbose");
+    Some(Request::Live(LiveRun {
+        config,
+        workers,
+        states,
         strict,
         verbose,
     }))

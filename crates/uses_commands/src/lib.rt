@@ -26,6 +26,8 @@ mod lengths;
 #[cfg(test)]
 mod lines;
 #[cfg(test)]
+mod live;
+#[cfg(test)]
 mod memory;
 #[cfg(test)]
 mod options;

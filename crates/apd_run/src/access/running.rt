@@ -1,4 +1,4 @@
-//! Running a script on an access point made from settings.
+//! Running lines on an access point made from settings.
 
 ghost use Rattle.std.specs.Prelude.{◌≡◌, ◌+◌, ◌<◌, ◌≤◌, vec_len, IfOk};
 ghost use Rattle.std.specs.List.{All};
@@ -16,15 +16,16 @@ use crate::access::naming::Publications;
 use crate::access::operator::{LiveOperator, Sources};
 use crate::access::worker::LiveWorker;
 use crate::console::Console;
+use crate::lines::Lines;
 use crate::loads::{Loads, StateLimit};
-use crate::{Ready, Staff, run_script};
+use crate::script::run_lines;
+use crate::{Ready, Staff};
 use ap_books::{Ledgers, Portions};
 use ap_live::{LiveAp, Opened, OperatorToken, Settings, WorkerToken};
 use ap_locked::Journals;
 use ap_shards::NewShards;
 use ap_tagged::Gate;
 use apd_files::Files;
-use apd_script::Numbered;
 use bpf_regions::Shapes;
 use std::alloc::{AllocError, Global};
 use std::marker::{Brand, PhantomData};
@@ -130,14 +131,14 @@ where
     }
 }
 
-/// Runs a script on an access point whose tokens were given out.
-fn run_with<B, L, F, G, R, P>(
+/// Runs lines on an access point whose tokens were given out.
+fn run_with<B, L, F, G, R, S, P>(
     rt: &R,
     alloc: Global,
     ap: &LiveAp<B>,
     equipment: Equipment<B>,
     supplies: Supplies<'_, F, G>,
-    commands: &[Numbered<'_>],
+    lines: S,
     writer: P,
 ) -> (P, u8)
 where
@@ -146,6 +147,7 @@ where
     F: Files,
     G: Gate + Copy + Send,
     R: Threads + Wait + Sync,
+    S: Lines + Drop,
     P: Console + Drop,
     requires hands { let hands = equipment.hands in
         AreHands ap.now hands.operator hands.workers.items hands.hoard hands.parts }
@@ -177,18 +179,18 @@ where
         operator,
         workers: ready,
     };
-    let ended = run_script(rt, alloc, staff, commands, writer);
+    let ended = run_lines(rt, alloc, staff, lines, writer);
     loads.close(rt);
     ended
 }
 
-/// Runs a script on a new access point, and returns the writer and the exit status, as `run_script` does.
-pub fn run_live<B, F, G, R, P>(
+/// Runs lines on a new access point, and returns the writer and the exit status, as `run_lines` does.
+pub(crate) fn run_live<B, F, G, R, S, P>(
     rt: &R,
     alloc: Global,
     opening: Opening,
     supplies: Supplies<'_, F, G>,
-    commands: &[Numbered<'_>],
+    lines: S,
     writer: P,
 ) -> (P, u8)
 where
@@ -196,6 +198,7 @@ where
     F: Files,
     G: Gate + Copy + Send,
     R: Threads + Wait + Sync,
+    S: Lines + Drop,
     P: Console + Drop,
     requires some { 0 < opening.settings.workers }
     requires few { opening.settings.workers ≤ 8 }
@@ -224,5 +227,5 @@ where
         return without_memory(writer);
     };
     let equipment = Equipment { hands, loads };
-    run_with::<B, Brand, F, G, R, P>(rt, alloc, &ap, equipment, supplies, commands, writer)
+    run_with::<B, Brand, F, G, R, S, P>(rt, alloc, &ap, equipment, supplies, lines, writer)
 }

@@ -69,6 +69,7 @@ pub(crate) fn message_of<'a>(load: Loading<'a>, told: &Told, verbose: bool) -> O
         Told::Handled { .. } => return None,
         Told::Memory => return None,
         Told::Word { .. } => return None,
+        Told::Malformed { .. } => return None,
     }
 }
 

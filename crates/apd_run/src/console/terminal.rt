@@ -1,4 +1,4 @@
-//! The console of the command `apd run`.
+//! The console of the commands `apd run` and `apd live`.
 
 ghost use Rattle.std.specs.Prelude.{◌≡◌};
 

@@ -1,4 +1,4 @@
-//! The command `apd run`.
+//! The commands `apd run` and `apd live`.
 
 ghost use Rattle.std.specs.Prelude.{◌≤◌};
 ghost use Rattle.apd_run.specs.Counts.{none};
@@ -6,20 +6,24 @@ ghost use Rattle.apd_run.specs.Shows.{Runs};
 
 use crate::access::{NewShards, Opening, Supplies, run_live};
 use crate::console::{Console, Notes, Terminal};
+use crate::input::Input;
+use crate::lines::{Lines, Script};
 use crate::progress::Watcher;
-use crate::runner::fault::{RunFault, complain, of_script, say_if_group, say_why};
+use crate::runner::fault::{
+    RunFault, complain, of_script, say_if_group, say_why, say_why_live, unreadable,
+};
 use crate::runner::setup::{configuration, read, settings};
 use apd_config::Configuration;
 use apd_files::{FileKind, Files};
 use apd_script::{Numbered, read_script};
 use std::alloc::Global;
-use std::io::Write;
+use std::io::{Read, Write};
 use std::marker::Brand;
 use std::sync::Wait;
 use std::thread::Threads;
 
-/// The command's arguments: the paths of a configuration and of a script, and the number of workers, 1 to 8. A larger
-/// number counts as 8, and 0 as 1.
+/// A command's arguments: the paths of a configuration and of a script, and the number of workers, 1 to 8. A larger
+/// number counts as 8, and 0 as 1. `apd live` has `-` for the script.
 #[derive(Clone, Copy, Debug)]
 pub struct RunWords<'a> {
     pub config: &'a str,
@@ -31,8 +35,25 @@ pub struct RunWords<'a> {
     pub verbose: bool,
 }
 
+/// Standard input and standard output of `apd live`.
+#[derive(Drop)]
+pub struct Streams<I: Drop, P: Drop> {
+    pub input: I,
+    pub out: P,
+}
+
+/// The configuration of an access point, and the lines that it does.
+#[derive(Drop)]
+struct Task<L: Drop> {
+    configuration: Configuration,
+    lines: L,
+}
+
 /// The number of parts of each ledger.
 const PARTS: u64 = 17;
+
+/// The path of standard input.
+const INPUT: &str = "-";
 
 /// The number of the last line with a command, or 0 if there is none.
 fn last_line(commands: &[Numbered<'_>]) -> u64 {
@@ -42,13 +63,12 @@ fn last_line(commands: &[Numbered<'_>]) -> u64 {
     }
 }
 
-/// Runs commands on a new access point.
-fn run_commands<R, F, G, P>(
+/// Runs lines on a new access point.
+fn run_task<R, F, G, L, P>(
     rt: &R,
     alloc: Global,
-    configuration: Configuration,
+    task: Task<L>,
     workers: u8,
-    commands: &[Numbered<'_>],
     supplies: Supplies<'_, F, G>,
     writer: P,
 ) -> (P, u8)
@@ -56,21 +76,64 @@ where
     R: Threads + Wait + Sync,
     F: Files,
     G: Watcher + Copy + Send,
+    L: Lines + Drop,
     P: Console + Drop,
     requires some { 1 ≤ workers }
     requires few { workers ≤ 8 }
     ensures runs { Runs (P.strict writer) (P.contents writer) (P.contents result.0) none result.1 }
 {
+    let Task {
+        configuration,
+        lines,
+    } = task;
     let Ok(shapes) = configuration.maps.clone() else {
         return (writer, 3);
     };
-    supplies.gate.start(last_line(commands));
     let opening = Opening {
         settings: settings(configuration, workers),
         shapes,
         new: NewShards::new(PARTS),
     };
-    run_live::<Brand, F, G, R, P>(rt, alloc, opening, supplies, commands, writer)
+    run_live::<Brand, F, G, R, L, P>(rt, alloc, opening, supplies, lines, writer)
+}
+
+/// Runs lines on a new access point. Messages on `err` say what a hook keeps after a refused load.
+fn run_told<R, F, G, L, P, E>(
+    rt: &R,
+    alloc: Global,
+    words: RunWords<'_>,
+    task: Task<L>,
+    supplies: Supplies<'_, F, G>,
+    out: P,
+    err: &mut E,
+) -> (P, u8)
+where
+    R: Threads + Wait + Sync,
+    F: Files,
+    G: Watcher + Copy + Send,
+    L: Lines + Drop,
+    P: Write + Drop,
+    E: Write,
+    ensures runs { Runs words.entry.strict (P.contents out) (P.contents result.0) none result.1 }
+{
+    let RunWords {
+        script,
+        workers,
+        strict,
+        verbose,
+        ..
+    } = words;
+    let Ok(notes) = Notes::new(alloc, script, &task.configuration.maps, strict, verbose) else {
+        return (out, 3);
+    };
+    let console = Terminal {
+        out,
+        err: &mut *err,
+        notes,
+    };
+    let workers = workers.max(1).min(8);
+    let (console, status) = run_task(rt, alloc, task, workers, supplies, console);
+    (console.end(), status)
 }
 
 /// Runs a script, and returns `out` and the exit status: 3 if a line says `memory`, or an allocation failed for the run
@@ -112,31 +175,74 @@ where
             return (out, complain(alloc, &fault, err));
         }
     };
-    let RunWords {
-        script,
-        workers,
-        strict,
-        verbose,
-        ..
-    } = words;
-    let Ok(notes) = Notes::new(alloc, script, &configuration.maps, strict, verbose) else {
-        return (out, complain(alloc, &RunFault::NoMemory, err));
-    };
-    let console = Terminal {
-        out,
-        err: &mut *err,
-        notes,
-    };
-    let (console, status) = run_commands(
-        rt,
-        alloc,
+    let commands = commands.as_slice();
+    gate.start(last_line(commands));
+    let lines = Script { commands };
+    let task = Task {
         configuration,
-        workers.max(1).min(8),
-        commands.as_slice(),
-        Supplies { files, limit, gate },
-        console,
-    );
-    let out = console.end();
+        lines,
+    };
+    let supplies = Supplies { files, limit, gate };
+    let (out, status) = run_told(rt, alloc, words, task, supplies, out, err);
     say_why(status, err);
     (out, status)
+}
+
+/// Runs the lines of an input as they come, and returns `out` and the exit status. Whenever what was read of the input
+/// holds whole lines, they are done, and their answers written and flushed, before more is read. The run ends with the
+/// input, or before a line `quit`. The status is 3 if a line says `memory`, or an allocation failed for the run itself; 2
+/// for a fault of the configuration, of a read or of a write; otherwise 1 if a line was malformed, or the run is strict
+/// and a line was refused; otherwise 0. A strict run ends after the interval of such a line. If the run breaks off, the
+/// contract doesn't say whether the status is 2 or 3. Messages on `err` are those of `run`.
+pub fn live<R, F, G, I, P, E>(
+    rt: &R,
+    alloc: Global,
+    words: RunWords<'_>,
+    supplies: Supplies<'_, F, G>,
+    streams: Streams<I, P>,
+    err: &mut E,
+) -> (P, u8)
+where
+    R: Threads + Wait + Sync,
+    F: Files,
+    G: Watcher + Copy + Send,
+    I: Read + Drop,
+    P: Write + Drop,
+    E: Write,
+    ensures runs { Runs words.entry.strict
+        (P.contents streams.out) (P.contents result.0) none result.1 }
+{
+    let Streams { input, out } = streams;
+    let Supplies { files, limit, gate } = supplies;
+    let configuration = match live_configuration(alloc, words.config, files, err) {
+        Ok(configuration) => configuration,
+        Err(fault) => return (out, complain(alloc, &fault, err)),
+    };
+    let Ok(shapes) = configuration.maps.clone() else {
+        return (out, complain(alloc, &RunFault::NoMemory, err));
+    };
+    let lines = Input::new(alloc, input, shapes);
+    let task = Task {
+        configuration,
+        lines,
+    };
+    let supplies = Supplies { files, limit, gate };
+    let (out, status) = run_told(rt, alloc, words, task, supplies, out, err);
+    say_why_live(status, err);
+    (out, status)
+}
+
+/// The configuration of `apd live`, which takes standard input for its lines: no other file may be that.
+fn live_configuration<F: Files, E: Write>(
+    alloc: Global,
+    path: &str,
+    files: &mut F,
+    err: &mut E,
+) -> Result<Configuration, RunFault> {
+    let configuration = configuration(alloc, path, files)?;
+    if let Err(why) = files.open(INPUT) {
+        return Err(unreadable(alloc, INPUT, why));
+    }
+    say_if_group(alloc, path, &configuration, err);
+    Ok(configuration)
 }

@@ -161,6 +161,19 @@ pub(crate) fn complain<W: Write>(alloc: Global, fault: &RunFault, err: &mut W) -
     status_of(fault)
 }
 
+/// Writes what the status of a run of lines as they come means, if it has begun, unless the status is 0.
+pub(crate) fn say_why_live<W: Write>(status: u8, err: &mut W) {
+    match status {
+        0 => {}
+        1 => say(
+            "apd: a line was malformed, or was refused (--strict)\n",
+            err,
+        ),
+        2 => say("apd: cannot read the input, or cannot write\n", err),
+        _ => say("apd: out of memory\n", err),
+    }
+}
+
 /// Writes what the status of a run that has begun means, unless it is 0.
 pub(crate) fn say_why<W: Write>(status: u8, err: &mut W) {
     match status {

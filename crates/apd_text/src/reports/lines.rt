@@ -84,6 +84,7 @@ pub(crate) fn append_report(
         Told::Certificate { fault } => writeln!(text, "{line} certificate {fault}")?,
         Told::Unreadable(_) => writeln!(text, "{line} unreadable")?,
         Told::Word { value } => writeln!(text, "{line} word {value}")?,
+        Told::Malformed { why } => writeln!(text, "{line} error {why}")?,
     }
     Ok(())
 }

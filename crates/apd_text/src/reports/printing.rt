@@ -18,6 +18,8 @@ use std::io::Write;
 pub enum PrintFault {
     /// A write failed.
     Unwritten,
+    /// The input that it answers can't be read.
+    Unread,
     /// An allocation failed.
     NoMemory,
 }

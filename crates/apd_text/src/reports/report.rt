@@ -33,6 +33,8 @@ pub enum Told {
     Unreadable(Unread),
     /// The value of a word of a map.
     Word { value: u64 },
+    /// The line is malformed, and changes nothing.
+    Malformed { why: String },
 }
 
 /// What became of the line with this number. The shard is 0 if the line concerns none.

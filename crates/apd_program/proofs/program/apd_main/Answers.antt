@@ -1,5 +1,5 @@
 use Rattle.std.proofs.Common.{inl, refl, subst}
-use Rattle.apd_words.specs.Asked.{Wanted, wanted_answer, wanted_run}
+use Rattle.apd_words.specs.Asked.{Wanted, wanted_answer, wanted_run, wanted_live}
 use Rattle.apd_program.specs.Program.{Responds, Performed}
 use Rattle.apd_program.proofs.Performing.{Responds-status, Responds-memory, Responds-told, Tells-status, Tells-memory, Does-told}
 use Rattle.apd_program.proofs.program.apd_main.Goals as goal
@@ -41,6 +41,22 @@ pub returns-in-Ok-Run-clause-spelled : goal.returns-in-Ok-Run-clause-spelled
 returns-in-Ok-Run-clause-spelled g c = λ w spelled.
     let P : Wanted → Type 0 = λ v. Responds (g.F.Files.held c.args.files.now) v (g.O.Write.contents c.args.out.now) (g.O.Write.contents c.args.out.now) c.complain.result in
     subst P ((rw c.in-Ok-Run.field-0-is at c.in-Ok-Run.ensures.spelled) w spelled) (refl, inl c.complain.ensures.is)
+
+pub returns-in-Ok-Live-clause-runs : goal.returns-in-Ok-Live-clause-runs
+returns-in-Ok-Live-clause-runs g c =
+    let reads = rw c.in-Ok-Live.field-0-is at c.in-Ok-Live.ensures.reads in
+    record {
+      hooks = reads.hooks;
+      numbers = reads.numbers;
+      takes_hooks = reads.takes_hooks;
+      takes_numbers = reads.takes_numbers;
+      does = Performed (wanted_live c.in-Ok-Live.field-0-0) _ reads.at (refl, inl c.complain-in-Ok-Live.ensures.is);
+    }
+
+pub returns-in-Ok-Live-clause-spelled : goal.returns-in-Ok-Live-clause-spelled
+returns-in-Ok-Live-clause-spelled g c = λ w spelled.
+    let P : Wanted → Type 0 = λ v. Responds (g.F.Files.held c.args.files.now) v (g.O.Write.contents c.args.out.now) (g.O.Write.contents c.args.out.now) c.complain-in-Ok-Live.result in
+    subst P ((rw c.in-Ok-Live.field-0-is at c.in-Ok-Live.ensures.spelled) w spelled) (refl, inl c.complain-in-Ok-Live.ensures.is)
 
 pub returns-in-Err-clause-runs : goal.returns-in-Err-clause-runs
 returns-in-Err-clause-runs g c =

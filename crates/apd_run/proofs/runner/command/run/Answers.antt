@@ -10,6 +10,3 @@ returns-in-Err-read g c = record { runs = runs_nothing _ _ _ _ c.complain-in-Err
 pub returns-in-Err-read_script : goal.returns-in-Err-read_script
 returns-in-Err-read_script g c =
     record { runs = runs_nothing _ _ _ _ c.complain-in-Err-read_script.ensures.broken }
-
-pub returns-in_default : goal.returns-in_default
-returns-in_default g c = record { runs = runs_nothing _ _ _ _ c.complain-in_default.ensures.broken }

@@ -1,5 +1,5 @@
 use Rattle.apd_run.specs.Opening.{names_of, journals_of}
-use Rattle.apd_run.proofs.runner.command.run_commands.Given as goal
+use Rattle.apd_run.proofs.runner.command.run_task.Given as goal
 
 -- the ledgers and the journals of the shards that are new
 abbrev pub ghosts-run_live-B-Ledgers : goal.ghosts-run_live-B-Ledgers

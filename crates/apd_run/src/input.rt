@@ -1,0 +1,255 @@
+//! Lines as they come.
+
+ghost use Rattle.std.specs.Prelude.{◌≡◌, length, vec_len, IfOk, OnOk, OnErr};
+ghost use Rattle.std.specs.Io.KnownBytes.{Keeps};
+ghost use Rattle.apd_run.specs.Shows.{BreaksOff, ShowsOne};
+
+use crate::console::Console;
+use crate::crew::Serving;
+use crate::found::{Found, is_over};
+use crate::interval::{Given, answer, first_interval};
+use crate::lines::Lines;
+use crate::operating::Operating;
+use crate::setting::{Setting, Staff};
+use apd_files::{FileFault, block_of};
+use apd_script::{Batch, MOST_BYTES, begins_with_quit, read_batch};
+use apd_text::PrintFault;
+use bpf_regions::Shapes;
+use std::alloc::{AllocError, Global};
+use std::io::{Read, Write};
+use std::sync::Wait;
+
+/// The greatest number with which a batch begins.
+const MOST_NUMBER: u64 = 1 << 63;
+
+/// An input whose lines are done as they come: what was read of it and isn't done, from an index on, and the number of
+/// the next line. At most 8193 bytes of an unfinished line are kept. A last line without its end gets one.
+#[derive(Drop)]
+pub(crate) struct Input<I: Drop> {
+    reader: I,
+    shapes: Shapes,
+    text: Vec<u8>,
+    done: usize,
+    number: u64,
+    has_ended: bool,
+}
+
+/// How far a batch went: how many lines it did, how many bytes follow, and whether they begin with a line `quit`.
+#[derive(Clone, Copy)]
+struct Step {
+    lines: u64,
+    left: usize,
+    quits: bool,
+}
+
+/// The beginning of a line and the bytes behind it; if there are none, a line feed that ends the line.
+fn continued(alloc: Global, line: &[u8], block: &[u8]) -> Result<Vec<u8>, AllocError> {
+    let mut text = Vec::from_slice(alloc, line)?;
+    text.extend_from_slice(block)?;
+    if block.is_empty() && !line.is_empty() {
+        text.reserve(1)?;
+        text.push_reserved(b'\n');
+    }
+    Ok(text)
+}
+
+impl<I: Read + Drop> Input<I> {
+    /// An input of which nothing was read. `shapes` are the shapes of the configured maps.
+    pub(crate) fn new(alloc: Global, reader: I, shapes: Shapes) -> Input<I> {
+        Input {
+            reader,
+            shapes,
+            text: Vec::new(alloc),
+            done: 0,
+            number: 1,
+            has_ended: false,
+        }
+    }
+
+    /// What was read and isn't done.
+    fn rest(&self) -> &[u8] {
+        self.text.get(self.done..).unwrap_or(&[])
+    }
+
+    /// The beginning of an unfinished line, as far as it is kept.
+    fn kept(&self) -> &[u8] {
+        let rest = self.rest();
+        rest.get(..MOST_BYTES + 1).unwrap_or(rest)
+    }
+
+    /// Reads until a whole line is there; false at the end of the input.
+    fn advance(&mut self, alloc: Global) -> Result<bool, PrintFault> {
+        for _ in 0..u64::MAX {
+            if self.rest().contains(&b'\n') {
+                return Ok(true);
+            }
+            if self.has_ended {
+                return Ok(false);
+            }
+            self.fill(alloc)?;
+        }
+        Ok(false)
+    }
+
+    /// Reads the next bytes, behind the beginning of a line. At the end of the input, it ends that line.
+    fn fill(&mut self, alloc: Global) -> Result<(), PrintFault> {
+        let block = match block_of(alloc, &mut self.reader) {
+            Ok(block) => block,
+            Err(FileFault::NoMemory) => return Err(PrintFault::NoMemory),
+            Err(_) => return Err(PrintFault::Unread),
+        };
+        let text = continued(alloc, self.kept(), block.as_slice())?;
+        self.text = text;
+        self.done = 0;
+        self.has_ended = block.is_empty();
+        Ok(())
+    }
+
+    /// Goes on behind a batch; to the end if a line `quit` follows.
+    fn pass(&mut self, step: Step) {
+        self.number = self.number.saturating_add(step.lines);
+        self.done = self.text.len().saturating_sub(step.left);
+        if step.quits {
+            self.has_ended = true;
+            self.done = usize::MAX;
+        }
+    }
+}
+
+/// Flushes a writer.
+fn flush<P: Write>(writer: &mut P) -> Result<(), PrintFault>
+    ensures keeps { Keeps (P.contents writer.old) (P.contents writer.new) }
+{
+    match writer.flush() {
+        Ok(()) => return Ok(()),
+        Err(_) => return Err(PrintFault::Unwritten),
+    }
+}
+
+/// Does commands and answers malformed lines in the interval with this number.
+fn do_given<W: Serving + Drop, O: Operating<W> + Drop, R: Wait, P: Console>(
+    setting: &Setting<'_, W, R>,
+    staff: &mut Staff<W, O>,
+    given: Given<'_>,
+    number: u64,
+    writer: &mut P,
+) -> Result<Found, PrintFault>
+    requires home { vec_len staff.old.workers ≡ length setting.now.desks.now }
+    ensures home { OnOk result (vec_len staff.new.workers ≡ length setting.now.desks.now) }
+    ensures workers { OnOk result
+        ((O.crew staff.new.operator).workers ≡ (O.crew staff.old.operator).workers) }
+    ensures shows { IfOk result (λ found. ShowsOne setting.now.strict
+        (P.contents writer.old) (P.contents writer.new)
+        (O.crew staff.old.operator).counted (O.crew staff.new.operator).counted
+        found.memory found.refused) }
+    ensures breaks { OnErr result (BreaksOff (P.contents writer.old) (P.contents writer.new)) }
+{
+    if given.commands.is_empty() {
+        return answer(setting.alloc, setting.strict, given.malformed, writer);
+    }
+    first_interval(setting, staff, given, number, writer)
+}
+
+/// Does a batch in the interval with this number, and flushes the writer.
+fn do_batch<W: Serving + Drop, O: Operating<W> + Drop, R: Wait, P: Console>(
+    setting: &Setting<'_, W, R>,
+    staff: &mut Staff<W, O>,
+    batch: Batch<'_>,
+    number: u64,
+    writer: &mut P,
+) -> Result<Found, PrintFault>
+    requires home { vec_len staff.old.workers ≡ length setting.now.desks.now }
+    ensures home { OnOk result (vec_len staff.new.workers ≡ length setting.now.desks.now) }
+    ensures workers { OnOk result
+        ((O.crew staff.new.operator).workers ≡ (O.crew staff.old.operator).workers) }
+    ensures shows { IfOk result (λ found. ShowsOne setting.now.strict
+        (P.contents writer.old) (P.contents writer.new)
+        (O.crew staff.old.operator).counted (O.crew staff.new.operator).counted
+        found.memory found.refused) }
+    ensures breaks { OnErr result (BreaksOff (P.contents writer.old) (P.contents writer.new)) }
+{
+    let given = Given {
+        commands: batch.commands.as_slice(),
+        malformed: batch.malformed.as_slice(),
+    };
+    let found = match do_given(setting, staff, given, number, writer) {
+        Ok(found) => found,
+        Err(fault) => return Err(fault),
+    };
+    match flush(writer) {
+        Ok(()) => return Ok(found),
+        Err(fault) => return Err(fault),
+    }
+}
+
+/// What the printed lines of a batch say, and how far it went.
+#[derive(Clone, Copy)]
+struct Passed {
+    found: Found,
+    step: Step,
+}
+
+impl<I: Read + Drop> Input<I> {
+    /// Does the whole lines that are there, up to a `wait` or a `quit`, in the interval with this number.
+    fn do_lines<W: Serving + Drop, O: Operating<W> + Drop, R: Wait, P: Console>(
+        &self,
+        setting: &Setting<'_, W, R>,
+        staff: &mut Staff<W, O>,
+        number: u64,
+        writer: &mut P,
+    ) -> Result<Passed, PrintFault>
+        requires home { vec_len staff.old.workers ≡ length setting.now.desks.now }
+        ensures home { OnOk result (vec_len staff.new.workers ≡ length setting.now.desks.now) }
+        ensures workers { OnOk result
+            ((O.crew staff.new.operator).workers ≡ (O.crew staff.old.operator).workers) }
+        ensures shows { IfOk result (λ passed. ShowsOne setting.now.strict
+            (P.contents writer.old) (P.contents writer.new)
+            (O.crew staff.old.operator).counted (O.crew staff.new.operator).counted
+            passed.found.memory passed.found.refused) }
+        ensures breaks { OnErr result
+            (BreaksOff (P.contents writer.old) (P.contents writer.new)) }
+    {
+        let first = self.number.min(MOST_NUMBER);
+        let batch = read_batch(setting.alloc, self.rest(), &self.shapes, first)?;
+        let step = Step {
+            lines: batch.lines,
+            left: batch.rest.len(),
+            quits: begins_with_quit(batch.rest),
+        };
+        match do_batch(setting, staff, batch, number, writer) {
+            Ok(found) => return Ok(Passed { found, step }),
+            Err(fault) => return Err(fault),
+        }
+    }
+}
+
+impl<I: Read + Drop> Lines for Input<I> {
+    fn run<W: Serving + Drop, O: Operating<W> + Drop, R: Wait, P: Console>(
+        self,
+        setting: &Setting<'_, W, R>,
+        staff: &mut Staff<W, O>,
+        writer: &mut P,
+    ) -> Result<Found, PrintFault> {
+        let mut input = self;
+        let mut found = Found::nothing();
+        let mut number = 1u64;
+        'intervals: while number < u64::MAX {
+            if is_over(setting.strict, found.refused) {
+                return Ok(found);
+            }
+            match input.advance(setting.alloc) {
+                Ok(true) => {}
+                Ok(false) => return Ok(found),
+                Err(fault) => return Err(fault),
+            }
+            let passed = match input.do_lines(setting, staff, number, writer) {
+                Ok(passed) => passed,
+                Err(fault) => return Err(fault),
+            };
+            input.pass(passed.step);
+            found = found.and(passed.found);
+            number += 1;
+        }
+        Ok(found)
+    }
+}

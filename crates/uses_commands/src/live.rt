@@ -1,0 +1,291 @@
+//! Lines that are done as they come, in chunks of any length.
+
+use crate::lab::{ANSWERS, ASSOCIATION, AUTHENTICATION, LAB, file, joined};
+use crate::memory::{Memory, Outcome, ran, words};
+use crate::same::same;
+use apd_run::{OpenGate, RunWords, StateLimit, Streams, Supplies, live};
+use std::alloc::Global;
+use std::io::{self, Error, ErrorKind, Read, Write};
+use std::process::Abort;
+use std::sync::Wait;
+use std::sync::atomic::{AtomicU64, Ordering};
+use std::thread::Threads;
+
+/// Gives a text in chunks of at most `step` bytes, and fails at its end if `fails` is set.
+#[derive(Drop)]
+struct Chunks<'a> {
+    left: &'a [u8],
+    step: usize,
+    fails: bool,
+}
+
+impl Read for Chunks<'_> {
+    fn read(&mut self, buf: &mut [u8]) -> io::Result<usize> {
+        let count = self.left.len().min(self.step).min(buf.len());
+        if count == 0 && self.fails {
+            return Err(Error::from(ErrorKind::BrokenPipe));
+        }
+        let (chunk, left) = self.left.split_at(count);
+        buf[..count].copy_from_slice(chunk);
+        self.left = left;
+        Ok(count)
+    }
+}
+
+const MARK: &str = "b700000002050000 9500000000000000\n";
+
+/// What becomes of an input, with a configuration and a program in memory.
+fn lived<R: Threads + Wait + Sync, I: Read + Drop>(
+    rt: &R,
+    alloc: Global,
+    input: I,
+    asked: RunWords<'_>,
+) -> Outcome {
+    let files = [file("config", LAB), file("-", ""), file("mark.hex", MARK)];
+    let mut memory = Memory {
+        alloc,
+        files: &files,
+        left: b"",
+    };
+    let supplies = Supplies {
+        files: &mut memory,
+        limit: StateLimit::MOST,
+        gate: OpenGate,
+    };
+    let streams = Streams {
+        input,
+        out: Vec::new(alloc),
+    };
+    let mut err = Vec::new(alloc);
+    let (out, status) = live(rt, alloc, asked, supplies, streams, &mut err);
+    Outcome { out, err, status }
+}
+
+/// What a text is answered with, before the totals of no event, and the status.
+type Wanted<'a> = (&'a str, u8);
+
+const NO_EVENTS: &str = "total events 0 sent 0 up 0 dropped 0 notes 0\n";
+
+/// Fails where a text without events, in chunks of 1, 7 or 65536 bytes, is answered otherwise, or has another status.
+fn answers<R: Threads + Wait + Abort + Sync>(
+    rt: &R,
+    alloc: Global,
+    text: &[u8],
+    asked: RunWords<'_>,
+    wanted: Wanted<'_>,
+) {
+    let printed = joined(rt, alloc, &[wanted.0, NO_EVENTS]);
+    for step in [1, 7, 65536] {
+        let input = Chunks {
+            left: text,
+            step,
+            fails: false,
+        };
+        let outcome = lived(rt, alloc, input, asked);
+        same(rt, outcome.out.as_slice(), printed.as_bytes(), "the text");
+        same(rt, outcome.status, wanted.1, "the status");
+    }
+}
+
+const DATA: &str = "frame 0801000002000000000102000000000a0200000000ff300068656c6c6f\n";
+
+const REST: &str = "5 error unknown word `frme` (did you mean `frame`?)\n6 loaded 2\n\
+    8 up 02000000000a 0200000000ff - 3 5 68656c6c6f\n9 error `tick` takes N\n\
+    10 up 02000000000a 0200000000ff - 3 5 68656c6c6f\n\
+    total events 4 sent 2 up 2 dropped 0 notes 0\n";
+
+#[test]
+fn chunks_of_any_length_are_answered_alike(rt: HostRuntime) {
+    let alloc = rt.alloc();
+    let middle = "\n# nothing\nfrme 00\nload data mark.hex\nwait\n";
+    let last = DATA.trim_end();
+    let parts = [AUTHENTICATION, ASSOCIATION, middle, DATA, "tick\n", last];
+    let text = joined(&rt, alloc, &parts);
+    let printed = joined(&rt, alloc, &[ANSWERS, REST]);
+    for step in [1, 7, 65536] {
+        let input = Chunks {
+            left: text.as_bytes(),
+            step,
+            fails: false,
+        };
+        let outcome = lived(&rt, alloc, input, words(2));
+        same(&rt, outcome.out.as_slice(), printed.as_bytes(), "the text");
+        same(&rt, outcome.status, 1, "the status");
+    }
+}
+
+#[test]
+fn a_script_is_answered_as_by_a_run(rt: HostRuntime) {
+    let alloc = rt.alloc();
+    let middle = "wait\nload data mark.hex\nwait\n";
+    let script = joined(&rt, alloc, &[AUTHENTICATION, ASSOCIATION, middle, DATA]);
+    let files = [
+        file("config", LAB),
+        file("script", script.as_str()),
+        file("mark.hex", MARK),
+    ];
+    let wanted = ran(&rt, alloc, &files, 2);
+    for step in [1, 7, 65536] {
+        let input = Chunks {
+            left: script.as_bytes(),
+            step,
+            fails: false,
+        };
+        let outcome = lived(&rt, alloc, input, words(2));
+        same(
+            &rt,
+            outcome.out.as_slice(),
+            wanted.out.as_slice(),
+            "the text",
+        );
+        same(&rt, outcome.status, 0, "the status");
+    }
+}
+
+const TWO: &str = "1 error unknown word `frme` (did you mean `frame`?)\n\
+    3 error unknown word `frme` (did you mean `frame`?)\n";
+
+const ONE: &str = "1 error unknown word `frme` (did you mean `frame`?)\n";
+
+#[test]
+fn a_malformed_line_ends_a_strict_run_alone(rt: HostRuntime) {
+    let alloc = rt.alloc();
+    let text = b"frme\nwait\nfrme\n";
+    answers(&rt, alloc, text, words(2), (TWO, 1));
+    let asked = RunWords {
+        strict: true,
+        ..words(2)
+    };
+    answers(&rt, alloc, text, asked, (ONE, 1));
+}
+
+/// Texts, their answers and the status.
+const TEXTS: &[(&[u8], &str, u8)] = &[
+    (b"", "", 0),
+    (b"\n\n", "", 0),
+    (b"wait\n", "", 0),
+    (b"wait", "", 0),
+    (b"quit\nfrme\n", "", 0),
+    (b" quit ", "", 0),
+    (b"quit now\nwait\n", "1 error unknown word `quit`\n", 1),
+    (b"wait\n\xc3", "2 error not UTF-8\n", 1),
+    (b"\xc3\n", "1 error not UTF-8\n", 1),
+    (b"a\0\n", "1 error unknown word `a\\0`\n", 1),
+    (b"wait\r\n\n", "1 error a carriage return\n", 1),
+    (b"load data absent\n", "1 unreadable\n", 0),
+    (
+        b"frame 0\nwait\nfrme",
+        "1 error frame: an odd number of hex digits\n\
+        3 error unknown word `frme` (did you mean `frame`?)\n",
+        1,
+    ),
+];
+
+#[test]
+fn each_malformed_line_has_an_answer(rt: HostRuntime) {
+    for (text, printed, status) in TEXTS {
+        answers(&rt, rt.alloc(), text, words(2), (*printed, *status));
+    }
+}
+
+#[test]
+fn a_long_line_has_one_answer(rt: HostRuntime) {
+    let alloc = rt.alloc();
+    for (length, printed, status) in [
+        (8191, "", 0),
+        (8192, "1 error the line has more than 8192 bytes\n", 1),
+        (80000, "1 error the line has more than 8192 bytes\n", 1),
+    ] {
+        let mut text = Vec::new(alloc);
+        text.push(b'#').expect(&rt, "memory");
+        text.resize(length + 1, b'a').expect(&rt, "memory");
+        text.extend_from_slice(b"\nwait\n").expect(&rt, "memory");
+        answers(&rt, alloc, text.as_slice(), words(1), (printed, status));
+    }
+}
+
+#[test]
+fn a_failed_read_ends_the_run(rt: HostRuntime) {
+    let input = Chunks {
+        left: b"frme\nfrme",
+        step: 65536,
+        fails: true,
+    };
+    let outcome = lived(&rt, rt.alloc(), input, words(2));
+    same(&rt, outcome.out.as_slice(), ONE.as_bytes(), "the text");
+    let told = b"apd: cannot read the input, or cannot write\n".as_slice();
+    same(&rt, outcome.err.as_slice(), told, "what is told");
+    same(&rt, outcome.status, 2, "the status");
+}
+
+/// Standard output that counts the bytes that were flushed.
+#[derive(Drop)]
+struct Flushed<'a> {
+    taken: u64,
+    flushed: &'a AtomicU64,
+}
+
+impl Write for Flushed<'_> {
+    fn write(&mut self, buf: &[u8]) -> io::Result<usize> {
+        self.taken = self.taken.saturating_add(buf.len() as u64);
+        Ok(buf.len())
+    }
+
+    fn flush(&mut self) -> io::Result<()> {
+        self.flushed.store(self.taken, Ordering::SeqCst);
+        Ok(())
+    }
+}
+
+/// Gives a malformed line a read, twice, and fails where the answers to those before aren't flushed.
+#[derive(Drop)]
+struct Patient<'a> {
+    reads: u64,
+    flushed: &'a AtomicU64,
+}
+
+impl Read for Patient<'_> {
+    fn read(&mut self, buf: &mut [u8]) -> io::Result<usize> {
+        let line = b"frme\n";
+        let answered = self.reads.saturating_mul(ONE.len() as u64);
+        if self.flushed.load(Ordering::SeqCst) != answered || buf.len() < line.len() {
+            return Err(Error::from(ErrorKind::BrokenPipe));
+        }
+        if self.reads == 2 {
+            return Ok(0);
+        }
+        self.reads = self.reads.saturating_add(1);
+        buf[..line.len()].copy_from_slice(line);
+        Ok(line.len())
+    }
+}
+
+#[test]
+fn answers_are_flushed_before_the_next_read(rt: HostRuntime) {
+    let alloc = rt.alloc();
+    let flushed = AtomicU64::new(0);
+    let files = [file("config", LAB), file("-", "")];
+    let mut memory = Memory {
+        alloc,
+        files: &files,
+        left: b"",
+    };
+    let supplies = Supplies {
+        files: &mut memory,
+        limit: StateLimit::MOST,
+        gate: OpenGate,
+    };
+    let streams = Streams {
+        input: Patient {
+            reads: 0,
+            flushed: &flushed,
+        },
+        out: Flushed {
+            taken: 0,
+            flushed: &flushed,
+        },
+    };
+    let mut err = Vec::new(alloc);
+    let (_, status) = live(&rt, alloc, words(2), supplies, streams, &mut err);
+    same(&rt, status, 1, "the status");
+}
