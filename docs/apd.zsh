@@ -8,6 +8,7 @@ commands=(
     'disasm:Print a program'\''s instructions, one a line'
     'trace:Verify a program, run it on a frame and print each step'
     'run:Run a script of frames and commands on an access point'
+    'live:Answer lines of a script as they come on standard input'
     'cert:Verify a program and print its certificate in hex'
     'check:Check a program'\''s certificate and print the budget'
     'explain:Explain the number of a refusal, or list all numbers'
@@ -34,6 +35,9 @@ case $state in
                 ;;
             run)
                 _arguments -C '1:C:_files -g "*.toml"' '2:SCRIPT:_files -g "*.script"' '--workers=[How many worker threads serve the shards, 1 to 8 \[default\: 2\]]:workers:(1 2 3 4 5 6 7 8)' '--states=[How many states the verifier may examine, 1 to 4194304 \[default\: 4194304\]]:states: ' '--quiet[Tell no progress on standard error]' '--strict[End after the interval of the first refused load, with status 1]' '--verbose[Tell on standard error what becomes of each load]' '--help[Print help]'
+                ;;
+            live)
+                _arguments -C '1:C:_files -g "*.toml"' '--workers=[How many worker threads serve the shards, 1 to 8 \[default\: 2\]]:workers:(1 2 3 4 5 6 7 8)' '--states=[How many states the verifier may examine, 1 to 4194304 \[default\: 4194304\]]:states: ' '--strict[End after the interval of the first malformed line or refused load]' '--verbose[Tell on standard error what becomes of each load]' '--help[Print help]'
                 ;;
             cert)
                 _arguments -C '1:HOOK:(assoc addba data)' '2:FILE:_files -g "*.hex"' '--config=[The configuration\: shapes of maps, first draw word]:config:_files -g "*.toml"' '--states=[How many states the verifier may examine, 1 to 4194304 \[default\: 4194304\]]:states: ' '--output=[Write to this file, and only if the command succeeds]:output:_files -g "*.hex"' '--help[Print help]'
