@@ -19,6 +19,17 @@ struct Chunks<'a> {
     fails: bool,
 }
 
+impl<'a> Chunks<'a> {
+    /// A text in chunks of at most `step` bytes.
+    fn of(text: &'a [u8], step: usize) -> Chunks<'a> {
+        Chunks {
+            left: text,
+            step,
+            fails: false,
+        }
+    }
+}
+
 impl Read for Chunks<'_> {
     fn read(&mut self, buf: &mut [u8]) -> io::Result<usize> {
         let count = self.left.len().min(self.step).min(buf.len());
@@ -74,17 +85,23 @@ fn answers<R: Threads + Wait + Abort + Sync>(
     asked: RunWords<'_>,
     wanted: Wanted<'_>,
 ) {
-    let printed = joined(rt, alloc, &[wanted.0, NO_EVENTS]);
     for step in [1, 7, 65536] {
-        let input = Chunks {
-            left: text,
-            step,
-            fails: false,
-        };
-        let outcome = lived(rt, alloc, input, asked);
-        same(rt, outcome.out.as_slice(), printed.as_bytes(), "the text");
-        same(rt, outcome.status, wanted.1, "the status");
+        answers_chunks(rt, alloc, Chunks::of(text, step), asked, wanted);
     }
+}
+
+/// Fails where the chunks of a text without events are answered otherwise, or the status is another.
+fn answers_chunks<R: Threads + Wait + Abort + Sync>(
+    rt: &R,
+    alloc: Global,
+    input: Chunks<'_>,
+    asked: RunWords<'_>,
+    wanted: Wanted<'_>,
+) {
+    let printed = joined(rt, alloc, &[wanted.0, NO_EVENTS]);
+    let outcome = lived(rt, alloc, input, asked);
+    same(rt, outcome.out.as_slice(), printed.as_bytes(), "the text");
+    same(rt, outcome.status, wanted.1, "the status");
 }
 
 const DATA: &str = "frame 0801000002000000000102000000000a0200000000ff300068656c6c6f\n";
@@ -103,11 +120,7 @@ fn chunks_of_any_length_are_answered_alike(rt: HostRuntime) {
     let text = joined(&rt, alloc, &parts);
     let printed = joined(&rt, alloc, &[ANSWERS, REST]);
     for step in [1, 7, 65536] {
-        let input = Chunks {
-            left: text.as_bytes(),
-            step,
-            fails: false,
-        };
+        let input = Chunks::of(text.as_bytes(), step);
         let outcome = lived(&rt, alloc, input, words(2));
         same(&rt, outcome.out.as_slice(), printed.as_bytes(), "the text");
         same(&rt, outcome.status, 1, "the status");
@@ -126,11 +139,7 @@ fn a_script_is_answered_as_by_a_run(rt: HostRuntime) {
     ];
     let wanted = ran(&rt, alloc, &files, 2);
     for step in [1, 7, 65536] {
-        let input = Chunks {
-            left: script.as_bytes(),
-            step,
-            fails: false,
-        };
+        let input = Chunks::of(script.as_bytes(), step);
         let outcome = lived(&rt, alloc, input, words(2));
         same(
             &rt,
@@ -200,7 +209,10 @@ fn a_long_line_has_one_answer(rt: HostRuntime) {
         text.push(b'#').expect(&rt, "memory");
         text.resize(length + 1, b'a').expect(&rt, "memory");
         text.extend_from_slice(b"\nwait\n").expect(&rt, "memory");
-        answers(&rt, alloc, text.as_slice(), words(1), (printed, status));
+        for step in [100, 8192, 65536] {
+            let input = Chunks::of(text.as_slice(), step);
+            answers_chunks(&rt, alloc, input, words(1), (printed, status));
+        }
     }
 }
 

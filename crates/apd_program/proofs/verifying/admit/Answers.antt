@@ -1,13 +1,7 @@
-use Rattle.std.proofs.Common.{refl, sym, subst}
+use Rattle.std.proofs.Common.{ℕ, refl, sym, subst}
 use Rattle.std.proofs.lemmas.Result.{err_from_is_err_and}
 use Rattle.bpf_verifier.specs.Admission.{IsSafeBudget, IsRefusal}
 use Rattle.apd_program.proofs.verifying.admit.Goals as goal
-
-pub returns-clause-budget : goal.returns-clause-budget
-returns-clause-budget c = rw c.limit_of-limit.ensures.is at c.verify_within.ensures.budget
-
-pub returns-clause-refused : goal.returns-clause-refused
-returns-clause-refused c = rw c.limit_of-limit.ensures.is at c.verify_within.ensures.refused
 
 pub returns-in_err-explanation-clause-refused : goal.returns-in_err-explanation-clause-refused
 returns-in_err-explanation-clause-refused c =
@@ -21,7 +15,7 @@ returns-in_err-accepted-in-Ok-clause-refused c =
 
 pub returns-in_ok-accepted-in-Ok-clause-budget : goal.returns-in_ok-accepted-in-Ok-clause-budget
 returns-in_ok-accepted-in-Ok-clause-budget c =
-    let OfLimit = λ n. IsSafeBudget c.args.program n c.in_ok-accepted-in-Ok.accepted.budget in
+    let OfLimit : ℕ → Type 0 = λ n. IsSafeBudget c.args.program n c.in_ok-accepted-in-Ok.accepted.budget in
     subst OfLimit c.limit_of-limit.ensures.is
     (subst (IsSafeBudget c.args.program c.limit_of-limit.result) (sym c.in_ok-accepted-in-Ok.ensures.budget) (rw c.in-Ok.is at c.in_ok-explanation.ensures.budget))
 
