@@ -1,4 +1,4 @@
-use Rattle.std.proofs.Common.{inr, refl}
+use Rattle.std.proofs.Common.{inr}
 use Rattle.apd_c.proofs.code.admitted.Goals as goal
 
 pub returns-in-Ok-verify_within-clause-ok : goal.returns-in-Ok-verify_within-clause-ok
@@ -24,5 +24,4 @@ returns-in-Err-verify_within-clause-err c =
       plain = refused.plain;
       clear = refused.clear;
       number = c.number.ensures.is;
-      slot = refl;
     })
