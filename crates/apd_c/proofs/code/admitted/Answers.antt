@@ -1,4 +1,4 @@
-use Rattle.std.proofs.Common.{inr}
+use Rattle.std.proofs.Common.{rules, inr}
 use Rattle.apd_c.proofs.code.admitted.Goals as goal
 
 pub returns-in-Ok-verify_within-clause-ok : goal.returns-in-Ok-verify_within-clause-ok
@@ -23,5 +23,5 @@ returns-in-Err-verify_within-clause-err c =
       begins = refused.begins;
       plain = refused.plain;
       clear = refused.clear;
-      number = c.number.ensures.is;
+      number = search rules;
     })
