@@ -1,19 +1,20 @@
 //! A shard with its journal and its books.
 
-ghost use Rattle.std.specs.Prelude.{◌≡◌, ◌<◌, ◌≤◌, [], IfOk};
+ghost use Rattle.std.specs.Prelude.{◌≡◌, ◌<◌, ◌≤◌, [], IfOk, OnOk};
 ghost use Rattle.ap_model.specs.Stations.{AreAssociated};
 ghost use Rattle.ap_core.specs.Handles.{rules};
+ghost use Rattle.ap_core.specs.Listing.{ListsAgreements, ListsStations};
 ghost use Rattle.ap_books.specs.Reading.{Reads};
 ghost use Rattle.ap_laws.specs.Headline.{LinkHolds};
 ghost use Rattle.ap_locked.specs.Kept.{Holds, rules_of, readings_of};
 ghost use Rattle.ap_locked.specs.Naming.{IsNamed};
-ghost use Rattle.ap_locked.specs.Tokens.{newcomer};
+ghost use Rattle.ap_locked.specs.Tokens.{KeepsOwn, newcomer};
 
 use crate::entry::JournalEntry;
 use crate::naming::{Journals, NewShard};
 use crate::token::ShardToken;
 use ap_books::{Ledgers, ShardBooks, Shares, Totals};
-use ap_core::Shard;
+use ap_core::{AgreementInForce, KnownStation, Shard};
 use ap_journal::{Author, Known, Past};
 use ap_laws::run_law;
 use ap_model::LinkConfig;
@@ -102,6 +103,35 @@ impl<B: Ledgers + Journals, const SHARD: usize> Locked<B, SHARD> {
         ensures few { result ≤ 2007 }
     {
         self.shard.stations()
+    }
+
+    /// The known stations, each once with its standing, by increasing addresses.
+    pub fn known_stations(&self, alloc: Global) -> Result<Vec<KnownStation>, AllocError>
+        ensures { IfOk result (λ rows. ListsStations (readings_of self.now) rows.items) }
+    {
+        self.shard.known_stations(alloc)
+    }
+
+    /// The agreements in force, each once, by increasing addresses and TIDs.
+    pub fn agreements(&self, alloc: Global) -> Result<Vec<AgreementInForce>, AllocError>
+        ensures { IfOk result (λ rows. ListsAgreements (readings_of self.now) rows.items) }
+    {
+        self.shard.agreements(alloc)
+    }
+
+    /// The token then has seen the whole journal, of which it had seen a prefix. Fails only if the
+    /// journal is full, at about 2^61 entries, which no run reaches.
+    pub fn show(&mut self, mine: &mut ShardToken<B, SHARD>) -> Result<(), AllocError>
+        ensures same { self.new ≡ self.old }
+        ensures seen { OnOk result (mine.new.seen ≡ self.old.journal) }
+        ensures keeps { KeepsOwn mine.old mine.new }
+    {
+        if !self.author.prepare(&self.journal) {
+            return Err(AllocError);
+        }
+        self.author.look(&self.journal, &mine.seen);
+        mine.seen = self.journal.again();
+        Ok(())
     }
 
     /// What the books have counted, mod 2^64.
