@@ -4,7 +4,7 @@ use Rattle.std.proofs.Math.Seq.{drop-append_seam}
 use mathlib.Core.List.{IsPrefix}
 use Rattle.ap_model.specs.Asks.{Ask, Answered}
 use Rattle.ap_model.specs.Readings.{Rules}
-use Rattle.ap_model.specs.Runs.{Entry, Handles, Run, rests, goes_on, opening}
+use Rattle.ap_model.specs.Runs.{Entry, Handles, rests, goes_on}
 use Rattle.ap_model.proofs.Appending.{run_append}
 use Rattle.ap_laws.specs.Asking.{ListsAsks}
 use Rattle.ap_core.specs.declared.shard.Shard.{Shard}

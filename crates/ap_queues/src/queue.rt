@@ -7,9 +7,8 @@ use crate::item::{Item, Queued, View};
 use crate::rule::{Founding, Hiring, Meeting, OneQueue, Parting, Puts, Sparing, Takes, Whole};
 use crossbeam_queue::{Pass, RuledArrayQueue};
 use std::alloc::{AllocError, Global};
-use std::fmt;
-use std::mem;
 use std::sync::Wait;
+use std::{fmt, mem};
 
 /// The most events that a queue holds.
 const ROOM: usize = 256;

@@ -1,8 +1,6 @@
-use Rattle.std.proofs.Common.{◌∙◌, subst}
-use Rattle.ap_books.specs.Counts.{Portion}
+use Rattle.std.proofs.Common.{◌∙◌}
 use Rattle.ap_core.specs.Handles.{rules}
 use Rattle.ap_locked.specs.Kept.{Kept}
-use Rattle.ap_locked.specs.Tokens.{CountJournal}
 use Rattle.ap_locked.proofs.Entering.{journal_handled}
 use Rattle.ap_locked.proofs.locked.Locked.read.Goals as goal
 

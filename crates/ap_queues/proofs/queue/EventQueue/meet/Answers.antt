@@ -11,5 +11,5 @@ absorb-requires-clause-rule c = meets _ _ _ _ (search rules) (search rules)
 pub learn_as-requires-clause-rule : goal.learn_as-requires-clause-rule
 learn_as-requires-clause-rule c = learns _ _ (ap (λ v. v.takes) c.absorb.ensures.rule) (ap (λ v. v.puts) c.absorb.ensures.rule)
 
-pub another-pass-requires-clause-rule : goal.another-pass-requires-clause-rule
-another-pass-requires-clause-rule c = parts _ _ (search rules) (search rules)
+pub another-requires-clause-rule : goal.another-requires-clause-rule
+another-requires-clause-rule c = parts _ _ (search rules) (search rules)
