@@ -185,6 +185,7 @@ served_holds law config a w w2 l l2 s =
     }
 
 pub acted_holds : RunsHold → (config : Config) (o o2 : Operator) (e : Event) (outs : List Out) → IsTrue (is_command e) → Acted config o e outs o2 → OperatorHeadline config o e outs o2
+unfolding entry_holds
 acted_holds law config o o2 e outs command s =
     let low : s.shard < 8 = shard_below e s.shard s.shard_is in
     let x = at_shard (λ t u. Acts (rules s.shard config) t e outs u) o.shards o2.shards s.shard low s.acted in

@@ -1,5 +1,5 @@
 -- What tokens uphold.
-use Rattle.std.proofs.Common.{◌≡◌, ℕ}
+use Rattle.std.proofs.Common.{◌≡◌}
 use Rattle.ap_model.specs.Readings.{Config, Rules}
 use Rattle.ap_core.specs.Handles.{rules}
 use Rattle.ap_books.specs.Counts.{plus}

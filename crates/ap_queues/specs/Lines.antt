@@ -1,10 +1,11 @@
 -- What callers see of the handles of all queues.
-use Rattle.std.specs.Prelude.{◌≡◌, ℕ, List, [], length, map, replicate, slice_get, Some, IfSome, Option}
+use Rattle.std.specs.Prelude.{◌≡◌, ◌++◌, ℕ, List, [], length, map, replicate, slice_get, slice_index_or, Some, IfSome, Option}
 use Rattle.ap_queues.specs.Items.{Item}
 use Rattle.ap_queues.specs.declared.queue.EventQueue.{EventQueue}
 use Rattle.ap_queues.specs.declared.queue.OperatorPass.{OperatorPass}
 use Rattle.ap_queues.specs.declared.queue.WorkerPass.{WorkerPass}
-use Rattle.ap_queues.specs.Passes.{AreTaken, IsMakerOf, IsNewWorkerOf, IsOperatorOf, number_of, put_by, WasFull}
+use Rattle.ap_queues.specs.Passes.{IsMakerOf, IsNewWorkerOf, IsOperatorOf, number_of, put_by, taken_by, WasFull}
+use Rattle.ap_queues.specs.Queues.{of}
 use Rattle.ap_rows.specs.Rows.{Rows}
 use Rattle.ap_queues.specs.declared.lines.passes.OperatorLines.{OperatorLines}
 use Rattle.ap_queues.specs.declared.lines.passes.LinePasses.{LinePasses}
@@ -35,8 +36,9 @@ abbrev pub HasPutNothing : List EventQueue → OperatorLines → Type 0
 HasPutNothing queues o = puts_of o ≡ replicate (length queues) []
 
 -- what this worker took of the operator is a prefix of what that put into its queue, in order
-abbrev pub AreTakenAt : ℕ → OperatorLines → WorkerPass → Type 0
-AreTakenAt worker o w = (p : OperatorPass) → slice_get o.passes.items worker ≡ Some p → AreTaken p w
+pub record AreTakenAt (worker : ℕ) (o : OperatorLines) (w : WorkerPass) : Type 0 where
+  pub rest : List Item
+  pub put : slice_index_or (puts_of o) worker [] ≡ of (slice_index_or (numbers_of o) worker 0) (taken_by w) ++ rest
 
 -- at a moment of the call the queue of this worker held 256 items, of which this operator's own were the last that it
 -- had put

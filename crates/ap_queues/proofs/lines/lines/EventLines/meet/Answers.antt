@@ -1,8 +1,10 @@
-use Rattle.std.proofs.Common.{◌<◌, List, length, get_or, ap, ◌∙◌, subst, arith}
+use Rattle.std.proofs.Common.{◌≡◌, ◌<◌, ◌++◌, ℕ, List, [], length, map, get_or, sym, ap, ◌∙◌, subst, arith}
+use Rattle.std.proofs.lemmas.List.{get_or-map}
 use Rattle.std.proofs.Math.Seq.{map-set_same}
 use Rattle.ap_queues.specs.declared.queue.EventQueue.{EventQueue}
 use Rattle.ap_queues.specs.declared.queue.OperatorPass.{OperatorPass}
-use Rattle.ap_queues.specs.Passes.{AreTaken, IsOperatorOf, IsWorkerOf, number_of}
+use Rattle.ap_queues.specs.Queues.{of}
+use Rattle.ap_queues.specs.Passes.{IsOperatorOf, IsWorkerOf, number_of, put_by, taken_by}
 use Rattle.ap_rows.proofs.Standing.{found, one_value, rows_set_at}
 use Rattle.ap_queues.proofs.Steps.{put_nothing}
 use Rattle.ap_queues.proofs.lines.lines.EventLines.meet.Goals as goal
@@ -29,8 +31,15 @@ returns-clause-put c =
     put_nothing c.args.operator.now.passes.items c.args.number c.index_mut.result.now c.meet.new.operator c.index_mut.ensures.value c.meet.ensures.put
 
 pub returns-clause-order : goal.returns-clause-order
-returns-clause-order c p there =
-    let ps = c.args.operator.now.passes.items in
-    let low : c.args.number < length ps = omega (arith, c.requires.operator.as_many) in
-    let here = found ps c.args.number c.index_mut.result.now low c.index_mut.ensures.value in
-    subst (λ (x : OperatorPass). AreTaken x c.args.worker.now) (one_value ps c.args.number c.index_mut.result.now p here there) c.meet.ensures.order
+returns-clause-order c =
+    let ps : List OperatorPass = c.args.operator.now.passes.items in
+    let k : ℕ = c.args.number in
+    let x : OperatorPass = c.index_mut.result.now in
+    let low : k < length ps = omega (arith, c.requires.operator.as_many) in
+    let put_is : get_or (map put_by ps) k [] ≡ put_by x = get_or-map put_by ps k x [] low ∙ ap put_by (sym c.index_mut.ensures.value) in
+    let number_is : get_or (map number_of ps) k 0 ≡ number_of x = get_or-map number_of ps k x 0 low ∙ ap number_of (sym c.index_mut.ensures.value) in
+    let order = c.meet.ensures.order in
+    record {
+      rest = order.0;
+      put = put_is ∙ (order.1 ∙ ap (λ (n : ℕ). of n (taken_by c.args.worker.now) ++ order.0) (sym number_is));
+    }
