@@ -8,7 +8,7 @@ ghost use Rattle.ap_books.specs.Reading.{Reads};
 ghost use Rattle.ap_laws.specs.Headline.{LinkHolds};
 ghost use Rattle.ap_locked.specs.Kept.{Holds, rules_of, readings_of};
 ghost use Rattle.ap_locked.specs.Naming.{IsNamed};
-ghost use Rattle.ap_locked.specs.Tokens.{KeepsOwn, newcomer};
+ghost use Rattle.ap_locked.specs.Tokens.{CountJournal, KeepsOwn, newcomer};
 
 use crate::entry::JournalEntry;
 use crate::naming::{Journals, NewShard};
@@ -32,6 +32,7 @@ pub struct Locked<B: Ledgers + Journals, const SHARD: usize> {
 
 impl<B: Ledgers + Journals, const SHARD: usize> Model for Locked<B, SHARD> {
     ghost use Rattle.std.specs.Prelude.{◌≡◌};
+    ghost use Rattle.ap_core.specs.Handles.{rules};
     ghost use Rattle.ap_journal.specs.Beginnings.{MayAdd};
     ghost use Rattle.ap_locked.specs.Kept.{Kept, Holds};
 
@@ -39,12 +40,12 @@ impl<B: Ledgers + Journals, const SHARD: usize> Model for Locked<B, SHARD> {
 
     ghost view = { λ s. record { shard = s.shard; journal = s.journal.entries; counts = s.books } };
 
-    ghost invariant = { λ s. (s.journal.journal ≡ B.journal_of SHARD) × MayAdd s.author s.journal × Holds SHARD (record { shard = s.shard; journal = s.journal.entries; counts = s.books }) };
+    ghost invariant = { λ s. (s.journal.journal ≡ B.journal_of SHARD) × MayAdd s.author s.journal × Holds (rules SHARD B.config) (record { shard = s.shard; journal = s.journal.entries; counts = s.books }) };
 }
 
 impl<B: Ledgers + Journals, const SHARD: usize> Locked<B, SHARD> {
-    /// A shard that has handled nothing, with a copy of the configuration, and a token with all parts
-    /// of its ledgers.
+    /// A shard that has handled nothing, with a copy of the access point's configuration, and a token
+    /// with all parts of its ledgers.
     pub fn new(
         alloc: Global,
         config: &LinkConfig,
@@ -52,6 +53,7 @@ impl<B: Ledgers + Journals, const SHARD: usize> Locked<B, SHARD> {
     ) -> Result<(Locked<B, SHARD>, ShardToken<B, SHARD>), AllocError>
         requires shard { SHARD < 8 }
         requires named { IsNamed (B.name_of SHARD) B.shares (B.journal_of SHARD) new }
+        requires config { config.now ≡ B.config }
         requires some { 0 < B.shares }
         ensures rules { IfOk result (λ r. rules_of r.0 ≡ rules SHARD config.now) }
         ensures empty { IfOk result (λ r. r.0.journal ≡ []) }
@@ -77,14 +79,14 @@ impl<B: Ledgers + Journals, const SHARD: usize> Locked<B, SHARD> {
 
     /// Proves what holds under each lock; does nothing at run time.
     pub fn known(&self)
-        ensures { Holds SHARD self.now }
+        ensures { Holds (rules SHARD B.config) self.now }
     {
         let _books = &self.books;
     }
 
     /// Proves the main theorem of the shard at this moment; does nothing at run time.
     pub fn headline(&self)
-        ensures { LinkHolds (rules_of self.now) self.now.journal (readings_of self.now) }
+        ensures { LinkHolds (rules SHARD B.config) self.now.journal (readings_of self.now) }
     {
         run_law();
         self.known();
@@ -142,12 +144,13 @@ impl<B: Ledgers + Journals, const SHARD: usize> Locked<B, SHARD> {
     }
 
     /// Given all parts of the ledgers: what the books have counted, mod 2^64, which is what the shares
-    /// have counted.
+    /// have counted, and what the journal's entries count.
     pub fn read(&mut self, all: &mut Shares<B, SHARD>) -> Totals
         requires { all.old.parts ≡ B.shares }
         ensures same { self.new ≡ self.old }
         ensures shares { all.new ≡ all.old }
         ensures whole { all.old.counts ≡ self.old.counts }
+        ensures journal { CountJournal (rules SHARD B.config) all.old }
         ensures totals { Reads result self.old.counts }
     {
         self.books.read(all)
