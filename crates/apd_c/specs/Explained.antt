@@ -66,3 +66,9 @@ pub record Explains (number count : ℕ) (into into' : List ℕ) : Type 0 where
   pub is : IsSentence number text
   pub length_is : count ≡ length text
   pub copied : take (min count (length into)) into' ≡ take (min count (length into)) text
+
+-- As much as fits of a text is copied, and its length is returned.
+pub record CopiesText (count : ℕ) (into into' : List ℕ) : Type 0 where
+  pub text : List ℕ
+  pub length_is : count ≡ length text
+  pub copied : take (min count (length into)) into' ≡ take (min count (length into)) text
