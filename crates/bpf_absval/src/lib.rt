@@ -9,11 +9,13 @@
 
 pub mod inclusion;
 pub mod laws;
+pub mod marks;
 pub mod room;
 pub mod slot;
 mod tree;
 pub mod value;
 
+pub use marks::Marks;
 pub use room::{Room, Rooms};
 pub use slot::AbsSlot;
 pub use value::{AbsRegion, AbsVal, Label};
