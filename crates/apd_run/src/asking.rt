@@ -1,6 +1,7 @@
 //! Answers to questions, which are given while all workers rest.
 
-ghost use Rattle.std.specs.Prelude.{◌≡◌, ◌++◌, map, IfOk, OnOk, OnErr, Some, vec_len};
+ghost use Rattle.std.specs.List.{list_all};
+ghost use Rattle.std.specs.Prelude.{◌≡◌, ◌==◌, ◌++◌, map, IfOk, OnOk, OnErr, Some, vec_len};
 ghost use Rattle.apd_run.specs.Asking.{Answers, BreaksAnswer, ListsEntries, TellsAnswer, entry_if, shown};
 
 use crate::console::Console;
@@ -63,6 +64,12 @@ fn words_of<W: Serving + Drop, O: Operating<W>>(
     Ok(words)
 }
 
+fn are_zeros(words: &[u64]) -> bool
+    ensures is { result ≡ list_all (λ word. word == 0) words.now }
+{
+    words.iter().all(|word| *word == 0)
+}
+
 /// Appends an entry, unless all its words are 0.
 fn add_entry(
     entries: &mut Vec<EntryRow>,
@@ -72,7 +79,7 @@ fn add_entry(
     ensures added { OnOk result (map shown entries.new.items
         ≡ map shown entries.old.items ++ entry_if index words.items) }
 {
-    if words.iter().all(|word| *word == 0) {
+    if are_zeros(words.as_slice()) {
         return Ok(());
     }
     entries.push(EntryRow { index, words })?;

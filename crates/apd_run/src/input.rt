@@ -103,7 +103,6 @@ impl<I: Read + Drop> Input<I> {
     fn fill<P: Console>(&mut self, alloc: Global, console: &P) -> Result<(), PrintFault>
         requires flushed { P.is_flushed console.now ≡ true }
     {
-        let _ = console;
         let block = match block_of(alloc, &mut self.reader) {
             Ok(block) => block,
             Err(FileFault::NoMemory) => return Err(PrintFault::NoMemory),

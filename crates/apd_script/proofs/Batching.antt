@@ -1,16 +1,19 @@
 -- Taking lines one after another.
-use Rattle.std.specs.Prelude.{◌≡◌, ℕ, List, [], ◌∷◌, ◌++◌, Some, None, Bool, true, false, if◌then◌else◌, refl}
+use Rattle.std.specs.Prelude.{◌≡◌, ℕ, ◌+◌, Option, List, [], ◌∷◌, ◌++◌, Some, None, Bool, true, false, if◌then◌else◌, refl}
 use Rattle.std.specs.List.{All}
 use Rattle.std.proofs.Common.{◌∙◌, ap, sym, subst, append-nil}
 use Rattle.std.proofs.lemmas.List.Elements.{All-head, All-tail, All-push}
 use Rattle.std.proofs.lemmas.List.{map-append}
 use Rattle.bpf_regions.specs.declared.maps.Shape.{Shape}
-use Rattle.apd_script.specs.Asked.{asked_of, commands_of, numbered_of}
-use Rattle.apd_script.specs.Batches.{IsTaken, IsMalformed, IsQuestion, Adds, Taken, Questions, Malformed, numbers_of, is_wait, NoneWaits, after_wait, EndsInWait}
+use Rattle.apd_script.specs.Asked.{Asked, asked_of, commands_of, numbered_of}
+use Rattle.apd_script.specs.Batches.{IsTaken, IsMalformed, IsQuestion, IsQuit, Adds, Taken, Questions, Malformed, Takes, OneMore, Leaves, numbers_of, own_questions, questions_of, is_wait, NoneWaits, after_wait, EndsInWait}
 use Rattle.apd_script.specs.Lines.{line_asks}
-use Rattle.apd_script.specs.Script.{numbered}
+use Rattle.apd_script.specs.Script.{lines_of, numbered}
+use Rattle.apd_script.specs.declared.batch.Added.{Added}
+use Rattle.apd_script.specs.declared.batch.Added.TheVariants as added
 use Rattle.apd_script.specs.declared.batch.MalformedLine.{MalformedLine}
 use Rattle.apd_script.specs.declared.command.Numbered.{Numbered}
+use Rattle.apd_script.specs.declared.question.NumberedQuestion.{NumberedQuestion}
 use Rattle.apd_script.specs.declared.question.Question.{Question}
 
 module _ (maps : List Shape) (line : List ℕ) (old new : List Numbered) (bad bad2 : List MalformedLine) where
@@ -47,12 +50,12 @@ nothing_follows (n ∷ ns) h =
     ap (λ b. if b then ns else after_wait ns) (All-head GoesOn n ns h) ∙ nothing_follows ns (All-tail GoesOn n ns h)
 
 -- nor if the last command alone may be one
-by_case : (b : Bool) → (if b then [] {A = Numbered} else []) ≡ []
-by_case true = refl
-by_case false = refl
+by_case : (b : Bool) (ns : List Numbered) → (if b then ns else ns) ≡ ns
+by_case true ns = refl
+by_case false ns = refl
 
 pub last_follows : (ns : List Numbered) (n : Numbered) → NoneWaits ns → after_wait (ns ++ n ∷ []) ≡ []
-last_follows [] n h = by_case (is_wait n.command)
+last_follows [] n h = by_case (is_wait n.command) []
 last_follows (m ∷ ns) n h =
     ap (λ b. if b then ns ++ n ∷ [] else after_wait (ns ++ n ∷ [])) (All-head GoesOn m ns h) ∙ last_follows ns n (All-tail GoesOn m ns h)
 
@@ -67,3 +70,17 @@ none_still ns new is h = subst NoneWaits (sym is) h
 -- commands of which the last is a wait
 pub one_waits : (ns new : List Numbered) (n : Numbered) → new ≡ ns ++ n ∷ [] → is_wait n.command ≡ true → (NoneWaits ns → after_wait new ≡ []) × EndsInWait new
 one_waits ns new n is w = (λ h. ap after_wait is ∙ last_follows ns n h, record { before = ns; last = n; whole = is; waits = w })
+
+-- one more line, which may be a question
+pub takes_more : (maps : List Shape) (first : ℕ) (text : List ℕ) (asked asked2 : List (ℕ × Asked)) (bad bad2 : List ℕ) (added : Added) (question : Option NumberedQuestion) (lines : ℕ)
+    (mid line rest : List ℕ) → Takes maps first text asked bad [] lines mid → lines_of mid ≡ line ∷ lines_of rest → (IsQuit line → ⊥)
+    → Adds maps (first + lines) line asked bad asked2 bad2 (own_questions (first + lines) added) → questions_of question ≡ own_questions (first + lines) added
+    → Takes maps first text asked2 bad2 (questions_of question) (lines + 1) rest
+takes_more maps first text asked asked2 bad bad2 added question lines mid line rest h cut goes_on adds is =
+    OneMore _ _ _ _ _ _ _ _ _ _ _ h cut goes_on adds is
+
+-- after one more line, nothing follows a wait
+pub waits_last : (added : Added) (old new : List Numbered) → Leaves added old new → NoneWaits old → after_wait new ≡ []
+waits_last added.GoesOn old new leaves none = nothing_follows new (leaves none)
+waits_last added.Waits old new leaves none = leaves.0 none
+waits_last (added.Asks question) old new leaves none = nothing_follows new (leaves none)

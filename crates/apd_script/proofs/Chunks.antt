@@ -19,7 +19,7 @@ glue (x ∷ []) (y ∷ ys) = (x ++ y) ∷ ys
 glue (x ∷ w ∷ xs) more = x ∷ glue (w ∷ xs) more
 
 -- there is a first line
-first_of : (t : List ℕ) → (first : List ℕ) × (rest : List (List ℕ)) × (lines_of t ≡ first ∷ rest)
+pub first_of : (t : List ℕ) → (first : List ℕ) × (rest : List (List ℕ)) × (lines_of t ≡ first ∷ rest)
 first_of [] = ([], [], refl)
 first_of (c ∷ t) =
     let more = first_of t in

@@ -108,10 +108,10 @@ pub record HasNoLine (text : List ℕ) : Type 0 where
 -- line is left
 pub data Stops (commands : List Numbered) (question : Option NumberedQuestion) (lines : ℕ) (rest : List ℕ) : Type 0 where
   Full : lines ≡ 4096 → Stops commands question lines rest
-  Waited : EndsInWait commands → Stops commands question lines rest
-  Asked : IsSome question → Stops commands question lines rest
-  Quits : BeginsWithQuit rest → Stops commands question lines rest
-  NoMore : HasNoLine rest → Stops commands question lines rest
+  AtWait : EndsInWait commands → Stops commands question lines rest
+  AtQuestion : IsSome question → Stops commands question lines rest
+  AtQuit : BeginsWithQuit rest → Stops commands question lines rest
+  AtEnd : HasNoLine rest → Stops commands question lines rest
 
 -- what a line says: nothing, a command or a question
 abbrev pub Says : List Shape → List ℕ → Said → Type 0
@@ -119,13 +119,13 @@ Says maps line said.Nothing = IsTaken maps line × (line_asks maps line ≡ None
 Says maps line (said.Command command) = IsTaken maps line × (line_asks maps line ≡ Some (asked_of command))
 Says maps line (said.Question question) = IsQuestion maps line question
 
--- what ends a batch of lines: nothing yet, a `wait`, or a question
+-- the question of a line with this number, if it is one
 abbrev pub own_questions : ℕ → Added → List (ℕ × Question)
 own_questions number added.GoesOn = []
 own_questions number added.Waits = []
 own_questions number (added.Asks question) = (number, question) ∷ []
 
--- what the last of these commands is, after one line was added to commands of which none is `wait`
+-- whether the last of these commands is a `wait`, after one line was added
 abbrev pub Leaves : Added → List Numbered → List Numbered → Type 0
 Leaves added.GoesOn old new = NoneWaits old → NoneWaits new
 Leaves added.Waits old new = (NoneWaits old → after_wait new ≡ []) × EndsInWait new

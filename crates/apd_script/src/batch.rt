@@ -1,6 +1,6 @@
 //! Reading lines as they come, malformed ones beside commands.
 
-ghost use Rattle.std.specs.Prelude.{◌≡◌, ◌≤◌, ◌^◌, ◌↔◌, ◌++◌, ◌∷◌, [], Some, IsTrue, IfOk, OnErr, IfSome, IfNone, ◌⊎◌};
+ghost use Rattle.std.specs.Prelude.{◌≡◌, ◌≤◌, ◌^◌, ◌↔◌, [], Some, IsTrue, IfOk, OnErr, IfSome, IfNone, ◌⊎◌};
 ghost use Rattle.apd_script.specs.Asked.{commands_of};
 ghost use Rattle.apd_script.specs.Batches.{numbers_of, questions_of, own_questions, IsMalformed, IsQuit, BeginsWithQuit, HasNoLine, Says, Adds, Leaves, Takes, Stops, after_wait};
 ghost use Rattle.apd_script.specs.Script.{Cuts};
@@ -94,29 +94,6 @@ fn fault_of<'a>(shapes: &Shapes, line: &'a [u8]) -> LineFault<'a> {
     }
 }
 
-/// Adds a command, and returns whether it is a `wait`.
-fn add_command<'a>(
-    commands: &mut Vec<Numbered<'a>>,
-    number: u64,
-    command: Command<'a>,
-) -> Result<Added, AllocError>
-    ensures pushed { IfOk result (λ _. commands.new.items
-        ≡ commands.old.items ++ record { line = number; command = command } ∷ []) }
-    ensures none { IfOk result (λ added. own_questions number added ≡ []) }
-    ensures leaves { IfOk result (λ added. Leaves added commands.old.items commands.new.items) }
-{
-    let waits = matches!(&command, Command::Wait);
-    commands.reserve(1)?;
-    commands.push_reserved(Numbered {
-        line: number,
-        command,
-    });
-    if waits {
-        return Ok(Added::Waits);
-    }
-    Ok(Added::GoesOn)
-}
-
 /// Adds the line with this number to the commands or to the malformed lines, unless it is a question.
 fn add_line<'a>(
     commands: &mut Vec<Numbered<'a>>,
@@ -133,8 +110,16 @@ fn add_line<'a>(
 {
     match take_line(shapes, line) {
         Ok(Said::Command(command)) => {
-            let added = add_command(commands, number, command)?;
-            return Ok(added);
+            let waits = matches!(&command, Command::Wait);
+            commands.reserve(1)?;
+            commands.push_reserved(Numbered {
+                line: number,
+                command,
+            });
+            if waits {
+                return Ok(Added::Waits);
+            }
+            return Ok(Added::GoesOn);
         }
         Ok(Said::Nothing) => return Ok(Added::GoesOn),
         Ok(Said::Question(question)) => return Ok(Added::Asks(question)),
@@ -167,8 +152,10 @@ fn next_line(text: &[u8]) -> Option<(&[u8], &[u8])>
 pub fn begins_with_quit(text: &[u8]) -> bool
     ensures is { IsTrue result ↔ BeginsWithQuit text.now }
 {
-    let (line, next) = first_line(text);
-    next.is_some() && is_quit(line)
+    match first_line(text) {
+        (line, Some(_)) => is_quit(line),
+        (_, None) => false,
+    }
 }
 
 /// Takes whole lines from the beginning of a text, the first of which has this number: up to and including the first

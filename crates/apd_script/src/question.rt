@@ -50,6 +50,7 @@ fn dump(shapes: &Shapes, operands: &[&str]) -> Option<Question>
     let [map] = operands else {
         return None;
     };
+    shapes.whole();
     let map = number_below(shapes.len() as u64, map)?;
     let shape = shapes.get(map as u32)?;
     Some(Question::Dump {
@@ -59,7 +60,7 @@ fn dump(shapes: &Shapes, operands: &[&str]) -> Option<Question>
 }
 
 /// What a keyword and its operands ask to be told.
-fn question(shapes: &Shapes, keyword: &str, operands: &[&str]) -> Option<Question>
+fn keyword_question(shapes: &Shapes, keyword: &str, operands: &[&str]) -> Option<Question>
     ensures is { result ≡ question_asked shapes.now keyword.now (texts operands.now) }
 {
     match keyword {
@@ -80,7 +81,7 @@ fn words_question(shapes: &Shapes, line: &str) -> Option<Question>
     let (keyword, rest) = next_word(line)?;
     let mut operands = [""; 4];
     let count = cut_words(rest, &mut operands)?;
-    question(shapes, keyword, &operands[..count])
+    keyword_question(shapes, keyword, &operands[..count])
 }
 
 /// What a line asks to be told, if it is a question.

@@ -47,12 +47,20 @@ fn append_stations(text: &mut String, line: u64, rows: &[StationRow]) -> Result<
     Ok(())
 }
 
+fn append_agreement(text: &mut String, line: u64, row: AgreementRow) -> Result<(), AllocError>
+    ensures ok { IfOk result (λ _. string_bytes text.new ≡ string_bytes text.old
+        ++ line_of line (agreement_words row)) }
+{
+    writeln!(text, "{line} {row}")?;
+    Ok(())
+}
+
 fn append_agreements(text: &mut String, line: u64, rows: &[AgreementRow]) -> Result<(), AllocError>
     ensures ok { IfOk result (λ _. string_bytes text.new ≡ string_bytes text.old
         ++ flat_map (λ row. line_of line (agreement_words row)) rows.now) }
 {
     for row in rows {
-        writeln!(text, "{line} {row}")?;
+        append_agreement(text, line, *row)?;
     }
     Ok(())
 }
@@ -133,20 +141,27 @@ fn answer_text(alloc: Global, line: u64, answer: &Answer) -> Result<String, Allo
         Answer::Usages(usages) => {
             append_usages(&mut text, line, usages.as_slice())?;
             append_end(&mut text, line, usages.len())?;
+            return Ok(text);
         }
         Answer::Stations(rows) => {
             append_stations(&mut text, line, rows.as_slice())?;
             append_end(&mut text, line, rows.len())?;
+            return Ok(text);
         }
         Answer::Agreements(rows) => {
             append_agreements(&mut text, line, rows.as_slice())?;
             append_end(&mut text, line, rows.len())?;
+            return Ok(text);
         }
         Answer::Programs(rows) => {
             append_programs(&mut text, line, rows.as_slice())?;
             append_end(&mut text, line, rows.len())?;
+            return Ok(text);
         }
-        Answer::Counters(totals) => append_counters(&mut text, line, totals)?,
+        Answer::Counters(totals) => {
+            append_counters(&mut text, line, totals)?;
+            return Ok(text);
+        }
         Answer::Dump {
             map,
             shape,
@@ -155,9 +170,9 @@ fn answer_text(alloc: Global, line: u64, answer: &Answer) -> Result<String, Allo
             append_map(&mut text, line, *map, *shape)?;
             append_entries(&mut text, line, entries.as_slice())?;
             append_end(&mut text, line, entries.len())?;
+            return Ok(text);
         }
     }
-    Ok(text)
 }
 
 /// Prints the answer to the question of a line, or a prefix of it if a write or an allocation fails.

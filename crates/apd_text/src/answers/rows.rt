@@ -1,7 +1,7 @@
 //! The words of a row.
 
 ghost use Rattle.std.specs.Prelude.{Some};
-ghost use Rattle.apd_text.specs.Answers.{station_words, agreement_words, program_words, shape_words, width_of, scope_name};
+ghost use Rattle.apd_text.specs.Answers.{station_words, agreement_words, program_words, shape_words, scope_name};
 
 use crate::answers::answer::{AgreementRow, ProgramRow, StationRow};
 use bpf_regions::{Scope, Shape};
