@@ -19,9 +19,9 @@ use Rattle.apd_run.specs.declared.access.budgets.Budgets.{Budgets}
 -- one hook's program is another
 replaced_budgets : (hook : Hook) (b : Budgets) (set : Programs) (program : Option Verified) (budget : Option ℕ) → budget ≡ budget_of program → AreBudgets b set
     → AreBudgets (put_budget hook budget b) (replaced hook set program)
-replaced_budgets Association b set program budget is h = record { association = is; addba = h.addba; data_hook = h.data_hook }
-replaced_budgets Addba b set program budget is h = record { association = h.association; addba = is; data_hook = h.data_hook }
-replaced_budgets Data b set program budget is h = record { association = h.association; addba = h.addba; data_hook = is }
+replaced_budgets Association b set program budget is h = record { association = is; addba = h.addba; frames = h.frames }
+replaced_budgets Addba b set program budget is h = record { association = h.association; addba = is; frames = h.frames }
+replaced_budgets Data b set program budget is h = record { association = h.association; addba = h.addba; frames = is }
 
 -- after one more load
 pub loaded_budgets : (hook : Hook) (b : Budgets) (old new : Beginning) (program : Option Verified) (budget : Option ℕ) → budget ≡ budget_of program
@@ -77,8 +77,8 @@ module _ (hook : Hook) (b : Budgets) (old new : Beginning) (h : AreBudgets b (se
 
 -- the rows of budgets are those of the set
 pub rows_of_set : (b : Budgets) (set : Programs) → AreBudgets b set → budget_rows b ≡ program_rows set
-rows_of_set b set h i = row_if Association (h.association i) ++ (row_if Addba (h.addba i) ++ row_if Data (h.data_hook i))
+rows_of_set b set h i = row_if Association (h.association i) ++ (row_if Addba (h.addba i) ++ row_if Data (h.frames i))
 
 -- no program is in force before the first load
-pub no_budgets : (k : Beginning) → k.loads ≡ [] → AreBudgets (record { association = None; addba = None; data = None }) (set_of k.loads)
-no_budgets k is = subst (λ (l : List Load). AreBudgets (record { association = None; addba = None; data = None }) (set_of l)) (sym is) (record { association = refl; addba = refl; data_hook = refl })
+pub no_budgets : (k : Beginning) → k.loads ≡ [] → AreBudgets (record { association = None; addba = None; frames = None }) (set_of k.loads)
+no_budgets k is = subst (λ (l : List Load). AreBudgets (record { association = None; addba = None; frames = None }) (set_of l)) (sym is) (record { association = refl; addba = refl; frames = refl })

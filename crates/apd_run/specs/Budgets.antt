@@ -17,13 +17,13 @@ budget_of program = option_map (λ p. p.budget) program
 pub record AreBudgets (b : Budgets) (set : Programs) : Type 0 where
   pub association : b.association ≡ budget_of set.association
   pub addba : b.addba ≡ budget_of set.addba
-  pub data_hook : b.data ≡ budget_of set.frames
+  pub frames : b.frames ≡ budget_of set.frames
 
 -- the same with another budget, or none, at one hook
 abbrev pub put_budget : Hook → Option ℕ → Budgets → Budgets
 put_budget Association budget b = record b { association = budget }
 put_budget Addba budget b = record b { addba = budget }
-put_budget Data budget b = record b { data = budget }
+put_budget Data budget b = record b { frames = budget }
 
 -- the same after a report on a load for the hook
 abbrev pub noted : Hook → Told → Budgets → Budgets
@@ -37,7 +37,7 @@ row_if hook (Some budget) = record { hook = hook; budget = budget } ∷ []
 
 -- the rows of all hooks that have a program, in the order of the hooks' numbers
 abbrev pub budget_rows : Budgets → List ProgramRow
-budget_rows b = row_if Association b.association ++ (row_if Addba b.addba ++ row_if Data b.data)
+budget_rows b = row_if Association b.association ++ (row_if Addba b.addba ++ row_if Data b.frames)
 
 -- the rows of the programs of a set
 abbrev pub program_rows : Programs → List ProgramRow

@@ -7,7 +7,6 @@
 mod budgets;
 mod hands;
 mod hiring;
-mod listing;
 mod naming;
 mod operator;
 mod running;

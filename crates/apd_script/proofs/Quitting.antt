@@ -1,5 +1,5 @@
 -- Texts that begin with a line `quit`.
-use Rattle.std.specs.Prelude.{◌≡◌, ℕ, List, [], ◌∷◌}
+use Rattle.std.specs.Prelude.{◌≡◌, ℕ, List, [], ◌∷◌, false, IsTrue}
 use Rattle.std.proofs.Common.{◌∙◌, sym, ap, subst}
 use Rattle.apd_script.specs.Batches.{IsQuit, BeginsWithQuit}
 use Rattle.apd_script.specs.Script.{lines_of}
@@ -29,3 +29,7 @@ pub no_quit : (text line : List ℕ) → lines_of text ≡ line ∷ [] → Begin
 no_quit text line one h =
     let first = first_of h.rest in
     none_is_one first.0 first.1 (sym (ap rest_or one) ∙ ap rest_or h.cut ∙ first.2)
+
+-- a test that fails
+pub untrue : IsTrue false → ⊥
+untrue e = cc

@@ -12,7 +12,7 @@ use std::alloc::{AllocError, Global};
 pub struct Budgets {
     pub association: Option<u32>,
     pub addba: Option<u32>,
-    pub data: Option<u32>,
+    pub frames: Option<u32>,
 }
 
 /// Appends the row of a hook's program, if the hook has one.
@@ -32,12 +32,12 @@ fn add_row(
 impl Budgets {
     /// No hook has a program.
     pub fn none() -> Budgets
-        ensures none { result ≡ record { association = None; addba = None; data = None } }
+        ensures none { result ≡ record { association = None; addba = None; frames = None } }
     {
         Budgets {
             association: None,
             addba: None,
-            data: None,
+            frames: None,
         }
     }
 
@@ -48,7 +48,7 @@ impl Budgets {
         match hook {
             Hook::Association => self.association = budget,
             Hook::Addba => self.addba = budget,
-            Hook::Data => self.data = budget,
+            Hook::Data => self.frames = budget,
         }
     }
 
@@ -68,7 +68,7 @@ impl Budgets {
         let mut rows = Vec::new(alloc);
         add_row(&mut rows, Hook::Association, self.association)?;
         add_row(&mut rows, Hook::Addba, self.addba)?;
-        add_row(&mut rows, Hook::Data, self.data)?;
+        add_row(&mut rows, Hook::Data, self.frames)?;
         Ok(rows)
     }
 }
