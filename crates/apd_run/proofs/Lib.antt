@@ -9,4 +9,7 @@ pub mod Keeping
 pub mod Loading
 pub mod OneByOne
 pub mod Ending
-pub mod Flushed
+pub mod Batches
+pub mod Asking
+pub mod Counted
+pub mod Budgeting

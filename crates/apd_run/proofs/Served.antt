@@ -68,7 +68,8 @@ collects_told crew crew2 list list2 tags listed counted =
 pub served_tags : (config : Config) (a : Live) (w w2 : Worker) (list list2 : List Tagged) → Served config a w w2 list list2 → Serves (counted_by w.shards) (counted_by w2.shards) list list2
 served_tags config a w w2 list list2 s = record { tags = s.tags; listed = s.listed; counts = s.counted }
 
-tally_none : tally [] ≡ none
+-- no event counts nothing
+pub tally_none : tally [] ≡ none
 unfolding tally
 tally_none = refl
 

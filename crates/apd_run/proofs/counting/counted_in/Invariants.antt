@@ -1,0 +1,6 @@
+use Rattle.ap_books.specs.Reading.{Reads}
+use Rattle.apd_run.proofs.Counted.{ReadsFirst}
+use Rattle.apd_run.proofs.counting.counted_in.Given as goal
+
+abbrev pub invariant-loop-tagged : goal.invariant-loop-tagged
+invariant-loop-tagged l = ReadsFirst l.totals l.tagged-index l.list
