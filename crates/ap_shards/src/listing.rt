@@ -2,7 +2,7 @@
 
 ghost use Rattle.std.specs.Prelude.{◌≡◌, IfOk, IsOkAnd};
 ghost use Rattle.ap_core.specs.Listing.{ListsAgreements, ListsStations, MergesAgreements, MergesStations};
-ghost use Rattle.ap_locked.specs.Tokens.{KeepsOwn};
+ghost use Rattle.ap_locked.specs.Tokens.{KeepsOwn, rules};
 ghost use Rattle.ap_shards.specs.Listing.{AddsRows, Shows};
 ghost use Rattle.ap_shards.specs.Tokens.{KeepOwn};
 
@@ -23,7 +23,7 @@ fn stations_at<B: Ledgers + Journals, const SHARD: usize>(
     rows: Result<Vec<KnownStation>, AllocError>,
 ) -> Result<Vec<KnownStation>, AllocError>
     ensures added { IfOk result (λ all. IsOkAnd rows (λ before. AddsRows ListsStations
-        SHARD mine.old mine.new before.items all.items)) }
+        (rules SHARD B.config) mine.old mine.new before.items all.items)) }
     ensures keeps { KeepsOwn mine.old mine.new }
 {
     locked.known();
@@ -43,7 +43,7 @@ fn stations_under<B: Ledgers + Journals, const SHARD: usize, R: Wait>(
     rows: Result<Vec<KnownStation>, AllocError>,
 ) -> Result<Vec<KnownStation>, AllocError>
     ensures added { IfOk result (λ all. IsOkAnd rows (λ before. AddsRows ListsStations
-        SHARD mine.old mine.new before.items all.items)) }
+        (rules SHARD B.config) mine.old mine.new before.items all.items)) }
     ensures keeps { KeepsOwn mine.old mine.new }
 {
     let mut locked = lock.lock(rt);
@@ -58,7 +58,7 @@ fn agreements_at<B: Ledgers + Journals, const SHARD: usize>(
     rows: Result<Vec<AgreementInForce>, AllocError>,
 ) -> Result<Vec<AgreementInForce>, AllocError>
     ensures added { IfOk result (λ all. IsOkAnd rows (λ before. AddsRows ListsAgreements
-        SHARD mine.old mine.new before.items all.items)) }
+        (rules SHARD B.config) mine.old mine.new before.items all.items)) }
     ensures keeps { KeepsOwn mine.old mine.new }
 {
     locked.known();
@@ -78,7 +78,7 @@ fn agreements_under<B: Ledgers + Journals, const SHARD: usize, R: Wait>(
     rows: Result<Vec<AgreementInForce>, AllocError>,
 ) -> Result<Vec<AgreementInForce>, AllocError>
     ensures added { IfOk result (λ all. IsOkAnd rows (λ before. AddsRows ListsAgreements
-        SHARD mine.old mine.new before.items all.items)) }
+        (rules SHARD B.config) mine.old mine.new before.items all.items)) }
     ensures keeps { KeepsOwn mine.old mine.new }
 {
     let mut locked = lock.lock(rt);
@@ -94,7 +94,7 @@ impl<B: Ledgers + Journals> Shards<B> {
         alloc: Global,
         mine: &mut ShardTokens<B>,
     ) -> Result<Vec<KnownStation>, AllocError>
-        ensures shown { IfOk result (λ rows. Shows MergesStations mine.old mine.new rows.items) }
+        ensures shown { IfOk result (λ rows. Shows MergesStations B.config mine.old mine.new rows.items) }
         ensures own { KeepOwn mine.old mine.new }
     {
         let rows = Ok(Vec::new(alloc));
@@ -118,7 +118,7 @@ impl<B: Ledgers + Journals> Shards<B> {
         alloc: Global,
         mine: &mut ShardTokens<B>,
     ) -> Result<Vec<AgreementInForce>, AllocError>
-        ensures shown { IfOk result (λ rows. Shows MergesAgreements mine.old mine.new rows.items) }
+        ensures shown { IfOk result (λ rows. Shows MergesAgreements B.config mine.old mine.new rows.items) }
         ensures own { KeepOwn mine.old mine.new }
     {
         let rows = Ok(Vec::new(alloc));

@@ -14,12 +14,12 @@ returns-clause-shown g c =
     let new : Eight =
     record { of0 = c.stations_under-rows.new.mine; of1 = c.stations_under-rows-2.new.mine; of2 = c.stations_under-rows-3.new.mine; of3 = c.stations_under-rows-4.new.mine; of4 = c.stations_under-rows-5.new.mine; of5 = c.stations_under-rows-6.new.mine; of6 = c.stations_under-rows-7.new.mine; of7 = c.stations_under.new.mine } in
     let listed =
-    eight_listed ListsStations old new c.new.result
+    eight_listed ListsStations g.B.Journals.config old new c.new.result
     c.stations_under-rows.result c.stations_under-rows-2.result c.stations_under-rows-3.result c.stations_under-rows-4.result c.stations_under-rows-5.result c.stations_under-rows-6.result c.stations_under-rows-7.result
     c.in_ok-rows.rows c.new.ensures.items
     c.stations_under-rows.ensures.added c.stations_under-rows-2.ensures.added c.stations_under-rows-3.ensures.added c.stations_under-rows-4.ensures.added c.stations_under-rows-5.ensures.added c.stations_under-rows-6.ensures.added c.stations_under-rows-7.ensures.added
     c.in_ok-rows.ensures.added in
-    subst (λ (e : Eight). Shows MergesStations e new c.sort_unstable_by_key.new.self.items) c.mine.view_is
+    subst (λ (e : Eight). Shows MergesStations g.B.Journals.config e new c.sort_unstable_by_key.new.self.items) c.mine.view_is
     (record {
       readings = listed.readings;
       looks = listed.looks;
