@@ -1,5 +1,5 @@
 -- Two tokens that met.
-use Rattle.std.proofs.Common.{◌≡◌, ◌<◌, ℕ, List, sym, subst}
+use Rattle.std.proofs.Common.{◌≡◌, List, sym, subst}
 use Rattle.ap_model.specs.Readings.{Config, Rules}
 use Rattle.ap_model.specs.Runs.{Entry}
 use Rattle.ap_locked.specs.Tokens.{IsAmong, KeepsOwn, Token, rules}

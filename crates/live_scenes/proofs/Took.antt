@@ -1,12 +1,11 @@
 -- What a worker took of an operator that submitted one event.
-use Rattle.std.proofs.Common.{◌≡◌, ◌++◌, ℕ, List, [], length, replicate, slice_index_or, sym, ap, subst, ◌∙◌}
+use Rattle.std.proofs.Common.{◌≡◌, ◌++◌, ℕ, List, [], slice_index_or, sym, ap, ◌∙◌}
 use Rattle.ap_model.specs.declared.event.Event.{Event}
 use Rattle.ap_queues.specs.Items.{Item}
 use Rattle.ap_queues.specs.Lines.{AreTakenAt, HasPutNothing, numbers_of, puts_of}
 use Rattle.ap_queues.specs.Passes.{taken_by}
 use Rattle.ap_queues.specs.Putting.{first_shard, served, shard_count}
 use Rattle.ap_queues.specs.Queues.{of}
-use Rattle.ap_queues.specs.declared.item.Queued.{Queued}
 use Rattle.ap_live.specs.Lives.{Live}
 use Rattle.ap_live.specs.Tokens.{Operator, Worker}
 use Rattle.live_scenes.specs.Submitted.{TookOnly, submitted}

@@ -1,5 +1,5 @@
 -- The own entries of two tokens, in one journal.
-use Rattle.std.specs.Prelude.{◌≡◌, ◌<◌, ℕ, List}
+use Rattle.std.specs.Prelude.{◌<◌, ℕ, List}
 use Rattle.ap_model.specs.Readings.{Config, Readings, Rules}
 use Rattle.ap_model.specs.Runs.{Entry}
 use Rattle.ap_laws.specs.Headline.{LinkHolds}
