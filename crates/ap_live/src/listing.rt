@@ -23,8 +23,8 @@ impl<B: Ledgers + Journals> LiveAp<B> {
         alloc: Global,
         operator: &mut OperatorToken<B>,
     ) -> Result<Vec<KnownStation>, AllocError>
-        ensures shown { IfOk result
-            (λ rows. Shows MergesStations operator.old.shards operator.new.shards rows.items) }
+        ensures shown { IfOk result (λ rows. Shows MergesStations B.config
+            operator.old.shards operator.new.shards rows.items) }
         ensures own { KeepOwn operator.old.shards operator.new.shards }
         ensures same { operator.new ≡ record operator.old { shards = operator.new.shards } }
     {
@@ -40,8 +40,8 @@ impl<B: Ledgers + Journals> LiveAp<B> {
         alloc: Global,
         operator: &mut OperatorToken<B>,
     ) -> Result<Vec<AgreementInForce>, AllocError>
-        ensures shown { IfOk result
-            (λ rows. Shows MergesAgreements operator.old.shards operator.new.shards rows.items) }
+        ensures shown { IfOk result (λ rows. Shows MergesAgreements B.config
+            operator.old.shards operator.new.shards rows.items) }
         ensures own { KeepOwn operator.old.shards operator.new.shards }
         ensures same { operator.new ≡ record operator.old { shards = operator.new.shards } }
     {
