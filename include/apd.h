@@ -487,7 +487,7 @@ APD_INLINE size_t apd_out_bytes(apd_handle *outs, size_t at, uint8_t *into, size
 }
 
 /* Fills an empty handle with the stations that the access point knows: those of its shards, each once, by increasing
-   addresses. apd_stations and apd_station_at read them. An event changes nothing in a list: to see who came or went, list
+   addresses. apd_station_count and apd_station_at read them. An event changes nothing in a list: to see who came or went, list
    again and compare. */
 APD_INLINE uint32_t apd_link_stations(apd_handle *link, apd_handle *stations)
 {
@@ -505,7 +505,7 @@ APD_INLINE uint32_t apd_link_agreements(apd_handle *link, apd_handle *agreements
 }
 
 /* How many stations a handle holds. */
-APD_INLINE size_t apd_stations(apd_handle *stations)
+APD_INLINE size_t apd_station_count(apd_handle *stations)
 {
     return stations ? apd_c_stations(stations) : 0;
 }
@@ -518,7 +518,7 @@ APD_INLINE apd_standing apd_station_at(apd_handle *stations, size_t at)
 }
 
 /* How many agreements a handle holds. */
-APD_INLINE size_t apd_agreements(apd_handle *agreements)
+APD_INLINE size_t apd_agreement_count(apd_handle *agreements)
 {
     return agreements ? apd_c_agreements(agreements) : 0;
 }

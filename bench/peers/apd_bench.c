@@ -87,7 +87,7 @@ static double list_stations(apd_handle *link, apd_standing *rows)
     apd_handle list = APD_EMPTY;
     double start = now();
 
-    if (apd_link_stations(link, &list) || apd_stations(&list) != STATIONS)
+    if (apd_link_stations(link, &list) || apd_station_count(&list) != STATIONS)
         exit(1);
     for (size_t at = 0; at < STATIONS; at++)
         rows[at] = apd_station_at(&list, at);

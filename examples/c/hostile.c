@@ -391,7 +391,7 @@ static void hostile_lists(void)
     WANT(apd_link_stations(&link, &list), APD_OK);
     WANT(apd_link_stations(&link, &list), APD_NOT_EMPTY);
     WANT(apd_link_agreements(&link, &more), APD_OK);
-    WANT(apd_stations(&list), 500);
+    WANT(apd_station_count(&list), 500);
     for (unsigned at = 0; at < 500; at++) {
         apd_standing row = apd_station_at(&list, at);
         WANT(row.station.octets[4] * 256 + row.station.octets[5], at + 1);
@@ -403,12 +403,12 @@ static void hostile_lists(void)
     WANT(apd_station_at(NULL, 0).state, 0);
     WANT(apd_station_at(&link, 0).state, 0);
     WANT(apd_station_at(&more, 0).state, 0);
-    WANT(apd_stations(&more), 0);
-    WANT(apd_stations(&link), 0);
-    WANT(apd_stations(NULL), 0);
-    WANT(apd_agreements(&more), 0);
-    WANT(apd_agreements(&list), 0);
-    WANT(apd_agreements(NULL), 0);
+    WANT(apd_station_count(&more), 0);
+    WANT(apd_station_count(&link), 0);
+    WANT(apd_station_count(NULL), 0);
+    WANT(apd_agreement_count(&more), 0);
+    WANT(apd_agreement_count(&list), 0);
+    WANT(apd_agreement_count(NULL), 0);
     WANT(apd_agreement_at(&more, 0).size, 0);
     WANT(apd_agreement_at(&list, 0).size, 0);
     WANT(apd_agreement_at(NULL, 0).size, 0);

@@ -120,12 +120,12 @@ static int serve(long refused)
     number = apd_link_stations(&link, &outs);
     if (ok && number)
         ok = number == APD_NO_MEMORY && !outs.full && !apd_link_stations(&link, &outs);
-    ok = ok && apd_stations(&outs) == 1 && apd_station_at(&outs, 0).state == 3;
+    ok = ok && apd_station_count(&outs) == 1 && apd_station_at(&outs, 0).state == 3;
     apd_free(&outs);
     number = apd_link_agreements(&link, &outs);
     if (ok && number)
         ok = number == APD_NO_MEMORY && !outs.full && !apd_link_agreements(&link, &outs);
-    ok = ok && apd_agreements(&outs) <= 1;
+    ok = ok && apd_agreement_count(&outs) <= 1;
     apd_free(&outs);
     ok = ok && count == 5 && !apd_link_load(&link, APD_ASSOC, &code);
     apd_free(&maps);

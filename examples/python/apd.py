@@ -99,9 +99,9 @@ _CALLS = {
     "link_close": (c_uint32, [*_EVENT, POINTER(_Station), c_uint8, c_uint64]),
     "link_stations": (c_uint32, [_HANDLE, _HANDLE]),
     "link_agreements": (c_uint32, [_HANDLE, _HANDLE]),
-    "stations": (c_size_t, [_HANDLE]),
+    "station_count": (c_size_t, [_HANDLE]),
     "station_at": (_Standing, [_HANDLE, c_size_t]),
-    "agreements": (c_size_t, [_HANDLE]),
+    "agreement_count": (c_size_t, [_HANDLE]),
     "agreement_at": (_Agreement, [_HANDLE, c_size_t]),
     "outs": (c_size_t, [_HANDLE]),
     "out_at": (_Out, [_HANDLE, c_size_t]),
@@ -346,12 +346,12 @@ class Link(_Owner):
 
     def stations(self):
         """The stations that it knows, by increasing addresses."""
-        rows = self._listed(_apd.apd_link_stations, _apd.apd_stations, _apd.apd_station_at)
+        rows = self._listed(_apd.apd_link_stations, _apd.apd_station_count, _apd.apd_station_at)
         return [Station(bytes(row.station.octets), row.state, row.aid) for row in rows]
 
     def agreements(self):
         """The agreements in force, by increasing addresses and TIDs."""
-        rows = self._listed(_apd.apd_link_agreements, _apd.apd_agreements, _apd.apd_agreement_at)
+        rows = self._listed(_apd.apd_link_agreements, _apd.apd_agreement_count, _apd.apd_agreement_at)
         return [Agreement(bytes(row.station.octets), row.tid, row.start, row.size, row.held, row.timeout) for row in rows]
 
     def _event(self, call, *arguments):
