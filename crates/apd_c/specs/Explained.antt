@@ -16,7 +16,7 @@ sentences =
     (16, codes "the code can be left at its end") ∷
     (17, codes "r10 is written") ∷
     (18, codes "no such helper") ∷
-    (19, codes "no such map") ∷
+    (19, codes "no such map, or no such byte in it") ∷
     (30, codes "something unset is read") ∷
     (31, codes "the operation does not take such a value") ∷
     (32, codes "an access may leave its region") ∷

@@ -1,10 +1,10 @@
 //! The exports for C programs, which `include/apd.h` declares.
 //!
 //! Main calls: `apd_c_verify`, `apd_c_run`, `apd_c_certify`, `apd_c_check` and `apd_c_link_frame`. It depends on
-//! `bpf_verifier`, `bpf_cert`, `bpf_machine`, `ap_tables` and `ap_single`. Each export calls a function of those and
-//! restates its clauses. C keeps values in a `Handle`, which is empty or owns one value. A call that finds a value of
-//! another kind in it leaves it unchanged and returns 91; `apd_c_budget`, `apd_c_read` and the calls that read outputs
-//! or lists return 0 or zeros.
+//! `bpf_verifier`, `bpf_cert`, `bpf_machine`, `ap_tables`, `ap_single` and, for `apd_c_why`, `apd_text`. Each export
+//! calls a function of those and restates its clauses. C keeps values in a `Handle`, which is empty or owns one value. A
+//! call that finds a value of another kind in it leaves it unchanged and returns 91; `apd_c_budget`, `apd_c_read` and
+//! the calls that read outputs or lists return 0 or zeros.
 #![tactic(auto)]
 
 mod answer;
@@ -24,6 +24,7 @@ mod maps;
 mod outs;
 mod runs;
 mod shapes;
+mod why;
 mod words;
 
 pub use answer::Answer;
@@ -47,4 +48,5 @@ pub use loads::{apd_c_link_load, apd_c_link_unload};
 pub use outs::{OutHead, apd_c_out, apd_c_out_bytes, apd_c_outs};
 pub use runs::{Given, Report, apd_c_run};
 pub use shapes::MapShape;
+pub use why::apd_c_why;
 pub use words::{Loaded, apd_c_load, apd_c_maps, apd_c_store};
