@@ -3,7 +3,7 @@
 ghost use Rattle.std.specs.Prelude.{◌≡◌, IfOk, map};
 ghost use Rattle.std.specs.String.{string_bytes};
 ghost use Rattle.capture.specs.Packets.{seen_of};
-ghost use Rattle.apd_program.specs.Script.{start_of, unit_of, script_of};
+ghost use Rattle.apd_policies.specs.Script.{start_of, unit_of, script_of};
 
 use crate::frames::lines::{append_packet, append_time, append_wait};
 use capture::Packet;

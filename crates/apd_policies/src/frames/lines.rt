@@ -3,7 +3,7 @@
 ghost use Rattle.std.specs.Prelude.{◌≡◌, ◌++◌, ◌<◌, IfOk, codes};
 ghost use Rattle.std.specs.String.{string_bytes};
 ghost use Rattle.capture.specs.Radiotap.{bytes_in};
-ghost use Rattle.apd_program.specs.Script.{reason_of, left_out_line, frame_line, frame_lines, packet_lines, tick_line, time_lines, wait_lines};
+ghost use Rattle.apd_policies.specs.Script.{reason_of, left_out_line, frame_line, frame_lines, packet_lines, tick_line, time_lines, wait_lines};
 
 use capture::LeftOut;
 use std::alloc::{AllocError, Global};

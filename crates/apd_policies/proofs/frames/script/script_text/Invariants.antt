@@ -2,8 +2,8 @@
 use Rattle.std.proofs.Common.{◌≡◌, ◌+◌, ◌++◌, drop, map}
 use Rattle.std.specs.String.{string_bytes}
 use Rattle.capture.specs.Packets.{seen_of}
-use Rattle.apd_program.specs.Script.{lines_from, script_of}
-use Rattle.apd_program.proofs.frames.script.script_text.Given as goal
+use Rattle.apd_policies.specs.Script.{lines_from, script_of}
+use Rattle.apd_policies.proofs.frames.script.script_text.Given as goal
 
 abbrev pub invariant-loop-packet : goal.invariant-loop-packet
 invariant-loop-packet l = record {
