@@ -22,6 +22,6 @@ pub reads_more : (totals more all : Totals) (many : ℕ) (list : List Tagged) (t
     → ((x y : Counts) → Reads totals x → Reads more y → Reads all (plus x y)) → ReadsFirst totals many list → Reads more (fate_counts t.fate) → ReadsFirst all (many + 1) list
 reads_more totals more all many list t within is sum h one =
     let longer : tally (take (many + 1) list) ≡ plus (tally (take many list)) (fate_counts t.fate) =
-        ap tally (take_more list many t within) ∙ tally_two (take many list) (get_or list many t ∷ []) ∙ ap (λ (u : Tagged). plus (tally (take many list)) (tally (u ∷ []))) (sym is)
-        ∙ ap (plus (tally (take many list))) (tally_one t) in
+    ap tally (take_more list many t within) ∙ tally_two (take many list) (get_or list many t ∷ []) ∙ ap (λ (u : Tagged). plus (tally (take many list)) (tally (u ∷ []))) (sym is)
+    ∙ ap (plus (tally (take many list))) (tally_one t) in
     subst (Reads all) (sym longer) (sum _ _ h one)

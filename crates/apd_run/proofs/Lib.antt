@@ -10,6 +10,6 @@ pub mod Loading
 pub mod OneByOne
 pub mod Ending
 pub mod Batches
-pub mod Asking
+pub mod Entries
 pub mod Counted
 pub mod Budgeting

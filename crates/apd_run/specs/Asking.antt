@@ -1,5 +1,5 @@
 -- What questions are answered.
-use Rattle.std.specs.Prelude.{◌≡◌, ℕ, ◌+◌, ◌==◌, List, [], ◌∷◌, ◌++◌, length, map, Option, if◌then◌else◌}
+use Rattle.std.specs.Prelude.{◌≡◌, ℕ, ◌+◌, ◌==◌, List, [], ◌∷◌, ◌++◌, length, map, Option, vec_len, if◌then◌else◌}
 use Rattle.std.specs.List.{All, list_all}
 use Rattle.std.specs.Io.KnownBytes.{Appends}
 use Rattle.bpf_regions.specs.declared.maps.Shape.{Shape}
@@ -35,7 +35,7 @@ pub record ListsEntries (shape : Shape) (rows : List EntryRow) : Type 0 where
 
 -- the answer to a question, if this is what was counted so far
 abbrev pub Answers : Counts → Question → Answer → Type 0
-Answers counted question.Help (answer.Usages usages) = length usages.items ≡ 16
+Answers counted question.Help (answer.Usages usages) = vec_len usages ≡ 16
 Answers counted question.Programs (answer.Programs rows) = Unit {0}
 Answers counted question.Counters (answer.Counters totals) = Reads totals counted
 Answers counted (question.Dump map shape) (answer.Dump map2 shape2 entries) =

@@ -4,9 +4,9 @@ ghost use Rattle.std.specs.List.{list_all};
 ghost use Rattle.std.specs.Prelude.{◌≡◌, ◌==◌, ◌++◌, map, IfOk, OnOk, OnErr, Some, vec_len};
 ghost use Rattle.apd_run.specs.Asking.{Answers, BreaksAnswer, ListsEntries, TellsAnswer, entry_if, shown};
 
+use crate::actions::WordUse;
 use crate::console::Console;
 use crate::crew::Serving;
-use crate::actions::WordUse;
 use crate::operating::Operating;
 use crate::setting::Setting;
 use apd_script::{MapWord, NumberedQuestion, Question, usages};
@@ -71,11 +71,7 @@ fn are_zeros(words: &[u64]) -> bool
 }
 
 /// Appends an entry, unless all its words are 0.
-fn add_entry(
-    entries: &mut Vec<EntryRow>,
-    index: u32,
-    words: Vec<u64>,
-) -> Result<(), AllocError>
+fn add_entry(entries: &mut Vec<EntryRow>, index: u32, words: Vec<u64>) -> Result<(), AllocError>
     ensures added { OnOk result (map shown entries.new.items
         ≡ map shown entries.old.items ++ entry_if index words.items) }
 {

@@ -16,11 +16,7 @@ pub struct Budgets {
 }
 
 /// Appends the row of a hook's program, if the hook has one.
-fn add_row(
-    rows: &mut Vec<ProgramRow>,
-    hook: Hook,
-    budget: Option<u32>,
-) -> Result<(), AllocError>
+fn add_row(rows: &mut Vec<ProgramRow>, hook: Hook, budget: Option<u32>) -> Result<(), AllocError>
     ensures added { OnOk result (rows.new.items ≡ rows.old.items ++ row_if hook budget) }
 {
     if let Some(budget) = budget {

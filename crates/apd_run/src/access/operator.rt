@@ -89,9 +89,7 @@ impl<'a, B: Ledgers + Journals, L: Publications, F: Files> LiveOperator<'a, B, L
     {
         let limit = self.sources.limit;
         let files = &mut *self.sources.files;
-        let told = self
-            .loads
-            .load(rt, files, hook, path_of_word(path), limit);
+        let told = self.loads.load(rt, files, hook, path_of_word(path), limit);
         self.budgets.note(hook, &told);
         told
     }

@@ -86,7 +86,10 @@ impl<'a, O: Drop, E: Write> Terminal<'a, O, E> {
         ensures { result ≡ self.entry.out }
     {
         let Terminal {
-            out, err, notes, ..
+            out,
+            err,
+            notes,
+            ..
         } = self;
         notes.end(err);
         out

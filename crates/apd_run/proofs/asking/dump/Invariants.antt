@@ -1,5 +1,5 @@
 use Rattle.std.proofs.Common.{◌≡◌}
-use Rattle.apd_run.proofs.Asking.{ListsFirst}
+use Rattle.apd_run.proofs.Entries.{ListsFirst}
 use Rattle.apd_run.proofs.asking.dump.Given as goal
 
 abbrev pub invariant-loop-index : goal.invariant-loop-index

@@ -28,9 +28,10 @@ lists_none words rows is = record { entries = []; all = refl; wide = All-nil (λ
 pub lists_more : (many words : ℕ) (rows rows2 : List EntryRow) (ws : List ℕ) → ListsFirst many words rows → length ws ≡ words
     → map shown rows2 ≡ map shown rows ++ entry_if many ws → ListsFirst (many + 1) words rows2
 lists_more many words rows rows2 ws h wide added =
+    let here : many ≡ 0 + length h.entries = omega (arith, h.all) in
     record {
       entries = h.entries ++ ws ∷ [];
       all = length-append h.entries (ws ∷ []) ∙ ap (λ k. k + 1) h.all;
       wide = All-push (λ xs. length xs ≡ words) h.entries ws h.wide wide;
-      listed = added ∙ ap (λ l. l ++ entry_if many ws) h.listed ∙ ap (λ k. entries_from 0 h.entries ++ entry_if k ws) (sym h.all) ∙ sym (one_longer 0 h.entries ws);
+      listed = added ∙ ap (λ l. l ++ entry_if many ws) h.listed ∙ ap (λ k. entries_from 0 h.entries ++ entry_if k ws) here ∙ sym (one_longer 0 h.entries ws);
     }
