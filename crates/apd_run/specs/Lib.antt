@@ -10,6 +10,7 @@ pub mod Loading
 pub mod Adopting
 pub mod Telling
 pub mod Budgets
+pub mod Listing
 pub mod Hands
 pub mod Dealing
 pub mod Statuses

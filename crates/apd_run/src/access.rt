@@ -7,6 +7,7 @@
 mod budgets;
 mod hands;
 mod hiring;
+mod listing;
 mod naming;
 mod operator;
 mod running;

@@ -100,7 +100,8 @@ fn dump<W: Serving + Drop, O: Operating<W>>(
 }
 
 /// The answer to a question.
-fn answer_to<W: Serving + Drop, O: Operating<W>>(
+fn answer_to<W: Serving + Drop, O: Operating<W>, R: Wait>(
+    rt: &R,
     alloc: Global,
     operator: &mut O,
     question: Question,
@@ -112,6 +113,14 @@ fn answer_to<W: Serving + Drop, O: Operating<W>>(
         Question::Help => {
             let usages = usages(alloc)?;
             return Ok(Answer::Usages(usages));
+        }
+        Question::Stations => {
+            let rows = operator.stations(rt, alloc)?;
+            return Ok(Answer::Stations(rows));
+        }
+        Question::Agreements => {
+            let rows = operator.agreements(rt, alloc)?;
+            return Ok(Answer::Agreements(rows));
         }
         Question::Programs => {
             let rows = operator.programs(alloc)?;
@@ -145,7 +154,7 @@ pub(crate) fn tell<W: Serving + Drop, O: Operating<W>, R: Wait, P: Console>(
     let Some(NumberedQuestion { line, question }) = asked else {
         return Ok(());
     };
-    let answer = answer_to(setting.alloc, operator, question)?;
+    let answer = answer_to(setting.rt, setting.alloc, operator, question)?;
     match print_answer(setting.alloc, writer, line, &answer) {
         Ok(()) => return Ok(()),
         Err(fault) => return Err(fault),

@@ -4,6 +4,7 @@ ghost use Rattle.std.specs.Prelude.{◌≡◌, ◌<◌, IfOk, IfSome};
 ghost use Rattle.ap_books.specs.Counts.{Counts, none};
 ghost use Rattle.ap_books.specs.Reading.{Reads};
 ghost use Rattle.ap_live.specs.Counting.{tally};
+ghost use Rattle.apd_run.specs.Asking.{AreAgreementsInOrder, AreStationsInOrder};
 ghost use Rattle.apd_run.specs.Tallies.{told_counts};
 ghost use Rattle.apd_run.specs.Crews.{Crew, gains, with_one_more};
 
@@ -11,7 +12,7 @@ use crate::actions::{Publication, WordUse};
 use ap_books::Totals;
 use ap_model::Event;
 use ap_tagged::Tagged;
-use apd_text::{ProgramRow, Told};
+use apd_text::{AgreementRow, ProgramRow, StationRow, Told};
 use std::alloc::{AllocError, Global};
 use std::sync::Wait;
 
@@ -47,6 +48,20 @@ pub trait Operating<W> {
     fn use_word(&mut self, wanted: WordUse) -> Option<Told>
         ensures same { crew self.new ≡ crew self.old }
         ensures nothing { IfSome result (λ told. told_counts told ≡ none) };
+
+    /// The known stations, by address.
+    fn stations<R: Wait>(&mut self, rt: &R, alloc: Global) -> Result<Vec<StationRow>, AllocError>
+        ensures same { crew self.new ≡ crew self.old }
+        ensures ordered { IfOk result (λ rows. AreStationsInOrder rows.items) };
+
+    /// The agreements in force, by address and TID.
+    fn agreements<R: Wait>(
+        &mut self,
+        rt: &R,
+        alloc: Global,
+    ) -> Result<Vec<AgreementRow>, AllocError>
+        ensures same { crew self.new ≡ crew self.old }
+        ensures ordered { IfOk result (λ rows. AreAgreementsInOrder rows.items) };
 
     /// The programs in force, in the order of their hooks' numbers.
     fn programs(&self, alloc: Global) -> Result<Vec<ProgramRow>, AllocError>;

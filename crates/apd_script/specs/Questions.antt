@@ -4,7 +4,7 @@ use Rattle.std.specs.List.{list_any}
 use Rattle.std.specs.Str.{bytes_eq}
 use Rattle.bpf_regions.specs.declared.maps.Shape.{Shape}
 use Rattle.apd_script.specs.declared.question.Question.{Question}
-use Rattle.apd_script.specs.declared.question.Question.TheVariants.{Help, Programs, Counters, Dump}
+use Rattle.apd_script.specs.declared.question.Question.TheVariants.{Help, Stations, Agreements, Programs, Counters, Dump}
 use Rattle.apd_script.specs.Lines.{◌>>=◌}
 use Rattle.apd_script.specs.Words.{words, is_forbidden, number_below}
 
@@ -25,9 +25,11 @@ dump_asked maps _ = None
 abbrev pub question_asked : List Shape → List ℕ → List (List ℕ) → Option Question
 question_asked maps keyword operands =
     (if bytes_eq keyword (codes "help") then asked_alone Help operands else
+    (if bytes_eq keyword (codes "stations") then asked_alone Stations operands else
+    (if bytes_eq keyword (codes "agreements") then asked_alone Agreements operands else
     (if bytes_eq keyword (codes "programs") then asked_alone Programs operands else
     (if bytes_eq keyword (codes "counters") then asked_alone Counters operands else
-    (if bytes_eq keyword (codes "dump") then dump_asked maps operands else None))))
+    (if bytes_eq keyword (codes "dump") then dump_asked maps operands else None))))))
 
 -- what words ask to be told
 abbrev pub words_ask : List Shape → List (List ℕ) → Option Question

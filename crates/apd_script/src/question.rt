@@ -14,6 +14,10 @@ use std::str;
 pub enum Question {
     /// How each line is written.
     Help,
+    /// The known stations.
+    Stations,
+    /// The agreements in force.
+    Agreements,
     /// The programs in force.
     Programs,
     /// What was counted so far.
@@ -61,6 +65,8 @@ fn keyword_question(shapes: &Shapes, keyword: &str, operands: &[&str]) -> Option
 {
     match keyword {
         "help" => alone(Question::Help, operands),
+        "stations" => alone(Question::Stations, operands),
+        "agreements" => alone(Question::Agreements, operands),
         "programs" => alone(Question::Programs, operands),
         "counters" => alone(Question::Counters, operands),
         "dump" => dump(shapes, operands),

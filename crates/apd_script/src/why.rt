@@ -146,9 +146,19 @@ const FORMS: [Form; 11] = [
 ];
 
 /// The lines of `apd live` alone that ask to be told something.
-const QUESTIONS: [Form; 4] = [
+const QUESTIONS: [Form; 6] = [
     Form {
         keyword: "help",
+        operands: &[],
+        scope: None,
+    },
+    Form {
+        keyword: "stations",
+        operands: &[],
+        scope: None,
+    },
+    Form {
+        keyword: "agreements",
         operands: &[],
         scope: None,
     },
@@ -519,9 +529,9 @@ fn add_usages(alloc: Global, forms: &[Form], usages: &mut Vec<String>) -> Result
     Ok(())
 }
 
-/// How each of the 16 kinds of lines of `apd live` is written.
+/// How each of the 18 kinds of lines of `apd live` is written.
 pub fn usages(alloc: Global) -> Result<Vec<String>, AllocError>
-    ensures many { IfOk result (λ usages. vec_len usages ≡ 16) }
+    ensures many { IfOk result (λ usages. vec_len usages ≡ 18) }
 {
     let mut usages = Vec::new(alloc);
     add_usages(alloc, &FORMS, &mut usages)?;

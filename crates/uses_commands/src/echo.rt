@@ -11,7 +11,7 @@ use ap_model::Event;
 use ap_tagged::{Fate, Tagged};
 use apd_files::{CodeFault, FileFault};
 use apd_run::{Operating, Publication, Serving, Waiting, WordUse};
-use apd_text::{ProgramRow, Told, Unread};
+use apd_text::{AgreementRow, ProgramRow, StationRow, Told, Unread};
 use std::alloc::{AllocError, Global};
 use std::sync::{Arc, Mutex, Wait};
 
@@ -152,6 +152,18 @@ impl Operating<Echo> for Places {
 
     fn use_word(&mut self, _wanted: WordUse) -> Option<Told> {
         None
+    }
+
+    fn stations<R: Wait>(&mut self, _rt: &R, alloc: Global) -> Result<Vec<StationRow>, AllocError> {
+        Ok(Vec::new(alloc))
+    }
+
+    fn agreements<R: Wait>(
+        &mut self,
+        _rt: &R,
+        alloc: Global,
+    ) -> Result<Vec<AgreementRow>, AllocError> {
+        Ok(Vec::new(alloc))
     }
 
     fn programs(&self, alloc: Global) -> Result<Vec<ProgramRow>, AllocError> {

@@ -202,7 +202,11 @@ const TEXTS: &[(&[u8], &str, u8)] = &[
         "1 events 0 sent 0 up 0 dropped 0 notes 0\n",
         0,
     ),
-    (b" programs ", "1 end 0\n", 0),
+    (
+        b"stations\n agreements \nprograms",
+        "1 end 0\n2 end 0\n3 end 0\n",
+        0,
+    ),
     (
         b"countrs\n",
         "1 error unknown word `countrs` (did you mean `counters`?)\n",
@@ -343,7 +347,7 @@ fn answers_are_flushed_before_the_next_read(rt: HostRuntime) {
     same(&rt, status, 1, "the status");
 }
 
-const TOLD: &str = "3 end 0\n\
+const TOLD: &str = "3 station 02000000000a associated 2\n3 end 1\n\
     5 loaded 2\n6 program data budget 2\n6 end 1\n\
     8 up 02000000000a 0200000000ff - 3 5 68656c6c6f\n\
     9 events 3 sent 2 up 1 dropped 0 notes 0\n\
@@ -352,7 +356,7 @@ const TOLD: &str = "3 end 0\n\
 #[test]
 fn questions_are_answered_by_what_came_before(rt: HostRuntime) {
     let alloc = rt.alloc();
-    let middle = "programs\n# nothing\nload data mark.hex\nprograms\n\n";
+    let middle = "stations\n# nothing\nload data mark.hex\nprograms\n\n";
     let parts = [AUTHENTICATION, ASSOCIATION, middle, DATA, "counters\n"];
     let text = joined(&rt, alloc, &parts);
     let printed = joined(&rt, alloc, &[ANSWERS, TOLD]);
@@ -394,8 +398,8 @@ const HELP: &str = "1 help frame HEX\n1 help tick N\n1 help kick ADDRESS REASON\
     1 help close ADDRESS TID\n1 help load HOOK FILE\n1 help unload HOOK\n\
     1 help adopt HOOK FILE CERTIFICATE\n1 help store MAP INDEX WORD VALUE\n\
     1 help read MAP INDEX WORD\n1 help sum MAP INDEX WORD\n1 help wait\n1 help help\n\
-    1 help programs\n1 help counters\n\
-    1 help dump MAP\n1 help quit\n1 end 16\n";
+    1 help stations\n1 help agreements\n1 help programs\n1 help counters\n\
+    1 help dump MAP\n1 help quit\n1 end 18\n";
 
 #[test]
 fn help_lists_all_lines(rt: HostRuntime) {

@@ -25,7 +25,7 @@ use ap_queues::Unserved;
 use ap_tagged::Tagged;
 use apd_files::{Files, path_of_word};
 use apd_script::MapWord;
-use apd_text::ProgramRow;
+use apd_text::{AgreementRow, ProgramRow, StationRow};
 use bpf_regions::{Hook, Scope};
 use std::alloc::{AllocError, Global};
 use std::marker::{Model, PhantomData};
@@ -277,6 +277,18 @@ impl<'a, B: Ledgers + Journals, L: Publications, F: Files, G: Drop> Operating<
             WordUse::Read(word) => return self.read(word),
             WordUse::Sum(word) => return self.sum(word),
         }
+    }
+
+    fn stations<R: Wait>(&mut self, rt: &R, alloc: Global) -> Result<Vec<StationRow>, AllocError> {
+        self.known_stations(rt, alloc)
+    }
+
+    fn agreements<R: Wait>(
+        &mut self,
+        rt: &R,
+        alloc: Global,
+    ) -> Result<Vec<AgreementRow>, AllocError> {
+        self.agreements_in_force(rt, alloc)
     }
 
     fn programs(&self, alloc: Global) -> Result<Vec<ProgramRow>, AllocError> {
