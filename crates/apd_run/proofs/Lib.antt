@@ -13,3 +13,4 @@ pub mod Batches
 pub mod Entries
 pub mod Counted
 pub mod Budgeting
+pub mod Rising

@@ -14,5 +14,5 @@ pub fn chunk_law()
         → Takes maps first text asked bad questions lines mid
         → Takes maps (first + lines) (mid ++ more) asked2 bad2 questions2 later rest
         → Takes maps first (text ++ more) (asked ++ asked2) (bad ++ bad2) (questions ++ questions2)
-            (lines + later) rest }
+        (lines + later) rest }
 {}

@@ -76,8 +76,8 @@ impl<'a, B: Ledgers + Journals, L: Publications, F> LiveOperator<'a, B, L, F> {
     ) -> Result<Vec<StationRow>, AllocError>
         ensures same { crew_of self.new ≡ crew_of self.old }
         ensures ordered { IfOk result (λ rows. AreStationsInOrder rows.items) }
-        ensures lists { IfOk result
-            (λ rows. ListsStations self.old.token.shards self.new.token.shards rows.items) }
+        ensures lists { IfOk result (λ rows. ListsStations B.config
+            self.old.token.shards self.new.token.shards rows.items) }
     {
         let known = self.ap.known_stations(rt, alloc, &mut self.token)?;
         station_rows(alloc, known.as_slice())
@@ -91,8 +91,8 @@ impl<'a, B: Ledgers + Journals, L: Publications, F> LiveOperator<'a, B, L, F> {
     ) -> Result<Vec<AgreementRow>, AllocError>
         ensures same { crew_of self.new ≡ crew_of self.old }
         ensures ordered { IfOk result (λ rows. AreAgreementsInOrder rows.items) }
-        ensures lists { IfOk result
-            (λ rows. ListsAgreements self.old.token.shards self.new.token.shards rows.items) }
+        ensures lists { IfOk result (λ rows. ListsAgreements B.config
+            self.old.token.shards self.new.token.shards rows.items) }
     {
         let agreements = self.ap.agreements(rt, alloc, &mut self.token)?;
         agreement_rows(alloc, agreements.as_slice())
