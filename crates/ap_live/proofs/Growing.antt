@@ -4,9 +4,10 @@ use Rattle.ap_model.specs.AccessPoint.{shard_of}
 use Rattle.ap_model.specs.declared.event.Event.{Event}
 use Rattle.ap_model.specs.declared.event.Out.{Out}
 use Rattle.ap_model.specs.Asks.{Ask}
-use Rattle.ap_model.specs.Readings.{Readings}
+use Rattle.ap_model.specs.Readings.{Config, Readings, Rules}
 use Rattle.ap_books.specs.Counts.{Counts, Portion, counts_of, gains, plus}
 use Rattle.ap_books.specs.Holdings.{Holding, sum_of}
+use Rattle.ap_core.specs.Handles.{rules}
 use Rattle.ap_locked.specs.Tokens.{Token}
 use Rattle.ap_shards.specs.Fates.{ActsAt, ChangesIf, Comes, ComesAt}
 use Rattle.ap_shards.specs.Tokens.{Eight, holding_of}
@@ -30,24 +31,24 @@ by_shard P p0 p1 p2 p3 p4 p5 p6 p7 (suc (suc (suc (suc (suc (suc zero)))))) low 
 by_shard P p0 p1 p2 p3 p4 p5 p6 p7 (suc (suc (suc (suc (suc (suc (suc zero))))))) low = p7
 by_shard P p0 p1 p2 p3 p4 p5 p6 p7 (suc (suc (suc (suc (suc (suc (suc (suc n)))))))) low = absurd (omega arith)
 
-grown_token : (V : Readings → List (Ask × ℕ) → Type 0) (s : ℕ) (e : Event) (f : Fate) (here : Bool) (t u : Token) → ChangesIf here (λ t u. Comes V s t e f u) t u
+grown_token : (V : Readings → List (Ask × ℕ) → Type 0) (rs : Rules) (e : Event) (f : Fate) (here : Bool) (t u : Token) → ChangesIf here (λ t u. Comes V rs t e f u) t u
     → u.portion ≡ grown_if here t.portion f
-grown_token V s e (Decided outs dropped) true t u c = c.portion
-grown_token V s e Refused true t u c = ap (λ (x : Token). x.portion) c
-grown_token V s e NotHandled true t u c = ap (λ (x : Token). x.portion) c
-grown_token V s e f false t u c = ap (λ (x : Token). x.portion) c
+grown_token V rs e (Decided outs dropped) true t u c = c.portion
+grown_token V rs e Refused true t u c = ap (λ (x : Token). x.portion) c
+grown_token V rs e NotHandled true t u c = ap (λ (x : Token). x.portion) c
+grown_token V rs e f false t u c = ap (λ (x : Token). x.portion) c
 
-pub grown_tokens : (V : Readings → List (Ask × ℕ) → Type 0) (s : ℕ) (e : Event) (f : Fate) (a b : Eight) → ComesAt V s a e f b → holding_of b ≡ grown_at (holding_of a) s f
-grown_tokens V s e f a b c i =
+pub grown_tokens : (V : Readings → List (Ask × ℕ) → Type 0) (config : Config) (s : ℕ) (e : Event) (f : Fate) (a b : Eight) → ComesAt V config s a e f b → holding_of b ≡ grown_at (holding_of a) s f
+grown_tokens V config s e f a b c i =
     record {
-      of0 = grown_token V s e f (s == 0) a.of0 b.of0 c.of0 i;
-      of1 = grown_token V s e f (s == 1) a.of1 b.of1 c.of1 i;
-      of2 = grown_token V s e f (s == 2) a.of2 b.of2 c.of2 i;
-      of3 = grown_token V s e f (s == 3) a.of3 b.of3 c.of3 i;
-      of4 = grown_token V s e f (s == 4) a.of4 b.of4 c.of4 i;
-      of5 = grown_token V s e f (s == 5) a.of5 b.of5 c.of5 i;
-      of6 = grown_token V s e f (s == 6) a.of6 b.of6 c.of6 i;
-      of7 = grown_token V s e f (s == 7) a.of7 b.of7 c.of7 i;
+      of0 = grown_token V (rules s config) e f (s == 0) a.of0 b.of0 c.of0 i;
+      of1 = grown_token V (rules s config) e f (s == 1) a.of1 b.of1 c.of1 i;
+      of2 = grown_token V (rules s config) e f (s == 2) a.of2 b.of2 c.of2 i;
+      of3 = grown_token V (rules s config) e f (s == 3) a.of3 b.of3 c.of3 i;
+      of4 = grown_token V (rules s config) e f (s == 4) a.of4 b.of4 c.of4 i;
+      of5 = grown_token V (rules s config) e f (s == 5) a.of5 b.of5 c.of5 i;
+      of6 = grown_token V (rules s config) e f (s == 6) a.of6 b.of6 c.of6 i;
+      of7 = grown_token V (rules s config) e f (s == 7) a.of7 b.of7 c.of7 i;
     }
 
 -- the number of parts is unchanged
@@ -221,13 +222,13 @@ counted_at h s (Decided outs dropped) low = sum_gains h (counts_of outs.items dr
 counted_at h s Refused inside = ap sum_of (unchanged h s) ∙ sym (plus_none (sum_of h))
 counted_at h s NotHandled inside = ap sum_of (not_handled h s) ∙ sym (plus_none (sum_of h))
 
-abbrev ActGains : Event → List Out → Eight → Eight → ℕ → Type 0
-ActGains e outs a b s =
-    ActsAt s a e outs b → (dropped : Bool) × (holding_of b ≡ gains_at (holding_of a) s (counts_of outs dropped))
+abbrev ActGains : Config → Event → List Out → Eight → Eight → ℕ → Type 0
+ActGains config e outs a b s =
+    ActsAt config s a e outs b → (dropped : Bool) × (holding_of b ≡ gains_at (holding_of a) s (counts_of outs dropped))
 
-pub act_gains : (e : Event) (outs : List Out) (a b : Eight) (s : ℕ) → s < 8 → ActGains e outs a b s
-act_gains e outs a b s low =
-    by_shard (ActGains e outs a b)
+pub act_gains : (config : Config) (e : Event) (outs : List Out) (a b : Eight) (s : ℕ) → s < 8 → ActGains config e outs a b s
+act_gains config e outs a b s low =
+    by_shard (ActGains config e outs a b)
     (λ c. (c.of0.0, λ i. record { of0 = c.of0.1.portion i; of1 = (c.of1 i).portion; of2 = (c.of2 i).portion; of3 = (c.of3 i).portion; of4 = (c.of4 i).portion; of5 = (c.of5 i).portion; of6 = (c.of6 i).portion; of7 = (c.of7 i).portion }))
     (λ c. (c.of1.0, λ i. record { of0 = (c.of0 i).portion; of1 = c.of1.1.portion i; of2 = (c.of2 i).portion; of3 = (c.of3 i).portion; of4 = (c.of4 i).portion; of5 = (c.of5 i).portion; of6 = (c.of6 i).portion; of7 = (c.of7 i).portion }))
     (λ c. (c.of2.0, λ i. record { of0 = (c.of0 i).portion; of1 = (c.of1 i).portion; of2 = c.of2.1.portion i; of3 = (c.of3 i).portion; of4 = (c.of4 i).portion; of5 = (c.of5 i).portion; of6 = (c.of6 i).portion; of7 = (c.of7 i).portion }))
@@ -254,9 +255,9 @@ act_parts s c a b is = (
   ap (λ (h : Holding). h.of7.parts) is ∙ gains_parts (s == 7) a.of7.portion c,
 )
 
-pub acted_at : (o o2 : Operator) (e : Event) (outs : List Out) (s : ℕ) → shard_of e ≡ Some s → s < 8 → ActsAt s o.shards e outs o2.shards → Acted o e outs o2
-acted_at o o2 e outs s is low acts =
-    let g = act_gains e outs o.shards o2.shards s low acts in
+pub acted_at : (config : Config) (o o2 : Operator) (e : Event) (outs : List Out) (s : ℕ) → shard_of e ≡ Some s → s < 8 → ActsAt config s o.shards e outs o2.shards → Acted config o e outs o2
+acted_at config o o2 e outs s is low acts =
+    let g = act_gains config e outs o.shards o2.shards s low acts in
     record {
       shard = s;
       shard_is = is;

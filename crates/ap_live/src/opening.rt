@@ -99,7 +99,8 @@ fn assembled<B: Ledgers + Journals>(
 
 impl<B: Ledgers + Journals> LiveAp<B> {
     /// An access point before any event, with no program, and tables of zeros. Its ledgers, each
-    /// divided into `PARTS` parts, and its journals are those of the new shards.
+    /// divided into `PARTS` parts, and its journals are those of the new shards. Its type names these,
+    /// and the configuration of the settings.
     pub fn open<R: Wait>(
         rt: &R,
         alloc: Global,
@@ -109,6 +110,7 @@ impl<B: Ledgers + Journals> LiveAp<B> {
         requires some { 0 < settings.workers }
         requires few { settings.workers ≤ 8 }
         requires named { AreNamed B.name_of B.shares B.journal_of new }
+        requires config { settings.link ≡ B.config }
         requires parts { B.shares ≡ parts_in_all }
         ensures { IfOk result
             (λ o. IsOpened settings.workers settings.shapes settings.draw o.ap o.publisher o.left) }

@@ -31,6 +31,7 @@ pub struct Locked<B: Ledgers + Journals, const SHARD: usize> {
 
 impl<B: Ledgers + Journals, const SHARD: usize> Model for Locked<B, SHARD> {
     ghost use Rattle.std.specs.Prelude.{◌≡◌};
+    ghost use Rattle.ap_core.specs.Handles.{rules};
     ghost use Rattle.ap_journal.specs.Beginnings.{MayAdd};
     ghost use Rattle.ap_locked.specs.Kept.{Kept, Holds};
 
@@ -38,12 +39,12 @@ impl<B: Ledgers + Journals, const SHARD: usize> Model for Locked<B, SHARD> {
 
     ghost view = { λ s. record { shard = s.shard; journal = s.journal.entries; counts = s.books } };
 
-    ghost invariant = { λ s. (s.journal.journal ≡ B.journal_of SHARD) × MayAdd s.author s.journal × Holds SHARD (record { shard = s.shard; journal = s.journal.entries; counts = s.books }) };
+    ghost invariant = { λ s. (s.journal.journal ≡ B.journal_of SHARD) × MayAdd s.author s.journal × Holds (rules SHARD B.config) (record { shard = s.shard; journal = s.journal.entries; counts = s.books }) };
 }
 
 impl<B: Ledgers + Journals, const SHARD: usize> Locked<B, SHARD> {
-    /// A shard that has handled nothing, with a copy of the configuration, and a token with all parts
-    /// of its ledgers.
+    /// A shard that has handled nothing, with a copy of the access point's configuration, and a token
+    /// with all parts of its ledgers.
     pub fn new(
         alloc: Global,
         config: &LinkConfig,
@@ -51,6 +52,7 @@ impl<B: Ledgers + Journals, const SHARD: usize> Locked<B, SHARD> {
     ) -> Result<(Locked<B, SHARD>, ShardToken<B, SHARD>), AllocError>
         requires shard { SHARD < 8 }
         requires named { IsNamed (B.name_of SHARD) B.shares (B.journal_of SHARD) new }
+        requires config { config.now ≡ B.config }
         requires some { 0 < B.shares }
         ensures rules { IfOk result (λ r. rules_of r.0 ≡ rules SHARD config.now) }
         ensures empty { IfOk result (λ r. r.0.journal ≡ []) }
@@ -76,14 +78,14 @@ impl<B: Ledgers + Journals, const SHARD: usize> Locked<B, SHARD> {
 
     /// Proves what holds under each lock; does nothing at run time.
     pub fn known(&self)
-        ensures { Holds SHARD self.now }
+        ensures { Holds (rules SHARD B.config) self.now }
     {
         let _books = &self.books;
     }
 
     /// Proves the main theorem of the shard at this moment; does nothing at run time.
     pub fn headline(&self)
-        ensures { LinkHolds (rules_of self.now) self.now.journal (readings_of self.now) }
+        ensures { LinkHolds (rules SHARD B.config) self.now.journal (readings_of self.now) }
     {
         run_law();
         self.known();

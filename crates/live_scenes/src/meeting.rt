@@ -9,7 +9,7 @@ use ap_locked::Journals;
 
 /// Two workers meet: one journal of each shard contains what both decided there.
 pub fn meet_workers<B: Ledgers + Journals>(one: &mut WorkerToken<B>, other: &mut WorkerToken<B>)
-    ensures together { AllStandTogether one.old.shards other.old.shards }
+    ensures together { AllStandTogether B.config one.old.shards other.old.shards }
     ensures one { KeepOwn one.old.shards one.new.shards }
     ensures other { KeepOwn other.old.shards other.new.shards }
     ensures seen { HaveSeenAlike one.new.shards other.new.shards }
@@ -24,7 +24,7 @@ pub fn meet_operator<B: Ledgers + Journals>(
     worker: &mut WorkerToken<B>,
     operator: &mut OperatorToken<B>,
 )
-    ensures together { AllStandTogether worker.old.shards operator.old.shards }
+    ensures together { AllStandTogether B.config worker.old.shards operator.old.shards }
     ensures worker { KeepOwn worker.old.shards worker.new.shards }
     ensures operator { KeepOwn operator.old.shards operator.new.shards }
     ensures seen { HaveSeenAlike worker.new.shards operator.new.shards }

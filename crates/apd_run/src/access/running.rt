@@ -204,6 +204,7 @@ where
     requires few { opening.settings.workers ≤ 8 }
     requires shapes { opening.shapes ≡ opening.settings.shapes }
     requires named { AreNamed B.name_of B.shares B.journal_of opening.new }
+    requires config { opening.settings.link ≡ B.config }
     requires shares { B.shares ≡ parts_in_all }
     ensures runs { Runs (P.strict writer) (P.contents writer) (P.contents result.0) none result.1 }
 {
