@@ -1,6 +1,6 @@
 -- What is reported, event by event.
 use Rattle.std.proofs.Common.{◌≡◌, ◌<◌, ℕ, Bool, true, false, Option, Some, None, List, [], ◌∷◌, ◌++◌, inl, inr, refl, sym, ap, subst, ◌∙◌, append_assoc, append-nil}
-use Rattle.std.specs.Prelude.{◌==◌}
+use Rattle.std.specs.Prelude.{◌==◌, IsTrue}
 use Rattle.std.proofs.lemmas.List.Elements.{All-nil, All-cons}
 use mathlib.Core.List.{IsPrefix}
 use Rattle.ap_model.specs.declared.event.Event.{Event}
@@ -24,14 +24,14 @@ use Rattle.bpf_machine.specs.Verified.{Verified}
 use Rattle.hook_judge.specs.Verdicts.{GivesVerdict, VerdictOf}
 use Rattle.versions.specs.Sets.{Programs, program_at, set_of}
 use Rattle.ap_live.specs.Lives.{Live}
-use Rattle.ap_live.specs.Serving.{Acted, Becomes, Progress, Served, ServesAll, progress_of}
+use Rattle.ap_live.specs.Serving.{Acted, Becomes, Progress, Served, ServesAll, is_command, progress_of}
 use Rattle.ap_live.specs.Tokens.{Operator, Worker}
 use Rattle.ap_live.specs.Events.{EntryHolds, FateHolds}
 use Rattle.ap_live.specs.Headline.{HandsOn, HoldsOfEach, OperatorHeadline, WorkerHeadline, outs_at, with_outs}
 use Rattle.ap_live.specs.Upholding.{token_at}
 use Rattle.ap_live.specs.Verdicts.{AreJudged, IsJudged}
 use Rattle.ap_live.proofs.AtShards.{at_shard, left_still, refused_still, shard_below}
-use Rattle.ap_live.proofs.Growing.{by_shard}
+use Rattle.ap_live.proofs.Growing.{by_shard, command_silent}
 
 -- ---- verdicts
 
@@ -74,10 +74,13 @@ module _ (law : RunsHold) (V : Readings → List (Ask × ℕ) → Type 0) where
         inside = low;
         before = x.before;
         had_seen = x.had_seen;
+        readings = x.readings;
+        run = x.run;
         asked = x.asked;
+        after = x.after;
+        step = x.step;
         seen = x.seen;
         own = x.own;
-        readings = x.after;
         holds = link_after rs t e outs dropped u x;
       }
 
@@ -91,13 +94,15 @@ module _ (law : RunsHold) (config : Config) (a : Live) (worker : ℕ) where
           inside = b.inside;
           before = x.before;
           had_seen = x.had_seen;
+          readings = x.readings;
+          run = x.run;
           asked = x.asked;
+          after = x.after;
+          step = x.step;
           seen = x.seen;
           own = x.own;
-          readings = x.after;
           holds = link_after law V (rules s config) (token_at s p.shards) e outs.items dropped (token_at s q.shards) x;
         };
-        before = x.readings;
         over = x.verdicts;
         judged = are_judged _ (set_of q.seen.loads) p.held q.held x.asked x.verdicts.verdicts;
         flag = x.flag;
@@ -179,14 +184,15 @@ served_holds law config a w w2 l l2 s =
       counted = s.counted;
     }
 
-pub acted_holds : RunsHold → (config : Config) (o o2 : Operator) (e : Event) (outs : List Out) → Acted config o e outs o2 → OperatorHeadline config o e outs o2
-acted_holds law config o o2 e outs s =
+pub acted_holds : RunsHold → (config : Config) (o o2 : Operator) (e : Event) (outs : List Out) → IsTrue (is_command e) → Acted config o e outs o2 → OperatorHeadline config o e outs o2
+unfolding entry_holds
+acted_holds law config o o2 e outs command s =
     let low : s.shard < 8 = shard_below e s.shard s.shard_is in
     let x = at_shard (λ t u. Acts (rules s.shard config) t e outs u) o.shards o2.shards s.shard low s.acted in
     record {
       shard = s.shard;
       shard_is = s.shard_is;
       entry = entry_holds law AnyVerdicts (rules s.shard config) low (token_at s.shard o.shards) e outs x.0 (token_at s.shard o2.shards) x.1;
-      dropped = s.dropped;
+      silent = command_silent (rules s.shard config) x.1.readings x.1.after e x.1.asked outs command x.1.step;
       counted = s.counted;
     }

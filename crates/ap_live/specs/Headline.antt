@@ -63,10 +63,10 @@ pub record WorkerHeadline (config : Config) (a : Live) (w w2 : Worker) (list lis
   pub shards : (s : ℕ) → s < 8 → HandsOn (token_at s w.shards) (outs_at s tags) (token_at s w2.shards)
   pub counted : counted_by w2.shards ≡ plus (counted_by w.shards) (tally tags)
 
--- the main theorem of an operator's command
+-- the main theorem of an operator's command, for which no verdict is asked
 pub record OperatorHeadline (config : Config) (o : Operator) (event : Event) (outs : List Out) (o2 : Operator) : Type 0 where
   pub shard : ℕ
   pub shard_is : shard_of event ≡ Some shard
   pub entry : EntryHolds (rules shard config) (token_at shard o.shards) event outs (token_at shard o2.shards)
-  pub dropped : Bool
-  pub counted : counted_by o2.shards ≡ plus (counted_by o.shards) (counts_of outs dropped)
+  pub silent : entry.asked ≡ []
+  pub counted : counted_by o2.shards ≡ plus (counted_by o.shards) (counts_of outs false)

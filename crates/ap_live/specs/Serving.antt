@@ -92,11 +92,11 @@ is_command (event.Tick units) = false
 is_command (event.Kick station reason) = true
 is_command (event.Close station tid) = true
 
--- the command was decided at its shard, and the operator's parts of the ledgers have grown by exactly its outputs
+-- the command was decided at its shard, and the operator's parts of the ledgers have grown by exactly its outputs, and
+-- no drop
 pub record Acted (config : Config) (o : Operator) (e : Event) (outs : List Out) (o2 : Operator) : Type 0 where
   pub shard : ℕ
   pub shard_is : shard_of e ≡ Some shard
   pub acted : ActsAt config shard o.shards e outs o2.shards
-  pub dropped : Bool
-  pub counted : counted_by o2.shards ≡ plus (counted_by o.shards) (counts_of outs dropped)
+  pub counted : counted_by o2.shards ≡ plus (counted_by o.shards) (counts_of outs false)
   pub parts : KeepParts o.shards o2.shards

@@ -23,6 +23,12 @@ pub record AreHandled (c : Rules) (entries : List Entry) : Type 0 where
   pub readings : Readings
   pub run : Run c opening entries readings
 
+-- parts of the shard's ledgers that have counted exactly what it handled, from the opening on
+pub record CountJournal (c : Rules) (p : Portion) : Type 0 where
+  pub journal : List Entry
+  pub handled : AreHandled c journal
+  pub counted : p.counts ≡ counts_in journal
+
 -- what holds of each token of this shard: it has a part, the shard handled the seen entries, its own are among them,
 -- and its parts have counted its own
 pub record IsToken (c : Rules) (t : Token) : Type 0 where

@@ -7,7 +7,7 @@ ghost use Rattle.ap_books.specs.Reading.{Reads};
 ghost use Rattle.ap_laws.specs.Headline.{LinkHolds};
 ghost use Rattle.ap_locked.specs.Kept.{Holds, rules_of, readings_of};
 ghost use Rattle.ap_locked.specs.Naming.{IsNamed};
-ghost use Rattle.ap_locked.specs.Tokens.{newcomer};
+ghost use Rattle.ap_locked.specs.Tokens.{CountJournal, newcomer};
 
 use crate::entry::JournalEntry;
 use crate::naming::{Journals, NewShard};
@@ -114,12 +114,13 @@ impl<B: Ledgers + Journals, const SHARD: usize> Locked<B, SHARD> {
     }
 
     /// Given all parts of the ledgers: what the books have counted, mod 2^64, which is what the shares
-    /// have counted.
+    /// have counted, and what the journal's entries count.
     pub fn read(&mut self, all: &mut Shares<B, SHARD>) -> Totals
         requires { all.old.parts ≡ B.shares }
         ensures same { self.new ≡ self.old }
         ensures shares { all.new ≡ all.old }
         ensures whole { all.old.counts ≡ self.old.counts }
+        ensures journal { CountJournal (rules SHARD B.config) all.old }
         ensures totals { Reads result self.old.counts }
     {
         self.books.read(all)
