@@ -2,6 +2,8 @@
 
 ghost use Rattle.std.specs.Prelude.{◌≡◌, ◌<◌, ◌≤◌, [], IfOk, OnErr, OnOk};
 ghost use Rattle.versions.specs.Lists.{readers_of};
+ghost use Rattle.ap_queues.specs.Lines.{HasPutNothing};
+ghost use Rattle.ap_queues.specs.Passes.{taken_by};
 ghost use Rattle.ap_shards.specs.Opening.{AreNamed, whole};
 ghost use Rattle.ap_shards.specs.Tokens.{IsNewcomer};
 ghost use Rattle.ap_live.specs.Lives.{KeepsLive};
@@ -142,8 +144,8 @@ impl<B: Ledgers + Journals> LiveAp<B> {
         Ok(assembled(shards, places, list, draw, workers))
     }
 
-    /// The token of the next operator. Fault 62: all were given. Only tests show that 8 are. If it
-    /// fails, no part of a ledger is given.
+    /// The token of the next operator, which has put nothing. Fault 62: all were given. Only tests show
+    /// that 8 are. If it fails, no part of a ledger is given.
     pub fn operator(
         &mut self,
         alloc: Global,
@@ -153,6 +155,7 @@ impl<B: Ledgers + Journals> LiveAp<B> {
         ensures keeps { KeepsLive self.old self.new }
         ensures left { AreLeft self.new left.new }
         ensures own { IfOk result (IsOperator self.new) }
+        ensures unput { IfOk result (λ o. HasPutNothing self.new.queues o.lines) }
         ensures new { IfOk result (λ o. IsNewcomer left.old.shards o.shards) }
         ensures given { OnOk result (GaveToken left.old left.new) }
         ensures refused { OnErr result (GaveNothing left.old left.new) }
@@ -173,8 +176,9 @@ impl<B: Ledgers + Journals> LiveAp<B> {
         })
     }
 
-    /// The token of a worker, given once; after that, fault 62. Only tests show that it is given. If it
-    /// fails, no part of a ledger is given.
+    /// The token of a worker, which has taken nothing, and whose programs first draw the configured
+    /// word; given once, after that fault 62. Only tests show that it is given. If it fails, no part of
+    /// a ledger is given.
     pub fn worker(
         &mut self,
         alloc: Global,
@@ -187,6 +191,8 @@ impl<B: Ledgers + Journals> LiveAp<B> {
         ensures left { AreLeft self.new left.new }
         ensures own { IfOk result (IsWorker self.new) }
         ensures number { IfOk result (λ w. w.number ≡ number) }
+        ensures untaken { IfOk result (λ w. taken_by w.pass ≡ []) }
+        ensures draw { IfOk result (λ w. w.held.draw ≡ self.old.draw) }
         ensures new { IfOk result (λ w. IsNewcomer left.old.shards w.shards) }
         ensures given { OnOk result (GaveToken left.old left.new) }
         ensures refused { OnErr result (GaveNothing left.old left.new) }
