@@ -400,6 +400,19 @@ APD_INLINE apd_report apd_run(apd_handle *code, apd_handle *maps, const uint8_t 
     return report;
 }
 
+/* The same, told in a report that the caller keeps, which has been given some value once: nothing is cleared or copied, and
+   the notes after the run's own stay as they were. Answers the report's number. */
+APD_INLINE uint32_t apd_run_into(apd_handle *code, apd_handle *maps, const uint8_t *frame, size_t length,
+                                 const apd_given *given, apd_report *report)
+{
+    if (!report)
+        return APD_NULL;
+    report->number = APD_NULL;
+    if (code && maps && code != maps && given && (frame || !length))
+        apd_c_run(code, maps, apd_some_bytes(frame), length, given, report);
+    return report->number;
+}
+
 /* Fills an empty handle with an access point that has handled nothing and has no programs yet, for maps of these shapes. */
 APD_INLINE uint32_t apd_link(apd_handle *link, const apd_network *network, const apd_shape *shapes, size_t maps)
 {

@@ -68,7 +68,7 @@ static void bench(const char *name, size_t bytes, double steps)
             verified = middle - start;
         start = now();
         for (long i = 0; i < runs; i++)
-            report = apd_run(&program, &maps, frame, sizeof frame, &given);
+            apd_run_into(&program, &maps, frame, sizeof frame, &given, &report);
         double end = now();
         if (end - start < interpreted)
             interpreted = end - start;

@@ -158,6 +158,17 @@ static void hostile_runs(void)
     WANT(apd_run(&code, &maps, frame, 2400, &crowd).number, APD_OUT_OF_LIMITS);
     WANT(apd_run(&code, &maps, frame, 2400, &given).r0, 7);
     WANT(apd_run(&code, &maps, NULL, 0, &given).r0, 7);
+    apd_report kept = {0, 0, 0, 0, {9}};
+    WANT(apd_run_into(&code, &maps, NULL, 0, &given, NULL), APD_NULL);
+    WANT(apd_run_into(&code, &maps, NULL, 0, &given, &kept), APD_OK);
+    WANT(kept.r0, 7);
+    WANT(kept.steps, 2);
+    WANT(kept.count, 0);
+    WANT(kept.notes[0], 9);
+    WANT(apd_run_into(&code, &maps, NULL, 1, &given, &kept), APD_NULL);
+    WANT(apd_run_into(&code, &code, NULL, 0, &given, &kept), APD_NULL);
+    WANT(kept.number, APD_NULL);
+    WANT(apd_run_into(&code, &maps, NULL, 0, &other, &kept), APD_OTHER_HOOK);
     WANT(apd_run(&code, &maps, NULL, 0, &other).number, APD_OTHER_HOOK);
     other.context[6] = APD_DATA;
     WANT(apd_run(&code, &maps, NULL, 0, &other).number, APD_OTHER_HOOK);
