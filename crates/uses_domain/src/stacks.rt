@@ -4,6 +4,7 @@ use crate::same::{all_same, same};
 use bpf_absnum::AbsNum;
 use bpf_absval::{AbsSlot, AbsVal, Label, Rooms};
 use bpf_stack::Stack;
+use std::alloc::Global;
 use std::process::Abort;
 
 fn number(number: u64) -> AbsSlot {
@@ -98,8 +99,8 @@ fn behind(label: u16) -> AbsSlot {
 }
 
 /// Three slots, of which label 8 was forgotten once: before it was stored again in the last, and label 9 in the second.
-fn made_anew(rt: &impl Abort) -> Stack {
-    let mut stack = Stack::unset(rt.alloc());
+fn made_anew(rt: &impl Abort, alloc: Global) -> Stack {
+    let mut stack = Stack::unset(alloc);
     stack.set(0, behind(8)).expect(rt, "memory");
     stack.set(31, behind(8)).expect(rt, "memory");
     stack.forget(8);
@@ -116,7 +117,7 @@ fn slots_hold(rt: &impl Abort, stack: &Stack, wanted: [AbsSlot; 3]) {
 
 #[test]
 fn labels_are_made_in_turn(rt: HostRuntime) {
-    let mut stack = made_anew(&rt);
+    let mut stack = made_anew(&rt, rt.alloc());
     let none = spilled(None);
     slots_hold(&rt, &stack, [none, behind(9), behind(8)]);
     let before = stack.clone().expect(&rt, "memory");
@@ -133,7 +134,7 @@ fn labels_are_made_in_turn(rt: HostRuntime) {
 #[test]
 fn a_forgotten_label_is_not_compared(rt: HostRuntime) {
     let rooms = Rooms::new(rt.alloc());
-    let labelled = made_anew(&rt);
+    let labelled = made_anew(&rt, rt.alloc());
     let mut less = labelled.clone().expect(&rt, "memory");
     less.forget(8);
     let mut stored = labelled.clone().expect(&rt, "memory");
