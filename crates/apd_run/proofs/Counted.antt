@@ -1,6 +1,6 @@
 -- What the first events of a list count.
 use Rattle.std.proofs.Common.{◌≡◌, ℕ, suc, ◌+◌, ◌<◌, List, [], ◌∷◌, ◌++◌, length, take, get_or, sym, ap, subst, ◌∙◌, refl}
-use Rattle.std.proofs.lemmas.List.{take_more, take-all}
+use Rattle.std.proofs.lemmas.List.{take_more}
 use Rattle.ap_books.specs.Counts.{Counts, none, plus}
 use Rattle.ap_books.specs.Reading.{Reads}
 use Rattle.ap_books.specs.declared.totals.Totals.{Totals}

@@ -1,5 +1,6 @@
 -- Rows that are made of a sorted list are sorted.
-use Rattle.std.proofs.Common.{◌≡◌, ℕ, ◌+◌, ◌<◌, zero, suc, List, [], ◌∷◌, length, map, slice_index_or, refl, ◌∙◌, arith}
+use Rattle.std.proofs.Common.{◌≡◌, ℕ, ◌+◌, ◌<◌, zero, suc, List, [], ◌∷◌, length, map, slice_index_or, Result, Ok, Err, IfOk, refl, sym, subst, ◌∙◌, arith}
+use Rattle.std.specs.Global.{Vec}
 use Rattle.std.specs.List.Sorted.{IsSortedByKey}
 use Rattle.std.specs.Ordering.{is_lt}
 use Rattle.std.specs.declared.cmp.Ordering.{Ordering}
@@ -17,3 +18,9 @@ module _ {A B : Type 0} (f : A → B) where
       let inside : k + 1 < length (x ∷ xs) = omega (arith, l, length-map (x ∷ xs) f) in
       let before : k < length (x ∷ xs) = omega (arith, inside) in
       (λ i. is_lt (cmp (key (made_at (x ∷ xs) (k + 1) x d inside i)) (key (made_at (x ∷ xs) k x d before i)))) ∙ up k x low inside
+
+  -- the same of a call's result
+  pub if_rising : {K E : Type 0} (key : B → K) (cmp : K → K → Ordering) (xs : List A) (result : Result (Vec B) E)
+      → IfOk result (λ rows. rows.items ≡ map f xs) → IsSortedByKey (λ a. key (f a)) cmp xs → IfOk result (λ rows. IsSortedByKey key cmp rows.items)
+  if_rising key cmp xs (Ok rows) are up = subst (λ (l : List B). IsSortedByKey key cmp l) (sym are) (rising_rows key cmp xs up)
+  if_rising key cmp xs (Err e) are up = tt

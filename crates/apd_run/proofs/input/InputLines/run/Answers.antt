@@ -18,8 +18,8 @@ intervals-preserved g c =
       shown = rw c.and-found.ensures.memory (rw c.and-found.ensures.refused (shows_more _ _ _ _ _ _ _ _ _ _ _ flushed goes_on c.in-Ok.ensures.shows));
     }
 
-pub returns-in-Ok-clause-shows : goal.returns-in-Ok-clause-shows
-returns-in-Ok-clause-shows g c = ThenFlushes _ _ _ _ _ c.intervals.invariant.shown c.advance.ensures.keeps
+pub returns-in-Ok-false-clause-shows : goal.returns-in-Ok-false-clause-shows
+returns-in-Ok-false-clause-shows g c = ThenFlushes _ _ _ _ _ c.intervals.invariant.shown c.advance.ensures.keeps
 
 pub returns-in-Err-clause-breaks : goal.returns-in-Err-clause-breaks
 returns-in-Err-clause-breaks g c = BehindInterval _ _ _ _ (ThenFlushes _ _ _ _ _ c.intervals.invariant.shown c.advance.ensures.keeps) (Unanswered refl)

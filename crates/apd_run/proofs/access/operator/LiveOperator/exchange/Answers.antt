@@ -34,7 +34,7 @@ invariant_of-self g c =
       some = i.some;
       list_is = i.list_is;
       in_force = i.in_force;
-      reads = subst (Reads c.and.result) (sym counted) (c.and.ensures _ _ i.reads numbers);
+      reads = subst (Reads c.and-self-inside.result) (sym counted) (c.and-self-inside.ensures _ _ i.reads numbers);
     }
 
 pub invariant_of-worker : goal.invariant_of-worker

@@ -5,8 +5,8 @@ use Rattle.apd_run.proofs.Budgeting.{loaded_budgets, same_budgets}
 use Rattle.apd_run.proofs.Keeping.{other_loads}
 use Rattle.apd_run.proofs.access.operator.LiveOperator.unload.Goals as goal
 
-pub invariant_of-self-in-Ok : goal.invariant_of-self-in-Ok
-invariant_of-self-in-Ok g c =
+pub invariant_of-self : goal.invariant_of-self
+invariant_of-self g c =
     other_loads _ _ _ _ _ (ap (λ (b : Beginning). b.list) c.in-Ok.ensures.unloaded)
     (rw c.put.ensures.is (loaded_budgets _ _ _ _ _ _ refl c.in-Ok.ensures.unloaded c.self.invariant.in_force)) c.self.invariant
 
