@@ -8,8 +8,8 @@ pub row_more : {A : Type 0} (f : A → List ℕ) (rows : List A) (i : ℕ) (row 
 row_more f rows i row old new all within is before written =
     let rest = flat_map f (drop (i + 1) rows) in
     let next : flat_map f (drop i rows) ≡ f row ++ rest =
-        ap (flat_map f) (drop-cons rows i row within) ∙ ap (λ x. f x ++ flat_map f (drop (suc i) rows)) (sym is)
-        ∙ ap (λ k. f row ++ flat_map f (drop k rows)) (sym (add-one i)) in
+    ap (flat_map f) (drop-cons rows i row within) ∙ ap (λ x. f x ++ flat_map f (drop (suc i) rows)) (sym is)
+    ∙ ap (λ k. f row ++ flat_map f (drop k rows)) (sym (add-one i)) in
     ap (λ l. l ++ rest) written ∙ append_assoc old (f row) rest ∙ ap (λ l. old ++ l) (sym next) ∙ before
 
 -- rows, and what is written behind them

@@ -12,9 +12,7 @@ mod refusals;
 mod reports;
 mod trace;
 
-pub use answers::{
-    AgreementRow, Answer, EntryRow, ProgramRow, StationRow, print_answer,
-};
+pub use answers::{AgreementRow, Answer, EntryRow, ProgramRow, StationRow, print_answer};
 pub use contexts::{ContextFault, context_for};
 pub use listing::listing_text;
 pub use numbers::{list_text, ranges_text};
