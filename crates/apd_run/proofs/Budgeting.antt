@@ -1,5 +1,5 @@
 -- Budgets after loads.
-use Rattle.std.proofs.Common.{◌≡◌, ℕ, List, [], ◌∷◌, ◌++◌, Option, Some, None, fold, refl, sym, ap, ◌∙◌, subst}
+use Rattle.std.proofs.Common.{◌≡◌, ℕ, List, [], ◌∷◌, ◌++◌, Option, Some, None, refl, sym, ap, ◌∙◌, subst}
 use Rattle.std.proofs.lemmas.List.Sums.{fold-append}
 use Rattle.bpf_regions.specs.declared.hooks.Hook.{Hook}
 use Rattle.bpf_regions.specs.declared.hooks.Hook.TheVariants.{Association, Addba, Data}
@@ -9,7 +9,6 @@ use Rattle.versions.specs.Lists.{Beginning, with_load}
 use Rattle.versions.specs.Sets.{Programs, after, load, no_programs, replaced, set_of}
 use Rattle.versions.specs.declared.list.Load.{Load}
 use Rattle.apd_files.specs.Held.{Held}
-use Rattle.apd_text.specs.declared.answers.answer.ProgramRow.{ProgramRow}
 use Rattle.apd_run.specs.Reports.{Told}
 use Rattle.apd_run.specs.Adopting as adopting
 use Rattle.apd_run.specs.Budgets.{AreBudgets, budget_of, budget_rows, noted, program_rows, put_budget, row_if}

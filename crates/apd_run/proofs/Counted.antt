@@ -1,12 +1,12 @@
 -- What the first events of a list count.
-use Rattle.std.proofs.Common.{◌≡◌, ℕ, suc, ◌+◌, ◌<◌, List, [], ◌∷◌, ◌++◌, length, take, get_or, sym, ap, subst, ◌∙◌, refl}
+use Rattle.std.proofs.Common.{◌≡◌, ℕ, ◌+◌, ◌<◌, List, [], ◌∷◌, length, take, get_or, sym, ap, subst, ◌∙◌}
 use Rattle.std.proofs.lemmas.List.{take_more}
-use Rattle.ap_books.specs.Counts.{Counts, none, plus}
+use Rattle.ap_books.specs.Counts.{Counts, plus}
 use Rattle.ap_books.specs.Reading.{Reads}
 use Rattle.ap_books.specs.declared.totals.Totals.{Totals}
 use Rattle.ap_live.specs.Counting.{fate_counts, tally}
 use Rattle.ap_tagged.specs.declared.tagged.Tagged.{Tagged}
-use Rattle.apd_run.proofs.Served.{tally_none, tally_two}
+use Rattle.apd_run.proofs.Served.{tally_two}
 use Rattle.apd_run.proofs.Sums.{plus_none}
 
 -- the numbers are what the first events count

@@ -1,4 +1,3 @@
-use Rattle.ap_books.specs.Reading.{Reads}
 use Rattle.apd_run.proofs.Counted.{ReadsFirst}
 use Rattle.apd_run.proofs.counting.counted_in.Given as goal
 

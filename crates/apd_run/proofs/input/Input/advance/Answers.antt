@@ -1,2 +1,0 @@
-use Rattle.std.proofs.KnownBytes.{Keeps-refl, Keeps-trans}
-use Rattle.apd_run.proofs.input.Input.advance.Goals as goal
