@@ -17,7 +17,7 @@ _apd() {
     case ${COMP_WORDS[1]} in
         verify) options='--config --states --explain --help' kinds=('assoc addba data/' '/hex') ;;
         asm) options='--output --help' kinds=('/s') ;;
-        disasm) options='--config --slots --raw --output --help' kinds=('/hex') ;;
+        disasm) options='--config --slots --raw --dot --output --help' kinds=('/hex') ;;
         trace) options='--config --states --context --from-frame --explain --help' kinds=('assoc addba data/' '/hex' '/') ;;
         run) options='--workers --states --quiet --strict --verbose --help' kinds=('/toml' '/script') ;;
         live) options='--workers --states --strict --verbose --help' kinds=('/toml') ;;

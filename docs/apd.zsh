@@ -28,7 +28,7 @@ case $state in
                 _arguments -C '1:FILE:_files -g "*.s"' '--output=[Write to this file, and only if the command succeeds]:output:_files -g "*.hex"' '--help[Print help]'
                 ;;
             disasm)
-                _arguments -C '1:FILE:_files -g "*.hex"' '--config=[The configuration\: shapes of maps, first draw word]:config:_files -g "*.toml"' '--slots[Print each line'\''s slot before it, and mark jump targets]' '--raw[Print slots that are no instructions, too, as digits]' '--output=[Write to this file, and only if the command succeeds]:output:_files -g "*.hex"' '--help[Print help]'
+                _arguments -C '1:FILE:_files -g "*.hex"' '--config=[The configuration\: shapes of maps, first draw word]:config:_files -g "*.toml"' '--slots[Print each line'\''s slot before it, and mark jump targets]' '--raw[Print slots that are no instructions, too, as digits]' '--dot[Print the control-flow graph, for graphviz]' '--output=[Write to this file, and only if the command succeeds]:output:_files -g "*.hex"' '--help[Print help]'
                 ;;
             trace)
                 _arguments -C '1:HOOK:(assoc addba data)' '2:FILE:_files -g "*.hex"' '3:FRAME: ' '--config=[The configuration\: shapes of maps, first draw word]:config:_files -g "*.toml"' '--states=[How many states the verifier may examine, 1 to 4194304 \[default\: 4194304\]]:states: ' '--context=[What the program is told, as KEY=VALUE,.. (see the manual)]:context: ' '--from-frame[Tell the program what the frame says of itself]' '--explain[Tell on standard error why, and what is known there]' '--help[Print help]'

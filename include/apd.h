@@ -51,6 +51,7 @@ enum apd_number {
     APD_UNKNOWN_MAP = 19,    /* no such map */
     /* 30 to 38: what the verifier refuses; docs/REFUSALS.md explains each. */
     APD_REFUSED_FIRST = 30,
+    APD_TOO_MUCH = 36, /* it would examine too many states, or a check takes more work than its limit */
     APD_REFUSED_LAST = 38,
     APD_NO_MEMORY = 40,
     APD_NO_SEAT = 62,        /* no seat at a map is left */
@@ -129,10 +130,29 @@ typedef struct apd_station {
     uint8_t octets[6];
 } apd_station;
 
+/* A station that an access point knows: state 2 is authenticated, 3 is associated, with an association identifier from 1
+   to 2007; 0 is for no station. */
+typedef struct apd_standing {
+    apd_station station;
+    uint8_t state;
+    uint16_t aid;
+} apd_standing;
+
+/* A block acknowledgement agreement in force. */
+typedef struct apd_agreement {
+    apd_station station;
+    uint8_t tid;
+    uint16_t start;   /* its window's first number, which is awaited next */
+    uint16_t size;    /* how many numbers the window has, 1 to 64; 0 is for no agreement */
+    uint16_t timeout; /* in units of 1024 microseconds; 0 for none */
+    size_t held;      /* how many numbers it holds, dropped ones included */
+} apd_agreement;
+
 /* What came out of an event, but for its bytes. What a kind doesn't have is 0. */
 typedef struct apd_out {
     uint32_t kind; /* APD_SEND: a frame to be sent; APD_UP: data to be passed up; APD_NOTE */
     size_t length; /* of the frame or the data */
+    uint64_t user; /* the caller's own number of the event */
     uint8_t source[6], destination[6];
     uint16_t number; /* the data's sequence number */
     uint8_t tid;     /* APD_NO_TID where the data has none */
@@ -149,6 +169,11 @@ uint32_t apd_c_budget(apd_handle *code);
 apd_answer apd_c_certify(apd_handle *certificate, apd_handle *code);
 apd_answer apd_c_check(apd_handle *code, uint32_t hook, const uint8_t *bytes, size_t length, const apd_shape *shapes,
                        size_t maps, const uint8_t *certificate, size_t certificate_length);
+apd_answer apd_c_check_within(apd_handle *code, uint32_t hook, const uint8_t *bytes, size_t length,
+                              const apd_shape *shapes, size_t maps, const uint8_t *certificate,
+                              size_t certificate_length, uint64_t work);
+size_t apd_c_why(uint32_t hook, const uint8_t *bytes, size_t length, const apd_shape *shapes, size_t maps,
+                 uint32_t states, uint8_t *into, size_t room);
 size_t apd_c_read(apd_handle *bytes, uint8_t *into, size_t room);
 uint32_t apd_c_maps(apd_handle *maps, const apd_shape *shapes, size_t count, uint64_t draw);
 apd_loaded apd_c_load(apd_handle *maps, uint32_t map, uint32_t word);
@@ -164,12 +189,19 @@ void apd_c_run(apd_handle *code, apd_handle *maps, const uint8_t *frame, size_t 
 uint32_t apd_c_link(apd_handle *link, const apd_network *network, const apd_shape *shapes, size_t maps);
 uint32_t apd_c_link_load(apd_handle *link, uint32_t hook, apd_handle *code);
 uint32_t apd_c_link_unload(apd_handle *link, uint32_t hook);
-uint32_t apd_c_link_frame(apd_handle *link, apd_handle *maps, apd_handle *outs, const uint8_t *bytes, size_t length);
-uint32_t apd_c_link_tick(apd_handle *link, apd_handle *maps, apd_handle *outs, uint32_t units);
+uint32_t apd_c_link_frame(apd_handle *link, apd_handle *maps, apd_handle *outs, const uint8_t *bytes, size_t length,
+                          uint64_t user);
+uint32_t apd_c_link_tick(apd_handle *link, apd_handle *maps, apd_handle *outs, uint32_t units, uint64_t user);
 uint32_t apd_c_link_kick(apd_handle *link, apd_handle *maps, apd_handle *outs, const apd_station *station,
-                         uint16_t reason);
+                         uint16_t reason, uint64_t user);
 uint32_t apd_c_link_close(apd_handle *link, apd_handle *maps, apd_handle *outs, const apd_station *station,
-                          uint8_t tid);
+                          uint8_t tid, uint64_t user);
+uint32_t apd_c_link_stations(apd_handle *link, apd_handle *stations);
+uint32_t apd_c_link_agreements(apd_handle *link, apd_handle *agreements);
+size_t apd_c_stations(apd_handle *stations);
+apd_standing apd_c_station(apd_handle *stations, size_t at);
+size_t apd_c_agreements(apd_handle *agreements);
+apd_agreement apd_c_agreement(apd_handle *agreements, size_t at);
 size_t apd_c_outs(apd_handle *outs);
 apd_out apd_c_out(apd_handle *outs, size_t at);
 size_t apd_c_out_bytes(apd_handle *outs, size_t at, uint8_t *into, size_t room);
@@ -242,6 +274,39 @@ APD_INLINE apd_answer apd_check(apd_handle *code, uint32_t hook, const uint8_t *
         return apd_answer_of(APD_NULL);
     return apd_c_check(code, hook, apd_some_bytes(bytes), length, apd_some_shapes(shapes), maps,
                        apd_some_bytes(certificate), certificate_length);
+}
+
+/* The same within a limit of work, which bounds the time that a stranger's certificate takes: the states that are
+   examined, and the comparisons of a state with one of the certificate. One that needs more is refused with 36. 0 is for
+   no limit. Besides, the certificate is read once: limit its length too. */
+APD_INLINE apd_answer apd_check_within(apd_handle *code, uint32_t hook, const uint8_t *bytes, size_t length,
+                                       const apd_shape *shapes, size_t maps, const uint8_t *certificate,
+                                       size_t certificate_length, uint64_t work)
+{
+    if (!code || (!bytes && length) || (!shapes && maps) || (!certificate && certificate_length))
+        return apd_answer_of(APD_NULL);
+    return apd_c_check_within(code, hook, apd_some_bytes(bytes), length, apd_some_shapes(shapes), maps,
+                              apd_some_bytes(certificate), certificate_length, work);
+}
+
+/* Why apd_verify_within refuses what it is passed: lines of text that end with 0, cut where there is no room for all of
+   it. They say what the verifier knew at the refused instruction, which branches lead there, and the fix most likely
+   meant; of a program that is admitted, how many states were examined, and where. The program is explored again, which
+   takes as long and as much memory as before. Answers how many bytes the whole text has without that 0; 0 where there is
+   no such hook, the shapes are out of their limits, a pointer is NULL or memory ran out. Tests show the text; no proof
+   does. */
+APD_INLINE size_t apd_why(uint32_t hook, const uint8_t *bytes, size_t length, const apd_shape *shapes, size_t maps,
+                          uint32_t states, char *into, size_t room)
+{
+    uint8_t nothing[1];
+    size_t told = 0;
+
+    if ((bytes || !length) && (shapes || !maps))
+        told = apd_c_why(hook, apd_some_bytes(bytes), length, apd_some_shapes(shapes), maps, states,
+                         into ? (uint8_t *)into : nothing, into && room ? room - 1 : 0);
+    if (into && room)
+        into[told < room ? told : room - 1] = 0;
+    return told;
 }
 
 /* Copies as many of the bytes as there is room for, and answers how many the handle holds. With NULL it only tells. */
@@ -335,6 +400,19 @@ APD_INLINE apd_report apd_run(apd_handle *code, apd_handle *maps, const uint8_t 
     return report;
 }
 
+/* The same, told in a report that the caller keeps, which has been given some value once: nothing is cleared or copied, and
+   the notes after the run's own stay as they were. Answers the report's number. */
+APD_INLINE uint32_t apd_run_into(apd_handle *code, apd_handle *maps, const uint8_t *frame, size_t length,
+                                 const apd_given *given, apd_report *report)
+{
+    if (!report)
+        return APD_NULL;
+    report->number = APD_NULL;
+    if (code && maps && code != maps && given && (frame || !length))
+        apd_c_run(code, maps, apd_some_bytes(frame), length, given, report);
+    return report->number;
+}
+
 /* Fills an empty handle with an access point that has handled nothing and has no programs yet, for maps of these shapes. */
 APD_INLINE uint32_t apd_link(apd_handle *link, const apd_network *network, const apd_shape *shapes, size_t maps)
 {
@@ -365,37 +443,38 @@ static inline bool apd_are_three(const apd_handle *link, const apd_handle *maps,
 }
 
 /* A frame of at most 2400 bytes, without its FCS, comes. Programs run over the maps; an empty handle is filled with what
-   comes out, which apd_outs, apd_out_at and apd_out_bytes read. What is refused changes nothing. */
+   comes out, which apd_outs, apd_out_at and apd_out_bytes read. What is refused changes nothing. `user` is the caller's
+   own, as a pointer or a number of the event: each out has it. */
 APD_INLINE uint32_t apd_link_frame(apd_handle *link, apd_handle *maps, apd_handle *outs, const uint8_t *bytes,
-                                      size_t length)
+                                      size_t length, uint64_t user)
 {
     if (!apd_are_three(link, maps, outs) || (!bytes && length))
         return APD_NULL;
-    return apd_c_link_frame(link, maps, outs, apd_some_bytes(bytes), length);
+    return apd_c_link_frame(link, maps, outs, apd_some_bytes(bytes), length, user);
 }
 
 /* As many units of time pass. */
-APD_INLINE uint32_t apd_link_tick(apd_handle *link, apd_handle *maps, apd_handle *outs, uint32_t units)
+APD_INLINE uint32_t apd_link_tick(apd_handle *link, apd_handle *maps, apd_handle *outs, uint32_t units, uint64_t user)
 {
-    return apd_are_three(link, maps, outs) ? apd_c_link_tick(link, maps, outs, units) : (uint32_t)APD_NULL;
+    return apd_are_three(link, maps, outs) ? apd_c_link_tick(link, maps, outs, units, user) : (uint32_t)APD_NULL;
 }
 
 /* Sends a station away with a reason code. */
 APD_INLINE uint32_t apd_link_kick(apd_handle *link, apd_handle *maps, apd_handle *outs, const apd_station *station,
-                                     uint16_t reason)
+                                     uint16_t reason, uint64_t user)
 {
     if (!apd_are_three(link, maps, outs) || !station)
         return APD_NULL;
-    return apd_c_link_kick(link, maps, outs, station, reason);
+    return apd_c_link_kick(link, maps, outs, station, reason, user);
 }
 
 /* Ends a station's block acknowledgement agreement for a TID below 8. */
 APD_INLINE uint32_t apd_link_close(apd_handle *link, apd_handle *maps, apd_handle *outs, const apd_station *station,
-                                      uint8_t tid)
+                                      uint8_t tid, uint64_t user)
 {
     if (!apd_are_three(link, maps, outs) || !station)
         return APD_NULL;
-    return apd_c_link_close(link, maps, outs, station, tid);
+    return apd_c_link_close(link, maps, outs, station, tid, user);
 }
 
 /* How many outs a handle holds. */
@@ -407,7 +486,7 @@ APD_INLINE size_t apd_outs(apd_handle *outs)
 /* One of them, but for its bytes; of kind APD_NOTHING where there is none. */
 APD_INLINE apd_out apd_out_at(apd_handle *outs, size_t at)
 {
-    apd_out none = {APD_NOTHING, 0, {0}, {0}, 0, 0, 0, 0};
+    apd_out none = {APD_NOTHING, 0, 0, {0}, {0}, 0, 0, 0, 0};
     return outs ? apd_c_out(outs, at) : none;
 }
 
@@ -418,6 +497,50 @@ APD_INLINE size_t apd_out_bytes(apd_handle *outs, size_t at, uint8_t *into, size
     if (!outs)
         return 0;
     return into ? apd_c_out_bytes(outs, at, into, room) : apd_c_out_bytes(outs, at, nothing, 0);
+}
+
+/* Fills an empty handle with the stations that the access point knows: those of its shards, each once, by increasing
+   addresses. apd_station_count and apd_station_at read them. An event changes nothing in a list: to see who came or went, list
+   again and compare. */
+APD_INLINE uint32_t apd_link_stations(apd_handle *link, apd_handle *stations)
+{
+    if (!link || !stations || link == stations)
+        return APD_NULL;
+    return apd_c_link_stations(link, stations);
+}
+
+/* Fills an empty handle with the agreements in force, by increasing addresses and TIDs. */
+APD_INLINE uint32_t apd_link_agreements(apd_handle *link, apd_handle *agreements)
+{
+    if (!link || !agreements || link == agreements)
+        return APD_NULL;
+    return apd_c_link_agreements(link, agreements);
+}
+
+/* How many stations a handle holds. */
+APD_INLINE size_t apd_station_count(apd_handle *stations)
+{
+    return stations ? apd_c_stations(stations) : 0;
+}
+
+/* One of them; of state 0 where there is none. */
+APD_INLINE apd_standing apd_station_at(apd_handle *stations, size_t at)
+{
+    apd_standing none = {{{0}}, 0, 0};
+    return stations ? apd_c_station(stations, at) : none;
+}
+
+/* How many agreements a handle holds. */
+APD_INLINE size_t apd_agreement_count(apd_handle *agreements)
+{
+    return agreements ? apd_c_agreements(agreements) : 0;
+}
+
+/* One of them; of size 0 where there is none. */
+APD_INLINE apd_agreement apd_agreement_at(apd_handle *agreements, size_t at)
+{
+    apd_agreement none = {{{0}}, 0, 0, 0, 0, 0};
+    return agreements ? apd_c_agreement(agreements, at) : none;
 }
 
 /* What a number of enum apd_number, or a note's, means, in a few words: a text that ends with 0, cut where there is no room

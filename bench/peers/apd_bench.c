@@ -1,5 +1,5 @@
-/* apd's verifier and machine on the workloads, called from C: reads lines NAME HEX STEPS, prints nanoseconds.
- * Best of 20 rounds.
+/* apd's verifier and machine on the workloads, called from C: reads lines NAME HEX STEPS, prints nanoseconds; with the
+ * word "stations", what it costs to list 500 stations, and to compare two such lists. Best of 20 rounds.
  */
 #include <stdio.h>
 #include <stdlib.h>
@@ -68,7 +68,7 @@ static void bench(const char *name, size_t bytes, double steps)
             verified = middle - start;
         start = now();
         for (long i = 0; i < runs; i++)
-            report = apd_run(&program, &maps, frame, sizeof frame, &given);
+            apd_run_into(&program, &maps, frame, sizeof frame, &given, &report);
         double end = now();
         if (end - start < interpreted)
             interpreted = end - start;
@@ -79,8 +79,64 @@ static void bench(const char *name, size_t bytes, double steps)
     apd_free(&maps);
 }
 
-int main(void)
+#define STATIONS 500
+
+/* Lists the stations of an access point; answers the nanoseconds. */
+static double list_stations(apd_handle *link, apd_standing *rows)
 {
+    apd_handle list = APD_EMPTY;
+    double start = now();
+
+    if (apd_link_stations(link, &list) || apd_station_count(&list) != STATIONS)
+        exit(1);
+    for (size_t at = 0; at < STATIONS; at++)
+        rows[at] = apd_station_at(&list, at);
+    apd_free(&list);
+    return now() - start;
+}
+
+static int is_same(const apd_standing *row, const apd_standing *other)
+{
+    return !memcmp(row->station.octets, other->station.octets, 6) && row->state == other->state && row->aid == other->aid;
+}
+
+static void bench_stations(void)
+{
+    static const apd_network network = {{2, 0, 0, 0, 0, 1}, 3, "lab", 4, {0x82, 0x84, 0x8b, 0x96}};
+    static apd_standing old[STATIONS], new[STATIONS];
+    apd_handle link = APD_EMPTY, maps = APD_EMPTY, outs = APD_EMPTY;
+    double listed = 1e18, compared = 1e18;
+    size_t same = 0;
+
+    if (apd_link(&link, &network, NULL, 0) || apd_maps(&maps, NULL, 0, 0))
+        exit(1);
+    for (unsigned number = 0; number < STATIONS; number++) {
+        uint8_t opens[30] = {0xb0, 0, 0, 0, 2, 0, 0, 0, 0, 1, 2, 0, 0, 1, (uint8_t)(number >> 8), (uint8_t)number,
+                             2, 0, 0, 0, 0, 1, 0x10, 0, 0, 0, 1};
+        if (apd_link_frame(&link, &maps, &outs, opens, sizeof opens, 0))
+            exit(1);
+        apd_free(&outs);
+    }
+    for (int round = 0; round < ROUNDS; round++) {
+        double took = list_stations(&link, round % 2 ? old : new);
+        double start = now();
+        for (size_t at = 0; at < STATIONS; at++)
+            same += is_same(&old[at], &new[at]);
+        double end = now();
+        listed = took < listed ? took : listed;
+        compared = end - start < compared ? end - start : compared;
+    }
+    printf("%d stations: listed in %.0f ns, compared in %.0f ns, same %zu\n", STATIONS, listed, compared, same);
+    apd_free(&maps);
+    apd_free(&link);
+}
+
+int main(int count, char **words)
+{
+    if (count == 2 && !strcmp(words[1], "stations")) {
+        bench_stations();
+        return 0;
+    }
     fill_frame();
     while (fgets(line, sizeof line, stdin)) {
         char *name = strtok(line, " "), *hex = strtok(NULL, " "), *steps = strtok(NULL, "\n");

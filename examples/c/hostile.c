@@ -83,6 +83,32 @@ static void hostile_limits(void)
     apd_free(&code);
 }
 
+static void hostile_reasons(void)
+{
+    apd_shape odd = {1, 1, 5};
+    char text[400];
+
+    memset(text, 'x', sizeof text);
+    WANT(apd_why(APD_DATA, NULL, 16, NULL, 0, 0, text, sizeof text), 0);
+    WANT(text[0], 0);
+    WANT(apd_why(APD_DATA, seven, 16, NULL, 1, 0, text, sizeof text), 0);
+    WANT(apd_why(4, bare, 8, NULL, 0, 0, text, sizeof text), 0);
+    WANT(apd_why(APD_DATA, bare, 8, &odd, 1, 0, text, sizeof text), 0);
+    WANT(apd_why(APD_DATA, NULL, 0, NULL, 0, 0, NULL, 0) > 0, 1);
+    size_t length = apd_why(APD_DATA, blind, 16, NULL, 0, 0, NULL, sizeof text);
+    WANT(length > 0 && length < sizeof text, 1);
+    memset(text, 'x', sizeof text);
+    WANT(apd_why(APD_DATA, blind, 16, NULL, 0, 0, text, 0), length);
+    WANT(text[0], 'x');
+    WANT(apd_why(APD_DATA, blind, 16, NULL, 0, 0, text, 6), length);
+    WANT(strlen(text), 5);
+    WANT(text[6], 'x');
+    WANT(apd_why(APD_DATA, blind, 16, NULL, 0, 0, text, sizeof text), length);
+    WANT(strlen(text), length);
+    WANT(strstr(text, "  r1: frame + 0\n") != NULL, 1);
+    WANT(apd_why(APD_DATA, seven, 16, NULL, 0, 1, NULL, 0) > 0, 1);
+}
+
 static void hostile_certificate(void)
 {
     apd_handle code = APD_EMPTY, certificate = APD_EMPTY, again = APD_EMPTY;
@@ -103,6 +129,19 @@ static void hostile_certificate(void)
     WANT(apd_check(&again, APD_DATA, seven, 16, NULL, 0, bytes, length).number, APD_OK);
     WANT(apd_budget(&again), 2);
     apd_free(&again);
+    /* (two states are examined, and no comparison is made) */
+    WANT(apd_check_within(NULL, APD_DATA, seven, 16, NULL, 0, bytes, length, 1).number, APD_NULL);
+    WANT(apd_check_within(&again, APD_DATA, seven, 16, NULL, 0, NULL, length, 1).number, APD_NULL);
+    WANT(apd_check_within(&again, APD_DATA, seven, 16, NULL, 0, bytes, length, 1).number, APD_TOO_MUCH);
+    WANT(again.full, 0);
+    WANT(apd_check_within(&again, APD_DATA, seven, 16, NULL, 0, bytes, length - 1, 1).number, APD_MALFORMED);
+    WANT(apd_check_within(&again, APD_DATA, seven, 16, NULL, 0, bytes, length, 2).number, APD_OK);
+    WANT(apd_check_within(&again, APD_DATA, seven, 16, NULL, 0, bytes, length, 1).number, APD_NOT_EMPTY);
+    apd_free(&again);
+    WANT(apd_check_within(&again, APD_DATA, seven, 16, NULL, 0, bytes, length, UINT64_MAX).number, APD_OK);
+    apd_free(&again);
+    WANT(apd_check_within(&again, APD_DATA, seven, 16, NULL, 0, bytes, length, 0).number, APD_OK);
+    apd_free(&again);
     apd_free(&certificate);
     apd_free(&code);
 }
@@ -119,6 +158,17 @@ static void hostile_runs(void)
     WANT(apd_run(&code, &maps, frame, 2400, &crowd).number, APD_OUT_OF_LIMITS);
     WANT(apd_run(&code, &maps, frame, 2400, &given).r0, 7);
     WANT(apd_run(&code, &maps, NULL, 0, &given).r0, 7);
+    apd_report kept = {0, 0, 0, 0, {9}};
+    WANT(apd_run_into(&code, &maps, NULL, 0, &given, NULL), APD_NULL);
+    WANT(apd_run_into(&code, &maps, NULL, 0, &given, &kept), APD_OK);
+    WANT(kept.r0, 7);
+    WANT(kept.steps, 2);
+    WANT(kept.count, 0);
+    WANT(kept.notes[0], 9);
+    WANT(apd_run_into(&code, &maps, NULL, 1, &given, &kept), APD_NULL);
+    WANT(apd_run_into(&code, &code, NULL, 0, &given, &kept), APD_NULL);
+    WANT(kept.number, APD_NULL);
+    WANT(apd_run_into(&code, &maps, NULL, 0, &other, &kept), APD_OTHER_HOOK);
     WANT(apd_run(&code, &maps, NULL, 0, &other).number, APD_OTHER_HOOK);
     other.context[6] = APD_DATA;
     WANT(apd_run(&code, &maps, NULL, 0, &other).number, APD_OTHER_HOOK);
@@ -281,36 +331,102 @@ static void hostile_events(void)
     WANT(apd_link(&link, &lab, NULL, 0), APD_OK);
     WANT(apd_maps(&maps, NULL, 0, 0), APD_OK);
     WANT(apd_maps(&wide, &shape, 1, 0), APD_OK);
-    WANT(apd_link_frame(&link, &maps, NULL, frame, 1), APD_NULL);
-    WANT(apd_link_frame(&link, &maps, &maps, frame, 1), APD_NULL);
-    WANT(apd_link_frame(&link, &link, &outs, frame, 1), APD_NULL);
-    WANT(apd_link_frame(&link, &maps, &outs, NULL, 1), APD_NULL);
-    WANT(apd_link_frame(&link, &maps, &outs, frame, 2401), APD_OUT_OF_LIMITS);
-    WANT(apd_link_frame(&link, &maps, &wide, frame, 1), APD_NOT_EMPTY);
-    WANT(apd_link_frame(&link, &wide, &outs, frame, 1), APD_OTHER_MAPS);
-    WANT(apd_link_frame(&maps, &link, &outs, frame, 1), APD_OTHER_VALUE);
-    WANT(apd_link_kick(&link, &maps, &outs, NULL, 1), APD_NULL);
-    WANT(apd_link_close(&link, &maps, &outs, &station, 8), APD_OUT_OF_LIMITS);
+    WANT(apd_link_frame(&link, &maps, NULL, frame, 1, 0), APD_NULL);
+    WANT(apd_link_frame(&link, &maps, &maps, frame, 1, 0), APD_NULL);
+    WANT(apd_link_frame(&link, &link, &outs, frame, 1, 0), APD_NULL);
+    WANT(apd_link_frame(&link, &maps, &outs, NULL, 1, 0), APD_NULL);
+    WANT(apd_link_frame(&link, &maps, &outs, frame, 2401, 0), APD_OUT_OF_LIMITS);
+    WANT(apd_link_frame(&link, &maps, &wide, frame, 1, 0), APD_NOT_EMPTY);
+    WANT(apd_link_frame(&link, &wide, &outs, frame, 1, 0), APD_OTHER_MAPS);
+    WANT(apd_link_frame(&maps, &link, &outs, frame, 1, 0), APD_OTHER_VALUE);
+    WANT(apd_link_kick(&link, &maps, &outs, NULL, 1, 0), APD_NULL);
+    WANT(apd_link_close(&link, &maps, &outs, &station, 8, 0), APD_OUT_OF_LIMITS);
     WANT(apd_outs(&outs), 0);
-    WANT(apd_link_frame(&link, &maps, &outs, NULL, 0), APD_OK);
-    WANT(apd_link_frame(&link, &maps, &outs, NULL, 0), APD_NOT_EMPTY);
+    WANT(apd_link_frame(&link, &maps, &outs, NULL, 0, UINT64_MAX), APD_OK);
+    WANT(apd_link_frame(&link, &maps, &outs, NULL, 0, 0), APD_NOT_EMPTY);
     WANT(apd_outs(&outs), 1);
     WANT(apd_out_at(&outs, 0).kind, APD_NOTE);
     WANT(apd_out_at(&outs, 0).note, 50);
+    WANT(apd_out_at(&outs, 0).user, UINT64_MAX);
     WANT(apd_out_at(&outs, 1).kind, APD_NOTHING);
+    WANT(apd_out_at(&outs, 1).user, 0);
     WANT(apd_out_at(&maps, 0).kind, APD_NOTHING);
     WANT(apd_out_bytes(&outs, 0, &byte, 1), 0);
     WANT(byte, 0xee);
     apd_free(&outs);
-    WANT(apd_link_frame(&link, &maps, &outs, frame, 2400), APD_OK);
+    WANT(apd_link_frame(&link, &maps, &outs, frame, 2400, 0), APD_OK);
     apd_free(&outs);
-    WANT(apd_link_kick(&link, &maps, &outs, &station, 1), APD_OK);
+    WANT(apd_link_kick(&link, &maps, &outs, &station, 1, 0), APD_OK);
     WANT(apd_out_at(&outs, 0).note, 63);
     apd_free(&outs);
-    WANT(apd_link_tick(&link, &maps, &outs, UINT32_MAX), APD_OK);
+    WANT(apd_link_tick(&link, &maps, &outs, UINT32_MAX, 0), APD_OK);
     WANT(apd_outs(&outs), 0);
     apd_free(&outs);
     apd_free(&wide);
+    apd_free(&maps);
+    apd_free(&link);
+}
+
+/* An authentication by one of 500 stations. */
+static void authenticate(apd_handle *link, apd_handle *maps, unsigned number)
+{
+    uint8_t frame[30] = {0xb0, 0, 0, 0, 2, 0, 0, 0, 0, 1, 2, 0, 0, 0, (uint8_t)(number >> 8), (uint8_t)number,
+                         2, 0, 0, 0, 0, 1, 0x10, 0, 0, 0, 1};
+    apd_handle outs = APD_EMPTY;
+
+    WANT(apd_link_frame(link, maps, &outs, frame, sizeof frame, number), APD_OK);
+    WANT(apd_outs(&outs), 1);
+    WANT(apd_out_at(&outs, 0).kind, APD_SEND);
+    WANT(apd_out_at(&outs, 0).user, number);
+    apd_free(&outs);
+}
+
+static void hostile_lists(void)
+{
+    apd_handle link = APD_EMPTY, maps = APD_EMPTY, list = APD_EMPTY, more = APD_EMPTY;
+
+    WANT(apd_maps(&maps, NULL, 0, 0), APD_OK);
+    WANT(apd_link_stations(&link, &list), APD_OTHER_VALUE);
+    WANT(apd_link(&link, &lab, NULL, 0), APD_OK);
+    WANT(apd_link_stations(NULL, &list), APD_NULL);
+    WANT(apd_link_stations(&link, NULL), APD_NULL);
+    WANT(apd_link_stations(&link, &link), APD_NULL);
+    WANT(apd_link_stations(&maps, &list), APD_OTHER_VALUE);
+    WANT(apd_link_stations(&link, &maps), APD_NOT_EMPTY);
+    WANT(apd_link_agreements(&link, &link), APD_NULL);
+    WANT(apd_link_agreements(&maps, &list), APD_OTHER_VALUE);
+    WANT(apd_link_agreements(&link, &maps), APD_NOT_EMPTY);
+    WANT(list.full, 0);
+    for (unsigned number = 500; number > 0; number--)
+        authenticate(&link, &maps, number);
+    WANT(apd_link_stations(&link, &list), APD_OK);
+    WANT(apd_link_stations(&link, &list), APD_NOT_EMPTY);
+    WANT(apd_link_agreements(&link, &more), APD_OK);
+    WANT(apd_station_count(&list), 500);
+    for (unsigned at = 0; at < 500; at++) {
+        apd_standing row = apd_station_at(&list, at);
+        WANT(row.station.octets[4] * 256 + row.station.octets[5], at + 1);
+        WANT(row.state, 2);
+        WANT(row.aid, 0);
+    }
+    WANT(apd_station_at(&list, 500).state, 0);
+    WANT(apd_station_at(&list, SIZE_MAX).state, 0);
+    WANT(apd_station_at(NULL, 0).state, 0);
+    WANT(apd_station_at(&link, 0).state, 0);
+    WANT(apd_station_at(&more, 0).state, 0);
+    WANT(apd_station_count(&more), 0);
+    WANT(apd_station_count(&link), 0);
+    WANT(apd_station_count(NULL), 0);
+    WANT(apd_agreement_count(&more), 0);
+    WANT(apd_agreement_count(&list), 0);
+    WANT(apd_agreement_count(NULL), 0);
+    WANT(apd_agreement_at(&more, 0).size, 0);
+    WANT(apd_agreement_at(&list, 0).size, 0);
+    WANT(apd_agreement_at(NULL, 0).size, 0);
+    WANT(apd_outs(&list), 0);
+    WANT(apd_read(&list, NULL, 0), 0);
+    apd_free(&more);
+    apd_free(&list);
     apd_free(&maps);
     apd_free(&link);
 }
@@ -335,6 +451,7 @@ int main(void)
     hostile_code();
     hostile_limits();
     hostile_texts();
+    hostile_reasons();
     hostile_certificate();
     hostile_runs();
     hostile_maps();
@@ -342,6 +459,7 @@ int main(void)
     many_notes();
     hostile_links();
     hostile_events();
+    hostile_lists();
     if (!failed)
         printf("all as wanted\n");
     return failed;

@@ -27,6 +27,15 @@ void *__wrap_realloc(void *block, size_t size)
 /* mov r0, 7; exit */
 static const uint8_t seven[16] = {0xb7, 0, 0, 0, 7, 0, 0, 0, 0x95};
 
+/* Whether there is no text exactly where an allocation is refused. */
+static int tells_why(void)
+{
+    long before = left;
+    size_t length = apd_why(APD_DATA, seven + 8, 8, NULL, 0, 0, NULL, 0);
+
+    return (length == 0) == (before >= 0 && left < 0);
+}
+
 /* One life, in which the allocation of that number is refused. Answers whether it was, -1 where an answer is wrong. */
 static int live(long refused)
 {
@@ -52,7 +61,7 @@ static int live(long refused)
     if (ok && number)
         ok = number == APD_NO_MEMORY && !again.full
              && !apd_check(&again, APD_DATA, seven, 16, &shape, 1, bytes, length).number;
-    ok = ok && apd_run(&again, &maps, NULL, 0, &given).r0 == 7 && apd_budget(&code) == 2;
+    ok = ok && tells_why() && apd_run(&again, &maps, NULL, 0, &given).r0 == 7 && apd_budget(&code) == 2;
     apd_free(&again);
     apd_free(&certificate);
     apd_free(&maps);
@@ -97,16 +106,26 @@ static int serve(long refused)
     for (int at = 0; ok && at < 4; at++) {
         size_t length = spelled(frames[at], frame);
 
-        number = apd_link_frame(&link, &maps, &outs, frame, length);
+        number = apd_link_frame(&link, &maps, &outs, frame, length, 7);
         if (number)
-            ok = number == APD_NO_MEMORY && !outs.full && !apd_link_frame(&link, &maps, &outs, frame, length);
+            ok = number == APD_NO_MEMORY && !outs.full && !apd_link_frame(&link, &maps, &outs, frame, length, 7);
         count += apd_outs(&outs);
         apd_free(&outs);
     }
-    number = apd_link_tick(&link, &maps, &outs, 10);
+    number = apd_link_tick(&link, &maps, &outs, 10, 7);
     if (ok && number)
-        ok = number == APD_NO_MEMORY && !outs.full && !apd_link_tick(&link, &maps, &outs, 10);
+        ok = number == APD_NO_MEMORY && !outs.full && !apd_link_tick(&link, &maps, &outs, 10, 7);
     count += apd_outs(&outs);
+    apd_free(&outs);
+    number = apd_link_stations(&link, &outs);
+    if (ok && number)
+        ok = number == APD_NO_MEMORY && !outs.full && !apd_link_stations(&link, &outs);
+    ok = ok && apd_station_count(&outs) == 1 && apd_station_at(&outs, 0).state == 3;
+    apd_free(&outs);
+    number = apd_link_agreements(&link, &outs);
+    if (ok && number)
+        ok = number == APD_NO_MEMORY && !outs.full && !apd_link_agreements(&link, &outs);
+    ok = ok && apd_agreement_count(&outs) <= 1;
     apd_free(&outs);
     ok = ok && count == 5 && !apd_link_load(&link, APD_ASSOC, &code);
     apd_free(&maps);

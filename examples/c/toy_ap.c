@@ -83,9 +83,9 @@ static int step(toy *toy)
     if (length < 0 && errno != EAGAIN && errno != EWOULDBLOCK)
         return 0;
     if (length < 0)
-        number = apd_link_tick(&toy->link, &toy->maps, &outs, 1);
+        number = apd_link_tick(&toy->link, &toy->maps, &outs, 1, 0);
     else
-        number = apd_link_frame(&toy->link, &toy->maps, &outs, frame, (size_t)length);
+        number = apd_link_frame(&toy->link, &toy->maps, &outs, frame, (size_t)length, 0);
     if (number)
         fail("the event is refused", number);
     give(toy, &outs);

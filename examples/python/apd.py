@@ -60,17 +60,27 @@ class _Station(ctypes.Structure):
 
 
 class _Out(ctypes.Structure):
-    _fields_ = [("kind", c_uint32), ("length", c_size_t), ("source", c_uint8 * 6), ("destination", c_uint8 * 6),
-                ("number", c_uint16), ("tid", c_uint8), ("mark", c_uint8), ("note", c_uint8)]
+    _fields_ = [("kind", c_uint32), ("length", c_size_t), ("user", c_uint64), ("source", c_uint8 * 6),
+                ("destination", c_uint8 * 6), ("number", c_uint16), ("tid", c_uint8), ("mark", c_uint8),
+                ("note", c_uint8)]
+
+
+class _Standing(ctypes.Structure):
+    _fields_ = [("station", _Station), ("state", c_uint8), ("aid", c_uint16)]
+
+
+class _Agreement(ctypes.Structure):
+    _fields_ = [("station", _Station), ("tid", c_uint8), ("start", c_uint16), ("size", c_uint16), ("timeout", c_uint16),
+                ("held", c_size_t)]
 
 
 _HANDLE = POINTER(_Handle)
 _SHAPES = POINTER(_Shape)
 _EVENT = [_HANDLE, _HANDLE, _HANDLE]
 _CALLS = {
-    "verify": (_Answer, [_HANDLE, c_uint32, c_char_p, c_size_t, _SHAPES, c_size_t]),
     "verify_within": (_Answer, [_HANDLE, c_uint32, c_char_p, c_size_t, _SHAPES, c_size_t, c_uint32]),
-    "check": (_Answer, [_HANDLE, c_uint32, c_char_p, c_size_t, _SHAPES, c_size_t, c_char_p, c_size_t]),
+    "check_within": (_Answer, [_HANDLE, c_uint32, c_char_p, c_size_t, _SHAPES, c_size_t, c_char_p, c_size_t, c_uint64]),
+    "why": (c_size_t, [c_uint32, c_char_p, c_size_t, _SHAPES, c_size_t, c_uint32, c_char_p, c_size_t]),
     "certify": (_Answer, [_HANDLE, _HANDLE]),
     "budget": (c_uint32, [_HANDLE]),
     "read": (c_size_t, [_HANDLE, c_void_p, c_size_t]),
@@ -83,10 +93,16 @@ _CALLS = {
     "link": (c_uint32, [_HANDLE, POINTER(_Network), _SHAPES, c_size_t]),
     "link_load": (c_uint32, [_HANDLE, c_uint32, _HANDLE]),
     "link_unload": (c_uint32, [_HANDLE, c_uint32]),
-    "link_frame": (c_uint32, [*_EVENT, c_char_p, c_size_t]),
-    "link_tick": (c_uint32, [*_EVENT, c_uint32]),
-    "link_kick": (c_uint32, [*_EVENT, POINTER(_Station), c_uint16]),
-    "link_close": (c_uint32, [*_EVENT, POINTER(_Station), c_uint8]),
+    "link_frame": (c_uint32, [*_EVENT, c_char_p, c_size_t, c_uint64]),
+    "link_tick": (c_uint32, [*_EVENT, c_uint32, c_uint64]),
+    "link_kick": (c_uint32, [*_EVENT, POINTER(_Station), c_uint16, c_uint64]),
+    "link_close": (c_uint32, [*_EVENT, POINTER(_Station), c_uint8, c_uint64]),
+    "link_stations": (c_uint32, [_HANDLE, _HANDLE]),
+    "link_agreements": (c_uint32, [_HANDLE, _HANDLE]),
+    "station_count": (c_size_t, [_HANDLE]),
+    "station_at": (_Standing, [_HANDLE, c_size_t]),
+    "agreement_count": (c_size_t, [_HANDLE]),
+    "agreement_at": (_Agreement, [_HANDLE, c_size_t]),
     "outs": (c_size_t, [_HANDLE]),
     "out_at": (_Out, [_HANDLE, c_size_t]),
     "out_bytes": (c_size_t, [_HANDLE, c_size_t, c_void_p, c_size_t]),
@@ -189,10 +205,21 @@ def verify(hook, code, shapes=(), states=0):
     return program
 
 
-def check(hook, code, certificate, shapes=()):
-    """Admits a program by a certificate, or raises Refused."""
+def why(hook, code, shapes=(), states=0):
+    """Why `verify` refuses these, in lines of text; of a program that it admits, what its states were. The program is
+    explored again. Empty for lack of memory, or if the hook or the shapes are out of their limits."""
+    told = (hook, code, len(code), *_shapes_of(shapes), states)
+    room = ctypes.create_string_buffer(_apd.apd_why(*told, None, 0) + 1)
+    _apd.apd_why(*told, room, len(room))
+    return room.value.decode()
+
+
+def check(hook, code, certificate, shapes=(), work=0):
+    """Admits a program by a certificate, or raises Refused. `work` is the most work that the check does: states that are
+    examined, and comparisons of a state with one of the certificate; 0 for no limit."""
     program = Program(hook, shapes)
-    answer = _apd.apd_check(byref(program._handle), hook, code, len(code), *_shapes_of(shapes), certificate, len(certificate))
+    answer = _apd.apd_check_within(byref(program._handle), hook, code, len(code), *_shapes_of(shapes), certificate,
+                                   len(certificate), work)
     _admit(answer.number, answer.slot)
     return program
 
@@ -246,7 +273,7 @@ def run(program, maps, frame, told, clock=0, stations=0):
 @dataclass
 class Out:
     """What came out of an event: a frame to be sent, data to be passed up, or the number of a note. What a kind doesn't
-    have is 0 or empty; the TID is None if the data has none."""
+    have is 0 or empty; the TID is None if the data has none. `user` is what the event was given."""
 
     kind: int
     body: bytes
@@ -256,6 +283,7 @@ class Out:
     tid: Optional[int]
     mark: int
     note: int
+    user: int
 
 
 def _read_outs(outs):
@@ -265,8 +293,28 @@ def _read_outs(outs):
         room = ctypes.create_string_buffer(out.length) if out.length else None
         _apd.apd_out_bytes(byref(outs), at, room, out.length)
         found.append(Out(out.kind, room.raw if room else b"", bytes(out.source), bytes(out.destination), out.number,
-                         None if out.tid == NO_TID else out.tid, out.mark, out.note))
+                         None if out.tid == NO_TID else out.tid, out.mark, out.note, out.user))
     return found
+
+
+class Station(NamedTuple):
+    """A known station: state 2 is authenticated, 3 is associated, with an association identifier."""
+
+    station: bytes
+    state: int
+    aid: int
+
+
+class Agreement(NamedTuple):
+    """An agreement in force: its window's first number and size, how many numbers that holds, and its timeout in units of
+    1024 microseconds, 0 for none."""
+
+    station: bytes
+    tid: int
+    start: int
+    size: int
+    held: int
+    timeout: int
 
 
 class Link(_Owner):
@@ -288,6 +336,24 @@ class Link(_Owner):
         """Judges by no program on this hook from now on."""
         _admit(_apd.apd_link_unload(byref(self._handle), hook))
 
+    def _listed(self, fill, count, row_at):
+        rows = _Handle()
+        _admit(fill(byref(self._handle), byref(rows)))
+        try:
+            return [row_at(byref(rows), at) for at in range(count(byref(rows)))]
+        finally:
+            _apd.apd_free(byref(rows))
+
+    def stations(self):
+        """The stations that it knows, by increasing addresses."""
+        rows = self._listed(_apd.apd_link_stations, _apd.apd_station_count, _apd.apd_station_at)
+        return [Station(bytes(row.station.octets), row.state, row.aid) for row in rows]
+
+    def agreements(self):
+        """The agreements in force, by increasing addresses and TIDs."""
+        rows = self._listed(_apd.apd_link_agreements, _apd.apd_agreement_count, _apd.apd_agreement_at)
+        return [Agreement(bytes(row.station.octets), row.tid, row.start, row.size, row.held, row.timeout) for row in rows]
+
     def _event(self, call, *arguments):
         outs = _Handle()
         _admit(call(byref(self._handle), byref(self.maps._handle), byref(outs), *arguments))
@@ -296,18 +362,18 @@ class Link(_Owner):
         finally:
             _apd.apd_free(byref(outs))
 
-    def frame(self, octets):
-        """A frame without its check sequence comes; the outs."""
-        return self._event(_apd.apd_link_frame, octets, len(octets))
+    def frame(self, octets, user=0):
+        """A frame without its check sequence comes; the outs, each with `user`."""
+        return self._event(_apd.apd_link_frame, octets, len(octets), user)
 
-    def tick(self, units=1):
+    def tick(self, units=1, user=0):
         """Units of 1024 microseconds pass; the outs."""
-        return self._event(_apd.apd_link_tick, units)
+        return self._event(_apd.apd_link_tick, units, user)
 
-    def kick(self, station, reason):
+    def kick(self, station, reason, user=0):
         """Sends a station away; the outs."""
-        return self._event(_apd.apd_link_kick, byref(_Station(_octets(station, 6))), reason)
+        return self._event(_apd.apd_link_kick, byref(_Station(_octets(station, 6))), reason, user)
 
-    def close_agreement(self, station, tid):
+    def close_agreement(self, station, tid, user=0):
         """Ends a station's agreement for a TID; the outs."""
-        return self._event(_apd.apd_link_close, byref(_Station(_octets(station, 6))), tid)
+        return self._event(_apd.apd_link_close, byref(_Station(_octets(station, 6))), tid, user)

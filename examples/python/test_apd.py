@@ -134,6 +134,8 @@ class Calls(unittest.TestCase):
         self.assertEqual((program.budget, again.budget), (2, 2))
         self.refused(30, apd.verify, apd.DATA, SEVEN[8:])
         self.refused(36, apd.verify, apd.DATA, SEVEN, states=1)
+        self.refused(36, apd.check, apd.DATA, SEVEN, program.certificate(), work=1)
+        self.assertEqual(apd.check(apd.DATA, SEVEN, program.certificate(), work=2).budget, 2)
         self.refused(71, apd.check, apd.ADDBA, SEVEN, program.certificate())
         self.refused(90, apd.verify, 4, SEVEN)
         self.refused(90, apd.verify, apd.DATA, SEVEN, [apd.Shape(1, 1, 5)])
@@ -159,6 +161,44 @@ class Calls(unittest.TestCase):
         self.assertEqual(apd.explain(4), "")
         self.assertRegex(str(apd.Refused(32, 5)), "^32 at 5: an access")
 
+    def test_why(self):
+        """What `apd verify --explain` says, as recorded."""
+        sessions, count = TOP / "crates/uses_apd", 0
+        recorded = (sessions / "stdout").read_text()
+        asked = re.findall(r"^\$ apd verify (\w+) (\S+\.hex) --explain\n(.*\n)((?:! .*\n)*)", recorded, re.M)
+        for hook, name, answer, told in asked:
+            try:
+                code = bytes.fromhex((sessions / "data" / name).read_text())
+            except (FileNotFoundError, ValueError):
+                continue
+            wanted = [line[2:] for line in told.splitlines() if not line.startswith(("! apd: slot", "! apd: no "))]
+            with self.subTest(name):
+                self.assertEqual(apd.why(HOOKS[hook], code).splitlines(), wanted)
+            count += 1
+        self.assertGreater(count, 20)
+        self.assertEqual(apd.why(4, SEVEN[8:]), "")
+        self.assertEqual(apd.why(apd.DATA, SEVEN[8:], [apd.Shape(1, 1, 5)]), "")
+        self.assertIn("36", str(apd.Refused(36)))
+        self.assertNotEqual(apd.why(apd.DATA, SEVEN, states=1), apd.why(apd.DATA, SEVEN))
+
+    def test_lists(self):
+        with apd.Link(AP, b"lab", bytes.fromhex("82848b96")) as link:
+            self.assertEqual((link.stations(), link.agreements()), ([], []))
+            link.frame(AUTHENTICATION)
+            self.assertEqual(link.stations(), [apd.Station(STATION, 2, 0)])
+            link.frame(ASSOCIATION)
+            (known,) = link.stations()
+            self.assertEqual((known.station, known.state), (STATION, 3))
+            self.assertTrue(1 <= known.aid <= 2007)
+            link.frame(ADDBA)
+            (agreement,) = link.agreements()
+            self.assertEqual((agreement.station, agreement.held), (STATION, 0))
+            self.assertTrue(1 <= agreement.size <= 64)
+            link.close_agreement(STATION, agreement.tid)
+            self.assertEqual(link.agreements(), [])
+            link.kick(STATION, 1)
+            self.assertEqual(link.stations(), [])
+
     def test_link(self):
         with apd.Link(AP, b"lab", bytes.fromhex("82848b96")) as link:
             link.load(apd.verify(apd.DATA, SEVEN))
@@ -167,9 +207,10 @@ class Calls(unittest.TestCase):
             # (the low two bits of 7 drop data)
             self.assertEqual(link.frame(VOICE), [])
             link.unload(apd.DATA)
-            (up,) = link.frame(VOICE)
+            (up,) = link.frame(VOICE, user=2**64 - 1)
             self.assertEqual((up.kind, up.source, up.tid, up.body), (apd.UP, STATION, 0, VOICE[26:]))
-            self.assertEqual([out.kind for out in link.kick(STATION, 1)], [apd.SEND])
+            self.assertEqual(up.user, 2**64 - 1)
+            self.assertEqual([(out.kind, out.user) for out in link.kick(STATION, 1, user=5)], [(apd.SEND, 5)])
             self.assertEqual([out.note for out in link.kick(STATION, 1)], [63])
             self.assertEqual(link.tick(1), [])
             self.refused(90, link.close_agreement, STATION, 8)

@@ -6,3 +6,4 @@ pub mod Filters
 pub mod Halves
 pub mod Edits
 pub mod Late
+pub mod Listing

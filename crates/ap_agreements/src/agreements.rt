@@ -5,9 +5,11 @@ ghost use Rattle.arrayvec.specs.ArrayVec.{array_vec_len};
 ghost use Rattle.blockack.specs.Reading.{IsWanted, IsAlone, numbers_held, most_passed};
 ghost use Rattle.ap_model.specs.Steps.{IsBefore};
 ghost use Rattle.ap_model.specs.Readings.{Using};
+ghost use Rattle.ap_agreements.specs.Listing.{ListsAgreements, row_of};
 ghost use Rattle.ap_agreements.specs.Tables.{Kept, key_of, agreement_in, is_late, IsRising, IsPlaceOf, IsPlaceFor, IsLateIn, unless_late, all_held, late_held, held_under, Stands, Sets, Discards, UsesData, UsesAlone, UsesRequest};
 
 use crate::entry::{Entry, Released};
+use crate::in_force::AgreementInForce;
 use ap_model::Held;
 use mac_types::{Address, SequenceNumber, Tid};
 use std::alloc::{AllocError, Global};
@@ -93,6 +95,13 @@ impl Agreements {
             Ok(at) => Some((at, &self.entries[at])),
             Err(_) => None,
         }
+    }
+
+    /// The agreements in force, each once, ordered by address and then TID.
+    pub fn in_force(&self, alloc: Global) -> Result<Vec<AgreementInForce>, AllocError>
+        ensures { IfOk result (λ rows. ListsAgreements (agreement_in self.now.kept) rows.items) }
+    {
+        rows_of(alloc, &self.entries)
     }
 
     /// Data that the window of the agreement at this index wants came at this time. The window takes
@@ -244,6 +253,13 @@ impl Agreements {
     {
         split_late(&mut self.entries, clock, ended);
     }
+}
+
+/// What is listed of these agreements, in their order.
+fn rows_of(alloc: Global, entries: &[Entry]) -> Result<Vec<AgreementInForce>, AllocError>
+    ensures { IfOk result (λ rows. rows.items ≡ map row_of entries.now) }
+{
+    entries.iter().map(|entry| entry.in_force()).collect(alloc)
 }
 
 /// Moves the timed-out ones to `ended`.

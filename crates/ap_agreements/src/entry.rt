@@ -5,7 +5,9 @@ ghost use Rattle.arrayvec.specs.ArrayVec.{array_vec_len};
 ghost use Rattle.blockack.specs.Reading.{IsWanted, IsAlone, EndPassesUp, numbers_held, most_passed};
 ghost use Rattle.ap_agreements.specs.Tables.{key_cmp, key_of, is_late};
 ghost use Rattle.ap_agreements.specs.Uses.{Opens, DataUse, AloneUse, RequestUse};
+ghost use Rattle.ap_agreements.specs.Listing.{row_of};
 
+use crate::in_force::AgreementInForce;
 use ap_model::Held;
 use arrayvec::ArrayVec;
 use blockack::{Agreement, Placed, reading_law};
@@ -99,6 +101,20 @@ impl Entry {
         match SequenceNumber::new(self.window.start()) {
             Some(start) => start,
             None => unreachable!(),
+        }
+    }
+
+    /// What is listed of it.
+    pub fn in_force(&self) -> AgreementInForce
+        ensures { result ≡ row_of self.now }
+    {
+        AgreementInForce {
+            station: self.station(),
+            tid: self.tid(),
+            start: self.start(),
+            size: self.window.size(),
+            held: self.held(),
+            timeout: self.timeout,
         }
     }
 

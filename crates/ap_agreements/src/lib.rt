@@ -8,6 +8,8 @@
 
 mod agreements;
 mod entry;
+mod in_force;
 
 pub use agreements::Agreements;
 pub use entry::{Entry, Released};
+pub use in_force::AgreementInForce;

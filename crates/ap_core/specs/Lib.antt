@@ -2,6 +2,7 @@ pub mod AccessPoints
 pub mod Comes
 pub mod DataFrames
 pub mod Handles
+pub mod Listing
 pub mod Noted
 pub mod Shards
 pub mod Telling

@@ -25,6 +25,8 @@ mod state;
 mod ticks;
 
 pub use access_point::{handle_all, known_shards, new_shards, shard_of};
+pub use ap_agreements::AgreementInForce;
 pub use ap_model::{AskLog, Event, Held, Judge, LinkConfig, ListJudge, Octets, Out, Up};
+pub use assoc::{Known, KnownStation};
 pub use outcome::Outcome;
 pub use shard::Shard;

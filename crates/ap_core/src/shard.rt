@@ -11,9 +11,9 @@ use crate::receive::receive;
 use crate::room::Room;
 use crate::state::{Setting, State};
 use crate::ticks::{TickRoom, most_outs, tick, tick_room};
-use ap_agreements::Agreements;
+use ap_agreements::{AgreementInForce, Agreements};
 use ap_model::{Event, Judge, LinkConfig, Out};
-use assoc::Link;
+use assoc::{KnownStation, Link};
 use mac_frame::{Address, MacFrame, Reason};
 use std::alloc::{AllocError, Global};
 
@@ -46,6 +46,7 @@ impl Shard {
     ghost use Rattle.ap_model.specs.Stations.{AreAssociated};
     ghost use Rattle.ap_model.specs.Steps.{Step};
     ghost use Rattle.ap_core.specs.Handles.{rules};
+    ghost use Rattle.ap_core.specs.Listing.{ListsAgreements, ListsStations};
     ghost use Rattle.ap_core.specs.Shards.{reads, ruled, Handles, Decides};
     ghost use Rattle.ap_core.specs.Ticking.{late_outs, HasRoom, TickStep};
 
@@ -82,6 +83,20 @@ impl Shard {
     {
         self.state.link.known();
         self.state.link.associated()
+    }
+
+    /// The known stations, each once with its standing, by increasing addresses.
+    pub fn known_stations(&self, alloc: Global) -> Result<Vec<KnownStation>, AllocError>
+        ensures { IfOk result (λ rows. ListsStations (reads self.now) rows.items) }
+    {
+        self.state.link.known_stations(alloc)
+    }
+
+    /// The agreements in force, each once, by increasing addresses and TIDs.
+    pub fn agreements(&self, alloc: Global) -> Result<Vec<AgreementInForce>, AllocError>
+        ensures { IfOk result (λ rows. ListsAgreements (reads self.now) rows.items) }
+    {
+        self.state.agreements.in_force(alloc)
     }
 
     /// Handles an event that concerns this shard (`shard_of`, or a tick), as one step of the link. An

@@ -3,9 +3,10 @@ use Rattle.std.proofs.Common.{◌≡◌, ◌<◌, ◌%◌, ℕ, Bool, true, fals
 use Rattle.std.specs.Prelude.{◌==◌}
 use Rattle.ap_model.specs.AccessPoint.{shard_of, shard_of_address, shard_of_bytes}
 use Rattle.ap_model.specs.Asks.{Ask}
-use Rattle.ap_model.specs.Readings.{Readings}
+use Rattle.ap_model.specs.Readings.{Config, Readings}
 use Rattle.ap_model.specs.declared.event.Event.{Event}
 use Rattle.ap_model.specs.declared.event.Event.TheVariants as event
+use Rattle.ap_core.specs.Handles.{rules}
 use Rattle.ap_locked.specs.Tokens.{Token}
 use Rattle.ap_shards.specs.Fates.{ChangesAt, ChangesIf, Comes, ComesAt}
 use Rattle.ap_shards.specs.Tokens.{Eight}
@@ -20,13 +21,13 @@ at_shard P a b =
 
 -- ---- events that were not decided
 
-module _ (V : Readings → List (Ask × ℕ) → Type 0) (s : ℕ) (e : Event) where
-  still_if : (here : Bool) (t u : Token) → ChangesIf here (λ t u. Comes V s t e Refused u) t u → u ≡ t
+module _ (V : Readings → List (Ask × ℕ) → Type 0) (config : Config) (s : ℕ) (e : Event) where
+  still_if : (here : Bool) (t u : Token) → ChangesIf here (λ t u. Comes V (rules s config) t e Refused u) t u → u ≡ t
   still_if true t u c = c
   still_if false t u c = c
 
   -- one that was refused changes no token
-  pub refused_still : (a b : Eight) → ComesAt V s a e Refused b → b ≡ a
+  pub refused_still : (a b : Eight) → ComesAt V config s a e Refused b → b ≡ a
   refused_still a b c i =
       record {
         of0 = still_if (s == 0) a.of0 b.of0 c.of0 i;
@@ -39,12 +40,12 @@ module _ (V : Readings → List (Ask × ℕ) → Type 0) (s : ℕ) (e : Event) w
         of7 = still_if (s == 7) a.of7 b.of7 c.of7 i;
       }
 
-  left_if : (here : Bool) (t u : Token) → ChangesIf here (λ t u. Comes V s t e NotHandled u) t u → u ≡ t
+  left_if : (here : Bool) (t u : Token) → ChangesIf here (λ t u. Comes V (rules s config) t e NotHandled u) t u → u ≡ t
   left_if true t u c = c
   left_if false t u c = c
 
   -- nor does one that was not handled
-  pub left_still : (a b : Eight) → ComesAt V s a e NotHandled b → b ≡ a
+  pub left_still : (a b : Eight) → ComesAt V config s a e NotHandled b → b ≡ a
   left_still a b c i =
       record {
         of0 = left_if (s == 0) a.of0 b.of0 c.of0 i;

@@ -1,20 +1,23 @@
 -- How a token's parts of the ledgers grow.
-use Rattle.std.proofs.Common.{if◌then◌else◌, ◌≡◌, ◌==◌, ◌<◌, ℕ, zero, suc, Bool, true, false, Some, List, refl, sym, ap, ◌∙◌, arith}
+use Rattle.std.proofs.Common.{if◌then◌else◌, ◌≡◌, ◌==◌, ◌<◌, ℕ, zero, suc, Bool, true, false, true≢false, IsTrue, Some, List, [], refl, sym, ap, ◌∙◌, arith}
 use Rattle.ap_model.specs.AccessPoint.{shard_of}
 use Rattle.ap_model.specs.declared.event.Event.{Event}
+use Rattle.ap_model.specs.declared.event.Event.TheVariants as event
 use Rattle.ap_model.specs.declared.event.Out.{Out}
 use Rattle.ap_model.specs.Asks.{Ask}
-use Rattle.ap_model.specs.Readings.{Readings}
-use Rattle.ap_books.specs.Counts.{Counts, Portion, counts_of, gains, plus}
+use Rattle.ap_model.specs.Readings.{Config, Readings, Rules}
+use Rattle.ap_model.specs.Steps.{Step, kicked, not_kicked, closed, not_closed}
+use Rattle.ap_books.specs.Counts.{Counts, Portion, counts_of, drops, gains, plus}
 use Rattle.ap_books.specs.Holdings.{Holding, sum_of}
+use Rattle.ap_core.specs.Handles.{rules}
 use Rattle.ap_locked.specs.Tokens.{Token}
-use Rattle.ap_shards.specs.Fates.{ActsAt, ChangesIf, Comes, ComesAt}
+use Rattle.ap_shards.specs.Fates.{Acts, ActsAt, ChangesIf, Comes, ComesAt}
 use Rattle.ap_shards.specs.Tokens.{Eight, holding_of}
 use Rattle.ap_tagged.specs.Growth.{grown_at, grown_if}
 use Rattle.ap_tagged.specs.declared.tagged.Fate.{Fate}
 use Rattle.ap_tagged.specs.declared.tagged.Fate.TheVariants.{Decided, Refused, NotHandled}
 use Rattle.ap_live.specs.Counting.{KeepParts, fate_counts}
-use Rattle.ap_live.specs.Serving.{Acted, IsInside}
+use Rattle.ap_live.specs.Serving.{Acted, IsInside, is_command}
 use Rattle.ap_live.specs.Tokens.{Operator}
 use Rattle.ap_live.proofs.Sums.{grown_first, grown_second, plus_none}
 
@@ -30,24 +33,24 @@ by_shard P p0 p1 p2 p3 p4 p5 p6 p7 (suc (suc (suc (suc (suc (suc zero)))))) low 
 by_shard P p0 p1 p2 p3 p4 p5 p6 p7 (suc (suc (suc (suc (suc (suc (suc zero))))))) low = p7
 by_shard P p0 p1 p2 p3 p4 p5 p6 p7 (suc (suc (suc (suc (suc (suc (suc (suc n)))))))) low = absurd (omega arith)
 
-grown_token : (V : Readings → List (Ask × ℕ) → Type 0) (s : ℕ) (e : Event) (f : Fate) (here : Bool) (t u : Token) → ChangesIf here (λ t u. Comes V s t e f u) t u
+grown_token : (V : Readings → List (Ask × ℕ) → Type 0) (rs : Rules) (e : Event) (f : Fate) (here : Bool) (t u : Token) → ChangesIf here (λ t u. Comes V rs t e f u) t u
     → u.portion ≡ grown_if here t.portion f
-grown_token V s e (Decided outs dropped) true t u c = c.portion
-grown_token V s e Refused true t u c = ap (λ (x : Token). x.portion) c
-grown_token V s e NotHandled true t u c = ap (λ (x : Token). x.portion) c
-grown_token V s e f false t u c = ap (λ (x : Token). x.portion) c
+grown_token V rs e (Decided outs dropped) true t u c = c.portion
+grown_token V rs e Refused true t u c = ap (λ (x : Token). x.portion) c
+grown_token V rs e NotHandled true t u c = ap (λ (x : Token). x.portion) c
+grown_token V rs e f false t u c = ap (λ (x : Token). x.portion) c
 
-pub grown_tokens : (V : Readings → List (Ask × ℕ) → Type 0) (s : ℕ) (e : Event) (f : Fate) (a b : Eight) → ComesAt V s a e f b → holding_of b ≡ grown_at (holding_of a) s f
-grown_tokens V s e f a b c i =
+pub grown_tokens : (V : Readings → List (Ask × ℕ) → Type 0) (config : Config) (s : ℕ) (e : Event) (f : Fate) (a b : Eight) → ComesAt V config s a e f b → holding_of b ≡ grown_at (holding_of a) s f
+grown_tokens V config s e f a b c i =
     record {
-      of0 = grown_token V s e f (s == 0) a.of0 b.of0 c.of0 i;
-      of1 = grown_token V s e f (s == 1) a.of1 b.of1 c.of1 i;
-      of2 = grown_token V s e f (s == 2) a.of2 b.of2 c.of2 i;
-      of3 = grown_token V s e f (s == 3) a.of3 b.of3 c.of3 i;
-      of4 = grown_token V s e f (s == 4) a.of4 b.of4 c.of4 i;
-      of5 = grown_token V s e f (s == 5) a.of5 b.of5 c.of5 i;
-      of6 = grown_token V s e f (s == 6) a.of6 b.of6 c.of6 i;
-      of7 = grown_token V s e f (s == 7) a.of7 b.of7 c.of7 i;
+      of0 = grown_token V (rules s config) e f (s == 0) a.of0 b.of0 c.of0 i;
+      of1 = grown_token V (rules s config) e f (s == 1) a.of1 b.of1 c.of1 i;
+      of2 = grown_token V (rules s config) e f (s == 2) a.of2 b.of2 c.of2 i;
+      of3 = grown_token V (rules s config) e f (s == 3) a.of3 b.of3 c.of3 i;
+      of4 = grown_token V (rules s config) e f (s == 4) a.of4 b.of4 c.of4 i;
+      of5 = grown_token V (rules s config) e f (s == 5) a.of5 b.of5 c.of5 i;
+      of6 = grown_token V (rules s config) e f (s == 6) a.of6 b.of6 c.of6 i;
+      of7 = grown_token V (rules s config) e f (s == 7) a.of7 b.of7 c.of7 i;
     }
 
 -- the number of parts is unchanged
@@ -221,21 +224,36 @@ counted_at h s (Decided outs dropped) low = sum_gains h (counts_of outs.items dr
 counted_at h s Refused inside = ap sum_of (unchanged h s) ∙ sym (plus_none (sum_of h))
 counted_at h s NotHandled inside = ap sum_of (not_handled h s) ∙ sym (plus_none (sum_of h))
 
-abbrev ActGains : Event → List Out → Eight → Eight → ℕ → Type 0
-ActGains e outs a b s =
-    ActsAt s a e outs b → (dropped : Bool) × (holding_of b ≡ gains_at (holding_of a) s (counts_of outs dropped))
+-- a command asks for no verdict
+pub command_silent : (rs : Rules) (r r2 : Readings) (e : Event) (asked : List (Ask × ℕ)) (outs : List Out) → IsTrue (is_command e) → Step rs r e asked outs r2 → asked ≡ []
+command_silent rs r r2 (event.Kick station reason) asked outs is (kicked known settles moves) = settles.silent
+command_silent rs r r2 (event.Kick station reason) asked outs is (not_kicked unknown answers) = answers.settles.silent
+command_silent rs r r2 (event.Close station tid) asked outs is (closed known ends) = ends.settles.silent
+command_silent rs r r2 (event.Close station tid) asked outs is (not_closed unknown answers) = answers.settles.silent
+command_silent rs r r2 (event.Frame bytes) asked outs is step = absurd (true≢false (sym is))
+command_silent rs r r2 (event.Tick units) asked outs is step = absurd (true≢false (sym is))
 
-pub act_gains : (e : Event) (outs : List Out) (a b : Eight) (s : ℕ) → s < 8 → ActGains e outs a b s
-act_gains e outs a b s low =
-    by_shard (ActGains e outs a b)
-    (λ c. (c.of0.0, λ i. record { of0 = c.of0.1.portion i; of1 = (c.of1 i).portion; of2 = (c.of2 i).portion; of3 = (c.of3 i).portion; of4 = (c.of4 i).portion; of5 = (c.of5 i).portion; of6 = (c.of6 i).portion; of7 = (c.of7 i).portion }))
-    (λ c. (c.of1.0, λ i. record { of0 = (c.of0 i).portion; of1 = c.of1.1.portion i; of2 = (c.of2 i).portion; of3 = (c.of3 i).portion; of4 = (c.of4 i).portion; of5 = (c.of5 i).portion; of6 = (c.of6 i).portion; of7 = (c.of7 i).portion }))
-    (λ c. (c.of2.0, λ i. record { of0 = (c.of0 i).portion; of1 = (c.of1 i).portion; of2 = c.of2.1.portion i; of3 = (c.of3 i).portion; of4 = (c.of4 i).portion; of5 = (c.of5 i).portion; of6 = (c.of6 i).portion; of7 = (c.of7 i).portion }))
-    (λ c. (c.of3.0, λ i. record { of0 = (c.of0 i).portion; of1 = (c.of1 i).portion; of2 = (c.of2 i).portion; of3 = c.of3.1.portion i; of4 = (c.of4 i).portion; of5 = (c.of5 i).portion; of6 = (c.of6 i).portion; of7 = (c.of7 i).portion }))
-    (λ c. (c.of4.0, λ i. record { of0 = (c.of0 i).portion; of1 = (c.of1 i).portion; of2 = (c.of2 i).portion; of3 = (c.of3 i).portion; of4 = c.of4.1.portion i; of5 = (c.of5 i).portion; of6 = (c.of6 i).portion; of7 = (c.of7 i).portion }))
-    (λ c. (c.of5.0, λ i. record { of0 = (c.of0 i).portion; of1 = (c.of1 i).portion; of2 = (c.of2 i).portion; of3 = (c.of3 i).portion; of4 = (c.of4 i).portion; of5 = c.of5.1.portion i; of6 = (c.of6 i).portion; of7 = (c.of7 i).portion }))
-    (λ c. (c.of6.0, λ i. record { of0 = (c.of0 i).portion; of1 = (c.of1 i).portion; of2 = (c.of2 i).portion; of3 = (c.of3 i).portion; of4 = (c.of4 i).portion; of5 = (c.of5 i).portion; of6 = c.of6.1.portion i; of7 = (c.of7 i).portion }))
-    (λ c. (c.of7.0, λ i. record { of0 = (c.of0 i).portion; of1 = (c.of1 i).portion; of2 = (c.of2 i).portion; of3 = (c.of3 i).portion; of4 = (c.of4 i).portion; of5 = (c.of5 i).portion; of6 = (c.of6 i).portion; of7 = c.of7.1.portion i }))
+-- so it drops nothing, and its outputs are all that it counts
+quiet : (rs : Rules) (e : Event) (outs : List Out) (t u : Token) → IsTrue (is_command e) → Acts rs t e outs u → u.portion ≡ gains t.portion (counts_of outs false)
+quiet rs e outs t u is acts =
+    let x = acts.1 in
+    x.portion ∙ ap (λ (b : Bool). gains t.portion (counts_of outs b)) (x.flag ∙ ap drops (command_silent rs x.readings x.after e x.asked outs is x.step))
+
+abbrev ActGains : Config → Event → List Out → Eight → Eight → ℕ → Type 0
+ActGains config e outs a b s =
+    ActsAt config s a e outs b → holding_of b ≡ gains_at (holding_of a) s (counts_of outs false)
+
+pub act_gains : (config : Config) (e : Event) (outs : List Out) (a b : Eight) → IsTrue (is_command e) → (s : ℕ) → s < 8 → ActGains config e outs a b s
+act_gains config e outs a b is s low =
+    by_shard (ActGains config e outs a b)
+    (λ c i. record { of0 = quiet (rules 0 config) e outs a.of0 b.of0 is c.of0 i; of1 = (c.of1 i).portion; of2 = (c.of2 i).portion; of3 = (c.of3 i).portion; of4 = (c.of4 i).portion; of5 = (c.of5 i).portion; of6 = (c.of6 i).portion; of7 = (c.of7 i).portion })
+    (λ c i. record { of0 = (c.of0 i).portion; of1 = quiet (rules 1 config) e outs a.of1 b.of1 is c.of1 i; of2 = (c.of2 i).portion; of3 = (c.of3 i).portion; of4 = (c.of4 i).portion; of5 = (c.of5 i).portion; of6 = (c.of6 i).portion; of7 = (c.of7 i).portion })
+    (λ c i. record { of0 = (c.of0 i).portion; of1 = (c.of1 i).portion; of2 = quiet (rules 2 config) e outs a.of2 b.of2 is c.of2 i; of3 = (c.of3 i).portion; of4 = (c.of4 i).portion; of5 = (c.of5 i).portion; of6 = (c.of6 i).portion; of7 = (c.of7 i).portion })
+    (λ c i. record { of0 = (c.of0 i).portion; of1 = (c.of1 i).portion; of2 = (c.of2 i).portion; of3 = quiet (rules 3 config) e outs a.of3 b.of3 is c.of3 i; of4 = (c.of4 i).portion; of5 = (c.of5 i).portion; of6 = (c.of6 i).portion; of7 = (c.of7 i).portion })
+    (λ c i. record { of0 = (c.of0 i).portion; of1 = (c.of1 i).portion; of2 = (c.of2 i).portion; of3 = (c.of3 i).portion; of4 = quiet (rules 4 config) e outs a.of4 b.of4 is c.of4 i; of5 = (c.of5 i).portion; of6 = (c.of6 i).portion; of7 = (c.of7 i).portion })
+    (λ c i. record { of0 = (c.of0 i).portion; of1 = (c.of1 i).portion; of2 = (c.of2 i).portion; of3 = (c.of3 i).portion; of4 = (c.of4 i).portion; of5 = quiet (rules 5 config) e outs a.of5 b.of5 is c.of5 i; of6 = (c.of6 i).portion; of7 = (c.of7 i).portion })
+    (λ c i. record { of0 = (c.of0 i).portion; of1 = (c.of1 i).portion; of2 = (c.of2 i).portion; of3 = (c.of3 i).portion; of4 = (c.of4 i).portion; of5 = (c.of5 i).portion; of6 = quiet (rules 6 config) e outs a.of6 b.of6 is c.of6 i; of7 = (c.of7 i).portion })
+    (λ c i. record { of0 = (c.of0 i).portion; of1 = (c.of1 i).portion; of2 = (c.of2 i).portion; of3 = (c.of3 i).portion; of4 = (c.of4 i).portion; of5 = (c.of5 i).portion; of6 = (c.of6 i).portion; of7 = quiet (rules 7 config) e outs a.of7 b.of7 is c.of7 i })
     s low
 
 gains_parts : (here : Bool) (p : Portion) (c : Counts) → (gains_if here p c).parts ≡ p.parts
@@ -254,14 +272,13 @@ act_parts s c a b is = (
   ap (λ (h : Holding). h.of7.parts) is ∙ gains_parts (s == 7) a.of7.portion c,
 )
 
-pub acted_at : (o o2 : Operator) (e : Event) (outs : List Out) (s : ℕ) → shard_of e ≡ Some s → s < 8 → ActsAt s o.shards e outs o2.shards → Acted o e outs o2
-acted_at o o2 e outs s is low acts =
-    let g = act_gains e outs o.shards o2.shards s low acts in
+pub acted_at : (config : Config) (o o2 : Operator) (e : Event) (outs : List Out) (s : ℕ) → IsTrue (is_command e) → shard_of e ≡ Some s → s < 8 → ActsAt config s o.shards e outs o2.shards → Acted config o e outs o2
+acted_at config o o2 e outs s command is low acts =
+    let g = act_gains config e outs o.shards o2.shards command s low acts in
     record {
       shard = s;
       shard_is = is;
       acted = acts;
-      dropped = g.0;
-      counted = ap sum_of g.1 ∙ sum_gains (holding_of o.shards) (counts_of outs g.0) s low;
-      parts = act_parts s (counts_of outs g.0) o.shards o2.shards g.1;
+      counted = ap sum_of g ∙ sum_gains (holding_of o.shards) (counts_of outs false) s low;
+      parts = act_parts s (counts_of outs false) o.shards o2.shards g;
     }

@@ -26,9 +26,10 @@ impl<B: Ledgers + Journals> LiveAp<B> {
         event: &Event,
     ) -> Result<Vec<Out>, AllocError>
         requires command { IsTrue (is_command event.now) }
-        ensures acted { IfOk result (λ outs. Acted operator.old event.now outs.items operator.new) }
+        ensures acted { IfOk result
+            (λ outs. Acted B.config operator.old event.now outs.items operator.new) }
         ensures headline { IfOk result
-            (λ outs. OperatorHeadline operator.old event.now outs.items operator.new) }
+            (λ outs. OperatorHeadline B.config operator.old event.now outs.items operator.new) }
         ensures refused { IfErr result (λ _. operator.new ≡ operator.old) }
         ensures same { operator.new ≡ record operator.old { shards = operator.new.shards } }
     {

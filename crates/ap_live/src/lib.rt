@@ -17,6 +17,7 @@
 
 mod acting;
 mod laws;
+mod listing;
 mod live;
 mod maps;
 mod opening;
@@ -25,6 +26,7 @@ mod submitting;
 mod tokens;
 mod upholding;
 
+pub use ap_core::{AgreementInForce, Known, KnownStation};
 pub use laws::{newcomers_law, tokens_law};
 pub use live::{LiveAp, Settings};
 pub use opening::Opened;

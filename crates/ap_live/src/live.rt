@@ -3,6 +3,7 @@
 ghost use Rattle.std.specs.Prelude.{◌≡◌};
 ghost use Rattle.ap_books.specs.Holdings.{HasParts, sum_of};
 ghost use Rattle.ap_books.specs.Reading.{Reads};
+ghost use Rattle.ap_shards.specs.Tokens.{CountJournals};
 ghost use Rattle.versions.specs.Lists.{Begins};
 ghost use Rattle.ap_live.specs.Tokens.{IsWorker};
 
@@ -51,11 +52,12 @@ impl<B: Ledgers + Journals> Model for LiveAp<B> {
 
 impl<B: Ledgers + Journals> LiveAp<B> {
     /// Given all parts of all ledgers: the sum of the books, which is what all shares have counted, mod
-    /// 2^64.
+    /// 2^64, and what the entries of the shards' journals count.
     pub fn gather<R: Wait>(&self, rt: &R, all: &mut Portions<B>) -> Totals
         requires { HasParts B.shares all.old }
         ensures same { all.new ≡ all.old }
         ensures sum { Reads result (sum_of all.old) }
+        ensures journals { CountJournals B.config all.old }
     {
         self.shards.gather(rt, all)
     }

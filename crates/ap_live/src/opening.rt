@@ -2,6 +2,8 @@
 
 ghost use Rattle.std.specs.Prelude.{◌≡◌, ◌<◌, ◌≤◌, [], IfOk, OnErr, OnOk};
 ghost use Rattle.versions.specs.Lists.{readers_of};
+ghost use Rattle.ap_queues.specs.Lines.{HasPutNothing};
+ghost use Rattle.ap_queues.specs.Passes.{taken_by};
 ghost use Rattle.ap_shards.specs.Opening.{AreNamed, whole};
 ghost use Rattle.ap_shards.specs.Tokens.{IsNewcomer};
 ghost use Rattle.ap_live.specs.Lives.{KeepsLive};
@@ -99,7 +101,8 @@ fn assembled<B: Ledgers + Journals>(
 
 impl<B: Ledgers + Journals> LiveAp<B> {
     /// An access point before any event, with no program, and tables of zeros. Its ledgers, each
-    /// divided into `PARTS` parts, and its journals are those of the new shards.
+    /// divided into `PARTS` parts, and its journals are those of the new shards. Its type names these,
+    /// and the configuration of the settings.
     pub fn open<R: Wait>(
         rt: &R,
         alloc: Global,
@@ -109,6 +112,7 @@ impl<B: Ledgers + Journals> LiveAp<B> {
         requires some { 0 < settings.workers }
         requires few { settings.workers ≤ 8 }
         requires named { AreNamed B.name_of B.shares B.journal_of new }
+        requires config { settings.link ≡ B.config }
         requires parts { B.shares ≡ parts_in_all }
         ensures { IfOk result
             (λ o. IsOpened settings.workers settings.shapes settings.draw o.ap o.publisher o.left) }
@@ -140,8 +144,8 @@ impl<B: Ledgers + Journals> LiveAp<B> {
         Ok(assembled(shards, places, list, draw, workers))
     }
 
-    /// The token of the next operator. Fault 62: all were given. Only tests show that 8 are. If it
-    /// fails, no part of a ledger is given.
+    /// The token of the next operator, which has put nothing. Fault 62: all were given. Only tests show
+    /// that 8 are. If it fails, no part of a ledger is given.
     pub fn operator(
         &mut self,
         alloc: Global,
@@ -151,6 +155,7 @@ impl<B: Ledgers + Journals> LiveAp<B> {
         ensures keeps { KeepsLive self.old self.new }
         ensures left { AreLeft self.new left.new }
         ensures own { IfOk result (IsOperator self.new) }
+        ensures unput { IfOk result (λ o. HasPutNothing self.new.queues o.lines) }
         ensures new { IfOk result (λ o. IsNewcomer left.old.shards o.shards) }
         ensures given { OnOk result (GaveToken left.old left.new) }
         ensures refused { OnErr result (GaveNothing left.old left.new) }
@@ -171,8 +176,9 @@ impl<B: Ledgers + Journals> LiveAp<B> {
         })
     }
 
-    /// The token of a worker, given once; after that, fault 62. Only tests show that it is given. If it
-    /// fails, no part of a ledger is given.
+    /// The token of a worker, which has taken nothing, and whose programs first draw the configured
+    /// word; given once, after that fault 62. Only tests show that it is given. If it fails, no part of
+    /// a ledger is given.
     pub fn worker(
         &mut self,
         alloc: Global,
@@ -185,6 +191,8 @@ impl<B: Ledgers + Journals> LiveAp<B> {
         ensures left { AreLeft self.new left.new }
         ensures own { IfOk result (IsWorker self.new) }
         ensures number { IfOk result (λ w. w.number ≡ number) }
+        ensures untaken { IfOk result (λ w. taken_by w.pass ≡ []) }
+        ensures draw { IfOk result (λ w. w.held.draw ≡ self.old.draw) }
         ensures new { IfOk result (λ w. IsNewcomer left.old.shards w.shards) }
         ensures given { OnOk result (GaveToken left.old left.new) }
         ensures refused { OnErr result (GaveNothing left.old left.new) }

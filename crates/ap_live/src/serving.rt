@@ -38,8 +38,9 @@ impl<B: Ledgers + Journals> LiveAp<B> {
         requires { IsWorker self.now worker.old }
         ensures own { IsWorker self.now worker.new }
         ensures number { worker.new.number ≡ worker.old.number }
-        ensures served { Served self.now worker.old worker.new list.old.items list.new.items }
-        ensures headline { WorkerHeadline self.now worker.old worker.new list.old.items
+        ensures served { Served B.config self.now worker.old worker.new list.old.items
+            list.new.items }
+        ensures headline { WorkerHeadline B.config self.now worker.old worker.new list.old.items
             list.new.items }
     {
         run_law();
@@ -72,7 +73,7 @@ impl<B: Ledgers + Journals> LiveAp<B> {
         requires { IsWorker self.now worker.old }
         ensures own { IsWorker self.now worker.new }
         ensures number { worker.new.number ≡ worker.old.number }
-        ensures served { IfSome result (λ t. ServedOne self.now worker.old t worker.new) }
+        ensures served { IfSome result (λ t. ServedOne B.config self.now worker.old t worker.new) }
         ensures none { IfNone result (progress_of worker.new ≡ progress_of worker.old) }
     {
         let queue = self.lines.queue(worker.number);
@@ -99,7 +100,7 @@ impl<B: Ledgers + Journals> LiveAp<B> {
         ensures own { IsWorker self.now worker.new }
         ensures number { worker.new.number ≡ worker.old.number }
         ensures pass { worker.new.pass ≡ worker.old.pass }
-        ensures became { Becomes self.now worker.old.number (progress_of worker.old)
+        ensures became { Becomes B.config self.now worker.old.number (progress_of worker.old)
             taken.entry.item.now.event taken.entry.item.now.shard result (progress_of worker.new) }
     {
         let Taken { item, gate } = taken;
@@ -128,8 +129,8 @@ impl<B: Ledgers + Journals> LiveAp<B> {
         ensures own { IsWorker self.now result.0 }
         ensures number { result.0.number ≡ worker.number }
         ensures pass { result.0.pass ≡ worker.pass }
-        ensures became { Becomes self.now worker.number (progress_of worker) item.now.event
-            item.now.shard result.1 (progress_of result.0) }
+        ensures became { Becomes B.config self.now worker.number (progress_of worker)
+            item.now.event item.now.shard result.1 (progress_of result.0) }
     {
         let WorkerToken {
             number,

@@ -1,13 +1,14 @@
-//! How an operator puts events.
+//! How an operator puts events, and what a worker took of them.
 
 ghost use Rattle.std.specs.Prelude.{◌≡◌, ◌<◌, ◌-◌, IfErr, OnOk};
-ghost use Rattle.ap_queues.specs.Lines.{puts_of};
+ghost use Rattle.ap_queues.specs.Lines.{AreTakenAt, numbers_of, puts_of};
+ghost use Rattle.ap_queues.specs.Passes.{taken_by};
 ghost use Rattle.ap_queues.specs.Putting.{IsTick, first_shard, shard_count, served};
 ghost use Rattle.ap_queues.specs.Refusing.{StopsAt};
-ghost use Rattle.ap_live.specs.Tokens.{IsOperator};
+ghost use Rattle.ap_live.specs.Tokens.{IsOperator, IsWorker};
 
 use crate::live::LiveAp;
-use crate::tokens::OperatorToken;
+use crate::tokens::{OperatorToken, WorkerToken};
 use ap_books::Ledgers;
 use ap_locked::Journals;
 use ap_model::Event;
@@ -61,5 +62,23 @@ impl<B: Ledgers + Journals> LiveAp<B> {
     {
         self.lines
             .submit_at(rt, &mut operator.lines, call, event, shard)
+    }
+
+    /// Brings a worker and an operator together: what the worker took of this operator is a prefix of
+    /// what that put into its queue, in order, once each. Does nothing at run time.
+    pub fn meet(&self, worker: &mut WorkerToken<B>, operator: &mut OperatorToken<B>)
+        requires worker { IsWorker self.now worker.old }
+        requires operator { IsOperator self.now operator.old }
+        ensures worker { IsWorker self.now worker.new }
+        ensures operator { IsOperator self.now operator.new }
+        ensures order { AreTakenAt worker.old.number operator.old.lines worker.old.pass }
+        ensures taken { taken_by worker.new.pass ≡ taken_by worker.old.pass }
+        ensures put { puts_of operator.new.lines ≡ puts_of operator.old.lines }
+        ensures numbers { numbers_of operator.new.lines ≡ numbers_of operator.old.lines }
+        ensures same { worker.new ≡ record worker.old { pass = worker.new.pass } }
+        ensures same_operator { operator.new ≡ record operator.old { lines = operator.new.lines } }
+    {
+        let WorkerToken { number, pass, .. } = worker;
+        self.lines.meet(*number, pass, &mut operator.lines);
     }
 }

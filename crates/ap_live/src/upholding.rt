@@ -13,7 +13,7 @@ use ap_locked::Journals;
 impl<B: Ledgers + Journals> WorkerToken<B> {
     /// Proves what the token upholds; does nothing at run time.
     pub fn known(&self)
-        ensures upholds { UpholdAll self.now.shards }
+        ensures upholds { UpholdAll B.config self.now.shards }
         ensures counted { counted_by self.now.shards ≡ own_counts self.now.shards }
     {
         run_law();
@@ -47,7 +47,7 @@ impl<B: Ledgers + Journals> WorkerToken<B> {
 impl<B: Ledgers + Journals> OperatorToken<B> {
     /// Proves what the token upholds; does nothing at run time.
     pub fn known(&self)
-        ensures upholds { UpholdAll self.now.shards }
+        ensures upholds { UpholdAll B.config self.now.shards }
         ensures counted { counted_by self.now.shards ≡ own_counts self.now.shards }
     {
         run_law();
@@ -58,7 +58,7 @@ impl<B: Ledgers + Journals> OperatorToken<B> {
 impl<B: Ledgers + Journals> LeftTokens<B> {
     /// Proves what the tokens uphold; does nothing at run time.
     pub fn known(&self)
-        ensures upholds { UpholdAll self.now.shards }
+        ensures upholds { UpholdAll B.config self.now.shards }
         ensures counted { counted_by self.now.shards ≡ own_counts self.now.shards }
     {
         run_law();

@@ -4,7 +4,7 @@ use Rattle.std.proofs.Math.Seq.{drop-append_seam}
 use mathlib.Core.List.{IsPrefix}
 use Rattle.ap_model.specs.Asks.{Ask, Answered}
 use Rattle.ap_model.specs.Readings.{Rules}
-use Rattle.ap_model.specs.Runs.{Entry, Handles, Run, rests, goes_on, opening}
+use Rattle.ap_model.specs.Runs.{Entry, Handles, rests, goes_on}
 use Rattle.ap_model.proofs.Appending.{run_append}
 use Rattle.ap_laws.specs.Asking.{ListsAsks}
 use Rattle.ap_core.specs.declared.shard.Shard.{Shard}
@@ -23,21 +23,21 @@ kept_with k s2 e = record { shard = s2; journal = k.journal ++ e ∷ []; counts 
 abbrev pub token_with : Token → List Entry → Entry → Token
 token_with t journal e = record { portion = gains t.portion (entry_counts e); seen = journal ++ e ∷ []; own = t.own ++ e ∷ [] }
 
-pub holds_with : (n : ℕ) (k : Kept) (s2 : Shard) (e : Entry) → Holds n k → Handles (rules_of k) (readings_of k) e (reads s2) → ruled s2 ≡ rules_of k → Holds n (kept_with k s2 e)
-holds_with n k s2 e h step same =
+pub holds_with : (rs : Rules) (k : Kept) (s2 : Shard) (e : Entry) → Holds rs k → Handles (rules_of k) (readings_of k) e (reads s2) → ruled s2 ≡ rules_of k → Holds rs (kept_with k s2 e)
+holds_with rs k s2 e h step same =
+    let under : Handles rs (readings_of k) e (reads s2) = subst (λ (r : Rules). Handles r (readings_of k) e (reads s2)) h.rules step in
     record {
-      number = ap (λ (c : Rules). c.shard) same ∙ h.number;
-      run = subst (λ (c : Rules). Run c opening (k.journal ++ e ∷ []) (reads s2)) (sym same)
-          (run_append (rules_of k) h.run (goes_on (readings_of k) (reads s2) (reads s2) e [] step (rests (reads s2))));
+      rules = same ∙ h.rules;
+      run = run_append rs h.run (goes_on (readings_of k) (reads s2) (reads s2) e [] under (rests (reads s2)));
       counted = ap (λ c. plus c (entry_counts e)) h.counted ∙ sym (counts_in-one k.journal e);
     }
 
 -- the shard handled the entries of its journal
-pub journal_handled : (n : ℕ) (k : Kept) → Holds n k → AreHandled n k.journal
-journal_handled n k h = record { rules = rules_of k; number = h.number; readings = readings_of k; run = h.run }
+pub journal_handled : (rs : Rules) (k : Kept) → Holds rs k → AreHandled rs k.journal
+journal_handled rs k h = record { readings = readings_of k; run = h.run }
 
-pub is_token_with : (n : ℕ) (t : Token) (journal : List Entry) (e : Entry) → IsToken n t → IsPrefix t.seen journal → AreHandled n (journal ++ e ∷ []) → IsToken n (token_with t journal e)
-is_token_with n t journal e is had_seen handled =
+pub is_token_with : (rs : Rules) (t : Token) (journal : List Entry) (e : Entry) → IsToken rs t → IsPrefix t.seen journal → AreHandled rs (journal ++ e ∷ []) → IsToken rs (token_with t journal e)
+is_token_with rs t journal e is had_seen handled =
     record {
       some = is.some;
       handled = handled;

@@ -27,11 +27,11 @@ rules_of k = ruled k.shard
 abbrev pub readings_of : Kept → Readings
 readings_of k = reads k.shard
 
--- what holds under the lock of this shard: the journal's entries lead from the opening to the readings, each as a step
--- of the link, and the books have counted exactly these entries
-pub record Holds (shard : ℕ) (k : Kept) : Type 0 where
-  pub number : (rules_of k).shard ≡ shard
-  pub run : Run (rules_of k) opening k.journal (readings_of k)
+-- what holds under the lock of the shard with this number and configuration: the journal's entries lead from the
+-- opening to the readings, each as a step of the link, and the books have counted exactly these entries
+pub record Holds (c : Rules) (k : Kept) : Type 0 where
+  pub rules : rules_of k ≡ c
+  pub run : Run c opening k.journal (readings_of k)
   pub counted : k.counts ≡ counts_in k.journal
 
 -- the entry of an event

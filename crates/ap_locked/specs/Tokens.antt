@@ -1,6 +1,7 @@
 -- A right to decide events at a shard.
 use Rattle.std.specs.Prelude.{◌≡◌, ◌<◌, ℕ, List, [], ◌∷◌}
 use mathlib.Core.List.{IsPrefix}
+pub use Rattle.ap_core.specs.Handles.{rules}
 use Rattle.ap_model.specs.Readings.{Readings, Rules}
 use Rattle.ap_model.specs.Runs.{Entry, Run, opening}
 use Rattle.ap_books.specs.Counts.{Portion, counts_in, none}
@@ -17,18 +18,22 @@ pub record Token : Type 0 where
   pub seen : List Entry
   pub own : List Entry
 
--- the shard of this number handled these entries from the opening, each as a step of the link
-pub record AreHandled (shard : ℕ) (entries : List Entry) : Type 0 where
-  pub rules : Rules
-  pub number : rules.shard ≡ shard
+-- a shard with this number and configuration handled these entries from the opening, each as a step of the link
+pub record AreHandled (c : Rules) (entries : List Entry) : Type 0 where
   pub readings : Readings
-  pub run : Run rules opening entries readings
+  pub run : Run c opening entries readings
+
+-- parts of the shard's ledgers that have counted exactly what it handled, from the opening on
+pub record CountJournal (c : Rules) (p : Portion) : Type 0 where
+  pub journal : List Entry
+  pub handled : AreHandled c journal
+  pub counted : p.counts ≡ counts_in journal
 
 -- what holds of each token of this shard: it has a part, the shard handled the seen entries, its own are among them,
 -- and its parts have counted its own
-pub record IsToken (shard : ℕ) (t : Token) : Type 0 where
+pub record IsToken (c : Rules) (t : Token) : Type 0 where
   pub some : 0 < t.portion.parts
-  pub handled : AreHandled shard t.seen
+  pub handled : AreHandled c t.seen
   pub among : IsAmong t.own t.seen
   pub counted : t.portion.counts ≡ counts_in t.own
 

@@ -1,19 +1,20 @@
 //! A shard with its journal and its books.
 
-ghost use Rattle.std.specs.Prelude.{◌≡◌, ◌<◌, ◌≤◌, [], IfOk};
+ghost use Rattle.std.specs.Prelude.{◌≡◌, ◌<◌, ◌≤◌, [], IfOk, OnOk};
 ghost use Rattle.ap_model.specs.Stations.{AreAssociated};
 ghost use Rattle.ap_core.specs.Handles.{rules};
+ghost use Rattle.ap_core.specs.Listing.{ListsAgreements, ListsStations};
 ghost use Rattle.ap_books.specs.Reading.{Reads};
 ghost use Rattle.ap_laws.specs.Headline.{LinkHolds};
 ghost use Rattle.ap_locked.specs.Kept.{Holds, rules_of, readings_of};
 ghost use Rattle.ap_locked.specs.Naming.{IsNamed};
-ghost use Rattle.ap_locked.specs.Tokens.{newcomer};
+ghost use Rattle.ap_locked.specs.Tokens.{CountJournal, KeepsOwn, newcomer};
 
 use crate::entry::JournalEntry;
 use crate::naming::{Journals, NewShard};
 use crate::token::ShardToken;
 use ap_books::{Ledgers, ShardBooks, Shares, Totals};
-use ap_core::Shard;
+use ap_core::{AgreementInForce, KnownStation, Shard};
 use ap_journal::{Author, Known, Past};
 use ap_laws::run_law;
 use ap_model::LinkConfig;
@@ -31,6 +32,7 @@ pub struct Locked<B: Ledgers + Journals, const SHARD: usize> {
 
 impl<B: Ledgers + Journals, const SHARD: usize> Model for Locked<B, SHARD> {
     ghost use Rattle.std.specs.Prelude.{◌≡◌};
+    ghost use Rattle.ap_core.specs.Handles.{rules};
     ghost use Rattle.ap_journal.specs.Beginnings.{MayAdd};
     ghost use Rattle.ap_locked.specs.Kept.{Kept, Holds};
 
@@ -38,12 +40,12 @@ impl<B: Ledgers + Journals, const SHARD: usize> Model for Locked<B, SHARD> {
 
     ghost view = { λ s. record { shard = s.shard; journal = s.journal.entries; counts = s.books } };
 
-    ghost invariant = { λ s. (s.journal.journal ≡ B.journal_of SHARD) × MayAdd s.author s.journal × Holds SHARD (record { shard = s.shard; journal = s.journal.entries; counts = s.books }) };
+    ghost invariant = { λ s. (s.journal.journal ≡ B.journal_of SHARD) × MayAdd s.author s.journal × Holds (rules SHARD B.config) (record { shard = s.shard; journal = s.journal.entries; counts = s.books }) };
 }
 
 impl<B: Ledgers + Journals, const SHARD: usize> Locked<B, SHARD> {
-    /// A shard that has handled nothing, with a copy of the configuration, and a token with all parts
-    /// of its ledgers.
+    /// A shard that has handled nothing, with a copy of the access point's configuration, and a token
+    /// with all parts of its ledgers.
     pub fn new(
         alloc: Global,
         config: &LinkConfig,
@@ -51,6 +53,7 @@ impl<B: Ledgers + Journals, const SHARD: usize> Locked<B, SHARD> {
     ) -> Result<(Locked<B, SHARD>, ShardToken<B, SHARD>), AllocError>
         requires shard { SHARD < 8 }
         requires named { IsNamed (B.name_of SHARD) B.shares (B.journal_of SHARD) new }
+        requires config { config.now ≡ B.config }
         requires some { 0 < B.shares }
         ensures rules { IfOk result (λ r. rules_of r.0 ≡ rules SHARD config.now) }
         ensures empty { IfOk result (λ r. r.0.journal ≡ []) }
@@ -76,14 +79,14 @@ impl<B: Ledgers + Journals, const SHARD: usize> Locked<B, SHARD> {
 
     /// Proves what holds under each lock; does nothing at run time.
     pub fn known(&self)
-        ensures { Holds SHARD self.now }
+        ensures { Holds (rules SHARD B.config) self.now }
     {
         let _books = &self.books;
     }
 
     /// Proves the main theorem of the shard at this moment; does nothing at run time.
     pub fn headline(&self)
-        ensures { LinkHolds (rules_of self.now) self.now.journal (readings_of self.now) }
+        ensures { LinkHolds (rules SHARD B.config) self.now.journal (readings_of self.now) }
     {
         run_law();
         self.known();
@@ -104,6 +107,35 @@ impl<B: Ledgers + Journals, const SHARD: usize> Locked<B, SHARD> {
         self.shard.stations()
     }
 
+    /// The known stations, each once with its standing, by increasing addresses.
+    pub fn known_stations(&self, alloc: Global) -> Result<Vec<KnownStation>, AllocError>
+        ensures { IfOk result (λ rows. ListsStations (readings_of self.now) rows.items) }
+    {
+        self.shard.known_stations(alloc)
+    }
+
+    /// The agreements in force, each once, by increasing addresses and TIDs.
+    pub fn agreements(&self, alloc: Global) -> Result<Vec<AgreementInForce>, AllocError>
+        ensures { IfOk result (λ rows. ListsAgreements (readings_of self.now) rows.items) }
+    {
+        self.shard.agreements(alloc)
+    }
+
+    /// The token then has seen the whole journal, of which it had seen a prefix. Fails only if the
+    /// journal is full, at about 2^61 entries, which no run reaches.
+    pub fn show(&mut self, mine: &mut ShardToken<B, SHARD>) -> Result<(), AllocError>
+        ensures same { self.new ≡ self.old }
+        ensures seen { OnOk result (mine.new.seen ≡ self.old.journal) }
+        ensures keeps { KeepsOwn mine.old mine.new }
+    {
+        if !self.author.prepare(&self.journal) {
+            return Err(AllocError);
+        }
+        self.author.look(&self.journal, &mine.seen);
+        mine.seen = self.journal.again();
+        Ok(())
+    }
+
     /// What the books have counted, mod 2^64.
     pub fn totals(&self) -> Totals
         ensures { Reads result self.now.counts }
@@ -112,12 +144,13 @@ impl<B: Ledgers + Journals, const SHARD: usize> Locked<B, SHARD> {
     }
 
     /// Given all parts of the ledgers: what the books have counted, mod 2^64, which is what the shares
-    /// have counted.
+    /// have counted, and what the journal's entries count.
     pub fn read(&mut self, all: &mut Shares<B, SHARD>) -> Totals
         requires { all.old.parts ≡ B.shares }
         ensures same { self.new ≡ self.old }
         ensures shares { all.new ≡ all.old }
         ensures whole { all.old.counts ≡ self.old.counts }
+        ensures journal { CountJournal (rules SHARD B.config) all.old }
         ensures totals { Reads result self.old.counts }
     {
         self.books.read(all)

@@ -2,6 +2,7 @@
 
 ghost use Rattle.std.specs.Prelude.{◌≡◌, ◌+◌, ◌<◌, []};
 ghost use Rattle.ap_books.specs.Counts.{none};
+ghost use Rattle.ap_core.specs.Handles.{rules};
 ghost use Rattle.ap_locked.specs.Tokens.{IsToken, KeepsOwn, newcomer};
 
 use crate::entry::JournalEntry;
@@ -22,19 +23,20 @@ pub struct ShardToken<B: Ledgers + Journals, const SHARD: usize> {
 
 impl<B: Ledgers + Journals, const SHARD: usize> Model for ShardToken<B, SHARD> {
     ghost use Rattle.std.specs.Prelude.{◌≡◌};
+    ghost use Rattle.ap_core.specs.Handles.{rules};
     ghost use Rattle.ap_locked.specs.Tokens.{Token, IsToken};
 
     ghost Value = { Token };
 
     ghost view = { λ t. record { portion = t.shares; seen = t.seen.entries; own = t.own } };
 
-    ghost invariant = { λ t. (t.seen.journal ≡ B.journal_of SHARD) × IsToken SHARD (record { portion = t.shares; seen = t.seen.entries; own = t.own }) };
+    ghost invariant = { λ t. (t.seen.journal ≡ B.journal_of SHARD) × IsToken (rules SHARD B.config) (record { portion = t.shares; seen = t.seen.entries; own = t.own }) };
 }
 
 impl<B: Ledgers + Journals, const SHARD: usize> ShardToken<B, SHARD> {
     /// Proves what holds of each token; does nothing at run time.
     pub fn known(&self)
-        ensures { IsToken SHARD self.now }
+        ensures { IsToken (rules SHARD B.config) self.now }
     {
         let _shares = &self.shares;
     }

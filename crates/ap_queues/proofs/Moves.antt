@@ -164,6 +164,20 @@ hires pass v a items views h at =
           ((λ p. no p), (λ p. no p), (λ _. (moved_here v.made k h.3, (omega arith), sym (h.7 v.made (omega arith))))),
     )
 
+-- a handle that may do nothing
+pub spares : (pass : ℕ) (v : View) → Forks OneQueue pass v v nobody
+spares pass v items views h at = (
+  h.0,
+  h.1,
+  h.2,
+  h.3,
+  h.4,
+  h.5,
+  h.6,
+  h.7,
+  fork_all (Fits h.0 h.1 h.2 h.3 h.4 h.5) views pass v nobody (h.8 pass v at) (λ j u apart e. h.8 j u e) ((λ p. no p), (λ p. no p), (λ p. no p)),
+)
+
 -- the worker takes an operator's handle
 pub meets : (pass : ℕ) (v : View) (other : ℕ) (w : View) → v.takes ≡ true → w.puts ≡ true → Merges OneQueue pass v other w (both v.taken w.operator w.put) nobody
 meets pass v other w a b items views h at two at' =

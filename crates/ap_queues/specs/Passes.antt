@@ -1,5 +1,5 @@
 -- What callers see of a queue's handles.
-use Rattle.std.specs.Prelude.{◌≡◌, ℕ, List, ◌++◌}
+use Rattle.std.specs.Prelude.{◌≡◌, ℕ, List, [], ◌++◌}
 use Rattle.crossbeam_queue.specs.Passes.{view, IsPassOf}
 use Rattle.crossbeam_queue.specs.Fifo.{Held}
 use Rattle.ap_queues.specs.Items.{Item}
@@ -33,6 +33,11 @@ put_by p = (view p.pass).put
 -- what the worker took so far, in order
 abbrev pub taken_by : WorkerPass → List Queued
 taken_by w = (view w.pass).taken
+
+-- it takes from this queue, and has taken nothing yet
+pub record IsNewWorkerOf (q : EventQueue) (w : WorkerPass) : Type 0 where
+  pub own : IsWorkerOf q w
+  pub nothing : taken_by w ≡ []
 
 -- at a moment of the call the queue held 256 items, of which this operator's own were the last that it had put
 abbrev pub WasFull : OperatorPass → Type 0

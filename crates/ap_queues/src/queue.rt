@@ -4,11 +4,11 @@ ghost use Rattle.std.specs.Prelude.{◌≡◌, ◌+◌, ◌<◌, ◌≤◌, ◌+
 ghost use Rattle.crossbeam_queue.specs.Passes.{view, ruled_capacity};
 
 use crate::item::{Item, Queued, View};
-use crate::rule::{Founding, Hiring, Meeting, OneQueue, Parting, Puts, Takes, Whole};
+use crate::rule::{Founding, Hiring, Meeting, OneQueue, Parting, Puts, Sparing, Takes, Whole};
 use crossbeam_queue::{Pass, RuledArrayQueue};
 use std::alloc::{AllocError, Global};
-use std::fmt;
 use std::sync::Wait;
+use std::{fmt, mem};
 
 /// The most events that a queue holds.
 const ROOM: usize = 256;
@@ -137,22 +137,23 @@ impl EventQueue {
 
     /// Brings a worker and an operator together: what was taken of this operator is a prefix of what it
     /// put, in its order, once each. Does nothing at run time.
-    pub fn meet(&self, worker: &mut WorkerPass, operator: OperatorPass) -> OperatorPass
+    pub fn meet(&self, worker: &mut WorkerPass, operator: &mut OperatorPass)
         requires worker { IsWorkerOf self.now worker.old }
-        requires operator { IsOperatorOf self.now operator }
+        requires operator { IsOperatorOf self.now operator.old }
         ensures worker { IsWorkerOf self.now worker.new }
-        ensures operator { IsOperatorOf self.now result }
+        ensures operator { IsOperatorOf self.now operator.new }
         ensures taken { taken_by worker.new ≡ taken_by worker.old }
-        ensures number { number_of result ≡ number_of operator }
-        ensures put { put_by result ≡ put_by operator }
-        ensures order { AreTaken operator worker.old }
+        ensures number { number_of operator.new ≡ number_of operator.old }
+        ensures put { put_by operator.new ≡ put_by operator.old }
+        ensures order { AreTaken operator.old worker.old }
     {
-        let OperatorPass { number, pass } = operator;
         let mine = &mut worker.pass;
-        self.queue.absorb::<Meeting>(mine, pass);
+        let spare = self.queue.another::<Sparing>(mine);
+        let OperatorPass { number: _, pass } = operator;
+        let theirs = mem::replace(pass, spare);
+        self.queue.absorb::<Meeting>(mine, theirs);
         self.queue.learn_as::<Whole>(mine);
-        let pass = self.queue.another::<Parting>(mine);
-        OperatorPass { number, pass }
+        *pass = self.queue.another::<Parting>(mine);
     }
 }
 

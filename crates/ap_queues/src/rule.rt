@@ -76,6 +76,17 @@ impl Split<View> for Hiring {
     ghost right = { λ v. operator v.made [] };
 }
 
+/// A handle that may do nothing, which holds an operator's place while the worker has its handle.
+pub(crate) struct Sparing;
+
+impl Split<View> for Sparing {
+    ghost use Rattle.ap_queues.specs.Queues.{nobody};
+
+    ghost left = { λ v. v };
+
+    ghost right = { λ _. nobody };
+}
+
 /// The worker takes an operator's handle.
 pub(crate) struct Meeting;
 

@@ -4,3 +4,4 @@ pub mod Desks
 pub mod Fates
 pub mod Opening
 pub mod Renewal
+pub mod Listing

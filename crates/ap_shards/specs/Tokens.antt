@@ -1,7 +1,8 @@
 -- Tokens of all shards.
 use Rattle.std.specs.Prelude.{◌≡◌, ◌+◌, ◌<◌}
+use Rattle.ap_model.specs.Readings.{Config}
 use Rattle.ap_books.specs.Holdings.{Holding}
-use Rattle.ap_locked.specs.Tokens.{Token, IsToken, KeepsOwn, newcomer}
+use Rattle.ap_locked.specs.Tokens.{CountJournal, Token, IsToken, KeepsOwn, newcomer, rules}
 
 -- a token of each shard
 pub record Eight : Type 0 where
@@ -53,11 +54,21 @@ pub record GaveOne (t u : Token) : Type 0 where
 abbrev pub HasGivenOne : Eight → Eight → Type 0
 HasGivenOne a b = EachOf GaveOne a b
 
--- what holds of each shard's token
-abbrev pub AreTokens : Eight → Type 0
-AreTokens e =
-    IsToken 0 e.of0 × IsToken 1 e.of1 × IsToken 2 e.of2 × IsToken 3 e.of3
-    × IsToken 4 e.of4 × IsToken 5 e.of5 × IsToken 6 e.of6 × IsToken 7 e.of7
+-- what holds of each shard's token, under this configuration
+abbrev pub AreTokens : Config → Eight → Type 0
+AreTokens config e =
+    IsToken (rules 0 config) e.of0 × IsToken (rules 1 config) e.of1
+    × IsToken (rules 2 config) e.of2 × IsToken (rules 3 config) e.of3
+    × IsToken (rules 4 config) e.of4 × IsToken (rules 5 config) e.of5
+    × IsToken (rules 6 config) e.of6 × IsToken (rules 7 config) e.of7
+
+-- parts of the ledgers of all shards that have counted exactly the shards' journals, under this configuration
+abbrev pub CountJournals : Config → Holding → Type 0
+CountJournals config h =
+    CountJournal (rules 0 config) h.of0 × CountJournal (rules 1 config) h.of1
+    × CountJournal (rules 2 config) h.of2 × CountJournal (rules 3 config) h.of3
+    × CountJournal (rules 4 config) h.of4 × CountJournal (rules 5 config) h.of5
+    × CountJournal (rules 6 config) h.of6 × CountJournal (rules 7 config) h.of7
 
 -- they may have seen more; nothing else changed
 abbrev pub KeepOwn : Eight → Eight → Type 0

@@ -1,6 +1,7 @@
 //! A command, under the lock of its shard.
 
 ghost use Rattle.std.specs.Prelude.{◌≡◌, ◌<◌, IfOk, IfErr};
+ghost use Rattle.ap_locked.specs.Tokens.{rules};
 ghost use Rattle.ap_shards.specs.Fates.{Acts, ActsAt};
 
 use crate::shards::Shards;
@@ -17,7 +18,8 @@ fn act_at<B: Ledgers + Journals, const SHARD: usize>(
     mine: &mut ShardToken<B, SHARD>,
     event: &Event,
 ) -> Result<Vec<Out>, AllocError>
-    ensures acted { IfOk result (λ outs. Acts SHARD mine.old event.now outs.items mine.new) }
+    ensures acted { IfOk result (λ outs. Acts (rules SHARD B.config)
+        mine.old event.now outs.items mine.new) }
     ensures refused { IfErr result (λ _. mine.new ≡ mine.old) }
 {
     locked.known();
@@ -34,7 +36,8 @@ fn act_under<B: Ledgers + Journals, const SHARD: usize, R: Wait>(
     mine: &mut ShardToken<B, SHARD>,
     event: &Event,
 ) -> Result<Vec<Out>, AllocError>
-    ensures acted { IfOk result (λ outs. Acts SHARD mine.old event.now outs.items mine.new) }
+    ensures acted { IfOk result (λ outs. Acts (rules SHARD B.config)
+        mine.old event.now outs.items mine.new) }
     ensures refused { IfErr result (λ _. mine.new ≡ mine.old) }
 {
     let mut locked = lock.lock(rt);
@@ -52,7 +55,7 @@ impl<B: Ledgers + Journals> Shards<B> {
         at: (u16, &Event),
     ) -> Result<Vec<Out>, AllocError>
         requires { at.0 < 8 }
-        ensures acted { IfOk result (λ outs. ActsAt
+        ensures acted { IfOk result (λ outs. ActsAt B.config
             at.entry.0 mine.old at.entry.1.now outs.items mine.new) }
         ensures refused { IfErr result (λ _. mine.new ≡ mine.old) }
     {

@@ -2,6 +2,7 @@
 
 ghost use Rattle.std.specs.Prelude.{◌≡◌, ◌<◌};
 ghost use Rattle.bpf_helpers.specs.Hooked.{IsFitting};
+ghost use Rattle.ap_locked.specs.Tokens.{rules};
 ghost use Rattle.ap_shards.specs.Desks.{ByDesk};
 ghost use Rattle.ap_shards.specs.Fates.{Comes, ComesAt};
 ghost use Rattle.ap_shards.specs.Judged.{HoldsOn, WasTaken};
@@ -27,7 +28,7 @@ fn decide_at<B: Ledgers + Journals, const SHARD: usize>(
 ) -> Fate
     requires { IsFitting desk.maps.now desk.worker state.old.seats }
     ensures fate { Comes (ByDesk desk.entry state.old state.new)
-        SHARD mine.old event.now result mine.new }
+        (rules SHARD B.config) mine.old event.now result mine.new }
     ensures taken { WasTaken result }
     ensures holds { HoldsOn result state.old state.new }
     ensures fitting { IsFitting desk.entry.maps.now desk.entry.worker state.new.seats }
@@ -58,7 +59,7 @@ fn decide_under<B: Ledgers + Journals, const SHARD: usize, R: Wait>(
 ) -> Fate
     requires { IsFitting desk.maps.now desk.worker state.old.seats }
     ensures fate { Comes (ByDesk desk.entry state.old state.new)
-        SHARD mine.old event.now result mine.new }
+        (rules SHARD B.config) mine.old event.now result mine.new }
     ensures taken { WasTaken result }
     ensures holds { HoldsOn result state.old state.new }
     ensures fitting { IsFitting desk.entry.maps.now desk.entry.worker state.new.seats }
@@ -82,7 +83,7 @@ impl<B: Ledgers + Journals> Shards<B> {
         requires shard { at.0 < 8 }
         requires fitting { IsFitting desk.maps.now desk.worker state.old.seats }
         ensures fate { ComesAt (ByDesk desk.entry state.old state.new)
-            at.entry.0 mine.old at.entry.1.now result mine.new }
+            B.config at.entry.0 mine.old at.entry.1.now result mine.new }
         ensures taken { WasTaken result }
         ensures holds { HoldsOn result state.old state.new }
         ensures fitting { IsFitting desk.entry.maps.now desk.entry.worker state.new.seats }

@@ -12,6 +12,7 @@ mod acting;
 mod deciding;
 mod desk;
 mod gathering;
+mod listing;
 mod opening;
 mod renewing;
 mod shards;

@@ -89,6 +89,7 @@ fn open_one<B: Ledgers + Journals, const SHARD: usize>(
 ) -> Result<Opened<B, SHARD>, AllocError>
     requires shard { SHARD < 8 }
     requires named { IsNamed (B.name_of SHARD) B.shares (B.journal_of SHARD) new }
+    requires config { config.now ≡ B.config }
     requires some { 0 < B.shares }
     ensures { IfOk result (λ r. r.mine ≡ newcomer B.shares []) }
 {
@@ -108,6 +109,7 @@ fn open_two<B: Ledgers + Journals, const FIRST: usize, const SECOND: usize>(
     requires second { SECOND < 8 }
     requires named_first { IsNamed (B.name_of FIRST) B.shares (B.journal_of FIRST) new.0 }
     requires named_second { IsNamed (B.name_of SECOND) B.shares (B.journal_of SECOND) new.1 }
+    requires config { config.now ≡ B.config }
     requires some { 0 < B.shares }
     ensures first { IfOk result (λ r. r.first.mine ≡ newcomer B.shares []) }
     ensures second { IfOk result (λ r. r.second.mine ≡ newcomer B.shares []) }
@@ -136,6 +138,7 @@ fn open_four<
     requires named_second { IsNamed (B.name_of SECOND) B.shares (B.journal_of SECOND) new.0.1 }
     requires named_third { IsNamed (B.name_of THIRD) B.shares (B.journal_of THIRD) new.1.0 }
     requires named_fourth { IsNamed (B.name_of FOURTH) B.shares (B.journal_of FOURTH) new.1.1 }
+    requires config { config.now ≡ B.config }
     requires some { 0 < B.shares }
     ensures first { IfOk result (λ r. r.low.first.mine ≡ newcomer B.shares []) }
     ensures second { IfOk result (λ r. r.low.second.mine ≡ newcomer B.shares []) }
@@ -196,13 +199,15 @@ fn joined<B: Ledgers + Journals>(
 impl<B: Ledgers + Journals> Shards<B> {
     ghost use Rattle.ap_shards.specs.Opening.{AreNamed, whole};
 
-    /// Eight new shards, and tokens with all parts of their ledgers.
+    /// Eight new shards with the access point's configuration, and tokens with all parts of their
+    /// ledgers.
     pub fn open(
         alloc: Global,
         config: &LinkConfig,
         new: NewShards,
     ) -> Result<(Shards<B>, ShardTokens<B>), AllocError>
         requires named { AreNamed B.name_of B.shares B.journal_of new }
+        requires config { config.now ≡ B.config }
         requires some { 0 < B.shares }
         ensures tokens { IfOk result (λ r. r.1 ≡ whole B.shares) }
     {

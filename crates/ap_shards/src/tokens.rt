@@ -32,7 +32,7 @@ impl<B: Ledgers + Journals> ShardTokens<B> {
 
     /// Proves what holds of each token; does nothing at run time.
     pub fn known(&self)
-        ensures { AreTokens self.now }
+        ensures { AreTokens B.config self.now }
     {
         self.of0.known();
         self.of1.known();

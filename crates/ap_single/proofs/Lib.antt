@@ -1,1 +1,2 @@
 mod Leading
+mod Listing

@@ -1,19 +1,23 @@
 //! Eight shards and programs.
 
-ghost use Rattle.std.specs.Prelude.{◌≡◌, ℕ, length, None, Some, ◌∷◌, [], IfOk, IfSome};
+ghost use Rattle.std.specs.Prelude.{◌≡◌, ℕ, length, map, None, Some, ◌∷◌, [], IfOk, IfSome};
 ghost use Rattle.std.specs.Option.{option_map};
 ghost use Rattle.bpf_helpers.specs.Hooked.{IsFitting, shapes_of};
 ghost use Rattle.bpf_helpers.specs.HookPorts.{given_by};
 ghost use Rattle.ap_model.specs.AccessPoint.{shard_of};
 ghost use Rattle.ap_core.specs.Shards.{reads};
 ghost use Rattle.ap_core.specs.AccessPoints.{readings_of, outs_in, AreFresh};
+ghost use Rattle.ap_core.specs.Listing.{Joins, ListsAgreements, ListsStations, MergesAgreements, MergesStations};
 ghost use Rattle.program_judge.specs.Programs.{IsFor, no_programs, replaced};
 ghost use Rattle.ap_single.specs.Leading.{IsGiven, IsLike, Leads};
 
-use ap_core::{Event, LinkConfig, Out, Shard, handle_all, new_shards, shard_of};
+use ap_core::{
+    AgreementInForce, Event, KnownStation, LinkConfig, Out, Shard, handle_all, new_shards, shard_of,
+};
 use bpf_helpers::{MapTables, WorkerState, WorkerView};
 use bpf_machine::Accepted;
 use bpf_regions::{Hook, Shapes};
+use mac_types::{Address, Tid};
 use program_judge::{ProgramJudge, Programs, judged_law};
 use std::alloc::{AllocError, Global};
 use std::marker::Model;
@@ -75,6 +79,30 @@ fn only(results: Vec<Option<Vec<Out>>>) -> Option<Vec<Out>>
     }
 }
 
+/// The known stations of each shard, one shard after another.
+fn stations_of(alloc: Global, shards: &[Shard]) -> Result<Vec<KnownStation>, AllocError>
+    ensures { IfOk result (λ rows. Joins ListsStations (map reads shards.now) rows.items) }
+{
+    let mut rows = Vec::new(alloc);
+    for shard in shards {
+        let more = shard.known_stations(alloc)?;
+        rows.extend_from_slice(&more)?;
+    }
+    Ok(rows)
+}
+
+/// The agreements in force of each shard, one shard after another.
+fn agreements_of(alloc: Global, shards: &[Shard]) -> Result<Vec<AgreementInForce>, AllocError>
+    ensures { IfOk result (λ rows. Joins ListsAgreements (map reads shards.now) rows.items) }
+{
+    let mut rows = Vec::new(alloc);
+    for shard in shards {
+        let more = shard.agreements(alloc)?;
+        rows.extend_from_slice(&more)?;
+    }
+    Ok(rows)
+}
+
 impl AccessPoint {
     /// An access point that has handled nothing and has no programs, for maps of these shapes.
     pub fn new(alloc: Global, config: &LinkConfig, shapes: Shapes) -> Result<Self, AllocError>
@@ -91,6 +119,24 @@ impl AccessPoint {
         ensures { result.now ≡ self.now.programs.shapes }
     {
         self.programs.shapes()
+    }
+
+    /// The known stations of all shards, each with its standing, ordered by address.
+    pub fn known_stations(&self, alloc: Global) -> Result<Vec<KnownStation>, AllocError>
+        ensures { IfOk result (λ rows. MergesStations (map reads self.now.shards) rows.items) }
+    {
+        let mut rows = stations_of(alloc, &self.shards)?;
+        rows.sort_unstable_by_key(|row| row.station);
+        Ok(rows)
+    }
+
+    /// The agreements in force of all shards, ordered by address and TID.
+    pub fn agreements(&self, alloc: Global) -> Result<Vec<AgreementInForce>, AllocError>
+        ensures { IfOk result (λ rows. MergesAgreements (map reads self.now.shards) rows.items) }
+    {
+        let mut rows = agreements_of(alloc, &self.shards)?;
+        rows.sort_unstable_by_key(|row| -> (Address, Tid) { (row.station, row.tid) });
+        Ok(rows)
     }
 
     /// Puts this program, or none, in place of a hook's program.

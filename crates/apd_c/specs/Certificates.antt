@@ -1,5 +1,5 @@
 -- Certificates, as C sees them.
-use Rattle.std.specs.Prelude.{◌≡◌, ◌⊎◌, ℕ, List, [], map, Option, Some}
+use Rattle.std.specs.Prelude.{◌≡◌, ◌≢◌, ◌⊎◌, ◌==◌, if◌then◌else◌, ℕ, List, [], map, Option, Some, None}
 use Rattle.bpf_regions.specs.declared.hooks.Hook.{Hook}
 use Rattle.bpf_regions.specs.declared.maps.Shape.{Shape}
 use Rattle.bpf_regions.specs.Hooks.{number_of}
@@ -55,17 +55,25 @@ pub record IsUnshown (hook : Hook) (bytes : List ℕ) (shapes : List Shape) (cer
   pub refuses : Refuses program hook certificate fault
   pub number : answer.number ≡ faults.number_of fault
 
+-- the limit of work that C passes; 0 stands for none
+abbrev pub work_limit : ℕ → Option ℕ
+work_limit work = if work == 0 then None else Some work
+
+-- there is a limit of work, and the answer is 36
+abbrev pub IsTooMuchWork : Option ℕ → Answer → Type 0
+IsTooMuchWork most a = (most ≢ None) × (a ≡ answer 36)
+
 -- 0, or why the program isn't admitted
-abbrev pub IsShownOr : ℕ → List ℕ → List Shape → List ℕ → Answer → Type 0
-IsShownOr hook bytes shapes certificate a =
-    (a ≡ answer 0) ⊎ IsUndecoded bytes shapes a ⊎ ((h : Hook) × (hook ≡ number_of h) × IsUnshown h bytes shapes certificate a)
+abbrev pub IsShownOr : ℕ → List ℕ → List Shape → List ℕ → Option ℕ → Answer → Type 0
+IsShownOr hook bytes shapes certificate most a =
+    (a ≡ answer 0) ⊎ IsUndecoded bytes shapes a ⊎ ((h : Hook) × (hook ≡ number_of h) × IsUnshown h bytes shapes certificate a) ⊎ IsTooMuchWork most a
 
 -- The answer of filling an empty handle by a certificate: 92 exactly if it isn't empty; otherwise perhaps 40; otherwise
 -- 90 exactly if there is no such hook or the shapes are out of their limits; otherwise 0, or why the program isn't
--- admitted.
-abbrev pub IsCheckVerdict : ℕ → List ℕ → List MapShape → List ℕ → Option Content → Answer → Type 0
-IsCheckVerdict hook bytes shapes certificate o =
-    UnlessNone o (answer 92) (Perhaps (answer 40) (Unless (IsAskable hook shapes) (answer 90) (IsShownOr hook bytes (map shape_of shapes) certificate)))
+-- admitted, which is 36 only if there is a limit of work.
+abbrev pub IsCheckVerdict : ℕ → List ℕ → List MapShape → List ℕ → Option ℕ → Option Content → Answer → Type 0
+IsCheckVerdict hook bytes shapes certificate most o =
+    UnlessNone o (answer 92) (Perhaps (answer 40) (Unless (IsAskable hook shapes) (answer 90) (IsShownOr hook bytes (map shape_of shapes) certificate most)))
 
 -- A verifier's fault, or 40, at a slot that begins an instruction.
 pub record IsUncertified (program : Verified) (answer : Answer) : Type 0 where

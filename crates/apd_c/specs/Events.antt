@@ -8,7 +8,7 @@ use Rattle.apd_c.specs.declared.handle.Content.TheVariants as content
 use Rattle.apd_c.specs.declared.maps.Maps.{Maps}
 use Rattle.apd_c.specs.Answers.{IsDone, Perhaps, Unless, UnlessNone, UnlessSome}
 use Rattle.apd_c.specs.Link.{link_of}
-use Rattle.apd_c.specs.Outs.{outs_of}
+use Rattle.apd_c.specs.Outs.{outs_of, user_of}
 use Rattle.apd_c.specs.Words.{maps_of}
 
 -- the maps are the same
@@ -44,10 +44,11 @@ pub data Stays (o o' : Option Content) : Type 0 where
   like : (a a' : Parts) → link_of o ≡ Some a → link_of o' ≡ Some a' → IsLike a a' → Stays o o'
   kept : (m m' : Maps) → o ≡ Some (content.Maps m) → o' ≡ Some (content.Maps m') → IsSame m m' → Stays o o'
 
--- The result of an event at the access point of one handle, over the maps of another: 0 fills a third with the outputs;
--- a refusal leaves readings, maps and the third unchanged.
-pub record Serves (event : Event) (o maps outs : Option Content) (number : ℕ) (o' maps' outs' : Option Content) : Type 0 where
+-- The result of an event at the access point of one handle, over the maps of another: 0 fills a third with the outputs
+-- and the caller's number; a refusal leaves readings, maps and the third unchanged.
+pub record Serves (event : Event) (user : ℕ) (o maps outs : Option Content) (number : ℕ) (o' maps' outs' : Option Content) : Type 0 where
   pub led : number ≡ 0 → LeadsTo event o maps outs' o' maps'
+  pub named : number ≡ 0 → user_of outs' ≡ user
   pub link : number ≢ 0 → Stays o o'
   pub maps_stay : number ≢ 0 → Stays maps maps'
   pub outs_stay : number ≢ 0 → outs' ≡ outs

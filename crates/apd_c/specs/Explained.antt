@@ -16,7 +16,7 @@ sentences =
     (16, codes "the code can be left at its end") ∷
     (17, codes "r10 is written") ∷
     (18, codes "no such helper") ∷
-    (19, codes "no such map") ∷
+    (19, codes "no such map, or no such byte in it") ∷
     (30, codes "something unset is read") ∷
     (31, codes "the operation does not take such a value") ∷
     (32, codes "an access may leave its region") ∷
@@ -64,5 +64,11 @@ IsSentence number text = (text ≡ []) ⊎ (text ≡ sentence_of number)
 pub record Explains (number count : ℕ) (into into' : List ℕ) : Type 0 where
   pub text : List ℕ
   pub is : IsSentence number text
+  pub length_is : count ≡ length text
+  pub copied : take (min count (length into)) into' ≡ take (min count (length into)) text
+
+-- As much as fits of a text is copied, and its length is returned.
+pub record CopiesText (count : ℕ) (into into' : List ℕ) : Type 0 where
+  pub text : List ℕ
   pub length_is : count ≡ length text
   pub copied : take (min count (length into)) into' ≡ take (min count (length into)) text

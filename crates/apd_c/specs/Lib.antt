@@ -8,5 +8,6 @@ pub mod Runs
 pub mod Certificates
 pub mod Link
 pub mod Outs
+pub mod Listing
 pub mod Events
 pub mod Explained

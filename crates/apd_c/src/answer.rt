@@ -21,6 +21,8 @@ pub(crate) const NOT_EMPTY: u32 = 92;
 pub(crate) const OTHER_MAPS: u32 = 93;
 /// The program was verified for another hook.
 pub(crate) const OTHER_HOOK: u32 = 95;
+/// The check of a certificate needs more work than its limit.
+pub(crate) const TOO_MUCH_WORK: u32 = 36;
 /// An allocation failed.
 pub(crate) const NO_MEMORY: u32 = 40;
 

@@ -6,14 +6,14 @@ ghost use Rattle.bpf_regions.specs.Hooks.{number_of};
 ghost use Rattle.apd_c.specs.Answers.{UnlessSome, answer};
 ghost use Rattle.apd_c.specs.Held.{held};
 ghost use Rattle.apd_c.specs.Given.{IsAskable, shape_of};
-ghost use Rattle.apd_c.specs.Certificates.{IsShown, Certifies, HoldsCertificate, HoldsShown, IsUnshown, IsCertifiedOr, IsCertifyAnswer, IsCheckVerdict, bytes_of};
+ghost use Rattle.apd_c.specs.Certificates.{IsShown, Certifies, HoldsCertificate, HoldsShown, IsUnshown, IsCertifiedOr, IsCertifyAnswer, IsCheckVerdict, IsTooMuchWork, bytes_of, work_limit};
 ghost use Rattle.apd_c.specs.Code.{IsUndecoded, code_of};
 
-use crate::answer::{Answer, NO_MEMORY, NOT_EMPTY, OTHER_VALUE, OUT_OF_LIMITS};
+use crate::answer::{Answer, NO_MEMORY, NOT_EMPTY, OTHER_VALUE, OUT_OF_LIMITS, TOO_MUCH_WORK};
 use crate::code::hook_of;
 use crate::handle::{Content, Handle};
 use crate::shapes::{MapShape, shapes_from};
-use bpf_cert::{certificate, check};
+use bpf_cert::{WithinFault, certificate, check_within};
 use bpf_decode::decode;
 use bpf_machine::Accepted;
 use bpf_regions::{Hook, Shapes};
@@ -85,18 +85,33 @@ pub extern "C" fn apd_c_certify(
     }
 }
 
+/// The bytes of a certificate, and the most work that its check may take.
+#[derive(Clone, Copy)]
+struct Certificate<'a> {
+    bytes: &'a [u8],
+    most: Option<u64>,
+}
+
+/// The limit of work that C passes; 0 stands for none.
+fn work_limit(work: u64) -> Option<u64>
+    ensures { result ≡ work_limit work }
+{
+    if work == 0 { None } else { Some(work) }
+}
+
 /// The program that the bytes spell, if a certificate shows it safe within a budget.
 fn shown(
     alloc: Global,
     hook: Hook,
     bytes: &[u8],
     shapes: Shapes,
-    certificate: &[u8],
+    certificate: Certificate<'_>,
 ) -> Result<Accepted, Answer>
-    ensures ok { IfOk result (IsShown hook bytes.now shapes certificate.now) }
+    ensures ok { IfOk result (IsShown hook bytes.now shapes certificate.entry.bytes.now) }
     ensures err { IfErr result (λ e. e.number ≢ 0) }
     ensures why { IfErr result (λ e. IsUndecoded bytes.now shapes e
-        ⊎ IsUnshown hook bytes.now shapes certificate.now e) }
+        ⊎ IsUnshown hook bytes.now shapes certificate.entry.bytes.now e
+        ⊎ IsTooMuchWork certificate.entry.most e) }
 {
     match decode(alloc, bytes, shapes) {
         Err(fault) => {
@@ -105,13 +120,24 @@ fn shown(
                 slot: fault.slot(),
             });
         }
-        Ok(program) => match check(alloc, program, hook, certificate) {
-            Err(fault) => return Err(Answer::of(u32::from(fault.number()))),
-            Ok(accepted) => {
-                let _safe = accepted.program();
-                return Ok(accepted);
+        Ok(program) => {
+            let Certificate {
+                bytes: spelled,
+                most,
+            } = certificate;
+            match check_within(alloc, program, hook, spelled, most) {
+                Err(fault) => match fault {
+                    WithinFault::Refused(fault) => {
+                        return Err(Answer::of(u32::from(fault.number())));
+                    }
+                    WithinFault::TooMuchWork => return Err(Answer::of(TOO_MUCH_WORK)),
+                },
+                Ok(accepted) => {
+                    let _safe = accepted.program();
+                    return Ok(accepted);
+                }
             }
-        },
+        }
     }
 }
 
@@ -121,13 +147,14 @@ fn shown_for(
     hook: u32,
     bytes: &[u8],
     shapes: &[MapShape],
-    certificate: &[u8],
+    certificate: Certificate<'_>,
 ) -> Result<Accepted, Answer>
     ensures ok { IfOk result (λ a. (h : AHook) × (hook ≡ number_of h) ×
-        IsShown h bytes.now (map shape_of shapes.now) certificate.now a) }
+        IsShown h bytes.now (map shape_of shapes.now) certificate.entry.bytes.now a) }
     ensures err { IfErr result (λ e. e.number ≢ 0) }
     ensures within { OnOk result (IsAskable hook shapes.now) }
-    ensures why { IfErr result (IsCheckVerdict hook bytes.now shapes.now certificate.now None) }
+    ensures why { IfErr result (IsCheckVerdict hook bytes.now shapes.now
+        certificate.entry.bytes.now certificate.entry.most None) }
 {
     let Some(hook) = hook_of(hook) else {
         return Err(Answer::of(OUT_OF_LIMITS));
@@ -143,12 +170,47 @@ fn shown_for(
 }
 
 /// Fills an empty handle with a program, as `apd_c_verify` does, if a certificate shows it safe within a budget. The
-/// program isn't explored.
+/// program isn't explored. Work is counted: how many states are examined, and how many comparisons of a state with one
+/// of the certificate are made. The check does at most `work`; 0 stands for no limit.
 ///
-/// 0: the handle holds it. 1 to 3 and 10 to 19: the bytes aren't well-formed code. 70: the certificate is malformed.
-/// 71: it is for another hook or other code. 72: it doesn't show the program safe. 40: an allocation failed. 90: there
-/// is no such hook, or the shapes are out of their limits. 92: the handle isn't empty. All but 0 leave the handle
-/// unchanged.
+/// 0: the handle holds it. 1 to 3 and 10 to 19: the bytes aren't well-formed code. 36: more work is needed, which
+/// is possible only if the limit isn't 0. 70: the certificate is malformed. 71: it is for another hook or other code. 72:
+/// it doesn't show the program safe. 40: an allocation failed. 90: there is no such hook, or the shapes are out of their
+/// limits. 92: the handle isn't empty. All but 0 leave the handle unchanged.
+#[unsafe(no_mangle)]
+pub extern "C" fn apd_c_check_within(
+    alloc: Global,
+    code: &mut Handle,
+    hook: u32,
+    bytes: &[u8],
+    shapes: &[MapShape],
+    certificate: &[u8],
+    work: u64,
+) -> Answer
+    ensures shown { result.number ≡ 0 →
+        HoldsShown hook bytes.now shapes.now certificate.now (held code.new) }
+    ensures kept { result.number ≢ 0 → held code.new ≡ held code.old }
+    ensures why { IsCheckVerdict hook bytes.now shapes.now certificate.now (work_limit work)
+        (held code.old) result }
+{
+    if let Some(content) = code.take(alloc) {
+        code.put(content);
+        return Answer::of(NOT_EMPTY);
+    }
+    let certificate = Certificate {
+        bytes: certificate,
+        most: work_limit(work),
+    };
+    match shown_for(alloc, hook, bytes, shapes, certificate) {
+        Err(answer) => return answer,
+        Ok(accepted) => {
+            let answer = code.fill(alloc, Content::Code(accepted));
+            return answer;
+        }
+    }
+}
+
+/// `apd_c_check_within` without a limit of work.
 #[unsafe(no_mangle)]
 pub extern "C" fn apd_c_check(
     alloc: Global,
@@ -161,19 +223,10 @@ pub extern "C" fn apd_c_check(
     ensures shown { result.number ≡ 0 →
         HoldsShown hook bytes.now shapes.now certificate.now (held code.new) }
     ensures kept { result.number ≢ 0 → held code.new ≡ held code.old }
-    ensures why { IsCheckVerdict hook bytes.now shapes.now certificate.now (held code.old) result }
+    ensures why { IsCheckVerdict hook bytes.now shapes.now certificate.now None (held code.old)
+        result }
 {
-    if let Some(content) = code.take(alloc) {
-        code.put(content);
-        return Answer::of(NOT_EMPTY);
-    }
-    match shown_for(alloc, hook, bytes, shapes, certificate) {
-        Err(answer) => return answer,
-        Ok(accepted) => {
-            let answer = code.fill(alloc, Content::Code(accepted));
-            return answer;
-        }
-    }
+    apd_c_check_within(alloc, code, hook, bytes, shapes, certificate, 0)
 }
 
 /// Copies as many bytes as fit.

@@ -29,7 +29,7 @@ pub(crate) fn hook_of(number: u32) -> Option<Hook>
 }
 
 /// The limit of states that C passes; 0 stands for the verifier's own.
-fn limit_of(states: u32) -> StateLimit
+pub(crate) fn limit_of(states: u32) -> StateLimit
     ensures { result ≡ limit_of states }
 {
     if states == 0 {

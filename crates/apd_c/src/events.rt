@@ -11,6 +11,7 @@ ghost use Rattle.apd_c.specs.Link.{link_of};
 use crate::answer::{NO_MEMORY, NOT_EMPTY, OTHER_MAPS, OTHER_VALUE, OUT_OF_LIMITS};
 use crate::handle::{Content, Handle};
 use crate::maps::Maps;
+use crate::outs::Outputs;
 use crate::runs::are_alike;
 use ap_core::{Event, Octets, Out};
 use ap_single::AccessPoint;
@@ -22,6 +23,13 @@ use std::alloc::Global;
 #[derive(Clone, Copy)]
 pub struct Station {
     pub octets: [u8; 6],
+}
+
+/// An event, and the number that its caller gives it.
+#[derive(Drop)]
+struct UserEvent {
+    event: Event,
+    user: u64,
 }
 
 /// Handles an event, with verdicts over these maps.
@@ -138,18 +146,20 @@ fn lead_over(
     }
 }
 
-/// The same; an empty handle is filled with the outputs. Its box is allocated first.
+/// The same; an empty handle is filled with the outputs and the caller's number. Its box is allocated first.
 fn lead_to(
     alloc: Global,
     link: &mut Handle,
     maps: &mut Handle,
     outs: &mut Handle,
-    event: Event,
+    given: UserEvent,
 ) -> u32
-    ensures serves { Serves event (held link.old) (held maps.old) (held outs.old) result
+    ensures serves { Serves given.event given.user (held link.old) (held maps.old)
+        (held outs.old) result
         (held link.new) (held maps.new) (held outs.new) }
     ensures number { IsEventNumber (held link.old) (held maps.old) (held outs.old) result }
 {
+    let UserEvent { event, user } = given;
     if let Some(content) = outs.take(alloc) {
         outs.put(content);
         return NOT_EMPTY;
@@ -159,7 +169,7 @@ fn lead_to(
         Ok(mut boxed) => match lead_over(alloc, link, maps, event) {
             Err(number) => return number,
             Ok(list) => {
-                *boxed = Content::Outs(list);
+                *boxed = Content::Outs(Outputs { user, list });
                 outs.put(boxed);
                 return 0;
             }
@@ -168,7 +178,7 @@ fn lead_to(
 }
 
 /// An access point receives a frame of at most 2400 bytes, without its FCS. Its programs run over the maps of the
-/// second handle. The outputs fill the third, which must be empty.
+/// second handle. The outputs fill the third, which must be empty; each is read with the number `user`.
 ///
 /// 0: the outputs are in the third handle. 40: an allocation failed. 90: the frame is longer. 91: one of the first two
 /// handles doesn't hold an access point or maps. 92: the third isn't empty. 93: the access point is for maps of other
@@ -180,8 +190,9 @@ pub extern "C" fn apd_c_link_frame(
     maps: &mut Handle,
     outs: &mut Handle,
     bytes: &[u8],
+    user: u64,
 ) -> u32
-    ensures serves { Serves (event.Frame bytes.now) (held link.old) (held maps.old) (held outs.old)
+    ensures serves { Serves (event.Frame bytes.now) user (held link.old) (held maps.old) (held outs.old)
         result
         (held link.new) (held maps.new) (held outs.new) }
     ensures number { IsFrameNumber bytes.now (held link.old) (held maps.old) (held outs.old)
@@ -193,7 +204,11 @@ pub extern "C" fn apd_c_link_frame(
     match Octets::copy(alloc, bytes) {
         Err(_) => return NO_MEMORY,
         Ok(octets) => {
-            let number = lead_to(alloc, link, maps, outs, Event::Frame(octets));
+            let given = UserEvent {
+                event: Event::Frame(octets),
+                user,
+            };
+            let number = lead_to(alloc, link, maps, outs, given);
             return number;
         }
     }
@@ -207,13 +222,18 @@ pub extern "C" fn apd_c_link_tick(
     maps: &mut Handle,
     outs: &mut Handle,
     units: u32,
+    user: u64,
 ) -> u32
-    ensures serves { Serves (event.Tick units) (held link.old) (held maps.old) (held outs.old)
+    ensures serves { Serves (event.Tick units) user (held link.old) (held maps.old) (held outs.old)
         result
         (held link.new) (held maps.new) (held outs.new) }
     ensures number { IsEventNumber (held link.old) (held maps.old) (held outs.old) result }
 {
-    lead_to(alloc, link, maps, outs, Event::Tick(units))
+    let given = UserEvent {
+        event: Event::Tick(units),
+        user,
+    };
+    lead_to(alloc, link, maps, outs, given)
 }
 
 /// The operator deauthenticates a station with a reason code. The rest is as for `apd_c_link_frame`.
@@ -225,17 +245,18 @@ pub extern "C" fn apd_c_link_kick(
     outs: &mut Handle,
     station: &Station,
     reason: u16,
+    user: u64,
 ) -> u32
-    ensures serves { Serves (event.Kick station.now.octets reason) (held link.old) (held maps.old)
+    ensures serves { Serves (event.Kick station.now.octets reason) user (held link.old) (held maps.old)
         (held outs.old) result
         (held link.new) (held maps.new) (held outs.new) }
     ensures number { IsEventNumber (held link.old) (held maps.old) (held outs.old) result }
 {
-    let kick = Event::Kick {
+    let event = Event::Kick {
         station: Address::new(station.octets),
         reason: Reason::new(reason),
     };
-    lead_to(alloc, link, maps, outs, kick)
+    lead_to(alloc, link, maps, outs, UserEvent { event, user })
 }
 
 /// The operator ends a station's agreement for a TID below 8. 90: the TID isn't below 8. The rest is as for
@@ -248,8 +269,9 @@ pub extern "C" fn apd_c_link_close(
     outs: &mut Handle,
     station: &Station,
     tid: u8,
+    user: u64,
 ) -> u32
-    ensures serves { Serves (event.Close station.now.octets tid) (held link.old) (held maps.old)
+    ensures serves { Serves (event.Close station.now.octets tid) user (held link.old) (held maps.old)
         (held outs.old) result
         (held link.new) (held maps.new) (held outs.new) }
     ensures number { IsCloseNumber tid (held link.old) (held maps.old) (held outs.old) result }
@@ -257,9 +279,9 @@ pub extern "C" fn apd_c_link_close(
     let Some(tid) = Tid::new(tid) else {
         return OUT_OF_LIMITS;
     };
-    let close = Event::Close {
+    let event = Event::Close {
         station: Address::new(station.octets),
         tid,
     };
-    lead_to(alloc, link, maps, outs, close)
+    lead_to(alloc, link, maps, outs, UserEvent { event, user })
 }

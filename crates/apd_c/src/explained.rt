@@ -21,7 +21,7 @@ fn of_code(number: u32) -> &'static str
         16 => return "the code can be left at its end",
         17 => return "r10 is written",
         18 => return "no such helper",
-        19 => return "no such map",
+        19 => return "no such map, or no such byte in it",
         _ => return "",
     }
 }

@@ -8,7 +8,8 @@ ghost use Rattle.apd_c.specs.Holding.{holds, held_by};
 
 use crate::loose::Loose;
 use crate::maps::Maps;
-use ap_core::Out;
+use crate::outs::Outputs;
+use ap_core::{AgreementInForce, KnownStation};
 use ap_single::AccessPoint;
 use bpf_machine::Accepted;
 use std::alloc::Global;
@@ -28,7 +29,11 @@ pub enum Content {
     /// Eight shards and their programs, boxed so that a `Content` stays small.
     Link(Box<AccessPoint>),
     /// The outputs of an event.
-    Outs(Vec<Out>),
+    Outs(Outputs),
+    /// Stations of an access point.
+    Stations(Vec<KnownStation>),
+    /// Agreements of an access point.
+    Agreements(Vec<AgreementInForce>),
 }
 
 /// What C sees of a content: its address.

@@ -2,12 +2,19 @@
 
 ghost use Rattle.std.specs.Prelude.{◌≡◌, Some, length, min, slice_get, take};
 ghost use Rattle.apd_c.specs.Held.{held};
-ghost use Rattle.apd_c.specs.Outs.{body_of, head_of, nothing_out, outs_of, up_head};
+ghost use Rattle.apd_c.specs.Outs.{body_of, head_of, nothing_out, outs_of, up_head, user_of};
 
 use crate::certificates::copied;
 use crate::handle::{Content, Handle};
 use ap_core::{Out, Up};
 use std::alloc::Global;
+
+/// The outputs of an event, and the number that its caller gave it.
+#[derive(Drop)]
+pub struct Outputs {
+    pub user: u64,
+    pub list: Vec<Out>,
+}
 
 /// An output without its bytes. The kind is 1 for a frame to send, 2 for data passed up, 3 for a note, and 0 for no
 /// output. Fields that a kind doesn't have are 0. The TID of data without one is 255.
@@ -17,6 +24,8 @@ pub struct OutHead {
     pub kind: u32,
     /// The length of the frame or the data.
     pub length: usize,
+    /// The number that the caller gave the event.
+    pub user: u64,
     pub source: [u8; 6],
     pub destination: [u8; 6],
     pub number: u16,
@@ -33,6 +42,7 @@ fn nothing() -> OutHead
     OutHead {
         kind: 0,
         length: 0,
+        user: 0,
         source: [0, 0, 0, 0, 0, 0],
         destination: [0, 0, 0, 0, 0, 0],
         number: 0,
@@ -43,8 +53,8 @@ fn nothing() -> OutHead
 }
 
 /// The head of data passed up.
-fn head_of_up(up: &Up) -> OutHead
-    ensures { result ≡ up_head up.now }
+fn head_of_up(user: u64, up: &Up) -> OutHead
+    ensures { result ≡ up_head user up.now }
 {
     let tid = match up.tid {
         Some(tid) => tid.number(),
@@ -53,6 +63,7 @@ fn head_of_up(up: &Up) -> OutHead
     OutHead {
         kind: 2,
         length: up.body.bytes().len(),
+        user,
         source: up.source.octets(),
         destination: up.destination.octets(),
         number: up.number.number(),
@@ -62,9 +73,9 @@ fn head_of_up(up: &Up) -> OutHead
     }
 }
 
-/// The head of an element of a list.
-fn head_in(outs: &[Out], at: usize) -> OutHead
-    ensures { result ≡ head_of (slice_get outs.now at) }
+/// The head of an element of a list, with the caller's number.
+fn head_in(user: u64, outs: &[Out], at: usize) -> OutHead
+    ensures { result ≡ head_of user (slice_get outs.now at) }
 {
     match outs.get(at) {
         None => return nothing(),
@@ -73,12 +84,14 @@ fn head_in(outs: &[Out], at: usize) -> OutHead
                 let mut head = nothing();
                 head.kind = 1;
                 head.length = bytes.bytes().len();
+                head.user = user;
                 return head;
             }
-            Out::Up(up) => return head_of_up(up),
+            Out::Up(up) => return head_of_up(user, up),
             Out::Note(number) => {
                 let mut head = nothing();
                 head.kind = 3;
+                head.user = user;
                 head.note = *number;
                 return head;
             }
@@ -105,8 +118,18 @@ fn list(content: &Content) -> &[Out]
     ensures { result.now ≡ outs_of (Some content.now) }
 {
     match content {
-        Content::Outs(outs) => outs.as_slice(),
+        Content::Outs(outs) => outs.list.as_slice(),
         _ => &[],
+    }
+}
+
+/// The caller's number that they are held with; 0 if the content is something else.
+fn user(content: &Content) -> u64
+    ensures { result ≡ user_of (Some content.now) }
+{
+    match content {
+        Content::Outs(outs) => outs.user,
+        _ => 0,
     }
 }
 
@@ -129,13 +152,14 @@ pub extern "C" fn apd_c_outs(alloc: Global, outs: &mut Handle) -> usize
 /// The output at an index, without its bytes. Its kind is 0 if there is none at that index.
 #[unsafe(no_mangle)]
 pub extern "C" fn apd_c_out(alloc: Global, outs: &mut Handle, at: usize) -> OutHead
-    ensures is { result ≡ head_of (slice_get (outs_of (held outs.old)) at) }
+    ensures is { result ≡
+        head_of (user_of (held outs.old)) (slice_get (outs_of (held outs.old)) at) }
     ensures kept { held outs.new ≡ held outs.old }
 {
     match outs.take(alloc) {
         None => return nothing(),
         Some(content) => {
-            let head = head_in(list(&content), at);
+            let head = head_in(user(&content), list(&content), at);
             outs.put(content);
             return head;
         }

@@ -3,7 +3,7 @@ use Rattle.std.specs.Prelude.{◌^◌, Bool, List, ℕ, Option}
 use Rattle.bpf_regions.specs.declared.hooks.Hook.{Hook}
 use Rattle.bpf_decode.specs.Program.{Code}
 use Rattle.bpf_verifier.specs.Limits.{nearest}
-use Rattle.apd_words.specs.Asked.{Asked, Verify, Assemble, Disassemble, ListRaw, Trace, Explain, Frames, Help, Certify, Check}
+use Rattle.apd_words.specs.Asked.{Asked, Verify, Assemble, Disassemble, ListRaw, Graph, Trace, Explain, Frames, Help, Certify, Check}
 use Rattle.apd_program.specs.declared.answer.Answer.{Answer}
 use Rattle.apd_program.specs.declared.reading.Setup.{Setup}
 use Rattle.apd_files.specs.declared.inputs.files.FileKind.TheVariants as kind
@@ -15,6 +15,7 @@ use Rattle.apd_program.specs.Scripts.{IsScript}
 use Rattle.apd_program.specs.Programs.{IsOfProgram}
 use Rattle.apd_program.specs.Verifying.{IsVerdict, IsBudget, IsRun}
 use Rattle.apd_program.specs.Texts.{IsAssembly, IsListingWith, IsRawListing}
+use Rattle.apd_program.specs.Drawings.{IsDrawing}
 use Rattle.apd_program.specs.Certifying.{IsCertificate, IsChecked}
 
 -- what is said of the program in the file, with the configuration
@@ -59,6 +60,7 @@ IsAnswer files (Verify hook file config states) a = IsOfCode (λ setup. IsVerdic
 IsAnswer files (Assemble file) a = IsOfText IsAssembly files file a
 IsAnswer files (Disassemble file config slots) a = IsOfCode (λ setup. IsListingWith slots) files file config a
 IsAnswer files (ListRaw file config slots) a = IsOfSlots (IsRawListing slots) files file config a
+IsAnswer files (Graph file config) a = IsOfCode (λ setup. IsDrawing) files file config a
 IsAnswer files (Trace hook file word config states words from_frame) a =
     IsTraced files (nearest states) hook file word config words from_frame a
 IsAnswer files (Explain number) a = IsPageFor number a
@@ -73,6 +75,7 @@ HasNoAnswer files (Verify hook file config states) = IsAtFault files file config
 HasNoAnswer files (Assemble file) = Lacks kind.Text files file
 HasNoAnswer files (Disassemble file config slots) = IsAtFault files file config
 HasNoAnswer files (ListRaw file config slots) = IsAtFault files file config
+HasNoAnswer files (Graph file config) = IsAtFault files file config
 HasNoAnswer files (Trace hook file word config states words from_frame) =
     HasNoTrial files file word config words from_frame
 HasNoAnswer files (Explain number) = HasNoPage number

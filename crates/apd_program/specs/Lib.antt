@@ -7,10 +7,10 @@ pub mod Refusing
 pub mod Verifying
 pub mod Certifying
 pub mod Texts
+pub mod Drawings
 pub mod Pages
 pub mod Scripts
 pub mod Answers
 pub mod Printed
 pub mod Delivered
 pub mod Program
-pub mod Script

@@ -3,7 +3,7 @@ use Rattle.std.specs.Prelude.{◌≡◌, ℕ, Bool, List, ◌++◌, string_bytes
 use Rattle.capture.specs.Packets.{Seen}
 use Rattle.capture.specs.Captures.{Holds, Refuses}
 use Rattle.capture.specs.declared.fault.CaptureFault.{CaptureFault}
-use Rattle.apd_program.specs.Script.{script_of}
+use Rattle.apd_policies.specs.Script.{script_of}
 use Rattle.apd_program.specs.declared.answer.Answer.{Answer}
 use Rattle.apd_program.specs.declared.answer.Answer.TheVariants.{Script, CutScript}
 

@@ -8,9 +8,9 @@ ghost use Rattle.apd_program.specs.Scripts.{IsScript};
 
 use crate::answer::Answer;
 use crate::fault::{ProgramFault, of_capture};
-use crate::frames::script_text;
 use crate::reading::read;
 use apd_files::{FileKind, Files};
+use apd_policies::script_text;
 use capture::{CaptureFault, read_capture};
 use std::alloc::Global;
 

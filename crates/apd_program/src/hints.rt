@@ -38,9 +38,9 @@ fn has_config(question: &Question<'_>) -> bool {
         }
         Question::Trace(trial) => trial.subject.source.config.is_some(),
         Question::Check(claim) => claim.source.config.is_some(),
-        Question::Disassemble { source, .. } | Question::ListRaw { source, .. } => {
-            source.config.is_some()
-        }
+        Question::Disassemble { source, .. }
+        | Question::ListRaw { source, .. }
+        | Question::Graph { source } => source.config.is_some(),
         Question::Assemble { .. }
         | Question::Explain { .. }
         | Question::Frames { .. }

@@ -6,10 +6,10 @@
 
 mod answer;
 mod certifying;
+mod drawing;
 mod entry;
 mod explaining;
 mod fault;
-mod frames;
 mod framing;
 mod helping;
 mod hints;

@@ -1,7 +1,7 @@
 -- Runs that break off.
 use Rattle.std.proofs.Common.{◌≡◌, ℕ, List, Bool, true, false, Option, refl}
 use Rattle.ap_books.specs.Counts.{Counts}
-use Rattle.apd_run.specs.Shows.{Nothing, Before, Breaks, is_over}
+use Rattle.apd_run.specs.Shows.{Nothing, Before, Breaks, InInterval, is_over}
 
 -- if no line was refused, a run goes on
 pub goes_on : (strict : Bool) → is_over strict false ≡ false
@@ -11,4 +11,4 @@ goes_on false = refl
 -- before their first interval
 pub breaks_at_once : (strict : Bool) (old : Option (List ℕ)) (counted : Counts) → Breaks strict old old counted
 breaks_at_once strict old counted =
-    record { mid = old; before = counted; memory = false; refused = false; shown = Nothing; goes_on = goes_on strict; last = Before refl }
+    InInterval old counted false false Nothing (goes_on strict) (Before refl)

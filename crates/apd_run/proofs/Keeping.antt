@@ -6,6 +6,9 @@ use Rattle.ap_live.specs.Counting.{KeepParts, counted_by}
 use Rattle.ap_live.specs.Tokens.{Operator, IsOperator, Worker, IsWorker}
 use Rattle.logbook.specs.Pages.{Book}
 use Rattle.versions.specs.Lists.{Beginning}
+use Rattle.versions.specs.Sets.{set_of}
+use Rattle.apd_run.specs.Budgets.{AreBudgets}
+use Rattle.apd_run.specs.declared.access.budgets.Budgets.{Budgets}
 use Rattle.apd_run.specs.Hands.{RunOperator, IsRunOperator, RunWorker, IsRunWorker}
 use Rattle.apd_run.proofs.Sums.{keeps_parts}
 
@@ -22,12 +25,14 @@ other_token shares list o t own same h =
       shares_are = h.shares_are;
       some = h.some;
       list_is = h.list_is;
+      reads = h.reads;
+      in_force = h.in_force;
     }
 
--- an operator whose loads are of the same list
-pub other_loads : (shares : ℕ) (list : Book) (o : RunOperator) (b : Beginning) → b.list ≡ o.loads.list → IsRunOperator shares list o
-    → IsRunOperator shares list (record o { loads = b })
-other_loads shares list o b same h =
+-- an operator whose loads are of the same list, with the budgets of their programs
+pub other_loads : (shares : ℕ) (list : Book) (o : RunOperator) (b : Beginning) (budgets : Budgets) → b.list ≡ o.loads.list → AreBudgets budgets (set_of b.loads)
+    → IsRunOperator shares list o → IsRunOperator shares list (record o { loads = b; budgets = budgets })
+other_loads shares list o b budgets same in_force h =
     record {
       own = h.own;
       mine = h.mine;
@@ -37,6 +42,8 @@ other_loads shares list o b same h =
       shares_are = h.shares_are;
       some = h.some;
       list_is = same ∙ h.list_is;
+      reads = h.reads;
+      in_force = in_force;
     }
 
 -- a worker whose token has other parts of the ledgers, one of each

@@ -1,5 +1,5 @@
 -- Code that is kept in part.
-use Rattle.std.proofs.Common.{◌≡◌, ℕ, ◌*◌, ◌/◌, ◌%◌, ◌^◌, ◌<◌, ◌≤◌, List, length, subst, arith}
+use Rattle.std.proofs.Common.{◌≡◌, ℕ, ◌%◌, ◌^◌, ◌<◌, List, length, subst, arith}
 use Rattle.bpf_regions.specs.declared.hooks.Hook.{Hook}
 use Rattle.bpf_regions.specs.declared.maps.Shape.{Shape}
 use Rattle.bpf_decode.specs.Answer.{Refuses}

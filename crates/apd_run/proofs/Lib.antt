@@ -9,4 +9,8 @@ pub mod Keeping
 pub mod Loading
 pub mod OneByOne
 pub mod Ending
-pub mod Flushed
+pub mod Batches
+pub mod Entries
+pub mod Counted
+pub mod Budgeting
+pub mod Rising

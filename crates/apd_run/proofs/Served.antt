@@ -1,6 +1,7 @@
 -- Reports on a worker's list.
 use Rattle.std.proofs.Common.{◌≡◌, ℕ, List, [], ◌∷◌, ◌++◌, refl, sym, ap, ◌∙◌, zero-add}
 use Rattle.std.proofs.lemmas.List.Sums.{sum_by-append}
+use Rattle.ap_model.specs.Readings.{Config}
 use Rattle.ap_books.specs.Counts.{Counts, none, plus}
 use Rattle.ap_live.specs.Counting.{counted_by, fate_counts, tally}
 use Rattle.ap_live.specs.Lives.{Live}
@@ -64,10 +65,11 @@ collects_told crew crew2 list list2 tags listed counted =
 -- ---- what workers counted
 
 -- what was served, as a run sees it
-pub served_tags : (a : Live) (w w2 : Worker) (list list2 : List Tagged) → Served a w w2 list list2 → Serves (counted_by w.shards) (counted_by w2.shards) list list2
-served_tags a w w2 list list2 s = record { tags = s.tags; listed = s.listed; counts = s.counted }
+pub served_tags : (config : Config) (a : Live) (w w2 : Worker) (list list2 : List Tagged) → Served config a w w2 list list2 → Serves (counted_by w.shards) (counted_by w2.shards) list list2
+served_tags config a w w2 list list2 s = record { tags = s.tags; listed = s.listed; counts = s.counted }
 
-tally_none : tally [] ≡ none
+-- no event counts nothing
+pub tally_none : tally [] ≡ none
 unfolding tally
 tally_none = refl
 

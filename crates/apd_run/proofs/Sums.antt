@@ -135,3 +135,8 @@ one_more_part n a g b h o e = (
   one_more n a.of6.parts g.of6.parts b.of6.parts h.6 o.6 e.6.0,
   one_more n a.of7.parts g.of7.parts b.of7.parts h.7 o.7 e.7.0,
 )
+
+-- what was counted by parts that were split off and exchanged is counted as well
+pub exchanged_sum : (hoard left given merged : Holding) (counted : Counts) → sum_of left ≡ sum_of hoard → HasMerged left given merged → sum_of given ≡ counted
+    → sum_of merged ≡ plus (sum_of hoard) counted
+exchanged_sum hoard left given merged counted stayed h is = merged_sum left given merged h ∙ (ap (λ (x : Counts). plus x (sum_of given)) stayed ∙ ap (plus (sum_of hoard)) is)

@@ -1,8 +1,30 @@
 -- Lines up to a wait.
-use Rattle.std.proofs.Common.{◌≡◌, ℕ, suc, ◌+◌, ◌<◌, ◌≤◌, List, [], ◌∷◌, Bool, true, false, length, drop, get_or, sym, ap, ◌∙◌, drop-cons, add-one}
+use Rattle.std.proofs.Common.{◌≡◌, ℕ, suc, ◌+◌, ◌<◌, List, [], ◌∷◌, true, false, length, drop, get_or, refl, sym, ap, ◌∙◌, drop-cons, add-one}
 use Rattle.std.specs.Prelude.{if◌then◌else◌}
 use Rattle.apd_script.specs.declared.command.Numbered.{Numbered}
+use Rattle.apd_script.specs.Batches as batch
+use Rattle.apd_script.specs.declared.command.Command.{Command}
+use Rattle.apd_script.specs.declared.command.Command.TheVariants as command
 use Rattle.apd_run.specs.Intervals.{is_wait, after_wait}
+
+-- `wait` alone waits
+same_wait : (c : Command) → batch.is_wait c ≡ is_wait c
+same_wait (command.Frame text) = refl
+same_wait (command.Tick units) = refl
+same_wait (command.Kick station reason) = refl
+same_wait (command.Close station tid) = refl
+same_wait (command.Load hook path) = refl
+same_wait (command.Unload hook) = refl
+same_wait (command.Adopt hook path certificate) = refl
+same_wait (command.Store word value) = refl
+same_wait (command.Read word) = refl
+same_wait (command.Sum word) = refl
+same_wait command.Wait = refl
+
+-- so what follows the first wait is what follows `wait`
+pub same_after : (ns : List Numbered) → batch.after_wait ns ≡ after_wait ns
+same_after [] = refl
+same_after (n ∷ ns) = ap (λ b. if b then ns else batch.after_wait ns) (same_wait n.command) ∙ ap (λ l. if is_wait n.command then ns else l) (same_after ns)
 
 next : (ns : List Numbered) (i : ℕ) (n : Numbered) → i < length ns → n ≡ get_or ns i n
     → after_wait (drop i ns) ≡ (if is_wait n.command then drop (i + 1) ns else after_wait (drop (i + 1) ns))

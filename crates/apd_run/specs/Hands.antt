@@ -2,6 +2,8 @@
 use Rattle.std.specs.Prelude.{◌≡◌, ◌+◌, ◌<◌, ℕ}
 use Rattle.ap_books.specs.Counts.{none}
 use Rattle.ap_books.specs.Holdings.{Holding, HasParts, sum_of}
+use Rattle.ap_books.specs.Reading.{Reads}
+use Rattle.ap_books.specs.declared.totals.Totals.{Totals}
 use Rattle.ap_shards.specs.Tokens.{holding_of}
 use Rattle.ap_live.specs.Counting.{counted_by}
 use Rattle.ap_live.specs.Lives.{Live}
@@ -9,7 +11,10 @@ use Rattle.ap_live.specs.Opening.{parts_in_all}
 use Rattle.ap_live.specs.Tokens.{Operator, IsOperator, Worker, IsWorker}
 use Rattle.logbook.specs.Pages.{Book}
 use Rattle.versions.specs.Lists.{Beginning}
+use Rattle.versions.specs.Sets.{set_of}
+use Rattle.apd_run.specs.Budgets.{AreBudgets}
 use Rattle.apd_run.specs.Crews.{Crew}
+use Rattle.apd_run.specs.declared.access.budgets.Budgets.{Budgets}
 
 -- a worker's access point and token
 pub record RunWorker : Type 0 where
@@ -22,15 +27,17 @@ pub record IsRunWorker (list : Book) (w : RunWorker) : Type 0 where
   pub list_is : w.ap.list.list ≡ list
   pub parts : HasParts 1 (holding_of w.token.shards)
 
--- An operator's access point and token, the parts of the ledgers that it keeps and how many of each they are, how many
--- workers have one, and what was published.
+-- An operator's access point and token, the parts of the ledgers that it keeps and how many of each they are, what these
+-- have counted, how many workers have one, what was published, and the budgets of the programs in force.
 pub record RunOperator : Type 0 where
   pub ap : Live
   pub token : Operator
   pub hoard : Holding
   pub parts : ℕ
+  pub totals : Totals
   pub workers : ℕ
   pub loads : Beginning
+  pub budgets : Budgets
 
 -- Its token belongs to the access point, whose published loads are this list, and has one part of each ledger, which
 -- has counted nothing. The operator keeps, or the workers have, all other parts.
@@ -43,6 +50,8 @@ pub record IsRunOperator (shares : ℕ) (list : Book) (o : RunOperator) : Type 0
   pub shares_are : shares ≡ parts_in_all
   pub some : 1 < o.parts
   pub list_is : o.loads.list ≡ list
+  pub reads : Reads o.totals (sum_of o.hoard)
+  pub in_force : AreBudgets o.budgets (set_of o.loads.loads)
 
 -- how many workers have rights, and what those that came back have counted
 abbrev pub crew_of : RunOperator → Crew

@@ -1,6 +1,7 @@
 pub mod Actions
 pub mod Intervals
 pub mod Crews
+pub mod Asking
 pub mod Shows
 pub mod Tells
 pub mod Reports
@@ -8,6 +9,8 @@ pub mod Tallies
 pub mod Loading
 pub mod Adopting
 pub mod Telling
+pub mod Budgets
+pub mod Listing
 pub mod Hands
 pub mod Dealing
 pub mod Statuses

@@ -1,7 +1,7 @@
 -- What a run prints.
 use Rattle.std.specs.Prelude.{◌≡◌, ◌⊎◌, ℕ, List, Option, Bool, true, false, ◌||◌, ◌&&◌, if◌then◌else◌}
 use Rattle.std.specs.List.{list_any}
-use Rattle.std.specs.Io.KnownBytes.{Appends}
+use Rattle.std.specs.Io.KnownBytes.{Appends, Keeps}
 use Rattle.ap_books.specs.Counts.{Counts, plus}
 use Rattle.ap_books.specs.Reading.{Reads}
 use Rattle.ap_books.specs.declared.totals.Totals.{Totals}
@@ -11,6 +11,7 @@ use Rattle.apd_text.specs.Order.{IsOrdered}
 use Rattle.apd_text.specs.declared.reports.report.Report.{Report}
 use Rattle.apd_text.specs.declared.reports.report.Told.{Told}
 use Rattle.apd_text.specs.declared.reports.report.Told.TheVariants.{Memory, Fault, Refused, Certificate, Unreadable, Malformed}
+use Rattle.apd_run.specs.Asking.{TellsAnswer, BreaksAnswer}
 use Rattle.apd_run.specs.Tallies.{tallied}
 
 -- the report says `memory`
@@ -70,21 +71,34 @@ pub record ShowsOne (strict : Bool) (old new : Option (List ℕ)) (counted count
   pub prints : Prints strict old new handed memory refused
   pub counts : counted2 ≡ plus counted (tallied handed)
 
--- consecutive intervals; in a strict run, none follows a line at fault
+-- one interval and then the answer to a question, if there is one, by what was counted until then
+pub record ShowsBatch (strict : Bool) (old new : Option (List ℕ)) (counted counted2 : Counts) (memory refused : Bool) : Type 0 where
+  pub mid : Option (List ℕ)
+  pub shows : ShowsOne strict old mid counted counted2 memory refused
+  pub tells : TellsAnswer counted2 mid new
+
+-- it breaks off: in its interval, or in its answer
+pub data BreaksBatch (strict : Bool) (old new : Option (List ℕ)) (counted : Counts) : Type 0 where
+  InReports : BreaksOff old new → BreaksBatch strict old new counted
+  InAnswer : (mid : Option (List ℕ)) (counted2 : Counts) (memory refused : Bool) → ShowsOne strict old mid counted counted2 memory refused
+      → BreaksAnswer counted2 mid new → BreaksBatch strict old new counted
+
+-- consecutive intervals, each with the answer that follows it; in a strict run, no interval follows a line at fault
 pub data Shows (strict : Bool) (old : Option (List ℕ)) (counted : Counts) : Option (List ℕ) → Counts → Bool → Bool → Type 0 where
   Nothing : Shows strict old counted old counted false false
   Then : (mid new : Option (List ℕ)) (before after : Counts) (memory more refused again : Bool) → Shows strict old counted mid before memory refused
       → is_over strict refused ≡ false → ShowsOne strict mid new before after more again → Shows strict old counted new after (memory || more) (refused || again)
+  ThenAnswers : (mid new : Option (List ℕ)) (before : Counts) (memory refused : Bool) → Shows strict old counted mid before memory refused
+      → TellsAnswer before mid new → Shows strict old counted new before memory refused
+  ThenFlushes : (mid new : Option (List ℕ)) (before : Counts) (memory refused : Bool) → Shows strict old counted mid before memory refused
+      → Keeps mid new → Shows strict old counted new before memory refused
 
--- consecutive intervals, the last of which breaks off
-pub record Breaks (strict : Bool) (old new : Option (List ℕ)) (counted : Counts) : Type 0 where
-  pub mid : Option (List ℕ)
-  pub before : Counts
-  pub memory : Bool
-  pub refused : Bool
-  pub shown : Shows strict old counted mid before memory refused
-  pub goes_on : is_over strict refused ≡ false
-  pub last : BreaksOff mid new
+-- consecutive intervals, the last of which, or its answer, breaks off
+pub data Breaks (strict : Bool) (old new : Option (List ℕ)) (counted : Counts) : Type 0 where
+  InInterval : (mid : Option (List ℕ)) (before : Counts) (memory refused : Bool) → Shows strict old counted mid before memory refused
+      → is_over strict refused ≡ false → BreaksOff mid new → Breaks strict old new counted
+  BehindInterval : (mid : Option (List ℕ)) (before : Counts) (memory refused : Bool) → Shows strict old counted mid before memory refused
+      → BreaksAnswer before mid new → Breaks strict old new counted
 
 -- 3 if a line says `memory`; otherwise 1 if a line is at fault; otherwise 0
 abbrev pub status_of : Bool → Bool → ℕ

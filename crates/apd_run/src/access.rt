@@ -4,8 +4,10 @@
 //! worker of the access point by `LiveAp::serve`, and reports each event. The operator submits events, loads and
 //! unloads programs and reads maps. The last line says what all shares of the ledgers have counted, which is what the
 //! reports count.
+mod budgets;
 mod hands;
 mod hiring;
+mod listing;
 mod naming;
 mod operator;
 mod running;

@@ -43,7 +43,7 @@ fn settled<W: Serving + Drop, O: Operating<W>>(
         list,
         refused: _,
     } = done;
-    operator.settle(&mut worker);
+    operator.settle(&mut worker, list.as_slice());
     (Ready { worker }, list)
 }
 

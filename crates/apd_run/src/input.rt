@@ -1,13 +1,15 @@
 //! Lines as they come.
 
-ghost use Rattle.std.specs.Prelude.{◌≡◌, length, vec_len, IfOk, OnOk, OnErr};
+ghost use Rattle.std.specs.Prelude.{◌≡◌, [], true, length, vec_len, IfOk, OnOk, OnErr};
 ghost use Rattle.std.specs.Io.KnownBytes.{Keeps};
-ghost use Rattle.apd_run.specs.Shows.{BreaksOff, ShowsOne};
+ghost use Rattle.apd_script.specs.Batches.{after_wait};
+ghost use Rattle.apd_run.specs.Shows.{BreaksBatch, ShowsBatch};
 
+use crate::asking::tell;
 use crate::console::Console;
 use crate::crew::Serving;
 use crate::found::{Found, is_over};
-use crate::interval::{Given, answer, first_interval};
+use crate::interval::{Given, whole_interval};
 use crate::lines::Lines;
 use crate::operating::Operating;
 use crate::setting::{Setting, Staff};
@@ -16,7 +18,7 @@ use apd_script::{Batch, MOST_BYTES, begins_with_quit, read_batch};
 use apd_text::PrintFault;
 use bpf_regions::Shapes;
 use std::alloc::{AllocError, Global};
-use std::io::{Read, Write};
+use std::io::Read;
 use std::sync::Wait;
 
 /// The greatest number with which a batch begins.
@@ -77,8 +79,10 @@ impl<I: Read + Drop> Input<I> {
         rest.get(..MOST_BYTES + 1).unwrap_or(rest)
     }
 
-    /// Reads until a whole line is there; false at the end of the input.
-    fn advance(&mut self, alloc: Global) -> Result<bool, PrintFault> {
+    /// Flushes the console and reads, until a whole line is there; false at the end of the input.
+    fn advance<P: Console>(&mut self, alloc: Global, console: &mut P) -> Result<bool, PrintFault>
+        ensures keeps { Keeps (P.contents console.old) (P.contents console.new) }
+    {
         for _ in 0..u64::MAX {
             if self.rest().contains(&b'\n') {
                 return Ok(true);
@@ -86,13 +90,19 @@ impl<I: Read + Drop> Input<I> {
             if self.has_ended {
                 return Ok(false);
             }
-            self.fill(alloc)?;
+            match console.flush_all() {
+                Ok(()) => self.fill(alloc, console)?,
+                Err(_) => return Err(PrintFault::Unwritten),
+            }
         }
         Ok(false)
     }
 
-    /// Reads the next bytes, behind the beginning of a line. At the end of the input, it ends that line.
-    fn fill(&mut self, alloc: Global) -> Result<(), PrintFault> {
+    /// Reads the next bytes, behind the beginning of a line, while nothing that was written waits to be flushed. At the end
+    /// of the input, it ends that line.
+    fn fill<P: Console>(&mut self, alloc: Global, console: &P) -> Result<(), PrintFault>
+        requires flushed { P.is_flushed console.now ≡ true }
+    {
         let block = match block_of(alloc, &mut self.reader) {
             Ok(block) => block,
             Err(FileFault::NoMemory) => return Err(PrintFault::NoMemory),
@@ -116,41 +126,7 @@ impl<I: Read + Drop> Input<I> {
     }
 }
 
-/// Flushes a writer.
-fn flush<P: Write>(writer: &mut P) -> Result<(), PrintFault>
-    ensures keeps { Keeps (P.contents writer.old) (P.contents writer.new) }
-{
-    match writer.flush() {
-        Ok(()) => return Ok(()),
-        Err(_) => return Err(PrintFault::Unwritten),
-    }
-}
-
-/// Does commands and answers malformed lines in the interval with this number.
-fn do_given<W: Serving + Drop, O: Operating<W> + Drop, R: Wait, P: Console>(
-    setting: &Setting<'_, W, R>,
-    staff: &mut Staff<W, O>,
-    given: Given<'_>,
-    number: u64,
-    writer: &mut P,
-) -> Result<Found, PrintFault>
-    requires home { vec_len staff.old.workers ≡ length setting.now.desks.now }
-    ensures home { OnOk result (vec_len staff.new.workers ≡ length setting.now.desks.now) }
-    ensures workers { OnOk result
-        ((O.crew staff.new.operator).workers ≡ (O.crew staff.old.operator).workers) }
-    ensures shows { IfOk result (λ found. ShowsOne setting.now.strict
-        (P.contents writer.old) (P.contents writer.new)
-        (O.crew staff.old.operator).counted (O.crew staff.new.operator).counted
-        found.memory found.refused) }
-    ensures breaks { OnErr result (BreaksOff (P.contents writer.old) (P.contents writer.new)) }
-{
-    if given.commands.is_empty() {
-        return answer(setting.alloc, setting.strict, given.malformed, writer);
-    }
-    first_interval(setting, staff, given, number, writer)
-}
-
-/// Does a batch in the interval with this number, and flushes the writer.
+/// Does a batch in the interval with this number, and answers its question.
 fn do_batch<W: Serving + Drop, O: Operating<W> + Drop, R: Wait, P: Console>(
     setting: &Setting<'_, W, R>,
     staff: &mut Staff<W, O>,
@@ -159,24 +135,26 @@ fn do_batch<W: Serving + Drop, O: Operating<W> + Drop, R: Wait, P: Console>(
     writer: &mut P,
 ) -> Result<Found, PrintFault>
     requires home { vec_len staff.old.workers ≡ length setting.now.desks.now }
+    requires whole { after_wait batch.commands.items ≡ [] }
     ensures home { OnOk result (vec_len staff.new.workers ≡ length setting.now.desks.now) }
     ensures workers { OnOk result
         ((O.crew staff.new.operator).workers ≡ (O.crew staff.old.operator).workers) }
-    ensures shows { IfOk result (λ found. ShowsOne setting.now.strict
+    ensures shows { IfOk result (λ found. ShowsBatch setting.now.strict
         (P.contents writer.old) (P.contents writer.new)
         (O.crew staff.old.operator).counted (O.crew staff.new.operator).counted
         found.memory found.refused) }
-    ensures breaks { OnErr result (BreaksOff (P.contents writer.old) (P.contents writer.new)) }
+    ensures breaks { OnErr result (BreaksBatch setting.now.strict
+        (P.contents writer.old) (P.contents writer.new) (O.crew staff.old.operator).counted) }
 {
     let given = Given {
         commands: batch.commands.as_slice(),
         malformed: batch.malformed.as_slice(),
     };
-    let found = match do_given(setting, staff, given, number, writer) {
+    let found = match whole_interval(setting, staff, given, number, writer) {
         Ok(found) => found,
         Err(fault) => return Err(fault),
     };
-    match flush(writer) {
+    match tell(setting, &mut staff.operator, batch.question, writer) {
         Ok(()) => return Ok(found),
         Err(fault) => return Err(fault),
     }
@@ -202,12 +180,12 @@ impl<I: Read + Drop> Input<I> {
         ensures home { OnOk result (vec_len staff.new.workers ≡ length setting.now.desks.now) }
         ensures workers { OnOk result
             ((O.crew staff.new.operator).workers ≡ (O.crew staff.old.operator).workers) }
-        ensures shows { IfOk result (λ passed. ShowsOne setting.now.strict
+        ensures shows { IfOk result (λ passed. ShowsBatch setting.now.strict
             (P.contents writer.old) (P.contents writer.new)
             (O.crew staff.old.operator).counted (O.crew staff.new.operator).counted
             passed.found.memory passed.found.refused) }
-        ensures breaks { OnErr result
-            (BreaksOff (P.contents writer.old) (P.contents writer.new)) }
+        ensures breaks { OnErr result (BreaksBatch setting.now.strict
+            (P.contents writer.old) (P.contents writer.new) (O.crew staff.old.operator).counted) }
     {
         let first = self.number.min(MOST_NUMBER);
         let batch = read_batch(setting.alloc, self.rest(), &self.shapes, first)?;
@@ -237,7 +215,7 @@ impl<I: Read + Drop> Lines for Input<I> {
             if is_over(setting.strict, found.refused) {
                 return Ok(found);
             }
-            match input.advance(setting.alloc) {
+            match input.advance(setting.alloc, writer) {
                 Ok(true) => {}
                 Ok(false) => return Ok(found),
                 Err(fault) => return Err(fault),

@@ -1,6 +1,6 @@
 //! Intervals: consecutive lines up to a `wait`, and at most 4096 of them.
 
-ghost use Rattle.std.specs.Prelude.{◌≡◌, ◌<◌, length, drop, vec_len, IfOk, OnOk, OnErr};
+ghost use Rattle.std.specs.Prelude.{◌≡◌, ◌<◌, [], length, drop, vec_len, IfOk, OnOk, OnErr};
 ghost use Rattle.ap_books.specs.Counts.{Counts};
 ghost use Rattle.apd_run.specs.Intervals.{after_wait};
 ghost use Rattle.apd_run.specs.Shows.{is_memory, any_memory, Prints, BreaksOff, ShowsOne, Shows, Breaks};
@@ -116,37 +116,8 @@ fn interval<W: Serving + Drop, O: Operating<W> + Drop, R: Wait, P: Console>(
     Ok(Passed { next, found })
 }
 
-/// Runs the interval with this number of all commands, or those up to a `wait`.
-pub(crate) fn first_interval<W: Serving + Drop, O: Operating<W> + Drop, R: Wait, P: Console>(
-    setting: &Setting<'_, W, R>,
-    staff: &mut Staff<W, O>,
-    given: Given<'_>,
-    number: u64,
-    writer: &mut P,
-) -> Result<Found, PrintFault>
-    requires home { vec_len staff.old.workers ≡ length setting.now.desks.now }
-    requires some { 0 < length given.commands.now }
-    ensures home { OnOk result (vec_len staff.new.workers ≡ length setting.now.desks.now) }
-    ensures workers { OnOk result
-        ((O.crew staff.new.operator).workers ≡ (O.crew staff.old.operator).workers) }
-    ensures shows { IfOk result (λ found. ShowsOne setting.now.strict
-        (P.contents writer.old) (P.contents writer.new)
-        (O.crew staff.old.operator).counted (O.crew staff.new.operator).counted
-        found.memory found.refused) }
-    ensures breaks { OnErr result (BreaksOff (P.contents writer.old) (P.contents writer.new)) }
-{
-    let from = Place {
-        line: 0,
-        interval: number,
-    };
-    match interval(setting, staff, given, from, writer) {
-        Ok(passed) => return Ok(passed.found),
-        Err(fault) => return Err(fault),
-    }
-}
-
 /// Answers malformed lines without commands, for which no worker goes out.
-pub(crate) fn answer<P: Write>(
+fn answer<P: Write>(
     alloc: Global,
     strict: bool,
     malformed: &[MalformedLine<'_>],
@@ -161,6 +132,38 @@ pub(crate) fn answer<P: Write>(
     tell_malformed(alloc, malformed, &mut told)?;
     match print_interval(alloc, strict, told, writer) {
         Ok(found) => return Ok(found),
+        Err(fault) => return Err(fault),
+    }
+}
+
+/// Does the interval with this number: all commands, and malformed lines.
+pub(crate) fn whole_interval<W: Serving + Drop, O: Operating<W> + Drop, R: Wait, P: Console>(
+    setting: &Setting<'_, W, R>,
+    staff: &mut Staff<W, O>,
+    given: Given<'_>,
+    number: u64,
+    writer: &mut P,
+) -> Result<Found, PrintFault>
+    requires home { vec_len staff.old.workers ≡ length setting.now.desks.now }
+    requires whole { after_wait given.commands.now ≡ [] }
+    ensures home { OnOk result (vec_len staff.new.workers ≡ length setting.now.desks.now) }
+    ensures workers { OnOk result
+        ((O.crew staff.new.operator).workers ≡ (O.crew staff.old.operator).workers) }
+    ensures shows { IfOk result (λ found. ShowsOne setting.now.strict
+        (P.contents writer.old) (P.contents writer.new)
+        (O.crew staff.old.operator).counted (O.crew staff.new.operator).counted
+        found.memory found.refused) }
+    ensures breaks { OnErr result (BreaksOff (P.contents writer.old) (P.contents writer.new)) }
+{
+    if given.commands.is_empty() {
+        return answer(setting.alloc, setting.strict, given.malformed, writer);
+    }
+    let from = Place {
+        line: 0,
+        interval: number,
+    };
+    match interval(setting, staff, given, from, writer) {
+        Ok(passed) => return Ok(passed.found),
         Err(fault) => return Err(fault),
     }
 }

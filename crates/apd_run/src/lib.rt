@@ -1,14 +1,17 @@
 //! Runs of scripts: the commands of a script, its intervals (up to a `wait` or 4096 lines), the access point with its
 //! worker threads, and the messages about a run.
 //!
-//! Main calls: `run` and `live`, for the commands `apd run` and `apd live`, and `run_script`, for any access point. They write, for each interval,
-//! reports ordered by line and shard, and then a line of totals, which are what the reports count; or a prefix of that.
+//! Main calls: `run` and `live`, for the commands `apd run` and `apd live`, and `run_script`, for any access point. They
+//! write, for each interval, reports ordered by line and shard, with `live` then the answer to a question, and at the end a
+//! line of totals, which are what the reports count; or a prefix of that.
 #![tactic(auto)]
 
 mod access;
 mod actions;
+mod asking;
 mod collecting;
 mod console;
+mod counting;
 mod crew;
 mod feeding;
 mod found;

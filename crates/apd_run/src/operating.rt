@@ -1,15 +1,19 @@
 //! What the operator of a run can do.
 
-ghost use Rattle.std.specs.Prelude.{◌≡◌, ◌<◌, IfSome};
+ghost use Rattle.std.specs.Prelude.{◌≡◌, ◌<◌, IfOk, IfSome};
 ghost use Rattle.ap_books.specs.Counts.{Counts, none};
 ghost use Rattle.ap_books.specs.Reading.{Reads};
+ghost use Rattle.ap_live.specs.Counting.{tally};
+ghost use Rattle.apd_run.specs.Asking.{AreAgreementsInOrder, AreStationsInOrder};
 ghost use Rattle.apd_run.specs.Tallies.{told_counts};
 ghost use Rattle.apd_run.specs.Crews.{Crew, gains, with_one_more};
 
 use crate::actions::{Publication, WordUse};
 use ap_books::Totals;
 use ap_model::Event;
-use apd_text::Told;
+use ap_tagged::Tagged;
+use apd_text::{AgreementRow, ProgramRow, StationRow, Told};
+use std::alloc::{AllocError, Global};
 use std::sync::Wait;
 
 /// The queue of a shard was full: the event, and the first shard whose worker didn't get it.
@@ -45,8 +49,30 @@ pub trait Operating<W> {
         ensures same { crew self.new ≡ crew self.old }
         ensures nothing { IfSome result (λ told. told_counts told ≡ none) };
 
-    /// Takes over a worker's counts, and tells it of the loads so far.
-    fn settle(&mut self, worker: &mut W)
+    /// The known stations, by address.
+    fn stations<R: Wait>(&mut self, rt: &R, alloc: Global) -> Result<Vec<StationRow>, AllocError>
+        ensures same { crew self.new ≡ crew self.old }
+        ensures ordered { IfOk result (λ rows. AreStationsInOrder rows.items) };
+
+    /// The agreements in force, by address and TID.
+    fn agreements<R: Wait>(
+        &mut self,
+        rt: &R,
+        alloc: Global,
+    ) -> Result<Vec<AgreementRow>, AllocError>
+        ensures same { crew self.new ≡ crew self.old }
+        ensures ordered { IfOk result (λ rows. AreAgreementsInOrder rows.items) };
+
+    /// The programs in force, in the order of their hooks' numbers.
+    fn programs(&self, alloc: Global) -> Result<Vec<ProgramRow>, AllocError>;
+
+    /// What the workers that came back have counted.
+    fn counted(&self) -> Totals
+        ensures reads { Reads result (crew self.now).counted };
+
+    /// Takes over a worker's counts, which are those of its list, and tells it of the loads so far.
+    fn settle(&mut self, worker: &mut W, list: &[Tagged])
+        requires counted { taken worker.old ≡ tally list.now }
         ensures crew { crew self.new ≡ gains (crew self.old) (taken worker.old) }
         ensures worker { taken worker.new ≡ none };
 

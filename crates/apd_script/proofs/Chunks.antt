@@ -6,7 +6,8 @@ use Rattle.std.proofs.lemmas.Bool.{cases_Bool}
 use Rattle.std.proofs.lemmas.List.Splits.{slice_split-cons_yes, slice_split-cons_no}
 use Rattle.bpf_regions.specs.declared.maps.Shape.{Shape}
 use Rattle.apd_script.specs.Asked.{Asked}
-use Rattle.apd_script.specs.Batches.{Adds, Taken, Malformed, Takes, NoLine, OneMore}
+use Rattle.apd_script.specs.Batches.{Adds, Taken, Questions, Malformed, Takes, NoLine, OneMore}
+use Rattle.apd_script.specs.declared.question.Question.{Question}
 use Rattle.apd_script.specs.Lines.{line_asks}
 use Rattle.apd_script.specs.Script.{lines_of, numbered}
 
@@ -18,7 +19,7 @@ glue (x ∷ []) (y ∷ ys) = (x ++ y) ∷ ys
 glue (x ∷ w ∷ xs) more = x ∷ glue (w ∷ xs) more
 
 -- there is a first line
-first_of : (t : List ℕ) → (first : List ℕ) × (rest : List (List ℕ)) × (lines_of t ≡ first ∷ rest)
+pub first_of : (t : List ℕ) → (first : List ℕ) × (rest : List (List ℕ)) × (lines_of t ≡ first ∷ rest)
 first_of [] = ([], [], refl)
 first_of (c ∷ t) =
     let more = first_of t in
@@ -68,36 +69,39 @@ cut_longer mid line rest more cut =
     ∙ glue-after line rest (lines_of more) ∙ ap (λ l. line ∷ l) (sym (lines_of-append rest more))
 
 -- whole lines of a text are lines of a longer one
-takes_longer : (maps : List Shape) (first : ℕ) (text more : List ℕ) {asked : List (ℕ × Asked)} {bad : List ℕ} {lines : ℕ} {rest : List ℕ}
-    → Takes maps first text asked bad lines rest → Takes maps first (text ++ more) asked bad lines (rest ++ more)
+takes_longer : (maps : List Shape) (first : ℕ) (text more : List ℕ) {asked : List (ℕ × Asked)} {bad : List ℕ} {questions : List (ℕ × Question)} {lines : ℕ} {rest : List ℕ}
+    → Takes maps first text asked bad questions lines rest → Takes maps first (text ++ more) asked bad questions lines (rest ++ more)
 takes_longer maps first text more NoLine = NoLine
-takes_longer maps first text more (OneMore asked asked2 bad bad2 lines mid line rest h cut adds) =
-    OneMore asked asked2 bad bad2 lines (mid ++ more) line (rest ++ more) (takes_longer maps first text more h) (cut_longer mid line rest more cut) adds
+takes_longer maps first text more (OneMore asked asked2 bad bad2 questions own questions2 lines mid line rest h cut goes_on adds joined) =
+    OneMore asked asked2 bad bad2 questions own questions2 lines (mid ++ more) line (rest ++ more) (takes_longer maps first text more h) (cut_longer mid line rest more cut) goes_on adds joined
 
 -- what a line adds is added behind what there is
-adds_behind : (maps : List Shape) (number : ℕ) (line : List ℕ) (before : List (ℕ × Asked)) (others : List ℕ) {asked asked2 : List (ℕ × Asked)} {bad bad2 : List ℕ}
-    → Adds maps number line asked bad asked2 bad2 → Adds maps number line (before ++ asked) (others ++ bad) (before ++ asked2) (others ++ bad2)
+adds_behind : (maps : List Shape) (number : ℕ) (line : List ℕ) (before : List (ℕ × Asked)) (others : List ℕ) {asked asked2 : List (ℕ × Asked)} {bad bad2 : List ℕ} {own : List (ℕ × Question)}
+    → Adds maps number line asked bad asked2 bad2 own → Adds maps number line (before ++ asked) (others ++ bad) (before ++ asked2) (others ++ bad2) own
 adds_behind maps number line before others {asked} {asked2} {bad} {bad2} (Taken a b taken asks same) =
     Taken _ _ taken (ap (λ l. before ++ l) asks ∙ sym (append_assoc before asked (numbered number (line_asks maps line) []))) (ap (λ l. others ++ l) same)
+adds_behind maps number line before others {asked} {asked2} {bad} {bad2} (Questions a b question is asks same) =
+    Questions _ _ question is (ap (λ l. before ++ l) asks) (ap (λ l. others ++ l) same)
 adds_behind maps number line before others {asked} {asked2} {bad} {bad2} (Malformed a b not same more) =
     Malformed _ _ not (ap (λ l. before ++ l) same) (ap (λ l. others ++ l) more ∙ sym (append_assoc others bad (number ∷ [])))
 
 -- lines are taken, and then others
-takes_then : (maps : List Shape) (first : ℕ) (text : List ℕ) {asked : List (ℕ × Asked)} {bad : List ℕ} {lines : ℕ} {mid : List ℕ} → Takes maps first text asked bad lines mid
-    → {asked2 : List (ℕ × Asked)} {bad2 : List ℕ} {later : ℕ} {rest : List ℕ} → Takes maps (first + lines) mid asked2 bad2 later rest
-    → Takes maps first text (asked ++ asked2) (bad ++ bad2) (lines + later) rest
-takes_then maps first text {asked} {bad} {lines} {mid} h NoLine =
+takes_then : (maps : List Shape) (first : ℕ) (text : List ℕ) {asked : List (ℕ × Asked)} {bad : List ℕ} {questions : List (ℕ × Question)} {lines : ℕ} {mid : List ℕ} → Takes maps first text asked bad questions lines mid
+    → {asked2 : List (ℕ × Asked)} {bad2 : List ℕ} {questions2 : List (ℕ × Question)} {later : ℕ} {rest : List ℕ} → Takes maps (first + lines) mid asked2 bad2 questions2 later rest
+    → Takes maps first text (asked ++ asked2) (bad ++ bad2) (questions ++ questions2) (lines + later) rest
+takes_then maps first text {asked} {bad} {questions} {lines} {mid} h NoLine =
     let same : lines + 0 ≡ lines = omega arith in
-    rw (append-nil asked, append-nil bad, same) h
-takes_then maps first text {asked} {bad} {lines} {mid} h (OneMore asked2 asked3 bad2 bad3 later mid2 line rest k cut adds) =
+    rw (append-nil asked, append-nil bad, append-nil questions, same) h
+takes_then maps first text {asked} {bad} {questions} {lines} {mid} h (OneMore asked2 asked3 bad2 bad3 questions2 own questions3 later mid2 line rest k cut goes_on adds joined) =
     let more : lines + (later + 1) ≡ lines + later + 1 = omega arith in
     let number : first + lines + later ≡ first + (lines + later) = omega arith in
     let behind = adds_behind maps (first + lines + later) line asked bad adds in
-    rw more (OneMore (asked ++ asked2) (asked ++ asked3) (bad ++ bad2) (bad ++ bad3) (lines + later) mid2 line rest (takes_then maps first text h k) cut
-    (subst (λ n. Adds maps n line (asked ++ asked2) (bad ++ bad2) (asked ++ asked3) (bad ++ bad3)) number behind))
+    rw more (OneMore (asked ++ asked2) (asked ++ asked3) (bad ++ bad2) (bad ++ bad3) (questions ++ questions2) own (questions ++ questions3) (lines + later) mid2 line rest (takes_then maps first text h k) cut goes_on
+    (subst (λ n. Adds maps n line (asked ++ asked2) (bad ++ bad2) (asked ++ asked3) (bad ++ bad3) own) number behind)
+    (ap (λ l. questions ++ l) joined ∙ sym (append_assoc questions questions2 own)))
 
 -- lines are taken, then the text goes on, and others are taken
-pub takes_chunks : (maps : List Shape) (first lines later : ℕ) (text mid more rest : List ℕ) (asked asked2 : List (ℕ × Asked)) (bad bad2 : List ℕ)
-    → Takes maps first text asked bad lines mid → Takes maps (first + lines) (mid ++ more) asked2 bad2 later rest
-    → Takes maps first (text ++ more) (asked ++ asked2) (bad ++ bad2) (lines + later) rest
-takes_chunks maps first lines later text mid more rest asked asked2 bad bad2 h k = takes_then maps first (text ++ more) (takes_longer maps first text more h) k
+pub takes_chunks : (maps : List Shape) (first lines later : ℕ) (text mid more rest : List ℕ) (asked asked2 : List (ℕ × Asked)) (bad bad2 : List ℕ) (questions questions2 : List (ℕ × Question))
+    → Takes maps first text asked bad questions lines mid → Takes maps (first + lines) (mid ++ more) asked2 bad2 questions2 later rest
+    → Takes maps first (text ++ more) (asked ++ asked2) (bad ++ bad2) (questions ++ questions2) (lines + later) rest
+takes_chunks maps first lines later text mid more rest asked asked2 bad bad2 questions questions2 h k = takes_then maps first (text ++ more) (takes_longer maps first text more h) k

@@ -6,3 +6,4 @@ mod Parts
 mod Reading
 mod Batching
 mod Chunks
+mod Quitting

@@ -4,4 +4,5 @@ pub mod Words
 pub mod Lines
 pub mod Script
 pub mod Faults
+pub mod Questions
 pub mod Batches

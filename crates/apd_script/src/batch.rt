@@ -1,15 +1,15 @@
 //! Reading lines as they come, malformed ones beside commands.
 
-ghost use Rattle.std.specs.Prelude.{◌≡◌, ◌≤◌, ◌^◌, Some, IfOk, OnOk, OnErr, IfSome};
-ghost use Rattle.apd_script.specs.Asked.{asked_by, commands_of};
-ghost use Rattle.apd_script.specs.Batches.{numbers_of, IsTaken, Adds, Takes};
-ghost use Rattle.apd_script.specs.Lines.{line_asks};
+ghost use Rattle.std.specs.Prelude.{◌≡◌, ◌≤◌, ◌^◌, ◌↔◌, [], Some, IsTrue, IfOk, OnErr, IfSome, IfNone, ◌⊎◌};
+ghost use Rattle.apd_script.specs.Asked.{commands_of};
+ghost use Rattle.apd_script.specs.Batches.{numbers_of, questions_of, own_questions, IsMalformed, IsQuit, BeginsWithQuit, HasNoLine, Says, Adds, Leaves, Takes, Stops, after_wait};
 ghost use Rattle.apd_script.specs.Script.{Cuts};
 
 use crate::command::{Command, Numbered};
 use crate::line::{next_word, read_line};
+use crate::question::{NumberedQuestion, Question, read_question};
 use crate::read::first_line;
-use crate::why::{LineFault, line_fault};
+use crate::why::{LineFault, live_fault};
 use bpf_regions::Shapes;
 use std::alloc::{AllocError, Global};
 use std::str;
@@ -27,18 +27,38 @@ pub struct MalformedLine<'a> {
     pub fault: LineFault<'a>,
 }
 
-/// Whole lines at the beginning of a text: their commands, the malformed ones, how many they are, and the text behind
-/// them.
+/// Whole lines at the beginning of a text: their commands, the malformed ones, the question that the last one asks, if it
+/// does, how many they are, and the text behind them.
 #[derive(Drop)]
 pub struct Batch<'a> {
     pub commands: Vec<Numbered<'a>>,
     pub malformed: Vec<MalformedLine<'a>>,
+    pub question: Option<NumberedQuestion>,
     pub lines: u64,
     pub rest: &'a [u8],
 }
 
+/// What a line says that is read as it comes.
+#[derive(Clone, Copy)]
+enum Said<'a> {
+    Nothing,
+    Command(Command<'a>),
+    Question(Question),
+}
+
+/// What a line that was added means for a batch.
+#[derive(Clone, Copy)]
+enum Added {
+    GoesOn,
+    /// The line is a `wait`.
+    Waits,
+    Asks(Question),
+}
+
 /// Whether a line is `quit`.
-fn is_quit(line: &[u8]) -> bool {
+fn is_quit(line: &[u8]) -> bool
+    ensures is { IsTrue result ↔ IsQuit line.now }
+{
     let Ok(text) = str::from_utf8(line) else {
         return false;
     };
@@ -48,59 +68,68 @@ fn is_quit(line: &[u8]) -> bool {
     }
 }
 
-/// What a line asks for, if anything, or why it is malformed.
-fn take_line<'a>(shapes: &Shapes, line: &'a [u8]) -> Result<Option<Command<'a>>, LineFault<'a>>
-    ensures taken { OnOk result (IsTaken shapes.now line.entry.now) }
-    ensures asks { IfOk result (λ said. asked_by said ≡ line_asks shapes.now line.entry.now) }
-    ensures malformed { OnErr result (IsTaken shapes.now line.entry.now → ⊥) }
+/// What a line says, or why it is malformed.
+fn take_line<'a>(shapes: &Shapes, line: &'a [u8]) -> Result<Said<'a>, LineFault<'a>>
+    ensures says { IfOk result (Says shapes.now line.entry.now) }
+    ensures malformed { OnErr result (IsMalformed shapes.now line.entry.now) }
 {
     if line.len() > MOST_BYTES {
         return Err(LineFault::TooLong);
     }
     match read_line(shapes, line) {
-        Ok(said) => return Ok(said),
-        Err(_) => return Err(fault_of(shapes, line)),
+        Ok(Some(command)) => return Ok(Said::Command(command)),
+        Ok(None) => return Ok(Said::Nothing),
+        Err(_) => match read_question(shapes, line) {
+            Some(question) => return Ok(Said::Question(question)),
+            None => return Err(fault_of(shapes, line)),
+        },
     }
 }
 
 /// Why a malformed line is malformed.
 fn fault_of<'a>(shapes: &Shapes, line: &'a [u8]) -> LineFault<'a> {
-    match line_fault(line, 1, shapes) {
+    match live_fault(line, shapes) {
         Some(fault) => fault,
         None => LineFault::Other,
     }
 }
 
-/// Adds the line with this number to the commands or to the malformed lines, and returns whether it is a `wait`.
+/// Adds the line with this number to the commands or to the malformed lines, unless it is a question.
 fn add_line<'a>(
     commands: &mut Vec<Numbered<'a>>,
     malformed: &mut Vec<MalformedLine<'a>>,
     shapes: &Shapes,
     line: &'a [u8],
     number: u64,
-) -> Result<bool, AllocError>
-    ensures adds { OnOk result (Adds shapes.now number line.entry.now
+) -> Result<Added, AllocError>
+    ensures adds { IfOk result (λ added. Adds shapes.now number line.entry.now
         (commands_of commands.old.items) (numbers_of malformed.old.items)
-        (commands_of commands.new.items) (numbers_of malformed.new.items)) }
+        (commands_of commands.new.items) (numbers_of malformed.new.items)
+        (own_questions number added)) }
+    ensures leaves { IfOk result (λ added. Leaves added commands.old.items commands.new.items) }
 {
     match take_line(shapes, line) {
-        Ok(Some(command)) => {
-            let ends = matches!(&command, Command::Wait);
+        Ok(Said::Command(command)) => {
+            let waits = matches!(&command, Command::Wait);
             commands.reserve(1)?;
             commands.push_reserved(Numbered {
                 line: number,
                 command,
             });
-            return Ok(ends);
+            if waits {
+                return Ok(Added::Waits);
+            }
+            return Ok(Added::GoesOn);
         }
-        Ok(None) => return Ok(false),
+        Ok(Said::Nothing) => return Ok(Added::GoesOn),
+        Ok(Said::Question(question)) => return Ok(Added::Asks(question)),
         Err(fault) => {
             malformed.reserve(1)?;
             malformed.push_reserved(MalformedLine {
                 line: number,
                 fault,
             });
-            return Ok(false);
+            return Ok(Added::GoesOn);
         }
     }
 }
@@ -108,6 +137,8 @@ fn add_line<'a>(
 /// The first line of a text and the text behind its line feed, unless the line is `quit`, or the text has no line feed.
 fn next_line(text: &[u8]) -> Option<(&[u8], &[u8])>
     ensures cut { IfSome result (λ x. Cuts text.now x.0.now (Some x.1)) }
+    ensures goes_on { IfSome result (λ x. IsQuit x.0.now → ⊥) }
+    ensures none { IfNone result (BeginsWithQuit text.now ⊎ HasNoLine text.now) }
 {
     let (line, next) = first_line(text);
     let next = next?;
@@ -118,14 +149,18 @@ fn next_line(text: &[u8]) -> Option<(&[u8], &[u8])>
 }
 
 /// Whether the first line of a text is `quit`, and the text has a line feed.
-pub fn begins_with_quit(text: &[u8]) -> bool {
-    let (line, next) = first_line(text);
-    next.is_some() && is_quit(line)
+pub fn begins_with_quit(text: &[u8]) -> bool
+    ensures is { IsTrue result ↔ BeginsWithQuit text.now }
+{
+    match first_line(text) {
+        (line, Some(_)) => is_quit(line),
+        (_, None) => false,
+    }
 }
 
 /// Takes whole lines from the beginning of a text, the first of which has this number: up to and including the first
-/// `wait`, up to a line `quit`, or 4096 lines. A malformed line, or one of more than 8192 bytes, asks for nothing and is
-/// listed beside the commands. `shapes` are the shapes of the configured maps.
+/// `wait` or question, up to a line `quit`, or 4096 lines. A malformed line, or one of more than 8192 bytes, asks for
+/// nothing and is listed beside the commands. `shapes` are the shapes of the configured maps.
 pub fn read_batch<'a>(
     alloc: Global,
     text: &'a [u8],
@@ -135,29 +170,41 @@ pub fn read_batch<'a>(
     requires countable { first ≤ 2 ^ 63 }
     ensures takes { IfOk result (λ batch. Takes shapes.now first text.entry.now
         (commands_of batch.commands.items) (numbers_of batch.malformed.items)
-        batch.lines batch.rest.now) }
+        (questions_of batch.question) batch.lines batch.rest.now) }
     ensures few { IfOk result (λ batch. batch.lines ≤ 4096) }
+    ensures waits { IfOk result (λ batch. after_wait batch.commands.items ≡ []) }
+    ensures stops { IfOk result (λ batch.
+        Stops batch.commands.items batch.question batch.lines batch.rest.now) }
 {
     let mut commands = Vec::new(alloc);
     let mut malformed = Vec::new(alloc);
     let mut lines = 0u64;
     let mut rest = text;
     'lines: while let Some((line, next)) = next_line(rest) {
-        let ends = add_line(&mut commands, &mut malformed, shapes, line, first + lines)?;
+        let number = first + lines;
+        let added = add_line(&mut commands, &mut malformed, shapes, line, number)?;
         rest = next;
         lines += 1;
-        if ends || lines == MOST_LINES {
-            return Ok(Batch {
-                commands,
-                malformed,
-                lines,
-                rest,
-            });
-        }
+        let question = match added {
+            Added::GoesOn if lines < MOST_LINES => continue,
+            Added::GoesOn | Added::Waits => None,
+            Added::Asks(question) => Some(NumberedQuestion {
+                line: number,
+                question,
+            }),
+        };
+        return Ok(Batch {
+            commands,
+            malformed,
+            question,
+            lines,
+            rest,
+        });
     }
     Ok(Batch {
         commands,
         malformed,
+        question: None,
         lines,
         rest,
     })

@@ -3,7 +3,7 @@
 //! Main calls: `read_script` and `read_batch`. It depends on `bpf_regions` and `mac_types`. `read_script` returns exactly
 //! the commands of the text, each with its line number, or the number of the first malformed line. `line_fault` says in
 //! words why that line is malformed. `read_batch` takes whole lines from the beginning of a text, and returns the
-//! malformed ones beside the commands; [`laws`] shows that lines do not depend on how a text is divided.
+//! malformed ones and a question beside the commands; [`laws`] shows that lines do not depend on how a text is divided.
 #![tactic(auto)]
 
 mod batch;
@@ -13,6 +13,7 @@ mod hex_text;
 pub mod laws;
 mod line;
 mod operands;
+mod question;
 mod read;
 mod why;
 mod words;
@@ -21,5 +22,6 @@ pub use batch::{Batch, MOST_BYTES, MalformedLine, begins_with_quit, read_batch};
 pub use command::{Command, MapWord, Numbered};
 pub use fault::ScriptFault;
 pub use hex_text::HexText;
+pub use question::{NumberedQuestion, Question};
 pub use read::read_script;
-pub use why::{Form, LineFault, OperandFault, line_fault};
+pub use why::{Form, LineFault, OperandFault, line_fault, usages};

@@ -92,7 +92,7 @@ fn read_words<'a>(shapes: &Shapes, line: &'a str) -> Result<Option<Command<'a>>,
 }
 
 /// Whether a line has a tab or a carriage return. It tests every byte, since a loop without a branch is fastest.
-fn has_forbidden(line: &[u8]) -> bool
+pub(crate) fn has_forbidden(line: &[u8]) -> bool
     ensures is { result ≡ list_any is_forbidden line.now }
 {
     let mut found = false;

@@ -1,10 +1,13 @@
-//! Why a line of a script is malformed, in words for people.
+//! How lines are written, and why one is malformed, in words for people.
+
+ghost use Rattle.std.specs.Prelude.{◌≡◌, ◌+◌, length, vec_len, IfOk, OnOk};
 
 use crate::hex_text::{HexText, are_digits};
 use crate::line::{cut_words, next_word};
 use crate::read::first_line;
 use crate::words::{address, hook_named, number, number_below};
 use bpf_regions::{Scope, Shape, Shapes};
+use std::alloc::{AllocError, Global};
 use std::{fmt, str};
 
 /// Why a line is malformed. It is displayed in words; no contract promises anything of them.
@@ -76,7 +79,7 @@ pub(crate) enum Operand {
     Value,
 }
 
-/// How a command is written: its name, its operands, and the scope of the map whose words it takes, if it takes any.
+/// How a line is written: its name, its operands, and the scope of the map whose words it takes, if it takes any.
 #[derive(Clone, Copy, Debug)]
 pub struct Form {
     keyword: &'static str,
@@ -142,6 +145,47 @@ const FORMS: [Form; 11] = [
     },
 ];
 
+/// The lines of `apd live` alone that ask to be told something.
+const QUESTIONS: [Form; 6] = [
+    Form {
+        keyword: "help",
+        operands: &[],
+        scope: None,
+    },
+    Form {
+        keyword: "stations",
+        operands: &[],
+        scope: None,
+    },
+    Form {
+        keyword: "agreements",
+        operands: &[],
+        scope: None,
+    },
+    Form {
+        keyword: "programs",
+        operands: &[],
+        scope: None,
+    },
+    Form {
+        keyword: "counters",
+        operands: &[],
+        scope: None,
+    },
+    Form {
+        keyword: "dump",
+        operands: &[Operand::Map],
+        scope: None,
+    },
+];
+
+/// The line that ends `apd live`.
+const QUIT: [Form; 1] = [Form {
+    keyword: "quit",
+    operands: &[],
+    scope: None,
+}];
+
 /// The first bytes of capture files.
 const CAPTURES: [&[u8]; 5] = [
     b"\xd4\xc3\xb2\xa1",
@@ -166,6 +210,25 @@ pub fn line_fault<'a>(text: &'a [u8], number: u64, shapes: &Shapes) -> Option<Li
     if number == 1 && line.starts_with(b"\xef\xbb\xbf") {
         return Some(LineFault::ByteOrderMark);
     }
+    words_fault(shapes, line, &[])
+}
+
+/// Why a line of `apd live` is malformed; `None` if it is a line of a script, or a question.
+pub(crate) fn live_fault<'a>(line: &'a [u8], shapes: &Shapes) -> Option<LineFault<'a>> {
+    if is_capture(line) {
+        return Some(LineFault::Capture);
+    }
+    if line.starts_with(b"\x7fELF") {
+        return Some(LineFault::ObjectFile);
+    }
+    if line.starts_with(b"\xef\xbb\xbf") {
+        return Some(LineFault::ByteOrderMark);
+    }
+    words_fault(shapes, line, &QUESTIONS)
+}
+
+/// Why the bytes of a line aren't written like a command, or like one of these forms.
+fn words_fault<'a>(shapes: &Shapes, line: &'a [u8], more: &[Form]) -> Option<LineFault<'a>> {
     if line.contains(&b'\t') {
         return Some(LineFault::Tab);
     }
@@ -173,7 +236,7 @@ pub fn line_fault<'a>(text: &'a [u8], number: u64, shapes: &Shapes) -> Option<Li
         return Some(LineFault::CarriageReturn);
     }
     match str::from_utf8(line) {
-        Ok(line) => command_fault(shapes, line),
+        Ok(line) => command_fault(shapes, line, more),
         Err(_) => Some(LineFault::Encoding),
     }
 }
@@ -199,17 +262,22 @@ fn line_at(text: &[u8], number: u64) -> &[u8] {
     first_line(rest).0
 }
 
-/// Why the words of a line aren't a command.
-fn command_fault<'a>(shapes: &Shapes, line: &'a str) -> Option<LineFault<'a>> {
-    match next_word(line) {
-        Some((word, rest)) => match form_of(word) {
-            Some(form) => form_fault(shapes, form, rest),
-            None => Some(LineFault::UnknownWord {
-                word,
-                near: near(word),
-            }),
-        },
-        None => None,
+/// Why the words of a line aren't a command, nor of one of these forms.
+fn command_fault<'a>(shapes: &Shapes, line: &'a str, more: &[Form]) -> Option<LineFault<'a>> {
+    let (word, rest) = next_word(line)?;
+    let form = match form_of(&FORMS, word) {
+        Some(form) => Some(form),
+        None => form_of(more, word),
+    };
+    match form {
+        Some(form) => form_fault(shapes, form, rest),
+        None => Some(LineFault::UnknownWord {
+            word,
+            near: match near(&FORMS, word) {
+                Some(name) => Some(name),
+                None => near(more, word),
+            },
+        }),
     }
 }
 
@@ -239,18 +307,19 @@ fn operand_fault<'a>(shapes: &Shapes, form: Form, words: &[&'a str]) -> Option<L
     }
 }
 
-fn form_of(word: &str) -> Option<Form> {
-    for form in FORMS {
+/// The form with this name.
+fn form_of(forms: &[Form], word: &str) -> Option<Form> {
+    for form in forms {
         if form.keyword == word {
-            return Some(form);
+            return Some(*form);
         }
     }
     None
 }
 
-/// The name of a command that differs from a word by one typing error.
-fn near(word: &str) -> Option<&'static str> {
-    for form in FORMS {
+/// The name of a form that differs from a word by one typing error.
+fn near(forms: &[Form], word: &str) -> Option<&'static str> {
+    for form in forms {
         if is_near(word.as_bytes(), form.keyword.as_bytes()) {
             return Some(form.keyword);
         }
@@ -309,7 +378,7 @@ fn first_fault(shapes: &Shapes, form: Form, words: &[&str]) -> Option<(usize, Op
     }
     for (place, operand) in form.operands.iter().enumerate() {
         let word = *words.get(place)?;
-        if let Some(fault) = word_fault(*operand, word) {
+        if let Some(fault) = word_fault(shapes, *operand, word) {
             return Some((place, fault));
         }
     }
@@ -317,7 +386,7 @@ fn first_fault(shapes: &Shapes, form: Form, words: &[&str]) -> Option<(usize, Op
 }
 
 /// Why an operand isn't allowed, if the command takes no map's words.
-fn word_fault(operand: Operand, word: &str) -> Option<OperandFault> {
+fn word_fault(shapes: &Shapes, operand: Operand, word: &str) -> Option<OperandFault> {
     let (is_one, fault) = match operand {
         Operand::Digits => (HexText::new(word).is_some(), digit_fault(word)),
         Operand::Units => (
@@ -331,6 +400,11 @@ fn word_fault(operand: Operand, word: &str) -> Option<OperandFault> {
         ),
         Operand::Tid => (number_below(8, word).is_some(), OperandFault::NoTid),
         Operand::Hook => (hook_named(word).is_some(), OperandFault::NoHook),
+        Operand::Map if number(word).is_none() => (false, OperandFault::NoNumber),
+        Operand::Map => (
+            shape_named(shapes, word).is_some(),
+            OperandFault::NoMap(shapes.len()),
+        ),
         _ => return None,
     };
     if is_one { None } else { Some(fault) }
@@ -415,17 +489,55 @@ impl Operand {
     }
 }
 
+/// The names of operands, each after a space.
+fn write_operands<W: fmt::Write>(f: &mut fmt::Formatter<W>, operands: &[Operand]) -> fmt::Result {
+    for operand in operands {
+        write!(f, " {}", operand.name())?;
+    }
+    Ok(())
+}
+
 impl fmt::Display for Form {
     fn fmt<W: fmt::Write>(&self, f: &mut fmt::Formatter<W>) -> fmt::Result {
         write!(f, "`{}` takes", self.keyword)?;
         if self.operands.is_empty() {
             f.write_str(" nothing")?;
         }
-        for operand in self.operands {
-            write!(f, " {}", operand.name())?;
-        }
-        Ok(())
+        write_operands(f, self.operands)
     }
+}
+
+/// A form as one writes it.
+#[derive(Clone, Copy)]
+struct Usage(Form);
+
+impl fmt::Display for Usage {
+    fn fmt<W: fmt::Write>(&self, f: &mut fmt::Formatter<W>) -> fmt::Result {
+        f.write_str(self.0.keyword)?;
+        write_operands(f, self.0.operands)
+    }
+}
+
+/// Appends how lines of these forms are written.
+fn add_usages(alloc: Global, forms: &[Form], usages: &mut Vec<String>) -> Result<(), AllocError>
+    ensures many { OnOk result (vec_len usages.new ≡ vec_len usages.old + length forms.now) }
+{
+    for form in forms {
+        let usage = format!(in alloc; "{}", Usage(*form))?;
+        usages.push(usage)?;
+    }
+    Ok(())
+}
+
+/// How each of the 18 kinds of lines of `apd live` is written.
+pub fn usages(alloc: Global) -> Result<Vec<String>, AllocError>
+    ensures many { IfOk result (λ usages. vec_len usages ≡ 18) }
+{
+    let mut usages = Vec::new(alloc);
+    add_usages(alloc, &FORMS, &mut usages)?;
+    add_usages(alloc, &QUESTIONS, &mut usages)?;
+    add_usages(alloc, &QUIT, &mut usages)?;
+    Ok(usages)
 }
 
 /// Writes the fault of an operand.

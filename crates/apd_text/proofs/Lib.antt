@@ -1,4 +1,5 @@
 pub mod Moves
+pub mod Rows
 pub mod Listed
 pub mod Standing
 pub mod Rawly

@@ -1,6 +1,7 @@
 pub mod Words
 pub mod Lines
 pub mod Order
+pub mod Answers
 pub mod Moving
 pub mod Pages
 pub mod Listing

@@ -2,6 +2,7 @@
 //! pages on them.
 #![tactic(auto)]
 
+mod answers;
 mod contexts;
 mod listing;
 mod numbers;
@@ -11,6 +12,7 @@ mod refusals;
 mod reports;
 mod trace;
 
+pub use answers::{AgreementRow, Answer, EntryRow, ProgramRow, StationRow, print_answer};
 pub use contexts::{ContextFault, context_for};
 pub use listing::listing_text;
 pub use numbers::{list_text, ranges_text};

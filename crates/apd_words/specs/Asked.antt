@@ -27,6 +27,7 @@ pub data Asked : Type 0 where
   Assemble : Text → Asked
   Disassemble : Text → Option Text → Bool → Asked
   ListRaw : Text → Option Text → Bool → Asked
+  Graph : Text → Option Text → Asked
   Trace : Hook → Text → Text → Option Text → ℕ → Option Text → Bool → Asked
   Certify : Hook → Text → Option Text → ℕ → Asked
   Check : Hook → Text → Text → Option Text → Asked
@@ -65,6 +66,10 @@ asked_listing source slots = Disassemble source.file.now (config_of source) slot
 abbrev pub asked_slots : Source → Bool → Asked
 asked_slots source slots = ListRaw source.file.now (config_of source) slots
 
+-- the question of `disasm --dot`
+abbrev pub asked_graph : Source → Asked
+asked_graph source = Graph source.file.now (config_of source)
+
 -- the question of `trace`
 abbrev pub asked_run : Trial → Asked
 asked_run trial =
@@ -88,6 +93,7 @@ asked_of (question.Verify subject explain) = asked_verdict subject
 asked_of (question.Assemble file) = Assemble file.now
 asked_of (question.Disassemble source slots) = asked_listing source slots
 asked_of (question.ListRaw source slots) = asked_slots source slots
+asked_of (question.Graph source) = asked_graph source
 asked_of (question.Trace trial) = asked_run trial
 asked_of (question.Certify subject) = asked_certificate subject
 asked_of (question.Check claim) = asked_check claim
@@ -166,13 +172,14 @@ assemble_of rows = do
   file ← first_of (codes "FILE") rows
   Some (Assemble file)
 
--- `disasm FILE [--config C] [--slots] [--raw]`
+-- `disasm FILE [--config C] [--slots] [--raw] [--dot]`
 abbrev pub disassemble_of : List Row → Option Asked
 disassemble_of rows = do
   file ← first_of (codes "FILE") rows
-  (if is_set (codes "raw") rows
+  (if is_set (codes "dot") rows then Some (Graph file (first_of (codes "config") rows))
+      else (if is_set (codes "raw") rows
       then Some (ListRaw file (first_of (codes "config") rows) (is_set (codes "slots") rows))
-      else Some (Disassemble file (first_of (codes "config") rows) (is_set (codes "slots") rows)))
+      else Some (Disassemble file (first_of (codes "config") rows) (is_set (codes "slots") rows))))
 
 -- `trace HOOK FILE FRAME [--config C] [--states N] [--context KEY=VALUE,..] [--from-frame]
 -- [--explain]`

@@ -92,11 +92,11 @@ verify hooks =
 abbrev pub assemble : Shape
 assemble = command (codes "asm") (file ∷ output ∷ [])
 
--- `disasm FILE [--config C] [--slots] [--raw] [-o FILE]`
+-- `disasm FILE [--config C] [--slots] [--raw] [--dot] [-o FILE]`
 abbrev pub disassemble : Shape
 disassemble =
     command (codes "disasm") (file ∷ config ∷ flag (codes "slots") ∷ flag (codes "raw")
-    ∷ output ∷ [])
+    ∷ flag (codes "dot") ∷ output ∷ [])
 
 -- `trace HOOK FILE FRAME [--config C] [--states N] [--context KEY=VALUE,..] [--from-frame]
 -- [--explain]`

@@ -176,7 +176,9 @@ fn disassemble<'a>(alloc: Global) -> Made<'a>
     let slots = "Print each line's slot before it, and mark jump targets";
     let command = with_arg(command, flag(alloc, "slots", slots));
     let raw = "Print slots that are no instructions, too, as digits";
-    with_arg(with_arg(command, flag(alloc, "raw", raw)), output(alloc))
+    let command = with_arg(command, flag(alloc, "raw", raw));
+    let dot = "Print the control-flow graph, for graphviz";
+    with_arg(with_arg(command, flag(alloc, "dot", dot)), output(alloc))
 }
 
 fn trace<'a>(alloc: Global, hooks: &'a [&'a str]) -> Made<'a>

@@ -96,6 +96,8 @@ pub enum Question<'a> {
     Disassemble { source: Source<'a>, slots: bool },
     /// Lists all slots, also those that aren't instructions.
     ListRaw { source: Source<'a>, slots: bool },
+    /// The control-flow graph, for graphviz.
+    Graph { source: Source<'a> },
     Trace(Trial<'a>),
     Certify { subject: Subject<'a> },
     Check(Claim<'a>),

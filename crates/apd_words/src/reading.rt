@@ -75,7 +75,9 @@ fn disassemble<'a>(matches: &ArgMatches<'a>) -> Option<Question<'a>>
     let config = value(matches, "config");
     let slots = flag(matches, "slots");
     let source = Source { file, config };
-    if flag(matches, "raw") {
+    if flag(matches, "dot") {
+        Some(Question::Graph { source })
+    } else if flag(matches, "raw") {
         Some(Question::ListRaw { source, slots })
     } else {
         Some(Question::Disassemble { source, slots })

@@ -1,3 +1,4 @@
 pub mod Standings
 pub mod Classes
 pub mod Sound
+pub mod Listing

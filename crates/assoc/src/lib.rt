@@ -13,4 +13,4 @@ mod standing;
 
 pub use class::{Class, ClassAnswer, class_check, class_of};
 pub use link::Link;
-pub use standing::{Known, Standing, aid_of, state_of};
+pub use standing::{Known, KnownStation, Standing, aid_of, state_of};

@@ -1,11 +1,14 @@
 //! The stations of one shard.
 
-ghost use Rattle.std.specs.Prelude.{◌≡◌, ◌≢◌, ℕ, true, false, ◌+◌, ◌*◌, ◌<◌, ◌≤◌, ◌↔◌, IsTrue, None, Some, IsSome, OnOk, OnErr, MatchOption, ◌⊎◌, List};
+ghost use Rattle.std.specs.Prelude.{◌≡◌, ◌≢◌, ℕ, true, false, ◌+◌, ◌*◌, ◌<◌, ◌≤◌, ◌↔◌, IsTrue, None, Some, IsSome, IfOk, OnOk, OnErr, MatchOption, ◌⊎◌, List, map};
 ghost use Rattle.assoc.specs.declared.standing.Known.{Known};
-ghost use Rattle.assoc.specs.Standings.{IsFull, IsFree, IsLeastFree, NoneTwice, HoldsAsTheyStand, standing, IsMoved, disassociated, associated_count};
+ghost use Rattle.std.specs.List.{IsDistinct};
+ghost use Rattle.std.specs.Map.{keys_of};
+ghost use Rattle.assoc.specs.Standings.{IsFull, IsFree, IsLeastFree, NoneTwice, HoldsAsTheyStand, same_address, standing, IsMoved, disassociated, associated_count};
+ghost use Rattle.assoc.specs.Listing.{ListsStations, row_of};
 
 use crate::holders::Holders;
-use crate::standing::{Known, Standing};
+use crate::standing::{Known, KnownStation, Standing};
 use mac_frame::Address;
 use std::alloc::{AllocError, Global};
 use std::collections::HashMap;
@@ -52,6 +55,23 @@ fn is_open(holder: Option<Address>, station: Address) -> bool
     }
 }
 
+/// The entries of a table of stations, in the table's order.
+fn entries_of(
+    alloc: Global,
+    stations: &HashMap<Address, Known>,
+) -> Result<Vec<KnownStation>, AllocError>
+    ensures rows { IfOk result (λ rows. rows.items ≡ map row_of stations.now.entries) }
+    ensures apart { IsDistinct same_address (keys_of stations.now.entries) }
+{
+    stations
+        .iter()
+        .map(|(station, known)| KnownStation {
+            station: *station,
+            known: *known,
+        })
+        .collect(alloc)
+}
+
 impl Link {
     /// No station is known.
     pub fn new(alloc: Global, shard: u16) -> Self
@@ -79,6 +99,15 @@ impl Link {
         ensures { result ≡ standing self.now station }
     {
         self.stations.get(&station).copied()
+    }
+
+    /// The known stations, each once with its standing, by increasing addresses.
+    pub fn known_stations(&self, alloc: Global) -> Result<Vec<KnownStation>, AllocError>
+        ensures { IfOk result (λ rows. ListsStations (standing self.now) rows.items) }
+    {
+        let mut rows = entries_of(alloc, &self.stations)?;
+        rows.sort_unstable_by_key(|row| row.station);
+        Ok(rows)
     }
 
     /// Whether no further station can be known, since 512 are.

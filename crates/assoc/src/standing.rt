@@ -3,6 +3,8 @@
 ghost use Rattle.std.specs.Prelude.{◌≡◌};
 ghost use Rattle.assoc.specs.Standings.{state_of, aid_of};
 
+use mac_frame::Address;
+
 /// The standing of a known station (IEEE 802.11-2016, 11.3.1). There is no RSN, so States 3 and 4 are one.
 #[derive(Clone, Copy, Debug, PartialEq, Eq)]
 pub enum Known {
@@ -10,6 +12,13 @@ pub enum Known {
     Authenticated,
     /// State 3, with the association identifier, from 1 to 2007.
     Associated(u16),
+}
+
+/// A known station, with its standing.
+#[derive(Clone, Copy, Debug, PartialEq, Eq)]
+pub struct KnownStation {
+    pub station: Address,
+    pub known: Known,
 }
 
 /// A station's standing. None is State 1: the station is unknown.

@@ -4,6 +4,7 @@ mod Followed
 mod Kept
 mod Known
 mod Pointers
+mod Marked
 mod Slots
 mod Stacks
 mod Values

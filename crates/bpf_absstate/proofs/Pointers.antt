@@ -41,7 +41,7 @@ held-copies (r ∷ rs) [] h = absurd h
 abbrev pub changed_so_far : (AbsVal → AbsVal) → List AbsVal → ℕ → List AbsVal
 changed_so_far g vs k = map g (take k vs) ++ drop k vs
 
-one_changed : (g : AbsVal → AbsVal) (vs : List AbsVal) (k : ℕ) (d : AbsVal) → k < length vs →
+pub one_changed : (g : AbsVal → AbsVal) (vs : List AbsVal) (k : ℕ) (d : AbsVal) → k < length vs →
     slice_set (changed_so_far g vs k) k (g (get_or vs k d)) ≡ changed_so_far g vs (k + 1)
 one_changed g vs k d h =
     let v = get_or vs k d in
@@ -50,7 +50,7 @@ one_changed g vs k d h =
     set_at (map g (take k vs)) v (drop (k + 1) vs) (g v) k before ∙
     sym (ap (λ t. t ++ drop (k + 1) vs) (ap (map g) (take_more vs k d h) ∙ map-append g (take k vs) (v ∷ [])) ∙ append_assoc (map g (take k vs)) (g v ∷ []) (drop (k + 1) vs))
 
-unchanged_yet : (g : AbsVal → AbsVal) (vs : List AbsVal) (k : ℕ) (d : AbsVal) → k < length vs → get_or (changed_so_far g vs k) k d ≡ get_or vs k d
+pub unchanged_yet : (g : AbsVal → AbsVal) (vs : List AbsVal) (k : ℕ) (d : AbsVal) → k < length vs → get_or (changed_so_far g vs k) k d ≡ get_or vs k d
 unchanged_yet g vs k d h =
     let before : length (map g (take k vs)) ≡ k = length-map (take k vs) g ∙ length-take-le k vs (omega (arith, h)) in
     ap (λ rest. get_or (map g (take k vs) ++ rest) k d) (drop_more vs k d h) ∙ get_or_at (map g (take k vs)) (get_or vs k d) (drop (k + 1) vs) d k before
@@ -62,8 +62,8 @@ changed_more g rs vs k d new is within same held =
     let was : (get_or rs k d).value ≡ get_or vs k d.value = held-at rs k d ∙ ap (λ l. get_or l k d.value) is ∙ unchanged_yet g vs k d.value inside in
     held-set rs k new (g (get_or vs k d.value)) (changed_so_far g vs k) is (held ∙ ap g was) ∙ one_changed g vs k d.value inside
 
-pub changed_all : (g : AbsVal → AbsVal) (rs : List (Rc AbsVal Global)) (vs : List AbsVal) (k : ℕ) → held_by rs ≡ changed_so_far g vs k → length vs ≤ k → held_by rs ≡ map g vs
-changed_all g rs vs k is past =
+pub changed_all : (g : AbsVal → AbsVal) (now vs : List AbsVal) (k : ℕ) → now ≡ changed_so_far g vs k → length vs ≤ k → now ≡ map g vs
+changed_all g now vs k is past =
     is ∙ ap (λ l. map g l ++ drop k vs) (take_all k vs past) ∙ ap (λ l. map g vs ++ l) (drop_all k vs past) ∙ append-nil (map g vs)
 
 -- ---- inclusion of two lists, from an index on
@@ -71,13 +71,13 @@ changed_all g rs vs k is past =
 next : (k : ℕ) → suc k ≡ k + 1
 next k = omega arith
 
-from_here : (rooms others : List Room) (a b : List AbsVal) (k : ℕ) (x y : AbsVal) → k < length a → k < length b →
+pub from_here : (rooms others : List Room) (a b : List AbsVal) (k : ℕ) (x y : AbsVal) → k < length a → k < length b →
     values_included rooms others (drop k a) (drop k b) ≡ (value_included rooms others (get_or a k x) (get_or b k y) && values_included rooms others (drop (k + 1) a) (drop (k + 1) b))
 unfolding values_included
 from_here rooms others a b k x y h g =
     rw (drop_more a k x h, drop_more b k y g) refl
 
-past_end : (rooms others : List Room) (a b : List AbsVal) (k : ℕ) → length a ≤ k → length a ≡ length b → values_included rooms others (drop k a) (drop k b) ≡ true
+pub past_end : (rooms others : List Room) (a b : List AbsVal) (k : ℕ) → length a ≤ k → length a ≡ length b → values_included rooms others (drop k a) (drop k b) ≡ true
 unfolding values_included
 past_end rooms others a b k h same = rw (drop_all k a h, drop_all k b (omega (arith, h, same))) refl
 

@@ -123,7 +123,7 @@ impl CallFrame {
     {
         let kept = self.kept.without_label(label)?;
         let mut stack = self.stack.clone()?;
-        stack.forget(label)?;
+        stack.forget(label);
         Ok(CallFrame {
             return_slot: self.return_slot,
             kept,

@@ -1,15 +1,16 @@
 //! What registers may hold. Copies share each value until one of them writes it.
 
-ghost use Rattle.std.specs.Prelude.{◌≡◌, ◌+◌, ◌<◌, [], ◌∷◌, length, map, replicate, slice_get, slice_set, Some, OnOk, OnErr, IfOk, IfSome, IfNone, true};
+ghost use Rattle.std.specs.Prelude.{◌≡◌, ◌+◌, ◌<◌, ◌≤◌, ◌||◌, [], ◌∷◌, length, map, replicate, slice_get, slice_set, Some, OnOk, OnErr, IfOk, IfSome, IfNone, true};
 ghost use Rattle.bpf_absval.specs.declared.value.AbsVal.TheVariants.{Unset};
-ghost use Rattle.bpf_absval.specs.Unlabelled.{unlabelled};
+ghost use Rattle.bpf_absval.specs.Marked.{is_marked, OthersStay, seen};
+ghost use Rattle.bpf_absval.specs.Unlabelled.{unlabelled, has_label, bare};
 ghost use Rattle.bpf_absstate.specs.Difference.{lies_in_at, IsValueOutside};
 ghost use Rattle.bpf_absstate.specs.Inclusion.{values_included};
 ghost use Rattle.bpf_absstate.specs.Shared.{held_by};
 ghost use Rattle.bpf_absstate.specs.View.{entry_registers, stack_end, main_frame, callee_registers, caller_registers, kept_of, without_arguments};
 
 use bpf_absnum::AbsNum;
-use bpf_absval::{AbsRegion, AbsVal, Rooms};
+use bpf_absval::{AbsRegion, AbsVal, Marks, Rooms};
 use std::alloc::{AllocError, Global};
 use std::marker::Model;
 use std::rc::Rc;
@@ -69,16 +70,20 @@ impl Clone for Registers {
 #[derive(Drop)]
 pub struct Kept {
     values: [Rc<AbsVal>; 4],
+    /// The values whose label is forgotten: none has a label, whatever `values` says.
+    marks: Marks,
 }
 
 impl Model for Kept {
     ghost use Rattle.std.specs.Prelude.{◌≡◌, List, length};
     ghost use Rattle.bpf_absval.specs.declared.value.AbsVal.{AbsVal};
+    ghost use Rattle.bpf_absval.specs.Marked.{seen};
+    ghost use Rattle.bpf_absval.specs.Unlabelled.{bare};
     ghost use Rattle.bpf_absstate.specs.Shared.{held_by};
 
     ghost Value = { List AbsVal };
 
-    ghost view = { λ a. held_by a.values };
+    ghost view = { λ a. seen bare a.marks.bits 0 (held_by a.values) };
 
     ghost invariant = { λ a. length a.values ≡ 4 };
 }
@@ -88,7 +93,10 @@ impl Clone for Kept {
 
     fn clone(&self) -> Result<Kept, AllocError> {
         let values = self.values.clone()?;
-        Ok(Kept { values })
+        Ok(Kept {
+            values,
+            marks: self.marks,
+        })
     }
 }
 
@@ -128,6 +136,32 @@ fn take_labels(values: &mut [Rc<AbsVal>], label: u16) -> Result<(), AllocError>
         take_label(&mut values[k], label)?;
     }
     Ok(())
+}
+
+/// The marks, and one at `index` if the value there has the label.
+fn marked(marks: Marks, index: usize, value: &AbsVal, label: u16) -> Marks
+    requires { index < 64 }
+    ensures here { is_marked result.bits index
+        ≡ (has_label label value.now || is_marked marks.bits index) }
+    ensures others { OthersStay index marks.bits result.bits }
+{
+    if value.has_label(label) {
+        return marks.with(index);
+    }
+    marks
+}
+
+/// The marks of the values that have lost their label, once this one is forgotten too. `marks` are those before.
+fn forgotten(values: &[Rc<AbsVal>], marks: Marks, label: u16) -> Marks
+    requires { length values.now ≤ 64 }
+    ensures { seen bare result.bits 0 (held_by values.now)
+        ≡ map (unlabelled label) (seen bare marks.bits 0 (held_by values.now)) }
+{
+    let mut lost = marks;
+    for k in 0..values.len() {
+        lost = marked(lost, k, &values[k], label);
+    }
+    lost
 }
 
 /// An index at which the value of `a` isn't included in that of `b`.
@@ -257,7 +291,7 @@ impl Values {
             self.values[8].clone()?,
             self.values[9].clone()?,
         ];
-        Ok(Kept { values })
+        Ok(Kept::of(values))
     }
 
     #[tactic(auto, using(crate::proofs::Pointers::got_set))]
@@ -302,30 +336,55 @@ impl Values {
 }
 
 impl Kept {
+    /// Those values, with their labels.
+    fn of(values: [Rc<AbsVal>; 4]) -> Kept
+        ensures is { result ≡ held_by values }
+    {
+        Kept {
+            values,
+            marks: Marks::none(),
+        }
+    }
+
     /// The values kept for the main function's caller: all unset.
     pub fn none(alloc: Global) -> Result<Kept, AllocError>
         ensures is { IfOk result (λ kept. kept ≡ main_frame.kept) }
     {
         let none = Rc::new(alloc, AbsVal::Unset)?;
         let values = [none.clone()?, none.clone()?, none.clone()?, none];
-        Ok(Kept { values })
+        Ok(Kept::of(values))
+    }
+
+    fn get(&self, number: usize) -> AbsVal
+        requires { number < 4 }
+        ensures is { slice_get self.now number ≡ Some result }
+    {
+        let value = *self.values[number];
+        if self.marks.has(number) {
+            return value.bare();
+        }
+        value
     }
 
     fn pointer(&self, number: usize) -> Result<Rc<AbsVal>, AllocError>
         requires { number < 4 }
         ensures is { IfOk result (λ held. slice_get self.now number ≡ Some held.value) }
     {
-        let held = self.values[number].clone()?;
+        let mut held = self.values[number].clone()?;
+        if self.marks.has(number) {
+            let value = held.bare();
+            write(&mut held, value)?;
+        }
         Ok(held)
     }
 
-    /// The values without a label.
+    /// The values without a label. They stay shared.
     pub fn without_label(&self, label: u16) -> Result<Kept, AllocError>
         ensures is { IfOk result (λ kept. kept ≡ map (unlabelled label) self.now) }
     {
-        let mut values = self.values.clone()?;
-        take_labels(&mut values, label)?;
-        Ok(Kept { values })
+        let values = self.values.clone()?;
+        let marks = forgotten(&self.values, self.marks, label);
+        Ok(Kept { values, marks })
     }
 
     /// One of the values that isn't included in the other's; `None` if there is none.
@@ -335,7 +394,14 @@ impl Kept {
         ensures some { IfSome result (IsValueOutside rooms.now others.now self.now other.now) }
         ensures few { IfSome result (λ number. number < 4) }
     {
-        first_outside(&self.values, &other.values, rooms, others)
+        let _values = &self.values;
+        let _others = &other.values;
+        for k in 0..4 {
+            if !self.lies_in(other, k, rooms, others) {
+                return Some(k);
+            }
+        }
+        None
     }
 
     /// Whether one of the values is included in the other's.
@@ -343,6 +409,11 @@ impl Kept {
         requires { number < 4 }
         ensures is { result ≡ lies_in_at rooms.now others.now self.now other.now number }
     {
+        if self.marks.has(number) || other.marks.has(number) {
+            return self
+                .get(number)
+                .is_included(&other.get(number), rooms, others);
+        }
         self.values[number].is_included(&other.values[number], rooms, others)
     }
 }

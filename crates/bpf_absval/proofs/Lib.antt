@@ -4,3 +4,4 @@ mod Raises
 mod Ordered
 mod Forked
 mod Newest
+pub mod Marking

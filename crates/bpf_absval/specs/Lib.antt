@@ -4,5 +4,6 @@ pub mod Fall
 pub mod Meaning
 pub mod WellFormed
 pub mod Unlabelled
+pub mod Marked
 pub mod Inclusion
 pub mod Laws

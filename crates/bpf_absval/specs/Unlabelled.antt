@@ -35,3 +35,15 @@ has_label label v = false
 abbrev pub slot_has_label : ℕ → AbsSlot → Bool
 slot_has_label label (slot.Stored v) = has_label label v
 slot_has_label label s = false
+
+-- ---- whichever label it has
+
+-- the value without a label
+abbrev pub bare : AbsVal → AbsVal
+bare (abs.Frame offset l) = abs.Frame offset None
+bare v = v
+
+-- the slot without a label
+abbrev pub slot_bare : AbsSlot → AbsSlot
+slot_bare (slot.Stored v) = slot.Stored (bare v)
+slot_bare s = s

@@ -1,5 +1,6 @@
 //! Abstract values: what a register, or eight bytes of a stack frame, may hold, when one includes
-//! another, and how many bytes are known to follow the label of a frame pointer.
+//! another, how many bytes are known to follow the label of a frame pointer, and marks of values
+//! whose label is forgotten.
 //!
 //! Main calls: `AbsVal::is_included`, `AbsSlot::is_included`, `Rooms::raise`. It depends on
 //! `bpf_absnum`. `specs/Meaning.antt` defines which values of a run an abstract value contains.
@@ -9,11 +10,13 @@
 
 pub mod inclusion;
 pub mod laws;
+pub mod marks;
 pub mod room;
 pub mod slot;
 mod tree;
 pub mod value;
 
+pub use marks::Marks;
 pub use room::{Room, Rooms};
 pub use slot::AbsSlot;
 pub use value::{AbsRegion, AbsVal, Label};

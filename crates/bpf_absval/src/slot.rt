@@ -2,7 +2,7 @@
 
 ghost use Rattle.std.specs.Prelude.{◌≡◌};
 ghost use Rattle.bpf_absval.specs.WellFormed.{IsSlot};
-ghost use Rattle.bpf_absval.specs.Unlabelled.{slot_unlabelled, slot_has_label};
+ghost use Rattle.bpf_absval.specs.Unlabelled.{slot_unlabelled, slot_has_label, slot_bare};
 
 use crate::value::AbsVal;
 
@@ -43,6 +43,16 @@ impl AbsSlot {
     {
         match self {
             AbsSlot::Stored(value) => AbsSlot::Stored(value.without_label(label)),
+            other => other,
+        }
+    }
+
+    /// The slot without a label, whichever it has.
+    pub fn bare(self) -> AbsSlot
+        ensures { result ≡ slot_bare self }
+    {
+        match self {
+            AbsSlot::Stored(value) => AbsSlot::Stored(value.bare()),
             other => other,
         }
     }

@@ -2,7 +2,7 @@
 
 ghost use Rattle.std.specs.Prelude.{◌≡◌};
 ghost use Rattle.bpf_absval.specs.WellFormed.{IsVal};
-ghost use Rattle.bpf_absval.specs.Unlabelled.{drop_label, is_label, unlabelled, has_label};
+ghost use Rattle.bpf_absval.specs.Unlabelled.{drop_label, is_label, unlabelled, has_label, bare};
 
 use bpf_absnum::AbsNum;
 use bpf_absnum::number::laws::well_formed_law;
@@ -111,6 +111,19 @@ impl AbsVal {
             } => AbsVal::Frame {
                 offset,
                 label: dropped(known, label),
+            },
+            other => other,
+        }
+    }
+
+    /// The value without a label, whichever it has.
+    pub fn bare(self) -> AbsVal
+        ensures { result ≡ bare self }
+    {
+        match self {
+            AbsVal::Frame { offset, .. } => AbsVal::Frame {
+                offset,
+                label: None,
             },
             other => other,
         }

@@ -2,6 +2,7 @@ pub mod Safely
 pub mod Seconds
 pub mod Told
 pub mod Least
+pub mod Limits
 pub mod Filling
 pub mod Builds
 pub mod Roomy

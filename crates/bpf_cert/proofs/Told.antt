@@ -1,7 +1,7 @@
 -- Booleans that tell whether something holds.
 use Rattle.std.proofs.Common.{◌≡◌, ℕ, suc, ◌+◌, ◌≤◌, ◌<◌, inl, inr, Bool, true, false, List, sym, ◌∙◌, ap, subst, arith, Result, Ok, Err}
 use Rattle.std.specs.Prelude.{IfOk}
-use Rattle.std.specs.declared.alloc.AllocError.{AllocError}
+use Rattle.bpf_cert.specs.declared.limit.Stop.{Stop}
 use Rattle.std.proofs.lemmas.Bool.{true≢false}
 use Rattle.bpf_insn.specs.declared.insn.Insn.{Insn}
 use Rattle.bpf_decode.specs.Program.{Code, Holds, IsTarget, Begins}
@@ -93,7 +93,7 @@ pub told_false : (r : Bool) (P : Type 0) → r ≡ false → Tells r P → P →
 told_false r P e h = subst (λ (b : Bool). Tells b P) e h
 
 -- a fault, or lack of memory
-pub refused_goes : (c : Code) (es : List Claim) (n : ℕ) (P Q : Type 0) (r : Result Step AllocError) → IfOk r (λ told. (told ≡ Decided false) × Q) → (Q → P → ⊥) → IfOk r (Goes c es n P)
+pub refused_goes : (c : Code) (es : List Claim) (n : ℕ) (P Q : Type 0) (r : Result Step Stop) → IfOk r (λ told. (told ≡ Decided false) × Q) → (Q → P → ⊥) → IfOk r (Goes c es n P)
 refused_goes c es n P Q (Ok s) h k = subst (Goes c es n P) (sym h.0) (k h.1)
 refused_goes c es n P Q (Err e) h k = tt
 

@@ -1,5 +1,5 @@
 -- Why no certificate was made.
-use Rattle.std.proofs.Common.{◌≡◌, ◌⊎◌, ℕ, Result, IfErr, inl, inr, sym, subst}
+use Rattle.std.proofs.Common.{◌≡◌, ℕ, Result, IfErr, inl, inr, sym, subst}
 use Rattle.std.proofs.lemmas.Result.{IfErr-weaker}
 use Rattle.bpf_decode.specs.Program.{Code, Begins}
 use Rattle.bpf_verifier.specs.Admission.{IsRefusal}

@@ -4,5 +4,6 @@ pub mod Laws
 pub mod Steps
 pub mod Built
 pub mod Faults
+pub mod Limits
 pub mod Certified
 pub mod Held

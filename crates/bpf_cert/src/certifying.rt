@@ -6,6 +6,7 @@ ghost use Rattle.bpf_cert.specs.Certified.{Covered, IsCertificate, IsUncertified
 use crate::checking::certified_budget;
 use crate::describing::described;
 use crate::fault::CertFault;
+use crate::limit::{Stop, WithinFault};
 use crate::sifting::sifted;
 use crate::widening::widened;
 use bpf_cert_format::{Certificate, Leaf, WriteFault, write};
@@ -32,11 +33,7 @@ fn describe(
 
 /// The entries that finished states give a program's certificate, without needless ones, ordered by slot and budget. In
 /// that order `check` finds them fast.
-fn entries_of(
-    alloc: Global,
-    program: &Program,
-    finished: &[Finished],
-) -> Result<Vec<Leaf>, AllocError> {
+fn entries_of(alloc: Global, program: &Program, finished: &[Finished]) -> Result<Vec<Leaf>, Stop> {
     let claims = widened(alloc, program, finished)?;
     let mut entries = Vec::new(alloc);
     for mut of_slot in sifted(alloc, program, &claims)? {
@@ -63,15 +60,23 @@ fn at_start(fault: Fault) -> Refusal
     Refusal { fault, pc: 0 }
 }
 
+/// A refusal at the start, for entries that weren't found.
+fn unfound(stop: Stop) -> Refusal
+    ensures start { result.pc ≡ 0 }
+{
+    match stop {
+        Stop::NoMemory => at_start(Fault::NoMemory),
+        Stop::TooMuchWork => at_start(Fault::TooManyVisits),
+    }
+}
+
 /// A refusal at the start, for bytes that turned out to be no certificate.
-fn unmade(fault: CertFault) -> Refusal
+fn unmade(fault: WithinFault) -> Refusal
     ensures start { result.pc ≡ 0 }
 {
     match fault {
-        CertFault::NoMemory => at_start(Fault::NoMemory),
-        CertFault::Malformed | CertFault::Other | CertFault::NotCovered => {
-            at_start(Fault::TooManyVisits)
-        }
+        WithinFault::Refused(CertFault::NoMemory) => at_start(Fault::NoMemory),
+        WithinFault::Refused(_) | WithinFault::TooMuchWork => at_start(Fault::TooManyVisits),
     }
 }
 
@@ -89,7 +94,7 @@ fn proved(alloc: Global, program: &Program, hook: Hook, bytes: Vec<u8>) -> Resul
     ensures covered { IfOk result (λ made. (b : ℕ) × Covered program.now hook made.items b) }
     ensures start { IfErr result (λ e. e.pc ≡ 0) }
 {
-    match certified_budget(alloc, program, hook, bytes.as_slice()) {
+    match certified_budget(alloc, program, hook, bytes.as_slice(), None) {
         Ok(_) => Ok(bytes),
         Err(fault) => Err(unmade(fault)),
     }
@@ -122,9 +127,11 @@ pub fn certificate_within(
     program.whole();
     standing_law();
     let finished = explore_within(alloc, program, limit)?;
-    let entries = entries_of(alloc, program, &finished)?;
-    match written(alloc, program, hook, entries) {
-        Err(fault) => Err(unwritten(fault)),
-        Ok(bytes) => proved(alloc, program, hook, bytes),
+    match entries_of(alloc, program, &finished) {
+        Err(stop) => Err(unfound(stop)),
+        Ok(entries) => match written(alloc, program, hook, entries) {
+            Err(fault) => Err(unwritten(fault)),
+            Ok(bytes) => proved(alloc, program, hook, bytes),
+        },
     }
 }

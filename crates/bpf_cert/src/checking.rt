@@ -7,6 +7,7 @@ ghost use Rattle.bpf_decode.specs.Program.{Begins};
 ghost use Rattle.bpf_model.specs.Run.{Safe};
 ghost use Rattle.bpf_absstate.specs.WellFormed.{IsView};
 ghost use Rattle.bpf_cert_format.specs.Fits.{FitsEntry};
+ghost use Rattle.bpf_cert.specs.Limits.{IsStop, Within};
 ghost use Rattle.bpf_cert.specs.Steps.{Tells};
 ghost use Rattle.bpf_cert.specs.States.{claim_of};
 ghost use Rattle.bpf_cert.specs.Certified.{IsFor, FollowsCall, AllFollow, StandsWell, Shows, Finds};
@@ -16,6 +17,7 @@ use crate::claims::Claims;
 use crate::coverage::{begins, covered_budget};
 use crate::fault::{CertFault, unread};
 use crate::laws::covered_law;
+use crate::limit::{Stop, WithinFault};
 use crate::source::Source;
 use bpf_cert_format::{Certificate, Entry, Frame, Kind, Leaf, read};
 use bpf_decode::{Program, encode, spelling_law};
@@ -133,7 +135,8 @@ fn add_claim(
     claims: &mut Claims,
 ) -> Result<(), AllocError>
     requires fits { FitsEntry maps leaf.now }
-    ensures is { OnOk result (claims.new ≡ claims.old ++ claim_of leaf.now ∷ []) }
+    ensures is { OnOk result (claims.new.list ≡ claims.old.list ++ claim_of leaf.now ∷ []) }
+    ensures limit { claims.new.most ≡ claims.old.most }
     ensures whole { OnOk result (IsView (claim_of leaf.now).state) }
 {
     match leaf.kind() {
@@ -158,20 +161,23 @@ fn add_claim(
     }
 }
 
-/// The claims of entries. They may take about `room` bytes of memory, besides entries held as values.
+/// The claims of entries, and the most work over them. They may take about `room` bytes of memory, besides entries held
+/// as values.
 fn claims_of(
     alloc: Global,
     program: &Program,
     entries: &[Leaf],
     room: usize,
+    most: Option<u64>,
 ) -> Result<Claims, AllocError>
     requires fit { All (FitsEntry (length program.now.shapes)) entries.now }
-    ensures is { IfOk result (λ claims. claims ≡ map claim_of entries.now) }
-    ensures whole { IfOk result (All (λ e. IsView e.state)) }
+    ensures is { IfOk result (λ claims. claims.list ≡ map claim_of entries.now) }
+    ensures limit { IfOk result (λ claims. claims.most ≡ most) }
+    ensures whole { IfOk result (λ claims. All (λ e. IsView e.state) claims.list) }
 {
     let maps = program.shapes().len();
     let mut source = Source::new(alloc, room)?;
-    let mut claims = Claims::new(alloc, program.len())?;
+    let mut claims = Claims::new(alloc, program.len(), most)?;
     for leaf in entries {
         add_claim(alloc, maps, &mut source, leaf, &mut claims)?;
     }
@@ -188,22 +194,24 @@ fn small(budget: Option<u32>) -> Option<u32>
     }
 }
 
-/// The budget within which entries show that a program ends, if they do.
+/// The budget within which entries show that a program ends, if they do. No more work than `most` is done over them.
 fn shown_budget(
     alloc: Global,
     program: &Program,
     entries: &[Leaf],
     room: usize,
-) -> Result<Option<u32>, AllocError>
+    most: Option<u64>,
+) -> Result<Option<u32>, Stop>
     requires fit { All (FitsEntry (length program.now.shapes)) entries.now }
     ensures is { IfOk result (λ o. Finds o (Shows program.now entries.now)) }
     ensures safe { IfOk result (λ o. IfSome o (Safe program.now.slots program.now.shapes)) }
+    ensures stop { IfErr result (IsStop most) }
 {
     let stand = all_stand(alloc, program, entries)?;
     if !stand {
         return Ok(None);
     }
-    let claims = claims_of(alloc, program, entries, room)?;
+    let claims = claims_of(alloc, program, entries, room, most)?;
     program.whole();
     program.shapes().whole();
     covered_law();
@@ -221,28 +229,30 @@ fn accept(alloc: Global, program: Program, hook: Hook, budget: u32) -> Result<Ac
     Accepted::new(alloc, program, hook, budget)
 }
 
-/// The budget that the bytes show for a program and a hook, or the refusal that `check` gives.
+/// The budget that the bytes show for a program and a hook, or the refusal that `check_within` gives.
 pub(crate) fn certified_budget(
     alloc: Global,
     program: &Program,
     hook: Hook,
     bytes: &[u8],
-) -> Result<u32, CertFault>
+    most: Option<u64>,
+) -> Result<u32, WithinFault>
     ensures ok { IfOk result (Covered program.now hook bytes.now) }
     ensures safe { IfOk result (Safe program.now.slots program.now.shapes) }
     ensures small { IfOk result (λ b. b ≤ 2 ^ 22) }
-    ensures only { (b : ℕ) → Covered program.now hook bytes.now b → Answers result b }
-    ensures err { IfErr result (Refuses program.now hook bytes.now) }
+    ensures only { (b : ℕ) → Covered program.now hook bytes.now b →
+        Within most (λ r. Answers r b) result }
+    ensures err { Within most (λ r. IfErr r (Refuses program.now hook bytes.now)) result }
 {
     match read(alloc, program.shapes(), bytes) {
-        Err(fault) => Err(unread(fault)),
+        Err(fault) => Err(WithinFault::Refused(unread(fault))),
         Ok(certificate) => {
             if !is_for(alloc, program, hook, &certificate)? {
-                return Err(CertFault::Other);
+                return Err(WithinFault::Refused(CertFault::Other));
             }
             let room = bytes.len().saturating_mul(ROOM);
-            match shown_budget(alloc, program, certificate.entries(), room)? {
-                None => Err(CertFault::NotCovered),
+            match shown_budget(alloc, program, certificate.entries(), room, most)? {
+                None => Err(WithinFault::Refused(CertFault::NotCovered)),
                 Some(budget) => Ok(budget),
             }
         }
@@ -266,7 +276,35 @@ pub fn check(
     // Which refusal applies.
     ensures err { IfErr result (Refuses program hook bytes.now) }
 {
-    let budget = certified_budget(alloc, &program, hook, bytes)?;
+    match check_within(alloc, program, hook, bytes, None) {
+        Ok(accepted) => return Ok(accepted),
+        Err(fault) => match fault {
+            WithinFault::Refused(fault) => return Err(fault),
+            WithinFault::TooMuchWork => unreachable!(),
+        },
+    }
+}
+
+/// Like `check`, but does no more work than `most`: a certificate that needs more is refused with 36. The work is how
+/// many states are examined, each at one instruction, and how many comparisons of a state with an entry's are made.
+///
+/// Besides that work, whose amount no clause states, the bytes are read, and each entry is compared with the start.
+pub fn check_within(
+    alloc: Global,
+    program: Program,
+    hook: Hook,
+    bytes: &[u8],
+    most: Option<u64>,
+) -> Result<Accepted, WithinFault>
+    // The admitted program is the given one, with a budget that is shown.
+    ensures ok { IfOk result (IsAdmitted program hook bytes.now) }
+    // A program whose budget is shown is admitted with it, unless memory is lacking or there is a limit.
+    ensures only { (b : ℕ) → Covered program hook bytes.now b →
+        Within most (λ r. Admits r b) result }
+    // Which refusal applies: one of `check`, or 36 if there is a limit.
+    ensures err { Within most (λ r. IfErr r (Refuses program hook bytes.now)) result }
+{
+    let budget = certified_budget(alloc, &program, hook, bytes, most)?;
     let accepted = accept(alloc, program, hook, budget)?;
     Ok(accepted)
 }

@@ -1,13 +1,15 @@
 //! A list of claims, and the indexes of those of each slot.
 
-ghost use Rattle.std.specs.Prelude.{◌≡◌, ◌<◌, ◌≤◌, ◌++◌, [], ◌∷◌, IfOk, OnOk, OnSome, IsTrue, Some, length, slice_get};
+ghost use Rattle.std.specs.Prelude.{◌≡◌, ◌<◌, ◌≤◌, ◌++◌, [], ◌∷◌, IfOk, IfErr, OnOk, OnSome, IsTrue, Some, length, slice_get};
 ghost use Rattle.bpf_cert_format.specs.Unread.{entry_from};
 ghost use Rattle.bpf_cert.specs.Covered.{IsIncluded};
+ghost use Rattle.bpf_cert.specs.Limits.{IsStop};
 ghost use Rattle.bpf_cert.specs.States.{claim_of};
 ghost use Rattle.bpf_cert.specs.Steps.{Tells};
 
 use crate::claim::Claim;
 use crate::held::Held;
+use crate::limit::Stop;
 use bpf_absstate::{AbsState, Difference};
 use bpf_cert_format::Unread;
 use std::alloc::{AllocError, Global};
@@ -29,22 +31,48 @@ struct Row {
     served: Cell<usize>,
 }
 
-/// Claims in the order of insertion. Contracts see the list.
+/// What is noted while claims are searched.
+#[derive(Drop)]
+struct Notes {
+    /// Where a state was last found not included in a claim.
+    recent: Cell<Difference>,
+    /// How much work was done.
+    work: Cell<u64>,
+    /// The most work that may be done.
+    most: Option<u64>,
+}
+
+impl Notes {
+    /// Counts one more piece of work, before it is done. Refused if it is above the limit.
+    fn spend(&self) -> Result<(), Stop>
+        ensures stop { IfErr result (IsStop self.now.most) }
+    {
+        let work = self.work.get();
+        match self.most {
+            Some(most) if most <= work => return Err(Stop::TooMuchWork),
+            _ => {
+                self.work.set(work.saturating_add(1));
+                return Ok(());
+            }
+        }
+    }
+}
+
+/// Claims in the order of insertion, with a limit of the work over them: the states that are examined, and the
+/// comparisons of a state with a claim. Contracts see the list and the limit.
 #[derive(Drop)]
 pub struct Claims {
     list: Vec<Held>,
     rows: Vec<Row>,
-    /// Where a state was last found not included in a claim.
-    recent: Cell<Difference>,
+    notes: Notes,
 }
 
 impl Model for Claims {
-    ghost use Rattle.std.specs.Prelude.{List};
-    ghost use Rattle.bpf_cert.specs.declared.claim.Claim.{Claim};
+    ghost use Rattle.bpf_cert.specs.Limits.{Limited};
 
-    ghost Value = { List Claim };
+    ghost Value = { Limited };
 
-    ghost view = { λ a. a.list.items };
+    ghost view = { λ a. record { list = a.list.items; most = a.notes.most } };
 }
 
 /// How many of these precede the first claim with a budget above what is left, if budgets don't fall; otherwise any
@@ -72,12 +100,14 @@ fn some_includes(
     list: &[Held],
     state: &AbsState,
     left: u32,
-    recent: &Cell<Difference>,
-) -> Result<bool, AllocError>
+    notes: &Notes,
+) -> Result<bool, Stop>
     ensures is { IfOk result (λ told. Tells told (IsIncluded list.now state.now left)) }
+    ensures stop { IfErr result (IsStop notes.now.most) }
 {
     for held in list {
-        let told = held.serves(alloc, state, left, recent)?;
+        notes.spend()?;
+        let told = held.serves(alloc, state, left, &notes.recent)?;
         if told {
             return Ok(true);
         }
@@ -86,9 +116,9 @@ fn some_includes(
 }
 
 impl Claims {
-    /// An empty list, for that many slots.
-    pub fn new(alloc: Global, slots: usize) -> Result<Claims, AllocError>
-        ensures is { IfOk result (λ claims. claims ≡ []) }
+    /// An empty list, for that many slots, and the most work over its claims.
+    pub fn new(alloc: Global, slots: usize, most: Option<u64>) -> Result<Claims, AllocError>
+        ensures is { IfOk result (λ claims. claims ≡ record { list = []; most = most }) }
     {
         let mut rows = Vec::with_capacity(alloc, slots)?;
         for _slot in 0..slots {
@@ -100,28 +130,39 @@ impl Claims {
         Ok(Claims {
             list: Vec::new(alloc),
             rows,
-            recent: Cell::new(Difference::Apart),
+            notes: Notes {
+                recent: Cell::new(Difference::Apart),
+                work: Cell::new(0),
+                most,
+            },
         })
+    }
+
+    /// Counts a state that is examined. Refused if that is above the limit of work.
+    pub(crate) fn spend(&self) -> Result<(), Stop>
+        ensures stop { IfErr result (IsStop self.now.most) }
+    {
+        self.notes.spend()
     }
 
     /// The number of claims.
     pub fn len(&self) -> usize
-        ensures is { result ≡ length self.now }
+        ensures is { result ≡ length self.now.list }
     {
         self.list.len()
     }
 
     /// True only if there are no claims.
     pub fn is_empty(&self) -> bool
-        ensures is { IsTrue result → self.now ≡ [] }
+        ensures is { IsTrue result → self.now.list ≡ [] }
     {
         self.list.is_empty()
     }
 
     /// A copy of the claim at an index.
     pub fn claim(&self, alloc: Global, place: usize) -> Result<Claim, AllocError>
-        requires { place < length self.now }
-        ensures is { IfOk result (λ claim. slice_get self.now place ≡ Some claim) }
+        requires { place < length self.now.list }
+        ensures is { IfOk result (λ claim. slice_get self.now.list place ≡ Some claim) }
     {
         let held = &self.list[place];
         let claim = held.claim(alloc)?;
@@ -141,7 +182,8 @@ impl Claims {
 
     /// Adds a claim.
     pub fn push(&mut self, claim: Claim) -> Result<(), AllocError>
-        ensures is { OnOk result (self.new ≡ self.old ++ claim ∷ []) }
+        ensures is { OnOk result (self.new.list ≡ self.old.list ++ claim ∷ []) }
+        ensures limit { self.new.most ≡ self.old.most }
     {
         self.note(claim.state.pc(), claim.budget)?;
         self.list.push(Held::built(claim))?;
@@ -155,7 +197,9 @@ impl Claims {
         pc: usize,
         budget: u32,
     ) -> Result<(), AllocError>
-        ensures is { OnOk result (self.new ≡ self.old ++ claim_of (entry_from unread) ∷ []) }
+        ensures is { OnOk result
+            (self.new.list ≡ self.old.list ++ claim_of (entry_from unread) ∷ []) }
+        ensures limit { self.new.most ≡ self.old.most }
     {
         self.note(pc, budget)?;
         self.list.push(Held::unread(unread))?;
@@ -164,20 +208,16 @@ impl Claims {
 
     /// True only if some claim includes a state with a budget of at most what is left. Only the claim at an index is
     /// examined.
-    fn serves(
-        &self,
-        alloc: Global,
-        place: usize,
-        state: &AbsState,
-        left: u32,
-    ) -> Result<bool, AllocError>
-        ensures is { IfOk result (λ told. IsTrue told → IsIncluded self.now state.now left) }
+    fn serves(&self, alloc: Global, place: usize, state: &AbsState, left: u32) -> Result<bool, Stop>
+        ensures is { IfOk result (λ told. IsTrue told → IsIncluded self.now.list state.now left) }
+        ensures stop { IfErr result (IsStop self.now.most) }
     {
         if place >= self.list.len() {
             return Ok(false);
         }
+        self.notes.spend()?;
         let held = &self.list[place];
-        let told = held.serves(alloc, state, left, &self.recent)?;
+        let told = held.serves(alloc, state, left, &self.notes.recent)?;
         Ok(told)
     }
 
@@ -188,8 +228,9 @@ impl Claims {
         spots: &[Spot],
         state: &AbsState,
         left: u32,
-    ) -> Result<Option<usize>, AllocError>
-        ensures is { IfOk result (λ place. OnSome place (IsIncluded self.now state.now left)) }
+    ) -> Result<Option<usize>, Stop>
+        ensures is { IfOk result (λ place. OnSome place (IsIncluded self.now.list state.now left)) }
+        ensures stop { IfErr result (IsStop self.now.most) }
     {
         for spot in spots.iter().rev() {
             if self.serves(alloc, spot.place, state, left)? {
@@ -207,8 +248,9 @@ impl Claims {
         state: &AbsState,
         left: u32,
         most: usize,
-    ) -> Result<bool, AllocError>
-        ensures is { IfOk result (λ told. IsTrue told → IsIncluded self.now state.now left) }
+    ) -> Result<bool, Stop>
+        ensures is { IfOk result (λ told. IsTrue told → IsIncluded self.now.list state.now left) }
+        ensures stop { IfErr result (IsStop self.now.most) }
     {
         let pc = state.pc();
         if pc >= self.rows.len() {
@@ -232,13 +274,14 @@ impl Claims {
     /// Whether some claim includes a state, with a budget of at most what is left. The claim that served last at the
     /// slot is examined first, then, if claims were added by rising budgets, those with the greatest budgets that can
     /// serve. Before it returns false, it examines all.
-    pub fn include(&self, alloc: Global, state: &AbsState, left: u32) -> Result<bool, AllocError>
-        ensures is { IfOk result (λ told. Tells told (IsIncluded self.now state.now left)) }
+    pub fn include(&self, alloc: Global, state: &AbsState, left: u32) -> Result<bool, Stop>
+        ensures is { IfOk result (λ told. Tells told (IsIncluded self.now.list state.now left)) }
+        ensures stop { IfErr result (IsStop self.now.most) }
     {
         if self.soon_include(alloc, state, left, usize::MAX)? {
             return Ok(true);
         }
-        let told = some_includes(alloc, self.list.as_slice(), state, left, &self.recent)?;
+        let told = some_includes(alloc, self.list.as_slice(), state, left, &self.notes)?;
         Ok(told)
     }
 }

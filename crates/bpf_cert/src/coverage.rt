@@ -1,6 +1,6 @@
 //! Whether claims show that a program is safe.
 
-ghost use Rattle.std.specs.Prelude.{◌≡◌, ◌+◌, ◌<◌, ◌≤◌, ℕ, IfOk, IsTrue, MatchOption, Ok, false, length, min};
+ghost use Rattle.std.specs.Prelude.{◌≡◌, ◌+◌, ◌<◌, ◌≤◌, ℕ, IfOk, IfErr, IsTrue, MatchOption, Ok, Option, false, length, min};
 ghost use Rattle.std.specs.List.{All};
 ghost use Rattle.std.specs.Option.{option_map_or};
 ghost use Rattle.bpf_absstate.specs.View.{entry_view};
@@ -11,11 +11,13 @@ ghost use Rattle.bpf_rules.specs.Examined.{examined};
 ghost use Rattle.bpf_rules.specs.declared.fault.Fault.TheVariants.{NoMemory};
 ghost use Rattle.bpf_cert.specs.declared.coverage.Step.TheVariants.{Decided};
 ghost use Rattle.bpf_cert.specs.Covered.{Includes, IsIncluded, LeadsWithin, AreKept, BeginsWithin, AreCovered};
+ghost use Rattle.bpf_cert.specs.Limits.{IsStop};
 ghost use Rattle.bpf_cert.specs.Steps.{Tells, Arrives, Goes, SecondIsTarget};
 
 use crate::claim::Claim;
 use crate::claims::Claims;
 use crate::held::includes;
+use crate::limit::Stop;
 use bpf_absstate::AbsState;
 use bpf_checks::examine_moved;
 use bpf_decode::Program;
@@ -48,9 +50,10 @@ fn arrive(
     claims: &Claims,
     state: AbsState,
     left: u32,
-) -> Result<Step, AllocError>
+) -> Result<Step, Stop>
     ensures is { IfOk result
-        (Goes program.now claims.now left (Arrives program.now claims.now left state)) }
+        (Goes program.now claims.now.list left (Arrives program.now claims.now.list left state)) }
+    ensures stop { IfErr result (IsStop claims.now.most) }
 {
     if program.is_target(state.pc()) {
         let told = claims.include(alloc, &state, left)?;
@@ -66,10 +69,11 @@ fn follow(
     claims: &Claims,
     ways: Ways,
     left: u32,
-) -> Result<Step, AllocError>
+) -> Result<Step, Stop>
     requires target { SecondIsTarget program.now ways }
     ensures is { IfOk result
-        (Goes program.now claims.now left (EachWay ways (Arrives program.now claims.now left))) }
+        (Goes program.now claims.now.list left (EachWay ways (Arrives program.now claims.now.list left))) }
+    ensures stop { IfErr result (IsStop claims.now.most) }
 {
     match ways {
         Ways::Nowhere => Ok(Step::Decided(true)),
@@ -89,11 +93,12 @@ fn follow(
 }
 
 /// On a fault the state leads nowhere; lack of memory is passed on.
-fn refused(fault: Fault) -> Result<Step, AllocError>
+fn refused(fault: Fault) -> Result<Step, Stop>
     ensures is { IfOk result (λ told. (told ≡ Decided false) × (fault ≡ NoMemory → ⊥)) }
+    ensures stop { (most : Option ℕ) → IfErr result (IsStop most) }
 {
     match fault {
-        Fault::NoMemory => Err(AllocError),
+        Fault::NoMemory => Err(Stop::NoMemory),
         _ => Ok(Step::Decided(false)),
     }
 }
@@ -105,10 +110,11 @@ fn advance(
     claims: &Claims,
     state: AbsState,
     left: u32,
-) -> Result<Step, AllocError>
+) -> Result<Step, Stop>
     ensures is { IfOk result
-        (Goes program.now claims.now left
-        (LeadsWithin program.now claims.now (left + 1) state)) }
+        (Goes program.now claims.now.list left
+        (LeadsWithin program.now claims.now.list (left + 1) state)) }
+    ensures stop { IfErr result (IsStop claims.now.most) }
 {
     program.whole();
     if !begins(program, state.pc()) {
@@ -129,13 +135,15 @@ pub(crate) fn leads(
     program: &Program,
     claims: &Claims,
     claim: Claim,
-) -> Result<bool, AllocError>
+) -> Result<bool, Stop>
     ensures is { IfOk result
-        (λ told. Tells told (LeadsWithin program.now claims.now claim.budget claim.state)) }
+        (λ told. Tells told (LeadsWithin program.now claims.now.list claim.budget claim.state)) }
+    ensures stop { IfErr result (IsStop claims.now.most) }
 {
     let mut state = claim.state;
     let mut left = claim.budget;
     while left > 0 {
+        claims.spend()?;
         left -= 1;
         match advance(alloc, program, claims, state, left)? {
             Step::Decided(told) => return Ok(told),
@@ -146,8 +154,9 @@ pub(crate) fn leads(
 }
 
 /// Whether every claim does.
-fn are_kept(alloc: Global, program: &Program, claims: &Claims) -> Result<bool, AllocError>
-    ensures is { IfOk result (λ told. Tells told (AreKept program.now claims.now)) }
+fn are_kept(alloc: Global, program: &Program, claims: &Claims) -> Result<bool, Stop>
+    ensures is { IfOk result (λ told. Tells told (AreKept program.now claims.now.list)) }
+    ensures stop { IfErr result (IsStop claims.now.most) }
 {
     for place in 0..claims.len() {
         let claim = claims.claim(alloc, place)?;
@@ -172,8 +181,8 @@ fn lesser(best: Option<u32>, budget: u32) -> u32
 fn start_budget(alloc: Global, claims: &Claims, start: &AbsState) -> Result<Option<u32>, AllocError>
     requires start { start.now ≡ entry_view }
     ensures is { IfOk result
-        (λ o. MatchOption o (All (λ e. Includes e entry_view → ⊥) claims.now)
-        (BeginsWithin claims.now)) }
+        (λ o. MatchOption o (All (λ e. Includes e entry_view → ⊥) claims.now.list)
+        (BeginsWithin claims.now.list)) }
 {
     let mut best = None;
     for place in 0..claims.len() {
@@ -190,10 +199,11 @@ pub fn covered_budget(
     alloc: Global,
     program: &Program,
     claims: &Claims,
-) -> Result<Option<u32>, AllocError>
+) -> Result<Option<u32>, Stop>
     ensures is { IfOk result
-        (λ o. MatchOption o ((b : ℕ) → AreCovered program.now claims.now b → ⊥)
-        (AreCovered program.now claims.now)) }
+        (λ o. MatchOption o ((b : ℕ) → AreCovered program.now claims.now.list b → ⊥)
+        (AreCovered program.now claims.now.list)) }
+    ensures stop { IfErr result (IsStop claims.now.most) }
 {
     let start = AbsState::entry(alloc)?;
     if !are_kept(alloc, program, claims)? {

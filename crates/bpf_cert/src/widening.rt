@@ -5,6 +5,7 @@ ghost use Rattle.std.specs.Prelude.{◌<◌};
 use crate::claim::Claim;
 use crate::claims::Claims;
 use crate::coverage::leads;
+use crate::limit::Stop;
 use bpf_absnum::AbsNum;
 use bpf_absstate::AbsState;
 use bpf_absval::{AbsSlot, AbsVal};
@@ -164,7 +165,7 @@ struct Trial<'a> {
 
 impl Trial<'_> {
     /// Whether the state still leads to claims within its budget.
-    fn passes(self, cut: Cut) -> Result<bool, AllocError> {
+    fn passes(self, cut: Cut) -> Result<bool, Stop> {
         let claim = Claim {
             state: without(self.alloc, self.state, cut)?,
             budget: self.budget,
@@ -174,7 +175,7 @@ impl Trial<'_> {
     }
 
     /// Omits as much of one register as possible.
-    fn cut_register(self, cut: Cut, number: u8) -> Result<Cut, AllocError>
+    fn cut_register(self, cut: Cut, number: u8) -> Result<Cut, Stop>
         requires { number < 10 }
     {
         let unset = Cut {
@@ -196,7 +197,7 @@ impl Trial<'_> {
     }
 
     /// Omits as much of the registers as possible.
-    fn cut_registers(self, cut: Cut) -> Result<Cut, AllocError> {
+    fn cut_registers(self, cut: Cut) -> Result<Cut, Stop> {
         let mut cut = cut;
         for number in 0..10 {
             cut = self.cut_register(cut, number)?;
@@ -205,7 +206,7 @@ impl Trial<'_> {
     }
 
     /// Omits a slot of the newest stack, if possible.
-    fn cut_slot(self, cut: Cut, index: u8) -> Result<Cut, AllocError>
+    fn cut_slot(self, cut: Cut, index: u8) -> Result<Cut, Stop>
         requires { index < 64 }
     {
         let less = Cut {
@@ -220,7 +221,7 @@ impl Trial<'_> {
     }
 
     /// Omits as many slots of the newest stack as possible.
-    fn cut_slots(self, cut: Cut) -> Result<Cut, AllocError> {
+    fn cut_slots(self, cut: Cut) -> Result<Cut, Stop> {
         let mut cut = cut;
         for index in 0..64 {
             cut = self.cut_slot(cut, index)?;
@@ -229,7 +230,7 @@ impl Trial<'_> {
     }
 
     /// What can be omitted. What was last omitted at its slot, if anything, is tried first.
-    fn cut(self, before: Cut) -> Result<Cut, AllocError> {
+    fn cut(self, before: Cut) -> Result<Cut, Stop> {
         if before != WHOLE && self.passes(before)? {
             return Ok(before);
         }
@@ -249,8 +250,8 @@ pub(crate) fn widened(
     alloc: Global,
     program: &Program,
     finished: &[Entry],
-) -> Result<Claims, AllocError> {
-    let mut claims = Claims::new(alloc, program.len())?;
+) -> Result<Claims, Stop> {
+    let mut claims = Claims::new(alloc, program.len(), None)?;
     let mut cuts = vec![in alloc; WHOLE; program.len()]?;
     for one in finished {
         let pc = one.state.pc();

@@ -7,7 +7,7 @@ use Rattle.bpf_absval.specs.Inclusion.{slot_included}
 use Rattle.bpf_stack.specs.Included.{slots_included}
 use Rattle.bpf_stack.specs.Leaves.{IsEven}
 
-both_sides : (rooms others : List Room) (l r l2 r2 : List AbsSlot) → length l ≡ length l2
+pub both_sides : (rooms others : List Room) (l r l2 r2 : List AbsSlot) → length l ≡ length l2
     → slots_included rooms others (l ++ r) (l2 ++ r2) ≡ (slots_included rooms others l l2 && slots_included rooms others r r2)
 unfolding slots_included
 both_sides rooms others [] r [] r2 h = refl

@@ -2,3 +2,4 @@ mod Both
 pub mod Outside
 mod Sides
 pub mod Unsets
+mod Seen

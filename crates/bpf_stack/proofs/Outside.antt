@@ -7,7 +7,7 @@ use Rattle.bpf_absval.specs.declared.slot.AbsSlot.{AbsSlot}
 use Rattle.bpf_absval.specs.declared.slot.AbsSlot.TheVariants as cell
 use Rattle.bpf_absval.specs.declared.room.Room.{Room}
 use Rattle.bpf_absval.specs.Inclusion.{slot_included}
-use Rattle.bpf_stack.specs.Included.{slots_included, IsOutside}
+use Rattle.bpf_stack.specs.Included.{slots_included}
 
 pub slots_excluded : (rooms others : List Room) (a b : List AbsSlot) (i : ℕ)
     → slot_included rooms others (slice_index_or a i cell.Unset) (slice_index_or b i cell.Unset) ≡ false → slots_included rooms others a b ≡ false
@@ -23,6 +23,11 @@ slots_excluded rooms others (x ∷ a) (y ∷ b) (suc i) h =
 pub if_none : {X : Type 0} → (o : Option X) (t u : Bool) → t ≡ u → IfNone o (t ≡ true) → IfNone o (u ≡ true)
 if_none None t u same h = sym same ∙ h
 if_none (Some x) t u same h = tt
+
+-- what holds of one that there is, for a law of it
+pub if_some : {X : Type 0} → (o : Option X) (P Q : X → Type 0) → ((x : X) → P x → Q x) → IfSome o P → IfSome o Q
+if_some None P Q law h = tt
+if_some (Some x) P Q law h = law x h
 
 -- a test that is true if there is none, and false if there is one
 pub told_by_none : {X : Type 0} → (P : X → Type 0) (o : Option X) (t r : Bool) → IfNone o (t ≡ true) → IfSome o P → ((x : X) → P x → t ≡ false) → is_some o ≡ not r → r ≡ t

@@ -1,9 +1,6 @@
 -- Rows of unset slots, and rows without a label.
-use Rattle.std.proofs.Common.{◌≡◌, ℕ, zero, suc, List, [], ◌∷◌, length, map, Some, None, true, false, ◌&&◌, refl, ap, ◌∙◌, arith, replicate, slice_index_or}
-use Rattle.std.specs.List.{list_any, list_all}
-use Rattle.std.proofs.lemmas.List.{length-map}
-use Rattle.std.proofs.lemmas.List.Elements.{All-map}
-use Rattle.std.proofs.lemmas.Bool.{or_parts}
+use Rattle.std.proofs.Common.{◌≡◌, ℕ, zero, suc, List, [], ◌∷◌, length, map, Some, None, true, false, ◌&&◌, refl, ap, arith, replicate}
+use Rattle.std.specs.List.{list_all}
 use Rattle.bpf_absval.specs.declared.slot.AbsSlot.{AbsSlot}
 use Rattle.bpf_absval.specs.declared.slot.AbsSlot.TheVariants as cell
 use Rattle.bpf_absval.specs.declared.value.AbsVal.TheVariants as abs
@@ -12,31 +9,18 @@ use Rattle.bpf_absval.specs.Unlabelled.{slot_unlabelled, slot_has_label}
 use Rattle.bpf_absval.specs.Inclusion.{slot_included}
 use Rattle.bpf_absval.specs.WellFormed.{IsSlot}
 use Rattle.bpf_stack.specs.Included.{slots_included}
-use Rattle.bpf_stack.specs.Leaves.{IsStack}
-
-pub none_labelled : (label n : ℕ) → false ≡ list_any (slot_has_label label) (replicate n cell.Unset)
-none_labelled label zero = refl
-none_labelled label (suc n) = none_labelled label n
 
 pub unset_stay : (label n : ℕ) → map (slot_unlabelled label) (replicate n cell.Unset) ≡ replicate n cell.Unset
 unset_stay label zero = refl
 unset_stay label (suc n) = ap (λ (xs : List AbsSlot). cell.Unset ∷ xs) (unset_stay label n)
 
 -- a slot without the label is unchanged
-slot_stays : (label : ℕ) (s : AbsSlot) → slot_has_label label s ≡ false → slot_unlabelled label s ≡ s
+pub slot_stays : (label : ℕ) (s : AbsSlot) → slot_has_label label s ≡ false → slot_unlabelled label s ≡ s
 slot_stays label cell.Unset h = refl
 slot_stays label (cell.Bytes mask) h = refl
 slot_stays label (cell.Stored (abs.Frame offset None)) h = refl
 slot_stays label (cell.Stored (abs.Frame offset (Some l))) h = rw h refl
 slot_stays label (cell.Stored v) h = refl
-
-pub row_stays : (label : ℕ) (xs : List AbsSlot) → list_any (slot_has_label label) xs ≡ false → map (slot_unlabelled label) xs ≡ xs
-row_stays label [] h = refl
-row_stays label (x ∷ xs) h =
-    let both = or_parts (slot_has_label label x) (list_any (slot_has_label label) xs) h in
-    let first = slot_stays label x both.0 in
-    let rest = row_stays label xs both.1 in
-    rw (first, rest) refl
 
 pub unset_include : (rooms others : List Room) (xs : List AbsSlot) (n : ℕ) → length xs ≡ n → true ≡ slots_included rooms others xs (replicate n cell.Unset)
 unfolding slots_included
@@ -62,10 +46,3 @@ slot_whole label cell.Unset h = tt
 slot_whole label (cell.Bytes mask) h = tt
 slot_whole label (cell.Stored (abs.Frame offset l)) h = h
 slot_whole label (cell.Stored v) h = h
-
-pub stack_stays : (label : ℕ) (xs ys : List AbsSlot) → ys ≡ map (slot_unlabelled label) xs → IsStack xs → IsStack ys
-stack_stays label xs ys e h =
-    rw e (record {
-      all = length-map xs (slot_unlabelled label) ∙ h.all;
-      whole = All-map IsSlot (slot_unlabelled label) xs (λ k d within. slot_whole label (slice_index_or xs k d) (h.whole k d within));
-    })

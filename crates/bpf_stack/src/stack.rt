@@ -6,8 +6,9 @@ ghost use Rattle.bpf_absval.specs.declared.slot.AbsSlot.TheVariants as cell;
 ghost use Rattle.bpf_stack.specs.Included.{slots_included, IsOutside};
 ghost use Rattle.bpf_stack.specs.Leaves.{IsStack};
 
+use crate::comparison::Comparison;
 use crate::tree::Slots;
-use bpf_absval::{AbsSlot, Rooms};
+use bpf_absval::{AbsSlot, Marks, Rooms};
 use std::alloc::{AllocError, Global};
 use std::marker::Model;
 
@@ -17,6 +18,8 @@ use std::marker::Model;
 pub struct Stack {
     alloc: Global,
     slots: Slots,
+    /// The slots whose label is forgotten: none has a label, whatever `slots` says.
+    bare: Marks,
 }
 
 impl Model for Stack {
@@ -25,9 +28,11 @@ impl Model for Stack {
 
     ghost Value = { List AbsSlot };
 
+    ghost use Rattle.bpf_absval.specs.Marked.{seen};
+    ghost use Rattle.bpf_absval.specs.Unlabelled.{slot_bare};
     ghost use Rattle.bpf_stack.specs.Leaves.{slots_of, IsStack};
 
-    ghost view = { λ a. slots_of a.slots };
+    ghost view = { λ a. seen slot_bare a.bare.bits 0 (slots_of a.slots) };
 
     ghost invariant = { λ a. IsStack (slots_of a.slots) };
 }
@@ -40,6 +45,7 @@ impl Clone for Stack {
         Ok(Stack {
             alloc: self.alloc,
             slots,
+            bare: self.bare,
         })
     }
 }
@@ -52,6 +58,7 @@ impl Stack {
         Stack {
             alloc,
             slots: Slots::Unset(6),
+            bare: Marks::none(),
         }
     }
 
@@ -67,7 +74,11 @@ impl Stack {
         requires { index < 64 }
         ensures { slice_get self.now index ≡ Some result }
     {
-        self.slots.get(64, index)
+        let slot = self.slots.get(64, index);
+        if self.bare.has(index) {
+            return slot.bare();
+        }
+        slot
     }
 
     /// Sets the slot at `index`. If allocation fails, the stack is unchanged.
@@ -78,7 +89,9 @@ impl Stack {
     {
         slot.whole();
         let alloc = self.alloc;
-        self.slots.set(alloc, 64, index, slot)
+        self.slots.set(alloc, 64, index, slot)?;
+        self.bare = self.bare.without(index);
+        Ok(())
     }
 
     /// An index at which the slot of this stack, in a state with `rooms`, isn't included in the other's, in a state
@@ -89,8 +102,13 @@ impl Stack {
         ensures some { IfSome result (IsOutside rooms.now others.now self.now other.now) }
         ensures few { IfSome result (λ index. index < 64) }
     {
-        let _other = &other.slots;
-        self.slots.first_outside(&other.slots, 64, rooms, others)
+        let compared = Comparison {
+            rooms,
+            others,
+            bare: self.bare,
+            others_bare: other.bare,
+        };
+        self.slots.first_outside(&other.slots, &compared, 0, 64)
     }
 
     /// Whether each slot of this stack, in a state with `rooms`, is included in the other's at that index, in a state
@@ -101,14 +119,10 @@ impl Stack {
         self.first_outside(other, rooms, others).is_none()
     }
 
-    /// Removes the label from each slot; slots without it stay shared. If allocation fails, the stack is unchanged.
-    pub fn forget(&mut self, label: u16) -> Result<(), AllocError>
-        ensures ok { OnOk result (self.new ≡ map (slot_unlabelled label) self.old) }
-        ensures err { OnErr result (self.new ≡ self.old) }
+    /// Removes the label from each slot. All slots stay shared.
+    pub fn forget(&mut self, label: u16)
+        ensures is { self.new ≡ map (slot_unlabelled label) self.old }
     {
-        let alloc = self.alloc;
-        let slots = self.slots.without_label(alloc, label)?;
-        self.slots = slots;
-        Ok(())
+        self.bare = self.slots.forgotten(self.bare, label, 0, 64);
     }
 }

@@ -1,15 +1,18 @@
 //! A row of slots as a binary tree, which copies share until one of them is written. Adjacent unset slots take no
 //! memory.
 
-ghost use Rattle.std.specs.Prelude.{◌≡◌, ◌^◌, ◌<◌, ◌++◌, length, map, slice_set, slice_get, OnOk, OnErr, IfOk, IfSome, IfNone, replicate, true};
-ghost use Rattle.std.specs.List.{list_any, list_all};
-ghost use Rattle.bpf_absval.specs.Unlabelled.{slot_unlabelled, slot_has_label};
+ghost use Rattle.std.specs.Prelude.{◌≡◌, ◌^◌, ◌<◌, ◌≤◌, ◌+◌, ◌++◌, length, map, slice_set, slice_get, OnOk, OnErr, IfOk, IfSome, IfNone, replicate, true};
+ghost use Rattle.std.specs.List.{list_all};
+ghost use Rattle.bpf_absval.specs.Unlabelled.{slot_unlabelled, slot_bare};
 ghost use Rattle.bpf_absval.specs.Inclusion.{slot_included};
+ghost use Rattle.bpf_absval.specs.Marked.{seen};
 ghost use Rattle.bpf_absval.specs.declared.slot.AbsSlot.TheVariants as cell;
 ghost use Rattle.bpf_stack.specs.Included.{slots_included, IsSet, IsOutside};
+ghost use Rattle.bpf_stack.specs.Marks.{StayOutside};
 ghost use Rattle.bpf_stack.specs.Leaves.{slots_of, IsEven};
 
-use bpf_absval::{AbsSlot, Rooms};
+use crate::comparison::Comparison;
+use bpf_absval::{AbsSlot, Marks, Rooms};
 use std::alloc::{AllocError, Global};
 use std::marker::Model;
 use std::rc::Rc;
@@ -211,27 +214,33 @@ impl Slots {
         }
     }
 
-    /// An index at which the slot of this row, of `count` slots, isn't included in the other's.
+    /// An index at which the slot of this row, of `count` slots, isn't included in the other's. The first slot of both
+    /// has index `first` in its stack.
     pub fn first_outside(
         &self,
         other: &Slots,
+        compared: &Comparison<'_>,
+        first: usize,
         count: usize,
-        rooms: &Rooms,
-        others: &Rooms,
     ) -> Option<usize>
         requires whole { count ≡ length (slots_of self.now) }
         requires same { count ≡ length (slots_of other.now) }
+        requires within { first + count ≤ 64 }
         ensures none { IfNone result
-            (slots_included rooms.now others.now (slots_of self.now) (slots_of other.now) ≡ true) }
+            (slots_included compared.now.rooms.now compared.now.others.now
+            (seen slot_bare compared.now.bare.bits first (slots_of self.now))
+            (seen slot_bare compared.now.others_bare.bits first (slots_of other.now)) ≡ true) }
         ensures some { IfSome result
-            (IsOutside rooms.now others.now (slots_of self.now) (slots_of other.now)) }
+            (IsOutside compared.now.rooms.now compared.now.others.now
+            (seen slot_bare compared.now.bare.bits first (slots_of self.now))
+            (seen slot_bare compared.now.others_bare.bits first (slots_of other.now))) }
     {
         match self {
-            Slots::Unset(_) => other.first_set(count, rooms, others),
+            Slots::Unset(_) => other.first_set(count, compared.rooms, compared.others),
             Slots::Leaf(a) => match other {
                 Slots::Unset(_) => None,
                 Slots::Leaf(b) => {
-                    if a.is_included(b, rooms, others) {
+                    if compared.include(a, b, first) {
                         return None;
                     }
                     return Some(0);
@@ -254,10 +263,13 @@ impl Slots {
                     Slots::Fork(b) => {
                         let b: &Pair = b;
                         let half = count / 2;
-                        if let Some(index) = a.left.first_outside(&b.left, half, rooms, others) {
+                        if let Some(index) = a.left.first_outside(&b.left, compared, first, half) {
                             return Some(index);
                         }
-                        match a.right.first_outside(&b.right, half, rooms, others) {
+                        match a
+                            .right
+                            .first_outside(&b.right, compared, first + half, half)
+                        {
                             Some(index) => {
                                 return Some(half + index);
                             }
@@ -271,41 +283,28 @@ impl Slots {
         }
     }
 
-    /// Whether some slot has the label.
-    pub fn has_label(&self, label: u16) -> bool
-        ensures { result ≡ list_any (slot_has_label label) (slots_of self.now) }
+    /// The marks of the slots that have lost their label, once this one is forgotten too. `bare` are those before. The
+    /// first of `count` slots has index `first` in its stack.
+    pub fn forgotten(&self, bare: Marks, label: u16, first: usize, count: usize) -> Marks
+        requires whole { count ≡ length (slots_of self.now) }
+        requires within { first + count ≤ 64 }
+        ensures inside { seen slot_bare result.bits first (slots_of self.now)
+            ≡ map (slot_unlabelled label) (seen slot_bare bare.bits first (slots_of self.now)) }
+        ensures outside { StayOutside first count bare.bits result.bits }
     {
         match self {
-            Slots::Unset(_) => false,
-            Slots::Leaf(slot) => slot.has_label(label),
-            Slots::Fork(pair) => {
-                let pair: &Pair = pair;
-                pair.left.has_label(label) || pair.right.has_label(label)
-            }
-        }
-    }
-
-    /// The row without a label; parts that don't have it are shared.
-    pub fn without_label(&self, alloc: Global, label: u16) -> Result<Slots, AllocError>
-        ensures { IfOk result
-            (λ slots. slots_of slots ≡ map (slot_unlabelled label) (slots_of self.now)) }
-    {
-        if !self.has_label(label) {
-            let slots = self.clone()?;
-            return Ok(slots);
-        }
-        match self {
-            Slots::Unset(depth) => Ok(Slots::Unset(*depth)),
+            Slots::Unset(_) => bare,
             Slots::Leaf(slot) => {
-                let slot = Rc::new(alloc, slot.without_label(label))?;
-                Ok(Slots::Leaf(slot))
+                if slot.has_label(label) {
+                    return bare.with(first);
+                }
+                bare
             }
             Slots::Fork(pair) => {
+                let half = count / 2;
                 let pair: &Pair = pair;
-                let left = pair.left.without_label(alloc, label)?;
-                let right = pair.right.without_label(alloc, label)?;
-                let slots = Slots::joined(alloc, left, right)?;
-                Ok(slots)
+                let bare = pair.left.forgotten(bare, label, first, half);
+                pair.right.forgotten(bare, label, first + half, half)
             }
         }
     }

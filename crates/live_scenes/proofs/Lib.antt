@@ -1,3 +1,4 @@
 pub mod Keeping
 pub mod OneByOne
 pub mod Together
+pub mod Took

@@ -21,7 +21,7 @@ mod tallying;
 
 pub use frames::{address, data, joining};
 pub use hands::{Chief, Hand};
-pub use meeting::{meet_operator, meet_workers};
+pub use meeting::{meet_operator, meet_workers, submit_and_meet};
 pub use programs::publish;
 pub use scenes::{Scene, Story, play};
 pub use setting::settings;

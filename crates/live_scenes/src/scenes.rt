@@ -285,6 +285,7 @@ where
     requires few { settings.workers ≤ 8 }
     requires few_operators { operators ≤ 8 }
     requires named { AreNamed B.name_of B.shares B.journal_of new }
+    requires config { settings.link ≡ B.config }
     requires shares { B.shares ≡ parts_in_all }
 {
     let workers = settings.workers as usize;

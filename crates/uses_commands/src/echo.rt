@@ -11,8 +11,8 @@ use ap_model::Event;
 use ap_tagged::{Fate, Tagged};
 use apd_files::{CodeFault, FileFault};
 use apd_run::{Operating, Publication, Serving, Waiting, WordUse};
-use apd_text::{Told, Unread};
-use std::alloc::AllocError;
+use apd_text::{AgreementRow, ProgramRow, StationRow, Told, Unread};
+use std::alloc::{AllocError, Global};
 use std::sync::{Arc, Mutex, Wait};
 
 /// A waiting tick: its line and its units.
@@ -154,7 +154,27 @@ impl Operating<Echo> for Places {
         None
     }
 
-    fn settle(&mut self, _worker: &mut Echo) {}
+    fn stations<R: Wait>(&mut self, _rt: &R, alloc: Global) -> Result<Vec<StationRow>, AllocError> {
+        Ok(Vec::new(alloc))
+    }
+
+    fn agreements<R: Wait>(
+        &mut self,
+        _rt: &R,
+        alloc: Global,
+    ) -> Result<Vec<AgreementRow>, AllocError> {
+        Ok(Vec::new(alloc))
+    }
+
+    fn programs(&self, alloc: Global) -> Result<Vec<ProgramRow>, AllocError> {
+        Ok(Vec::new(alloc))
+    }
+
+    fn counted(&self) -> Totals {
+        Totals::new()
+    }
+
+    fn settle(&mut self, _worker: &mut Echo, _list: &[Tagged]) {}
 
     fn dismiss(&mut self, _worker: Echo) {
         self.workers -= 1;

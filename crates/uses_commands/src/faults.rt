@@ -25,6 +25,10 @@ const MALFORMED: &[(&str, &str)] = &[
     ("laod data x", "unknown word `laod` (did you mean `load`?)"),
     ("waits", "unknown word `waits` (did you mean `wait`?)"),
     ("what", "unknown word `what`"),
+    ("counters", "unknown word `counters`"),
+    ("dump 0", "unknown word `dump`"),
+    ("countrs", "unknown word `countrs`"),
+    ("quit", "unknown word `quit`"),
     (
         "b700000001000000950000000000000000000000000",
         "unknown word `b700000001000000950000000000000000000000..`",

@@ -45,14 +45,29 @@ impl Read for Chunks<'_> {
 
 const MARK: &str = "b700000002050000 9500000000000000\n";
 
-/// What becomes of an input, with a configuration and a program in memory.
+/// What becomes of an input, with the usual configuration and a program in memory.
 fn lived<R: Threads + Wait + Sync, I: Read + Drop>(
     rt: &R,
     alloc: Global,
     input: I,
     asked: RunWords<'_>,
 ) -> Outcome {
-    let files = [file("config", LAB), file("-", ""), file("mark.hex", MARK)];
+    lived_with(rt, alloc, LAB, input, asked)
+}
+
+/// What becomes of an input, with a configuration and a program in memory.
+fn lived_with<R: Threads + Wait + Sync, I: Read + Drop>(
+    rt: &R,
+    alloc: Global,
+    config: &str,
+    input: I,
+    asked: RunWords<'_>,
+) -> Outcome {
+    let files = [
+        file("config", config),
+        file("-", ""),
+        file("mark.hex", MARK),
+    ];
     let mut memory = Memory {
         alloc,
         files: &files,
@@ -183,6 +198,36 @@ const TEXTS: &[(&[u8], &str, u8)] = &[
     (b"wait\r\n\n", "1 error a carriage return\n", 1),
     (b"load data absent\n", "1 unreadable\n", 0),
     (
+        b"counters\n",
+        "1 events 0 sent 0 up 0 dropped 0 notes 0\n",
+        0,
+    ),
+    (
+        b"stations\n agreements \nprograms",
+        "1 end 0\n2 end 0\n3 end 0\n",
+        0,
+    ),
+    (
+        b"countrs\n",
+        "1 error unknown word `countrs` (did you mean `counters`?)\n",
+        1,
+    ),
+    (b"counters 1\n", "1 error `counters` takes nothing\n", 1),
+    (b"dump\n", "1 error `dump` takes MAP\n", 1),
+    (b"dump x\n", "1 error dump: `x` is no number of a map\n", 1),
+    (
+        b"dump 0\n",
+        "1 error map 0: the configuration has none\n",
+        1,
+    ),
+    (
+        b"frme\ncounters\nfrme\n",
+        "1 error unknown word `frme` (did you mean `frame`?)\n\
+        2 events 0 sent 0 up 0 dropped 0 notes 0\n\
+        3 error unknown word `frme` (did you mean `frame`?)\n",
+        1,
+    ),
+    (
         b"frame 0\nwait\nfrme",
         "1 error frame: an odd number of hex digits\n\
         3 error unknown word `frme` (did you mean `frame`?)\n",
@@ -300,4 +345,109 @@ fn answers_are_flushed_before_the_next_read(rt: HostRuntime) {
     let mut err = Vec::new(alloc);
     let (_, status) = live(&rt, alloc, words(2), supplies, streams, &mut err);
     same(&rt, status, 1, "the status");
+}
+
+const TOLD: &str = "3 station 02000000000a associated 2\n3 end 1\n\
+    5 loaded 2\n6 program data budget 2\n6 end 1\n\
+    8 up 02000000000a 0200000000ff - 3 5 68656c6c6f\n\
+    9 events 3 sent 2 up 1 dropped 0 notes 0\n\
+    total events 3 sent 2 up 1 dropped 0 notes 0\n";
+
+#[test]
+fn questions_are_answered_by_what_came_before(rt: HostRuntime) {
+    let alloc = rt.alloc();
+    let middle = "stations\n# nothing\nload data mark.hex\nprograms\n\n";
+    let parts = [AUTHENTICATION, ASSOCIATION, middle, DATA, "counters\n"];
+    let text = joined(&rt, alloc, &parts);
+    let printed = joined(&rt, alloc, &[ANSWERS, TOLD]);
+    for workers in [1u8, 2, 8] {
+        for step in [1, 7, 65536] {
+            let input = Chunks::of(text.as_bytes(), step);
+            let outcome = lived(&rt, alloc, input, words(workers));
+            same(&rt, outcome.out.as_slice(), printed.as_bytes(), "the text");
+            same(&rt, outcome.status, 0, "the status");
+        }
+    }
+}
+
+/// Map 0 is shared, with 3 entries of 2 words; each worker has a map 1 with one word.
+const MAPS: &str = "bssid = \"020000000001\"\nssid = \"lab\"\nrates = \"82848b96\"\ndraw = 0\n\
+    [[map]]\nentries = 3\nwords = 2\nwidth = 8\n\
+    [[map]]\nentries = 1\nwords = 1\nwidth = 4\nscope = \"worker\"\n";
+
+const DUMPED: &str = "1 map 0 shared 3 entries 2 words width 8\n1 end 0\n\
+    4 map 0 shared 3 entries 2 words width 8\n4 0 0 7\n4 2 18446744073709551615 0\n4 end 2\n\
+    5 map 1 worker 1 entries 1 words width 4\n5 end 0\n\
+    6 error map 2: the configuration has 2\n";
+
+#[test]
+fn a_dump_lists_entries_that_are_not_all_0(rt: HostRuntime) {
+    let alloc = rt.alloc();
+    let text = b"dump 0\nstore 0 0 1 7\nstore 0 2 0 18446744073709551615\n\
+        dump 0\ndump 1\ndump 2\n";
+    let printed = joined(&rt, alloc, &[DUMPED, NO_EVENTS]);
+    for step in [1, 7, 65536] {
+        let input = Chunks::of(text, step);
+        let outcome = lived_with(&rt, alloc, MAPS, input, words(2));
+        same(&rt, outcome.out.as_slice(), printed.as_bytes(), "the text");
+        same(&rt, outcome.status, 1, "the status");
+    }
+}
+
+const HELP: &str = "1 help frame HEX\n1 help tick N\n1 help kick ADDRESS REASON\n\
+    1 help close ADDRESS TID\n1 help load HOOK FILE\n1 help unload HOOK\n\
+    1 help adopt HOOK FILE CERTIFICATE\n1 help store MAP INDEX WORD VALUE\n\
+    1 help read MAP INDEX WORD\n1 help sum MAP INDEX WORD\n1 help wait\n1 help help\n\
+    1 help stations\n1 help agreements\n1 help programs\n1 help counters\n\
+    1 help dump MAP\n1 help quit\n1 end 18\n";
+
+#[test]
+fn help_lists_all_lines(rt: HostRuntime) {
+    answers(&rt, rt.alloc(), b"help\n", words(1), (HELP, 0));
+}
+
+/// Standard output whose writes fail so.
+#[derive(Drop)]
+struct Failing {
+    why: ErrorKind,
+}
+
+impl Write for Failing {
+    fn write(&mut self, _buf: &[u8]) -> io::Result<usize> {
+        Err(Error::from(self.why))
+    }
+
+    fn flush(&mut self) -> io::Result<()> {
+        Ok(())
+    }
+}
+
+#[test]
+fn a_reader_that_goes_away_ends_a_run_quietly(rt: HostRuntime) {
+    let alloc = rt.alloc();
+    let cannot = "apd: cannot read the input, or cannot write\n";
+    for (why, told) in [
+        (ErrorKind::BrokenPipe, ""),
+        (ErrorKind::StorageFull, cannot),
+    ] {
+        let files = [file("config", LAB), file("-", "")];
+        let mut memory = Memory {
+            alloc,
+            files: &files,
+            left: b"",
+        };
+        let supplies = Supplies {
+            files: &mut memory,
+            limit: StateLimit::MOST,
+            gate: OpenGate,
+        };
+        let streams = Streams {
+            input: Chunks::of(b"frame 00\n", 7),
+            out: Failing { why },
+        };
+        let mut err = Vec::new(alloc);
+        let (_, status) = live(&rt, alloc, words(2), supplies, streams, &mut err);
+        same(&rt, err.as_slice(), told.as_bytes(), "what is told");
+        same(&rt, status, 2, "the status");
+    }
 }

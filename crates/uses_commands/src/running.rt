@@ -33,10 +33,18 @@ impl Write for Page {
 }
 
 impl Console for Page {
+    ghost use Rattle.std.specs.Prelude.{true};
+
     ghost strict = { λ page. page.strict };
+
+    ghost is_flushed = { λ page. true };
 
     fn is_strict(&self) -> bool {
         self.strict
+    }
+
+    fn flush_all(&mut self) -> io::Result<()> {
+        Ok(())
     }
 
     fn tell(&mut self, _commands: &[Numbered<'_>], _reports: &[Report]) {}

@@ -4,6 +4,7 @@ use crate::same::{all_same, same};
 use bpf_absnum::AbsNum;
 use bpf_absval::{AbsSlot, AbsVal, Label, Rooms};
 use bpf_stack::Stack;
+use std::alloc::Global;
 use std::process::Abort;
 
 fn number(number: u64) -> AbsSlot {
@@ -79,7 +80,7 @@ fn one_label_is_forgotten_everywhere(rt: HostRuntime) {
     stack.set(2, number(8)).expect(&rt, "memory");
     stack.set(62, spilled(Some(first))).expect(&rt, "memory");
     let before = stack.clone().expect(&rt, "memory");
-    stack.forget(8).expect(&rt, "memory");
+    stack.forget(8);
     same(&rt, before.get(62), spilled(Some(first)), "get");
     for (index, wanted) in [
         (0, spilled(None)),
@@ -90,4 +91,67 @@ fn one_label_is_forgotten_everywhere(rt: HostRuntime) {
     ] {
         same(&rt, (index, stack.get(index)), (index, wanted), "slot");
     }
+}
+
+/// A pointer one byte past the position of a label.
+fn behind(label: u16) -> AbsSlot {
+    spilled(Some(Label { label, distance: 1 }))
+}
+
+/// Three slots, of which label 8 was forgotten once: before it was stored again in the last, and label 9 in the second.
+fn made_anew(rt: &impl Abort, alloc: Global) -> Stack {
+    let mut stack = Stack::unset(alloc);
+    stack.set(0, behind(8)).expect(rt, "memory");
+    stack.set(31, behind(8)).expect(rt, "memory");
+    stack.forget(8);
+    stack.set(31, behind(9)).expect(rt, "memory");
+    stack.set(63, behind(8)).expect(rt, "memory");
+    stack
+}
+
+fn slots_hold(rt: &impl Abort, stack: &Stack, wanted: [AbsSlot; 3]) {
+    same(rt, (0, stack.get(0)), (0, wanted[0]), "slot");
+    same(rt, (31, stack.get(31)), (31, wanted[1]), "slot");
+    same(rt, (63, stack.get(63)), (63, wanted[2]), "slot");
+}
+
+#[test]
+fn labels_are_made_in_turn(rt: HostRuntime) {
+    let mut stack = made_anew(&rt, rt.alloc());
+    let none = spilled(None);
+    slots_hold(&rt, &stack, [none, behind(9), behind(8)]);
+    let before = stack.clone().expect(&rt, "memory");
+    stack.forget(8);
+    slots_hold(&rt, &stack, [none, behind(9), none]);
+    stack.forget(9);
+    slots_hold(&rt, &stack, [none, none, none]);
+    stack.set(0, behind(8)).expect(&rt, "memory");
+    stack.forget(9);
+    slots_hold(&rt, &stack, [behind(8), none, none]);
+    slots_hold(&rt, &before, [none, behind(9), behind(8)]);
+}
+
+#[test]
+fn a_forgotten_label_is_not_compared(rt: HostRuntime) {
+    let rooms = Rooms::new(rt.alloc());
+    let labelled = made_anew(&rt, rt.alloc());
+    let mut less = labelled.clone().expect(&rt, "memory");
+    less.forget(8);
+    let mut stored = labelled.clone().expect(&rt, "memory");
+    stored.set(0, behind(8)).expect(&rt, "memory");
+    let mut lost = stored.clone().expect(&rt, "memory");
+    lost.forget(8);
+    all_same(
+        &rt,
+        &[
+            (labelled.is_included(&labelled, &rooms, &rooms), true),
+            (labelled.is_included(&less, &rooms, &rooms), true),
+            (less.is_included(&labelled, &rooms, &rooms), false),
+            (stored.is_included(&labelled, &rooms, &rooms), true),
+            (labelled.is_included(&stored, &rooms, &rooms), false),
+            (lost.is_included(&less, &rooms, &rooms), true),
+            (less.is_included(&lost, &rooms, &rooms), true),
+        ],
+        "a forgotten label is not compared",
+    );
 }

@@ -271,6 +271,47 @@ fn a_label_is_forgotten_everywhere(rt: HostRuntime) {
     same(&rt, state.register(Reg::new(7)), behind(9), "state");
 }
 
+#[test]
+fn a_label_is_made_anew_in_each_call(rt: HostRuntime) {
+    let alloc = rt.alloc();
+    let mut state = labelled(&rt, alloc);
+    state.forget_label(alloc, 8).expect(&rt, "memory");
+    state
+        .set_register(Reg::new(6), behind(8))
+        .expect(&rt, "memory");
+    if state.depth() < 8 {
+        state.call(alloc, 50, 41).expect(&rt, "memory");
+    }
+    let before = copied(&rt, &state);
+    state.forget_label(alloc, 9).expect(&rt, "memory");
+    same(
+        &rt,
+        inclusions(&before, copied(&rt, &state)),
+        (true, false),
+        "forgotten",
+    );
+    for (kept, main) in [(behind(8), anywhere()), (anywhere(), anywhere())] {
+        let mut back = copied(&rt, &state);
+        if back.depth() > 1 {
+            back.return_to_caller().expect(&rt, "memory");
+        }
+        same(&rt, back.register(Reg::new(6)), kept, "state");
+        if back.depth() > 1 {
+            back.return_to_caller().expect(&rt, "memory");
+        }
+        same(&rt, back.register(Reg::new(6)), main, "state");
+        same(&rt, back.register(Reg::new(7)), anywhere(), "state");
+        state.forget_label(alloc, 8).expect(&rt, "memory");
+    }
+    let mut back = before;
+    for _frame in 0..2 {
+        if back.depth() > 1 {
+            back.return_to_caller().expect(&rt, "memory");
+        }
+    }
+    same(&rt, back.register(Reg::new(7)), behind(9), "state");
+}
+
 /// Whether each of two states is included in the other.
 fn inclusions(state: &AbsState, other: AbsState) -> (bool, bool) {
     (state.is_included(&other), other.is_included(state))

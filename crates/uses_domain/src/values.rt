@@ -205,6 +205,10 @@ fn one_label_is_forgotten(rt: HostRuntime) {
         holds(&rt, value.without_label(8) == left, "without label");
         let slot = AbsSlot::Stored(value);
         same(&rt, slot.has_label(8), had, "has label");
+        let any_label = value == behind(9, 1) || had;
+        let bare = if any_label { anywhere() } else { value };
+        holds(&rt, value.bare() == bare, "bare");
+        holds(&rt, slot.bare() == AbsSlot::Stored(bare), "bare");
         holds(
             &rt,
             slot.without_label(8) == AbsSlot::Stored(left),

@@ -1,7 +1,7 @@
 //! Agreements of stations whose addresses end in octets 1 to 3, for TIDs 0 and 5.
 
 use crate::same::{counts, holds, same};
-use ap_agreements::{Agreements, Entry, Released};
+use ap_agreements::{AgreementInForce, Agreements, Entry, Released};
 use ap_model::{Held, Octets};
 use mac_types::{Address, SequenceNumber, Tid};
 use std::alloc::Global;
@@ -155,4 +155,73 @@ fn windows_hand_up_in_order(rt: HostRuntime) {
     same(&rt, up.mark, 5, "mark");
     same(&rt, up.destination, station(9), "destination");
     same(&rt, up.body.bytes(), b"c".as_slice(), "bytes");
+}
+
+/// Fails unless exactly these agreements are listed, in this order: of the station with this last octet for this TID,
+/// with this start, held numbers and timeout. Each has size 8.
+fn lists(
+    rt: &impl Abort,
+    alloc: Global,
+    agreements: &Agreements,
+    wanted: &[(u8, u8, u16, usize, u16)],
+) {
+    let rows = agreements.in_force(alloc).expect(rt, "memory");
+    counts(rt, rows.len(), wanted.len(), "rows");
+    for (row, (last, for_tid, start, held, timeout)) in rows.iter().zip(wanted) {
+        let row_wanted = AgreementInForce {
+            station: station(*last),
+            tid: tid(rt, *for_tid),
+            start: number(rt, *start),
+            size: 8,
+            held: *held,
+            timeout: *timeout,
+        };
+        same(rt, *row, row_wanted, "row");
+    }
+}
+
+/// Data with this number comes for TID 0 of a station, and is taken.
+fn take(rt: &impl Abort, alloc: Global, agreements: &mut Agreements, last: u8, of: u16) {
+    let wanted = number(rt, of);
+    let body = Octets::copy(alloc, b"c").expect(rt, "memory");
+    let frame = Held::new(station(9), 5, body);
+    let placed = agreements.get_placed(station(last), tid(rt, 0));
+    let (at, entry) = placed.expect(rt, "an agreement");
+    assert!(rt; entry.wants(wanted));
+    let mut out = Released::new();
+    agreements.take(at, wanted, Some(frame), 4, &mut out);
+}
+
+#[test]
+fn agreements_in_force_are_listed_by_key(rt: HostRuntime) {
+    let alloc = rt.alloc();
+    let mut agreements = Agreements::new(alloc);
+    lists(&rt, alloc, &agreements, &[]);
+    for (last, for_tid, timeout) in [(2, 5, 7), (1, 0, 0), (2, 0, 10), (3, 5, 65535)] {
+        holds(
+            &rt,
+            open(&rt, alloc, &mut agreements, (last, for_tid), timeout).is_none(),
+            "new",
+        );
+    }
+    let all = [
+        (1, 0, 100, 0, 0),
+        (2, 0, 100, 0, 10),
+        (2, 5, 100, 0, 7),
+        (3, 5, 100, 0, 65535),
+    ];
+    lists(&rt, alloc, &agreements, &all);
+    // One number waits for the window's first one, which comes then.
+    take(&rt, alloc, &mut agreements, 2, 101);
+    let waiting = [
+        (1, 0, 100, 0, 0),
+        (2, 0, 100, 1, 10),
+        (2, 5, 100, 0, 7),
+        (3, 5, 100, 0, 65535),
+    ];
+    lists(&rt, alloc, &agreements, &waiting);
+    take(&rt, alloc, &mut agreements, 2, 100);
+    agreements.discard(station(1));
+    let rest = [(2, 0, 102, 0, 10), (2, 5, 100, 0, 7), (3, 5, 100, 0, 65535)];
+    lists(&rt, alloc, &agreements, &rest);
 }

@@ -1,8 +1,10 @@
 //! Stations that come and go.
 
-use crate::same::{holds, same};
+use crate::same::{counts, holds, same};
 use assoc::{Class, ClassAnswer, Known, Link, aid_of, class_check, class_of, state_of};
 use mac_frame::{Address, Reason, Subtype};
+use std::alloc::Global;
+use std::process::Abort;
 
 /// The station with this number.
 fn station(number: u16) -> Address {
@@ -115,6 +117,67 @@ fn shard_1_has_251_identifiers_and_512_stations(rt: HostRuntime) {
         );
     }
     holds(&rt, link.is_full(), "is full");
+}
+
+/// Authenticates the station, if there is room.
+fn authenticate(rt: &impl Abort, link: &mut Link, station: Address) {
+    if !link.is_full() {
+        holds(rt, link.on_auth(station).is_ok(), "is ok");
+    }
+}
+
+/// Fails unless exactly these stations are listed, in this order.
+fn lists(rt: &impl Abort, alloc: Global, link: &Link, wanted: &[(u16, Known)]) {
+    let rows = link.known_stations(alloc).expect(rt, "memory");
+    counts(rt, rows.len(), wanted.len(), "rows");
+    for (row, (number, known)) in rows.iter().zip(wanted) {
+        same(rt, row.station, station(*number), "station");
+        same(rt, row.known, *known, "known");
+    }
+}
+
+#[test]
+fn known_stations_are_listed_by_address(rt: HostRuntime) {
+    let alloc = rt.alloc();
+    let mut link = Link::new(alloc, 2);
+    lists(&rt, alloc, &link, &[]);
+    authenticate(&rt, &mut link, station(0x0312));
+    authenticate(&rt, &mut link, station(0x001a));
+    same(&rt, associated(&mut link, station(0x0202)), Some(2), "aid");
+    same(&rt, associated(&mut link, station(0x000a)), Some(10), "aid");
+    let all = [
+        (0x000a, Known::Associated(10)),
+        (0x001a, Known::Authenticated),
+        (0x0202, Known::Associated(2)),
+        (0x0312, Known::Authenticated),
+    ];
+    lists(&rt, alloc, &link, &all);
+    // A station that is known already is listed once.
+    authenticate(&rt, &mut link, station(0x001a));
+    lists(&rt, alloc, &link, &all);
+    link.on_deauth(station(0x0202));
+    link.on_disassoc(station(0x000a));
+    let rest = [
+        (0x000a, Known::Authenticated),
+        (0x001a, Known::Authenticated),
+        (0x0312, Known::Authenticated),
+    ];
+    lists(&rt, alloc, &link, &rest);
+}
+
+#[test]
+fn a_full_list_has_512_rows(rt: HostRuntime) {
+    let alloc = rt.alloc();
+    let mut link = Link::new(alloc, 1);
+    for number in 0..512u16 {
+        // From the greatest address down.
+        authenticate(&rt, &mut link, station(511 - number));
+    }
+    let rows = link.known_stations(alloc).expect(&rt, "memory");
+    counts(&rt, rows.len(), 512, "rows");
+    for (row, number) in rows.iter().zip(0..512u16) {
+        same(&rt, row.station, station(number), "station");
+    }
 }
 
 #[test]

@@ -6,6 +6,7 @@ ghost use Rattle.ap_model.specs.AccessPoint.{InPlace};
 ghost use Rattle.ap_core.specs.AccessPoints.{rules_of};
 
 mod asking;
+mod listing;
 mod refusals;
 mod same;
 

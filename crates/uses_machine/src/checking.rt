@@ -2,7 +2,7 @@
 
 use crate::same::same;
 use crate::small::{no_maps, small, with_byte};
-use bpf_cert::check;
+use bpf_cert::{check, check_within};
 use bpf_decode::{Program, decode};
 use bpf_regions::Hook;
 use std::alloc::Global;
@@ -52,6 +52,30 @@ fn a_certificate_is_for_one_code_and_one_hook(rt: HostRuntime) {
         71,
         "answer",
     );
+}
+
+/// The result of a check of the certificate within a limit of work.
+fn limited(rt: &impl Abort, alloc: Global, most: Option<u64>) -> u32 {
+    let bytes = small(rt, alloc);
+    match check_within(alloc, program(rt, alloc, 2), Hook::Data, &bytes, most) {
+        Ok(accepted) => accepted.budget(),
+        Err(fault) => u32::from(fault.number()),
+    }
+}
+
+#[test]
+fn a_check_keeps_its_limit_of_work(rt: HostRuntime) {
+    // two states are examined, and none is compared
+    for (most, answer) in [
+        (None, 2),
+        (Some(0), 36),
+        (Some(1), 36),
+        (Some(2), 2),
+        (Some(u64::MAX), 2),
+    ] {
+        let found = limited(&rt, rt.alloc(), most);
+        same(&rt, (most, found), (most, answer), "answer");
+    }
 }
 
 #[test]

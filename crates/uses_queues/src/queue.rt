@@ -176,7 +176,7 @@ fn operators_keep_their_order(rt: HostRuntime) {
     put(&rt, &queue, &mut two, 9);
     put(&rt, &queue, &mut one, 3);
     take(&rt, &queue, &mut worker, 0, 5);
-    let _one = queue.meet(&mut worker, one);
+    queue.meet(&mut worker, &mut one);
     take(&rt, &queue, &mut worker, 1, 9);
     take(&rt, &queue, &mut worker, 0, 3);
 }

@@ -1,9 +1,9 @@
 //! The queues of all workers.
 
-ghost use Rattle.std.specs.Prelude.{◌≡◌, ◌<◌, length, slice_get, Some, IfOk};
-ghost use Rattle.ap_queues.specs.Passes.{IsWorkerOf};
+ghost use Rattle.std.specs.Prelude.{◌≡◌, ◌<◌, [], length, slice_get, Some, IfOk};
+ghost use Rattle.ap_queues.specs.Passes.{IsWorkerOf, taken_by};
 ghost use Rattle.ap_queues.specs.declared.queue.EventQueue.{EventQueue};
-ghost use Rattle.ap_queues.specs.Lines.{ArePassesOf, AreLinesOf};
+ghost use Rattle.ap_queues.specs.Lines.{ArePassesOf, AreLinesOf, AreTakenAt, HasPutNothing, numbers_of, puts_of};
 
 use crate::lines::fault::{LineFault, Unserved};
 use crate::lines::passes::{LinePasses, OperatorLines};
@@ -70,12 +70,14 @@ impl EventLines {
         &self.queues[worker]
     }
 
-    /// The handles of the next operator. Fault 62: a queue has given all 8; fault 40: lack of memory.
-    /// No clause says when it succeeds; only tests show that 8 operators get theirs.
+    /// The handles of the next operator, which has put nothing. Fault 62: a queue has given all 8; fault
+    /// 40: lack of memory. No clause says when it succeeds; only tests show that 8 operators get
+    /// theirs.
     pub fn operator(&self, alloc: Global, left: &mut LinePasses) -> Result<OperatorLines, LineFault>
         requires { ArePassesOf self.now left.old }
         ensures left { ArePassesOf self.now left.new }
         ensures own { IfOk result (AreLinesOf self.now) }
+        ensures unput { IfOk result (HasPutNothing self.now) }
     {
         let mut passes = Vec::with_capacity(alloc, self.queues.len())?;
         for worker in 0..self.queues.len() {
@@ -88,17 +90,38 @@ impl EventLines {
         Ok(OperatorLines { passes })
     }
 
-    /// The handle of a worker, given once; after that, fault 62. Only tests show that it is given.
+    /// The handle of a worker, which has taken nothing; given once, after that fault 62. Only tests
+    /// show that it is given.
     pub fn worker(&self, left: &mut LinePasses, worker: usize) -> Result<WorkerPass, LineFault>
         requires own { ArePassesOf self.now left.old }
         requires there { worker < length self.now }
         ensures left { ArePassesOf self.now left.new }
         ensures own { IfOk result
             (λ p. (q : EventQueue) → slice_get self.now worker ≡ Some q → IsWorkerOf q p) }
+        ensures untaken { IfOk result (λ p. taken_by p ≡ []) }
     {
         match left.workers[worker].take() {
             Some(pass) => Ok(pass),
             None => Err(LineFault::NoPass),
         }
+    }
+
+    /// Brings the worker with this number and an operator together: what the worker took of this
+    /// operator is a prefix of what that put into its queue, in order, once each. Does nothing at run
+    /// time.
+    pub fn meet(&self, number: usize, worker: &mut WorkerPass, operator: &mut OperatorLines)
+        requires there { number < length self.now }
+        requires worker { (q : EventQueue) → slice_get self.now number ≡ Some q →
+            IsWorkerOf q worker.old }
+        requires operator { AreLinesOf self.now operator.old }
+        ensures worker { (q : EventQueue) → slice_get self.now number ≡ Some q →
+            IsWorkerOf q worker.new }
+        ensures operator { AreLinesOf self.now operator.new }
+        ensures taken { taken_by worker.new ≡ taken_by worker.old }
+        ensures numbers { numbers_of operator.new ≡ numbers_of operator.old }
+        ensures put { puts_of operator.new ≡ puts_of operator.old }
+        ensures order { AreTakenAt number operator.old worker.old }
+    {
+        self.queues[number].meet(worker, &mut operator.passes[number]);
     }
 }

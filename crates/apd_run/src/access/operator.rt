@@ -1,16 +1,20 @@
 //! The operator of a run.
 
-ghost use Rattle.std.specs.Prelude.{◌≡◌, ◌<◌, IfSome};
+ghost use Rattle.std.specs.Prelude.{◌≡◌, ◌<◌, IfOk, IfSome};
 ghost use Rattle.ap_books.specs.Counts.{none};
 ghost use Rattle.ap_books.specs.Reading.{Reads};
 ghost use Rattle.ap_live.specs.Counting.{counted_by};
+ghost use Rattle.versions.specs.Sets.{set_of};
+ghost use Rattle.apd_run.specs.Budgets.{program_rows};
 ghost use Rattle.apd_run.specs.Hands.{crew_of};
 ghost use Rattle.apd_run.specs.Tallies.{told_counts};
 ghost use Rattle.apd_run.specs.Crews.{gains, with_one_more};
 
+use crate::access::budgets::Budgets;
 use crate::access::naming::Publications;
 use crate::access::worker::LiveWorker;
 use crate::actions::{Publication, WordUse};
+use crate::counting::counted_in;
 use crate::loads::{Loads, StateLimit};
 use crate::{Operating, Told, Waiting};
 use ap_books::{Ledgers, Portions, Totals};
@@ -18,9 +22,12 @@ use ap_live::{LiveAp, OperatorToken};
 use ap_locked::Journals;
 use ap_model::Event;
 use ap_queues::Unserved;
+use ap_tagged::Tagged;
 use apd_files::{Files, path_of_word};
 use apd_script::MapWord;
+use apd_text::{AgreementRow, ProgramRow, StationRow};
 use bpf_regions::{Hook, Scope};
+use std::alloc::{AllocError, Global};
 use std::marker::{Model, PhantomData};
 use std::sync::Wait;
 
@@ -31,16 +38,18 @@ pub(crate) struct Sources<'a, F> {
     pub(crate) limit: StateLimit,
 }
 
-/// The operator of a run: its token, the parts of the ledgers that no worker has, the programs in force, and their
-/// sources. Contracts see everything but the sources.
+/// The operator of a run: its token, the parts of the ledgers that no worker has, what these have counted, the programs
+/// in force, and their sources. Contracts see everything but the sources.
 #[derive(Drop)]
 pub struct LiveOperator<'a, B: Ledgers + Journals, L: Publications, F> {
     pub(crate) ap: &'a LiveAp<B>,
     pub(crate) token: OperatorToken<B>,
     pub(crate) hoard: Portions<B>,
     pub(crate) parts: u64,
+    pub(crate) totals: Totals,
     pub(crate) workers: u64,
     pub(crate) loads: &'a mut Loads,
+    pub(crate) budgets: Budgets,
     pub(crate) sources: Sources<'a, F>,
     pub(crate) list: PhantomData<L>,
 }
@@ -55,8 +64,10 @@ impl<'a, B: Ledgers + Journals, L: Publications, F> Model for LiveOperator<'a, B
       token = o.token;
       hoard = o.hoard;
       parts = o.parts;
+      totals = o.totals;
       workers = o.workers;
       loads = o.loads.now;
+      budgets = o.budgets;
     } };
 
     ghost invariant = { λ o. IsRunOperator B.shares L.list (record {
@@ -64,8 +75,10 @@ impl<'a, B: Ledgers + Journals, L: Publications, F> Model for LiveOperator<'a, B
       token = o.token;
       hoard = o.hoard;
       parts = o.parts;
+      totals = o.totals;
       workers = o.workers;
       loads = o.loads.now;
+      budgets = o.budgets;
     }) };
 }
 
@@ -76,7 +89,9 @@ impl<'a, B: Ledgers + Journals, L: Publications, F: Files> LiveOperator<'a, B, L
     {
         let limit = self.sources.limit;
         let files = &mut *self.sources.files;
-        self.loads.load(rt, files, hook, path_of_word(path), limit)
+        let told = self.loads.load(rt, files, hook, path_of_word(path), limit);
+        self.budgets.note(hook, &told);
+        told
     }
 
     fn adopt<R: Wait>(&mut self, rt: &R, hook: Hook, path: &str, certificate: &str) -> Told
@@ -85,8 +100,11 @@ impl<'a, B: Ledgers + Journals, L: Publications, F: Files> LiveOperator<'a, B, L
     {
         let files = &mut *self.sources.files;
         let certificate = path_of_word(certificate);
-        self.loads
-            .adopt(rt, files, hook, path_of_word(path), certificate)
+        let told = self
+            .loads
+            .adopt(rt, files, hook, path_of_word(path), certificate);
+        self.budgets.note(hook, &told);
+        told
     }
 
     fn unload<R: Wait>(&mut self, rt: &R, hook: Hook) -> Option<Told>
@@ -94,9 +112,20 @@ impl<'a, B: Ledgers + Journals, L: Publications, F: Files> LiveOperator<'a, B, L
         ensures nothing { IfSome result (λ told. told_counts told ≡ none) }
     {
         match self.loads.unload(rt, hook) {
-            Ok(()) => return None,
+            Ok(()) => {
+                self.budgets.put(hook, None);
+                return None;
+            }
             Err(_) => return Some(Told::Memory),
         }
+    }
+
+    /// The programs in force, each with its budget.
+    fn in_force(&self, alloc: Global) -> Result<Vec<ProgramRow>, AllocError>
+        ensures are { IfOk result
+            (λ rows. rows.items ≡ program_rows (set_of self.now.loads.loads)) }
+    {
+        self.budgets.rows(alloc)
     }
 
     /// Stores a number in a word of a shared map, if there is such a word.
@@ -137,8 +166,9 @@ impl<'a, B: Ledgers + Journals, L: Publications, F: Files> LiveOperator<'a, B, L
 }
 
 impl<'a, B: Ledgers + Journals, L: Publications, F> LiveOperator<'a, B, L, F> {
-    /// Takes over a worker's counts, and gives it fresh parts of the ledgers.
-    fn exchange<G: Drop>(&mut self, worker: &mut LiveWorker<'a, B, L, G>)
+    /// Takes over a worker's counts, which are these numbers, and gives it fresh parts of the ledgers.
+    fn exchange<G: Drop>(&mut self, worker: &mut LiveWorker<'a, B, L, G>, numbers: Totals)
+        requires numbers { Reads numbers (counted_by worker.old.token.shards) }
         ensures crew { crew_of self.new ≡
             gains (crew_of self.old) (counted_by worker.old.token.shards) }
         ensures worker { counted_by worker.new.token.shards ≡ none }
@@ -146,6 +176,7 @@ impl<'a, B: Ledgers + Journals, L: Publications, F> LiveOperator<'a, B, L, F> {
         let fresh = self.hoard.split_off(1);
         let counted = worker.token.renew(fresh);
         self.hoard.merge(counted);
+        self.totals = self.totals.and(numbers);
     }
 
     /// Tells a worker of the loads so far.
@@ -248,8 +279,28 @@ impl<'a, B: Ledgers + Journals, L: Publications, F: Files, G: Drop> Operating<
         }
     }
 
-    fn settle(&mut self, worker: &mut LiveWorker<'a, B, L, G>) {
-        self.exchange(worker);
+    fn stations<R: Wait>(&mut self, rt: &R, alloc: Global) -> Result<Vec<StationRow>, AllocError> {
+        self.known_stations(rt, alloc)
+    }
+
+    fn agreements<R: Wait>(
+        &mut self,
+        rt: &R,
+        alloc: Global,
+    ) -> Result<Vec<AgreementRow>, AllocError> {
+        self.agreements_in_force(rt, alloc)
+    }
+
+    fn programs(&self, alloc: Global) -> Result<Vec<ProgramRow>, AllocError> {
+        self.in_force(alloc)
+    }
+
+    fn counted(&self) -> Totals {
+        self.totals
+    }
+
+    fn settle(&mut self, worker: &mut LiveWorker<'a, B, L, G>, list: &[Tagged]) {
+        self.exchange(worker, counted_in(list));
         self.tell(worker);
     }
 

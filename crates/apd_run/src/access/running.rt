@@ -1,6 +1,6 @@
 //! Running lines on an access point made from settings.
 
-ghost use Rattle.std.specs.Prelude.{◌≡◌, ◌+◌, ◌<◌, ◌≤◌, vec_len, IfOk};
+ghost use Rattle.std.specs.Prelude.{◌≡◌, ◌+◌, ◌<◌, ◌≤◌, [], vec_len, IfOk};
 ghost use Rattle.std.specs.List.{All};
 ghost use Rattle.ap_books.specs.Counts.{none};
 ghost use Rattle.ap_books.specs.Holdings.{HasParts, sum_of};
@@ -11,6 +11,7 @@ ghost use Rattle.apd_run.specs.Dealing.{AreHands, IsNewOperator, IsNewWorker};
 ghost use Rattle.apd_run.specs.Hands.{crew_of};
 ghost use Rattle.apd_run.specs.Shows.{Runs};
 
+use crate::access::budgets::Budgets;
 use crate::access::hands::{Hands, deal};
 use crate::access::naming::Publications;
 use crate::access::operator::{LiveOperator, Sources};
@@ -20,7 +21,7 @@ use crate::lines::Lines;
 use crate::loads::{Loads, StateLimit};
 use crate::script::run_lines;
 use crate::{Ready, Staff};
-use ap_books::{Ledgers, Portions};
+use ap_books::{Ledgers, Portions, Totals};
 use ap_live::{LiveAp, Opened, OperatorToken, Settings, WorkerToken};
 use ap_locked::Journals;
 use ap_shards::NewShards;
@@ -112,9 +113,11 @@ where
     requires new { IsNewOperator ap.now token }
     requires kept { HasParts kept.1 kept.0 }
     requires some { 1 < kept.1 }
+    requires nothing { sum_of kept.0 ≡ none }
     requires all { kept.1 + workers + 1 ≡ parts_in_all }
     requires shares { B.shares ≡ parts_in_all }
     requires list { loads.old.list ≡ L.list }
+    requires no_loads { loads.old.loads ≡ [] }
     ensures workers { (crew_of result).workers ≡ workers }
     ensures counted { (crew_of result).counted ≡ sum_of kept.0 }
 {
@@ -124,8 +127,10 @@ where
         token,
         hoard,
         parts,
+        totals: Totals::new(),
         workers,
         loads,
+        budgets: Budgets::none(),
         sources,
         list: PhantomData,
     }
@@ -154,6 +159,7 @@ where
     requires shares { B.shares ≡ parts_in_all }
     requires list { ap.now.list.list ≡ L.list }
     requires loads { equipment.loads.list ≡ L.list }
+    requires no_loads { equipment.loads.loads ≡ [] }
     ensures runs { Runs (P.strict writer) (P.contents writer) (P.contents result.0) none result.1 }
 {
     let Supplies { files, limit, gate } = supplies;
@@ -204,6 +210,7 @@ where
     requires few { opening.settings.workers ≤ 8 }
     requires shapes { opening.shapes ≡ opening.settings.shapes }
     requires named { AreNamed B.name_of B.shares B.journal_of opening.new }
+    requires config { opening.settings.link ≡ B.config }
     requires shares { B.shares ≡ parts_in_all }
     ensures runs { Runs (P.strict writer) (P.contents writer) (P.contents result.0) none result.1 }
 {

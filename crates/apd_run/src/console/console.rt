@@ -1,9 +1,11 @@
 //! The console of a run.
 
-ghost use Rattle.std.specs.Prelude.{◌≡◌, Bool};
+ghost use Rattle.std.specs.Prelude.{◌≡◌, true, Bool, OnOk};
+ghost use Rattle.std.specs.Io.KnownBytes.{Keeps};
 
 use apd_script::Numbered;
 use apd_text::Report;
+use std::io;
 use std::io::Write;
 
 /// A run writes its lines to it, and tells it what became of them.
@@ -11,9 +13,17 @@ pub trait Console: Write {
     // Whether a refused line ends the run.
     ghost strict: { Self → Bool };
 
+    // Whether all that was written is flushed.
+    ghost is_flushed: { Self → Bool };
+
     /// Whether a refused line ends the run after its interval.
     fn is_strict(&self) -> bool
         ensures is { result ≡ strict self.now };
+
+    /// Flushes all that was written.
+    fn flush_all(&mut self) -> io::Result<()>
+        ensures flushed { OnOk result (is_flushed self.new ≡ true) }
+        ensures keeps { Keeps (Self.contents self.old) (Self.contents self.new) };
 
     /// Tells what became of consecutive commands, for which the operator made these reports, in order.
     fn tell(&mut self, commands: &[Numbered<'_>], reports: &[Report])

@@ -7,7 +7,7 @@ use crate::console::notes::Notes;
 use apd_script::Numbered;
 use apd_text::Report;
 use std::io;
-use std::io::Write;
+use std::io::{Error, ErrorKind, Write};
 
 /// Standard output, standard error, and the messages that go there.
 #[derive(Drop)]
@@ -15,13 +15,37 @@ pub(crate) struct Terminal<'a, O: Drop, E> {
     pub out: O,
     pub err: &'a mut E,
     pub notes: Notes,
+    /// Whether all that was written is flushed.
+    pub is_flushed: bool,
+    /// Whether a write failed since nobody reads standard output any more.
+    pub reader_left: bool,
+}
+
+impl<'a, O: Drop, E> Terminal<'a, O, E> {
+    /// Remembers why a write failed.
+    fn failed(&mut self, error: &Error)
+        ensures out { self.new.out ≡ self.old.out }
+        ensures notes { self.new.notes ≡ self.old.notes }
+    {
+        self.is_flushed = false;
+        self.reader_left = error.kind() == ErrorKind::BrokenPipe;
+    }
 }
 
 impl<'a, O: Write + Drop, E: Write> Write for Terminal<'a, O, E> {
     ghost contents = { λ t. O.contents t.out };
 
     fn write(&mut self, buf: &[u8]) -> io::Result<usize> {
-        self.out.write(buf)
+        match self.out.write(buf) {
+            Ok(count) => {
+                self.is_flushed = false;
+                return Ok(count);
+            }
+            Err(error) => {
+                self.failed(&error);
+                return Err(error);
+            }
+        }
     }
 
     fn flush(&mut self) -> io::Result<()> {
@@ -32,8 +56,23 @@ impl<'a, O: Write + Drop, E: Write> Write for Terminal<'a, O, E> {
 impl<'a, O: Write + Drop, E: Write> Console for Terminal<'a, O, E> {
     ghost strict = { λ t. t.notes.strict };
 
+    ghost is_flushed = { λ t. t.is_flushed };
+
     fn is_strict(&self) -> bool {
         self.notes.strict
+    }
+
+    fn flush_all(&mut self) -> io::Result<()> {
+        match self.out.flush() {
+            Ok(()) => {
+                self.is_flushed = true;
+                return Ok(());
+            }
+            Err(error) => {
+                self.failed(&error);
+                return Err(error);
+            }
+        }
     }
 
     fn tell(&mut self, commands: &[Numbered<'_>], reports: &[Report]) {
@@ -46,7 +85,12 @@ impl<'a, O: Drop, E: Write> Terminal<'a, O, E> {
     pub(crate) fn end(self) -> O
         ensures { result ≡ self.entry.out }
     {
-        let Terminal { out, err, notes } = self;
+        let Terminal {
+            out,
+            err,
+            notes,
+            ..
+        } = self;
         notes.end(err);
         out
     }

@@ -49,6 +49,14 @@ struct Task<L: Drop> {
     lines: L,
 }
 
+/// The end of a run: its writer, its exit status, and whether it broke off since nobody reads any more what it writes.
+#[derive(Drop)]
+struct Ended<P: Drop> {
+    out: P,
+    status: u8,
+    reader_left: bool,
+}
+
 /// The number of parts of each ledger.
 const PARTS: u64 = 17;
 
@@ -106,7 +114,7 @@ fn run_told<R, F, G, L, P, E>(
     supplies: Supplies<'_, F, G>,
     out: P,
     err: &mut E,
-) -> (P, u8)
+) -> Ended<P>
 where
     R: Threads + Wait + Sync,
     F: Files,
@@ -114,7 +122,8 @@ where
     L: Lines + Drop,
     P: Write + Drop,
     E: Write,
-    ensures runs { Runs words.entry.strict (P.contents out) (P.contents result.0) none result.1 }
+    ensures runs { Runs words.entry.strict
+        (P.contents out) (P.contents result.out) none result.status }
 {
     let RunWords {
         script,
@@ -124,23 +133,35 @@ where
         ..
     } = words;
     let Ok(notes) = Notes::new(alloc, script, &task.configuration.maps, strict, verbose) else {
-        return (out, 3);
+        return Ended {
+            out,
+            status: 3,
+            reader_left: false,
+        };
     };
     let console = Terminal {
         out,
         err: &mut *err,
         notes,
+        is_flushed: false,
+        reader_left: false,
     };
     let workers = workers.max(1).min(8);
     let (console, status) = run_task(rt, alloc, task, workers, supplies, console);
-    (console.end(), status)
+    let reader_left = console.reader_left;
+    Ended {
+        out: console.end(),
+        status,
+        reader_left,
+    }
 }
 
 /// Runs a script, and returns `out` and the exit status: 3 if a line says `memory`, or an allocation failed for the run
 /// itself; 2 for a fault of a file, the configuration, the script or a write; otherwise 1 if the run is strict and a
 /// line was refused, which ends the run after that interval; otherwise 0. If the run breaks off, the contract doesn't
 /// say whether the status is 2 or 3. A faulty script is refused before any line runs. Messages on `err` say what a
-/// status of 1, 2 or 3 means, and what a hook keeps after a refused load.
+/// status of 1, 2 or 3 means, unless a write failed since nobody reads any more, and what a hook keeps after a refused
+/// load.
 pub fn run<R, F, G, P, E>(
     rt: &R,
     alloc: Global,
@@ -183,8 +204,15 @@ where
         lines,
     };
     let supplies = Supplies { files, limit, gate };
-    let (out, status) = run_told(rt, alloc, words, task, supplies, out, err);
-    say_why(status, err);
+    let ended = run_told(rt, alloc, words, task, supplies, out, err);
+    let Ended {
+        out,
+        status,
+        reader_left,
+    } = ended;
+    if !reader_left {
+        say_why(status, err);
+    }
     (out, status)
 }
 
@@ -227,8 +255,15 @@ where
         lines,
     };
     let supplies = Supplies { files, limit, gate };
-    let (out, status) = run_told(rt, alloc, words, task, supplies, out, err);
-    say_why_live(status, err);
+    let ended = run_told(rt, alloc, words, task, supplies, out, err);
+    let Ended {
+        out,
+        status,
+        reader_left,
+    } = ended;
+    if !reader_left {
+        say_why_live(status, err);
+    }
     (out, status)
 }
 
@@ -239,10 +274,10 @@ fn live_configuration<F: Files, E: Write>(
     files: &mut F,
     err: &mut E,
 ) -> Result<Configuration, RunFault> {
-    let configuration = configuration(alloc, path, files)?;
     if let Err(why) = files.open(INPUT) {
         return Err(unreadable(alloc, INPUT, why));
     }
+    let configuration = configuration(alloc, path, files)?;
     say_if_group(alloc, path, &configuration, err);
     Ok(configuration)
 }

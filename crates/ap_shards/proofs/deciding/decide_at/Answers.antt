@@ -4,7 +4,9 @@ use Rattle.shared_maps.specs.Tables.{Place}
 use Rattle.bpf_helpers.specs.Hooked.{Held, IsFitting}
 use Rattle.bpf_helpers.specs.HookPorts.{given_by}
 use Rattle.hook_judge.specs.declared.judge.SetJudge.{SetJudge}
+use Rattle.ap_model.specs.Readings.{Rules}
 use Rattle.ap_locked.specs.Kept.{readings_of}
+use Rattle.ap_locked.specs.Tokens as tokens
 use Rattle.ap_shards.specs.Desks.{ByDesk}
 use Rattle.ap_shards.specs.Fates.{Adds}
 use Rattle.ap_shards.proofs.Adding.{adds}
@@ -13,16 +15,17 @@ use Rattle.ap_shards.proofs.deciding.decide_at.Goals as goal
 
 pub returns-in-Ok-clause-fate : goal.returns-in-Ok-clause-fate
 returns-in-Ok-clause-fate g c =
+    let rs : Rules = tokens.rules g.row.SHARD g.B.Journals.config in
     let d = c.in-Ok.ensures.entry in
     let j = c.new-judge.result in
     let k = c.decide.new.judge in
     let r = readings_of c.args.locked.now in
     let name = (c.judging_law.ensures.judged j k d.asked d.listed).0.state ∙ c.new-judge.ensures.same_state in
     let view = ap given_by c.new-judge.ensures.view ∙ (λ i. record { maps = c.args.desk.maps.now; worker = c.args.desk.worker; clock = c.clock.ensures i; stations = c.stations.result }) in
-    let added : Adds (ByDesk c.args.desk c.args.state.now k.state.now) g.row.SHARD c.args.mine.now c.args.event.now c.in-Ok.outs.items c.in-Ok.dropped c.decide.new.mine =
-    adds (ByDesk c.args.desk c.args.state.now k.state.now) g.row.SHARD {k2 = c.decide.new.self} {t2 = c.decide.new.mine} {j2 = k} c.known.ensures d
+    let added : Adds (ByDesk c.args.desk c.args.state.now k.state.now) rs c.args.mine.now c.args.event.now c.in-Ok.outs.items c.in-Ok.dropped c.decide.new.mine =
+    adds (ByDesk c.args.desk c.args.state.now k.state.now) rs {k2 = c.decide.new.self} {t2 = c.decide.new.mine} {j2 = k} c.known.ensures d
     (λ asked listed. by_desk c.args.desk c.args.state.now k.state.now r c.stations.result j asked c.stations.ensures.are view c.new-judge.ensures.set c.new-judge.ensures.state (c.judging_law.ensures.judged j k asked listed).1) in
-    subst (λ (h : Held). Adds (ByDesk c.args.desk c.args.state.now h) g.row.SHARD c.args.mine.now c.args.event.now c.in-Ok.outs.items c.in-Ok.dropped c.decide.new.mine) (search rules) added
+    subst (λ (h : Held). Adds (ByDesk c.args.desk c.args.state.now h) rs c.args.mine.now c.args.event.now c.in-Ok.outs.items c.in-Ok.dropped c.decide.new.mine) (search rules) added
 
 pub returns-in-Ok-clause-fitting : goal.returns-in-Ok-clause-fitting
 returns-in-Ok-clause-fitting g c =

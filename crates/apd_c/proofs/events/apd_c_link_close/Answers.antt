@@ -7,5 +7,5 @@ use Rattle.apd_c.proofs.events.apd_c_link_close.Goals as goal
 
 pub returns-clause-serves : goal.returns-clause-serves
 returns-clause-serves c =
-    subst (λ (e : Event). Serves e (held c.args.link.now) (held c.args.maps.now) (held c.args.outs.now) c.lead_to.result (held c.lead_to.new.link) (held c.lead_to.new.maps) (held c.lead_to.new.outs))
+    subst (λ (e : Event). Serves e c.args.user (held c.args.link.now) (held c.args.maps.now) (held c.args.outs.now) c.lead_to.result (held c.lead_to.new.link) (held c.lead_to.new.maps) (held c.lead_to.new.outs))
     (λ i. event.Close (c.new-2.ensures i) (c.in-Some.ensures.value i)) c.lead_to.ensures.serves

@@ -1,5 +1,5 @@
 use Rattle.std.proofs.Common.{refl, sym, ◌∙◌}
-use Rattle.apd_run.specs.Shows.{Nothing, Then}
+use Rattle.apd_run.specs.Shows.{Nothing, Then, InInterval}
 use Rattle.apd_run.proofs.interval.intervals.Goals as goal
 
 pub intervals-init : goal.intervals-init
@@ -16,13 +16,4 @@ intervals-preserved g c =
     }
 
 pub returns-in-Err-clause-breaks : goal.returns-in-Err-clause-breaks
-returns-in-Err-clause-breaks g c =
-    record {
-      mid = g.P.Write.contents c.intervals.writer;
-      before = (g.O.Operating.crew c.intervals.staff.operator).counted;
-      memory = c.intervals.found.memory;
-      refused = c.intervals.found.refused;
-      shown = c.intervals.invariant.shown;
-      goes_on = sym c.is_over.ensures.is ∙ c.if-is_over.false;
-      last = c.in-Err.ensures.breaks;
-    }
+returns-in-Err-clause-breaks g c = InInterval _ _ _ _ c.intervals.invariant.shown (sym c.is_over.ensures.is ∙ c.if-is_over.false) c.in-Err.ensures.breaks

@@ -13,4 +13,4 @@ loop-k-preserved c =
 pub returns : goal.returns
 returns c =
     let old = c.args.values.now in
-    record { is = changed_all (unlabelled c.args.label) c.loop-k.values (held_by old) c.loop-k.k c.loop-k.invariant (omega (arith, length_held old, c.loop-k-test.false)) }
+    record { is = changed_all (unlabelled c.args.label) (held_by c.loop-k.values) (held_by old) c.loop-k.k c.loop-k.invariant (omega (arith, length_held old, c.loop-k-test.false)) }

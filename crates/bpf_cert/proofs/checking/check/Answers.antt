@@ -1,6 +1,4 @@
-use Rattle.std.proofs.Common.{ap, ◌∙◌}
-use Rattle.bpf_machine.specs.Verified.{Verified}
 use Rattle.bpf_cert.proofs.checking.check.Goals as goal
 
-pub returns-clause-only : goal.returns-clause-only
-returns-clause-only c = λ b v. ap (λ (a : Verified). a.budget) c.in_ok-accepted.ensures.is ∙ c.in_ok-budget.ensures.only b v
+pub returns-in-Refused-clause-only : goal.returns-in-Refused-clause-only
+returns-in-Refused-clause-only c = λ b v. rw c.in-Refused.is at (c.in-Err.ensures.only b v)

@@ -11,6 +11,6 @@ returns-clause-headline g c =
     let old : Operator = record { lines = before.lines; seats = before.seats; shards = before.shards } in
     let new : Operator = record { lines = before.lines; seats = before.seats; shards = c.act.new.mine } in
     let outs = c.in_ok-outs.outs.items in
-    subst (λ (o : Operator). OperatorHeadline o c.args.event.now outs new) c.operator.view_is
-    (acted_holds c.run_law.ensures old new c.args.event.now outs
-    (acted_at old new c.args.event.now outs c.in-Some.shard (sym c.in-Some.ensures.is) c.in-Some.ensures.fits c.in_ok-outs.ensures.acted))
+    subst (λ (o : Operator). OperatorHeadline g.B.Journals.config o c.args.event.now outs new) c.operator.view_is
+    (acted_holds c.run_law.ensures g.B.Journals.config old new c.args.event.now outs c.requires.command
+    (acted_at g.B.Journals.config old new c.args.event.now outs c.in-Some.shard c.requires.command (sym c.in-Some.ensures.is) c.in-Some.ensures.fits c.in_ok-outs.ensures.acted))

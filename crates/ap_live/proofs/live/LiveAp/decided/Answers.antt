@@ -1,6 +1,7 @@
 use Rattle.std.proofs.Common.{List, ap, sym, subst, ◌∙◌}
 use Rattle.bpf_helpers.specs.Hooked.{IsFitting}
 use Rattle.bpf_helpers.specs.Tables.{Tables}
+use Rattle.ap_model.specs.Readings.{Config}
 use Rattle.ap_queues.specs.Items.{Item}
 use Rattle.versions.specs.Lists.{Beginning, Begins}
 use Rattle.versions.specs.Sets.{set_of}
@@ -25,6 +26,7 @@ returns-clause-own g c =
 
 pub returns-clause-became : goal.returns-clause-became
 returns-clause-became g c =
+    let config : Config = g.B.Journals.config in
     let before = c.worker.inside in
     let item = c.item.inside in
     let held = c.decide-fate.new.state in
@@ -34,13 +36,13 @@ returns-clause-became g c =
     let maps_are = c.maps.ensures.is ∙ ap (λ (a : Live). a.stock.maps) c.self.view_is in
     let old : Worker = record { number = before.number; pass = before.pass; seen = before.reader; held = before.state; shards = before.shards } in
     let new : Worker = record { number = before.number; pass = before.pass; seen = seen; held = held; shards = shards } in
-    let by_set = subst (λ (b : Beginning). ComesAt (JudgedBy c.maps.result.now before.number (set_of b.loads) before.state held) item.shard before.shards item.event fate shards)
+    let by_set = subst (λ (b : Beginning). ComesAt (JudgedBy c.maps.result.now before.number (set_of b.loads) before.state held) config item.shard before.shards item.event fate shards)
     (c.set.ensures.is ∙ sym c.leave.ensures.seen) c.decide-fate.ensures.fate in
-    let became : Becomes c.args.self.now old.number (progress_of old) item.event item.shard fate (progress_of new) = record {
+    let became : Becomes config c.args.self.now old.number (progress_of old) item.event item.shard fate (progress_of new) = record {
       begins = subst (λ (b : Beginning). Begins before.reader b) (sym c.leave.ensures.seen) c.enter-entered.ensures.seen;
-      came = subst (λ (ms : List Tables). ComesAt (JudgedBy ms before.number (set_of seen.loads) before.state held) item.shard before.shards item.event fate shards) maps_are by_set;
+      came = subst (λ (ms : List Tables). ComesAt (JudgedBy ms before.number (set_of seen.loads) before.state held) config item.shard before.shards item.event fate shards) maps_are by_set;
       held = c.decide-fate.ensures.holds;
       inside = is_inside fate item.shard c.item.invariant.below;
     } in
-    subst (λ (w : Worker). Becomes c.args.self.now w.number (progress_of w) c.args.item.now.event c.args.item.now.shard fate (progress_of new)) c.worker.view_is
-    (subst (λ (i : Item). Becomes c.args.self.now old.number (progress_of old) i.event i.shard fate (progress_of new)) c.item.view_is became)
+    subst (λ (w : Worker). Becomes config c.args.self.now w.number (progress_of w) c.args.item.now.event c.args.item.now.shard fate (progress_of new)) c.worker.view_is
+    (subst (λ (i : Item). Becomes config c.args.self.now old.number (progress_of old) i.event i.shard fate (progress_of new)) c.item.view_is became)

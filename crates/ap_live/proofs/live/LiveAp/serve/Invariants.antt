@@ -8,4 +8,4 @@ invariant-loop g l =
     (goal.iterator-loop g).can_next l.iterator' × (goal.iterator-loop g).is_finite l.iterator'
     × IsWorker l.self l.worker
     × (l.worker.number ≡ l.initial.worker.number)
-    × Served l.self l.initial.worker l.worker l.initial.list.items l.list.items
+    × Served g.B.Journals.config l.self l.initial.worker l.worker l.initial.list.items l.list.items

@@ -1,4 +1,6 @@
 use Rattle.std.proofs.Common.{◌≡◌, ◌∙◌, ◌∷◌, ◌++◌, [], ap, sym, subst}
+use Rattle.ap_core.specs.Handles.{rules}
+use Rattle.ap_model.specs.Readings.{Rules}
 use Rattle.ap_model.specs.Runs.{Entry}
 use Rattle.ap_journal.specs.Beginnings.{with_entry}
 use Rattle.ap_books.specs.Counts.{counts_of, entry_counts, plus, gains}
@@ -9,6 +11,7 @@ use Rattle.ap_locked.proofs.locked.Locked.decide.Goals as goal
 
 pub invariant_of-self-2 : goal.invariant_of-self-2
 invariant_of-self-2 g c =
+    let rs : Rules = rules g.row.SHARD g.B.Journals.config in
     let d = c.in_ok-outcome.ensures.step in
     let e : Entry = entry_of c.args.event.now d.asked c.in_ok-outcome.outcome.outs.items in
     let asked = asked_since g.J.Judge.asks g.J.Judge.gives c.asks_law.ensures.listed c.of-before.result.value c.args.judge.now c.handle_with_drop.new.judge d.asked c.of-before.ensures d.listed in
@@ -17,14 +20,15 @@ invariant_of-self-2 g c =
     let counts : c.count.new.self ≡ plus c.self.inside.books (entry_counts e) =
     c.count.ensures.books ∙ (λ i. plus c.self.inside.books (counts_of (c.as_slice-2.ensures.value i) (d.flag i))) in
     let was : Kept = record { shard = c.self.inside.shard; journal = c.self.inside.journal.entries; counts = c.self.inside.books } in
-    let holds : Holds g.row.SHARD (kept_with was c.handle_with_drop.new.self e) = holds_with g.row.SHARD was c.handle_with_drop.new.self e c.self.invariant.2 d.does c.in_ok-outcome.ensures.rules in (
+    let holds : Holds rs (kept_with was c.handle_with_drop.new.self e) = holds_with rs was c.handle_with_drop.new.self e c.self.invariant.2 d.does c.in_ok-outcome.ensures.rules in (
       ap (λ k. k.journal) grown ∙ c.self.invariant.0,
       c.add.ensures.author,
-      subst (Holds g.row.SHARD) (λ i. record { shard = c.handle_with_drop.new.self; journal = (sym grown i).entries; counts = sym counts i }) holds,
+      subst (Holds rs) (λ i. record { shard = c.handle_with_drop.new.self; journal = (sym grown i).entries; counts = sym counts i }) holds,
     )
 
 pub invariant_of-mine : goal.invariant_of-mine
 invariant_of-mine g c =
+    let rs : Rules = rules g.row.SHARD g.B.Journals.config in
     let d = c.in_ok-outcome.ensures.step in
     let e : Entry = entry_of c.args.event.now d.asked c.in_ok-outcome.outcome.outs.items in
     let asked = asked_since g.J.Judge.asks g.J.Judge.gives c.asks_law.ensures.listed c.of-before.result.value c.args.judge.now c.handle_with_drop.new.judge d.asked c.of-before.ensures d.listed in
@@ -37,11 +41,11 @@ invariant_of-mine g c =
     let had : Token = record { portion = c.mine.inside.shares; seen = c.mine.inside.seen.entries; own = c.mine.inside.own } in
     let was : Kept = record { shard = c.self.inside.shard; journal = c.self.inside.journal.entries; counts = c.self.inside.books } in
     let after : Kept = kept_with was c.handle_with_drop.new.self e in
-    let holds : Holds g.row.SHARD after = holds_with g.row.SHARD was c.handle_with_drop.new.self e c.self.invariant.2 d.does c.in_ok-outcome.ensures.rules in
-    let is : IsToken g.row.SHARD (token_with had c.self.inside.journal.entries e) =
-    is_token_with g.row.SHARD had c.self.inside.journal.entries e c.mine.invariant.1 c.look.ensures.has_all.has_all (journal_handled g.row.SHARD after holds) in (
+    let holds : Holds rs after = holds_with rs was c.handle_with_drop.new.self e c.self.invariant.2 d.does c.in_ok-outcome.ensures.rules in
+    let is : IsToken rs (token_with had c.self.inside.journal.entries e) =
+    is_token_with rs had c.self.inside.journal.entries e c.mine.invariant.1 c.look.ensures.has_all.has_all (journal_handled rs after holds) in (
       ap (λ k. k.journal) grown ∙ c.self.invariant.0,
-      subst (IsToken g.row.SHARD) (λ i. record { portion = sym portion i; seen = (sym grown i).entries; own = sym own i }) is,
+      subst (IsToken rs) (λ i. record { portion = sym portion i; seen = (sym grown i).entries; own = sym own i }) is,
     )
 
 pub returns-clause-entry : goal.returns-clause-entry

@@ -1,7 +1,8 @@
 use Rattle.std.proofs.Common.{◌∙◌, ◌<◌, [], ap, sym, subst, List}
-use Rattle.ap_model.specs.Readings.{Readings}
+use Rattle.ap_model.specs.Readings.{Config, Readings, Rules}
 use Rattle.ap_model.specs.Runs.{Entry, Run, rests, opening}
-use Rattle.ap_core.specs.Shards.{reads, ruled}
+use Rattle.ap_core.specs.Handles.{rules}
+use Rattle.ap_core.specs.Shards.{reads}
 use Rattle.ap_books.specs.Counts.{Portion, counts_in}
 use Rattle.ap_locked.specs.Tokens.{AreHandled, IsAmong}
 use Rattle.ap_locked.proofs.Among.{none_among}
@@ -10,24 +11,26 @@ use Rattle.ap_locked.proofs.locked.Locked.new.Goals as goal
 
 pub invariant_of-locked : goal.invariant_of-locked
 invariant_of-locked g c =
+    let rs : Rules = rules g.row.SHARD g.B.Journals.config in
     let shard = c.in_ok-shard.shard in
     let parts = c.into_parts-author.ensures in (
       parts.journal ∙ c.requires.named.journal_is,
       parts.author,
       record {
-        number = ap (λ r. r.shard) c.in_ok-shard.ensures.rules;
-        run = subst (λ (es : List Entry). Run (ruled shard) opening es (reads shard)) (sym parts.empty) (subst (λ (r : Readings). Run (ruled shard) opening [] r) (sym c.in_ok-shard.ensures.opening) (rests opening));
+        rules = c.in_ok-shard.ensures.rules ∙ ap (λ (config : Config). rules g.row.SHARD config) c.requires.config;
+        run = subst (λ (es : List Entry). Run rs opening es (reads shard)) (sym parts.empty) (subst (λ (r : Readings). Run rs opening [] r) (sym c.in_ok-shard.ensures.opening) (rests opening));
         counted = c.open-books.ensures.none ∙ ap counts_in (sym parts.empty);
       },
     )
 
 pub invariant_of-token : goal.invariant_of-token
 invariant_of-token g c =
+    let rs : Rules = rules g.row.SHARD g.B.Journals.config in
     let again = c.again.ensures in (
       ap (λ k. k.journal) again ∙ (c.into_parts-author.ensures.journal ∙ c.requires.named.journal_is),
       record {
         some = subst (λ (p : Portion). 0 < p.parts) (sym c.open-books.ensures.whole) c.requires.some;
-        handled = subst (AreHandled g.row.SHARD) (sym (ap (λ k. k.entries) again ∙ c.into_parts-author.ensures.empty)) (none_handled g.row.SHARD);
+        handled = subst (AreHandled rs) (sym (ap (λ k. k.entries) again ∙ c.into_parts-author.ensures.empty)) (none_handled rs);
         among = subst (λ (own : List Entry). IsAmong own c.again.result.entries) (sym c.new-2.ensures) (none_among c.again.result.entries);
         counted = ap (λ p. p.counts) c.open-books.ensures.whole ∙ ap counts_in (sym c.new-2.ensures);
       },

@@ -1,4 +1,5 @@
 use Rattle.std.proofs.Common.{◌∙◌, ap, sym, subst}
+use Rattle.ap_core.specs.Handles.{rules}
 use Rattle.ap_locked.specs.Tokens.{AreHandled, IsAmong}
 use Rattle.ap_locked.proofs.Among.{among_prefix}
 use Rattle.ap_locked.proofs.Handled.{either_handled}
@@ -11,7 +12,7 @@ invariant_of-self g c =
       ap (λ k. k.journal) c.again.ensures ∙ (longer.same_journal ∙ was.0),
       record {
         some = was.1.some;
-        handled = subst (λ k. AreHandled g.row.SHARD k.entries) (sym c.again.ensures) (either_handled g.row.SHARD _ _ _ c.longer-seen.ensures.one was.1.handled c.other.invariant.1.handled);
+        handled = subst (λ k. AreHandled (rules g.row.SHARD g.B.Journals.config) k.entries) (sym c.again.ensures) (either_handled (rules g.row.SHARD g.B.Journals.config) _ _ _ c.longer-seen.ensures.one was.1.handled c.other.invariant.1.handled);
         among = subst (λ k. IsAmong c.self.inside.own k.entries) (sym c.again.ensures) (among_prefix longer.has_all was.1.among);
         counted = was.1.counted;
       },
@@ -24,7 +25,7 @@ invariant_of-other g c =
       longer.same_journal ∙ was.0,
       record {
         some = was.1.some;
-        handled = either_handled g.row.SHARD _ _ _ c.longer-seen.ensures.one c.self.invariant.1.handled was.1.handled;
+        handled = either_handled (rules g.row.SHARD g.B.Journals.config) _ _ _ c.longer-seen.ensures.one c.self.invariant.1.handled was.1.handled;
         among = among_prefix longer.has_all was.1.among;
         counted = was.1.counted;
       },

@@ -17,5 +17,5 @@ loop-preserved c = record {
   makers = stand_grow IsMakerOf c.loop.queues.items c.push_reserved.new.self.items c.loop.makers.items c.push_reserved-in-loop.new.self.items c.in_ok-queue.queue c.in_ok-queue.maker
       (c.loop.invariant.made ∙ sym c.loop.invariant.queues) c.push_reserved.ensures.items c.push_reserved-in-loop.ensures.items c.in_ok-queue.ensures.maker c.loop.invariant.makers;
   workers = stand_grow MayTake c.loop.queues.items c.push_reserved.new.self.items c.loop.passes.items c.push_reserved-in-loop-2.new.self.items c.in_ok-queue.queue (Some c.in_ok-queue.pass)
-      (c.loop.invariant.taken ∙ sym c.loop.invariant.queues) c.push_reserved.ensures.items c.push_reserved-in-loop-2.ensures.items c.in_ok-queue.ensures.worker c.loop.invariant.workers;
+      (c.loop.invariant.taken ∙ sym c.loop.invariant.queues) c.push_reserved.ensures.items c.push_reserved-in-loop-2.ensures.items (record { own = c.in_ok-queue.ensures.worker; nothing = c.in_ok-queue.ensures.untaken }) c.loop.invariant.workers;
 }

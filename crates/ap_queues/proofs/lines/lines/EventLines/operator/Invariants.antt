@@ -1,5 +1,5 @@
-use Rattle.std.proofs.Common.{◌≡◌, length, vec_capacity}
-use Rattle.ap_queues.specs.Passes.{IsOperatorOf}
+use Rattle.std.proofs.Common.{◌≡◌, [], length, map, replicate, vec_capacity}
+use Rattle.ap_queues.specs.Passes.{IsOperatorOf, put_by}
 use Rattle.ap_rows.specs.Rows.{Stand}
 use Rattle.ap_queues.specs.Lines.{ArePassesOf}
 use Rattle.ap_queues.proofs.lines.lines.EventLines.operator.Given as goal
@@ -10,4 +10,5 @@ invariant-loop-worker l = record {
   count : length l.passes.items ≡ l.worker;
   room : vec_capacity l.passes ≡ length l.self;
   own : Stand IsOperatorOf l.self l.passes.items;
+  unput : map put_by l.passes.items ≡ replicate l.worker [];
 }

@@ -1,11 +1,11 @@
 use Rattle.std.proofs.Common.{◌≡◌, ap, sym, subst, ◌∙◌}
-use Rattle.ap_books.specs.Counts.{Counts, plus}
-use Rattle.ap_books.specs.Holdings.{Holding, HasParts, sum_of}
+use Rattle.ap_books.specs.Holdings.{HasParts, sum_of}
+use Rattle.ap_books.specs.Reading.{Reads}
 use Rattle.ap_live.specs.Counting.{counted_by}
 use Rattle.apd_run.specs.Crews.{Crew, gains}
 use Rattle.apd_run.specs.Hands.{RunOperator, RunWorker, crew_of}
 use Rattle.apd_run.proofs.Keeping.{other_parts}
-use Rattle.apd_run.proofs.Sums.{exchanged_parts, fresh, merged_sum, more_than_one}
+use Rattle.apd_run.proofs.Sums.{exchanged_parts, exchanged_sum, fresh, more_than_one}
 use Rattle.apd_run.proofs.access.operator.LiveOperator.exchange.Goals as goal
 
 pub split_off-fresh-requires-clause-more : goal.split_off-fresh-requires-clause-more
@@ -20,6 +20,9 @@ returns-clause-worker g c = ap sum_of c.renew-counted.ensures.taken ∙ c.split_
 pub invariant_of-self : goal.invariant_of-self
 invariant_of-self g c =
     let i = c.self.invariant in
+    let shards = c.worker.inside.token.shards in
+    let counted = exchanged_sum c.self.inside.hoard c.split_off-fresh.new.self c.renew-counted.result c.merge.new.self (counted_by shards) c.split_off-fresh.ensures.counts c.merge.ensures (ap sum_of c.renew-counted.ensures.given) in
+    let numbers : Reads c.args.numbers (counted_by shards) = subst (λ (w : RunWorker). Reads c.args.numbers (counted_by w.token.shards)) (sym c.worker.view_is) c.requires.numbers in
     let given : HasParts 1 c.renew-counted.result = subst (HasParts 1) (sym c.renew-counted.ensures.given) c.worker.invariant.parts in
     record {
       own = i.own;
@@ -30,6 +33,8 @@ invariant_of-self g c =
       shares_are = i.shares_are;
       some = i.some;
       list_is = i.list_is;
+      in_force = i.in_force;
+      reads = subst (Reads c.and-self-inside.result) (sym counted) (c.and-self-inside.ensures _ _ i.reads numbers);
     }
 
 pub invariant_of-worker : goal.invariant_of-worker
@@ -40,9 +45,7 @@ pub returns-clause-crew : goal.returns-clause-crew
 returns-clause-crew g c =
     let hoard = c.self.inside.hoard in
     let shards = c.worker.inside.token.shards in
-    let counted : sum_of c.merge.new.self ≡ plus (sum_of hoard) (counted_by shards) =
-    merged_sum c.split_off-fresh.new.self c.renew-counted.result c.merge.new.self c.merge.ensures
-    ∙ (ap (λ (x : Counts). plus x (sum_of c.renew-counted.result)) c.split_off-fresh.ensures.counts ∙ ap (λ (h : Holding). plus (sum_of hoard) (sum_of h)) c.renew-counted.ensures.given) in
+    let counted = exchanged_sum hoard c.split_off-fresh.new.self c.renew-counted.result c.merge.new.self (counted_by shards) c.split_off-fresh.ensures.counts c.merge.ensures (ap sum_of c.renew-counted.ensures.given) in
     let before : Crew = record { workers = c.self.inside.workers; counted = sum_of hoard } in
     let after : Crew = record { workers = c.self.inside.workers; counted = sum_of c.merge.new.self } in
     let crew : after ≡ gains before (counted_by shards) = λ i. record { workers = c.self.inside.workers; counted = counted i } in

@@ -1,7 +1,10 @@
-use Rattle.std.proofs.Common.{◌<◌, subst, sym, arith}
-use Rattle.ap_books.specs.Holdings.{HasParts}
-use Rattle.apd_run.specs.Hands.{RunOperator}
-use Rattle.apd_run.proofs.Sums.{one_more_part}
+use Rattle.std.proofs.Common.{◌≡◌, ◌<◌, ap, subst, sym, ◌∙◌, arith}
+use Rattle.ap_books.specs.Counts.{none, plus}
+use Rattle.ap_books.specs.Holdings.{Holding, HasParts, sum_of}
+use Rattle.ap_books.specs.Reading.{Reads}
+use Rattle.ap_live.specs.Counting.{counted_by}
+use Rattle.apd_run.specs.Hands.{RunOperator, RunWorker}
+use Rattle.apd_run.proofs.Sums.{merged_sum, one_more_part, plus_none}
 use Rattle.apd_run.proofs.access.operator.LiveOperator.take_back.Goals as goal
 
 pub invariant_of-self : goal.invariant_of-self
@@ -9,6 +12,9 @@ invariant_of-self g c =
     let i = c.self.invariant in
     let given : HasParts 1 c.into_shares.result = subst (HasParts 1) (sym c.into_shares.ensures) c.worker.invariant.parts in
     let some : 0 < c.self.inside.workers = subst (λ (o : RunOperator). 0 < o.workers) (sym c.self.view_is) c.requires.some in
+    let none_more : counted_by c.worker.inside.token.shards ≡ none = subst (λ (w : RunWorker). counted_by w.token.shards ≡ none) (sym c.worker.view_is) c.requires.nothing in
+    let counted : sum_of c.merge.new.self ≡ sum_of c.self.inside.hoard = merged_sum c.self.inside.hoard c.into_shares.result c.merge.new.self c.merge.ensures
+    ∙ (ap (λ (h : Holding). plus (sum_of c.self.inside.hoard) (sum_of h)) c.into_shares.ensures ∙ (ap (plus (sum_of c.self.inside.hoard)) none_more ∙ plus_none (sum_of c.self.inside.hoard))) in
     record {
       own = i.own;
       mine = i.mine;
@@ -18,4 +24,6 @@ invariant_of-self g c =
       shares_are = i.shares_are;
       some = omega (arith, i.some);
       list_is = i.list_is;
+      in_force = i.in_force;
+      reads = subst (Reads c.self.inside.totals) (sym counted) i.reads;
     }

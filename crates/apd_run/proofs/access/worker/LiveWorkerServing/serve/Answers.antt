@@ -13,5 +13,5 @@ pub returns : goal.returns
 returns g c =
     record {
       serves = subst (λ (w : RunWorker). Serves (counted_by w.token.shards) (counted_by c.serve.new.worker.shards) c.args.list.now.items c.serve.new.list.items) c.self.view_is
-          (served_tags _ _ _ _ _ c.serve.ensures.served);
+          (served_tags _ _ _ _ _ _ c.serve.ensures.served);
     }

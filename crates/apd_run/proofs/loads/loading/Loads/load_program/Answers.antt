@@ -1,4 +1,4 @@
-use Rattle.std.proofs.Common.{rules, refl}
+use Rattle.std.proofs.Common.{refl}
 use Rattle.apd_run.specs.Loading.{NotAdmitted, NoRoomToLoad}
 use Rattle.apd_run.proofs.Putting.{loaded}
 use Rattle.apd_run.proofs.loads.loading.Loads.load_program.Goals as goal
