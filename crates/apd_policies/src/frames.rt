@@ -8,3 +8,4 @@ mod lines;
 mod script;
 
 pub use script::script_text;
+pub(crate) use script::{start, unit};

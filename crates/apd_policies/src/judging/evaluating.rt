@@ -1,0 +1,57 @@
+//! Verdicts on a capture.
+
+ghost use Rattle.std.specs.Prelude.{IfOk, map};
+ghost use Rattle.std.specs.String.{string_bytes};
+ghost use Rattle.capture.specs.Packets.{seen_of};
+ghost use Rattle.apd_policies.specs.Evaluated.{IsEvaluated, IsEvaluation};
+
+use crate::judging::follow::{Replay, Row, follow};
+use crate::judging::sums::Course;
+use crate::judging::table::table_text;
+use crate::judging::tried::{Policy, Tried};
+use bpf_machine::Accepted;
+use std::alloc::{AllocError, Global};
+
+/// The verdicts of a program on the queries of its hook, as a capture's frames come to a new access point of which it
+/// is the only program. Its maps' words are 0 at first, and `draw` is the first number drawn.
+pub fn evaluate(
+    alloc: Global,
+    accepted: Accepted,
+    draw: u64,
+    replay: Replay<'_>,
+) -> Result<Vec<Row>, AllocError>
+    ensures rows { IfOk result (λ rows. IsEvaluated accepted draw replay.entry.link.now
+        (map seen_of replay.entry.packets.now) rows.items) }
+{
+    let hook = accepted.hook();
+    let Tried {
+        programs,
+        tables,
+        mut state,
+    } = Tried::new(alloc, accepted, draw)?;
+    let policy = Policy {
+        programs: &programs,
+        maps: tables.maps(),
+    };
+    follow(alloc, policy, &mut state, hook, replay)
+}
+
+/// The table of these verdicts, or lines of JSON.
+pub fn evaluation_text(
+    alloc: Global,
+    accepted: Accepted,
+    draw: u64,
+    replay: Replay<'_>,
+    json: bool,
+) -> Result<String, AllocError>
+    ensures is { IfOk result (λ text. IsEvaluation accepted draw replay.entry.link.now
+        (map seen_of replay.entry.packets.now) json (string_bytes text)) }
+{
+    let course = Course {
+        hook: accepted.hook(),
+        packets: replay.packets.len(),
+        budget: accepted.budget(),
+    };
+    let rows = evaluate(alloc, accepted, draw, replay)?;
+    table_text(alloc, rows.as_slice(), course, json)
+}
