@@ -54,6 +54,16 @@ pub struct Trial<'a> {
     pub explain: bool,
 }
 
+/// A program to judge the frames of a capture. With `against` the link follows that file's program instead, and only the
+/// verdicts that differ are printed. `json` asks for lines of JSON.
+#[derive(Clone, Copy)]
+pub struct Evaluation<'a> {
+    pub subject: Subject<'a>,
+    pub capture: &'a str,
+    pub against: Option<&'a str>,
+    pub json: bool,
+}
+
 /// A program, and the file of a certificate that should show it safe for a hook.
 #[derive(Clone, Copy)]
 pub struct Claim<'a> {
@@ -99,6 +109,7 @@ pub enum Question<'a> {
     /// The control-flow graph, for graphviz.
     Graph { source: Source<'a> },
     Trace(Trial<'a>),
+    Evaluate(Evaluation<'a>),
     Certify { subject: Subject<'a> },
     Check(Claim<'a>),
     /// Without a number, it lists all.
