@@ -1,3 +1,5 @@
 pub mod Drawn
 pub mod Either
 pub mod Following
+pub mod Kept
+pub mod Tabled

@@ -42,11 +42,16 @@ pub record Stays (last : Option Ruling) (shards : List Shard) (h : Held) (shards
   pub shards_stay : shards' ≡ shards
   pub held_stays : h' ≡ h
 
+-- the first of two facts if the test holds, and else the second
+abbrev pub Chosen : Bool → Type 0 → Type 0 → Type 0
+Chosen true A B = A
+Chosen false A B = B
+
 -- the time from a unit to a later one passes, at most 2^32 - 1 units
 abbrev pub TimePasses : Policy → ℕ → ℕ → Option Ruling → List Shard → Held → List Shard → Held → Type 0
 TimePasses p clock now last shards h shards' h' =
-    (if nat_lt clock now then Leads p (event.Tick (min (now - clock) 4294967295)) last shards h shards' h'
-    else Stays last shards h shards' h')
+    Chosen (nat_lt clock now) (Leads p (event.Tick (min (now - clock) 4294967295)) last shards h shards' h')
+    (Stays last shards h shards' h')
 
 -- frames that are received have 1 to 2400 bytes
 abbrev pub is_received : List ℕ → Bool
@@ -55,8 +60,8 @@ is_received bytes = nat_le 1 (length bytes) && nat_le (length bytes) 2400
 -- the frame is received, if the packet has one
 abbrev pub FrameComes : Policy → Result (List ℕ) LeftOut → Option Ruling → List Shard → Held → List Shard → Held → Type 0
 FrameComes p (Ok bytes) last shards h shards' h' =
-    (if is_received bytes then Leads p (event.Frame bytes) last shards h shards' h'
-    else Stays last shards h shards' h')
+    Chosen (is_received bytes) (Leads p (event.Frame bytes) last shards h shards' h')
+    (Stays last shards h shards' h')
 FrameComes p (Err left_out) last shards h shards' h' = Stays last shards h shards' h'
 
 -- time passes up to a packet, and then its frame is received

@@ -13,13 +13,13 @@ pub record Keeps (j k : Witness) : Type 0 where
   pub state : k.state.ghost_name ≡ j.state.ghost_name
 
 -- the query, its verdict and its steps, by the clock and the stations of the judge
-pub record IsOf (j : Witness) (ask : Ask) (verdict steps : ℕ) (r : Ruling) : Type 0 where
+pub record IsOf (j : Witness) (ask : Ask) (answer taken : ℕ) (r : Ruling) : Type 0 where
   pub hook : r.hook ≡ ask.hook
   pub context : r.context ≡ ask.context
   pub clock : r.clock ≡ j.view.clock
   pub stations : r.stations ≡ j.view.stations
-  pub verdict : r.verdict ≡ verdict
-  pub steps : r.steps ≡ steps
+  pub verdict : r.verdict ≡ answer
+  pub steps : r.steps ≡ taken
 
 -- It keeps what it borrowed, gives the verdict of its programs, and keeps and lists the query.
 pub record Witnesses (j : Witness) (ask : Ask) (verdict : ℕ) (k : Witness) : Type 0 where

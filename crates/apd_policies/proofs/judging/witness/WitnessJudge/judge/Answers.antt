@@ -1,8 +1,0 @@
-use Rattle.apd_policies.proofs.judging.witness.WitnessJudge.judge.Goals.{in-None, in-Some}
-use Rattle.apd_policies.proofs.judging.witness.WitnessJudge.judge.Goals as goal
-
-pub invariant_of-self-clause-fitting : goal.invariant_of-self-clause-fitting
-invariant_of-self-clause-fitting c = elim c.match-program.branch [
-  | in-None w ↦ rw w.self-is c.args.self.now.fitting
-  | in-Some w ↦ rw w.self-is w.run_hook-outcome.ensures.fitting
-]
