@@ -6,7 +6,7 @@ ghost use Rattle.live_scenes.specs.Rights.{IsChief, IsHand};
 use crate::frames::{address, joining};
 use crate::purse::Purse;
 use ap_books::Ledgers;
-use ap_live::{LiveAp, OperatorToken, WorkerToken};
+use ap_live::{AgreementInForce, KnownStation, LiveAp, OperatorToken, WorkerToken};
 use ap_locked::Journals;
 use ap_model::{Event, Out};
 use ap_queues::Unserved;
@@ -129,6 +129,26 @@ impl<'a, B: Ledgers + Journals> Chief<'a, B> {
         };
         let outs = self.ap.act(rt, alloc, &mut self.token, &event)?;
         Ok(outs)
+    }
+
+    /// The known stations, as `LiveAp::known_stations`.
+    pub fn known_stations<R: Wait>(
+        &mut self,
+        rt: &R,
+        alloc: Global,
+    ) -> Result<Vec<KnownStation>, AllocError> {
+        let rows = self.ap.known_stations(rt, alloc, &mut self.token)?;
+        Ok(rows)
+    }
+
+    /// The agreements in force, as `LiveAp::agreements`.
+    pub fn agreements<R: Wait>(
+        &mut self,
+        rt: &R,
+        alloc: Global,
+    ) -> Result<Vec<AgreementInForce>, AllocError> {
+        let rows = self.ap.agreements(rt, alloc, &mut self.token)?;
+        Ok(rows)
     }
 
     /// Stores a number in a word of a shared map. False if there is no such word.
