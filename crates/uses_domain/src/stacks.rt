@@ -109,26 +109,26 @@ fn made_anew(rt: &impl Abort, alloc: Global) -> Stack {
     stack
 }
 
-fn slots_hold(rt: &impl Abort, stack: &Stack, wanted: [AbsSlot; 3]) {
-    same(rt, (0, stack.get(0)), (0, wanted[0]), "slot");
-    same(rt, (31, stack.get(31)), (31, wanted[1]), "slot");
-    same(rt, (63, stack.get(63)), (63, wanted[2]), "slot");
+fn slots_hold(rt: &impl Abort, stack: &Stack, first: AbsSlot, second: AbsSlot, third: AbsSlot) {
+    same(rt, (0, stack.get(0)), (0, first), "slot");
+    same(rt, (31, stack.get(31)), (31, second), "slot");
+    same(rt, (63, stack.get(63)), (63, third), "slot");
 }
 
 #[test]
 fn labels_are_made_in_turn(rt: HostRuntime) {
     let mut stack = made_anew(&rt, rt.alloc());
     let none = spilled(None);
-    slots_hold(&rt, &stack, [none, behind(9), behind(8)]);
+    slots_hold(&rt, &stack, none, behind(9), behind(8));
     let before = stack.clone().expect(&rt, "memory");
     stack.forget(8);
-    slots_hold(&rt, &stack, [none, behind(9), none]);
+    slots_hold(&rt, &stack, none, behind(9), none);
     stack.forget(9);
-    slots_hold(&rt, &stack, [none, none, none]);
+    slots_hold(&rt, &stack, none, none, none);
     stack.set(0, behind(8)).expect(&rt, "memory");
     stack.forget(9);
-    slots_hold(&rt, &stack, [behind(8), none, none]);
-    slots_hold(&rt, &before, [none, behind(9), behind(8)]);
+    slots_hold(&rt, &stack, behind(8), none, none);
+    slots_hold(&rt, &before, none, behind(9), behind(8));
 }
 
 #[test]
