@@ -118,17 +118,16 @@ fn slots_hold(rt: &impl Abort, stack: &Stack, first: AbsSlot, second: AbsSlot, t
 #[test]
 fn labels_are_made_in_turn(rt: HostRuntime) {
     let mut stack = made_anew(&rt, rt.alloc());
-    let none = spilled(None);
-    slots_hold(&rt, &stack, none, behind(9), behind(8));
+    slots_hold(&rt, &stack, spilled(None), behind(9), behind(8));
     let before = stack.clone().expect(&rt, "memory");
     stack.forget(8);
-    slots_hold(&rt, &stack, none, behind(9), none);
+    slots_hold(&rt, &stack, spilled(None), behind(9), spilled(None));
     stack.forget(9);
-    slots_hold(&rt, &stack, none, none, none);
+    slots_hold(&rt, &stack, spilled(None), spilled(None), spilled(None));
     stack.set(0, behind(8)).expect(&rt, "memory");
     stack.forget(9);
-    slots_hold(&rt, &stack, behind(8), none, none);
-    slots_hold(&rt, &before, none, behind(9), behind(8));
+    slots_hold(&rt, &stack, behind(8), spilled(None), spilled(None));
+    slots_hold(&rt, &before, spilled(None), behind(9), behind(8));
 }
 
 #[test]
