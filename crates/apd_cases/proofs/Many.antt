@@ -2,10 +2,8 @@
 use Rattle.std.specs.Prelude.{◌≡◌, ℕ, ◌≤◌, List, [], ◌∷◌, length, Bool, true, false, Option, None, if◌then◌else◌, codes, refl}
 use Rattle.std.proofs.Common.{arith}
 use Rattle.std.specs.Str.{bytes_eq}
-use Rattle.apd_cases.specs.declared.line.Expectation.{Expectation}
 use Rattle.apd_cases.specs.Expected.{kind_expected}
 use Rattle.apd_cases.specs.Grammar.{plain_said}
-use Rattle.apd_cases.specs.Said.{Said}
 
 none_if : {X : Type 0} (b : Bool) (o : Option X) → o ≡ None → (if b then None else o) ≡ None
 none_if true o e = refl

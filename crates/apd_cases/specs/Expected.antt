@@ -1,5 +1,5 @@
 -- What the words after `expect` expect.
-use Rattle.std.specs.Prelude.{ℕ, ◌^◌, ◌==◌, ◌||◌, nat_le, List, [], ◌∷◌, codes, Option, Some, None, option_map, option_and_then, if◌then◌else◌, Bool}
+use Rattle.std.specs.Prelude.{ℕ, ◌^◌, ◌==◌, ◌||◌, nat_le, List, [], ◌∷◌, codes, Option, Some, None, option_map, if◌then◌else◌, Bool}
 use Rattle.std.specs.Str.{bytes_eq}
 use Rattle.apd_script.specs.Lines.{◌>>=◌}
 use Rattle.apd_script.specs.Words.{number_below}

@@ -1,4 +1,4 @@
-use Rattle.std.proofs.Common.{◌≡◌, ◌+◌, [], rules, arith, refl, IfErr}
+use Rattle.std.proofs.Common.{◌+◌, [], rules, arith, IfErr}
 use Rattle.std.proofs.lemmas.Result.{IfErr-weaker}
 use Rattle.apd_script.specs.Script.{lines_of}
 use Rattle.apd_cases.specs.Said.{lines_said}

@@ -1,4 +1,4 @@
-use Rattle.std.proofs.Common.{◌≡◌, ◌+◌, ◌≤◌, length}
+use Rattle.std.proofs.Common.{◌+◌, ◌≤◌, length}
 use Rattle.apd_script.specs.Script.{lines_of}
 use Rattle.apd_cases.specs.Said.{lines_said}
 use Rattle.apd_cases.proofs.LineByLine.{IsReadTo}
