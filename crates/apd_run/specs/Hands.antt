@@ -4,6 +4,7 @@ use Rattle.ap_books.specs.Counts.{none}
 use Rattle.ap_books.specs.Holdings.{Holding, HasParts, sum_of}
 use Rattle.ap_books.specs.Reading.{Reads}
 use Rattle.ap_books.specs.declared.totals.Totals.{Totals}
+use Rattle.ap_shards.specs.Pages.{EightPages, HasPages}
 use Rattle.ap_shards.specs.Tokens.{holding_of}
 use Rattle.ap_live.specs.Counting.{counted_by}
 use Rattle.ap_live.specs.Lives.{Live}
@@ -27,12 +28,13 @@ pub record IsRunWorker (list : Book) (w : RunWorker) : Type 0 where
   pub list_is : w.ap.list.list ≡ list
   pub parts : HasParts 1 (holding_of w.token.shards)
 
--- An operator's access point and token, the parts of the ledgers that it keeps and how many of each they are, what these
--- have counted, how many workers have one, what was published, and the budgets of the programs in force.
+-- An operator's access point and token, the parts of the ledgers and the pages that it keeps and how many of each they
+-- are, what these have counted, how many workers have one, what was published, and the budgets of the programs in force.
 pub record RunOperator : Type 0 where
   pub ap : Live
   pub token : Operator
   pub hoard : Holding
+  pub pages : EightPages
   pub parts : ℕ
   pub totals : Totals
   pub workers : ℕ
@@ -46,6 +48,7 @@ pub record IsRunOperator (shares : ℕ) (list : Book) (o : RunOperator) : Type 0
   pub mine : HasParts 1 (holding_of o.token.shards)
   pub nothing : counted_by o.token.shards ≡ none
   pub parts : HasParts o.parts o.hoard
+  pub pages : HasPages o.parts o.pages
   pub all : o.parts + o.workers + 1 ≡ parts_in_all
   pub shares_are : shares ≡ parts_in_all
   pub some : 1 < o.parts

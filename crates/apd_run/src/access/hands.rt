@@ -6,20 +6,24 @@ ghost use Rattle.ap_books.specs.Counts.{none};
 ghost use Rattle.ap_live.specs.Counting.{counted_by};
 ghost use Rattle.ap_live.specs.Opening.{parts_in_all};
 ghost use Rattle.ap_live.specs.Tokens.{AreLeft, IsWorker};
+ghost use Rattle.ap_shards.specs.Pages.{HasPages};
 ghost use Rattle.apd_run.specs.Dealing.{AreHands, IsNewOperator, IsNewWorker};
 
 use crate::access::hiring::hire;
 use ap_books::{Ledgers, Portions};
 use ap_live::{LeftTokens, LiveAp, OperatorToken, WorkerToken, newcomers_law, tokens_law};
 use ap_locked::Journals;
+use ap_shards::AllPages;
 use std::alloc::{AllocError, Global};
 
-/// The tokens of the operator and of the workers, and the other parts of the ledgers: `parts` of each.
+/// The tokens of the operator and of the workers, and the other parts of the ledgers and pages of the journals: `parts`
+/// of each.
 #[derive(Drop)]
 pub(crate) struct Hands<B: Ledgers + Journals> {
     pub operator: OperatorToken<B>,
     pub workers: Vec<WorkerToken<B>>,
     pub hoard: Portions<B>,
+    pub pages: AllPages<B>,
     pub parts: u64,
 }
 
@@ -69,6 +73,7 @@ pub(crate) fn deal<B: Ledgers + Journals>(
     requires nothing { counted_by left.shards ≡ none }
     requires parts { left.parts ≡ parts_in_all }
     ensures hands { IfOk result (λ h. AreHands ap.new h.operator h.workers.items h.hoard h.parts) }
+    ensures pages { IfOk result (λ h. HasPages h.parts h.pages) }
     ensures list { ap.new.list ≡ ap.old.list }
 {
     let mut left = left;
@@ -82,11 +87,12 @@ pub(crate) fn deal<B: Ledgers + Journals>(
     };
     let Rights { operator, workers } = rights;
     let parts = 16 - workers.len() as u64;
-    let hoard = left.into_shares();
+    let (hoard, pages) = left.into_parts();
     Ok(Hands {
         operator,
         workers,
         hoard,
+        pages,
         parts,
     })
 }

@@ -22,6 +22,7 @@ use ap_live::{LiveAp, OperatorToken};
 use ap_locked::Journals;
 use ap_model::Event;
 use ap_queues::Unserved;
+use ap_shards::AllPages;
 use ap_tagged::Tagged;
 use apd_files::{Files, path_of_word};
 use apd_script::MapWord;
@@ -38,13 +39,14 @@ pub(crate) struct Sources<'a, F> {
     pub(crate) limit: StateLimit,
 }
 
-/// The operator of a run: its token, the parts of the ledgers that no worker has, what these have counted, the programs
-/// in force, and their sources. Contracts see everything but the sources.
+/// The operator of a run: its token, the parts of the ledgers and the pages that no worker has, what these parts have
+/// counted, the programs in force, and their sources. Contracts see everything but the sources.
 #[derive(Drop)]
 pub struct LiveOperator<'a, B: Ledgers + Journals, L: Publications, F> {
     pub(crate) ap: &'a LiveAp<B>,
     pub(crate) token: OperatorToken<B>,
     pub(crate) hoard: Portions<B>,
+    pub(crate) pages: AllPages<B>,
     pub(crate) parts: u64,
     pub(crate) totals: Totals,
     pub(crate) workers: u64,
@@ -63,6 +65,7 @@ impl<'a, B: Ledgers + Journals, L: Publications, F> Model for LiveOperator<'a, B
       ap = o.ap.now;
       token = o.token;
       hoard = o.hoard;
+      pages = o.pages;
       parts = o.parts;
       totals = o.totals;
       workers = o.workers;
@@ -74,6 +77,7 @@ impl<'a, B: Ledgers + Journals, L: Publications, F> Model for LiveOperator<'a, B
       ap = o.ap.now;
       token = o.token;
       hoard = o.hoard;
+      pages = o.pages;
       parts = o.parts;
       totals = o.totals;
       workers = o.workers;
@@ -195,12 +199,15 @@ impl<'a, B: Ledgers + Journals, L: Publications, F> LiveOperator<'a, B, L, F> {
         ensures crew { crew_of self.old ≡ with_one_more (crew_of self.new) }
     {
         let LiveWorker { token, .. } = worker;
-        self.hoard.merge(token.into_shares());
+        let (shares, pages) = token.into_parts();
+        self.hoard.merge(shares);
+        self.pages.merge(pages);
         self.parts += 1;
         self.workers -= 1;
     }
 
-    /// Returns what has been counted. It needs all parts of the ledgers.
+    /// Returns what has been counted. It needs all parts of the ledgers. The entries of all tokens together are the
+    /// journals, which the totals count, unless one is full.
     fn read_totals<R: Wait>(self, rt: &R) -> Totals
         requires all { self.workers ≡ 0 }
         ensures reads { Reads result (crew_of self.entry).counted }
@@ -209,10 +216,16 @@ impl<'a, B: Ledgers + Journals, L: Publications, F> LiveOperator<'a, B, L, F> {
             ap,
             token,
             mut hoard,
+            mut pages,
             ..
         } = self;
-        hoard.merge(token.into_shares());
-        ap.gather(rt, &mut hoard)
+        let (shares, mine) = token.into_parts();
+        hoard.merge(shares);
+        pages.merge(mine);
+        match ap.close(rt, &mut hoard, &mut pages) {
+            Ok(totals) => totals,
+            Err(_) => ap.gather(rt, &mut hoard),
+        }
     }
 }
 

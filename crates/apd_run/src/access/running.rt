@@ -7,6 +7,7 @@ ghost use Rattle.ap_books.specs.Holdings.{HasParts, sum_of};
 ghost use Rattle.ap_live.specs.Opening.{parts_in_all};
 ghost use Rattle.ap_live.specs.Tokens.{IsWorker};
 ghost use Rattle.ap_shards.specs.Opening.{AreNamed};
+ghost use Rattle.ap_shards.specs.Pages.{HasPages};
 ghost use Rattle.apd_run.specs.Dealing.{AreHands, IsNewOperator, IsNewWorker};
 ghost use Rattle.apd_run.specs.Hands.{crew_of};
 ghost use Rattle.apd_run.specs.Shows.{Runs};
@@ -24,7 +25,7 @@ use crate::{Ready, Staff};
 use ap_books::{Ledgers, Portions, Totals};
 use ap_live::{LiveAp, Opened, OperatorToken, Settings, WorkerToken};
 use ap_locked::Journals;
-use ap_shards::NewShards;
+use ap_shards::{AllPages, NewShards};
 use ap_tagged::Gate;
 use apd_files::Files;
 use bpf_regions::Shapes;
@@ -102,7 +103,7 @@ where
 fn new_operator<'a, B, L, F>(
     ap: &'a LiveAp<B>,
     token: OperatorToken<B>,
-    kept: (Portions<B>, u64),
+    kept: ((Portions<B>, AllPages<B>), u64),
     workers: u64,
     loads: &'a mut Loads,
     sources: Sources<'a, F>,
@@ -111,21 +112,23 @@ where
     B: Ledgers + Journals,
     L: Publications,
     requires new { IsNewOperator ap.now token }
-    requires kept { HasParts kept.1 kept.0 }
+    requires kept { HasParts kept.1 kept.0.0 }
+    requires pages { HasPages kept.1 kept.0.1 }
     requires some { 1 < kept.1 }
-    requires nothing { sum_of kept.0 ≡ none }
+    requires nothing { sum_of kept.0.0 ≡ none }
     requires all { kept.1 + workers + 1 ≡ parts_in_all }
     requires shares { B.shares ≡ parts_in_all }
     requires list { loads.old.list ≡ L.list }
     requires no_loads { loads.old.loads ≡ [] }
     ensures workers { (crew_of result).workers ≡ workers }
-    ensures counted { (crew_of result).counted ≡ sum_of kept.0 }
+    ensures counted { (crew_of result).counted ≡ sum_of kept.0.0 }
 {
-    let (hoard, parts) = kept;
+    let ((hoard, pages), parts) = kept;
     LiveOperator {
         ap,
         token,
         hoard,
+        pages,
         parts,
         totals: Totals::new(),
         workers,
@@ -156,6 +159,7 @@ where
     P: Console + Drop,
     requires hands { let hands = equipment.hands in
         AreHands ap.now hands.operator hands.workers.items hands.hoard hands.parts }
+    requires pages { HasPages equipment.hands.parts equipment.hands.pages }
     requires shares { B.shares ≡ parts_in_all }
     requires list { ap.now.list.list ≡ L.list }
     requires loads { equipment.loads.list ≡ L.list }
@@ -168,6 +172,7 @@ where
         operator,
         workers,
         hoard,
+        pages,
         parts,
     } = hands;
     let mut loads = loads;
@@ -175,12 +180,20 @@ where
         // Dropped by calls, since they have many parts.
         drop(operator);
         drop(hoard);
+        drop(pages);
         loads.close(rt);
         return without_memory(writer);
     };
     let many = ready.len() as u64;
     let sources = Sources { files, limit };
-    let operator = new_operator::<B, L, F>(ap, operator, (hoard, parts), many, &mut loads, sources);
+    let operator = new_operator::<B, L, F>(
+        ap,
+        operator,
+        ((hoard, pages), parts),
+        many,
+        &mut loads,
+        sources,
+    );
     let staff = Staff {
         operator,
         workers: ready,

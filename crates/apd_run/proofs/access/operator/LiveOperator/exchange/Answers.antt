@@ -29,6 +29,7 @@ invariant_of-self g c =
       mine = i.mine;
       nothing = i.nothing;
       parts = exchanged_parts c.self.inside.parts c.self.inside.hoard c.split_off-fresh.new.self c.renew-counted.result c.merge.new.self i.parts c.split_off-fresh.ensures.left given c.merge.ensures;
+      pages = i.pages;
       all = i.all;
       shares_are = i.shares_are;
       some = i.some;
