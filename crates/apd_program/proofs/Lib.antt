@@ -5,3 +5,5 @@ pub mod Slots
 pub mod Said
 pub mod Performing
 pub mod Delivering
+pub mod Evaluated
+pub mod Tested

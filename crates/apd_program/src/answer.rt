@@ -23,12 +23,16 @@ pub enum Answer {
     Instructions(String),
     /// The text of a run: a line for each step and each note, and the result.
     Run(String),
+    /// The verdicts on a capture's packets: a table, or lines of JSON.
+    Verdicts(String),
     /// The page on a refusal's number, or the list of all numbers.
     Page(String),
     /// The frames of a capture as a script.
     Script(String),
     /// The frames before the fault of a cut capture, as a script.
     CutScript { text: String, fault: CaptureFault },
+    /// The lines of a file of cases; `is_good` if it has an expectation, and all are met.
+    Tested { text: String, is_good: bool },
     /// A help text.
     Help(String),
     /// The code isn't well formed (1 to 3, 10 to 19).
@@ -56,10 +60,11 @@ impl Answer {
             | Answer::Instructions(_)
             | Answer::Run(_)
             | Answer::Certificate(_) => 0,
-            Answer::Page(_) | Answer::Script(_) | Answer::Help(_) => 0,
+            Answer::Verdicts(_) | Answer::Page(_) | Answer::Script(_) | Answer::Help(_) => 0,
             Answer::Fault(_) | Answer::Refused(_) | Answer::LineFault(_) | Answer::Unaccepted(_) =>
                 1,
             Answer::CutScript { .. } => 1,
+            Answer::Tested { is_good, .. } => { if *is_good { 0 } else { 1 } }
         }
     }
 
@@ -72,7 +77,9 @@ impl Answer {
             Answer::Code(code) => slot_lines(alloc, code.as_slice()),
             Answer::Instructions(text) | Answer::Run(text) => Ok(text),
             Answer::Page(text) | Answer::Script(text) | Answer::Help(text) => Ok(text),
+            Answer::Verdicts(text) => Ok(text),
             Answer::CutScript { text, .. } => Ok(text),
+            Answer::Tested { text, .. } => Ok(text),
             Answer::Fault(fault) => format!(in alloc; "{fault}\n"),
             Answer::Refused(refusal) => format!(in alloc; "{refusal}\n"),
             Answer::LineFault(fault) => format!(in alloc; "{fault}\n"),

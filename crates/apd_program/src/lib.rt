@@ -8,6 +8,7 @@ mod answer;
 mod certifying;
 mod drawing;
 mod entry;
+mod evaluating;
 mod explaining;
 mod fault;
 mod framing;
@@ -17,6 +18,7 @@ mod output;
 mod printing;
 mod program;
 mod reading;
+mod testing;
 mod texts;
 mod verifying;
 
