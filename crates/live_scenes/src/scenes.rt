@@ -185,6 +185,52 @@ where
     );
 }
 
+/// Each token's user does its part of a story, in a thread of its own. False if an allocation fails.
+fn play_all<B, R, S>(
+    rt: &R,
+    alloc: Global,
+    scene: &mut Scene<'_, B>,
+    publisher: &mut Publisher,
+    story: &S,
+) -> bool
+where
+    B: Ledgers + Journals + Send + Sync,
+    R: Threads + Wait + Sync,
+    S: Story<R> + Sync,
+{
+    let Ok(mut players) = players_of(alloc, scene, publisher) else {
+        return false;
+    };
+    run_all(rt, alloc, players.as_mut_slice(), story);
+    true
+}
+
+/// What a story does before its threads begin.
+fn prepare<B, R, S>(
+    rt: &R,
+    alloc: Global,
+    scene: &mut Scene<'_, B>,
+    publisher: &mut Publisher,
+    story: &mut S,
+)
+where
+    B: Ledgers + Journals + Send + Sync,
+    R: Threads + Wait + Sync,
+    S: Story<R> + Sync,
+{
+    story.prepare(rt, alloc, scene, publisher);
+}
+
+/// What a story does once its threads have ended.
+fn finish<B, R, S>(rt: &R, scene: &mut Scene<'_, B>, story: &mut S)
+where
+    B: Ledgers + Journals + Send + Sync,
+    R: Threads + Wait + Sync,
+    S: Story<R> + Sync,
+{
+    story.finish(rt, scene);
+}
+
 /// Runs a story to its end. False if an allocation fails.
 fn tell<B, R, S>(
     rt: &R,
@@ -198,12 +244,11 @@ where
     R: Threads + Wait + Sync,
     S: Story<R> + Sync,
 {
-    story.prepare(rt, alloc, scene, publisher);
-    match players_of(alloc, scene, publisher) {
-        Ok(mut players) => run_all(rt, alloc, players.as_mut_slice(), &*story),
-        Err(_) => return false,
+    prepare(rt, alloc, scene, publisher, story);
+    if !play_all(rt, alloc, scene, publisher, &*story) {
+        return false;
     }
-    story.finish(rt, scene);
+    finish(rt, scene, story);
     true
 }
 
