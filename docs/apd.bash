@@ -19,12 +19,14 @@ _apd() {
         asm) options='--output --help' kinds=('/s') ;;
         disasm) options='--config --slots --raw --dot --output --help' kinds=('/hex') ;;
         trace) options='--config --states --context --from-frame --explain --help' kinds=('assoc addba data/' '/hex' '/') ;;
+        eval) options='--config --states --json --output --help' kinds=('assoc addba data/' '/hex' '/pcap pcapng') ;;
         run) options='--workers --states --quiet --strict --verbose --help' kinds=('/toml' '/script') ;;
         live) options='--workers --states --strict --verbose --help' kinds=('/toml') ;;
         cert) options='--config --states --output --help' kinds=('assoc addba data/' '/hex') ;;
         check) options='--config --help' kinds=('assoc addba data/' '/hex' '/cert') ;;
         explain) options='--help' kinds=('NUMBERS/') ;;
         frames) options='--no-ticks --output --help' kinds=('/pcap pcapng') ;;
+        test) options='--help' kinds=('/hex') ;;
         help) options='--help' kinds=('COMMANDS/') ;;
     esac
     kind=${kinds[place]-}
@@ -38,7 +40,7 @@ _apd() {
     if [ "$COMP_CWORD" -eq 1 ]; then
         kind='COMMANDS/' options='--help --version'
     fi
-    kind=${kind/COMMANDS/verify asm disasm trace run live cert check explain frames help}
+    kind=${kind/COMMANDS/verify asm disasm trace eval run live cert check explain frames test help}
     kind=${kind/NUMBERS/1 2 3 10 11 12 13 14 15 16 17 18 19 20 21 22 30 31 32 33 34 35 36 37 38 40 50 51 52 53 54 55 56 60 61 62 63 70 71 72}
     COMPREPLY=()
     case $word in

@@ -7,12 +7,14 @@ commands=(
     'asm:Assemble a text and print its code, one slot a line'
     'disasm:Print a program'\''s instructions, one a line'
     'trace:Verify a program, run it on a frame and print each step'
+    'eval:Judge a capture'\''s frames by a program, and print each verdict'
     'run:Run a script of frames and commands on an access point'
     'live:Answer lines of a script as they come on standard input'
     'cert:Verify a program and print its certificate in hex'
     'check:Check a program'\''s certificate and print the budget'
     'explain:Explain the number of a refusal, or list all numbers'
     'frames:Print a capture'\''s frames as a script for `apd run`'
+    'test:Judge policies by a file of cases, and print what failed'
     'help:Print this help, or that of a command'
 )
 _arguments -C '(-h --help)'{-h,--help}'[Print help]' '(-V --version)'{-V,--version}'[Print version]' \
@@ -33,6 +35,9 @@ case $state in
             trace)
                 _arguments -C '1:HOOK:(assoc addba data)' '2:FILE:_files -g "*.hex"' '3:FRAME: ' '--config=[The configuration\: shapes of maps, first draw word]:config:_files -g "*.toml"' '--states=[How many states the verifier may examine, 1 to 4194304 \[default\: 4194304\]]:states: ' '--context=[What the program is told, as KEY=VALUE,.. (see the manual)]:context: ' '--from-frame[Tell the program what the frame says of itself]' '--explain[Tell on standard error why, and what is known there]' '--help[Print help]'
                 ;;
+            eval)
+                _arguments -C '1:HOOK:(assoc addba data)' '2:FILE:_files -g "*.hex"' '3:CAPTURE:_files -g "*.(pcap|pcapng)"' '--config=[The configuration\: shapes of maps, first draw word]:config:_files -g "*.toml"' '--states=[How many states the verifier may examine, 1 to 4194304 \[default\: 4194304\]]:states: ' '--json[Print each verdict as a line of JSON]' '--output=[Write to this file, and only if the command succeeds]:output:_files -g "*.hex"' '--help[Print help]'
+                ;;
             run)
                 _arguments -C '1:C:_files -g "*.toml"' '2:SCRIPT:_files -g "*.script"' '--workers=[How many worker threads serve the shards, 1 to 8 \[default\: 2\]]:workers:(1 2 3 4 5 6 7 8)' '--states=[How many states the verifier may examine, 1 to 4194304 \[default\: 4194304\]]:states: ' '--quiet[Tell no progress on standard error]' '--strict[End after the interval of the first refused load, with status 1]' '--verbose[Tell on standard error what becomes of each load]' '--help[Print help]'
                 ;;
@@ -50,6 +55,9 @@ case $state in
                 ;;
             frames)
                 _arguments -C '1:CAPTURE:_files -g "*.(pcap|pcapng)"' '--no-ticks[Leave out the time between frames]' '--output=[Write to this file, and only if the command succeeds]:output:_files -g "*.hex"' '--help[Print help]'
+                ;;
+            test)
+                _arguments -C '1:FILE:_files -g "*.hex"' '--help[Print help]'
                 ;;
             help)
                 _arguments -C '1:COMMAND:->command' '--help[Print help]'

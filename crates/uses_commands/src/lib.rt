@@ -10,13 +10,9 @@ mod answers;
 #[cfg(test)]
 mod captures;
 #[cfg(test)]
-mod cases;
-#[cfg(test)]
 mod configuration;
 #[cfg(test)]
 mod echo;
-#[cfg(test)]
-mod evaluating;
 #[cfg(test)]
 mod faults;
 #[cfg(test)]
