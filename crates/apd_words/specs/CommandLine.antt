@@ -112,11 +112,11 @@ run numbers =
     ∷ workers numbers ∷ states ∷ flag (codes "quiet") ∷ flag (codes "strict")
     ∷ flag (codes "verbose") ∷ [])
 
--- `live C [--workers N] [--states N] [--strict] [--verbose]`
+-- `live C [--workers N] [--states N] [--strict] [--verbose] [--clock]`
 abbrev pub live : ValueParser → Shape
 live numbers =
     command (codes "live") (required (codes "C") ∷ workers numbers ∷ states
-    ∷ flag (codes "strict") ∷ flag (codes "verbose") ∷ [])
+    ∷ flag (codes "strict") ∷ flag (codes "verbose") ∷ flag (codes "clock") ∷ [])
 
 -- `cert HOOK FILE [--config C] [--states N] [-o FILE]`
 abbrev pub certify : ValueParser → Shape

@@ -230,7 +230,9 @@ fn live<'a>(alloc: Global, numbers: &'a [&'a str]) -> Made<'a>
     let strict = "End after the interval of the first malformed line or refused load";
     let command = with_arg(command, flag(alloc, "strict", strict));
     let verbose = "Tell on standard error what becomes of each load";
-    with_arg(command, flag(alloc, "verbose", verbose))
+    let command = with_arg(command, flag(alloc, "verbose", verbose));
+    let clock = "Let time pass by the clock, too";
+    with_arg(command, flag(alloc, "clock", clock))
 }
 
 fn certify<'a>(alloc: Global, hooks: &'a [&'a str]) -> Made<'a>

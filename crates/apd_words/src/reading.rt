@@ -132,12 +132,14 @@ fn live<'a>(matches: &ArgMatches<'a>) -> Option<Request<'a>>
     let states = states(matches)?;
     let strict = flag(matches, "strict");
     let verbose = flag(matches, "verbose");
+    let clock = flag(matches, "clock");
     Some(Request::Live(LiveRun {
         config,
         workers,
         states,
         strict,
         verbose,
+        clock,
     }))
 }
 

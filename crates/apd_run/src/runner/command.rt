@@ -16,8 +16,9 @@ use crate::runner::setup::{configuration, read, settings};
 use apd_config::Configuration;
 use apd_files::{FileKind, Files};
 use apd_script::{Numbered, read_script};
+use apd_source::Source;
 use std::alloc::Global;
-use std::io::{Read, Write};
+use std::io::Write;
 use std::marker::Brand;
 use std::sync::Wait;
 use std::thread::Threads;
@@ -35,10 +36,10 @@ pub struct RunWords<'a> {
     pub verbose: bool,
 }
 
-/// Standard input and standard output of `apd live`.
+/// Where the lines of `apd live` come from, with the time that passes, and where its answers go.
 #[derive(Drop)]
-pub struct Streams<I: Drop, P: Drop> {
-    pub input: I,
+pub struct Streams<S: Drop, P: Drop> {
+    pub input: S,
     pub out: P,
 }
 
@@ -217,24 +218,26 @@ where
 }
 
 /// Runs the lines of an input as they come, and returns `out` and the exit status. Whenever what was read of the input
-/// holds whole lines, they are done, and their answers written and flushed, before more is read. The run ends with the
-/// input, or before a line `quit`. The status is 3 if a line says `memory`, or an allocation failed for the run itself; 2
-/// for a fault of the configuration, of a read or of a write; otherwise 1 if a line was malformed, or the run is strict
-/// and a line was refused; otherwise 0. A strict run ends after the interval of such a line. If the run breaks off, the
-/// contract doesn't say whether the status is 2 or 3. Messages on `err` are those of `run`.
-pub fn live<R, F, G, I, P, E>(
+/// holds whole lines, they are done, and their answers written and flushed, before more is read. Before them a tick with
+/// the number 0 lets the time pass that the input says has passed, if that is a unit or more; the same while no line
+/// comes. The run ends with the input, or before a line `quit`. The status is 3 if a line says `memory`, or an allocation
+/// failed for the run itself; 2 for a fault of the configuration, of a read or of a write; otherwise 1 if a line was
+/// malformed, or the run is strict and a line was refused; otherwise 0. A strict run ends after the interval of such a
+/// line. If the run breaks off, the contract doesn't say whether the status is 2 or 3. Messages on `err` are those of
+/// `run`.
+pub fn live<R, F, G, S, P, E>(
     rt: &R,
     alloc: Global,
     words: RunWords<'_>,
     supplies: Supplies<'_, F, G>,
-    streams: Streams<I, P>,
+    streams: Streams<S, P>,
     err: &mut E,
 ) -> (P, u8)
 where
     R: Threads + Wait + Sync,
     F: Files,
     G: Watcher + Copy + Send,
-    I: Read + Drop,
+    S: Source + Drop,
     P: Write + Drop,
     E: Write,
     ensures runs { Runs words.entry.strict
@@ -244,9 +247,13 @@ where
     let Supplies { files, limit, gate } = supplies;
     let configuration = match live_configuration(alloc, words.config, files, err) {
         Ok(configuration) => configuration,
-        Err(fault) => return (out, complain(alloc, &fault, err)),
+        Err(fault) => {
+            input.end();
+            return (out, complain(alloc, &fault, err));
+        }
     };
     let Ok(shapes) = configuration.maps.clone() else {
+        input.end();
         return (out, complain(alloc, &RunFault::NoMemory, err));
     };
     let lines = Input::new(alloc, input, shapes);

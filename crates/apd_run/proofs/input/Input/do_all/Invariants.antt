@@ -1,6 +1,6 @@
 use Rattle.std.proofs.Common.{◌≡◌, ◌-◌, ◌^◌, length, vec_len}
 use Rattle.apd_run.specs.Shows.{Shows}
-use Rattle.apd_run.proofs.input.InputLines.run.Given as goal
+use Rattle.apd_run.proofs.input.Input.do_all.Given as goal
 
 abbrev pub invariant-intervals : goal.invariant-intervals
 invariant-intervals g l =
