@@ -13,4 +13,5 @@ pub mod Scripts
 pub mod Answers
 pub mod Printed
 pub mod Delivered
+pub mod Forms
 pub mod Program

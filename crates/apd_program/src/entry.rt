@@ -6,11 +6,12 @@ ghost use Rattle.apd_run.specs.Shows.{Runs};
 ghost use Rattle.apd_words.specs.Asked.{Wanted};
 ghost use Rattle.apd_words.specs.Spells.{Spells};
 ghost use Rattle.apd_program.specs.Program.{Fulfils};
+ghost use Rattle.apd_program.specs.Forms.{in_lines};
 
 use crate::lines::run_live;
 use crate::program::{respond, tell};
 use apd_files::Files;
-use apd_run::{OpenGate, Progress, RunWords, StateLimit, Supplies, run};
+use apd_run::{Form, Manner, OpenGate, Progress, RunWords, StateLimit, Supplies, run};
 use apd_words::{Request, ScriptRun, read_words};
 use std::alloc::Global;
 use std::io::{Input, Write};
@@ -40,14 +41,18 @@ where
     F: Files,
     O: Write + Drop,
     E: Write,
-    ensures runs { Runs asked.entry.strict (O.contents out) (O.contents result.0) none result.1 }
+    ensures runs { Runs (in_lines asked.entry.strict)
+        (O.contents out) (O.contents result.0) none result.1 }
 {
     let Messages { err, watched } = messages;
     let words = RunWords {
         config: asked.config,
         script: asked.script,
         workers: asked.workers,
-        strict: asked.strict,
+        manner: Manner {
+            strict: asked.strict,
+            form: Form::Lines,
+        },
         verbose: asked.verbose,
     };
     let limit = StateLimit::nearest(asked.states);

@@ -1,13 +1,14 @@
 //! Lines as they come on standard input: the command `live`.
 
-ghost use Rattle.apd_run.specs.Counts.{none};
-ghost use Rattle.apd_run.specs.Shows.{Runs};
+ghost use Rattle.std.specs.Prelude.{◌≡◌};
+ghost use Rattle.apd_words.specs.Asked.{text_of};
+ghost use Rattle.apd_program.specs.Forms.{form_of, RunsLive};
 
 use crate::fault::ProgramFault;
 use crate::printing::complain;
 use apd_files::Files;
-use apd_run::{OpenGate, RunWords, StateLimit, Streams, Supplies, live};
-use apd_source::{Direct, Source, Timed};
+use apd_run::{Form, Manner, OpenGate, RunWords, StateLimit, Streams, Supplies, live};
+use apd_source::{Direct, Timed};
 use apd_words::LiveRun;
 use std::alloc::Global;
 use std::io::{self, Input, Read, Write};
@@ -27,8 +28,20 @@ impl<R: Input> Read for Standard<R> {
     }
 }
 
-/// Runs lines as they come on standard input; with a clock, if that is asked for. No memory for the thread that reads
-/// beside a clock is status 3.
+/// The form that `--events` names.
+fn form_of(events: Option<&str>) -> Option<Form>
+    ensures is { result ≡ form_of (text_of events.entry) }
+{
+    match events {
+        None => Some(Form::Lines),
+        Some("text") => Some(Form::Notices),
+        Some("json") => Some(Form::Json),
+        Some(_) => None,
+    }
+}
+
+/// Runs lines as they come on standard input, with a clock if that is asked for. The status is 2 if `--events` names no
+/// form, and 3 if there is no memory for the thread that reads beside a clock.
 pub(crate) fn run_live<R, F, O, E>(
     rt: &R,
     alloc: Global,
@@ -42,51 +55,36 @@ where
     F: Files,
     O: Write + Drop,
     E: Write,
-    ensures runs { Runs asked.entry.strict (O.contents out) (O.contents result.0) none result.1 }
+    ensures runs { RunsLive asked.entry.strict (text_of asked.entry.events)
+        (O.contents out) (O.contents result.0) result.1 }
 {
-    let input = Standard { rt: *rt };
-    if !asked.clock {
-        let input = Direct { input };
-        return run_lines(rt, alloc, asked, files, Streams { input, out }, err);
-    }
-    match Timed::start(rt, alloc, rt, input) {
-        Ok(input) => {
-            return run_lines(rt, alloc, asked, files, Streams { input, out }, err);
-        }
-        Err(_) => {
-            let status = complain(alloc, &ProgramFault::NoMemory, err);
-            return (out, status);
-        }
-    }
-}
-
-/// Runs lines as they come.
-fn run_lines<R, F, S, O, E>(
-    rt: &R,
-    alloc: Global,
-    asked: LiveRun<'_>,
-    files: &mut F,
-    streams: Streams<S, O>,
-    err: &mut E,
-) -> (O, u8)
-where
-    R: Threads + Wait + Sync,
-    F: Files,
-    S: Source + Drop,
-    O: Write + Drop,
-    E: Write,
-    ensures runs { Runs asked.entry.strict
-        (O.contents streams.out) (O.contents result.0) none result.1 }
-{
+    let Some(form) = form_of(asked.events) else {
+        let status = complain(alloc, &ProgramFault::NoForm, err);
+        return (out, status);
+    };
     let words = RunWords {
         config: asked.config,
         script: "-",
         workers: asked.workers,
-        strict: asked.strict,
+        manner: Manner {
+            strict: asked.strict,
+            form,
+        },
         verbose: asked.verbose,
     };
     let limit = StateLimit::nearest(asked.states);
     let gate = OpenGate;
     let supplies = Supplies { files, limit, gate };
-    return live(rt, alloc, words, supplies, streams, err);
+    let input = Standard { rt: *rt };
+    if !asked.clock {
+        let input = Direct { input };
+        return live(rt, alloc, words, supplies, Streams { input, out }, err);
+    }
+    match Timed::start(rt, alloc, rt, input) {
+        Ok(input) => return live(rt, alloc, words, supplies, Streams { input, out }, err),
+        Err(_) => {
+            let status = complain(alloc, &ProgramFault::NoMemory, err);
+            return (out, status);
+        }
+    }
 }

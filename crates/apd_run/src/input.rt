@@ -163,11 +163,11 @@ fn do_batch<W: Serving + Drop, O: Operating<W> + Drop, R: Wait, P: Console>(
     ensures home { OnOk result (vec_len staff.new.workers ≡ length setting.now.desks.now) }
     ensures workers { OnOk result
         ((O.crew staff.new.operator).workers ≡ (O.crew staff.old.operator).workers) }
-    ensures shows { IfOk result (λ found. ShowsBatch setting.now.strict
+    ensures shows { IfOk result (λ found. ShowsBatch setting.now.manner
         (P.contents writer.old) (P.contents writer.new)
         (O.crew staff.old.operator).counted (O.crew staff.new.operator).counted
         found.memory found.refused) }
-    ensures breaks { OnErr result (BreaksBatch setting.now.strict
+    ensures breaks { OnErr result (BreaksBatch setting.now.manner
         (P.contents writer.old) (P.contents writer.new) (O.crew staff.old.operator).counted) }
 {
     let given = Given {
@@ -205,11 +205,11 @@ impl<S: Source + Drop> Input<S> {
         ensures home { OnOk result (vec_len staff.new.workers ≡ length setting.now.desks.now) }
         ensures workers { OnOk result
             ((O.crew staff.new.operator).workers ≡ (O.crew staff.old.operator).workers) }
-        ensures shows { IfOk result (λ passed. ShowsBatch setting.now.strict
+        ensures shows { IfOk result (λ passed. ShowsBatch setting.now.manner
             (P.contents writer.old) (P.contents writer.new)
             (O.crew staff.old.operator).counted (O.crew staff.new.operator).counted
             passed.found.memory passed.found.refused) }
-        ensures breaks { OnErr result (BreaksBatch setting.now.strict
+        ensures breaks { OnErr result (BreaksBatch setting.now.manner
             (P.contents writer.old) (P.contents writer.new) (O.crew staff.old.operator).counted) }
     {
         let units = self.source.passed();
@@ -240,17 +240,17 @@ impl<S: Source + Drop> Input<S> {
         ensures home { OnOk result (vec_len staff.new.workers ≡ length setting.now.desks.now) }
         ensures workers { OnOk result
             ((O.crew staff.new.operator).workers ≡ (O.crew staff.old.operator).workers) }
-        ensures shows { IfOk result (λ found. Shows setting.now.strict
+        ensures shows { IfOk result (λ found. Shows setting.now.manner
             (P.contents writer.old) (O.crew staff.old.operator).counted
             (P.contents writer.new) (O.crew staff.new.operator).counted
             found.memory found.refused) }
-        ensures breaks { OnErr result (Breaks setting.now.strict
+        ensures breaks { OnErr result (Breaks setting.now.manner
             (P.contents writer.old) (P.contents writer.new) (O.crew staff.old.operator).counted) }
     {
         let mut found = Found::nothing();
         let mut number = 1u64;
         'intervals: while number < u64::MAX {
-            if is_over(setting.strict, found.refused) {
+            if is_over(setting.manner.strict, found.refused) {
                 return Ok(found);
             }
             match self.advance(setting.alloc, writer) {

@@ -133,6 +133,7 @@ fn live<'a>(matches: &ArgMatches<'a>) -> Option<Request<'a>>
     let strict = flag(matches, "strict");
     let verbose = flag(matches, "verbose");
     let clock = flag(matches, "clock");
+    let events = value(matches, "events");
     Some(Request::Live(LiveRun {
         config,
         workers,
@@ -140,6 +141,7 @@ fn live<'a>(matches: &ArgMatches<'a>) -> Option<Request<'a>>
         strict,
         verbose,
         clock,
+        events,
     }))
 }
 

@@ -4,7 +4,7 @@ use crate::lab::{ANSWERS, ASSOCIATION, AUTHENTICATION, LAB, file, joined};
 use crate::memory::{Memory, Outcome, words};
 use crate::same::same;
 use apd_files::FileFault;
-use apd_run::{OpenGate, StateLimit, Streams, Supplies, live};
+use apd_run::{OpenGate, RunWords, StateLimit, Streams, Supplies, live};
 use apd_source::{Arrival, Direct, Passing, Source, Timed};
 use std::alloc::Global;
 use std::io::{self, Read};
@@ -70,9 +70,9 @@ fn a_tick_is_what_was_not_told_before(rt: HostRuntime) {
 
 /// Gives texts, or nothing for a while, each when these units have passed.
 #[derive(Drop)]
-struct Steps<'a> {
-    steps: &'a [(&'a str, u32)],
-    done: usize,
+pub struct Steps<'a> {
+    pub steps: &'a [(&'a str, u32)],
+    pub done: usize,
 }
 
 impl Source for Steps<'_> {
@@ -101,13 +101,17 @@ impl Source for Steps<'_> {
 }
 
 /// What becomes of an input with time.
-fn lived<R: Threads + Wait + Sync, S: Source + Drop>(
+pub fn lived<R: Threads + Wait + Sync, S: Source + Drop>(
     rt: &R,
     alloc: Global,
     input: S,
-    workers: u8,
+    asked: RunWords<'_>,
 ) -> Outcome {
-    let files = [file("config", LAB), file("-", "")];
+    let files = [
+        file("config", LAB),
+        file("-", ""),
+        file("drop.hex", "b700000001000000 9500000000000000\n"),
+    ];
     let mut memory = Memory {
         alloc,
         files: &files,
@@ -123,15 +127,15 @@ fn lived<R: Threads + Wait + Sync, S: Source + Drop>(
         out: Vec::new(alloc),
     };
     let mut err = Vec::new(alloc);
-    let (out, status) = live(rt, alloc, words(workers), supplies, streams, &mut err);
+    let (out, status) = live(rt, alloc, asked, supplies, streams, &mut err);
     Outcome { out, err, status }
 }
 
 /// A request for an agreement with a timeout of 10 units from number 100 on, and data 101, which it holds.
-const AGREED: &str =
+pub const AGREED: &str =
     "frame d000000002000000000102000000000a020000000001400003000702010a004006\n";
 
-const HELD: &str = "frame 8801000002000000000102000000000a0200000000ff500600006c617465\n";
+pub const HELD: &str = "frame 8801000002000000000102000000000a0200000000ff500600006c617465\n";
 
 const ENDED: &str = "3 send d000000002000000000a0200000000010200000000010000030107000002010a00\n\
     0 up 02000000000a 0200000000ff 0 101 0 6c617465\n\
@@ -158,7 +162,7 @@ fn an_agreement_ends_while_nothing_comes(rt: HostRuntime) {
             steps: &steps,
             done: 0,
         };
-        let outcome = lived(&rt, alloc, input, workers);
+        let outcome = lived(&rt, alloc, input, words(workers));
         same(&rt, outcome.out.as_slice(), printed.as_bytes(), "the text");
         same(&rt, outcome.status, 0, "the status");
     }
@@ -191,11 +195,11 @@ fn a_thread_reads_the_same_lines(rt: HostRuntime) {
         Direct {
             input: Thrice { reads: 0 },
         },
-        2,
+        words(2),
     );
     let hand = Hand::at(0);
     let input = Timed::start(&rt, alloc, &hand, Thrice { reads: 0 }).expect(&rt, "a thread");
-    let timed = lived(&rt, alloc, input, 2);
+    let timed = lived(&rt, alloc, input, words(2));
     same(&rt, timed.out.as_slice(), direct.out.as_slice(), "the text");
     same(&rt, timed.status, direct.status, "the status");
 }

@@ -16,6 +16,8 @@ mod configuration;
 #[cfg(test)]
 mod echo;
 #[cfg(test)]
+mod events;
+#[cfg(test)]
 mod faults;
 #[cfg(test)]
 mod gates;

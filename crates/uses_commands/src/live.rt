@@ -1,7 +1,7 @@
 //! Lines that are done as they come, in chunks of any length.
 
 use crate::lab::{ANSWERS, ASSOCIATION, AUTHENTICATION, LAB, file, joined};
-use crate::memory::{Memory, Outcome, ran, words};
+use crate::memory::{Memory, Outcome, STRICT, ran, words};
 use crate::same::same;
 use apd_run::{OpenGate, RunWords, StateLimit, Streams, Supplies, live};
 use apd_source::Direct;
@@ -178,7 +178,7 @@ fn a_malformed_line_ends_a_strict_run_alone(rt: HostRuntime) {
     let text = b"frme\nwait\nfrme\n";
     answers(&rt, alloc, text, words(2), (TWO, 1));
     let asked = RunWords {
-        strict: true,
+        manner: STRICT,
         ..words(2)
     };
     answers(&rt, alloc, text, asked, (ONE, 1));

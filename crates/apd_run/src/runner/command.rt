@@ -8,6 +8,7 @@ use crate::access::{NewShards, Opening, Supplies, run_live};
 use crate::console::{Console, Notes, Terminal};
 use crate::input::Input;
 use crate::lines::{Lines, Script};
+use crate::manner::Manner;
 use crate::progress::Watcher;
 use crate::runner::fault::{
     RunFault, complain, of_script, say_if_group, say_why, say_why_live, unreadable,
@@ -30,8 +31,7 @@ pub struct RunWords<'a> {
     pub config: &'a str,
     pub script: &'a str,
     pub workers: u8,
-    /// Whether a refused line ends the run after its interval.
-    pub strict: bool,
+    pub manner: Manner,
     /// Whether messages tell of each load, and of each hook without a program at the end.
     pub verbose: bool,
 }
@@ -89,7 +89,7 @@ where
     P: Console + Drop,
     requires some { 1 ≤ workers }
     requires few { workers ≤ 8 }
-    ensures runs { Runs (P.strict writer) (P.contents writer) (P.contents result.0) none result.1 }
+    ensures runs { Runs (P.manner writer) (P.contents writer) (P.contents result.0) none result.1 }
 {
     let Task {
         configuration,
@@ -123,17 +123,17 @@ where
     L: Lines + Drop,
     P: Write + Drop,
     E: Write,
-    ensures runs { Runs words.entry.strict
+    ensures runs { Runs words.entry.manner
         (P.contents out) (P.contents result.out) none result.status }
 {
     let RunWords {
         script,
         workers,
-        strict,
+        manner,
         verbose,
         ..
     } = words;
-    let Ok(notes) = Notes::new(alloc, script, &task.configuration.maps, strict, verbose) else {
+    let Ok(notes) = Notes::new(alloc, script, &task.configuration.maps, verbose) else {
         return Ended {
             out,
             status: 3,
@@ -144,6 +144,7 @@ where
         out,
         err: &mut *err,
         notes,
+        manner,
         is_flushed: false,
         reader_left: false,
     };
@@ -177,7 +178,7 @@ where
     G: Watcher + Copy + Send,
     P: Write + Drop,
     E: Write,
-    ensures runs { Runs words.entry.strict (P.contents out) (P.contents result.0) none result.1 }
+    ensures runs { Runs words.entry.manner (P.contents out) (P.contents result.0) none result.1 }
 {
     let Supplies { files, limit, gate } = supplies;
     let configuration = match configuration(alloc, words.config, files) {
@@ -240,7 +241,7 @@ where
     S: Source + Drop,
     P: Write + Drop,
     E: Write,
-    ensures runs { Runs words.entry.strict
+    ensures runs { Runs words.entry.manner
         (P.contents streams.out) (P.contents result.0) none result.1 }
 {
     let Streams { input, out } = streams;
