@@ -11,12 +11,16 @@ use Rattle.apd_run.specs.declared.manner.Manner.{Manner}
 abbrev pub in_lines : Bool → Manner
 in_lines strict = record { strict = strict; form = Lines }
 
--- the form that `--events` names: `text` or `json`; without it, lines
+-- the form with a name
+abbrev pub form_named : List ℕ → Option Form
+form_named name =
+    (if bytes_eq name (codes "text") then Some Notices
+    else (if bytes_eq name (codes "json") then Some Json else None))
+
+-- the form that `--events` names; without it, lines
 abbrev pub form_of : Option (List ℕ) → Option Form
 form_of None = Some Lines
-form_of (Some word) =
-    (if bytes_eq word (codes "text") then Some Notices
-    else (if bytes_eq word (codes "json") then Some Json else None))
+form_of (Some name) = form_named name
 
 -- lines run as they come, in this form; without a form nothing is written, and the status is that of a fault
 abbrev pub RunsFormed : Bool → Option Form → Option (List ℕ) → Option (List ℕ) → ℕ → Type 0

@@ -2,7 +2,7 @@
 
 ghost use Rattle.std.specs.Prelude.{◌≡◌};
 ghost use Rattle.apd_words.specs.Asked.{text_of};
-ghost use Rattle.apd_program.specs.Forms.{form_of, RunsLive};
+ghost use Rattle.apd_program.specs.Forms.{form_named, form_of, RunsLive};
 
 use crate::fault::ProgramFault;
 use crate::printing::complain;
@@ -28,15 +28,26 @@ impl<R: Input> Read for Standard<R> {
     }
 }
 
-/// The form that `--events` names.
+/// The form with a name.
+fn form_named(name: &str) -> Option<Form>
+    ensures is { result ≡ form_named name.now }
+{
+    if name == "text" {
+        Some(Form::Notices)
+    } else if name == "json" {
+        Some(Form::Json)
+    } else {
+        None
+    }
+}
+
+/// The form that `--events` names; lines without it.
 fn form_of(events: Option<&str>) -> Option<Form>
     ensures is { result ≡ form_of (text_of events.entry) }
 {
     match events {
+        Some(name) => form_named(name),
         None => Some(Form::Lines),
-        Some("text") => Some(Form::Notices),
-        Some("json") => Some(Form::Json),
-        Some(_) => None,
     }
 }
 

@@ -39,11 +39,7 @@ impl Passing {
     {
         let all = now.duration_since(self.begun).as_nanos() / UNIT;
         let fresh = all.saturating_sub(self.told);
-        let units = if fresh < u128::from(u32::MAX) {
-            fresh as u32
-        } else {
-            u32::MAX
-        };
+        let units = fresh.min(u128::from(u32::MAX)) as u32;
         self.told += u128::from(units);
         units
     }
