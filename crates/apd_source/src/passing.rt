@@ -1,6 +1,6 @@
 //! Time as it passes by a clock.
 
-ghost use Rattle.std.specs.Prelude.{◌≡◌, ◌+◌, ◌<◌, ◌≤◌};
+ghost use Rattle.std.specs.Prelude.{◌≡◌, ◌+◌, ◌<◌, ◌≤◌, ℕ};
 ghost use Rattle.std.specs.Time.{instant_nanos};
 ghost use Rattle.apd_source.specs.Units.{most_units, tick_at, units_between};
 
