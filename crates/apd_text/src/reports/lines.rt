@@ -2,10 +2,10 @@
 
 ghost use Rattle.std.specs.Prelude.{◌≡◌, ◌++◌, IfOk, string_bytes};
 ghost use Rattle.apd_text.specs.Words.{out_words};
-ghost use Rattle.apd_text.specs.Lines.{drop_text, json_text, line_of, notice_text, noticed_out, noticed_outs, noticed_text, outs_text, report_text, told_text, totals_text};
+ghost use Rattle.apd_text.specs.Lines.{drop_text, json_text, line_of, notice_line, notice_text, noticed_out, noticed_outs, noticed_text, outs_text, report_text, told_text, totals_text};
 
 use crate::reports::json::{append_drop_json, append_loaded_json, append_outs_json};
-use crate::reports::notice::notice_of;
+use crate::reports::notice::{Notice, notice_of};
 use crate::reports::report::{Form, Report, Told};
 use crate::reports::words::{TidWord, bytes_word};
 use ap_books::Totals;
@@ -68,20 +68,29 @@ fn append_outs(alloc: Global, text: &mut String, line: u64, outs: &[Out]) -> Res
     Ok(())
 }
 
-/// Appends what a frame means to its station, if it means something.
-fn append_notice(text: &mut String, line: u64, out: &Out) -> Result<(), AllocError>
+/// Appends a notice, if there is one.
+fn append_notice(text: &mut String, line: u64, notice: Option<Notice>) -> Result<(), AllocError>
     ensures ok { IfOk result (λ _. string_bytes text.new ≡ string_bytes text.old
-        ++ notice_text line out.now) }
+        ++ notice_line line notice) }
 {
-    let Out::Send(frame) = out else {
-        return Ok(());
-    };
-    match notice_of(frame.bytes()) {
+    match notice {
         Some(notice) => {
             writeln!(text, "{line} {notice}")?;
             return Ok(());
         }
         None => return Ok(()),
+    }
+}
+
+/// Appends what an output means to a station, if it means something.
+fn append_meaning(text: &mut String, line: u64, out: &Out) -> Result<(), AllocError>
+    ensures ok { IfOk result (λ _. string_bytes text.new ≡ string_bytes text.old
+        ++ notice_text line out.now) }
+{
+    match out {
+        Out::Send(frame) => return append_notice(text, line, notice_of(frame.bytes())),
+        Out::Up(_) => return Ok(()),
+        Out::Note(_) => return Ok(()),
     }
 }
 
@@ -91,7 +100,7 @@ fn append_noticed(alloc: Global, text: &mut String, line: u64, out: &Out) -> Res
         ++ noticed_out line out.now) }
 {
     append_out(alloc, text, line, out)?;
-    append_notice(text, line, out)?;
+    append_meaning(text, line, out)?;
     Ok(())
 }
 
@@ -150,13 +159,21 @@ fn append_told_noticed(
     ensures ok { IfOk result (λ _. string_bytes text.new ≡ string_bytes text.old
         ++ noticed_text line told.now) }
 {
-    if let Told::Handled { outs, dropped } = told {
-        append_noticed_outs(alloc, text, line, outs.as_slice())?;
-        append_drop(text, line, *dropped)?;
-        return Ok(());
+    match told {
+        Told::Handled { outs, dropped } => {
+            append_noticed_outs(alloc, text, line, outs.as_slice())?;
+            append_drop(text, line, *dropped)?;
+            return Ok(());
+        }
+        Told::Memory
+        | Told::Loaded { .. }
+        | Told::Fault(_)
+        | Told::Refused(_)
+        | Told::Certificate { .. }
+        | Told::Unreadable(_)
+        | Told::Word { .. }
+        | Told::Malformed { .. } => return append_told(alloc, text, line, told),
     }
-    append_told(alloc, text, line, told)?;
-    Ok(())
 }
 
 /// Appends what became of a line, as JSON if it has outputs or a program is in force.
@@ -179,10 +196,13 @@ fn append_told_json(
             append_loaded_json(text, line, *budget)?;
             return Ok(());
         }
-        _ => {
-            append_told(alloc, text, line, told)?;
-            return Ok(());
-        }
+        Told::Memory
+        | Told::Fault(_)
+        | Told::Refused(_)
+        | Told::Certificate { .. }
+        | Told::Unreadable(_)
+        | Told::Word { .. }
+        | Told::Malformed { .. } => return append_told(alloc, text, line, told),
     }
 }
 
