@@ -70,8 +70,10 @@ fn put_tick(commands: &mut Vec<Numbered<'_>>, units: u32) -> Result<(), AllocErr
         line: 0,
         command: Command::Tick(units),
     };
-    commands.insert(0, tick)?;
-    Ok(())
+    match commands.insert(0, tick) {
+        Ok(()) => return Ok(()),
+        Err(_) => return Err(AllocError),
+    }
 }
 
 impl<S: Source + Drop> Input<S> {
