@@ -8,7 +8,7 @@ use Rattle.clap.specs.ValueTests.{is_unsigned_in}
 use Rattle.clap.specs.Words.{Row, Text, first_of}
 use Rattle.bpf_regions.specs.declared.hooks.Hook.{Hook}
 use Rattle.bpf_regions.specs.declared.hooks.Hook.TheVariants.{Association, Addba, Data}
-use Rattle.apd_words.specs.CommandLine.{most_states}
+use Rattle.apd_words.specs.CommandLine.{most_states, most_work}
 use Rattle.apd_words.specs.declared.Claim.{Claim}
 use Rattle.apd_words.specs.declared.LiveRun.{LiveRun}
 use Rattle.apd_words.specs.declared.Query.{Query}
@@ -23,13 +23,13 @@ use Rattle.apd_words.specs.declared.Request.TheVariants as request
 
 -- a question, whose words are texts
 pub data Asked : Type 0 where
-  Verify : Hook → Text → Option Text → ℕ → Asked
+  Verify : Hook → Text → Option Text → ℕ → ℕ → Asked
   Assemble : Text → Asked
   Disassemble : Text → Option Text → Bool → Asked
   ListRaw : Text → Option Text → Bool → Asked
   Graph : Text → Option Text → Asked
-  Trace : Hook → Text → Text → Option Text → ℕ → Option Text → Bool → Asked
-  Certify : Hook → Text → Option Text → ℕ → Asked
+  Trace : Hook → Text → Text → Option Text → ℕ → ℕ → Option Text → Bool → Asked
+  Certify : Hook → Text → Option Text → ℕ → ℕ → Asked
   Check : Hook → Text → Text → Option Text → Asked
   Explain : Option Text → Asked
   Frames : Text → Bool → Asked
@@ -57,6 +57,7 @@ config_of source = text_of source.config
 abbrev pub asked_verdict : Subject → Asked
 asked_verdict subject =
     Verify subject.terms.hook subject.source.file.now (config_of subject.source) subject.terms.states
+    subject.terms.work
 
 -- the question of `disasm`, with slots or without
 abbrev pub asked_listing : Source → Bool → Asked
@@ -74,13 +75,14 @@ asked_graph source = Graph source.file.now (config_of source)
 abbrev pub asked_run : Trial → Asked
 asked_run trial =
     Trace trial.subject.terms.hook trial.subject.source.file.now trial.frame.now
-    (config_of trial.subject.source) trial.subject.terms.states
+    (config_of trial.subject.source) trial.subject.terms.states trial.subject.terms.work
     (text_of trial.given.context) trial.given.from_frame
 
 -- the question of `cert`
 abbrev pub asked_certificate : Subject → Asked
 asked_certificate subject =
     Certify subject.terms.hook subject.source.file.now (config_of subject.source) subject.terms.states
+    subject.terms.work
 
 -- the question of `check`
 abbrev pub asked_check : Claim → Asked
@@ -138,11 +140,19 @@ workers_named (digit ∷ []) =
     (if nat_le 49 digit && nat_le digit 56 then Some (digit - 48) else None)
 workers_named _ = None
 
--- a number from 1 to `most_states`, in decimal digits, perhaps after a plus sign
-abbrev pub states_named : Text → Option ℕ
-states_named text =
-    (if is_unsigned_in 1 most_states text then Some (digits_value 10 (without_leading_plus text))
+-- a number from 1 to another one, in decimal digits, perhaps after a plus sign
+abbrev pub number_to : ℕ → Text → Option ℕ
+number_to most text =
+    (if is_unsigned_in 1 most text then Some (digits_value 10 (without_leading_plus text))
     else None)
+
+-- a number of states
+abbrev pub states_named : Text → Option ℕ
+states_named text = number_to most_states text
+
+-- a number of units of work
+abbrev pub work_named : Text → Option ℕ
+work_named text = number_to most_work text
 
 -- ---- what the arguments of a command ask for; `first_of id rows` is the value of an argument
 
@@ -158,13 +168,18 @@ hook_at rows = option_and_then hook_named (first_of (codes "HOOK") rows)
 abbrev pub states_at : List Row → Option ℕ
 states_at rows = option_and_then states_named (first_of (codes "states") rows)
 
--- `verify HOOK FILE [--config C] [--states N] [--explain]`
+-- how many units of work the verifier may do
+abbrev pub work_at : List Row → Option ℕ
+work_at rows = option_and_then work_named (first_of (codes "work") rows)
+
+-- `verify HOOK FILE [--config C] [--states N] [--explain] [--work N]`
 abbrev pub verify_of : List Row → Option Asked
 verify_of rows = do
   hook ← hook_at rows
   file ← first_of (codes "FILE") rows
   states ← states_at rows
-  Some (Verify hook file (first_of (codes "config") rows) states)
+  work ← work_at rows
+  Some (Verify hook file (first_of (codes "config") rows) states work)
 
 -- `asm FILE`
 abbrev pub assemble_of : List Row → Option Asked
@@ -182,14 +197,15 @@ disassemble_of rows = do
       else Some (Disassemble file (first_of (codes "config") rows) (is_set (codes "slots") rows))))
 
 -- `trace HOOK FILE FRAME [--config C] [--states N] [--context KEY=VALUE,..] [--from-frame]
--- [--explain]`
+-- [--explain] [--work N]`
 abbrev pub trace_of : List Row → Option Asked
 trace_of rows = do
   hook ← hook_at rows
   file ← first_of (codes "FILE") rows
   frame ← first_of (codes "FRAME") rows
   states ← states_at rows
-  Some (Trace hook file frame (first_of (codes "config") rows) states
+  work ← work_at rows
+  Some (Trace hook file frame (first_of (codes "config") rows) states work
       (first_of (codes "context") rows) (is_set (codes "from-frame") rows))
 
 -- `run C SCRIPT [--workers N] [--states N] [--quiet] [--strict] [--verbose]`
@@ -210,13 +226,14 @@ live_of rows = do
   states ← states_at rows
   Some (Live config workers states (is_set (codes "strict") rows) (is_set (codes "verbose") rows))
 
--- `cert HOOK FILE [--config C] [--states N]`
+-- `cert HOOK FILE [--config C] [--states N] [--work N]`
 abbrev pub certify_of : List Row → Option Asked
 certify_of rows = do
   hook ← hook_at rows
   file ← first_of (codes "FILE") rows
   states ← states_at rows
-  Some (Certify hook file (first_of (codes "config") rows) states)
+  work ← work_at rows
+  Some (Certify hook file (first_of (codes "config") rows) states work)
 
 -- `check HOOK FILE CERT [--config C]`
 abbrev pub check_of : List Row → Option Asked

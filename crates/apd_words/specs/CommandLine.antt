@@ -21,6 +21,10 @@ worker_names =
 abbrev pub most_states : ℕ
 most_states = 4194304
 
+-- the largest limit of work, which no program needs
+abbrev pub most_work : ℕ
+most_work = 1099511627776
+
 -- a value is one of these names
 pub record TakesNames (parser : ValueParser) (names : List Text) : Type 0 where
   pub given : Bor (List (Bor Text))
@@ -75,6 +79,13 @@ states = record (option (codes "states")) {
   defaults = codes "4194304" ∷ [];
 }
 
+-- `--work N`, by default the most
+abbrev pub work : Rule
+work = record (option (codes "work")) {
+  parser = Some (Unsigned 1 most_work);
+  defaults = codes "1099511627776" ∷ [];
+}
+
 -- a command with these arguments
 abbrev pub command : Text → List Rule → Shape
 command name rules = record (new_shape name) { rules = rules }
@@ -83,10 +94,10 @@ command name rules = record (new_shape name) { rules = rules }
 abbrev pub hook_command : Text → ValueParser → List Rule → Shape
 hook_command name hooks more = command name (hook hooks ∷ file ∷ more)
 
--- `verify HOOK FILE [--config C] [--states N] [--explain]`
+-- `verify HOOK FILE [--config C] [--states N] [--explain] [--work N]`
 abbrev pub verify : ValueParser → Shape
 verify hooks =
-    hook_command (codes "verify") hooks (config ∷ states ∷ flag (codes "explain") ∷ [])
+    hook_command (codes "verify") hooks (config ∷ states ∷ flag (codes "explain") ∷ work ∷ [])
 
 -- `asm FILE [-o FILE]`
 abbrev pub assemble : Shape
@@ -99,11 +110,11 @@ disassemble =
     ∷ flag (codes "dot") ∷ output ∷ [])
 
 -- `trace HOOK FILE FRAME [--config C] [--states N] [--context KEY=VALUE,..] [--from-frame]
--- [--explain]`
+-- [--explain] [--work N]`
 abbrev pub trace : ValueParser → Shape
 trace hooks =
     hook_command (codes "trace") hooks (required (codes "FRAME") ∷ config ∷ states ∷ context
-    ∷ flag (codes "from-frame") ∷ flag (codes "explain") ∷ [])
+    ∷ flag (codes "from-frame") ∷ flag (codes "explain") ∷ work ∷ [])
 
 -- `run C SCRIPT [--workers N] [--states N] [--quiet] [--strict] [--verbose]`
 abbrev pub run : ValueParser → Shape
@@ -118,9 +129,9 @@ live numbers =
     command (codes "live") (required (codes "C") ∷ workers numbers ∷ states
     ∷ flag (codes "strict") ∷ flag (codes "verbose") ∷ [])
 
--- `cert HOOK FILE [--config C] [--states N] [-o FILE]`
+-- `cert HOOK FILE [--config C] [--states N] [-o FILE] [--work N]`
 abbrev pub certify : ValueParser → Shape
-certify hooks = hook_command (codes "cert") hooks (config ∷ states ∷ output ∷ [])
+certify hooks = hook_command (codes "cert") hooks (config ∷ states ∷ output ∷ work ∷ [])
 
 -- `check HOOK FILE CERT [--config C]`
 abbrev pub check : ValueParser → Shape

@@ -5,7 +5,7 @@ ghost use Rattle.clap.specs.Words.{App, Rule, Shape, app_of, rule_of, with_subco
 ghost use Rattle.clap.specs.Simple.{new_shape};
 ghost use Rattle.clap.specs.declared.builder.value_parser.ValueParser.TheVariants.{Names};
 ghost use Rattle.apd_words.specs.Built.{IsProgram, IsCommand, with_argument};
-ghost use Rattle.apd_words.specs.CommandLine.{command_line, program, with_code_commands, with_run_commands, with_certificate_commands, with_reading_commands, hook_command, required, optional, flag, hook, file, config, output, context, workers, states, verify, assemble, disassemble, trace, run, live, certify, check, explain, frames, help};
+ghost use Rattle.apd_words.specs.CommandLine.{command_line, program, with_code_commands, with_run_commands, with_certificate_commands, with_reading_commands, hook_command, required, optional, flag, hook, file, config, output, context, workers, states, work, verify, assemble, disassemble, trace, run, live, certify, check, explain, frames, help};
 
 use clap::builder::ValueParser;
 use clap::{Arg, ArgAction, Command};
@@ -14,6 +14,9 @@ use std::alloc::{AllocError, Global};
 pub(crate) static HOOKS: [&str; 3] = ["assoc", "addba", "data"];
 
 pub(crate) static WORKERS: [&str; 8] = ["1", "2", "3", "4", "5", "6", "7", "8"];
+
+/// The most units of work that a limit may name. No program needs them.
+pub(crate) const MOST_WORK: u64 = 1099511627776;
 
 /// The most states that a limit may name.
 pub(crate) const MOST_STATES: u32 = 4194304;
@@ -149,7 +152,8 @@ fn verify<'a>(alloc: Global, hooks: &'a [&'a str]) -> Made<'a>
     let command = with_arg(hook_command(alloc, "verify", about, hooks), config(alloc));
     let command = with_arg(command, states(alloc));
     let why = "Tell on standard error why, and what is known there";
-    with_arg(command, flag(alloc, "explain", why))
+    let command = with_arg(command, flag(alloc, "explain", why));
+    with_arg(command, work(alloc))
 }
 
 fn assemble<'a>(alloc: Global) -> Made<'a>
@@ -195,7 +199,8 @@ fn trace<'a>(alloc: Global, hooks: &'a [&'a str]) -> Made<'a>
     let frame = "Tell the program what the frame says of itself";
     let command = with_arg(command, flag(alloc, "from-frame", frame));
     let why = "Tell on standard error why, and what is known there";
-    with_arg(command, flag(alloc, "explain", why))
+    let command = with_arg(command, flag(alloc, "explain", why));
+    with_arg(command, work(alloc))
 }
 
 fn run<'a>(alloc: Global, numbers: &'a [&'a str]) -> Made<'a>
@@ -238,7 +243,8 @@ fn certify<'a>(alloc: Global, hooks: &'a [&'a str]) -> Made<'a>
 {
     let about = "Verify a program and print its certificate in hex";
     let command = with_arg(hook_command(alloc, "cert", about, hooks), config(alloc));
-    with_arg(with_arg(command, states(alloc)), output(alloc))
+    let command = with_arg(with_arg(command, states(alloc)), output(alloc));
+    with_arg(command, work(alloc))
 }
 
 fn check<'a>(alloc: Global, hooks: &'a [&'a str]) -> Made<'a>
@@ -391,4 +397,17 @@ fn states<'a>(alloc: Global) -> Arg<'a>
         .value_parser(ValueParser::Unsigned(1, u64::from(MOST_STATES)))
         .default_value("4194304")
         .help("How many states the verifier may examine, 1 to 4194304")
+}
+
+fn work<'a>(alloc: Global) -> Arg<'a>
+    ensures is { rule_of result ≡ work }
+    ensures local { result.global ≡ false }
+{
+    Arg::new(alloc, "work")
+        .long("work")
+        .value_name("N")
+        .action(ArgAction::Set)
+        .value_parser(ValueParser::Unsigned(1, MOST_WORK))
+        .default_value("1099511627776")
+        .help("How many units of work the verifier may do, 1 to 1099511627776")
 }

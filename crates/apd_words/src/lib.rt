@@ -24,11 +24,13 @@ pub struct Source<'a> {
     pub config: Option<&'a str>,
 }
 
-/// The hook for which a program is verified, and how many states the verifier may examine.
+/// The hook for which a program is verified, how many states the verifier may examine, and how many units of work it
+/// may do.
 #[derive(Clone, Copy)]
 pub struct Terms {
     pub hook: Hook,
     pub states: u32,
+    pub work: u64,
 }
 
 /// A program to verify.
