@@ -9,7 +9,8 @@ use Rattle.bpf_decode.specs.Answer.{Refuses}
 use Rattle.bpf_decode.specs.declared.fault.DecodeFault.{DecodeFault}
 use Rattle.bpf_machine.specs.Verified.{Verified}
 use Rattle.bpf_text.specs.declared.fault.AsmFault.TheVariants as asm_fault
-use Rattle.bpf_verifier.specs.Admission.{IsRefusal}
+use Rattle.bpf_verifier.specs.Admission.{IsRefusalWithin}
+use Rattle.bpf_verifier.specs.declared.limit.Limits.{Limits}
 use Rattle.bpf_verifier.specs.declared.refusal.Refusal.{Refusal}
 use Rattle.bpf_cert.specs.Certified as shown
 use Rattle.bpf_cert.specs.Certified.{IsUncertified}
@@ -22,7 +23,7 @@ use Rattle.apd_program.specs.declared.fault.ProgramFault.{ProgramFault}
 use Rattle.apd_program.specs.Programs.{IsOfProgram, Undecoded, Decoded}
 use Rattle.apd_program.specs.Refusing.{IsUndecoded, IsRefused, IsUnaccepted}
 use Rattle.apd_program.specs.Verifying.{IsVerdict, NotAdmitted}
-use Rattle.apd_program.specs.Certifying.{IsCertificate, NotMade, IsChecked, NotShown}
+use Rattle.apd_program.specs.Certifying.{IsCertificate, Unsafe, NotMade, IsChecked, NotShown}
 use Rattle.apd_program.specs.Texts.{BreaksOff, broken_off, IsAssembly, Broken}
 
 module _ (says : decoded.Code → Answer → Type 0) (code : List ℕ) (shapes : List Shape) (r : Result Answer ProgramFault) where
@@ -34,16 +35,22 @@ module _ (says : decoded.Code → Answer → Type 0) (code : List ℕ) (shapes :
       let P : Answer → Type 0 = IsOfProgram says code shapes in
       IfOk-weaker r (IsUndecoded e) P (λ a h. subst P (sym h.0) (Undecoded e h.1 refuses)) told
 
-pub IsVerdict-refused : (limit : ℕ) (says : decoded.Code → ℕ → Answer → Type 0) (p : decoded.Code) (r : Result Answer ProgramFault) (e : Refusal) → IsRefusal p limit e
-    → IfOk r (IsRefused e) → IfOk r (IsVerdict limit says p)
-IsVerdict-refused limit says p r e refusal told =
-    let P : Answer → Type 0 = IsVerdict limit says p in
+pub IsVerdict-refused : (limits : Limits) (says : decoded.Code → ℕ → Answer → Type 0) (p : decoded.Code) (r : Result Answer ProgramFault) (e : Refusal) → IsRefusalWithin p limits e
+    → IfOk r (IsRefused e) → IfOk r (IsVerdict limits says p)
+IsVerdict-refused limits says p r e refusal told =
+    let P : Answer → Type 0 = IsVerdict limits says p in
     IfOk-weaker r (IsRefused e) P (λ a h. subst P (sym h.0) (NotAdmitted e h.1 refusal)) told
 
-pub IsCertificate-refused : (limit : ℕ) (hook : Hook) (p : decoded.Code) (r : Result Answer ProgramFault) (e : Refusal) → IsUncertified p limit e
-    → IfOk r (IsRefused e) → IfOk r (IsCertificate limit hook p)
-IsCertificate-refused limit hook p r e refusal told =
-    let P : Answer → Type 0 = IsCertificate limit hook p in
+pub IsCertificate-refused : (limits : Limits) (hook : Hook) (p : decoded.Code) (r : Result Answer ProgramFault) (e : Refusal) → IsRefusalWithin p limits e
+    → IfOk r (IsRefused e) → IfOk r (IsCertificate limits hook p)
+IsCertificate-refused limits hook p r e refusal told =
+    let P : Answer → Type 0 = IsCertificate limits hook p in
+    IfOk-weaker r (IsRefused e) P (λ a h. subst P (sym h.0) (Unsafe e h.1 refusal)) told
+
+pub IsCertificate-unmade : (limits : Limits) (hook : Hook) (p : decoded.Code) (r : Result Answer ProgramFault) (e : Refusal) → IsUncertified p limits.states e
+    → IfOk r (IsRefused e) → IfOk r (IsCertificate limits hook p)
+IsCertificate-unmade limits hook p r e refusal told =
+    let P : Answer → Type 0 = IsCertificate limits hook p in
     IfOk-weaker r (IsRefused e) P (λ a h. subst P (sym h.0) (NotMade e h.1 refusal)) told
 
 pub IsChecked-refused : (hook : Hook) (bytes : List ℕ) (p : decoded.Code) (r : Result Answer ProgramFault) (e : CertFault) → shown.Refuses p hook bytes e

@@ -7,12 +7,12 @@ ghost use Rattle.apd_program.specs.Refusing.{IsUnaccepted};
 
 use crate::answer::{Answer, refused, undecoded};
 use crate::fault::ProgramFault;
-use crate::verifying::limit_of;
+use crate::verifying::limits_of;
 use apd_words::Terms;
 use bpf_cert::{CertFault, certificate_within};
 use bpf_decode::{Program, decode};
 use bpf_regions::{Hook, Shapes};
-use bpf_verifier::verify_within;
+use bpf_verifier::verify_limited;
 use std::alloc::Global;
 
 /// The answer for a certificate that isn't accepted.
@@ -31,9 +31,9 @@ fn certified(alloc: Global, program: Program, terms: Terms) -> Result<Answer, Pr
     ensures certificate { IfOk result (IsCertificateWithin terms program) }
     ensures memory { IfErr result (λ e. e ≡ ProgramFault.NoMemory) }
 {
-    let limit = limit_of(terms);
-    match verify_within(alloc, program, terms.hook, limit) {
-        Ok(accepted) => match certificate_within(alloc, &accepted, limit) {
+    let limits = limits_of(terms);
+    match verify_limited(alloc, program, terms.hook, limits) {
+        Ok(accepted) => match certificate_within(alloc, &accepted, limits.states) {
             Ok(bytes) => Ok(Answer::Certificate(bytes)),
             Err(refusal) => refused(refusal),
         },
