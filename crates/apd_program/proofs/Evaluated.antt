@@ -1,6 +1,7 @@
 -- Verdicts on captures, from their parts.
-use Rattle.std.proofs.Common.{◌≡◌, ◌⊎◌, ◌^◌, ℕ, Bool, List, Some, Result, IfOk, inl, inr, subst}
+use Rattle.std.proofs.Common.{◌≡◌, ℕ, Bool, List, Option, Some, None, Result, IfOk, inl, inr, subst}
 use Rattle.std.proofs.lemmas.Result.{IfOk-weaker}
+use Rattle.std.specs.Borrow.{Bor}
 use Rattle.bpf_regions.specs.declared.hooks.Hook.{Hook}
 use Rattle.bpf_decode.specs.Program.{Code}
 use Rattle.bpf_machine.specs.Verified.{Verified}
@@ -11,7 +12,8 @@ use Rattle.ap_model.specs.Readings.{Config}
 use Rattle.apd_eval.specs.Evaluated.{IsEvaluation}
 use Rattle.apd_files.specs.declared.inputs.files.FileKind.TheVariants.{Capture}
 use Rattle.apd_files.specs.Held.{Held, Lacks}
-use Rattle.apd_program.specs.Evaluating.{AreVerdicts, IsMaterial, IsEvaluatedWith, HasNoEvaluation, OfConfiguration, OfCode, OfCapture, link_of}
+use Rattle.apd_words.specs.Asked.{text_of}
+use Rattle.apd_program.specs.Evaluating.{AreVerdicts, IsMaterial, IsEvaluatedWith, HasNoEvaluation, NoConfig, OfConfiguration, OfCode, OfCapture, link_of}
 use Rattle.apd_program.specs.Faults.{IsMemoryOr, HasBadConfiguration, HasBadCode, HasBadCapture, NoFile}
 use Rattle.apd_program.specs.Programs.{IsOfProgram}
 use Rattle.apd_program.specs.Verifying.{IsVerdict}
@@ -27,6 +29,13 @@ IsEvaluation-of accepted p hook draw config packets json text code served is =
     let OfCode' : Code → Type 0 = λ c. IsEvaluation (record { code = c; hook = accepted.hook; budget = accepted.budget }) draw config packets json text in
     let OfHook : Hook → Type 0 = λ h. IsEvaluation (record { code = p; hook = h; budget = accepted.budget }) draw config packets json text in
     subst OfHook served (subst OfCode' code is)
+
+unnamed : (path : Bor (List ℕ)) → Some path ≡ None → ⊥
+unnamed path h = cc
+
+pub no_configuration : (files : Held) (file capture : List ℕ) (config : Option (Bor (List ℕ))) → config ≡ None → IsMemoryOr (HasNoEvaluation files file capture (text_of config)) fault.NoConfig
+no_configuration files file capture None h = inr NoConfig
+no_configuration files file capture (Some path) h = absurd (unnamed path h)
 
 module _ (files : Held) (file capture config : List ℕ) (e : ProgramFault) where
   pub bad_configuration : IsMemoryOr (HasBadConfiguration files config) e → IsMemoryOr (HasNoEvaluation files file capture (Some config)) e
