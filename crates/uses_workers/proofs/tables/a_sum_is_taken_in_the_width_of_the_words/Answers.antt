@@ -1,4 +1,4 @@
-use Rattle.uses_queues.proofs.tables.a_sum_is_taken_in_the_width_of_the_words.Goals as goal
+use Rattle.uses_workers.proofs.tables.a_sum_is_taken_in_the_width_of_the_words.Goals as goal
 
 pub summed-sum-requires-clause-one : goal.summed-sum-requires-clause-one
 summed-sum-requires-clause-one g c =
