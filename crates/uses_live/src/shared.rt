@@ -3,9 +3,9 @@
 ghost use Rattle.std.specs.Prelude.{◌≡◌};
 ghost use Rattle.bpf_regions.specs.Maps.{word_count};
 
-use crate::live::{Live, load_both};
 use crate::same::same;
 use bpf_regions::{MapOp, Scope, Shape, WordWidth};
+use map_uses::live::{Live, load_both};
 use shared_maps::{MapSeat, MapTable};
 use std::alloc::Global;
 use std::process::Abort;
