@@ -1,10 +1,11 @@
 -- The search from the newest entry backwards.
-use Rattle.std.proofs.Common.{◌≡◌, ℕ, zero, suc, ◌-◌, ◌<◌, ◌≤◌, List, [], ◌∷◌, ◌++◌, length, take, get_or, true, false, Option, Some, None, refl, ap, arith, sym, ◌∙◌, cond, take-suc}
+use Rattle.std.proofs.Common.{◌≡◌, ℕ, zero, suc, ◌+◌, ◌-◌, ◌<◌, ◌≤◌, List, [], ◌∷◌, ◌++◌, length, take, get_or, true, false, Option, Some, None, refl, ap, arith, sym, subst, ◌∙◌, cond, take-suc}
 use Rattle.std.specs.Prelude.{if◌then◌else◌}
 use Rattle.bpf_absstate.specs.View.{View}
 use Rattle.bpf_absstate.specs.Inclusion.{state_included}
 use Rattle.bpf_prune.specs.declared.kept.Entry.{Entry}
 use Rattle.bpf_prune.specs.Covering.{newest_covering, or_else}
+use Rattle.bpf_prune.specs.Spending.{comparisons}
 
 or_else-assoc : (a b c : Option ℕ) → or_else (or_else a b) c ≡ or_else a (or_else b c)
 or_else-assoc (Some x) b c = refl
@@ -44,3 +45,35 @@ pub none_left : (es : List Entry) (k : ℕ) (s : View) → k ≤ 0 → newest_co
 unfolding newest_covering
 none_left es zero s h so_far = sym so_far
 none_left es (suc k) s h so_far = absurd (omega (arith, h))
+
+-- a state is compared with the newest entry, and with others only if that one doesn't include it
+last_found : (es : List Entry) (e : Entry) (s : View) → state_included s e.state ≡ true → comparisons (es ++ e ∷ []) s ≡ 1
+unfolding newest_covering comparisons
+last_found [] e s so = refl
+last_found (x ∷ es) e s so = rw (newest_last es e s) (rw so (rw (last_found es e s so) refl))
+
+later : (a b : ℕ) → a + 1 + b ≡ a + b + 1
+later a b = omega arith
+
+last_passed : (es : List Entry) (e : Entry) (s : View) → state_included s e.state ≡ false → comparisons (es ++ e ∷ []) s ≡ comparisons es s + 1
+unfolding newest_covering comparisons
+last_passed [] e s differs = refl
+last_passed (x ∷ es) e s differs = rw (newest_last es e s) (rw differs (rw (last_passed es e s differs) (later (comparisons es s) _)))
+
+pub compared_found : (es : List Entry) (k : ℕ) (s : View) (d e : Entry) → 0 < k → k ≤ length es → e ≡ get_or es (k - 1) d → state_included s e.state ≡ true → comparisons (take k es) s ≡ 1
+compared_found es zero s d e h within is so = absurd (omega (arith, h))
+compared_found es (suc k) s d e h within is so =
+    rw (take-suc es k d (omega (arith, within)))
+    (last_found (take k es) (get_or es k d) s (subst (λ (x : Entry). state_included s x.state ≡ true) (is ∙ ap (λ n. get_or es n d) (before k)) so))
+
+pub compared_passed : (es : List Entry) (k : ℕ) (s : View) (d e : Entry) → 0 < k → k ≤ length es → e ≡ get_or es (k - 1) d → state_included s e.state ≡ false → comparisons (take k es) s ≡ comparisons (take (k - 1) es) s + 1
+compared_passed es zero s d e h within is differs = absurd (omega (arith, h))
+compared_passed es (suc k) s d e h within is differs =
+    rw (take-suc es k d (omega (arith, within)))
+    (last_passed (take k es) (get_or es k d) s (subst (λ (x : Entry). state_included s x.state ≡ false) (is ∙ ap (λ n. get_or es n d) (before k)) differs)
+    ∙ ap (λ n. comparisons (take n es) s + 1) (sym (before k)))
+
+pub none_compared : (es : List Entry) (k : ℕ) (s : View) → k ≤ 0 → comparisons (take k es) s ≡ 0
+unfolding comparisons
+none_compared es zero s h = refl
+none_compared es (suc k) s h = absurd (omega (arith, h))

@@ -1,9 +1,11 @@
 //! The finished states of every slot.
 
-ghost use Rattle.std.specs.Prelude.{◌≡◌, [], replicate, OnOk, OnErr, IfOk, IfSome};
+ghost use Rattle.std.specs.Prelude.{◌≡◌, ◌+◌, ◌≤◌, [], replicate, OnOk, OnErr, IfOk, IfSome};
 ghost use Rattle.bpf_prune.specs.Covering.{newest_covering, with_entry, Covers, kept_at};
+ghost use Rattle.bpf_prune.specs.Spending.{HasPassed, comparisons};
 
 use crate::kept::{Entry, Kept};
+use crate::work::{TooMuchWork, Work};
 use bpf_absstate::{AbsState, Difference};
 use std::alloc::{AllocError, Global};
 use std::cell::Cell;
@@ -65,16 +67,26 @@ impl Finished {
         Ok(())
     }
 
-    /// The budget of the newest state kept at this one's slot that includes it.
-    pub fn covering(&self, state: &AbsState) -> Option<u32>
-        ensures is { result ≡ newest_covering (kept_at self.now state.now.pc) state.now }
-        ensures covers { IfSome result (Covers (kept_at self.now state.now.pc) state.now) }
+    /// The budget of the newest state kept at this one's slot that includes it. Each comparison counts as work before
+    /// it is made: 1 to 569 units. Refused if that passes the limit of work.
+    pub fn covering(&self, state: &AbsState, work: &mut Work) -> Result<Option<u32>, TooMuchWork>
+        ensures is { IfOk result
+            (λ budget. budget ≡ newest_covering (kept_at self.now state.now.pc) state.now) }
+        ensures covers { IfOk result
+            (λ budget. IfSome budget (Covers (kept_at self.now state.now.pc) state.now)) }
+        ensures most { work.new.most ≡ work.old.most }
+        ensures examined { work.new.examined ≡ work.old.examined }
+        ensures compared { OnOk result
+            (work.new.compared
+            ≡ work.old.compared + comparisons (kept_at self.now state.now.pc) state.now) }
+        ensures few { work.new.units ≤ work.old.units + 36416 }
+        ensures passed { OnErr result (HasPassed work.new) }
     {
         let pc = state.pc();
         if pc < self.slots.len() {
             let kept = &self.slots[pc];
-            return kept.covering(state, self.before.as_slice());
+            return kept.covering(state, self.before.as_slice(), work);
         }
-        None
+        Ok(None)
     }
 }

@@ -1,9 +1,11 @@
 //! The newest 64 finished states of one slot, the oldest first.
 
-ghost use Rattle.std.specs.Prelude.{◌≡◌, [], OnOk, OnErr, OnSome, IfSome, IfNone, true, false};
+ghost use Rattle.std.specs.Prelude.{◌≡◌, ◌+◌, ◌≤◌, [], OnOk, OnErr, OnSome, IfOk, IfSome, IfNone, true, false};
 ghost use Rattle.bpf_absstate.specs.Inclusion.{state_included};
 ghost use Rattle.bpf_prune.specs.Covering.{newest_covering, with_newest, Covers};
+ghost use Rattle.bpf_prune.specs.Spending.{HasPassed, comparisons, parts};
 
+use crate::work::{TooMuchWork, Work, parts_of};
 use bpf_absstate::{AbsState, Difference};
 use std::alloc::{AllocError, Global};
 use std::cell::Cell;
@@ -79,12 +81,34 @@ impl Model for Marked {
     ghost view = { λ a. a.entry };
 }
 
+/// How many positions are compared after the latest one, before a state is compared whole.
+const SOON: u64 = 5;
+
 /// Where else to compare first: where this search last found its state not included, and where the last search did so
 /// in the entry of the same age at its slot.
 #[derive(Clone, Copy)]
 struct Hints {
     recent: Difference,
     before: Difference,
+}
+
+/// Where a state isn't included in another one, if it isn't. The state is compared whole, so all its parts count.
+fn whole_difference(
+    state: &AbsState,
+    other: &AbsState,
+    work: &mut Work,
+) -> Result<Option<Difference>, TooMuchWork>
+    ensures none { IfOk result (λ o. IfNone o (state_included state.now other.now ≡ true)) }
+    ensures some { IfOk result (λ o. OnSome o (state_included state.now other.now ≡ false)) }
+    ensures most { work.new.most ≡ work.old.most }
+    ensures examined { work.new.examined ≡ work.old.examined }
+    ensures compared { work.new.compared ≡ work.old.compared }
+    ensures done { OnOk result (work.new.units ≡ work.old.units + parts state.now) }
+    ensures few { work.new.units ≤ work.old.units + 563 }
+    ensures passed { OnErr result (HasPassed work.new) }
+{
+    work.spend(parts_of(state))?;
+    Ok(state.difference(other))
 }
 
 impl Marked {
@@ -104,43 +128,70 @@ impl Marked {
     }
 
     /// Where a state isn't included in the entry's, if it isn't. Positions of earlier differences are compared first,
-    /// beginning with the latest.
-    fn outside(&self, state: &AbsState, hints: Hints) -> Option<Difference>
-        ensures none { IfNone result (state_included state.now self.now.state ≡ true) }
-        ensures some { OnSome result (state_included state.now self.now.state ≡ false) }
+    /// beginning with the latest. Each of the six counts one unit of work, and then the whole state its parts.
+    fn outside(
+        &self,
+        state: &AbsState,
+        hints: Hints,
+        work: &mut Work,
+    ) -> Result<Option<Difference>, TooMuchWork>
+        ensures none { IfOk result
+            (λ o. IfNone o (state_included state.now self.now.state ≡ true)) }
+        ensures some { IfOk result
+            (λ o. OnSome o (state_included state.now self.now.state ≡ false)) }
+        ensures most { work.new.most ≡ work.old.most }
+        ensures examined { work.new.examined ≡ work.old.examined }
+        ensures compared { OnOk result (work.new.compared ≡ work.old.compared + 1) }
+        ensures few { work.new.units ≤ work.old.units + 569 }
+        ensures whole { IfOk result
+            (λ o. IfNone o (work.new.units ≡ work.old.units + 6 + parts state.now)) }
+        ensures passed { OnErr result (HasPassed work.new) }
     {
         let places = self.differed.get();
         let kept = &self.entry.state;
+        work.compare()?;
         if state.differs_at(kept, places.first) {
-            return Some(places.first);
+            return Ok(Some(places.first));
         }
+        work.spend(SOON)?;
         if let Some(place) = self.outside_soon(state, hints) {
             self.differed.set(places.with(place));
-            return Some(place);
+            return Ok(Some(place));
         }
-        match state.difference(kept) {
-            None => None,
+        match whole_difference(state, kept, work)? {
+            None => Ok(None),
             Some(place) => {
                 self.differed.set(places.with(place));
-                Some(place)
+                Ok(Some(place))
             }
         }
     }
 
     /// Whether the entry's state includes this one. If not, the difference is noted.
-    fn covers(&self, state: &AbsState, recent: &mut Difference, before: &Cell<Difference>) -> bool
-        ensures is { result ≡ state_included state.now self.now.state }
+    fn covers(
+        &self,
+        state: &AbsState,
+        recent: &mut Difference,
+        before: &Cell<Difference>,
+        work: &mut Work,
+    ) -> Result<bool, TooMuchWork>
+        ensures is { IfOk result (λ told. told ≡ state_included state.now self.now.state) }
+        ensures most { work.new.most ≡ work.old.most }
+        ensures examined { work.new.examined ≡ work.old.examined }
+        ensures compared { OnOk result (work.new.compared ≡ work.old.compared + 1) }
+        ensures few { work.new.units ≤ work.old.units + 569 }
+        ensures passed { OnErr result (HasPassed work.new) }
     {
         let hints = Hints {
             recent: *recent,
             before: before.get(),
         };
-        match self.outside(state, hints) {
-            None => true,
+        match self.outside(state, hints, work)? {
+            None => Ok(true),
             Some(place) => {
                 *recent = place;
                 before.set(place);
-                false
+                Ok(false)
             }
         }
     }
@@ -208,10 +259,22 @@ impl Kept {
     }
 
     /// The budget of the newest state that includes this one. `before` says for each entry, by age from the newest,
-    /// where to compare first: where the last search found its state not included.
-    pub fn covering(&self, state: &AbsState, before: &[Cell<Difference>]) -> Option<u32>
-        ensures is { result ≡ newest_covering self.now state.now }
-        ensures covers { IfSome result (Covers self.now state.now) }
+    /// where to compare first: where the last search found its state not included. Each comparison is counted as work,
+    /// before it is made.
+    pub fn covering(
+        &self,
+        state: &AbsState,
+        before: &[Cell<Difference>],
+        work: &mut Work,
+    ) -> Result<Option<u32>, TooMuchWork>
+        ensures is { IfOk result (λ budget. budget ≡ newest_covering self.now state.now) }
+        ensures covers { IfOk result (λ budget. IfSome budget (Covers self.now state.now)) }
+        ensures most { work.new.most ≡ work.old.most }
+        ensures examined { work.new.examined ≡ work.old.examined }
+        ensures compared { OnOk result
+            (work.new.compared ≡ work.old.compared + comparisons self.now state.now) }
+        ensures few { work.new.units ≤ work.old.units + 36416 }
+        ensures passed { OnErr result (HasPassed work.new) }
     {
         let unknown = Cell::new(Difference::Apart);
         let mut recent = Difference::Apart;
@@ -220,11 +283,11 @@ impl Kept {
             k -= 1;
             let marked = &self.entries[k];
             let hint = place_of(before, self.entries.len() - k, &unknown);
-            if marked.covers(state, &mut recent, hint) {
+            if marked.covers(state, &mut recent, hint, work)? {
                 marked.entry.state.whole();
-                return Some(marked.entry.budget);
+                return Ok(Some(marked.entry.budget));
             }
         }
-        None
+        Ok(None)
     }
 }

@@ -1,13 +1,16 @@
 //! Keeps finished states with their budgets, the newest 64 of each slot.
 //!
-//! Main calls: `Finished::keep` and `Finished::covering`. The crate depends on `bpf_absstate`.
+//! Main calls: `Finished::keep`, `Finished::covering` and `Work::examine`. The crate depends on `bpf_absstate`.
 //! `covering` returns the budget of the newest kept state that includes a given one; each
-//! comparison starts where an earlier one found a difference. A refused allocation changes nothing.
-//! That a kept budget is right is the caller's promise, not this crate's.
+//! comparison starts where an earlier one found a difference, and counts as work before it is made.
+//! A refused allocation changes nothing. That a kept budget is right is the caller's promise, not
+//! this crate's.
 #![tactic(auto)]
 
 pub mod finished;
 pub mod kept;
+pub mod work;
 
 pub use finished::Finished;
 pub use kept::{Entry, Kept};
+pub use work::{TooMuchWork, Work};

@@ -1,11 +1,15 @@
 -- What an exploration within a limit of states says of a program.
 use Rattle.std.specs.Prelude.{◌≡◌, ◌≤◌, ◌^◌, ℕ}
+use Rattle.bpf_prune.specs.Spending.{Tally, unspent}
 use Rattle.bpf_decode.specs.Program.{Code, Begins}
 use Rattle.bpf_model.specs.Run.{Safe}
 use Rattle.bpf_absstate.specs.View.{entry_view}
 use Rattle.bpf_plain.specs.Clear.{IsClear}
 use Rattle.bpf_plain.specs.Walks.{IsPlain, HasWalk}
 use Rattle.bpf_rules.specs.declared.fault.Fault.TheVariants.{NoMemory}
+use Rattle.bpf_verifier.specs.Causes.{IsDue}
+use Rattle.bpf_verifier.specs.Spent.{IsSpent, IsMemoryOrPassed}
+use Rattle.bpf_verifier.specs.declared.limit.Limits.{Limits}
 use Rattle.bpf_verifier.specs.declared.refusal.Refusal.{Refusal}
 
 -- The program is safe within the budget, which is at most the limit; that of a plain program is at most the length of
@@ -21,3 +25,16 @@ pub record IsRefusal (program : Code) (limit : ℕ) (refusal : Refusal) : Type 0
   pub begins : Begins program.slots refusal.pc
   pub plain : limit ≡ 2 ^ 22 → IsPlain program.slots → refusal.fault ≡ NoMemory
   pub clear : IsClear program entry_view limit → refusal.fault ≡ NoMemory
+
+-- The same with a limit on work, too: such programs are also refused if they need more work than is allowed.
+pub record IsRefusalAfter (program : Code) (limit : ℕ) (work : Tally) (refusal : Refusal) : Type 0 where
+  pub begins : Begins program.slots refusal.pc
+  pub plain : limit ≡ 2 ^ 22 → IsPlain program.slots → IsMemoryOrPassed refusal.fault work
+  pub clear : IsClear program entry_view limit → IsMemoryOrPassed refusal.fault work
+
+-- A refusal within limits of states and of work, after the work that a tally counts.
+pub record IsRefusalWithin (program : Code) (limits : Limits) (refusal : Refusal) : Type 0 where
+  pub tally : Tally
+  pub spent : IsSpent limits.states (unspent limits.work) tally
+  pub after : IsRefusalAfter program limits.states tally refusal
+  pub due : IsDue program limits.states (unspent limits.work) tally refusal

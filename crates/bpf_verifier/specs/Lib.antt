@@ -1,4 +1,5 @@
 pub mod Admission
+pub mod Causes
 pub mod Clear
 pub mod Counting
 pub mod Folded
@@ -8,5 +9,6 @@ pub mod Limits
 pub mod Path
 pub mod Refusals
 pub mod Safety
+pub mod Spent
 pub mod Traced
 pub mod Walked

@@ -1,14 +1,17 @@
 //! Admits programs.
 
-ghost use Rattle.std.specs.Prelude.{◌≡◌, ◌^◌, IfOk, IfErr};
-ghost use Rattle.bpf_verifier.specs.Admission.{IsSafeBudget, IsRefusal};
+ghost use Rattle.std.specs.Prelude.{◌≡◌, ◌+◌, ◌≤◌, ◌^◌, IfOk, IfErr};
+ghost use Rattle.bpf_verifier.specs.Admission.{IsSafeBudget, IsRefusal, IsRefusalAfter, IsRefusalWithin};
+ghost use Rattle.bpf_verifier.specs.Causes.{IsDue};
+ghost use Rattle.bpf_verifier.specs.Spent.{IsSpent};
 
 use crate::exploration::find_budget;
-use crate::limit::StateLimit;
+use crate::limit::{Limits, StateLimit};
 use crate::refusal::Refusal;
 use bpf_decode::Program;
 use bpf_machine::Accepted;
 use bpf_plain::laws::plain_law;
+use bpf_prune::Work;
 use bpf_regions::Hook;
 use std::alloc::Global;
 
@@ -43,10 +46,55 @@ pub fn verify_within(
     ensures budget { IfOk result (λ accepted. IsSafeBudget program limit accepted.budget) }
     ensures refused { IfErr result (IsRefusal program limit) }
 {
+    limit.known();
+    let limits = Limits {
+        states: limit,
+        work: u64::MAX,
+    };
+    verify_limited(alloc, program, hook, limits)
+}
+
+/// Like `verify_within`, with a limit on work, too: a program that needs more is refused with 36.
+pub fn verify_limited(
+    alloc: Global,
+    program: Program,
+    hook: Hook,
+    limits: Limits,
+) -> Result<Accepted, Refusal>
+    ensures code { IfOk result (λ accepted. accepted.code ≡ program) }
+    ensures hook { IfOk result (λ accepted. accepted.hook ≡ hook) }
+    ensures budget { IfOk result (λ accepted. IsSafeBudget program limits.states accepted.budget) }
+    ensures refused { IfErr result (IsRefusalWithin program limits) }
+{
+    let mut work = Work::within(limits.work);
+    verify_counted(alloc, program, hook, limits.states, &mut work)
+}
+
+/// Like `verify_limited`, but `work` has the limit on work, and counts each unit before it is done; what was counted
+/// before stays. The states that are examined and the comparisons of a state with a finished one are together at most
+/// the units that are allowed.
+///
+/// Not counted are the states of the path that are made again, at most as many as are examined.
+pub fn verify_counted(
+    alloc: Global,
+    program: Program,
+    hook: Hook,
+    limit: StateLimit,
+    work: &mut Work,
+) -> Result<Accepted, Refusal>
+    ensures code { IfOk result (λ accepted. accepted.code ≡ program) }
+    ensures hook { IfOk result (λ accepted. accepted.hook ≡ hook) }
+    ensures budget { IfOk result (λ accepted. IsSafeBudget program limit accepted.budget) }
+    ensures refused { IfErr result (IsRefusalAfter program limit work.new) }
+    ensures due { IfErr result (IsDue program limit work.old work.new) }
+    ensures spent { IsSpent limit work.old work.new }
+    ensures together { work.new.examined + work.new.compared ≤ work.old.most }
+{
     program.whole();
     plain_law();
-    limit.known();
-    let budget = find_budget(alloc, &program, limit)?;
+    let found = find_budget(alloc, &program, limit, work);
+    work.known();
+    let budget = found?;
     let accepted = Accepted::new(alloc, program, hook, budget)?;
     Ok(accepted)
 }

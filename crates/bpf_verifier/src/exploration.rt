@@ -1,6 +1,6 @@
 //! The exploration, path by path.
 
-ghost use Rattle.std.specs.Prelude.{◌≡◌, ◌<◌, ◌≤◌, ◌+◌, ◌++◌, ◌∷◌, [], ◌^◌, ℕ, List, Option, Some, length, replicate, IfOk, IfErr, IfSome, OnOk};
+ghost use Rattle.std.specs.Prelude.{◌≡◌, ◌⊎◌, ◌<◌, ◌≤◌, ◌+◌, ◌*◌, ◌++◌, ◌∷◌, [], ◌^◌, ℕ, List, Option, Some, length, replicate, IfOk, IfErr, IfSome, OnOk, OnErr};
 ghost use Rattle.bpf_insn.specs.declared.insn.Insn.{Insn};
 ghost use Rattle.bpf_decode.specs.Program.{Begins, Code, IsTarget};
 ghost use Rattle.bpf_model.specs.Run.{Safe};
@@ -8,8 +8,12 @@ ghost use Rattle.bpf_model.specs.State.{Setting};
 ghost use Rattle.bpf_absstate.specs.View.{View, entry_view};
 ghost use Rattle.bpf_plain.specs.Clear.{IsClear};
 ghost use Rattle.bpf_plain.specs.Paths.{Reaches};
+ghost use Rattle.bpf_prune.specs.Covering.{Covers, kept_at};
+ghost use Rattle.bpf_prune.specs.Spending.{HasPassed, comparisons};
 ghost use Rattle.bpf_rules.specs.Covers.{IsSetting};
+ghost use Rattle.bpf_verifier.specs.Causes.{IsFaulty, IsDue};
 ghost use Rattle.bpf_verifier.specs.Counting.{weight};
+ghost use Rattle.bpf_verifier.specs.Spent.{IsSpent, IsMemoryOrPassed};
 ghost use Rattle.bpf_verifier.specs.Found.{IsFresh, IsCountedSoFar, IsPaidSoFar, IsBegunSoFar, IsSafeSoFar, IsSafeAfter, IsTracedSoFar, IsTracedAfter, IsWalkedSoFar, IsWalkedAfter, IsClearSoFar, IsClearAfter};
 ghost use Rattle.bpf_verifier.specs.Path.{IsBegun, IsKept, StandsIn};
 ghost use Rattle.bpf_verifier.specs.Safety.{AllSafe};
@@ -26,7 +30,7 @@ use bpf_absstate::laws::{entry_law, inclusion_law};
 use bpf_decode::Program;
 use bpf_model::laws::within_law;
 use bpf_plain::laws::{standing_law, walking_law};
-use bpf_prune::{Entry, Finished};
+use bpf_prune::{Entry, Finished, TooMuchWork, Work};
 use bpf_rules::{Fault, Ways};
 use std::alloc::{AllocError, Global};
 
@@ -121,7 +125,7 @@ impl Exploration {
         requires counted { IsCountedSoFar self.old }
         requires paid { done + weight self.old.path self.old.after ≤ self.old.visits }
         ensures traced { IfOk result (IsTracedAfter program.now self.new) }
-        ensures visits { IfOk result (λ u. self.new.visits ≡ self.old.visits) }
+        ensures visits { self.new.visits ≡ self.old.visits }
         ensures counted { IfOk result (λ u. IsCountedSoFar self.new) }
         ensures paid { IfOk result (IsPaidSoFar self.new) }
         ensures begun { IfOk result
@@ -161,16 +165,23 @@ impl Exploration {
         Ok(Unwound::Over(done + self.after))
     }
 
-    /// Examines a state, unless a finished one includes it. Its first successor is explored next; without any it is
-    /// finished.
-    fn visit(&mut self, alloc: Global, program: &Program, state: AbsState) -> Result<Unwound, Fault>
+    /// Examines a state, unless a finished one includes it, whose budget is given. Its first successor is explored
+    /// next; without any it is finished.
+    fn visit(
+        &mut self,
+        alloc: Global,
+        program: &Program,
+        state: AbsState,
+        covering: Option<u32>,
+    ) -> Result<Unwound, Fault>
         requires room { self.old.visits < 2 ^ 22 }
+        requires covers { IfSome covering (Covers (kept_at self.old.finished state.pc) state) }
         requires traced { IsTracedSoFar program.now state self.old }
         requires counted { IsCountedSoFar self.old }
         requires paid { weight self.old.path self.old.after ≤ self.old.visits }
         requires stands { StandsIn program.now.slots state }
         ensures traced { IfOk result (IsTracedAfter program.now self.new) }
-        ensures visits { IfOk result (λ u. self.new.visits ≡ self.old.visits + 1) }
+        ensures visits { self.new.visits ≡ self.old.visits + 1 }
         ensures counted { IfOk result (λ u. IsCountedSoFar self.new) }
         ensures paid { IfOk result (IsPaidSoFar self.new) }
         ensures begun { IfOk result
@@ -187,16 +198,16 @@ impl Exploration {
             (λ u. (l m n : ℕ) → IsClear program.now state l → IsClearSoFar program.now m self.old →
             l + m ≤ n + 1 → IsClearAfter program.now n self.new u) }
         ensures refuses { IfErr result
-            (λ e. (n : ℕ) → IsClear program.now state n → e ≡ Fault.NoMemory) }
+            (λ e. (e ≡ Fault.NoMemory) ⊎ IsFaulty program.now state e) }
     {
         program.whole();
         examination_law();
         inclusion_law();
         standing_law();
         walking_law();
-        self.observer.examines(&state, self.path.len(), self.after)?;
         self.visits += 1;
-        if let Some(budget) = self.finished.covering(&state) {
+        self.observer.examines(&state, self.path.len(), self.after)?;
+        if let Some(budget) = covering {
             let unwound = self.unwind(program, budget)?;
             return Ok(unwound);
         }
@@ -225,13 +236,33 @@ impl Exploration {
     }
 }
 
-/// Explores each path of a program, within a limit of states, and returns a budget within which it is safe. The
-/// observer is told of each step.
+/// Counts a state before it is examined, and looks for a finished one that includes it. Its budget, if there is one.
+fn look(finished: &Finished, state: &AbsState, work: &mut Work) -> Result<Option<u32>, TooMuchWork>
+    ensures covers { IfOk result
+        (λ budget. IfSome budget (Covers (kept_at finished.now state.now.pc) state.now)) }
+    ensures most { work.new.most ≡ work.old.most }
+    ensures examined { OnOk result (work.new.examined ≡ work.old.examined + 1) }
+    ensures compared { OnOk result
+        (work.new.compared
+        ≡ work.old.compared + comparisons (kept_at finished.now state.now.pc) state.now) }
+    ensures least { work.old.examined ≤ work.new.examined }
+    ensures greatest { work.new.examined ≤ work.old.examined + 1 }
+    ensures few { work.new.units ≤ work.old.units + 36979 }
+    ensures passed { OnErr result (HasPassed work.new) }
+{
+    work.examine(state)?;
+    let covering = finished.covering(state, work)?;
+    Ok(covering)
+}
+
+/// Explores each path of a program, within a limit of states and of work, and returns a budget within which it is safe.
+/// The observer is told of each step.
 pub(crate) fn observed_budget(
     alloc: Global,
     program: &Program,
     exploration: &mut Exploration,
     limit: StateLimit,
+    work: &mut Work,
 ) -> Result<u32, Refusal>
     requires fresh { IsFresh program.now exploration.old }
     ensures safe { IfOk result (Safe program.now.slots program.now.shapes) }
@@ -239,8 +270,10 @@ pub(crate) fn observed_budget(
     ensures walk { IfOk result
         (λ budget. IsPlain program.now.slots → HasWalk program.now.slots budget) }
     ensures clear { IfErr result
-        (λ e. IsClear program.now entry_view limit → e.fault ≡ Fault.NoMemory) }
+        (λ e. IsClear program.now entry_view limit → IsMemoryOrPassed e.fault work.new) }
     ensures begins { IfErr result (λ e. Begins program.now.slots e.pc) }
+    ensures due { IfErr result (IsDue program.now limit work.old work.new) }
+    ensures spent { IsSpent limit work.old work.new }
 {
     program.whole();
     program.shapes().whole();
@@ -252,16 +285,16 @@ pub(crate) fn observed_budget(
     let mut current = AbsState::entry(alloc)?;
     'visit: while exploration.visits < most {
         let pc = current.pc();
-        match exploration.visit(alloc, program, current) {
+        let Ok(covering) = look(&exploration.finished, &current, work) else {
+            return Err(Refusal::past_limits(pc));
+        };
+        match exploration.visit(alloc, program, current, covering) {
             Ok(Unwound::Onward(next)) => current = next,
             Ok(Unwound::Over(budget)) => return Ok(budget),
             Err(fault) => return Err(Refusal { fault, pc }),
         }
     }
-    Err(Refusal {
-        fault: Fault::TooManyVisits,
-        pc: current.pc(),
-    })
+    Err(Refusal::past_limits(current.pc()))
 }
 
 /// Like `observed_budget`, without an observer.
@@ -269,17 +302,20 @@ pub(crate) fn find_budget(
     alloc: Global,
     program: &Program,
     limit: StateLimit,
+    work: &mut Work,
 ) -> Result<u32, Refusal>
     ensures safe { IfOk result (Safe program.now.slots program.now.shapes) }
     ensures small { IfOk result (λ budget. budget ≤ limit) }
     ensures walk { IfOk result
         (λ budget. IsPlain program.now.slots → HasWalk program.now.slots budget) }
     ensures clear { IfErr result
-        (λ e. IsClear program.now entry_view limit → e.fault ≡ Fault.NoMemory) }
+        (λ e. IsClear program.now entry_view limit → IsMemoryOrPassed e.fault work.new) }
     ensures begins { IfErr result (λ e. Begins program.now.slots e.pc) }
+    ensures due { IfErr result (IsDue program.now limit work.old work.new) }
+    ensures spent { IsSpent limit work.old work.new }
 {
     program.whole();
     standing_law();
     let mut exploration = Exploration::new(alloc, program, Observer::off())?;
-    observed_budget(alloc, program, &mut exploration, limit)
+    observed_budget(alloc, program, &mut exploration, limit, work)
 }

@@ -1,4 +1,4 @@
-//! The limit on examined states.
+//! The limits on examined states and on work.
 
 ghost use Rattle.std.specs.Prelude.{◌≡◌, ◌↔◌, ℕ, IsSome, IfSome};
 ghost use Rattle.bpf_verifier.specs.Limits.{IsStateLimit, nearest};
@@ -61,4 +61,13 @@ impl StateLimit {
     pub fn known(self)
         ensures { IsStateLimit self }
     {}
+}
+
+/// The most that an exploration does. A program that needs more is refused with 36.
+#[derive(Clone, Copy)]
+pub struct Limits {
+    /// The most states that it examines.
+    pub states: StateLimit,
+    /// The most units of work, as [`bpf_prune::work`] counts them. No exploration needs 2^38.
+    pub work: u64,
 }

@@ -1,16 +1,16 @@
 //! The states that an exploration finishes.
 
 ghost use Rattle.std.specs.Prelude.{◌≡◌, ◌^◌, ℕ, IfOk, IfErr, OnOk};
-ghost use Rattle.bpf_verifier.specs.Admission.{IsSafeBudget, IsRefusal};
+ghost use Rattle.bpf_verifier.specs.Admission.{IsSafeBudget, IsRefusal, IsRefusalWithin};
 
 use crate::exploration::{Exploration, observed_budget};
-use crate::limit::StateLimit;
+use crate::limit::{Limits, StateLimit};
 use crate::observer::{Heard, Observer};
 use crate::refusal::Refusal;
 use bpf_absstate::AbsState;
 use bpf_decode::Program;
 use bpf_plain::laws::{plain_law, standing_law};
-use bpf_prune::Entry;
+use bpf_prune::{Entry, Work};
 use bpf_regions::Hook;
 use std::alloc::{AllocError, Global};
 
@@ -34,11 +34,29 @@ pub fn explore_within(
     ensures budget { OnOk result ((b : ℕ) × IsSafeBudget program.now limit b) }
     ensures refused { IfErr result (IsRefusal program.now limit) }
 {
+    limit.known();
+    let limits = Limits {
+        states: limit,
+        work: u64::MAX,
+    };
+    explore_limited(alloc, program, limits)
+}
+
+/// Like `explore_within`, with a limit on work as for `verify_limited`.
+pub fn explore_limited(
+    alloc: Global,
+    program: &Program,
+    limits: Limits,
+) -> Result<Vec<Entry>, Refusal>
+    ensures budget { OnOk result ((b : ℕ) × IsSafeBudget program.now limits.states b) }
+    ensures refused { IfErr result (IsRefusalWithin program.now limits) }
+{
     program.whole();
     plain_law();
     standing_law();
+    let mut work = Work::within(limits.work);
     let mut exploration = Exploration::new(alloc, program, Observer::listening(alloc))?;
-    let _budget = observed_budget(alloc, program, &mut exploration, limit)?;
+    let _budget = observed_budget(alloc, program, &mut exploration, limits.states, &mut work)?;
     match exploration.into_observer().into_heard() {
         Some(heard) => Ok(heard.finished),
         None => Ok(Vec::new(alloc)),
@@ -67,10 +85,29 @@ pub fn explain_within(
     ensures budget { IfOk result (λ x. IfOk x.verdict (IsSafeBudget program.now limit)) }
     ensures refused { IfOk result (λ x. IfErr x.verdict (IsRefusal program.now limit)) }
 {
+    limit.known();
+    let limits = Limits {
+        states: limit,
+        work: u64::MAX,
+    };
+    explain_limited(alloc, program, limits)
+}
+
+/// What `verify_limited` finds of a program, and how. The contract describes only the verdict.
+pub fn explain_limited(
+    alloc: Global,
+    program: &Program,
+    limits: Limits,
+) -> Result<Explanation, AllocError>
+    ensures budget { IfOk result (λ x. IfOk x.verdict (IsSafeBudget program.now limits.states)) }
+    ensures refused { IfOk result
+        (λ x. IfErr x.verdict (IsRefusalWithin program.now limits)) }
+{
     program.whole();
     plain_law();
+    let mut work = Work::within(limits.work);
     let mut exploration = Exploration::new(alloc, program, Observer::listening(alloc))?;
-    let verdict = observed_budget(alloc, program, &mut exploration, limit);
+    let verdict = observed_budget(alloc, program, &mut exploration, limits.states, &mut work);
     Ok(explained(alloc, verdict, exploration.into_observer()))
 }
 

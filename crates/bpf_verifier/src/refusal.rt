@@ -2,6 +2,7 @@
 
 ghost use Rattle.std.specs.Prelude.{◌≡◌};
 ghost use Rattle.bpf_rules.specs.Faults.{number_of};
+ghost use Rattle.bpf_rules.specs.declared.fault.Fault.TheVariants.{TooManyVisits};
 
 use bpf_rules::Fault;
 use std::alloc::AllocError;
@@ -20,6 +21,16 @@ impl Refusal {
         ensures is { result ≡ number_of self.fault }
     {
         self.fault.number()
+    }
+
+    /// A limit is reached at this slot, and more is needed: 36.
+    pub(crate) fn past_limits(pc: usize) -> Refusal
+        ensures is { result ≡ record { fault = TooManyVisits; pc = pc } }
+    {
+        Refusal {
+            fault: Fault::TooManyVisits,
+            pc,
+        }
     }
 }
 

@@ -5,7 +5,7 @@ use bpf_absnum::AbsNum;
 use bpf_absstate::AbsState;
 use bpf_absval::AbsVal;
 use bpf_insn::Reg;
-use bpf_prune::{Entry, Finished};
+use bpf_prune::{Entry, Finished, Work};
 use std::alloc::Global;
 use std::process::Abort;
 
@@ -47,7 +47,9 @@ fn covering(
     value: AbsVal,
 ) -> Option<u32> {
     let state = state(rt, alloc, pc, value);
-    finished.covering(&state)
+    finished
+        .covering(&state, &mut Work::within(u64::MAX))
+        .expect(rt, "work")
 }
 
 #[test]

@@ -1,21 +1,5 @@
-use Rattle.std.proofs.Common.{sym, subst}
-use Rattle.std.proofs.lemmas.Result.{err_from_is_err_and}
-use Rattle.bpf_verifier.specs.Admission.{IsSafeBudget}
-use Rattle.bpf_verifier.proofs.Admitting.{refusal, starved}
+use Rattle.bpf_verifier.proofs.Admitting.{exacts, ample_most}
 use Rattle.bpf_verifier.proofs.admission.verify_within.Goals as goal
 
-pub returns-in_err-budget-clause-refused : goal.returns-in_err-budget-clause-refused
-returns-in_err-budget-clause-refused c =
-    let p = err_from_is_err_and c.from_residual.result c.from_residual.ensures.1 in
-    rw (p.1, p.2)
-    (refusal c.args.program c.args.limit _ (c.plain_law.ensures.clear c.args.program c.whole.ensures.is) c.in_err-budget.ensures.begins c.in_err-budget.ensures.clear)
-
-pub returns-in_err-accepted-clause-refused : goal.returns-in_err-accepted-clause-refused
-returns-in_err-accepted-clause-refused c =
-    let p = err_from_is_err_and c.from_residual-in_err-accepted.result c.from_residual-in_err-accepted.ensures.1 in
-    rw (p.1, p.2) (starved c.args.program c.args.limit c.whole.ensures.is.first)
-
-pub returns-clause-budget : goal.returns-clause-budget
-returns-clause-budget c =
-    let found = c.in_ok-budget.ensures in
-    subst (IsSafeBudget c.args.program c.args.limit) (sym c.in_ok-accepted.ensures.budget) (record { safe = found.safe; small = found.small; walk = found.walk })
+pub returns-clause-refused : goal.returns-clause-refused
+returns-clause-refused c = exacts c.args.program _ _ (ample_most c.args.limit c.known.ensures) c.verify_limited.ensures.refused

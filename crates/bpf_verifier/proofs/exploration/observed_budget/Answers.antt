@@ -1,9 +1,16 @@
-use Rattle.std.proofs.Common.{IfSome, ◌≡◌, ◌≤◌, ◌-◌, ◌+◌, [], ℕ, List, refl, sym, subst, arith}
+use Rattle.std.proofs.Common.{IfSome, ◌≡◌, ◌≤◌, ◌-◌, ◌+◌, [], ℕ, List, ◌⊎◌, inl, inr, refl, sym, subst, arith}
 use Rattle.std.specs.List.{All}
 use Rattle.std.proofs.lemmas.List.Elements.{All-nil}
 use Rattle.bpf_model.specs.Run.{setting}
 use Rattle.bpf_model.specs.State.{entry}
-use Rattle.bpf_absstate.specs.View.{entry_view}
+use Rattle.bpf_absstate.specs.View.{View, entry_view}
+use Rattle.bpf_decode.specs.Program.{Code}
+use Rattle.bpf_plain.specs.Clear.{IsClear}
+use Rattle.bpf_prune.specs.Spending.{Tally}
+use Rattle.bpf_rules.specs.declared.fault.Fault.{Fault}
+use Rattle.bpf_rules.specs.declared.fault.Fault.TheVariants.{NoMemory}
+use Rattle.bpf_verifier.specs.Causes.{IsFaulty, IsDue, ByMemory, ByRule}
+use Rattle.bpf_verifier.specs.declared.refusal.Refusal.{Refusal}
 use Rattle.bpf_prune.specs.declared.kept.Entry.{Entry}
 use Rattle.bpf_verifier.specs.declared.frame.Frame.{Frame}
 use Rattle.bpf_regions.specs.Maps.{AreShapes}
@@ -18,7 +25,7 @@ use Rattle.bpf_verifier.proofs.Counts.{weight_empty}
 use Rattle.bpf_verifier.proofs.Explored as explored
 use Rattle.bpf_verifier.proofs.Tracing.{leads_none}
 use Rattle.bpf_verifier.proofs.Walking as walking
-use Rattle.bpf_verifier.proofs.Clears.{AreClear-none, clear_some}
+use Rattle.bpf_verifier.proofs.Clears.{AreClear-none, clear_some, not_refused}
 use Rattle.bpf_verifier.proofs.Paths.{Linked-empty}
 use Rattle.bpf_verifier.proofs.Tables.{none}
 use Rattle.bpf_verifier.proofs.exploration.observed_budget.Goals as goal
@@ -44,6 +51,10 @@ visit-init c =
       walks = λ plain. rw same (Linked-empty (LeadsBySlots slots) (IsWalked slots) fs after entry_view empty none_after (walking.stays slots entry_view));
       walked = λ plain. none (λ e. Reaches slots e.state.pc e.budget) table _ c.requires.fresh.finished;
       clear = λ clear. (c.args.limit, 0, rw same clear, AreClear-none c.args.program.now fs empty, omega (arith, c.requires.fresh.visits));
+      states = omega (arith, c.requires.fresh.visits);
+      most = refl;
+      examined = omega (arith, c.requires.fresh.visits);
+      units = omega (arith, c.requires.fresh.visits);
     }
 
 pub visit-preserved : goal.visit-preserved
@@ -64,6 +75,10 @@ visit-preserved c =
           let left : ℕ = c.args.limit - (c.visit.exploration.visits + 1) in
           let r = rw c.in-Ok-Onward.field-0-is at c.in-Ok-Onward.ensures.clear k.0 k.1 left k.2 k.3 (omega (arith, k.4, c.visit-test.true, c.states-most.ensures.value)) in
           (r.0, r.1, r.2, r.3, omega (arith, r.4, c.in-Ok-Onward.ensures.visits, c.visit-test.true, c.states-most.ensures.value));
+      states = omega (arith, c.visit-test.true, c.states-most.ensures.value, c.in-Ok-Onward.ensures.visits);
+      most = omega (arith, h.most, c.in-Ok.ensures.most);
+      examined = omega (arith, h.examined, c.in-Ok.ensures.examined, c.in-Ok-Onward.ensures.visits);
+      units = omega (arith, h.units, c.in-Ok.ensures.few, c.in-Ok-Onward.ensures.visits);
     }
 
 pub returns-in-Ok-Over-clause-safe : goal.returns-in-Ok-Over-clause-safe
@@ -85,3 +100,22 @@ returns-clause-clear c = λ clear.
     let k = c.visit.invariant.clear clear in
     let some = clear_some c.args.program.now c.visit.current k.0 k.2 in
     absurd (omega (arith, some, k.4, c.visit-test.false, c.states-most.ensures.value))
+
+-- a clear state has no fault
+only_memory : (c : Code) (a : View) (n : ℕ) (e : Fault) → IsClear c a n → (e ≡ NoMemory) ⊎ IsFaulty c a e → e ≡ NoMemory
+only_memory c a n e clear (inl memory) = memory
+only_memory c a n e clear (inr h) = absurd (not_refused c a n h.insn e h.at h.found clear)
+
+caused : (c : Code) (states : ℕ) (old new : Tally) (a : View) (e : Refusal) → a.pc ≡ e.pc → (e.fault ≡ NoMemory) ⊎ IsFaulty c a e.fault → IsDue c states old new e
+caused c states old new a e at (inl memory) = ByMemory memory
+caused c states old new a e at (inr h) = ByRule a at h
+
+pub returns-in-Err-clause-clear : goal.returns-in-Err-clause-clear
+returns-in-Err-clause-clear c = λ clear.
+    let k = c.visit.invariant.clear clear in
+    inl (only_memory c.args.program.now c.visit.current k.0 _ k.2 c.in-Err.ensures.refuses)
+
+pub returns-in-Err-clause-due : goal.returns-in-Err-clause-due
+returns-in-Err-clause-due c =
+    let e : Refusal = record { fault = c.in-Err.fault; pc = c.pc-pc.result } in
+    caused c.args.program.now c.args.limit c.args.work.now c.look.new.work c.visit.current e (sym c.pc-pc.ensures.is) c.in-Err.ensures.refuses

@@ -1,4 +1,4 @@
-use Rattle.std.proofs.Common.{◌≤◌, ◌-◌, ◌+◌, ℕ}
+use Rattle.std.proofs.Common.{◌≡◌, ◌≤◌, ◌-◌, ◌+◌, ◌*◌, ℕ}
 use Rattle.bpf_model.specs.State.{Setting}
 use Rattle.bpf_absstate.specs.View.{entry_view}
 use Rattle.bpf_plain.specs.Clear.{IsClear}
@@ -25,6 +25,10 @@ invariant-visit l = record {
   walked : IsPlain l.program.slots → AreWalked l.program.slots l.exploration.finished;
   clear : IsClear l.program entry_view l.fn.limit →
       (m n : ℕ) × IsClear l.program l.current m × AreClear l.program l.exploration.path n × (l.exploration.visits + (m + n) ≤ l.fn.limit);
+  states : l.exploration.visits ≤ l.fn.limit;
+  most : l.work.most ≡ l.initial.work.most;
+  examined : l.work.examined ≡ l.initial.work.examined + l.exploration.visits;
+  units : l.work.units ≤ l.initial.work.units + 36979 * l.exploration.visits;
 }
 
 abbrev pub decreases-visit : goal.decreases-visit

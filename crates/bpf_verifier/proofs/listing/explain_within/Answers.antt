@@ -1,13 +1,5 @@
-use Rattle.bpf_verifier.proofs.Admitting.{budgets, refusals}
+use Rattle.bpf_verifier.proofs.Admitting.{explains, ample_most}
 use Rattle.bpf_verifier.proofs.listing.explain_within.Goals as goal
 
-pub returns-clause-budget : goal.returns-clause-budget
-returns-clause-budget c =
-    let v = c.observed_budget-verdict in
-    rw c.explained.ensures.verdict (budgets c.args.program.now c.args.limit v.result v.ensures.safe v.ensures.small v.ensures.walk)
-
 pub returns-clause-refused : goal.returns-clause-refused
-returns-clause-refused c =
-    let v = c.observed_budget-verdict in
-    rw c.explained.ensures.verdict
-    (refusals c.args.program.now c.args.limit v.result (c.plain_law.ensures.clear c.args.program.now c.whole.ensures.is) v.ensures.begins v.ensures.clear)
+returns-clause-refused c = explains c.args.program.now _ _ (ample_most c.args.limit c.known.ensures) c.explain_limited.ensures.refused

@@ -12,7 +12,7 @@ use Rattle.bpf_verifier.specs.Safety.{AllSafe, LeadsSafely, IsExplored}
 use Rattle.bpf_plain.specs.Walks.{Follows, IsPlain}
 use Rattle.bpf_verifier.specs.Traced.{HasWays, IsOpened}
 use Rattle.bpf_verifier.specs.Walked.{LeadsBySlots, IsWalked}
-use Rattle.bpf_verifier.proofs.Clears.{AreClear-le, AreClear-push, clear_some, opened, not_refused}
+use Rattle.bpf_verifier.proofs.Clears.{AreClear-le, AreClear-push, clear_some, opened}
 use Rattle.bpf_verifier.proofs.Counts.{Counted-push, Counted-on, Counted-more, Counted-kept, after_le, paid_on, weight_push}
 use Rattle.bpf_verifier.proofs.Covered.{covered_safe, covered_walked}
 use Rattle.bpf_verifier.proofs.Explored.{leaf_done, opens_one, opens_two}
@@ -30,11 +30,11 @@ the_state (Some x) a P h = h.0
 
 pub returns-in-Some-clause-safe : goal.returns-in-Some-clause-safe
 returns-in-Some-clause-safe c = λ p start set found.
-    c.in_ok-unwound.ensures.safe p start c.args.state found (covered_safe c.inclusion_law.ensures.keeps p c.args.self.now.finished c.args.state c.in-Some.budget found.1 c.in-Some.ensures.covers)
+    c.in_ok-unwound.ensures.safe p start c.args.state found (covered_safe c.inclusion_law.ensures.keeps p c.args.self.now.finished c.args.state c.in-Some.budget found.1 (rw c.in-Some.is at c.requires.covers))
 
 pub returns-in-Some-clause-walked : goal.returns-in-Some-clause-walked
 returns-in-Some-clause-walked c = λ start plain found.
-    c.in_ok-unwound.ensures.walked c.args.program.now.slots start c.args.state found (covered_walked c.args.program.now.slots c.args.self.now.finished c.args.state c.in-Some.budget found.1 c.in-Some.ensures.covers)
+    c.in_ok-unwound.ensures.walked c.args.program.now.slots start c.args.state found (covered_walked c.args.program.now.slots c.args.self.now.finished c.args.state c.in-Some.budget found.1 (rw c.in-Some.is at c.requires.covers))
 
 pub returns-in-Some-clause-clear : goal.returns-in-Some-clause-clear
 returns-in-Some-clause-clear c = λ l m n state others le.
@@ -44,11 +44,11 @@ returns-in-Some-clause-clear c = λ l m n state others le.
 pub returns-in_err-ways-clause-refuses : goal.returns-in_err-ways-clause-refuses
 returns-in_err-ways-clause-refuses c =
     let p = err_from_is_err_and c.from_residual-in_err-ways.result c.from_residual-in_err-ways.ensures.1 in
-    rw (p.1, p.2) (λ n clear.
-    let b : Begins c.args.program.now.slots c.args.state.pc = c.requires.stands.0.begins in
+    rw (p.1, p.2)
+    (let b : Begins c.args.program.now.slots c.args.state.pc = c.requires.stands.0.begins in
     elim (c.in_err-ways.ensures.refuses b.0 b.1) [
-      | inl memory ↦ memory
-      | inr fault ↦ absurd (not_refused c.args.program.now c.args.state n b.0 c.in_err-ways.field-0.0 b.1 fault clear)
+      | inl memory ↦ inl memory
+      | inr fault ↦ inr (record { insn = b.0; at = b.1; found = fault })
     ])
 
 pub unwind-requires-in-Nowhere-clause-counted : goal.unwind-requires-in-Nowhere-clause-counted
