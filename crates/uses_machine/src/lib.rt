@@ -22,6 +22,8 @@ mod hostile;
 #[cfg(test)]
 mod making;
 #[cfg(test)]
+mod pairs;
+#[cfg(test)]
 mod policies;
 #[cfg(test)]
 mod probed;
