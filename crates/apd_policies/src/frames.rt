@@ -7,4 +7,4 @@
 mod lines;
 mod script;
 
-pub use script::script_text;
+pub use script::{script_text, start, unit};

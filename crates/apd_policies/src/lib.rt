@@ -7,5 +7,5 @@
 mod frames;
 mod graph;
 
-pub use frames::script_text;
+pub use frames::{script_text, start, unit};
 pub use graph::graph_text;

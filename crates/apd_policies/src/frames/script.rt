@@ -10,7 +10,7 @@ use capture::Packet;
 use std::alloc::{AllocError, Global};
 
 /// The first known time, in nanoseconds; 0 if there is none.
-fn start(packets: &[Packet<'_>]) -> u64
+pub fn start(packets: &[Packet<'_>]) -> u64
     ensures is { result ≡ start_of (map seen_of packets.now) }
 {
     for packet in packets {
@@ -22,7 +22,7 @@ fn start(packets: &[Packet<'_>]) -> u64
 }
 
 /// The unit of 1024 microseconds after the start in which a time lies; 0 if it is earlier or unknown.
-fn unit(start: u64, time: Option<u64>) -> u64
+pub fn unit(start: u64, time: Option<u64>) -> u64
     ensures is { result ≡ unit_of start time }
 {
     match time {

@@ -1,0 +1,56 @@
+-- What one event leads to, by the verdicts of programs.
+use Rattle.std.proofs.Common.{◌≡◌, ℕ, Option, Some, None, List, [], ◌∷◌, suc, length, refl, ap, subst, Bor, Result, Ok, Err, IfOk}
+use Rattle.std.specs.Option.{option_map}
+use Rattle.std.specs.declared.alloc.AllocError.{AllocError}
+use Rattle.bpf_helpers.specs.declared.worker.WorkerView.{WorkerView}
+use Rattle.bpf_helpers.specs.HookPorts.{given_by}
+use Rattle.ap_model.specs.declared.event.Event.{Event}
+use Rattle.ap_model.specs.declared.event.Out.{Out}
+use Rattle.ap_model.specs.Asks.{Answered}
+use Rattle.ap_model.specs.AccessPoint.{Turn, AreTurns, no_event, refused, at_its_shard, ticked, shard_of, asked_of}
+use Rattle.ap_core.specs.declared.shard.Shard.{Shard}
+use Rattle.ap_core.specs.AccessPoints.{readings_of, RunsAll}
+use Rattle.program_judge.specs.Programs.{Programs}
+use Rattle.apd_eval.specs.Rulings.{GivesRuling}
+use Rattle.apd_eval.specs.Witnesses.{Witnesses, heard_by}
+use Rattle.apd_eval.specs.Leading.{IsGiven, Leads}
+use Rattle.apd_eval.specs.declared.handling.Handled.{Handled}
+use Rattle.apd_eval.specs.declared.ruling.Ruling.{Ruling}
+use Rattle.apd_eval.specs.declared.tried.Policy.{Policy}
+use Rattle.apd_eval.specs.declared.witness.Witness.{Witness}
+use Rattle.apd_eval.proofs.Kept.{given}
+
+pub as_many : {es : List Event} {rs : List (Option (List Out))} {ts : List Turn} → AreTurns es rs ts → length rs ≡ length es
+as_many no_event = refl
+as_many (refused e es rs ts t) = ap suc (as_many t)
+as_many (at_its_shard e s es rs ts f t) = ap suc (as_many t)
+as_many (ticked n outs es rs ts t) = ap suc (as_many t)
+
+module _ (p : Policy) (e : Event) (shards shards' : List Shard) (j k : Witness) (v : WorkerView) where
+  pub led : (result : Option (List Out)) (last : Option Ruling) → RunsAll Witnesses shards (e ∷ []) j (result ∷ []) shards' k → last ≡ k.last
+      → j.programs ≡ p.programs → j.view ≡ v → ((s : ℕ) → shard_of e ≡ Some s → IsGiven p.maps.now (readings_of shards s) (given_by v)) → j.last ≡ None
+      → Leads p e result last shards j.state.now shards' k.state.now
+  led result last ran is same viewed reads unasked =
+      let run = ran.leads in
+      let asks = asked_of run.turns in
+      let base = given j k asks run.listed in
+      let seen = subst (λ (w : WorkerView). Answered (GivesRuling (given_by w) j.programs.now) (heard_by j) asks (heard_by k)) viewed base in
+      let judged = subst (λ (b : Bor Programs). Answered (GivesRuling (given_by v) b.now) (heard_by j) asks (heard_by k)) same seen in
+      record {
+        given = given_by v;
+        is_given = reads;
+        leads = record {
+          turns = run.turns;
+          are = run.are;
+          run = run.run;
+          listed = rw is (subst (λ (l : Option Ruling). Answered (GivesRuling (given_by v) p.programs.now) (record { held = j.state.now; last = l }) asks (heard_by k)) unasked judged);
+        };
+        rules = ran.rules;
+      }
+
+  -- the same of an event that may be refused
+  pub all_led : (r : Result Handled AllocError) → IfOk r (λ h. RunsAll Witnesses shards (e ∷ []) j (option_map (λ outs. outs.items) h.outs ∷ []) shards' k) → IfOk r (λ h. h.last ≡ k.last)
+      → j.programs ≡ p.programs → j.view ≡ v → ((s : ℕ) → shard_of e ≡ Some s → IsGiven p.maps.now (readings_of shards s) (given_by v)) → j.last ≡ None
+      → IfOk r (λ h. Leads p e (option_map (λ outs. outs.items) h.outs) h.last shards j.state.now shards' k.state.now)
+  all_led (Ok h) ran is same viewed reads unasked = led (option_map (λ outs. outs.items) h.outs) h.last ran is same viewed reads unasked
+  all_led (Err error) ran is same viewed reads unasked = tt

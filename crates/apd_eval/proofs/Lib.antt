@@ -1,0 +1,5 @@
+mod Following
+mod Kept
+mod Led
+mod Rows
+mod Tabled

@@ -1,0 +1,35 @@
+-- What an event leads to at an access point whose programs are tried.
+use Rattle.std.specs.Prelude.{◌≡◌, ℕ, List, [], ◌∷◌, Option, Some, None}
+use Rattle.bpf_helpers.specs.Tables.{Tables}
+use Rattle.bpf_helpers.specs.Hooked.{Given, Held}
+use Rattle.ap_model.specs.declared.event.Event.{Event}
+use Rattle.ap_model.specs.declared.event.Out.{Out}
+use Rattle.ap_model.specs.Readings.{Readings}
+use Rattle.ap_model.specs.Stations.{AreAssociated}
+use Rattle.ap_model.specs.AccessPoint.{EventsLead, shard_of}
+use Rattle.ap_core.specs.declared.shard.Shard.{Shard}
+use Rattle.ap_core.specs.AccessPoints.{rules_of, readings_of}
+use Rattle.apd_eval.specs.Rulings.{GivesRuling}
+use Rattle.apd_eval.specs.declared.ruling.Ruling.{Ruling}
+use Rattle.apd_eval.specs.declared.tried.Policy.{Policy}
+
+-- What programs read: the tables of the maps, and, of a shard before the event, the clock and the number of associated
+-- stations.
+pub record IsGiven (maps : List Tables) (r : Readings) (g : Given) : Type 0 where
+  pub tables : g.maps ≡ maps
+  pub worker : g.worker ≡ 0
+  pub clock : g.clock ≡ r.clock
+  pub stations : AreAssociated r.standing g.stations
+
+-- An event leads from these shards and seats to those, with this result, by the link's relation, whose verdicts are
+-- those of the programs; `last` is the last query, if there was one.
+pub record Leads (p : Policy) (e : Event) (result : Option (List Out)) (last : Option Ruling) (shards : List Shard) (h : Held) (shards' : List Shard) (h' : Held) : Type 0 where
+  pub given : Given
+  pub is_given : (s : ℕ) → shard_of e ≡ Some s → IsGiven p.maps.now (readings_of shards s) given
+  pub leads : EventsLead (GivesRuling given p.programs.now) (rules_of shards) (readings_of shards) (e ∷ [])
+      (record { held = h; last = None }) (result ∷ []) (readings_of shards') (record { held = h'; last = last })
+  pub rules : (s : ℕ) → rules_of shards' s ≡ rules_of shards s
+
+-- the same of an event that isn't refused
+abbrev pub Happens : Policy → Event → Option Ruling → List Shard → Held → List Shard → Held → Type 0
+Happens p e last shards h shards' h' = (outs : List Out) × Leads p e (Some outs) last shards h shards' h'
