@@ -22,6 +22,10 @@ pub use batch::{Batch, MOST_BYTES, MalformedLine, begins_with_quit, read_batch};
 pub use command::{Command, MapWord, Numbered};
 pub use fault::ScriptFault;
 pub use hex_text::HexText;
+pub use line::{begins_comment, cut_words, has_forbidden, next_word};
 pub use question::{NumberedQuestion, Question};
-pub use read::read_script;
-pub use why::{Form, LineFault, OperandFault, line_fault, usages};
+pub use read::{first_line, read_script};
+pub use why::{
+    Form, LineFault, OperandFault, Shown, is_near, line_at, line_fault, text_fault, usages,
+};
+pub use words::{hook_named, number, number_below};

@@ -28,7 +28,7 @@ fn cut_at_space(text: &str) -> (&str, &str)
 
 /// The first word of a text, and the rest.
 #[tactic(auto, using(crate::proofs::Parts::empty, crate::proofs::Parts::some_word, crate::proofs::Parts::no_word))]
-pub(crate) fn next_word(text: &str) -> Option<(&str, &str)>
+pub fn next_word(text: &str) -> Option<(&str, &str)>
     ensures first { BeginsWith text.now result }
     ensures shorter { IfSome result (λ x. length x.1.now < length text.now) }
 {
@@ -44,7 +44,7 @@ pub(crate) fn next_word(text: &str) -> Option<(&str, &str)>
 }
 
 /// Writes the words of a text into `cut`, in order, and returns how many there are; `None` if there are more than four.
-pub(crate) fn cut_words<'a>(text: &'a str, cut: &mut [&'a str; 4]) -> Option<usize>
+pub fn cut_words<'a>(text: &'a str, cut: &mut [&'a str; 4]) -> Option<usize>
     ensures cut { IfSome result (λ count. words text.now ≡ texts (take count cut.new)) }
     ensures few { IfSome result (λ count. count ≤ 4) }
     ensures four { length cut.new ≡ 4 }
@@ -63,7 +63,8 @@ pub(crate) fn cut_words<'a>(text: &'a str, cut: &mut [&'a str; 4]) -> Option<usi
     Some(count)
 }
 
-fn begins_comment(word: &str) -> bool
+/// Whether a line that begins with this word is a comment.
+pub fn begins_comment(word: &str) -> bool
     ensures is { result ≡ begins_comment word.now }
 {
     matches!(word.as_bytes(), [b'#', ..])
@@ -92,7 +93,7 @@ fn read_words<'a>(shapes: &Shapes, line: &'a str) -> Result<Option<Command<'a>>,
 }
 
 /// Whether a line has a tab or a carriage return. It tests every byte, since a loop without a branch is fastest.
-pub(crate) fn has_forbidden(line: &[u8]) -> bool
+pub fn has_forbidden(line: &[u8]) -> bool
     ensures is { result ≡ list_any is_forbidden line.now }
 {
     let mut found = false;

@@ -20,7 +20,7 @@ fn count_lines(text: &[u8]) -> usize
 }
 
 /// The first line of a text, and the text after its line feed.
-pub(crate) fn first_line(text: &[u8]) -> (&[u8], Option<&[u8]>)
+pub fn first_line(text: &[u8]) -> (&[u8], Option<&[u8]>)
     ensures cut { Cuts text.now result.0.now result.1 }
 {
     match memchr(b'\n', text) {

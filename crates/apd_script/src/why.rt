@@ -200,6 +200,14 @@ const SHOWN: usize = 40;
 
 /// Why the line of a text with this number, counted from 1, is malformed; `None` if it is well formed.
 pub fn line_fault<'a>(text: &'a [u8], number: u64, shapes: &Shapes) -> Option<LineFault<'a>> {
+    if let Some(fault) = text_fault(text, number) {
+        return Some(fault);
+    }
+    words_fault(shapes, line_at(text, number), &[])
+}
+
+/// Why the line of a text with this number, counted from 1, can't be one of any command; `None` if its words decide.
+pub fn text_fault<'a>(text: &'a [u8], number: u64) -> Option<LineFault<'a>> {
     if is_capture(text) {
         return Some(LineFault::Capture);
     }
@@ -210,7 +218,7 @@ pub fn line_fault<'a>(text: &'a [u8], number: u64, shapes: &Shapes) -> Option<Li
     if number == 1 && line.starts_with(b"\xef\xbb\xbf") {
         return Some(LineFault::ByteOrderMark);
     }
-    words_fault(shapes, line, &[])
+    bytes_fault(line)
 }
 
 /// Why a line of `apd live` is malformed; `None` if it is a line of a script, or a question.
@@ -229,6 +237,17 @@ pub(crate) fn live_fault<'a>(line: &'a [u8], shapes: &Shapes) -> Option<LineFaul
 
 /// Why the bytes of a line aren't written like a command, or like one of these forms.
 fn words_fault<'a>(shapes: &Shapes, line: &'a [u8], more: &[Form]) -> Option<LineFault<'a>> {
+    if let Some(fault) = bytes_fault(line) {
+        return Some(fault);
+    }
+    match str::from_utf8(line) {
+        Ok(line) => command_fault(shapes, line, more),
+        Err(_) => Some(LineFault::Encoding),
+    }
+}
+
+/// Why the bytes of a line aren't words separated by spaces.
+fn bytes_fault<'a>(line: &'a [u8]) -> Option<LineFault<'a>> {
     if line.contains(&b'\t') {
         return Some(LineFault::Tab);
     }
@@ -236,7 +255,7 @@ fn words_fault<'a>(shapes: &Shapes, line: &'a [u8], more: &[Form]) -> Option<Lin
         return Some(LineFault::CarriageReturn);
     }
     match str::from_utf8(line) {
-        Ok(line) => command_fault(shapes, line, more),
+        Ok(_) => None,
         Err(_) => Some(LineFault::Encoding),
     }
 }
@@ -251,7 +270,7 @@ fn is_capture(text: &[u8]) -> bool {
 }
 
 /// The line with this number, counted from 1, or the last line if there are fewer.
-fn line_at(text: &[u8], number: u64) -> &[u8] {
+pub fn line_at(text: &[u8], number: u64) -> &[u8] {
     let mut rest = text;
     for _ in 1..number {
         match first_line(rest) {
@@ -328,7 +347,7 @@ fn near(forms: &[Form], word: &str) -> Option<&'static str> {
 }
 
 /// Whether two words differ in one letter, in the order of two, or only in case.
-fn is_near(word: &[u8], keyword: &[u8]) -> bool {
+pub fn is_near(word: &[u8], keyword: &[u8]) -> bool {
     if word.eq_ignore_ascii_case(keyword) {
         return true;
     }
@@ -451,7 +470,7 @@ fn shape_named(shapes: &Shapes, map: &str) -> Option<Shape> {
 
 /// A word as messages show it: its first characters, control characters escaped.
 #[derive(Clone, Copy)]
-struct Shown<'a>(&'a str);
+pub struct Shown<'a>(pub &'a str);
 
 impl fmt::Display for Shown<'_> {
     fn fmt<W: fmt::Write>(&self, f: &mut fmt::Formatter<W>) -> fmt::Result {

@@ -14,7 +14,7 @@ fn is_decimal(text: &[u8]) -> bool
 }
 
 /// The number that decimal digits without a sign spell, if it is below 2^64.
-pub(crate) fn number(text: &str) -> Option<u64>
+pub fn number(text: &str) -> Option<u64>
     ensures is { result ≡ number_below (2 ^ 64) text.now }
 {
     if !is_decimal(text.as_bytes()) {
@@ -24,7 +24,7 @@ pub(crate) fn number(text: &str) -> Option<u64>
 }
 
 /// The number that decimal digits spell, if it is below a limit.
-pub(crate) fn number_below(limit: u64, text: &str) -> Option<u64>
+pub fn number_below(limit: u64, text: &str) -> Option<u64>
     ensures is { result ≡ number_below limit text.now }
     ensures below { IfSome result (λ number. number < limit) }
 {
@@ -42,7 +42,8 @@ pub(crate) fn address(text: &str) -> Option<Address>
     Some(Address::new(octets))
 }
 
-pub(crate) fn hook_named(text: &str) -> Option<Hook>
+/// The hook that a word names: `assoc`, `addba` or `data`.
+pub fn hook_named(text: &str) -> Option<Hook>
     ensures is { result ≡ hook_named text.now }
 {
     match text {

@@ -1,0 +1,2 @@
+mod Many
+mod LineByLine

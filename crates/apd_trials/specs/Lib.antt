@@ -1,0 +1,6 @@
+pub mod Policies
+pub mod Trials
+pub mod Met
+pub mod Rows
+pub mod Running
+pub mod Texts
