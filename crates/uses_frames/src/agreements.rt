@@ -121,40 +121,68 @@ fn late_agreements_end_in_order(rt: HostRuntime) {
     same(&rt, agreements.late(u64::MAX), 1, "late");
 }
 
+/// A data frame to the station that ends in 9, with mark 5.
+fn held(rt: &impl Abort, alloc: Global) -> Held {
+    let body = Octets::copy(alloc, b"c").expect(rt, "memory");
+    Held::new(station(9), 5, body)
+}
+
+/// The number is wanted, and comes: nothing is released.
+fn take_in(rt: &impl Abort, alloc: Global, entry: &mut Entry, of: SequenceNumber) {
+    assert!(rt; entry.wants(of));
+    let mut out = Released::new();
+    entry.take(of, Some(held(rt, alloc)), 4, &mut out);
+    counts(rt, out.len(), 0, "handed up");
+}
+
+/// The number isn't wanted, and comes.
+fn leave(rt: &impl Abort, entry: &mut Entry, of: SequenceNumber) {
+    assert!(rt; !entry.wants(of));
+    entry.leave(of, 5);
+}
+
+/// A request with this start comes: nothing is released, and the scoreboard has these bits from there on.
+fn request(rt: &impl Abort, entry: &mut Entry, start: SequenceNumber, bits: u64) {
+    let mut out = Released::new();
+    entry.request(start, 6, &mut out);
+    counts(rt, out.len(), 0, "handed up");
+    same(rt, entry.start(), start, "start");
+    same(rt, entry.scoreboard(), (start, bits), "scoreboard");
+}
+
+/// The only released frame is that data with number 102.
+fn is_released(rt: &impl Abort, frame: Held) {
+    let up = frame
+        .up(station(1), tid(rt, 0), number(rt, 102))
+        .expect(rt, "a frame");
+    same(rt, up.mark, 5, "mark");
+    same(rt, up.destination, station(9), "destination");
+    same(rt, up.body.bytes(), b"c".as_slice(), "bytes");
+}
+
+/// The agreement ends: number 102 is released.
+fn close(rt: &impl Abort, entry: Entry) {
+    let mut out = Released::new();
+    entry.close(&mut out);
+    counts(rt, out.len(), 1, "handed up");
+    let (first, frame) = out.remove(0);
+    same(rt, first, 102, "first");
+    is_released(rt, frame);
+}
+
 #[test]
 fn windows_hand_up_in_order(rt: HostRuntime) {
     let alloc = rt.alloc();
     let entry = Entry::new(alloc, station(1), tid(&rt, 0)).expect(&rt, "memory");
     let mut entry = entry.opened(number(&rt, 100), 8, 0, 3);
-    let mut out = Released::new();
     let third = number(&rt, 102);
-    let body = Octets::copy(alloc, b"c").expect(&rt, "memory");
-    let frame = Held::new(station(9), 5, body);
-    assert!(rt; entry.wants(third));
     same(&rt, entry.most_passed(third), 0, "most passed");
-    entry.take(third, Some(frame), 4, &mut out);
-    counts(&rt, out.len(), 0, "handed up");
+    take_in(&rt, alloc, &mut entry, third);
     same(&rt, entry.held(), 1, "held");
     same(&rt, entry.most_passed(number(&rt, 100)), 2, "entry");
-    assert!(rt; !entry.wants(third));
-    entry.leave(third, 5);
-    entry.request(number(&rt, 101), 6, &mut out);
-    counts(&rt, out.len(), 0, "handed up");
-    same(&rt, entry.start(), number(&rt, 101), "start");
-    let (start, bits) = entry.scoreboard();
-    same(&rt, start, number(&rt, 101), "start");
-    same(&rt, bits, 2, "bits");
-    let mut out = Released::new();
-    entry.close(&mut out);
-    counts(&rt, out.len(), 1, "handed up");
-    let (first, frame) = out.remove(0);
-    same(&rt, first, 102, "first");
-    let up = frame
-        .up(station(1), tid(&rt, 0), number(&rt, 102))
-        .expect(&rt, "a frame");
-    same(&rt, up.mark, 5, "mark");
-    same(&rt, up.destination, station(9), "destination");
-    same(&rt, up.body.bytes(), b"c".as_slice(), "bytes");
+    leave(&rt, &mut entry, third);
+    request(&rt, &mut entry, number(&rt, 101), 2);
+    close(&rt, entry);
 }
 
 /// Fails unless exactly these agreements are listed, in this order: of the station with this last octet for this TID,
@@ -183,13 +211,11 @@ fn lists(
 /// Data with this number comes for TID 0 of a station, and is taken.
 fn take(rt: &impl Abort, alloc: Global, agreements: &mut Agreements, last: u8, of: u16) {
     let wanted = number(rt, of);
-    let body = Octets::copy(alloc, b"c").expect(rt, "memory");
-    let frame = Held::new(station(9), 5, body);
     let placed = agreements.get_placed(station(last), tid(rt, 0));
     let (at, entry) = placed.expect(rt, "an agreement");
     assert!(rt; entry.wants(wanted));
     let mut out = Released::new();
-    agreements.take(at, wanted, Some(frame), 4, &mut out);
+    agreements.take(at, wanted, Some(held(rt, alloc)), 4, &mut out);
 }
 
 #[test]
