@@ -7,8 +7,10 @@ ghost use Rattle.ap_core.specs.AccessPoints.{rules_of};
 
 mod asking;
 mod listing;
+mod policies;
 mod refusals;
 mod same;
+mod setting;
 
 use ap_core::{Event, LinkConfig, ListJudge, Octets, Out, Shard, handle_all, new_shards};
 use mac_frame::{Address, Reason, Tid};

@@ -5,12 +5,6 @@
 mod eight;
 mod one;
 mod policies;
-#[cfg(test)]
-mod rows;
-#[cfg(test)]
-mod same;
-#[cfg(test)]
-mod setting;
 
 pub use eight::{go_on, serve};
 pub use one::decide;

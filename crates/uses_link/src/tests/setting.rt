@@ -1,68 +1,20 @@
-//! The setting of the tests: frames of station `02000000000a` to the access point `020000000001`, a worker's seats of a
-//! map, and sets of programs for that map.
+//! The setting of tests with programs: a worker's seats of a map, and sets of programs for that map.
 
 ghost use Rattle.std.specs.Prelude.{◌≡◌};
 ghost use Rattle.bpf_helpers.specs.Hooked.{HaveTables, IsFitting, shapes_of};
 
-use crate::same::holds;
-use ap_core::{Event, LinkConfig, Octets};
+use crate::tests::same::holds;
 use bpf_decode::decode;
 use bpf_helpers::{MapTables, WorkerState, tables_law};
 use bpf_machine::Accepted;
 use bpf_regions::{Hook, Scope, Shape, Shapes, WordWidth};
 use bpf_text::assemble;
 use bpf_verifier::verify;
-use mac_frame::Address;
 use std::alloc::Global;
 use std::process::Abort;
 use std::sync::{Arc, Wait};
 use versions::opening::published;
 use versions::{Entered, Publisher};
-
-pub const AUTHENTICATION: &str =
-    "b0000000 020000000001 02000000000a 020000000001 1000 0000 0100 0000";
-
-pub const ASSOCIATION: &str =
-    "00000000 020000000001 02000000000a 020000000001 2000 0100 0a00 0003 6c6162 0104 82848b96";
-
-/// For TID 0, an immediate policy and size 8, from number 100 on, without timeout.
-pub const SETUP: &str =
-    "d0000000 020000000001 02000000000a 020000000001 4000 0300 07 0202 0000 4006";
-
-/// Data with number 3.
-pub const DATA: &str = "08010000 020000000001 02000000000a 0200000000ff 3000 68656c6c6f";
-
-/// The bytes that hex digits spell.
-fn spelled(rt: &impl Abort, alloc: Global, digits: &str) -> Vec<u8> {
-    let mut bytes = Vec::new(alloc);
-    let mut high = None;
-    for digit in digits.as_bytes() {
-        let Some(value) = char::from(*digit).to_digit(16) else {
-            continue;
-        };
-        match high {
-            None => high = Some(value),
-            Some(first) => {
-                let byte = u8::try_from((first << 4) | value).unwrap_or(0);
-                bytes.push(byte).expect(rt, "memory");
-                high = None;
-            }
-        }
-    }
-    bytes
-}
-
-pub fn frame(rt: &impl Abort, alloc: Global, digits: &str) -> Event {
-    Event::Frame(Octets::new(spelled(rt, alloc, digits)))
-}
-
-/// Access point `020000000001`, network `lab`.
-pub fn config(rt: &impl Abort, alloc: Global) -> LinkConfig {
-    let ssid = Octets::copy(alloc, b"lab").expect(rt, "memory");
-    let rates = Octets::copy(alloc, &[0x82, 0x84, 0x8b, 0x96]).expect(rt, "memory");
-    let bssid = Address::new([2, 0, 0, 0, 0, 1]);
-    LinkConfig::new(bssid, ssid, rates).expect(rt, "a configuration")
-}
 
 /// Maps, and two seats of worker 0 at each of its tables.
 #[derive(Drop)]

@@ -1,7 +1,7 @@
 use Rattle.std.proofs.Common.{rules, ◌≡◌, List, sym, subst}
 use Rattle.bpf_helpers.specs.Hooked.{IsFitting}
 use Rattle.bpf_helpers.specs.Tables.{Tables}
-use Rattle.uses_policies.proofs.rows.led.Goals as goal
+use Rattle.uses_link.proofs.tests.policies.led.Goals as goal
 
 pub served-results-requires : goal.served-results-requires
 served-results-requires g c =

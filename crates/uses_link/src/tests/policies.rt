@@ -3,12 +3,9 @@
 ghost use Rattle.std.specs.Prelude.{◌≡◌};
 ghost use Rattle.bpf_helpers.specs.Hooked.{IsFitting};
 
-use crate::same::{holds, same};
-use crate::setting::{
-    ASSOCIATION, AUTHENTICATION, DATA, NO_TEXTS, SETUP, Seated, Texts, admitted, config, end,
-    entered, frame, two_seats,
-};
-use crate::{Policies, decide, serve};
+use crate::tests::same::{holds, same};
+use crate::tests::setting::{NO_TEXTS, Seated, Texts, admitted, end, entered, two_seats};
+use crate::tests::{ASSOCIATION, AUTHENTICATION, DATA, SETUP, config, field_at, frame, shard};
 use ap_core::{Event, ListJudge, Out, Shard, Up};
 use bpf_helpers::{MapTables, WorkerState, WorkerView, run_hook};
 use bpf_regions::{Context, Frame, Hook};
@@ -16,6 +13,7 @@ use mac_frame::Address;
 use std::alloc::Global;
 use std::process::Abort;
 use std::sync::Wait;
+use uses_policies::{Policies, decide, serve};
 
 /// The outputs of each event of a list, or None if it was refused.
 type Results = Vec<Option<Vec<Out>>>;
@@ -68,17 +66,6 @@ fn outs_at(results: &[Option<Vec<Out>>], place: usize) -> Option<&[Out]> {
     Some(results.get(place)?.as_ref()?.as_slice())
 }
 
-/// The field at this byte of the only frame that is sent after the event at this index.
-fn field(results: &[Option<Vec<Out>>], place: usize, at: usize) -> Option<u16> {
-    let [Out::Send(sent)] = outs_at(results, place)? else {
-        return None;
-    };
-    match sent.bytes().get(at..)? {
-        [low, high, ..] => Some(u16::from_le_bytes([*low, *high])),
-        _ => None,
-    }
-}
-
 /// The only frame that is passed up.
 fn passed(outs: &[Out]) -> Option<&Up> {
     match outs {
@@ -129,8 +116,8 @@ struct Answers {
 fn answered<R: Wait + Abort>(rt: &R, alloc: Global, texts: Texts<'_>) -> Answers {
     let results = led(rt, alloc, texts);
     Answers {
-        status: field(&results, 1, 26),
-        agreement: (field(&results, 2, 27), field(&results, 2, 29)),
+        status: field_at(&results, 1, 26),
+        agreement: (field_at(&results, 2, 27), field_at(&results, 2, 29)),
         mark: mark_at(&results, 3),
     }
 }
@@ -226,8 +213,7 @@ fn comes(rt: &impl Abort, alloc: Global, shard: &mut Shard, digits: &str) {
 
 /// A shard at which the station is associated.
 fn joined(rt: &impl Abort, alloc: Global) -> Shard {
-    let config = config(rt, alloc);
-    let mut shard = Shard::new(alloc, 2, &config).expect(rt, "memory");
+    let mut shard = shard(rt, alloc, 2);
     comes(rt, alloc, &mut shard, AUTHENTICATION);
     comes(rt, alloc, &mut shard, ASSOCIATION);
     shard

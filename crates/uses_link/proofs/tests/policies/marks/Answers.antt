@@ -1,7 +1,7 @@
 use Rattle.std.proofs.Common.{rules, ◌≡◌, List, sym, subst}
 use Rattle.bpf_helpers.specs.Hooked.{IsFitting}
 use Rattle.bpf_helpers.specs.Tables.{Tables}
-use Rattle.uses_policies.proofs.rows.marks.Goals as goal
+use Rattle.uses_link.proofs.tests.policies.marks.Goals as goal
 
 pub mark_by-first-requires : goal.mark_by-first-requires
 mark_by-first-requires g c =

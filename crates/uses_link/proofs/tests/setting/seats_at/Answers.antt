@@ -1,6 +1,6 @@
 use Rattle.std.proofs.Common.{rules}
 use Rattle.bpf_helpers.specs.Hooked.{IsFitting}
-use Rattle.uses_policies.proofs.setting.seats_at.Goals as goal
+use Rattle.uses_link.proofs.tests.setting.seats_at.Goals as goal
 
 pub returns-clause-one : goal.returns-clause-one
 returns-clause-one g c =
