@@ -11,3 +11,11 @@ pub trait Describes<E> {
     /// The entry.
     ghost entry: { Self → E };
 }
+
+/// A run-time value that names a list of entries.
+pub trait Lists<E> {
+    ghost use Rattle.std.specs.Prelude.{List};
+
+    /// The list.
+    ghost entries: { Self → List E };
+}

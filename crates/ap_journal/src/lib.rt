@@ -3,7 +3,7 @@
 //! prefix of it. It depends on `logbook`, whose ghost log is the journal. Promised: `prepare`, and
 //! after it `add`, which can't fail, append exactly the described entry; whatever is known is a
 //! prefix of what the author knows; the shorter of two prefixes of one journal is a prefix of the
-//! longer. `Past` is a list of entries of one's own.
+//! longer. `Past` is a list that its owner makes up.
 #![tactic(auto)]
 
 mod author;
@@ -13,6 +13,6 @@ mod past;
 mod rule;
 
 pub use author::{Author, Opened};
-pub use entry::{Describes, Entry};
+pub use entry::{Describes, Entry, Lists};
 pub use known::Known;
 pub use past::Past;

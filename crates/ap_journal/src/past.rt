@@ -1,8 +1,8 @@
 //! Lists of entries that only proofs have.
 
-ghost use Rattle.std.specs.Prelude.{◌≡◌, ◌∷◌, ◌++◌, []};
+ghost use Rattle.std.specs.Prelude.{◌≡◌, ◌∷◌, ◌++◌, [], drop, take};
 
-use crate::entry::Describes;
+use crate::entry::{Describes, Lists};
 use logbook::{Opening, Rule, Seen, Start};
 use std::marker::Model;
 
@@ -56,12 +56,61 @@ impl<'a, E, D: Describes<E>> Opening<Longer<'a, E, D>, E> for OneMore {
     ghost log = { λ _ l. l.past.now ++ D.entry l.described.now ∷ [] };
 }
 
+/// A named list.
+pub struct Named;
+
+impl<E, D: Lists<E>> Opening<D, E> for Named {
+    ghost log = { λ _ d. D.entries d };
+}
+
+/// Two lists.
+#[derive(Clone, Copy)]
+struct Two<'a, E> {
+    first: &'a Past<E>,
+    second: &'a Past<E>,
+}
+
+/// Two lists, one after the other.
+pub struct Joined;
+
+impl<'a, E> Opening<Two<'a, E>, E> for Joined {
+    ghost use Rattle.std.specs.Prelude.{◌++◌};
+
+    ghost log = { λ _ t. t.first.now ++ t.second.now };
+}
+
+/// The first entry of a list alone.
+pub struct FirstAlone;
+
+impl<E> Opening<Past<E>, E> for FirstAlone {
+    ghost use Rattle.std.specs.Prelude.{take};
+
+    ghost log = { λ _ p. take 1 p };
+}
+
+/// A list without its first entry.
+pub struct WithoutFirst;
+
+impl<E> Opening<Past<E>, E> for WithoutFirst {
+    ghost use Rattle.std.specs.Prelude.{drop};
+
+    ghost log = { λ _ p. drop 1 p };
+}
+
 impl<E> Past<E> {
     /// The empty list.
     pub fn new() -> Past<E>
         ensures { result ≡ [] }
     {
         let (seen, _pens) = Seen::open_row::<(), crate::rule::Empty>(&(), Start::alone(), 0);
+        Past { seen }
+    }
+
+    /// The named list.
+    pub fn of<D: Lists<E>>(named: &D) -> Past<E>
+        ensures { result ≡ D.entries named.now }
+    {
+        let (seen, _pens) = Seen::open_row::<D, Named>(named, Start::alone(), 0);
         Past { seen }
     }
 
@@ -75,5 +124,28 @@ impl<E> Past<E> {
         };
         let (seen, _pens) = Seen::open_row::<Longer<'_, E, D>, OneMore>(&longer, Start::alone(), 0);
         *self = Past { seen };
+    }
+
+    /// Appends another list.
+    pub fn append(&mut self, other: Past<E>)
+        ensures { self.new ≡ self.old ++ other }
+    {
+        let two = Two {
+            first: &*self,
+            second: &other,
+        };
+        let (seen, _pens) = Seen::open_row::<Two<'_, E>, Joined>(&two, Start::alone(), 0);
+        *self = Past { seen };
+    }
+
+    /// Splits off the first entry, if there is one.
+    pub fn split_first(&mut self) -> Past<E>
+        ensures first { result ≡ take 1 self.old }
+        ensures others { self.new ≡ drop 1 self.old }
+    {
+        let (first, _pens) = Seen::open_row::<Past<E>, FirstAlone>(&*self, Start::alone(), 0);
+        let (others, _more) = Seen::open_row::<Past<E>, WithoutFirst>(&*self, Start::alone(), 0);
+        *self = Past { seen: others };
+        Past { seen: first }
     }
 }

@@ -12,6 +12,7 @@ use Rattle.ap_model.proofs.Appending.{run_append}
 use Rattle.ap_laws.specs.Headline.{LinkHolds, RunsHold}
 use Rattle.ap_core.specs.Handles.{rules}
 use Rattle.ap_locked.specs.Kept.{entry_of}
+use Rattle.ap_locked.specs.Pages.{Page, with_entries}
 use Rattle.ap_locked.specs.Tokens.{Token}
 use Rattle.ap_queues.specs.declared.item.Queued.{Queued}
 use Rattle.ap_shards.specs.Fates.{Acts, Adds, ChangesIf, Comes}
@@ -81,6 +82,7 @@ module _ (law : RunsHold) (V : Readings → List (Ask × ℕ) → Type 0) where
         step = x.step;
         seen = x.seen;
         own = x.own;
+        page = x.page;
         holds = link_after rs t e outs dropped u x;
       }
 
@@ -101,6 +103,7 @@ module _ (law : RunsHold) (config : Config) (a : Live) (worker : ℕ) where
           step = x.step;
           seen = x.seen;
           own = x.own;
+          page = x.page;
           holds = link_after law V (rules s config) (token_at s p.shards) e outs.items dropped (token_at s q.shards) x;
         };
         over = x.verdicts;
@@ -130,6 +133,7 @@ hands_none t u is =
     record {
       entries = [];
       own = ap (λ (z : Token). z.own) is ∙ sym (append-nil t.own);
+      page = ap (λ (z : Token). z.page) is ∙ ap (λ (l : List Entry). record { mark = t.page.mark; made = l }) (sym (append-nil t.page.made));
       outs = refl;
       goes_on = subst (λ (z : Token). IsPrefix t.seen z.seen) (sym is) ([], append-nil t.seen);
     }
@@ -141,6 +145,7 @@ hands_one V rs e (Decided outs dropped) true t u w later c h =
     record {
       entries = entry ∷ h.entries;
       own = h.own ∙ (ap (λ (l : List Entry). l ++ h.entries) c.own ∙ append_assoc t.own (entry ∷ []) h.entries);
+      page = h.page ∙ (ap (λ (p : Page). with_entries p h.entries) c.page ∙ ap (λ (l : List Entry). record { mark = t.page.mark; made = l }) (append_assoc t.page.made (entry ∷ []) h.entries));
       outs = ap (λ (l : List (List Out)). outs.items ∷ l) h.outs;
       goes_on = prefix_more t.seen u.seen (subst (λ (l : List Entry). IsPrefix t.seen l) (sym c.seen) (prefix_more t.seen c.before c.had_seen (entry ∷ [], refl))) h.goes_on;
     }

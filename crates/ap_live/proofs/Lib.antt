@@ -5,3 +5,4 @@ pub mod Keeping
 pub mod AtShards
 pub mod Handing
 pub mod Upheld
+pub mod Rest

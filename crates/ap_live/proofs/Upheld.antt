@@ -17,6 +17,7 @@ token_upholds law rs t is =
       holds = law rs is.handled.readings t.seen is.handled.run;
       among = is.among;
       counted = is.counted;
+      on_page = is.on_page;
     }
 
 pub all_uphold : RunsHold → (config : Config) (e : Eight) → AreTokens config e → UpholdAll config e

@@ -11,6 +11,7 @@ use Rattle.ap_core.specs.Handles.{rules}
 use Rattle.ap_books.specs.Counts.{drops}
 use Rattle.ap_laws.specs.Headline.{LinkHolds}
 use Rattle.ap_locked.specs.Kept.{entry_of}
+use Rattle.ap_locked.specs.Pages.{on_page}
 use Rattle.ap_locked.specs.Tokens.{Token}
 use Rattle.ap_shards.specs.Judged.{JudgedBy}
 use Rattle.ap_tagged.specs.declared.tagged.Fate.{Fate}
@@ -24,7 +25,7 @@ use Rattle.ap_live.specs.Verdicts.{AreJudged}
 -- The event was decided at the shard with this number and configuration, after all that had been decided there, of
 -- which the token had seen a prefix: with these verdicts and outputs it is a step of the link from the readings that
 -- this history leaves. The link's half of the main theorem holds of the whole journal with this entry at its end, which
--- the token then has seen, and which is the last of its own.
+-- the token then has seen, and which is the last of its own, and the last on its page.
 pub record EntryHolds (c : Rules) (t : Token) (event : Event) (outs : List Out) (u : Token) : Type 0 where
   pub inside : c.shard < 8
   pub before : List Entry
@@ -36,6 +37,7 @@ pub record EntryHolds (c : Rules) (t : Token) (event : Event) (outs : List Out) 
   pub step : Step c readings event asked outs after
   pub seen : u.seen ≡ before ++ entry_of event asked outs ∷ []
   pub own : u.own ≡ t.own ++ entry_of event asked outs ∷ []
+  pub page : u.page ≡ on_page t.page (entry_of event asked outs)
   pub holds : LinkHolds c (before ++ entry_of event asked outs ∷ []) after
 
 -- In addition, each verdict is that of an accepted program, within its budget, or of the verdict tables if there is

@@ -8,6 +8,7 @@ use Rattle.ap_model.specs.Readings.{Config}
 use Rattle.ap_model.specs.Runs.{Entry}
 use Rattle.ap_core.specs.Handles.{rules}
 use Rattle.ap_books.specs.Counts.{counts_of, plus}
+use Rattle.ap_locked.specs.Pages.{with_entries}
 use Rattle.ap_locked.specs.Tokens.{Token}
 use Rattle.ap_queues.specs.declared.item.Queued.{Queued}
 use Rattle.ap_queues.specs.Passes.{taken_by}
@@ -43,11 +44,12 @@ abbrev pub outs_at : ℕ → List Tagged → List (List Out)
 outs_at s [] = []
 outs_at s (t ∷ ts) = with_outs (t.shard == s) t.fate (outs_at s ts)
 
--- What was reported at one shard is, event by event, the outputs of the token's own new entries. What it has seen
--- extends what it had seen.
+-- What was reported at one shard is, event by event, the outputs of the token's own new entries, which are all that came
+-- onto its page. What it has seen extends what it had seen.
 pub record HandsOn (t : Token) (handed : List (List Out)) (u : Token) : Type 0 where
   pub entries : List Entry
   pub own : u.own ≡ t.own ++ entries
+  pub page : u.page ≡ with_entries t.page entries
   pub outs : map (λ e. e.outs) entries ≡ handed
   pub goes_on : IsPrefix t.seen u.seen
 

@@ -1,5 +1,5 @@
 -- A new access point, and giving tokens.
-use Rattle.std.specs.Prelude.{◌≡◌, ◌+◌, ℕ, List, [], length}
+use Rattle.std.specs.Prelude.{◌≡◌, ◌+◌, ◌-◌, ℕ, List, [], length}
 use Rattle.bpf_regions.specs.declared.maps.Shape.{Shape}
 use Rattle.bpf_helpers.specs.Hooked.{shapes_of}
 use Rattle.versions.specs.Lists.{Beginning}
@@ -8,6 +8,7 @@ use Rattle.ap_queues.specs.Lines.{ArePassesOf}
 use Rattle.ap_queues.specs.declared.lines.passes.LinePasses.{LinePasses}
 use Rattle.ap_tables.specs.Stocks.{Stock}
 use Rattle.ap_shards.specs.Opening.{whole}
+use Rattle.ap_shards.specs.Pages.{AreNewPages}
 use Rattle.ap_shards.specs.Tokens.{HasGivenOne}
 use Rattle.ap_live.specs.Lives.{Live}
 use Rattle.ap_live.specs.Tokens.{AreLeft, Left}
@@ -34,6 +35,7 @@ pub record IsOpened (workers : ℕ) (shapes : List Shape) (draw : ℕ) (a : Live
   pub readers : left.readers.left ≡ workers
   pub parts : left.parts ≡ parts_in_all
   pub shards : left.shards ≡ whole parts_in_all
+  pub pages : AreNewPages (parts_in_all - 1) left.pages
 
 -- one part of each ledger was given
 pub record GaveToken (l l2 : Left) : Type 0 where

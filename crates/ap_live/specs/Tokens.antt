@@ -10,6 +10,7 @@ use Rattle.ap_queues.specs.declared.lines.passes.LinePasses.{LinePasses}
 use Rattle.ap_queues.specs.declared.lines.passes.OperatorLines.{OperatorLines}
 use Rattle.ap_queues.specs.Lines.{ArePassesOf, AreLinesOf}
 use Rattle.ap_tables.specs.Stocks.{AreOperators}
+use Rattle.ap_shards.specs.Pages.{EightPages}
 use Rattle.ap_shards.specs.Tokens.{Eight}
 use Rattle.ap_live.specs.Lives.{Live}
 
@@ -28,12 +29,13 @@ pub record Worker : Type 0 where
   pub held : Held
   pub shards : Eight
 
--- what was not given yet; `parts` says how many parts of each ledger are left
+-- what was not given yet; `parts` says how many parts of each ledger, and pages with that of its own tokens, are left
 pub record Left : Type 0 where
   pub readers : Readers
   pub passes : LinePasses
   pub parts : ℕ
   pub shards : Eight
+  pub pages : EightPages
 
 -- o is the token of one of its operators
 pub record IsOperator (a : Live) (o : Operator) : Type 0 where

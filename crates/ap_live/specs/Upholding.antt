@@ -4,7 +4,7 @@ use Rattle.ap_model.specs.Readings.{Config, Readings, Rules}
 use Rattle.ap_core.specs.Handles.{rules}
 use Rattle.ap_laws.specs.Headline.{LinkHolds}
 use Rattle.ap_books.specs.Counts.{Counts, counts_in, plus}
-use Rattle.ap_locked.specs.Tokens.{Token, IsAmong}
+use Rattle.ap_locked.specs.Tokens.{EndsWith, IsAmong, Token}
 use Rattle.ap_shards.specs.Tokens.{Eight}
 
 -- the token of this shard, from 0 to 7
@@ -14,13 +14,14 @@ token_at s e =
     (if s == 4 then e.of4 else (if s == 5 then e.of5 else (if s == 6 then e.of6 else e.of7))))))
 
 -- The link's half of the main theorem holds, for the shard with this number and configuration, of all entries of its
--- journal that the token has seen, from the first on. Its own are among them in order, each at a position of its own;
--- and its parts of the ledgers have counted exactly its own.
+-- journal that the token has seen, from the first on. Its own are among them in order, each at a position of its own,
+-- and are the last on its page; and its parts of the ledgers have counted exactly its own.
 pub record Upholds (c : Rules) (t : Token) : Type 0 where
   pub readings : Readings
   pub holds : LinkHolds c t.seen readings
   pub among : IsAmong t.own t.seen
   pub counted : t.portion.counts ≡ counts_in t.own
+  pub on_page : EndsWith t.page.made t.own
 
 -- it holds of each shard, under this configuration
 abbrev pub UpholdAll : Config → Eight → Type 0

@@ -4,12 +4,14 @@
 //! Main calls of `LiveAp`: `submit`, which puts an event into the queue of its shard's worker;
 //! `serve`, by which a worker decides the events in its queue, each under its shard's lock and by
 //! the programs of one whole published set; `act`, by which an operator decides a command at once;
-//! `gather`, which reads the totals. It depends on `ap_shards`, `ap_queues`, `ap_tables`,
-//! `versions` and `ap_laws`. Promised: `serve` reports one `Tagged` for each event that it took, in
-//! order, and the worker's shares grow by exactly what these count; given all shares, the totals
-//! are the sum of the books. The main theorem, for a worker's reports and a command's outputs: each
-//! verdict is that of an accepted program, within its budget, or of a hook without a program; the
-//! outputs are the link's under these verdicts, entries of one history of the shard from the
+//! `gather`, which reads the totals; `close`, which does so with the pages of all tokens. It
+//! depends on `ap_shards`, `ap_queues`, `ap_tables`, `versions` and `ap_laws`. Promised: `serve`
+//! reports one `Tagged` for each event that it took, in order, and the worker's shares grow by
+//! exactly what these count; given all shares, the totals are the sum of the books; given the pages
+//! of all tokens, their entries together are the shards' journals, each at its own place, and the
+//! totals count exactly these. The main theorem, for a worker's reports and a command's outputs:
+//! each verdict is that of an accepted program, within its budget, or of a hook without a program;
+//! the outputs are the link's under these verdicts, entries of one history of the shard from the
 //! opening; only data of associated stations is passed up; each agreement's accepted numbers are
 //! passed up once each, in increasing order. A token's own entries are in that history (`known`);
 //! two tokens that meet share one.

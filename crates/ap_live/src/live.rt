@@ -1,8 +1,9 @@
 //! What the threads of an access point share.
 
-ghost use Rattle.std.specs.Prelude.{◌≡◌};
+ghost use Rattle.std.specs.Prelude.{◌≡◌, IfOk, OnOk};
 ghost use Rattle.ap_books.specs.Holdings.{HasParts, sum_of};
 ghost use Rattle.ap_books.specs.Reading.{Reads};
+ghost use Rattle.ap_shards.specs.Pages.{AreTheJournals, HasPages};
 ghost use Rattle.ap_shards.specs.Tokens.{CountJournals};
 ghost use Rattle.versions.specs.Lists.{Begins};
 ghost use Rattle.ap_live.specs.Tokens.{IsWorker};
@@ -12,10 +13,11 @@ use ap_books::{Ledgers, Portions, Totals};
 use ap_locked::Journals;
 use ap_model::LinkConfig;
 use ap_queues::EventLines;
-use ap_shards::Shards;
+use ap_shards::{AllPages, Shards};
 use ap_tables::ApTables;
 use bpf_regions::Shapes;
 use core::mem::replace_with;
+use std::alloc::AllocError;
 use std::marker::Model;
 use std::sync::Wait;
 use versions::{Entrance, News};
@@ -60,6 +62,26 @@ impl<B: Ledgers + Journals> LiveAp<B> {
         ensures journals { CountJournals B.config all.old }
     {
         self.shards.gather(rt, all)
+    }
+
+    /// Given all parts of all ledgers, and the pages of all tokens: the sum of the books, as `gather`. The
+    /// entries of all tokens together are the shards' journals, each at its own place, and the totals
+    /// are the counts of those entries. Fails only if a journal is full, at about 2^61 entries, which no
+    /// run reaches.
+    pub fn close<R: Wait>(
+        &self,
+        rt: &R,
+        all: &mut Portions<B>,
+        pages: &mut AllPages<B>,
+    ) -> Result<Totals, AllocError>
+        requires parts { HasParts B.shares all.old }
+        requires pages { HasPages B.shares pages.old }
+        ensures same { all.new ≡ all.old }
+        ensures same_pages { pages.new ≡ pages.old }
+        ensures sum { IfOk result (λ totals. Reads totals (sum_of all.old)) }
+        ensures entries { OnOk result (AreTheJournals B.config all.old pages.old) }
+    {
+        self.shards.close(rt, all, pages)
     }
 
     /// From this call on, the worker enters only sets that include the loads in `news`.

@@ -1,10 +1,11 @@
 //! A new access point, and the tokens of its users.
 
-ghost use Rattle.std.specs.Prelude.{◌≡◌, ◌<◌, ◌≤◌, [], IfOk, OnErr, OnOk};
+ghost use Rattle.std.specs.Prelude.{◌≡◌, ◌-◌, ◌<◌, ◌≤◌, [], IfOk, OnErr, OnOk};
 ghost use Rattle.versions.specs.Lists.{readers_of};
 ghost use Rattle.ap_queues.specs.Lines.{HasPutNothing};
 ghost use Rattle.ap_queues.specs.Passes.{taken_by};
 ghost use Rattle.ap_shards.specs.Opening.{AreNamed, whole};
+ghost use Rattle.ap_shards.specs.Pages.{AreNewPages};
 ghost use Rattle.ap_shards.specs.Tokens.{IsNewcomer};
 ghost use Rattle.ap_live.specs.Lives.{KeepsLive};
 ghost use Rattle.ap_live.specs.Opening.{ArePlaces, GaveNothing, GaveToken, IsOpened, parts_in_all};
@@ -15,7 +16,7 @@ use crate::tokens::{LeftTokens, OperatorToken, WorkerToken};
 use ap_books::Ledgers;
 use ap_locked::Journals;
 use ap_queues::{EventLines, LineFault, LinePasses};
-use ap_shards::{NewShards, ShardTokens, Shards};
+use ap_shards::{AllPages, NewShards, ShardTokens, Shards};
 use ap_tables::ApTables;
 use bpf_regions::Shapes;
 use std::alloc::{AllocError, Global};
@@ -23,8 +24,8 @@ use std::sync::Wait;
 use versions::opening::published;
 use versions::{Published, Publisher};
 
-/// The number of parts of each ledger: one for each of 8 operators and of 8 workers, and one that
-/// stays.
+/// The number of parts of each ledger, and of pages of each journal: one for each of 8 operators and of
+/// 8 workers, and one that stays.
 pub const PARTS: u64 = 17;
 
 /// A new access point, its publisher, and the tokens to give.
@@ -59,7 +60,7 @@ fn open_places(alloc: Global, shapes: &Shapes, workers: u32) -> Result<Places, A
 
 /// An access point from shards, queues, tables, and a list of published loads.
 fn assembled<B: Ledgers + Journals>(
-    shards: (Shards<B>, ShardTokens<B>),
+    shards: (Shards<B>, ShardTokens<B>, AllPages<B>),
     places: Places,
     list: (Publisher, Published),
     draw: u64,
@@ -67,12 +68,13 @@ fn assembled<B: Ledgers + Journals>(
 ) -> Opened<B>
     requires some { 0 < workers }
     requires tokens { shards.1 ≡ whole parts_in_all }
+    requires pages { AreNewPages (parts_in_all - 1) shards.2 }
     requires places { ArePlaces workers list.0.shapes places.lines places.passes places.tables }
     requires empty { list.0.loads ≡ [] }
     requires readers { list.1 ≡ readers_of list.0 workers }
     ensures { IsOpened workers list.0.shapes draw result.ap result.publisher result.left }
 {
-    let (shards, tokens) = shards;
+    let (shards, tokens, pages) = shards;
     let (publisher, readers) = list;
     let Places {
         lines,
@@ -91,6 +93,7 @@ fn assembled<B: Ledgers + Journals>(
         passes,
         parts: PARTS,
         shards: tokens,
+        pages,
     };
     Opened {
         ap,
@@ -168,7 +171,7 @@ impl<B: Ledgers + Journals> LiveAp<B> {
             return Err(LineFault::NoPass);
         }
         left.parts -= 1;
-        let shards = left.shards.split_one();
+        let shards = left.shards.split_one(&mut left.pages, left.parts);
         Ok(OperatorToken {
             lines,
             seats,
@@ -208,7 +211,7 @@ impl<B: Ledgers + Journals> LiveAp<B> {
             return Err(LineFault::NoPass);
         }
         left.parts -= 1;
-        let shards = left.shards.split_one();
+        let shards = left.shards.split_one(&mut left.pages, left.parts);
         Ok(WorkerToken {
             number,
             pass,

@@ -3,7 +3,7 @@
 use ap_books::{Ledgers, Portions};
 use ap_locked::Journals;
 use ap_queues::{LinePasses, OperatorLines, WorkerPass};
-use ap_shards::ShardTokens;
+use ap_shards::{AllPages, ShardTokens};
 use ap_tables::OperatorSeats;
 use bpf_helpers::WorkerState;
 use std::marker::Model;
@@ -51,42 +51,57 @@ pub struct LeftTokens<B: Ledgers + Journals> {
     pub(crate) passes: LinePasses,
     pub(crate) parts: u64,
     pub(crate) shards: ShardTokens<B>,
+    pub(crate) pages: AllPages<B>,
 }
 
 impl<B: Ledgers + Journals> Model for LeftTokens<B> {
+    ghost use Rattle.std.specs.Prelude.{◌-◌, ◌<◌, ◌≤◌};
     ghost use Rattle.ap_books.specs.Holdings.{HasParts};
+    ghost use Rattle.ap_shards.specs.Pages.{AreNewPages};
     ghost use Rattle.ap_shards.specs.Tokens.{holding_of};
     ghost use Rattle.ap_live.specs.Tokens.{Left};
 
     ghost Value = { Left };
 
-    ghost view = { λ l. record { readers = l.readers; passes = l.passes; parts = l.parts; shards = l.shards } };
+    ghost view = { λ l. record { readers = l.readers; passes = l.passes; parts = l.parts; shards = l.shards; pages = l.pages } };
 
-    ghost invariant = { λ l. HasParts l.parts (holding_of l.shards) };
+    ghost invariant = { λ l. HasParts l.parts (holding_of l.shards) × AreNewPages (l.parts - 1) l.pages × (0 < l.parts) × (l.parts ≤ 17) };
 }
 
 impl<B: Ledgers + Journals> OperatorToken<B> {
     ghost use Rattle.std.specs.Prelude.{◌≡◌};
+    ghost use Rattle.ap_shards.specs.Pages.{HasPages, pages_of};
     ghost use Rattle.ap_shards.specs.Tokens.{holding_of};
 
-    /// The parts of the ledgers, with what they have counted.
+    /// The parts of the ledgers, with what they have counted, and the pages with all entries of its own.
+    pub fn into_parts(self) -> (Portions<B>, AllPages<B>)
+        ensures shares { result.0 ≡ holding_of self.shards }
+        ensures pages { result.1 ≡ pages_of self.shards }
+        ensures count { HasPages 1 result.1 }
+    {
+        let OperatorToken { shards, .. } = self;
+        shards.into_parts()
+    }
+
+    /// The parts of the ledgers alone.
     pub fn into_shares(self) -> Portions<B>
         ensures { result ≡ holding_of self.shards }
     {
-        let OperatorToken { shards, .. } = self;
-        shards.into_shares()
+        let (shares, _pages) = self.into_parts();
+        shares
     }
 }
 
 impl<B: Ledgers + Journals> WorkerToken<B> {
     ghost use Rattle.std.specs.Prelude.{◌≡◌};
+    ghost use Rattle.ap_shards.specs.Pages.{HasPages, pages_of};
     ghost use Rattle.ap_shards.specs.Tokens.{holding_of};
     ghost use Rattle.ap_shards.specs.Renewal.{AreFresh, AreRenewed};
     ghost use Rattle.ap_live.specs.Lives.{Live};
     ghost use Rattle.ap_live.specs.Tokens.{IsWorker};
 
     /// Exchanges its parts of the ledgers, with what they have counted, for others that have counted
-    /// nothing. It then has no entries of its own.
+    /// nothing. Then no entry of its own has come since; its pages are unchanged.
     pub fn renew(&mut self, fresh: Portions<B>) -> Portions<B>
         requires { AreFresh fresh }
         ensures given { result ≡ holding_of self.old.shards }
@@ -97,26 +112,50 @@ impl<B: Ledgers + Journals> WorkerToken<B> {
         self.shards.renew(fresh)
     }
 
-    /// The parts of the ledgers, with what they have counted.
+    /// The parts of the ledgers, with what they have counted, and the pages with all entries of its own.
+    pub fn into_parts(self) -> (Portions<B>, AllPages<B>)
+        ensures shares { result.0 ≡ holding_of self.shards }
+        ensures pages { result.1 ≡ pages_of self.shards }
+        ensures count { HasPages 1 result.1 }
+    {
+        let WorkerToken { shards, .. } = self;
+        shards.into_parts()
+    }
+
+    /// The parts of the ledgers alone.
     pub fn into_shares(self) -> Portions<B>
         ensures { result ≡ holding_of self.shards }
     {
-        let WorkerToken { shards, .. } = self;
-        shards.into_shares()
+        let (shares, _pages) = self.into_parts();
+        shares
     }
 }
 
 impl<B: Ledgers + Journals> LeftTokens<B> {
     ghost use Rattle.std.specs.Prelude.{◌≡◌};
+    ghost use Rattle.ap_shards.specs.Pages.{HasPages, both_pages, pages_of};
     ghost use Rattle.ap_books.specs.Holdings.{HasParts};
     ghost use Rattle.ap_shards.specs.Tokens.{holding_of};
 
-    /// The parts of the ledgers that were not given.
+    /// The parts of the ledgers that were not given, and as many pages, of which one may have entries.
+    pub fn into_parts(self) -> (Portions<B>, AllPages<B>)
+        ensures is { result.0 ≡ holding_of self.shards }
+        ensures parts { HasParts self.parts result.0 }
+        ensures pages { result.1 ≡ both_pages (pages_of self.shards) self.pages }
+        ensures count { HasPages self.parts result.1 }
+    {
+        let LeftTokens { shards, pages, .. } = self;
+        let (shares, mut all) = shards.into_parts();
+        all.merge(pages);
+        (shares, all)
+    }
+
+    /// The parts of the ledgers alone.
     pub fn into_shares(self) -> Portions<B>
         ensures is { result ≡ holding_of self.shards }
         ensures parts { HasParts self.parts result }
     {
-        let LeftTokens { shards, .. } = self;
-        shards.into_shares()
+        let (shares, _pages) = self.into_parts();
+        shares
     }
 }

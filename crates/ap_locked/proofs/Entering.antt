@@ -13,15 +13,17 @@ use Rattle.ap_books.specs.Counts.{plus, gains, entry_counts}
 use Rattle.ap_books.proofs.Entries.{counts_in-one}
 use Rattle.ap_locked.specs.Kept.{Kept, Holds, rules_of, readings_of}
 use Rattle.ap_locked.specs.Tokens.{AreHandled, IsToken, Token}
+use Rattle.ap_locked.specs.Pages.{on_page}
 use Rattle.ap_locked.proofs.Among.{among_prefix, among_one}
+use Rattle.ap_locked.proofs.Signing.{ends_one}
 
 -- what the lock guards after an entry
 abbrev pub kept_with : Kept → Shard → Entry → Kept
 kept_with k s2 e = record { shard = s2; journal = k.journal ++ e ∷ []; counts = plus k.counts (entry_counts e) }
 
--- a token after an entry of its own, at the end of this journal
+-- a token after an entry of its own, at the end of this journal and of its page
 abbrev pub token_with : Token → List Entry → Entry → Token
-token_with t journal e = record { portion = gains t.portion (entry_counts e); seen = journal ++ e ∷ []; own = t.own ++ e ∷ [] }
+token_with t journal e = record { portion = gains t.portion (entry_counts e); seen = journal ++ e ∷ []; own = t.own ++ e ∷ []; page = on_page t.page e }
 
 pub holds_with : (rs : Rules) (k : Kept) (s2 : Shard) (e : Entry) → Holds rs k → Handles (rules_of k) (readings_of k) e (reads s2) → ruled s2 ≡ rules_of k → Holds rs (kept_with k s2 e)
 holds_with rs k s2 e h step same =
@@ -43,6 +45,7 @@ is_token_with rs t journal e is had_seen handled =
       handled = handled;
       among = among_one e (among_prefix had_seen is.among);
       counted = ap (λ c. plus c (entry_counts e)) is.counted ∙ sym (counts_in-one t.own e);
+      on_page = ends_one t.page.made t.own e is.on_page;
     }
 
 -- the queries since a snapshot are what the judge's list gained

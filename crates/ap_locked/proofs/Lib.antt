@@ -1,3 +1,6 @@
 mod Among
 mod Entering
 mod Handled
+mod Powers
+mod Signing
+mod Whole

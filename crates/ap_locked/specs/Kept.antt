@@ -11,6 +11,7 @@ use Rattle.ap_model.specs.Steps.{Step}
 use Rattle.ap_core.specs.declared.shard.Shard.{Shard}
 use Rattle.ap_core.specs.Shards.{reads, ruled}
 use Rattle.ap_books.specs.Counts.{Counts, plus, gains, counts_of, counts_in}
+use Rattle.ap_locked.specs.Pages.{on_page}
 use Rattle.ap_locked.specs.Tokens.{Token}
 
 -- the shard, the entries of its journal, and what its books have counted
@@ -40,7 +41,7 @@ entry_of event asked outs = record { event = event; asked = asked; outs = outs }
 
 -- the event is one step of the link with these outputs and the judge's verdicts, and the flag says whether one of
 -- these dropped data. The journal gains exactly its entry, the books and the token's parts its counts. The token,
--- which had seen a prefix of the journal, then has seen all of it, and gains exactly this entry of its own.
+-- which had seen a prefix of the journal, then has seen all of it, and gains exactly this entry of its own, on its page.
 pub record Decided {S : Type 0} (R : S → Ask → ℕ → S → Type 0) (k : Kept) (t : Token) (event : Event) (j : S) (outs : List Out) (dropped : Bool)
     (k2 : Kept) (t2 : Token) (j2 : S) : Type 0 where
   pub asked : List (Ask × ℕ)
@@ -53,4 +54,5 @@ pub record Decided {S : Type 0} (R : S → Ask → ℕ → S → Type 0) (k : Ke
   pub had_seen : IsPrefix t.seen k.journal
   pub seen : t2.seen ≡ k2.journal
   pub own : t2.own ≡ t.own ++ entry_of event asked outs ∷ []
+  pub page : t2.page ≡ on_page t.page (entry_of event asked outs)
   pub portion : t2.portion ≡ gains t.portion (counts_of outs dropped)

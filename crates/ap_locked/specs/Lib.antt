@@ -1,3 +1,5 @@
+pub mod Pages
 pub mod Tokens
 pub mod Kept
 pub mod Naming
+pub mod Accounts

@@ -3,7 +3,7 @@
 ghost use Rattle.std.specs.Prelude.{◌≡◌, IfOk, IfErr};
 ghost use Rattle.ap_locked.specs.Kept.{Decided};
 
-use crate::entry::Deed;
+use crate::entry::{Deed, Signing};
 use crate::locked::Locked;
 use crate::naming::Journals;
 use crate::token::ShardToken;
@@ -15,9 +15,9 @@ use std::alloc::{AllocError, Global};
 use std::snapshot::Snapshot;
 
 impl<B: Ledgers + Journals, const SHARD: usize> Locked<B, SHARD> {
-    /// Decides an event. Its entry, with the returned outputs, is appended to the journal, and counted
-    /// in the books and in the token's shares. The flag says whether a data verdict dropped. The token
-    /// has then seen the whole journal. An event that is refused for lack of memory changes nothing,
+    /// Decides an event. Its entry, with the returned outputs, is appended to the journal and to the
+    /// token's page, and counted in the books and in the token's shares. The flag says whether a data
+    /// verdict dropped. The token has then seen the whole journal. An event that is refused for lack of memory changes nothing,
     /// asks for no verdict and has no entry; so does one if the journal is full, at about 2^61 entries,
     /// which no run reaches.
     pub fn decide<J: Judge>(
@@ -37,7 +37,7 @@ impl<B: Ledgers + Journals, const SHARD: usize> Locked<B, SHARD> {
         if !self.author.prepare(&self.journal) {
             return Err(AllocError);
         }
-        self.author.look(&self.journal, &mine.seen);
+        mine.pages.look(&mut self.author, &self.journal);
         let before = Snapshot::of(&*judge);
         let outcome = self.shard.handle_with_drop(alloc, event, judge)?;
         let Outcome { outs, dropped } = outcome;
@@ -47,9 +47,13 @@ impl<B: Ledgers + Journals, const SHARD: usize> Locked<B, SHARD> {
             before: &before,
             judge: &*judge,
         };
-        self.author.add(&mut self.journal, &deed);
+        let signing = Signing {
+            pages: &mine.pages,
+            deed: &deed,
+        };
+        self.author.add(&mut self.journal, &signing);
         mine.own.add(&deed);
-        mine.seen = self.journal.again();
+        mine.pages.write(&mut self.page_books, &self.journal, &deed);
         self.books.count(&mut mine.shares, outs.as_slice(), dropped);
         Ok((outs, dropped))
     }

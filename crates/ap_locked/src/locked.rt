@@ -1,6 +1,6 @@
 //! A shard with its journal and its books.
 
-ghost use Rattle.std.specs.Prelude.{◌≡◌, ◌<◌, ◌≤◌, [], IfOk, OnOk};
+ghost use Rattle.std.specs.Prelude.{◌≡◌, ◌-◌, ◌<◌, ◌≤◌, [], length, IfOk, OnOk};
 ghost use Rattle.ap_model.specs.Stations.{AreAssociated};
 ghost use Rattle.ap_core.specs.Handles.{rules};
 ghost use Rattle.ap_core.specs.Listing.{ListsAgreements, ListsStations};
@@ -8,10 +8,12 @@ ghost use Rattle.ap_books.specs.Reading.{Reads};
 ghost use Rattle.ap_laws.specs.Headline.{LinkHolds};
 ghost use Rattle.ap_locked.specs.Kept.{Holds, rules_of, readings_of};
 ghost use Rattle.ap_locked.specs.Naming.{IsNamed};
-ghost use Rattle.ap_locked.specs.Tokens.{CountJournal, KeepsOwn, newcomer};
+ghost use Rattle.ap_locked.specs.Pages.{new_page, new_pages};
+ghost use Rattle.ap_locked.specs.Tokens.{AreTheJournal, CountJournal, KeepsOwn, newcomer};
 
-use crate::entry::JournalEntry;
+use crate::entry::SignedEntry;
 use crate::naming::{Journals, NewShard};
+use crate::pages::{PageBooks, Pages};
 use crate::token::ShardToken;
 use ap_books::{Ledgers, ShardBooks, Shares, Totals};
 use ap_core::{AgreementInForce, KnownStation, Shard};
@@ -25,47 +27,57 @@ use std::marker::Model;
 #[derive(Drop)]
 pub struct Locked<B: Ledgers + Journals, const SHARD: usize> {
     pub(crate) shard: Shard,
-    pub(crate) author: Author<JournalEntry>,
-    pub(crate) journal: Known<JournalEntry>,
+    pub(crate) author: Author<SignedEntry>,
+    pub(crate) journal: Known<SignedEntry>,
     pub(crate) books: ShardBooks<B, SHARD>,
+    pub(crate) page_books: PageBooks<B, SHARD>,
 }
 
 impl<B: Ledgers + Journals, const SHARD: usize> Model for Locked<B, SHARD> {
-    ghost use Rattle.std.specs.Prelude.{◌≡◌};
+    ghost use Rattle.std.specs.Prelude.{◌≡◌, length};
     ghost use Rattle.ap_core.specs.Handles.{rules};
     ghost use Rattle.ap_journal.specs.Beginnings.{MayAdd};
     ghost use Rattle.ap_locked.specs.Kept.{Kept, Holds};
+    ghost use Rattle.ap_locked.specs.Pages.{entries_of};
 
     ghost Value = { Kept };
 
-    ghost view = { λ s. record { shard = s.shard; journal = s.journal.entries; counts = s.books } };
+    ghost view = { λ s. record { shard = s.shard; journal = entries_of s.journal.entries; counts = s.books } };
 
-    ghost invariant = { λ s. (s.journal.journal ≡ B.journal_of SHARD) × MayAdd s.author s.journal × Holds (rules SHARD B.config) (record { shard = s.shard; journal = s.journal.entries; counts = s.books }) };
+    ghost invariant = { λ s. (s.journal.journal ≡ B.journal_of SHARD) × MayAdd s.author s.journal × Holds (rules SHARD B.config) (record { shard = s.shard; journal = entries_of s.journal.entries; counts = s.books }) × (s.page_books ≡ length s.journal.entries) };
 }
 
 impl<B: Ledgers + Journals, const SHARD: usize> Locked<B, SHARD> {
-    /// A shard that has handled nothing, with a copy of the access point's configuration, and a token
-    /// with all parts of its ledgers.
+    /// A shard that has handled nothing, with a copy of the access point's configuration; a token with
+    /// all parts of its ledgers, and the first page; and the other pages.
     pub fn new(
         alloc: Global,
         config: &LinkConfig,
         new: NewShard,
-    ) -> Result<(Locked<B, SHARD>, ShardToken<B, SHARD>), AllocError>
+    ) -> Result<(Locked<B, SHARD>, ShardToken<B, SHARD>, Pages<B, SHARD>), AllocError>
         requires shard { SHARD < 8 }
         requires named { IsNamed (B.name_of SHARD) B.shares (B.journal_of SHARD) new }
         requires config { config.now ≡ B.config }
         requires some { 0 < B.shares }
+        requires few { B.shares ≤ 63 }
         ensures rules { IfOk result (λ r. rules_of r.0 ≡ rules SHARD config.now) }
         ensures empty { IfOk result (λ r. r.0.journal ≡ []) }
-        ensures token { IfOk result (λ r. r.1 ≡ newcomer B.shares []) }
+        ensures token { IfOk result (λ r. r.1 ≡ newcomer B.shares [] (new_page (B.shares - 1))) }
+        ensures others { IfOk result (λ r. r.2.pages ≡ new_pages (B.shares - 1)) }
     {
         let shard = Shard::new(alloc, SHARD as u16, config)?;
-        let NewShard { blanks, journal } = new;
+        let NewShard {
+            blanks,
+            pages,
+            journal,
+        } = new;
         let (books, shares) = ShardBooks::open(blanks);
         let (author, journal) = journal.into_parts();
+        let count = pages.count;
+        let (page_books, mut others) = Pages::open(pages, &journal);
         let token = ShardToken {
             shares,
-            seen: journal.again(),
+            pages: others.split_page(count),
             own: Past::new(),
         };
         let locked = Locked {
@@ -73,8 +85,9 @@ impl<B: Ledgers + Journals, const SHARD: usize> Locked<B, SHARD> {
             author,
             journal,
             books,
+            page_books,
         };
-        Ok((locked, token))
+        Ok((locked, token, others))
     }
 
     /// Proves what holds under each lock; does nothing at run time.
@@ -131,8 +144,8 @@ impl<B: Ledgers + Journals, const SHARD: usize> Locked<B, SHARD> {
         if !self.author.prepare(&self.journal) {
             return Err(AllocError);
         }
-        self.author.look(&self.journal, &mine.seen);
-        mine.seen = self.journal.again();
+        mine.pages.look(&mut self.author, &self.journal);
+        mine.pages.follow(&self.journal);
         Ok(())
     }
 
@@ -154,5 +167,30 @@ impl<B: Ledgers + Journals, const SHARD: usize> Locked<B, SHARD> {
         ensures totals { Reads result self.old.counts }
     {
         self.books.read(all)
+    }
+
+    /// Given all parts of the ledgers and all pages, proves that the pages together are the journal, each
+    /// entry at its own place; changes nothing. Fails only if the journal is full, at about 2^61 entries,
+    /// which no run reaches.
+    pub fn reconcile(
+        &mut self,
+        all: &mut Shares<B, SHARD>,
+        pages: &mut Pages<B, SHARD>,
+    ) -> Result<(), AllocError>
+        requires parts { all.old.parts ≡ B.shares }
+        requires pages { length pages.old.pages ≡ B.shares }
+        ensures same { self.new ≡ self.old }
+        ensures shares { all.new ≡ all.old }
+        ensures same_pages { pages.new ≡ pages.old }
+        ensures journal { OnOk result (AreTheJournal (rules SHARD B.config) all.old pages.old.pages) }
+    {
+        if !self.author.prepare(&self.journal) {
+            return Err(AllocError);
+        }
+        pages.known();
+        pages.look(&mut self.author, &self.journal);
+        pages.audit(&mut self.page_books);
+        self.books.read(all);
+        Ok(())
     }
 }

@@ -1,8 +1,10 @@
 //! Which journal, ledgers and configuration a shard has.
 
 ghost use Rattle.ap_books.specs.Naming.{AreInParts};
+ghost use Rattle.ap_locked.specs.Naming.{AreForPages};
 
-use crate::entry::JournalEntry;
+use crate::entry::SignedEntry;
+use crate::pages::NewLedgers;
 use ap_books::Blanks;
 use ap_journal::Opened;
 use std::marker::Brand;
@@ -31,16 +33,19 @@ impl Journals for Brand {
 #[derive(Drop)]
 pub struct NewShard {
     pub blanks: Blanks,
-    pub journal: Opened<JournalEntry>,
+    pub pages: NewLedgers,
+    pub journal: Opened<SignedEntry>,
 }
 
 impl NewShard {
     /// New ledgers, each divided into this many parts, and a new journal.
     pub fn new(parts: u64) -> NewShard
-        ensures { AreInParts parts result.blanks }
+        ensures parts { AreInParts parts result.blanks }
+        ensures pages { AreForPages parts result.pages }
     {
         NewShard {
             blanks: Blanks::new(parts),
+            pages: NewLedgers::new(parts),
             journal: Opened::new(),
         }
     }

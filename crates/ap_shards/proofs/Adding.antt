@@ -28,5 +28,6 @@ adds V c {k} {event = event} {outs = outs} {k2 = k2} holds d judged =
       flag = d.flag;
       seen = d.seen ∙ d.journal;
       own = d.own;
+      page = d.page;
       portion = d.portion;
     }

@@ -1,3 +1,4 @@
 pub mod Adding
+pub mod Counted
 pub mod Judging
 pub mod Rows

@@ -9,6 +9,7 @@ use Rattle.ap_model.specs.Runs.{Entry, Run, opening}
 use Rattle.ap_model.specs.Steps.{Step}
 use Rattle.ap_books.specs.Counts.{counts_of, drops, gains}
 use Rattle.ap_locked.specs.Kept.{entry_of}
+use Rattle.ap_locked.specs.Pages.{on_page}
 use Rattle.ap_locked.specs.Tokens.{Token, rules}
 use Rattle.ap_tagged.specs.declared.tagged.Fate.{Fate}
 use Rattle.ap_tagged.specs.declared.tagged.Fate.TheVariants.{Decided, Refused, NotHandled}
@@ -18,7 +19,7 @@ use Rattle.ap_shards.specs.Tokens.{Eight}
 -- The event is one step of the link with these outputs, after the journal's entries so far: a run from the opening of
 -- the shard with this number and configuration, of which the token had seen a prefix. `V` holds of the readings before
 -- the step and the verdicts; the flag says whether one of them dropped data. The token then has seen the whole journal,
--- and gains exactly this entry of its own, which its parts have counted.
+-- and gains exactly this entry of its own, on its page, which its parts have counted.
 pub record Adds (V : Readings → List (Ask × ℕ) → Type 0) (c : Rules) (t : Token) (event : Event) (outs : List Out) (dropped : Bool) (u : Token) : Type 0 where
   pub before : List Entry
   pub had_seen : IsPrefix t.seen before
@@ -31,6 +32,7 @@ pub record Adds (V : Readings → List (Ask × ℕ) → Type 0) (c : Rules) (t :
   pub flag : dropped ≡ drops asked
   pub seen : u.seen ≡ before ++ entry_of event asked outs ∷ []
   pub own : u.own ≡ t.own ++ entry_of event asked outs ∷ []
+  pub page : u.page ≡ on_page t.page (entry_of event asked outs)
   pub portion : u.portion ≡ gains t.portion (counts_of outs dropped)
 
 -- a token of that shard after this fate of an event: one that was not decided changes nothing

@@ -1,4 +1,5 @@
 pub mod Tokens
+pub mod Pages
 pub mod Judged
 pub mod Desks
 pub mod Fates

@@ -1,10 +1,12 @@
 -- New shards and their names.
-use Rattle.std.specs.Prelude.{ℕ, ◌==◌, [], if◌then◌else◌}
+use Rattle.std.specs.Prelude.{◌≡◌, ◌-◌, ℕ, ◌==◌, [], if◌then◌else◌}
 use Rattle.logbook.specs.Pages.{Book}
-use Rattle.ap_books.specs.Naming.{AreInParts, name_at}
-use Rattle.ap_locked.specs.Naming.{IsNamed}
+use Rattle.ap_books.specs.Naming.{AreInParts}
+use Rattle.ap_locked.specs.Accounts.{Account}
+use Rattle.ap_locked.specs.Naming.{AreForPages, IsNamed, ledger_names}
+use Rattle.ap_locked.specs.Pages.{new_page, new_pages}
 use Rattle.ap_locked.specs.declared.naming.NewShard.{NewShard}
-use Rattle.ap_locked.specs.Tokens.{newcomer}
+use Rattle.ap_locked.specs.Tokens.{Token, newcomer}
 use Rattle.ap_shards.specs.Tokens.{Eight}
 use Rattle.ap_shards.specs.declared.opening.NewShards.{NewShards}
 
@@ -19,21 +21,31 @@ pub record AreNamed (names : ℕ → ℕ → ℕ) (parts : ℕ) (journals : ℕ 
   pub of6 : IsNamed (names 6) parts (journals 6) n.of6
   pub of7 : IsNamed (names 7) parts (journals 7) n.of7
 
--- the ledgers of each shard are divided into this many parts
-pub record AreParted (parts : ℕ) (n : NewShards) : Type 0 where
-  pub of0 : AreInParts parts n.of0.blanks
-  pub of1 : AreInParts parts n.of1.blanks
-  pub of2 : AreInParts parts n.of2.blanks
-  pub of3 : AreInParts parts n.of3.blanks
-  pub of4 : AreInParts parts n.of4.blanks
-  pub of5 : AreInParts parts n.of5.blanks
-  pub of6 : AreInParts parts n.of6.blanks
-  pub of7 : AreInParts parts n.of7.blanks
+-- a shard's ledgers are divided into this many parts, and there are as many pages of its journal
+pub record IsParted (parts : ℕ) (n : NewShard) : Type 0 where
+  pub blanks : AreInParts parts n.blanks
+  pub pages : AreForPages parts n.pages
 
--- all parts of each ledger, which have counted nothing, and nothing seen of the journals
+-- the same for each shard
+pub record AreParted (parts : ℕ) (n : NewShards) : Type 0 where
+  pub of0 : IsParted parts n.of0
+  pub of1 : IsParted parts n.of1
+  pub of2 : IsParted parts n.of2
+  pub of3 : IsParted parts n.of3
+  pub of4 : IsParted parts n.of4
+  pub of5 : IsParted parts n.of5
+  pub of6 : IsParted parts n.of6
+  pub of7 : IsParted parts n.of7
+
+-- a token with all parts of the ledgers, which has seen nothing, and the first page; and all other pages
+pub record IsWholeAt (parts : ℕ) (t : Token) (others : Account) : Type 0 where
+  pub token : t ≡ newcomer parts [] (new_page (parts - 1))
+  pub pages : others.pages ≡ new_pages (parts - 1)
+
+-- all parts of each ledger, which have counted nothing, nothing seen of the journals, and the first page of each
 abbrev pub whole : ℕ → Eight
 whole parts =
-    let all = newcomer parts [] in
+    let all = newcomer parts [] (new_page (parts - 1)) in
     record { of0 = all; of1 = all; of2 = all; of3 = all; of4 = all; of5 = all; of6 = all; of7 = all }
 
 -- what the shard of that number begins with
@@ -44,7 +56,7 @@ new_at n shard =
 
 -- the names of its ledgers, by count
 abbrev pub names_of : NewShards → ℕ → ℕ → ℕ
-names_of n shard = name_at (new_at n shard).blanks
+names_of n shard = ledger_names (new_at n shard)
 
 -- its journal
 abbrev pub journals_of : NewShards → ℕ → Book

@@ -14,10 +14,11 @@ pub record IsFresh (p : Portion) : Type 0 where
 abbrev pub AreFresh : Holding → Type 0
 AreFresh h = Each IsFresh h
 
--- the token has no entries of its own, and has seen what it had
+-- no entry of the token's own has come since; its page, and what it has seen, are as they were
 pub record Renewed (t u : Token) : Type 0 where
   pub seen : u.seen ≡ t.seen
   pub own : u.own ≡ []
+  pub page : u.page ≡ t.page
 
 -- the same for all shards
 abbrev pub AreRenewed : Eight → Eight → Type 0

@@ -1,5 +1,5 @@
 -- Tokens of all shards.
-use Rattle.std.specs.Prelude.{◌≡◌, ◌+◌, ◌<◌}
+use Rattle.std.specs.Prelude.{◌≡◌, ◌+◌, ◌<◌, []}
 use Rattle.ap_model.specs.Readings.{Config}
 use Rattle.ap_books.specs.Holdings.{Holding}
 use Rattle.ap_locked.specs.Tokens.{CountJournal, Token, IsToken, KeepsOwn, newcomer, rules}
@@ -39,9 +39,9 @@ EachOf P a b =
 abbrev pub HasMoreThanOne : Eight → Type 0
 HasMoreThanOne e = EachOf (λ t u. 1 < t.portion.parts) e e
 
--- one part of each ledger, for one who has seen as much and has no entries
+-- one part of each ledger, for one who has seen as much, has no entries, and writes on an empty page
 abbrev pub IsNewcomer : Eight → Eight → Type 0
-IsNewcomer a b = EachOf (λ t u. u ≡ newcomer 1 t.seen) a b
+IsNewcomer a b = EachOf (λ t u. u ≡ newcomer 1 t.seen (record { mark = u.page.mark; made = [] })) a b
 
 -- the token gave one part away, and nothing else changed
 pub record GaveOne (t u : Token) : Type 0 where
@@ -49,6 +49,7 @@ pub record GaveOne (t u : Token) : Type 0 where
   pub counts : u.portion.counts ≡ t.portion.counts
   pub seen : u.seen ≡ t.seen
   pub own : u.own ≡ t.own
+  pub page : u.page ≡ t.page
 
 -- one part of each was given away
 abbrev pub HasGivenOne : Eight → Eight → Type 0

@@ -2,10 +2,11 @@
 //!
 //! Main calls of `Shards`: `decide`, by which a worker decides an event by the programs of a
 //! published set; `act`, by which an operator decides a command; both under the shard's lock; and
-//! `gather`, which reads the totals. It depends on `ap_locked` and `hook_judge`. Promised: a token
-//! gains one entry of its own, with the returned outputs, for each event that it decided, and its
-//! shares grow by exactly what these entries count; given all shares, the totals are the sum of the
-//! books.
+//! `gather`, which reads the totals; `close` does so with the pages of all tokens. It depends on
+//! `ap_locked` and `hook_judge`. Promised: a token gains one entry of its own, on its page, with
+//! the returned outputs, for each event that it decided, and its shares grow by exactly what these
+//! entries count; given all shares, the totals are the sum of the books; given all pages, these
+//! together are the journals, each entry at its own place.
 #![tactic(auto)]
 
 mod acting;
@@ -14,11 +15,13 @@ mod desk;
 mod gathering;
 mod listing;
 mod opening;
+mod pages;
 mod renewing;
 mod shards;
 mod tokens;
 
 pub use desk::Desk;
 pub use opening::NewShards;
+pub use pages::AllPages;
 pub use shards::Shards;
 pub use tokens::ShardTokens;

@@ -1,13 +1,14 @@
 //! New shards.
 
-ghost use Rattle.std.specs.Prelude.{◌≡◌, ◌<◌, [], IfOk, Ok};
+ghost use Rattle.std.specs.Prelude.{◌≡◌, ◌-◌, ◌<◌, ◌≤◌, IfOk, Ok};
 ghost use Rattle.ap_locked.specs.Naming.{IsNamed};
-ghost use Rattle.ap_locked.specs.Tokens.{newcomer};
+ghost use Rattle.ap_shards.specs.Opening.{IsWholeAt};
 
+use crate::pages::AllPages;
 use crate::shards::Shards;
 use crate::tokens::ShardTokens;
 use ap_books::Ledgers;
-use ap_locked::{Journals, Locked, NewShard, ShardToken};
+use ap_locked::{Journals, Locked, NewShard, Pages, ShardToken};
 use ap_model::LinkConfig;
 use std::alloc::{AllocError, Global};
 use std::sync::Mutex;
@@ -45,11 +46,12 @@ impl NewShards {
     }
 }
 
-/// A shard under its lock, and a token with all parts of its ledgers.
+/// A shard under its lock, a token with all parts of its ledgers and the first page, and the others.
 #[derive(Drop)]
 struct Opened<B: Ledgers + Journals, const SHARD: usize> {
     lock: Mutex<Locked<B, SHARD>>,
     mine: ShardToken<B, SHARD>,
+    others: Pages<B, SHARD>,
 }
 
 #[derive(Drop)]
@@ -91,12 +93,14 @@ fn open_one<B: Ledgers + Journals, const SHARD: usize>(
     requires named { IsNamed (B.name_of SHARD) B.shares (B.journal_of SHARD) new }
     requires config { config.now ≡ B.config }
     requires some { 0 < B.shares }
-    ensures { IfOk result (λ r. r.mine ≡ newcomer B.shares []) }
+    requires few { B.shares ≤ 63 }
+    ensures { IfOk result (λ r. IsWholeAt B.shares r.mine r.others) }
 {
-    let (locked, mine) = Locked::new(alloc, config, new)?;
+    let (locked, mine, others) = Locked::new(alloc, config, new)?;
     Ok(Opened {
         lock: Mutex::new(locked),
         mine,
+        others,
     })
 }
 
@@ -111,8 +115,9 @@ fn open_two<B: Ledgers + Journals, const FIRST: usize, const SECOND: usize>(
     requires named_second { IsNamed (B.name_of SECOND) B.shares (B.journal_of SECOND) new.1 }
     requires config { config.now ≡ B.config }
     requires some { 0 < B.shares }
-    ensures first { IfOk result (λ r. r.first.mine ≡ newcomer B.shares []) }
-    ensures second { IfOk result (λ r. r.second.mine ≡ newcomer B.shares []) }
+    requires few { B.shares ≤ 63 }
+    ensures first { IfOk result (λ r. IsWholeAt B.shares r.first.mine r.first.others) }
+    ensures second { IfOk result (λ r. IsWholeAt B.shares r.second.mine r.second.others) }
 {
     let (second, first) = beside(new.1, open_one(alloc, config, new.0))?;
     let (first, second) = beside(first, open_one(alloc, config, second))?;
@@ -140,22 +145,23 @@ fn open_four<
     requires named_fourth { IsNamed (B.name_of FOURTH) B.shares (B.journal_of FOURTH) new.1.1 }
     requires config { config.now ≡ B.config }
     requires some { 0 < B.shares }
-    ensures first { IfOk result (λ r. r.low.first.mine ≡ newcomer B.shares []) }
-    ensures second { IfOk result (λ r. r.low.second.mine ≡ newcomer B.shares []) }
-    ensures third { IfOk result (λ r. r.high.first.mine ≡ newcomer B.shares []) }
-    ensures fourth { IfOk result (λ r. r.high.second.mine ≡ newcomer B.shares []) }
+    requires few { B.shares ≤ 63 }
+    ensures first { IfOk result (λ r. IsWholeAt B.shares r.low.first.mine r.low.first.others) }
+    ensures second { IfOk result (λ r. IsWholeAt B.shares r.low.second.mine r.low.second.others) }
+    ensures third { IfOk result (λ r. IsWholeAt B.shares r.high.first.mine r.high.first.others) }
+    ensures fourth { IfOk result (λ r. IsWholeAt B.shares r.high.second.mine r.high.second.others) }
 {
     let (high, low) = beside(new.1, open_two(alloc, config, new.0))?;
     let (low, high) = beside(low, open_two(alloc, config, high))?;
     Ok(OpenedFour { low, high })
 }
 
-/// Eight shards, and tokens with all parts of their ledgers.
+/// Eight shards, tokens with all parts of their ledgers and the first pages, and the other pages.
 fn joined<B: Ledgers + Journals>(
     low: OpenedFour<B, 0, 1, 2, 3>,
     high: OpenedFour<B, 4, 5, 6, 7>,
-) -> (Shards<B>, ShardTokens<B>)
-    ensures { result.1 ≡ record {
+) -> (Shards<B>, ShardTokens<B>, AllPages<B>)
+    ensures tokens { result.1 ≡ record {
       of0 = low.low.first.mine;
       of1 = low.low.second.mine;
       of2 = low.high.first.mine;
@@ -164,6 +170,16 @@ fn joined<B: Ledgers + Journals>(
       of5 = high.low.second.mine;
       of6 = high.high.first.mine;
       of7 = high.high.second.mine;
+    } }
+    ensures pages { result.2 ≡ record {
+      of0 = low.low.first.others.pages;
+      of1 = low.low.second.others.pages;
+      of2 = low.high.first.others.pages;
+      of3 = low.high.second.others.pages;
+      of4 = high.low.first.others.pages;
+      of5 = high.low.second.others.pages;
+      of6 = high.high.first.others.pages;
+      of7 = high.high.second.others.pages;
     } }
 {
     let OpenedTwo { first, second } = low.high;
@@ -193,23 +209,36 @@ fn joined<B: Ledgers + Journals>(
         of6: seventh.mine,
         of7: eighth.mine,
     };
-    (shards, tokens)
+    let pages = AllPages {
+        of0: first.others,
+        of1: second.others,
+        of2: third.others,
+        of3: fourth.others,
+        of4: fifth.others,
+        of5: sixth.others,
+        of6: seventh.others,
+        of7: eighth.others,
+    };
+    (shards, tokens, pages)
 }
 
 impl<B: Ledgers + Journals> Shards<B> {
     ghost use Rattle.ap_shards.specs.Opening.{AreNamed, whole};
+    ghost use Rattle.ap_shards.specs.Pages.{AreNewPages};
 
-    /// Eight new shards with the access point's configuration, and tokens with all parts of their
-    /// ledgers.
+    /// Eight new shards with the access point's configuration, tokens with all parts of their ledgers
+    /// and the first pages, and all other pages.
     pub fn open(
         alloc: Global,
         config: &LinkConfig,
         new: NewShards,
-    ) -> Result<(Shards<B>, ShardTokens<B>), AllocError>
+    ) -> Result<(Shards<B>, ShardTokens<B>, AllPages<B>), AllocError>
         requires named { AreNamed B.name_of B.shares B.journal_of new }
         requires config { config.now ≡ B.config }
         requires some { 0 < B.shares }
+        requires few { B.shares ≤ 63 }
         ensures tokens { IfOk result (λ r. r.1 ≡ whole B.shares) }
+        ensures pages { IfOk result (λ r. AreNewPages (B.shares - 1) r.2) }
     {
         let NewShards {
             of0,

@@ -10,7 +10,7 @@ impl<B: Ledgers + Journals> ShardTokens<B> {
     ghost use Rattle.ap_shards.specs.Tokens.{holding_of};
 
     /// Exchanges its parts of the ledgers, with what they have counted, for others that have counted
-    /// nothing. It then has no entries of its own.
+    /// nothing. Then no entry of its own has come since; its pages are unchanged.
     pub fn renew(&mut self, fresh: Portions<B>) -> Portions<B>
         requires { AreFresh fresh }
         ensures given { result ≡ holding_of self.old }

@@ -17,4 +17,5 @@ returns g c =
       readers = ap (λ (r : Readers). r.left) c.requires.readers;
       parts = refl;
       shards = c.requires.tokens;
+      pages = c.requires.pages;
     }
