@@ -211,11 +211,13 @@ fn lists(
 /// Data with this number comes for TID 0 of a station, and is taken.
 fn take(rt: &impl Abort, alloc: Global, agreements: &mut Agreements, last: u8, of: u16) {
     let wanted = number(rt, of);
+    let body = Octets::copy(alloc, b"c").expect(rt, "memory");
+    let frame = Held::new(station(9), 5, body);
     let placed = agreements.get_placed(station(last), tid(rt, 0));
     let (at, entry) = placed.expect(rt, "an agreement");
     assert!(rt; entry.wants(wanted));
     let mut out = Released::new();
-    agreements.take(at, wanted, Some(held(rt, alloc)), 4, &mut out);
+    agreements.take(at, wanted, Some(frame), 4, &mut out);
 }
 
 #[test]
