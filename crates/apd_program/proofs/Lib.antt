@@ -5,3 +5,4 @@ pub mod Slots
 pub mod Said
 pub mod Performing
 pub mod Delivering
+pub mod Evaluated

@@ -11,7 +11,7 @@ use Rattle.apd_run.specs.Counts.{none}
 use Rattle.apd_run.specs.Shows as shows
 use Rattle.apd_run.proofs.Ending.{runs_nothing}
 use Rattle.apd_program.specs.declared.answer.Answer.{Answer}
-use Rattle.apd_program.specs.declared.answer.Answer.TheVariants.{Accepted, Code, Instructions, Run, Page, Script, CutScript, Help, Fault, Refused, LineFault, Certificate, Unaccepted}
+use Rattle.apd_program.specs.declared.answer.Answer.TheVariants.{Accepted, Code, Instructions, Run, Verdicts, Page, Script, CutScript, Help, Fault, Refused, LineFault, Certificate, Unaccepted}
 use Rattle.apd_program.specs.declared.fault.ProgramFault.{ProgramFault}
 use Rattle.apd_program.specs.declared.fault.ProgramFault.TheVariants as fault
 use Rattle.apd_program.specs.Lines.{status_of}
@@ -51,6 +51,7 @@ complained files a output o (fault.NoDigits path) (inl memory) = cc
 complained files a output o (fault.OddDigits path) (inl memory) = cc
 complained files a output o (fault.Config path f) (inl memory) = cc
 complained files a output o fault.LongFrame (inl memory) = cc
+complained files a output o fault.NoConfig (inl memory) = cc
 complained files a output o (fault.Unreadable path why) (inr h) = Refrained h (Keeps-same o)
 complained files a output o (fault.NoCode path f) (inr h) = Refrained h (Keeps-same o)
 complained files a output o (fault.Capture path f) (inr h) = Refrained h (Keeps-same o)
@@ -62,6 +63,7 @@ complained files a output o (fault.NoDigits path) (inr h) = Refrained h (Keeps-s
 complained files a output o (fault.OddDigits path) (inr h) = Refrained h (Keeps-same o)
 complained files a output o (fault.Config path f) (inr h) = Refrained h (Keeps-same o)
 complained files a output o fault.LongFrame (inr h) = Refrained h (Keeps-same o)
+complained files a output o fault.NoConfig (inr h) = Refrained h (Keeps-same o)
 
 pub Performs-complained : (files : Held) (a : Asked) (output o : Option (List ℕ)) (f : ProgramFault) (status : ℕ) → (f ≡ fault.NoMemory) ⊎ HasNoAnswer files a → status ≡ fault_status f → Performs files a output o o status
 Performs-complained files a output o f status h is = rw is (complained files a output o f h)
@@ -71,6 +73,7 @@ status_within (Accepted budget) = omega arith
 status_within (Code code) = omega arith
 status_within (Instructions text) = omega arith
 status_within (Run text) = omega arith
+status_within (Verdicts text) = omega arith
 status_within (Page text) = omega arith
 status_within (Script text) = omega arith
 status_within (CutScript text f) = omega arith

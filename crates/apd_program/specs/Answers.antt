@@ -3,7 +3,7 @@ use Rattle.std.specs.Prelude.{◌^◌, Bool, List, ℕ, Option}
 use Rattle.bpf_regions.specs.declared.hooks.Hook.{Hook}
 use Rattle.bpf_decode.specs.Program.{Code}
 use Rattle.bpf_verifier.specs.Limits.{nearest}
-use Rattle.apd_words.specs.Asked.{Asked, Verify, Assemble, Disassemble, ListRaw, Graph, Trace, Explain, Frames, Help, Certify, Check}
+use Rattle.apd_words.specs.Asked.{Asked, Verify, Assemble, Disassemble, ListRaw, Graph, Trace, Evaluate, Explain, Frames, Help, Certify, Check}
 use Rattle.apd_program.specs.declared.answer.Answer.{Answer}
 use Rattle.apd_program.specs.declared.reading.Setup.{Setup}
 use Rattle.apd_files.specs.declared.inputs.files.FileKind.TheVariants as kind
@@ -16,6 +16,7 @@ use Rattle.apd_program.specs.Programs.{IsOfProgram}
 use Rattle.apd_program.specs.Verifying.{IsVerdict, IsBudget, IsRun}
 use Rattle.apd_program.specs.Texts.{IsAssembly, IsListingWith, IsRawListing}
 use Rattle.apd_program.specs.Drawings.{IsDrawing}
+use Rattle.apd_program.specs.Evaluating.{IsEvaluatedFile, HasNoEvaluation}
 use Rattle.apd_program.specs.Certifying.{IsCertificate, IsChecked}
 
 -- what is said of the program in the file, with the configuration
@@ -63,6 +64,7 @@ IsAnswer files (ListRaw file config slots) a = IsOfSlots (IsRawListing slots) fi
 IsAnswer files (Graph file config) a = IsOfCode (λ setup. IsDrawing) files file config a
 IsAnswer files (Trace hook file word config states words from_frame) a =
     IsTraced files (nearest states) hook file word config words from_frame a
+IsAnswer files (Evaluate hook file capture config states json) a = IsEvaluatedFile files (nearest states) hook file capture config json a
 IsAnswer files (Explain number) a = IsPageFor number a
 IsAnswer files (Frames capture ticks) a = IsOfText (IsScript ticks) files capture a
 IsAnswer files (Help command) a = IsHelpText (help_words command) a
@@ -78,6 +80,7 @@ HasNoAnswer files (ListRaw file config slots) = IsAtFault files file config
 HasNoAnswer files (Graph file config) = IsAtFault files file config
 HasNoAnswer files (Trace hook file word config states words from_frame) =
     HasNoTrial files file word config words from_frame
+HasNoAnswer files (Evaluate hook file capture config states json) = HasNoEvaluation files file capture config
 HasNoAnswer files (Explain number) = HasNoPage number
 HasNoAnswer files (Frames capture ticks) = HasBadCapture files capture
 HasNoAnswer files (Help command) = HasNoHelp (help_words command)

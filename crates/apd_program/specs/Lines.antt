@@ -7,7 +7,7 @@ use Rattle.bpf_cert.specs.Faults as certificate
 use Rattle.hex.specs.Hex.{encode_lower}
 use Rattle.apd_program.specs.Slots.{line_of, slot_lines}
 use Rattle.apd_program.specs.declared.answer.Answer.{Answer}
-use Rattle.apd_program.specs.declared.answer.Answer.TheVariants.{Accepted, Code, Instructions, Run, Page, Script, CutScript, Help, Fault, Refused, LineFault, Certificate, Unaccepted}
+use Rattle.apd_program.specs.declared.answer.Answer.TheVariants.{Accepted, Code, Instructions, Run, Verdicts, Page, Script, CutScript, Help, Fault, Refused, LineFault, Certificate, Unaccepted}
 
 -- the printed text of an answer
 abbrev pub printed : Answer → List ℕ
@@ -15,6 +15,7 @@ printed (Accepted budget) = line_of (codes "accepted budget " ++ decimal budget)
 printed (Code code) = slot_lines (length code.items / 8) code.items
 printed (Instructions text) = string_bytes text
 printed (Run text) = string_bytes text
+printed (Verdicts text) = string_bytes text
 printed (Page text) = string_bytes text
 printed (Script text) = string_bytes text
 printed (CutScript text fault) = string_bytes text
@@ -31,6 +32,7 @@ status_of (Accepted budget) = 0
 status_of (Code code) = 0
 status_of (Instructions text) = 0
 status_of (Run text) = 0
+status_of (Verdicts text) = 0
 status_of (Page text) = 0
 status_of (Script text) = 0
 status_of (CutScript text fault) = 1

@@ -23,6 +23,8 @@ pub enum Answer {
     Instructions(String),
     /// The text of a run: a line for each step and each note, and the result.
     Run(String),
+    /// The verdicts on a capture's packets: a table, or lines of JSON.
+    Verdicts(String),
     /// The page on a refusal's number, or the list of all numbers.
     Page(String),
     /// The frames of a capture as a script.
@@ -56,7 +58,7 @@ impl Answer {
             | Answer::Instructions(_)
             | Answer::Run(_)
             | Answer::Certificate(_) => 0,
-            Answer::Page(_) | Answer::Script(_) | Answer::Help(_) => 0,
+            Answer::Verdicts(_) | Answer::Page(_) | Answer::Script(_) | Answer::Help(_) => 0,
             Answer::Fault(_) | Answer::Refused(_) | Answer::LineFault(_) | Answer::Unaccepted(_) =>
                 1,
             Answer::CutScript { .. } => 1,
@@ -72,6 +74,7 @@ impl Answer {
             Answer::Code(code) => slot_lines(alloc, code.as_slice()),
             Answer::Instructions(text) | Answer::Run(text) => Ok(text),
             Answer::Page(text) | Answer::Script(text) | Answer::Help(text) => Ok(text),
+            Answer::Verdicts(text) => Ok(text),
             Answer::CutScript { text, .. } => Ok(text),
             Answer::Fault(fault) => format!(in alloc; "{fault}\n"),
             Answer::Refused(refusal) => format!(in alloc; "{refusal}\n"),

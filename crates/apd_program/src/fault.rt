@@ -20,6 +20,7 @@ pub(crate) enum ProgramFault {
     OddDigits(String),
     Config { path: String, why: String },
     Capture { path: String, fault: CaptureFault },
+    NoConfig,
     NoPage { word: String, ranges: String },
     NoCommand(String),
     LongFrame,
@@ -39,6 +40,9 @@ impl fmt::Display for ProgramFault {
             ProgramFault::OddDigits(name) => write!(f, "apd: {name}: an odd number of hex digits"),
             ProgramFault::Config { path, why } => write!(f, "apd: {path}: {why}"),
             ProgramFault::Capture { path, fault } => write!(f, "apd: {path}: {fault}"),
+            ProgramFault::NoConfig => f.write_str(
+                "apd: no --config was given, so no address to which the capture's frames come",
+            ),
             ProgramFault::NoPage { word, ranges } => write!(
                 f,
                 "apd: no refusal has the number `{word}`; there are {ranges}"

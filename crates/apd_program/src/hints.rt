@@ -37,6 +37,7 @@ fn has_config(question: &Question<'_>) -> bool {
             subject.source.config.is_some()
         }
         Question::Trace(trial) => trial.subject.source.config.is_some(),
+        Question::Evaluate(evaluation) => evaluation.subject.source.config.is_some(),
         Question::Check(claim) => claim.source.config.is_some(),
         Question::Disassemble { source, .. }
         | Question::ListRaw { source, .. }

@@ -8,6 +8,7 @@ mod answer;
 mod certifying;
 mod drawing;
 mod entry;
+mod evaluating;
 mod explaining;
 mod fault;
 mod framing;

@@ -18,7 +18,9 @@ use crate::output::{conclude, deliver};
 use crate::printing::{complain, print_text, say, say_if_any};
 use crate::reading::{Loaded, Setup, certificate, frame, load, read};
 use crate::verifying::Stimulus;
-use crate::{certifying, drawing, explaining, framing, helping, hints, texts, verifying};
+use crate::{
+    certifying, drawing, evaluating, explaining, framing, helping, hints, texts, verifying,
+};
 use apd_files::{FileKind, Files};
 use apd_text::context_for;
 use apd_words::{Claim, Given, Query, Question, Request, Source, Subject, Told, Trial, read_words};
@@ -112,6 +114,7 @@ fn answer<F: Files>(
         Question::ListRaw { source, slots } => list_raw(alloc, source, slots, files, reason),
         Question::Graph { source } => drawing::graph(alloc, source, files),
         Question::Trace(trial) => trace(alloc, trial, files, reason),
+        Question::Evaluate(evaluation) => evaluating::evaluate(alloc, evaluation, files, reason),
         Question::Explain { number } => explaining::page(alloc, number),
         Question::Frames { capture, ticks } => framing::frames(alloc, capture, ticks, files),
         Question::Help { command } => helping::help(alloc, command),

@@ -95,7 +95,11 @@ fn setup_of<F: Files>(
 }
 
 /// Reads code from a file, and keeps as much of it as decides its verdict.
-fn code<F: Files>(alloc: Global, path: &str, files: &mut F) -> Result<Vec<u8>, ProgramFault>
+pub(crate) fn code<F: Files>(
+    alloc: Global,
+    path: &str,
+    files: &mut F,
+) -> Result<Vec<u8>, ProgramFault>
     ensures code { IfOk result
         (λ code. HoldsKept (2 ^ 17) (F.held files.old) path.now code.items) }
     ensures fault { IfErr result (IsMemoryOr (HasBadCode (F.held files.old) path.now)) }

@@ -36,7 +36,7 @@ pub(crate) fn limit_of(terms: Terms) -> StateLimit
 
 /// Admits a program, or returns why not. The program is explored once, and the reason, if it is wanted, describes
 /// that exploration.
-fn admit(
+pub(crate) fn admit(
     alloc: Global,
     program: Program,
     terms: Terms,

@@ -10,6 +10,7 @@ use Rattle.bpf_regions.specs.declared.hooks.Hook.{Hook}
 use Rattle.bpf_regions.specs.declared.hooks.Hook.TheVariants.{Association, Addba, Data}
 use Rattle.apd_words.specs.CommandLine.{most_states}
 use Rattle.apd_words.specs.declared.Claim.{Claim}
+use Rattle.apd_words.specs.declared.Evaluation.{Evaluation}
 use Rattle.apd_words.specs.declared.LiveRun.{LiveRun}
 use Rattle.apd_words.specs.declared.Query.{Query}
 use Rattle.apd_words.specs.declared.Question.{Question}
@@ -29,6 +30,7 @@ pub data Asked : Type 0 where
   ListRaw : Text → Option Text → Bool → Asked
   Graph : Text → Option Text → Asked
   Trace : Hook → Text → Text → Option Text → ℕ → Option Text → Bool → Asked
+  Evaluate : Hook → Text → Text → Option Text → ℕ → Bool → Asked
   Certify : Hook → Text → Option Text → ℕ → Asked
   Check : Hook → Text → Text → Option Text → Asked
   Explain : Option Text → Asked
@@ -70,6 +72,12 @@ asked_slots source slots = ListRaw source.file.now (config_of source) slots
 abbrev pub asked_graph : Source → Asked
 asked_graph source = Graph source.file.now (config_of source)
 
+-- the question of `eval`
+abbrev pub asked_evaluation : Evaluation → Asked
+asked_evaluation evaluation =
+    Evaluate evaluation.subject.terms.hook evaluation.subject.source.file.now evaluation.capture.now
+    (config_of evaluation.subject.source) evaluation.subject.terms.states evaluation.json
+
 -- the question of `trace`
 abbrev pub asked_run : Trial → Asked
 asked_run trial =
@@ -95,6 +103,7 @@ asked_of (question.Disassemble source slots) = asked_listing source slots
 asked_of (question.ListRaw source slots) = asked_slots source slots
 asked_of (question.Graph source) = asked_graph source
 asked_of (question.Trace trial) = asked_run trial
+asked_of (question.Evaluate evaluation) = asked_evaluation evaluation
 asked_of (question.Certify subject) = asked_certificate subject
 asked_of (question.Check claim) = asked_check claim
 asked_of (question.Explain number) = Explain (text_of number)
@@ -192,6 +201,16 @@ trace_of rows = do
   Some (Trace hook file frame (first_of (codes "config") rows) states
       (first_of (codes "context") rows) (is_set (codes "from-frame") rows))
 
+-- `eval HOOK FILE CAPTURE [--config C] [--states N] [-j]`
+abbrev pub evaluate_of : List Row → Option Asked
+evaluate_of rows = do
+  hook ← hook_at rows
+  file ← first_of (codes "FILE") rows
+  capture ← first_of (codes "CAPTURE") rows
+  states ← states_at rows
+  Some (Evaluate hook file capture (first_of (codes "config") rows) states
+      (is_set (codes "json") rows))
+
 -- `run C SCRIPT [--workers N] [--states N] [--quiet] [--strict] [--verbose]`
 abbrev pub run_of : List Row → Option Wanted
 run_of rows = do
@@ -247,11 +266,12 @@ command_asks name rows =
     else (if bytes_eq name (codes "asm") then assemble_of rows
     else (if bytes_eq name (codes "disasm") then disassemble_of rows
     else (if bytes_eq name (codes "trace") then trace_of rows
+    else (if bytes_eq name (codes "eval") then evaluate_of rows
     else (if bytes_eq name (codes "cert") then certify_of rows
     else (if bytes_eq name (codes "check") then check_of rows
     else (if bytes_eq name (codes "explain") then explain_of rows
     else (if bytes_eq name (codes "frames") then frames_of rows
-    else (if bytes_eq name (codes "help") then help_of rows else None)))))))))
+    else (if bytes_eq name (codes "help") then help_of rows else None))))))))))
 
 -- what a command with these arguments asks for, and the file of `-o`
 abbrev pub answers_to : Text → List Row → Option Wanted

@@ -55,6 +55,10 @@ config = option (codes "config")
 abbrev pub output : Rule
 output = record (option (codes "output")) { short = Some 111 }
 
+-- `-j`, or `--json`; the letter is 106
+abbrev pub json : Rule
+json = record (flag (codes "json")) { short = Some 106 }
+
 -- `--context KEY=VALUE,..`
 abbrev pub context : Rule
 context = option (codes "context")
@@ -104,6 +108,12 @@ abbrev pub trace : ValueParser → Shape
 trace hooks =
     hook_command (codes "trace") hooks (required (codes "FRAME") ∷ config ∷ states ∷ context
     ∷ flag (codes "from-frame") ∷ flag (codes "explain") ∷ [])
+
+-- `eval HOOK FILE CAPTURE [--config C] [--states N] [-j] [-o FILE]`
+abbrev pub evaluate : ValueParser → Shape
+evaluate hooks =
+    hook_command (codes "eval") hooks (required (codes "CAPTURE") ∷ config ∷ states ∷ json
+    ∷ output ∷ [])
 
 -- `run C SCRIPT [--workers N] [--states N] [--quiet] [--strict] [--verbose]`
 abbrev pub run : ValueParser → Shape
@@ -157,10 +167,14 @@ abbrev pub with_code_commands : ValueParser → App → App
 with_code_commands hooks a =
     with_subcommand (with_subcommand (with_subcommand a (verify hooks)) assemble) disassemble
 
--- the commands that run programs
-abbrev pub with_run_commands : ValueParser → ValueParser → App → App
-with_run_commands hooks numbers a =
-    with_subcommand (with_subcommand (with_subcommand a (trace hooks)) (run numbers)) (live numbers)
+-- the commands that try programs
+abbrev pub with_trial_commands : ValueParser → App → App
+with_trial_commands hooks a =
+    with_subcommand (with_subcommand a (trace hooks)) (evaluate hooks)
+
+-- the commands that run an access point
+abbrev pub with_run_commands : ValueParser → App → App
+with_run_commands numbers a = with_subcommand (with_subcommand a (run numbers)) (live numbers)
 
 -- the commands on certificates
 abbrev pub with_certificate_commands : ValueParser → App → App
@@ -175,4 +189,4 @@ with_reading_commands a = with_subcommand (with_subcommand (with_subcommand a ex
 abbrev pub command_line : ValueParser → ValueParser → App
 command_line hooks numbers =
     with_reading_commands (with_certificate_commands hooks
-    (with_run_commands hooks numbers (with_code_commands hooks program)))
+    (with_run_commands numbers (with_trial_commands hooks (with_code_commands hooks program))))

@@ -5,7 +5,7 @@ ghost use Rattle.clap.specs.Words.{App, Rule, Shape, app_of, rule_of, with_subco
 ghost use Rattle.clap.specs.Simple.{new_shape};
 ghost use Rattle.clap.specs.declared.builder.value_parser.ValueParser.TheVariants.{Names};
 ghost use Rattle.apd_words.specs.Built.{IsProgram, IsCommand, with_argument};
-ghost use Rattle.apd_words.specs.CommandLine.{command_line, program, with_code_commands, with_run_commands, with_certificate_commands, with_reading_commands, hook_command, required, optional, flag, hook, file, config, output, context, workers, states, verify, assemble, disassemble, trace, run, live, certify, check, explain, frames, help};
+ghost use Rattle.apd_words.specs.CommandLine.{command_line, program, with_code_commands, with_trial_commands, with_run_commands, with_certificate_commands, with_reading_commands, hook_command, required, optional, flag, hook, file, config, json, output, context, workers, states, verify, assemble, disassemble, trace, evaluate, run, live, certify, check, explain, frames, help};
 
 use clap::builder::ValueParser;
 use clap::{Arg, ArgAction, Command};
@@ -41,7 +41,8 @@ pub(crate) fn command_line<'a>(
         (λ c. app_of c ≡ command_line (Names hooks.entry) (Names numbers.entry)) }
 {
     let line = with_code_commands(alloc, program(alloc), hooks);
-    let line = with_run_commands(alloc, line, hooks, numbers);
+    let line = with_trial_commands(alloc, line, hooks);
+    let line = with_run_commands(alloc, line, numbers);
     let line = with_certificate_commands(alloc, line, hooks);
     with_reading_commands(alloc, line)
 }
@@ -86,16 +87,18 @@ fn with_code_commands<'a>(alloc: Global, line: Made<'a>, hooks: &'a [&'a str]) -
     with_command(line, disassemble(alloc))
 }
 
-fn with_run_commands<'a>(
-    alloc: Global,
-    line: Made<'a>,
-    hooks: &'a [&'a str],
-    numbers: &'a [&'a str],
-) -> Made<'a>
-    ensures is { (a : App) → IfOk line.entry (IsProgram a) → IfOk result
-        (IsProgram (with_run_commands (Names hooks.entry) (Names numbers.entry) a)) }
+fn with_trial_commands<'a>(alloc: Global, line: Made<'a>, hooks: &'a [&'a str]) -> Made<'a>
+    ensures is { (a : App) → IfOk line.entry (IsProgram a)
+        → IfOk result (IsProgram (with_trial_commands (Names hooks.entry) a)) }
 {
     let line = with_command(line, trace(alloc, hooks));
+    with_command(line, evaluate(alloc, hooks))
+}
+
+fn with_run_commands<'a>(alloc: Global, line: Made<'a>, numbers: &'a [&'a str]) -> Made<'a>
+    ensures is { (a : App) → IfOk line.entry (IsProgram a)
+        → IfOk result (IsProgram (with_run_commands (Names numbers.entry) a)) }
+{
     let line = with_command(line, run(alloc, numbers));
     with_command(line, live(alloc, numbers))
 }
@@ -196,6 +199,19 @@ fn trace<'a>(alloc: Global, hooks: &'a [&'a str]) -> Made<'a>
     let command = with_arg(command, flag(alloc, "from-frame", frame));
     let why = "Tell on standard error why, and what is known there";
     with_arg(command, flag(alloc, "explain", why))
+}
+
+fn evaluate<'a>(alloc: Global, hooks: &'a [&'a str]) -> Made<'a>
+    ensures is { IfOk result (IsCommand (evaluate (Names hooks.entry))) }
+{
+    let about = "Judge a capture's frames by a program, and print each verdict";
+    let capture = "A capture of 802.11 frames, as pcap or pcapng";
+    let command = with_arg(
+        hook_command(alloc, "eval", about, hooks),
+        required(alloc, "CAPTURE", capture),
+    );
+    let command = with_arg(with_arg(command, config(alloc)), states(alloc));
+    with_arg(with_arg(command, json(alloc)), output(alloc))
 }
 
 fn run<'a>(alloc: Global, numbers: &'a [&'a str]) -> Made<'a>
@@ -341,6 +357,17 @@ fn config<'a>(alloc: Global) -> Arg<'a>
         .value_name("C")
         .action(ArgAction::Set)
         .help("The configuration: shapes of maps, first draw word")
+}
+
+fn json<'a>(alloc: Global) -> Arg<'a>
+    ensures is { rule_of result ≡ json }
+    ensures local { result.global ≡ false }
+{
+    Arg::new(alloc, "json")
+        .long("json")
+        .short('j')
+        .action(ArgAction::SetTrue)
+        .help("Print each verdict as a line of JSON")
 }
 
 fn output<'a>(alloc: Global) -> Arg<'a>

@@ -54,6 +54,14 @@ pub struct Trial<'a> {
     pub explain: bool,
 }
 
+/// A program to judge the frames of a capture. `json` asks for lines of JSON.
+#[derive(Clone, Copy)]
+pub struct Evaluation<'a> {
+    pub subject: Subject<'a>,
+    pub capture: &'a str,
+    pub json: bool,
+}
+
 /// A program, and the file of a certificate that should show it safe for a hook.
 #[derive(Clone, Copy)]
 pub struct Claim<'a> {
@@ -99,6 +107,7 @@ pub enum Question<'a> {
     /// The control-flow graph, for graphviz.
     Graph { source: Source<'a> },
     Trace(Trial<'a>),
+    Evaluate(Evaluation<'a>),
     Certify { subject: Subject<'a> },
     Check(Claim<'a>),
     /// Without a number, it lists all.

@@ -4,11 +4,12 @@ ghost use Rattle.std.specs.Prelude.{◌≡◌, ◌≤◌, ◌^◌, IfSome, optio
 ghost use Rattle.clap.specs.Matches.{found_of};
 ghost use Rattle.clap.specs.Simple.{subcommand_rows_of};
 ghost use Rattle.clap.specs.Walk.{first_of, rows_of};
-ghost use Rattle.apd_words.specs.Asked.{asked_of, command_asks, answers_to, wanted_of, wanted_in, asked_verdict, asked_certificate, hook_named, hook_at, workers_named, states_named, states_at, verify_of, assemble_of, disassemble_of, trace_of, run_of, live_of, certify_of, check_of, explain_of, frames_of, help_of, is_set};
+ghost use Rattle.apd_words.specs.Asked.{asked_of, command_asks, answers_to, wanted_of, wanted_in, asked_verdict, asked_certificate, hook_named, hook_at, workers_named, states_named, states_at, verify_of, assemble_of, disassemble_of, trace_of, evaluate_of, run_of, live_of, certify_of, check_of, explain_of, frames_of, help_of, is_set};
 
 use crate::command::MOST_STATES;
 use crate::{
-    Claim, Given, LiveRun, Query, Question, Request, ScriptRun, Source, Subject, Terms, Trial,
+    Claim, Evaluation, Given, LiveRun, Query, Question, Request, ScriptRun, Source, Subject, Terms,
+    Trial,
 };
 use bpf_regions::Hook;
 use clap::ArgMatches;
@@ -44,6 +45,7 @@ fn question<'a>(name: &str, matches: &ArgMatches<'a>) -> Option<Question<'a>>
         "asm" => assemble(matches),
         "disasm" => disassemble(matches),
         "trace" => trace(matches),
+        "eval" => evaluate(matches),
         "cert" => certify(matches),
         "check" => check(matches),
         "explain" => explain(matches),
@@ -100,6 +102,24 @@ fn trace<'a>(matches: &ArgMatches<'a>) -> Option<Question<'a>>
         frame,
         given: given(matches),
         explain,
+    }))
+}
+
+fn evaluate<'a>(matches: &ArgMatches<'a>) -> Option<Question<'a>>
+    ensures is { option_map asked_of result ≡ evaluate_of (rows_of (found_of matches.now)) }
+{
+    let hook = hook(matches)?;
+    let file = value(matches, "FILE")?;
+    let capture = value(matches, "CAPTURE")?;
+    let config = value(matches, "config");
+    let states = states(matches)?;
+    let json = flag(matches, "json");
+    let source = Source { file, config };
+    let terms = Terms { hook, states };
+    Some(Question::Evaluate(Evaluation {
+        subject: Subject { source, terms },
+        capture,
+        json,
     }))
 }
 

@@ -14,6 +14,8 @@ mod configuration;
 #[cfg(test)]
 mod echo;
 #[cfg(test)]
+mod evaluating;
+#[cfg(test)]
 mod faults;
 #[cfg(test)]
 mod gates;

@@ -1,0 +1,5 @@
+pub mod CommandLine
+pub mod Built
+pub mod Asked
+pub mod Reads
+pub mod Spells

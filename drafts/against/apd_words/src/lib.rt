@@ -1,0 +1,154 @@
+//! The command line of `apd`: what its words ask for, or the text to print instead.
+//!
+//! Main call: `read_words`. It depends on `clap` and `bpf_regions`. It returns the `Request` that the words spell, the
+//! help that they ask for, or the text of a fault. [`laws`] shows which words spell `verify`, `asm`, `disasm` and
+//! `trace`. The texts are tested, not proved.
+#![tactic(auto)]
+
+ghost use Rattle.std.specs.Prelude.{◌≡◌};
+ghost use Rattle.apd_words.specs.declared.Told.TheVariants.{NoMemory};
+
+mod command;
+pub mod laws;
+mod reading;
+mod words;
+
+use bpf_regions::Hook;
+use std::alloc::AllocError;
+pub use words::read_words;
+
+/// The file of a program's code, and of the configuration of its maps, if it has one.
+#[derive(Clone, Copy)]
+pub struct Source<'a> {
+    pub file: &'a str,
+    pub config: Option<&'a str>,
+}
+
+/// The hook for which a program is verified, and how many states the verifier may examine.
+#[derive(Clone, Copy)]
+pub struct Terms {
+    pub hook: Hook,
+    pub states: u32,
+}
+
+/// A program to verify.
+#[derive(Clone, Copy)]
+pub struct Subject<'a> {
+    pub source: Source<'a>,
+    pub terms: Terms,
+}
+
+/// The context of a traced program, as it was written, and whether it takes fields from the frame.
+#[derive(Clone, Copy)]
+pub struct Given<'a> {
+    pub context: Option<&'a str>,
+    pub from_frame: bool,
+}
+
+/// A program to verify and run on a frame. `explain` asks for the reason on standard error.
+#[derive(Clone, Copy)]
+pub struct Trial<'a> {
+    pub subject: Subject<'a>,
+    pub frame: &'a str,
+    pub given: Given<'a>,
+    pub explain: bool,
+}
+
+/// A program to judge the frames of a capture. With `against` the link follows that file's program instead, and only the
+/// verdicts that differ are printed. `json` asks for lines of JSON.
+#[derive(Clone, Copy)]
+pub struct Evaluation<'a> {
+    pub subject: Subject<'a>,
+    pub capture: &'a str,
+    pub against: Option<&'a str>,
+    pub json: bool,
+}
+
+/// A program, and the file of a certificate that should show it safe for a hook.
+#[derive(Clone, Copy)]
+pub struct Claim<'a> {
+    pub hook: Hook,
+    pub source: Source<'a>,
+    pub certificate: &'a str,
+}
+
+/// A script to run by 1 to 8 workers. `quiet` suppresses progress on standard error, `strict` ends the run after the
+/// first interval in which a line was refused, and `verbose` reports each load on standard error.
+#[derive(Clone, Copy)]
+pub struct ScriptRun<'a> {
+    pub config: &'a str,
+    pub script: &'a str,
+    pub workers: u8,
+    pub states: u32,
+    pub quiet: bool,
+    pub strict: bool,
+    pub verbose: bool,
+}
+
+/// An access point of 1 to 8 workers that answers lines as they come on standard input. `strict` ends it after the first
+/// interval in which a line was malformed or refused, and `verbose` reports each load on standard error.
+#[derive(Clone, Copy)]
+pub struct LiveRun<'a> {
+    pub config: &'a str,
+    pub workers: u8,
+    pub states: u32,
+    pub strict: bool,
+    pub verbose: bool,
+}
+
+/// A request that runs no script. Paths, frames and numbers are as they were written. The verifier may examine 1 to
+/// 4194304 states.
+#[derive(Clone, Copy)]
+pub enum Question<'a> {
+    /// `explain` asks for the reason on standard error.
+    Verify { subject: Subject<'a>, explain: bool },
+    Assemble { file: &'a str },
+    Disassemble { source: Source<'a>, slots: bool },
+    /// Lists all slots, also those that aren't instructions.
+    ListRaw { source: Source<'a>, slots: bool },
+    /// The control-flow graph, for graphviz.
+    Graph { source: Source<'a> },
+    Trace(Trial<'a>),
+    Evaluate(Evaluation<'a>),
+    Certify { subject: Subject<'a> },
+    Check(Claim<'a>),
+    /// Without a number, it lists all.
+    Explain { number: Option<&'a str> },
+    Frames { capture: &'a str, ticks: bool },
+    /// Without a command, it is the program's help.
+    Help { command: Option<&'a str> },
+}
+
+/// A question, and the file for its answer, if that isn't for standard output.
+#[derive(Clone, Copy)]
+pub struct Query<'a> {
+    pub question: Question<'a>,
+    pub output: Option<&'a str>,
+}
+
+/// What the words ask for.
+#[derive(Clone, Copy)]
+pub enum Request<'a> {
+    Run(ScriptRun<'a>),
+    Live(LiveRun<'a>),
+    Answer(Query<'a>),
+}
+
+/// What `apd` prints for words that make no request.
+#[derive(Drop)]
+pub enum Told {
+    /// Help or the version, for standard output.
+    Help(String),
+    /// What is wrong with the words, for standard error.
+    Fault(String),
+    /// Memory ran out.
+    NoMemory,
+}
+
+impl From<AllocError> for Told {
+    ghost from_gives = { λ _ told. told ≡ NoMemory };
+
+    fn from(_error: AllocError) -> Told {
+        Told::NoMemory
+    }
+}
