@@ -10,6 +10,7 @@ pub mod Texts
 pub mod Drawings
 pub mod Pages
 pub mod Scripts
+pub mod Testing
 pub mod Answers
 pub mod Printed
 pub mod Delivered

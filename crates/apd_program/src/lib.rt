@@ -17,6 +17,7 @@ mod output;
 mod printing;
 mod program;
 mod reading;
+mod testing;
 mod texts;
 mod verifying;
 

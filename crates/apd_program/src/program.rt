@@ -18,7 +18,7 @@ use crate::output::{conclude, deliver};
 use crate::printing::{complain, print_text, say, say_if_any};
 use crate::reading::{Loaded, Setup, certificate, frame, load, read};
 use crate::verifying::Stimulus;
-use crate::{certifying, drawing, explaining, framing, helping, hints, texts, verifying};
+use crate::{certifying, drawing, explaining, framing, helping, hints, testing, texts, verifying};
 use apd_files::{FileKind, Files};
 use apd_text::context_for;
 use apd_words::{Claim, Given, Query, Question, Request, Source, Subject, Told, Trial, read_words};
@@ -114,6 +114,7 @@ fn answer<F: Files>(
         Question::Trace(trial) => trace(alloc, trial, files, reason),
         Question::Explain { number } => explaining::page(alloc, number),
         Question::Frames { capture, ticks } => framing::frames(alloc, capture, ticks, files),
+        Question::Test { file } => testing::test(alloc, file, files),
         Question::Help { command } => helping::help(alloc, command),
         Question::Certify { subject } => certify(alloc, subject, files, reason),
         Question::Check(claim) => check(alloc, claim, files, reason),
