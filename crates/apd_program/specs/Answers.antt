@@ -3,7 +3,7 @@ use Rattle.std.specs.Prelude.{◌^◌, Bool, List, ℕ, Option}
 use Rattle.bpf_regions.specs.declared.hooks.Hook.{Hook}
 use Rattle.bpf_decode.specs.Program.{Code}
 use Rattle.bpf_verifier.specs.Limits.{nearest}
-use Rattle.apd_words.specs.Asked.{Asked, Verify, Assemble, Disassemble, ListRaw, Graph, Trace, Evaluate, Explain, Frames, Help, Certify, Check}
+use Rattle.apd_words.specs.Asked.{Asked, Verify, Assemble, Disassemble, ListRaw, Graph, Trace, Evaluate, Explain, Frames, Test, Help, Certify, Check}
 use Rattle.apd_program.specs.declared.answer.Answer.{Answer}
 use Rattle.apd_program.specs.declared.reading.Setup.{Setup}
 use Rattle.apd_files.specs.declared.inputs.files.FileKind.TheVariants as kind
@@ -17,6 +17,7 @@ use Rattle.apd_program.specs.Verifying.{IsVerdict, IsBudget, IsRun}
 use Rattle.apd_program.specs.Texts.{IsAssembly, IsListingWith, IsRawListing}
 use Rattle.apd_program.specs.Drawings.{IsDrawing}
 use Rattle.apd_program.specs.Evaluating.{IsEvaluatedFile, HasNoEvaluation}
+use Rattle.apd_program.specs.Testing.{IsTested, HasNoTest}
 use Rattle.apd_program.specs.Certifying.{IsCertificate, IsChecked}
 
 -- what is said of the program in the file, with the configuration
@@ -67,6 +68,7 @@ IsAnswer files (Trace hook file word config states words from_frame) a =
 IsAnswer files (Evaluate hook file capture config states json) a = IsEvaluatedFile files (nearest states) hook file capture config json a
 IsAnswer files (Explain number) a = IsPageFor number a
 IsAnswer files (Frames capture ticks) a = IsOfText (IsScript ticks) files capture a
+IsAnswer files (Test file) a = IsTested files file a
 IsAnswer files (Help command) a = IsHelpText (help_words command) a
 IsAnswer files (Certify hook file config states) a = IsOfCode (λ setup. IsCertificate (nearest states) hook) files file config a
 IsAnswer files (Check hook file certificate config) a = IsCheckedFile files hook file certificate config a
@@ -83,6 +85,7 @@ HasNoAnswer files (Trace hook file word config states words from_frame) =
 HasNoAnswer files (Evaluate hook file capture config states json) = HasNoEvaluation files file capture config
 HasNoAnswer files (Explain number) = HasNoPage number
 HasNoAnswer files (Frames capture ticks) = HasBadCapture files capture
+HasNoAnswer files (Test file) = HasNoTest files file
 HasNoAnswer files (Help command) = HasNoHelp (help_words command)
 HasNoAnswer files (Certify hook file config states) = IsAtFault files file config
 HasNoAnswer files (Check hook file certificate config) = HasNoCertificate files file certificate config

@@ -11,6 +11,7 @@ pub mod Drawings
 pub mod Pages
 pub mod Scripts
 pub mod Evaluating
+pub mod Testing
 pub mod Answers
 pub mod Printed
 pub mod Delivered

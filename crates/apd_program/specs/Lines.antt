@@ -1,5 +1,5 @@
 -- What is printed for an answer, and its status.
-use Rattle.std.specs.Prelude.{ℕ, ◌/◌, List, ◌++◌, length, codes, decimal, string_bytes}
+use Rattle.std.specs.Prelude.{ℕ, ◌/◌, List, ◌++◌, length, codes, decimal, string_bytes, if◌then◌else◌}
 use Rattle.bpf_decode.specs.Answer.{fault_text}
 use Rattle.bpf_verifier.specs.Refusals.{refusal_text}
 use Rattle.bpf_text.specs.Refusals as line
@@ -7,7 +7,7 @@ use Rattle.bpf_cert.specs.Faults as certificate
 use Rattle.hex.specs.Hex.{encode_lower}
 use Rattle.apd_program.specs.Slots.{line_of, slot_lines}
 use Rattle.apd_program.specs.declared.answer.Answer.{Answer}
-use Rattle.apd_program.specs.declared.answer.Answer.TheVariants.{Accepted, Code, Instructions, Run, Verdicts, Page, Script, CutScript, Help, Fault, Refused, LineFault, Certificate, Unaccepted}
+use Rattle.apd_program.specs.declared.answer.Answer.TheVariants.{Accepted, Code, Instructions, Run, Verdicts, Page, Script, CutScript, Tested, Help, Fault, Refused, LineFault, Certificate, Unaccepted}
 
 -- the printed text of an answer
 abbrev pub printed : Answer → List ℕ
@@ -19,6 +19,7 @@ printed (Verdicts text) = string_bytes text
 printed (Page text) = string_bytes text
 printed (Script text) = string_bytes text
 printed (CutScript text fault) = string_bytes text
+printed (Tested text is_good) = string_bytes text
 printed (Help text) = string_bytes text
 printed (Fault e) = line_of (fault_text e)
 printed (Refused e) = line_of (refusal_text e)
@@ -26,7 +27,7 @@ printed (LineFault e) = line_of (line.text_of e)
 printed (Certificate bytes) = line_of (encode_lower bytes.items)
 printed (Unaccepted e) = line_of (codes "certificate " ++ decimal (certificate.number_of e))
 
--- 0 for a success, 1 for a refusal or a cut capture
+-- 0 for a success, 1 for a refusal, a failed case or a cut capture
 abbrev pub status_of : Answer → ℕ
 status_of (Accepted budget) = 0
 status_of (Code code) = 0
@@ -36,6 +37,7 @@ status_of (Verdicts text) = 0
 status_of (Page text) = 0
 status_of (Script text) = 0
 status_of (CutScript text fault) = 1
+status_of (Tested text is_good) = (if is_good then 0 else 1)
 status_of (Help text) = 0
 status_of (Fault e) = 1
 status_of (Refused e) = 1

@@ -31,6 +31,8 @@ pub enum Answer {
     Script(String),
     /// The frames before the fault of a cut capture, as a script.
     CutScript { text: String, fault: CaptureFault },
+    /// The lines of a file of cases; `is_good` if it has an expectation, and all are met.
+    Tested { text: String, is_good: bool },
     /// A help text.
     Help(String),
     /// The code isn't well formed (1 to 3, 10 to 19).
@@ -62,6 +64,7 @@ impl Answer {
             Answer::Fault(_) | Answer::Refused(_) | Answer::LineFault(_) | Answer::Unaccepted(_) =>
                 1,
             Answer::CutScript { .. } => 1,
+            Answer::Tested { is_good, .. } => { if *is_good { 0 } else { 1 } }
         }
     }
 
@@ -76,6 +79,7 @@ impl Answer {
             Answer::Page(text) | Answer::Script(text) | Answer::Help(text) => Ok(text),
             Answer::Verdicts(text) => Ok(text),
             Answer::CutScript { text, .. } => Ok(text),
+            Answer::Tested { text, .. } => Ok(text),
             Answer::Fault(fault) => format!(in alloc; "{fault}\n"),
             Answer::Refused(refusal) => format!(in alloc; "{refusal}\n"),
             Answer::LineFault(fault) => format!(in alloc; "{fault}\n"),

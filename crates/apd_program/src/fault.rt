@@ -14,14 +14,35 @@ use std::fmt;
 /// Why a command has no answer. Its text goes to standard error.
 #[derive(Drop)]
 pub(crate) enum ProgramFault {
-    Unreadable { path: String, why: FileFault },
+    Unreadable {
+        path: String,
+        why: FileFault,
+    },
     NoDigits(String),
-    NoCode { path: String, fault: DigitFault },
+    NoCode {
+        path: String,
+        fault: DigitFault,
+    },
     OddDigits(String),
-    Config { path: String, why: String },
-    Capture { path: String, fault: CaptureFault },
+    Config {
+        path: String,
+        why: String,
+    },
+    Capture {
+        path: String,
+        fault: CaptureFault,
+    },
     NoConfig,
-    NoPage { word: String, ranges: String },
+    NoPage {
+        word: String,
+        ranges: String,
+    },
+    /// A line of a file of cases is malformed, or its expectation can't be judged.
+    Cases {
+        path: String,
+        line: u64,
+        why: String,
+    },
     NoCommand(String),
     LongFrame,
     Context(String),
@@ -43,6 +64,7 @@ impl fmt::Display for ProgramFault {
             ProgramFault::NoConfig => f.write_str(
                 "apd: no --config was given, so no address to which the capture's frames come",
             ),
+            ProgramFault::Cases { path, line, why } => write!(f, "apd: {path}:{line}: {why}"),
             ProgramFault::NoPage { word, ranges } => write!(
                 f,
                 "apd: no refusal has the number `{word}`; there are {ranges}"
@@ -160,4 +182,20 @@ pub(crate) fn of_capture(alloc: Global, path: &str, fault: CaptureFault) -> Prog
         CaptureFault::NoMemory => ProgramFault::NoMemory,
         fault => ProgramFault::Capture { path, fault },
     }
+}
+
+/// The fault of a line in a file of cases.
+pub(crate) fn of_case<T: fmt::Display>(
+    alloc: Global,
+    path: &str,
+    line: u64,
+    why: &T,
+) -> ProgramFault {
+    let Ok(path) = shown(alloc, path) else {
+        return ProgramFault::NoMemory;
+    };
+    let Ok(why) = format!(in alloc; "{why}") else {
+        return ProgramFault::NoMemory;
+    };
+    ProgramFault::Cases { path, line, why }
 }

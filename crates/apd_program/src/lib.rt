@@ -18,6 +18,7 @@ mod output;
 mod printing;
 mod program;
 mod reading;
+mod testing;
 mod texts;
 mod verifying;
 

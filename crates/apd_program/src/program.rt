@@ -19,7 +19,7 @@ use crate::printing::{complain, print_text, say, say_if_any};
 use crate::reading::{Loaded, Setup, certificate, frame, load, read};
 use crate::verifying::Stimulus;
 use crate::{
-    certifying, drawing, evaluating, explaining, framing, helping, hints, texts, verifying,
+    certifying, drawing, evaluating, explaining, framing, helping, hints, testing, texts, verifying,
 };
 use apd_files::{FileKind, Files};
 use apd_text::context_for;
@@ -117,6 +117,7 @@ fn answer<F: Files>(
         Question::Evaluate(evaluation) => evaluating::evaluate(alloc, evaluation, files, reason),
         Question::Explain { number } => explaining::page(alloc, number),
         Question::Frames { capture, ticks } => framing::frames(alloc, capture, ticks, files),
+        Question::Test { file } => testing::test(alloc, file, files),
         Question::Help { command } => helping::help(alloc, command),
         Question::Certify { subject } => certify(alloc, subject, files, reason),
         Question::Check(claim) => check(alloc, claim, files, reason),

@@ -35,6 +35,7 @@ pub data Asked : Type 0 where
   Check : Hook → Text → Text → Option Text → Asked
   Explain : Option Text → Asked
   Frames : Text → Bool → Asked
+  Test : Text → Asked
   Help : Option Text → Asked
 
 -- the run of a script, or of lines as they come, or a question and the file for its answer, if there is one
@@ -108,6 +109,7 @@ asked_of (question.Certify subject) = asked_certificate subject
 asked_of (question.Check claim) = asked_check claim
 asked_of (question.Explain number) = Explain (text_of number)
 asked_of (question.Frames capture ticks) = Frames capture.now ticks
+asked_of (question.Test file) = Test file.now
 asked_of (question.Help command) = Help (text_of command)
 
 -- the run of a script
@@ -255,6 +257,10 @@ frames_of rows = do
   capture ← first_of (codes "CAPTURE") rows
   Some (Frames capture (not (is_set (codes "no-ticks") rows)))
 
+-- `test FILE`
+abbrev pub test_of : List Row → Option Asked
+test_of rows = option_map Test (first_of (codes "FILE") rows)
+
 -- `help [COMMAND]`
 abbrev pub help_of : List Row → Option Asked
 help_of rows = Some (Help (first_of (codes "COMMAND") rows))
@@ -271,7 +277,8 @@ command_asks name rows =
     else (if bytes_eq name (codes "check") then check_of rows
     else (if bytes_eq name (codes "explain") then explain_of rows
     else (if bytes_eq name (codes "frames") then frames_of rows
-    else (if bytes_eq name (codes "help") then help_of rows else None))))))))))
+    else (if bytes_eq name (codes "test") then test_of rows
+    else (if bytes_eq name (codes "help") then help_of rows else None)))))))))))
 
 -- what a command with these arguments asks for, and the file of `-o`
 abbrev pub answers_to : Text → List Row → Option Wanted

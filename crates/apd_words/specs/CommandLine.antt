@@ -146,6 +146,10 @@ frames =
     command (codes "frames") (required (codes "CAPTURE") ∷ flag (codes "no-ticks")
     ∷ output ∷ [])
 
+-- `test FILE`
+abbrev pub test : Shape
+test = command (codes "test") (file ∷ [])
+
 -- `help [COMMAND]`
 abbrev pub help : Shape
 help = command (codes "help") (optional (codes "COMMAND") ∷ [])
@@ -183,7 +187,8 @@ with_certificate_commands hooks a =
 
 -- the commands that explain or read something
 abbrev pub with_reading_commands : App → App
-with_reading_commands a = with_subcommand (with_subcommand (with_subcommand a explain) frames) help
+with_reading_commands a =
+    with_subcommand (with_subcommand (with_subcommand (with_subcommand a explain) frames) test) help
 
 -- the whole command line, given the parsers of hooks and numbers of workers
 abbrev pub command_line : ValueParser → ValueParser → App

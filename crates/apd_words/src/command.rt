@@ -5,7 +5,7 @@ ghost use Rattle.clap.specs.Words.{App, Rule, Shape, app_of, rule_of, with_subco
 ghost use Rattle.clap.specs.Simple.{new_shape};
 ghost use Rattle.clap.specs.declared.builder.value_parser.ValueParser.TheVariants.{Names};
 ghost use Rattle.apd_words.specs.Built.{IsProgram, IsCommand, with_argument};
-ghost use Rattle.apd_words.specs.CommandLine.{command_line, program, with_code_commands, with_trial_commands, with_run_commands, with_certificate_commands, with_reading_commands, hook_command, required, optional, flag, hook, file, config, json, output, context, workers, states, verify, assemble, disassemble, trace, evaluate, run, live, certify, check, explain, frames, help};
+ghost use Rattle.apd_words.specs.CommandLine.{command_line, program, with_code_commands, with_trial_commands, with_run_commands, with_certificate_commands, with_reading_commands, hook_command, required, optional, flag, hook, file, config, json, output, context, workers, states, verify, assemble, disassemble, trace, evaluate, run, live, certify, check, explain, frames, test, help};
 
 use clap::builder::ValueParser;
 use clap::{Arg, ArgAction, Command};
@@ -22,7 +22,7 @@ const VERSION: &str = "0.1.0";
 
 const STATUSES: &str = "Exit status:
   0  success
-  1  the program, text or certificate was refused, or the capture is cut
+  1  the program, text or certificate was refused, a case failed, or the capture is cut
   2  the command line, a configuration, a script or a file is at fault
   3  out of memory
 
@@ -117,6 +117,7 @@ fn with_reading_commands<'a>(alloc: Global, line: Made<'a>) -> Made<'a>
 {
     let line = with_command(line, explain(alloc));
     let line = with_command(line, frames(alloc));
+    let line = with_command(line, test(alloc));
     with_command(line, help(alloc))
 }
 
@@ -294,6 +295,14 @@ fn frames<'a>(alloc: Global) -> Made<'a>
         with_arg(command, flag(alloc, "no-ticks", ticks)),
         output(alloc),
     )
+}
+
+fn test<'a>(alloc: Global) -> Made<'a>
+    ensures is { IfOk result (IsCommand test) }
+{
+    let about = "Judge policies by a file of cases, and print what failed";
+    let command = named(alloc, "test", about);
+    with_arg(command, required(alloc, "FILE", "The file of cases"))
 }
 
 fn help<'a>(alloc: Global) -> Made<'a>

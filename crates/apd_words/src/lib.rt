@@ -113,6 +113,8 @@ pub enum Question<'a> {
     /// Without a number, it lists all.
     Explain { number: Option<&'a str> },
     Frames { capture: &'a str, ticks: bool },
+    /// Judges a file of cases for policies.
+    Test { file: &'a str },
     /// Without a command, it is the program's help.
     Help { command: Option<&'a str> },
 }

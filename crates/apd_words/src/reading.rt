@@ -4,7 +4,7 @@ ghost use Rattle.std.specs.Prelude.{◌≡◌, ◌≤◌, ◌^◌, IfSome, optio
 ghost use Rattle.clap.specs.Matches.{found_of};
 ghost use Rattle.clap.specs.Simple.{subcommand_rows_of};
 ghost use Rattle.clap.specs.Walk.{first_of, rows_of};
-ghost use Rattle.apd_words.specs.Asked.{asked_of, command_asks, answers_to, wanted_of, wanted_in, asked_verdict, asked_certificate, hook_named, hook_at, workers_named, states_named, states_at, verify_of, assemble_of, disassemble_of, trace_of, evaluate_of, run_of, live_of, certify_of, check_of, explain_of, frames_of, help_of, is_set};
+ghost use Rattle.apd_words.specs.Asked.{asked_of, command_asks, answers_to, wanted_of, wanted_in, asked_verdict, asked_certificate, hook_named, hook_at, workers_named, states_named, states_at, verify_of, assemble_of, disassemble_of, trace_of, evaluate_of, run_of, live_of, certify_of, check_of, explain_of, frames_of, test_of, help_of, is_set};
 
 use crate::command::MOST_STATES;
 use crate::{
@@ -50,6 +50,7 @@ fn question<'a>(name: &str, matches: &ArgMatches<'a>) -> Option<Question<'a>>
         "check" => check(matches),
         "explain" => explain(matches),
         "frames" => frames(matches),
+        "test" => test(matches),
         "help" => help(matches),
         _ => None,
     }
@@ -196,6 +197,13 @@ fn frames<'a>(matches: &ArgMatches<'a>) -> Option<Question<'a>>
     let capture = value(matches, "CAPTURE")?;
     let ticks = !flag(matches, "no-ticks");
     Some(Question::Frames { capture, ticks })
+}
+
+fn test<'a>(matches: &ArgMatches<'a>) -> Option<Question<'a>>
+    ensures is { option_map asked_of result ≡ test_of (rows_of (found_of matches.now)) }
+{
+    let file = value(matches, "FILE")?;
+    Some(Question::Test { file })
 }
 
 fn help<'a>(matches: &ArgMatches<'a>) -> Option<Question<'a>>

@@ -10,6 +10,8 @@ mod answers;
 #[cfg(test)]
 mod captures;
 #[cfg(test)]
+mod cases;
+#[cfg(test)]
 mod configuration;
 #[cfg(test)]
 mod echo;
