@@ -6,3 +6,4 @@ pub mod Said
 pub mod Performing
 pub mod Delivering
 pub mod Evaluated
+pub mod Tested

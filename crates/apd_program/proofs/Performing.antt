@@ -1,5 +1,5 @@
 -- From what was printed to what the program did.
-use Rattle.std.proofs.Common.{◌≡◌, ◌≢◌, ◌∙◌, ◌⊎◌, ◌≤◌, ℕ, List, Option, Result, Ok, Err, inl, inr, refl, sym, subst, arith}
+use Rattle.std.proofs.Common.{◌≡◌, ◌≢◌, ◌∙◌, ◌⊎◌, ◌≤◌, ℕ, true, false, List, Option, Result, Ok, Err, inl, inr, refl, sym, subst, arith}
 use Rattle.std.specs.Io.KnownBytes.{Keeps}
 use Rattle.clap.specs.declared.builder.value_parser.ValueParser.{ValueParser}
 use Rattle.apd_words.specs.Asked.{Asked, Wanted, Run as RunWanted, Live as LiveWanted, Answer as AnswerWanted}
@@ -11,7 +11,7 @@ use Rattle.apd_run.specs.Counts.{none}
 use Rattle.apd_run.specs.Shows as shows
 use Rattle.apd_run.proofs.Ending.{runs_nothing}
 use Rattle.apd_program.specs.declared.answer.Answer.{Answer}
-use Rattle.apd_program.specs.declared.answer.Answer.TheVariants.{Accepted, Code, Instructions, Run, Verdicts, Page, Script, CutScript, Help, Fault, Refused, LineFault, Certificate, Unaccepted}
+use Rattle.apd_program.specs.declared.answer.Answer.TheVariants.{Accepted, Code, Instructions, Run, Verdicts, Page, Script, CutScript, Tested, Help, Fault, Refused, LineFault, Certificate, Unaccepted}
 use Rattle.apd_program.specs.declared.fault.ProgramFault.{ProgramFault}
 use Rattle.apd_program.specs.declared.fault.ProgramFault.TheVariants as fault
 use Rattle.apd_program.specs.Lines.{status_of}
@@ -52,6 +52,7 @@ complained files a output o (fault.OddDigits path) (inl memory) = cc
 complained files a output o (fault.Config path f) (inl memory) = cc
 complained files a output o fault.LongFrame (inl memory) = cc
 complained files a output o fault.NoConfig (inl memory) = cc
+complained files a output o (fault.Cases path line why) (inl memory) = cc
 complained files a output o (fault.Unreadable path why) (inr h) = Refrained h (Keeps-same o)
 complained files a output o (fault.NoCode path f) (inr h) = Refrained h (Keeps-same o)
 complained files a output o (fault.Capture path f) (inr h) = Refrained h (Keeps-same o)
@@ -64,6 +65,7 @@ complained files a output o (fault.OddDigits path) (inr h) = Refrained h (Keeps-
 complained files a output o (fault.Config path f) (inr h) = Refrained h (Keeps-same o)
 complained files a output o fault.LongFrame (inr h) = Refrained h (Keeps-same o)
 complained files a output o fault.NoConfig (inr h) = Refrained h (Keeps-same o)
+complained files a output o (fault.Cases path line why) (inr h) = Refrained h (Keeps-same o)
 
 pub Performs-complained : (files : Held) (a : Asked) (output o : Option (List ℕ)) (f : ProgramFault) (status : ℕ) → (f ≡ fault.NoMemory) ⊎ HasNoAnswer files a → status ≡ fault_status f → Performs files a output o o status
 Performs-complained files a output o f status h is = rw is (complained files a output o f h)
@@ -77,6 +79,8 @@ status_within (Verdicts text) = omega arith
 status_within (Page text) = omega arith
 status_within (Script text) = omega arith
 status_within (CutScript text f) = omega arith
+status_within (Tested text true) = omega arith
+status_within (Tested text false) = omega arith
 status_within (Help text) = omega arith
 status_within (Fault e) = omega arith
 status_within (Refused e) = omega arith
