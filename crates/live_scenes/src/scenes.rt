@@ -205,7 +205,8 @@ where
     true
 }
 
-/// What a story does before its threads begin.
+/// What a story does before its threads begin. A function of its own, as `finish`, since the borrow checker covers no
+/// function that makes both calls.
 fn prepare<B, R, S>(
     rt: &R,
     alloc: Global,
