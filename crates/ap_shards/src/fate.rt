@@ -1,4 +1,4 @@
-//! What a worker reports.
+//! What becomes of an event.
 
 use ap_model::Out;
 
@@ -11,12 +11,4 @@ pub enum Fate {
     Refused,
     /// The gate stopped its worker: it counts as never received.
     NotHandled,
-}
-
-/// What became of an event at a shard (0 to 7), with its caller's number.
-#[derive(Drop)]
-pub struct Tagged {
-    pub call: u64,
-    pub shard: u16,
-    pub fate: Fate,
 }

@@ -2,9 +2,9 @@
 use Rattle.std.specs.Prelude.{◌==◌, ℕ, Bool, List, [], ◌∷◌, if◌then◌else◌}
 use Rattle.ap_books.specs.Counts.{Portion, counts_of, gains}
 use Rattle.ap_books.specs.Holdings.{Holding}
-use Rattle.ap_tagged.specs.declared.tagged.Fate.{Fate}
-use Rattle.ap_tagged.specs.declared.tagged.Fate.TheVariants.{Decided, Refused, NotHandled}
-use Rattle.ap_tagged.specs.declared.tagged.Tagged.{Tagged}
+use Rattle.ap_shards.specs.declared.fate.Fate.{Fate}
+use Rattle.ap_shards.specs.declared.fate.Fate.TheVariants.{Decided, Refused, NotHandled}
+use Rattle.ap_live.specs.declared.tagged.Tagged.{Tagged}
 
 -- a portion of a shard's ledgers, after it has counted an event's fate there: an event that was not decided counts
 -- nothing
@@ -34,4 +34,4 @@ grown_at h s f =
 -- the portions after all of these reports
 unfoldable pub grown_by : Holding → List Tagged → Holding
 grown_by h [] = h
-grown_by h (t ∷ ts) = grown_by (grown_at h t.shard t.fate) ts
+grown_by h (t ∷ ts) = grown_by (grown_at h t.item.shard t.fate) ts
