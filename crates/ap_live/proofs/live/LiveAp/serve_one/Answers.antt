@@ -17,10 +17,11 @@ returns-clause-served g c =
     let new : Worker = c.handle-fate.new.worker in
     let x : Queued = c.in_ok-queued.queued in
     let t : Tagged = record { item = x.item; fate = c.handle-fate.result } in
+    let became = c.handle-fate.ensures.became in
     let served : Serves config c.args.self.now old.number (progress_of old) x t (progress_of new) = record {
       took = ap taken_by c.handle-fate.ensures.pass ∙ c.in_ok-queued.ensures.taken;
       item = refl;
       told = subst (λ (i : Item). IsTold i.event i.shard) c.item.view_is c.item.invariant;
-      became = c.handle-fate.ensures.became;
+      became = record { begins = became.begins; came = became.came; held = became.held; inside = became.inside };
     } in
     subst (λ (w : Worker). ServedOne config c.args.self.now w t new) c.worker.view_is (served_item config c.args.self.now old new x t served)
