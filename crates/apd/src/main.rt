@@ -57,7 +57,8 @@ fn touch_lower(rt: &impl Env) {
 /// Runs the program on its words, and returns its exit status.
 fn run<R, O, E>(rt: &R, alloc: Global, out: O, messages: Messages<'_, E>) -> io::Result<u8>
 where
-    R: Threads + Wait + Sync + Clock + Input + Eprint + Env + rt::Files + AllocGlobal,
+    R: Threads + Wait + Clock + Input + Eprint + Env + rt::Files + AllocGlobal,
+    R: Copy + Send + Sync + 'static,
     O: Write + Drop,
     E: Write,
 {

@@ -6,13 +6,15 @@ ghost use Rattle.apd_run.specs.Shows.{Runs};
 ghost use Rattle.apd_words.specs.Asked.{Wanted};
 ghost use Rattle.apd_words.specs.Spells.{Spells};
 ghost use Rattle.apd_program.specs.Program.{Fulfils};
+ghost use Rattle.apd_program.specs.Forms.{in_lines};
 
+use crate::lines::run_live;
 use crate::program::{respond, tell};
 use apd_files::Files;
-use apd_run::{OpenGate, Progress, RunWords, StateLimit, Streams, Supplies, live, run};
-use apd_words::{LiveRun, Request, ScriptRun, read_words};
+use apd_run::{Form, Manner, OpenGate, Progress, RunWords, StateLimit, Supplies, run};
+use apd_words::{Request, ScriptRun, read_words};
 use std::alloc::Global;
-use std::io::{Input, Read, Write};
+use std::io::{Input, Write};
 use std::sync::Wait;
 use std::thread::Threads;
 use std::time::Clock;
@@ -39,14 +41,18 @@ where
     F: Files,
     O: Write + Drop,
     E: Write,
-    ensures runs { Runs asked.entry.strict (O.contents out) (O.contents result.0) none result.1 }
+    ensures runs { Runs (in_lines asked.entry.strict)
+        (O.contents out) (O.contents result.0) none result.1 }
 {
     let Messages { err, watched } = messages;
     let words = RunWords {
         config: asked.config,
         script: asked.script,
         workers: asked.workers,
-        strict: asked.strict,
+        manner: Manner {
+            strict: asked.strict,
+            form: Form::Lines,
+        },
         verbose: asked.verbose,
     };
     let limit = StateLimit::nearest(asked.states);
@@ -57,37 +63,6 @@ where
     }
     let gate = OpenGate;
     return run(rt, alloc, words, Supplies { files, limit, gate }, out, err);
-}
-
-/// Runs lines as they come on an input.
-fn run_live<R, F, I, O, E>(
-    rt: &R,
-    alloc: Global,
-    asked: LiveRun<'_>,
-    files: &mut F,
-    streams: Streams<I, O>,
-    err: &mut E,
-) -> (O, u8)
-where
-    R: Threads + Wait + Sync,
-    F: Files,
-    I: Read + Drop,
-    O: Write + Drop,
-    E: Write,
-    ensures runs { Runs asked.entry.strict
-        (O.contents streams.out) (O.contents result.0) none result.1 }
-{
-    let words = RunWords {
-        config: asked.config,
-        script: "-",
-        workers: asked.workers,
-        strict: asked.strict,
-        verbose: asked.verbose,
-    };
-    let limit = StateLimit::nearest(asked.states);
-    let gate = OpenGate;
-    let supplies = Supplies { files, limit, gate };
-    return live(rt, alloc, words, supplies, streams, err);
 }
 
 /// Does what the words ask for; the first is the program's own name. An answer goes to `out`, or, if it is a
@@ -103,7 +78,7 @@ pub fn perform<'a, R, F, O, E>(
     messages: Messages<'_, E>,
 ) -> (O, u8)
 where
-    R: Threads + Wait + Sync + Clock + Eprint + Input,
+    R: Threads + Wait + Clock + Eprint + Input + Copy + Send + Sync + 'static,
     F: Files,
     O: Write + Drop,
     E: Write,
@@ -117,8 +92,7 @@ where
             return run_watched(rt, alloc, asked, files, out, Messages { err, watched });
         }
         Ok(Request::Live(asked)) => {
-            let input = rt.reader();
-            return run_live(rt, alloc, asked, files, Streams { input, out }, err);
+            return run_live(rt, alloc, asked, files, out, err);
         }
         Ok(Request::Answer(query)) => {
             let status = respond(alloc, query, files, &mut out, err);

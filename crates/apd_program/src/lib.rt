@@ -14,6 +14,7 @@ mod fault;
 mod framing;
 mod helping;
 mod hints;
+mod lines;
 mod output;
 mod printing;
 mod program;

@@ -1,4 +1,6 @@
 pub mod Words
+pub mod Notices
+pub mod Json
 pub mod Lines
 pub mod Order
 pub mod Answers

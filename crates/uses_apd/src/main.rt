@@ -32,7 +32,8 @@ fn main(rt: HostRuntime) -> io::Result<()> {
 /// Runs a line, and prints the answer, the messages and the status.
 fn answer<R, O>(rt: &R, alloc: Global, line: &str, out: O) -> io::Result<()>
 where
-    R: Threads + Wait + Sync + Clock + Input + Print + Eprint + Files + AllocGlobal,
+    R: Threads + Wait + Clock + Input + Print + Eprint + Files + AllocGlobal,
+    R: Copy + Send + Sync + 'static,
     O: Write + Drop,
 {
     let mut told = Vec::new(alloc);
@@ -59,7 +60,8 @@ fn perform<R, O, E>(
     messages: Messages<'_, E>,
 ) -> io::Result<u8>
 where
-    R: Threads + Wait + Sync + Clock + Input + Eprint + Files + AllocGlobal,
+    R: Threads + Wait + Clock + Input + Eprint + Files + AllocGlobal,
+    R: Copy + Send + Sync + 'static,
     O: Write + Drop,
     E: Write,
 {
