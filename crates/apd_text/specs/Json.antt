@@ -6,7 +6,8 @@ use Rattle.mac_types.specs.Texts.{address_text}
 use Rattle.ap_model.specs.declared.event.Out.{Out}
 use Rattle.ap_model.specs.declared.event.Out.TheVariants.{Send, Up, Note}
 use Rattle.ap_model.specs.declared.event.Up as passed
-use Rattle.apd_text.specs.Notices.{notice_of, notice_members}
+use Rattle.apd_text.specs.Notices.{notice_of}
+use Rattle.apd_text.specs.NoticeTexts.{notice_members}
 use Rattle.apd_text.specs.declared.reports.notice.Notice.{Notice}
 
 -- the object of the line with this number, which has these members too, and a line feed (10)
@@ -31,13 +32,23 @@ notice_or_frame frame (Some notice) = notice_members notice
 abbrev pub sent_members : List ℕ → List ℕ
 sent_members frame = notice_or_frame frame (notice_of frame)
 
+-- whom data comes from, and whom it goes to
+abbrev pub addresses_members : passed.Up → List ℕ
+addresses_members u =
+    codes "\"source\":\"" ++ (address_text u.source ++ (codes "\",\"destination\":\""
+    ++ (address_text u.destination ++ codes "\"")))
+
+-- its TID, its number and its mark
+abbrev pub numbers_members : passed.Up → List ℕ
+numbers_members u =
+    codes "\"tid\":" ++ (tid_value u.tid ++ (codes ",\"number\":" ++ (decimal u.number
+    ++ (codes ",\"mark\":" ++ decimal u.mark))))
+
 -- data that is passed up
 abbrev pub up_members : passed.Up → List ℕ
 up_members u =
-    codes "\"event\":\"up\",\"source\":\"" ++ (address_text u.source ++ (codes "\",\"destination\":\""
-    ++ (address_text u.destination ++ (codes "\",\"tid\":" ++ (tid_value u.tid ++ (codes ",\"number\":"
-    ++ (decimal u.number ++ (codes ",\"mark\":" ++ (decimal u.mark ++ (codes ",\"body\":\""
-    ++ (encode_lower u.body ++ codes "\"")))))))))))
+    codes "\"event\":\"up\"," ++ (addresses_members u ++ (codes "," ++ (numbers_members u
+    ++ (codes ",\"body\":\"" ++ (encode_lower u.body ++ codes "\"")))))
 
 -- a note
 abbrev pub note_members : ℕ → List ℕ

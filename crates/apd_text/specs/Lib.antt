@@ -1,5 +1,6 @@
 pub mod Words
 pub mod Notices
+pub mod NoticeTexts
 pub mod Json
 pub mod Lines
 pub mod Order

@@ -2,7 +2,7 @@
 
 ghost use Rattle.std.specs.Prelude.{◌≡◌, ◌++◌, IfOk, Some, string_bytes, codes};
 ghost use Rattle.hex.specs.Hex.{encode_lower};
-ghost use Rattle.apd_text.specs.Json.{drop_json, json_line, loaded_members, note_members, out_members, outs_json, send_members, sent_members, tid_value, up_members};
+ghost use Rattle.apd_text.specs.Json.{addresses_members, drop_json, json_line, loaded_members, note_members, numbers_members, out_members, outs_json, send_members, sent_members, tid_value, up_members};
 
 use crate::reports::notice::{Members, notice_of};
 use ap_model::{Out, Up};
@@ -44,19 +44,46 @@ fn sent_members(alloc: Global, frame: &[u8]) -> Result<String, AllocError>
     }
 }
 
+/// Whom data comes from, and whom it goes to, as members.
+#[derive(Clone, Copy)]
+struct Addresses<'a>(&'a Up);
+
+impl fmt::Display for Addresses<'_> {
+    ghost output = { λ a. Some (addresses_members a.0.now) };
+
+    fn fmt<W: fmt::Write>(&self, f: &mut fmt::Formatter<W>) -> fmt::Result {
+        let source = self.0.source;
+        let destination = self.0.destination;
+        write!(
+            f,
+            "\"source\":\"{source}\",\"destination\":\"{destination}\""
+        )
+    }
+}
+
+/// The TID, the number and the mark of data, as members.
+#[derive(Clone, Copy)]
+struct Numbers<'a>(&'a Up);
+
+impl fmt::Display for Numbers<'_> {
+    ghost output = { λ n. Some (numbers_members n.0.now) };
+
+    fn fmt<W: fmt::Write>(&self, f: &mut fmt::Formatter<W>) -> fmt::Result {
+        let tid = TidValue(self.0.tid);
+        let number = self.0.number;
+        let mark = self.0.mark;
+        write!(f, "\"tid\":{tid},\"number\":{number},\"mark\":{mark}")
+    }
+}
+
 /// Data that is passed up, as members.
 fn up_members(alloc: Global, up: &Up) -> Result<String, AllocError>
     ensures is { IfOk result (λ text. string_bytes text ≡ up_members up.now) }
 {
     let body = hex::encode(alloc, up.body.bytes())?;
-    format!(in alloc;
-        "\"event\":\"up\",\"source\":\"{}\",\"destination\":\"{}\",\"tid\":{},\"number\":{},\"mark\":{},\"body\":\"{body}\"",
-        up.source,
-        up.destination,
-        TidValue(up.tid),
-        up.number,
-        up.mark
-    )
+    let addresses = Addresses(up);
+    let numbers = Numbers(up);
+    format!(in alloc; "\"event\":\"up\",{addresses},{numbers},\"body\":\"{body}\"")
 }
 
 /// A note as members.

@@ -1,7 +1,8 @@
 //! What frames mean to the stations to which the access point sends them.
 
 ghost use Rattle.std.specs.Prelude.{◌≡◌, ◌<◌, Some};
-ghost use Rattle.apd_text.specs.Notices.{answered, block_ack_meaning, meaning_of, notice_members, notice_of, notice_words, octet_at, receiver_of, word_at};
+ghost use Rattle.apd_text.specs.Notices.{answered, block_ack_meaning, meaning_of, notice_of, octet_at, receiver_of, word_at};
+ghost use Rattle.apd_text.specs.NoticeTexts.{notice_members, notice_words};
 
 use mac_types::Address;
 use std::fmt;
