@@ -69,9 +69,9 @@ where
     ensures runs { RunsLive asked.entry.strict (text_of asked.entry.events)
         (O.contents out) (O.contents result.0) result.1 }
 {
-    let Some(form) = form_of(asked.events) else {
-        let status = complain(alloc, &ProgramFault::NoForm, err);
-        return (out, status);
+    let form = match form_of(asked.events) {
+        Some(form) => form,
+        None => return (out, complain(alloc, &ProgramFault::NoForm, err)),
     };
     let words = RunWords {
         config: asked.config,
@@ -93,9 +93,6 @@ where
     }
     match Timed::start(rt, alloc, rt, input) {
         Ok(input) => return live(rt, alloc, words, supplies, Streams { input, out }, err),
-        Err(_) => {
-            let status = complain(alloc, &ProgramFault::NoMemory, err);
-            return (out, status);
-        }
+        Err(_) => return (out, complain(alloc, &ProgramFault::NoMemory, err)),
     }
 }
