@@ -56,22 +56,22 @@ fn continued(alloc: Global, line: &[u8], block: &[u8]) -> Result<Vec<u8>, AllocE
     Ok(text)
 }
 
-/// Puts a tick of these units, with the number 0, before commands; nothing if they are none.
-fn put_tick(commands: &mut Vec<Numbered<'_>>, units: u32) -> Result<(), AllocError>
-    ensures is { OnOk result
-        (commands.new.items ≡ with_tick units commands.old.items) }
-    ensures whole { OnOk result
-        (after_wait commands.new.items ≡ after_wait commands.old.items) }
+/// Commands after a tick of these units, which has the number 0; unchanged if they are none.
+fn with_tick<'a>(commands: Vec<Numbered<'a>>, units: u32) -> Result<Vec<Numbered<'a>>, AllocError>
+    ensures is { IfOk result (λ ticked. ticked.items ≡ with_tick units commands.entry.items) }
+    ensures whole { IfOk result (λ ticked. after_wait ticked.items
+        ≡ after_wait commands.entry.items) }
 {
+    let mut commands = commands;
     if units == 0 {
-        return Ok(());
+        return Ok(commands);
     }
     let tick = Numbered {
         line: 0,
         command: Command::Tick(units),
     };
     match commands.insert(0, tick) {
-        Ok(()) => return Ok(()),
+        Ok(()) => return Ok(commands),
         Err(_) => return Err(AllocError),
     }
 }
@@ -139,6 +139,32 @@ impl<S: Source + Drop> Input<S> {
         self.done = 0;
         self.has_ended = block.is_empty();
         Ok(true)
+    }
+
+    /// The whole lines that are there, up to a `wait` or a `quit`, after a tick of these units.
+    fn batch(&self, alloc: Global, units: u32) -> Result<Batch<'_>, AllocError>
+        ensures whole { IfOk result (λ batch. after_wait batch.commands.items ≡ []) }
+    {
+        let first = self.number.min(MOST_NUMBER);
+        let Batch {
+            commands,
+            malformed,
+            question,
+            lines,
+            rest,
+        } = read_batch(alloc, self.rest(), &self.shapes, first)?;
+        match with_tick(commands, units) {
+            Ok(commands) => {
+                return Ok(Batch {
+                    commands,
+                    malformed,
+                    question,
+                    lines,
+                    rest,
+                });
+            }
+            Err(error) => return Err(error),
+        }
     }
 
     /// Goes on behind a batch; to the end if a line `quit` follows.
@@ -215,9 +241,7 @@ impl<S: Source + Drop> Input<S> {
             (P.contents writer.old) (P.contents writer.new) (O.crew staff.old.operator).counted) }
     {
         let units = self.source.passed();
-        let first = self.number.min(MOST_NUMBER);
-        let mut batch = read_batch(setting.alloc, self.rest(), &self.shapes, first)?;
-        put_tick(&mut batch.commands, units)?;
+        let batch = self.batch(setting.alloc, units)?;
         let step = Step {
             lines: batch.lines,
             left: batch.rest.len(),
