@@ -11,10 +11,10 @@ ghost use Rattle.apd_program.specs.Forms.{in_lines};
 use crate::lines::run_live;
 use crate::program::{respond, tell};
 use apd_files::Files;
-use apd_run::{Form, Manner, OpenGate, Progress, RunWords, StateLimit, Supplies, run};
+use apd_run::{Form, Manner, OpenGate, Progress, RunWords, StateLimit, Streams, Supplies, run};
 use apd_words::{Request, ScriptRun, read_words};
 use std::alloc::Global;
-use std::io::{Input, Write};
+use std::io::{Read, Write};
 use std::sync::Wait;
 use std::thread::Threads;
 use std::time::Clock;
@@ -69,30 +69,32 @@ where
 /// success, to the file named for it. Returns `out` and the exit status: 0 for success; 1 if something was refused
 /// (in a script's run, only if it is strict), a line of `live` is malformed or a capture is cut; 2 for a fault of the
 /// words, a configuration, a script, a file, a read or a write; 3 for lack of memory.
-pub fn perform<'a, R, F, O, E>(
+pub fn perform<'a, R, F, I, O, E>(
     rt: &R,
     alloc: Global,
     words: &'a [&'a str],
     files: &mut F,
-    out: O,
+    streams: Streams<I, O>,
     messages: Messages<'_, E>,
 ) -> (O, u8)
 where
-    R: Threads + Wait + Clock + Eprint + Input + Copy + Send + Sync + 'static,
+    R: Threads + Wait + Clock + Eprint + Copy + Send + Sync + 'static,
     F: Files,
+    I: Read + Drop + Send + 'static,
     O: Write + Drop,
     E: Write,
     ensures fulfils { (w : Wanted) → Spells (map (λ word. word.now) words.entry.now) w
-        → Fulfils (F.held files.old) w (O.contents out) (O.contents result.0) result.1 }
+        → Fulfils (F.held files.old) w (O.contents streams.out) (O.contents result.0) result.1 }
 {
     let Messages { err, watched } = messages;
+    let Streams { input, out } = streams;
     let mut out = out;
     match read_words(alloc, words) {
         Ok(Request::Run(asked)) => {
             return run_watched(rt, alloc, asked, files, out, Messages { err, watched });
         }
         Ok(Request::Live(asked)) => {
-            return run_live(rt, alloc, asked, files, out, err);
+            return run_live(rt, alloc, asked, files, Streams { input, out }, err);
         }
         Ok(Request::Answer(query)) => {
             let status = respond(alloc, query, files, &mut out, err);

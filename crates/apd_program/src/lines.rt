@@ -18,8 +18,8 @@ use std::time::Clock;
 
 /// Standard input, which any thread may read.
 #[derive(Clone, Copy)]
-struct Standard<R> {
-    rt: R,
+pub struct Standard<R> {
+    pub rt: R,
 }
 
 impl<R: Input> Read for Standard<R> {
@@ -51,24 +51,26 @@ fn form_of(events: Option<&str>) -> Option<Form>
     }
 }
 
-/// Runs lines as they come on standard input, with a clock if that is asked for. The status is 2 if `--events` names no
+/// Runs lines as they come on an input, with a clock if that is asked for. The status is 2 if `--events` names no
 /// form, and 3 if there is no memory for the thread that reads beside a clock.
-pub(crate) fn run_live<R, F, O, E>(
+pub(crate) fn run_live<R, F, I, O, E>(
     rt: &R,
     alloc: Global,
     asked: LiveRun<'_>,
     files: &mut F,
-    out: O,
+    streams: Streams<I, O>,
     err: &mut E,
 ) -> (O, u8)
 where
-    R: Threads + Wait + Clock + Input + Copy + Send + Sync + 'static,
+    R: Threads + Wait + Clock + Copy + Send + Sync + 'static,
     F: Files,
+    I: Read + Drop + Send + 'static,
     O: Write + Drop,
     E: Write,
     ensures runs { RunsLive asked.entry.strict (text_of asked.entry.events)
-        (O.contents out) (O.contents result.0) result.1 }
+        (O.contents streams.out) (O.contents result.0) result.1 }
 {
+    let Streams { input, out } = streams;
     let form = match form_of(asked.events) {
         Some(form) => form,
         None => return (out, complain(alloc, &ProgramFault::NoForm, err)),
@@ -86,7 +88,6 @@ where
     let limit = StateLimit::nearest(asked.states);
     let gate = OpenGate;
     let supplies = Supplies { files, limit, gate };
-    let input = Standard { rt: *rt };
     if !asked.clock {
         let input = Direct { input };
         return live(rt, alloc, words, supplies, Streams { input, out }, err);
