@@ -7,3 +7,4 @@ pub mod Performing
 pub mod Delivering
 pub mod Evaluated
 pub mod Tested
+pub mod Formed

@@ -15,4 +15,5 @@ pub mod Testing
 pub mod Answers
 pub mod Printed
 pub mod Delivered
+pub mod Forms
 pub mod Program

@@ -14,6 +14,7 @@ mod fault;
 mod framing;
 mod helping;
 mod hints;
+mod lines;
 mod output;
 mod printing;
 mod program;
@@ -23,5 +24,7 @@ mod texts;
 mod verifying;
 
 pub use answer::Answer;
+pub use apd_run::Streams;
 pub use entry::{Messages, perform};
+pub use lines::Standard;
 pub use program::apd_main;

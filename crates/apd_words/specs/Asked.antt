@@ -41,7 +41,7 @@ pub data Asked : Type 0 where
 -- the run of a script, or of lines as they come, or a question and the file for its answer, if there is one
 pub data Wanted : Type 0 where
   Run : Text → Text → ℕ → ℕ → Bool → Bool → Bool → Wanted
-  Live : Text → ℕ → ℕ → Bool → Bool → Wanted
+  Live : Text → ℕ → ℕ → Bool → Bool → Bool → Option Text → Wanted
   Answer : Asked → Option Text → Wanted
 
 -- the text of a word, if there is one
@@ -119,7 +119,8 @@ wanted_run run =
 
 -- the run of lines as they come
 abbrev pub wanted_live : LiveRun → Wanted
-wanted_live run = Live run.config.now run.workers run.states run.strict run.verbose
+wanted_live run =
+    Live run.config.now run.workers run.states run.strict run.verbose run.clock (text_of run.events)
 
 -- what a query wants
 abbrev pub wanted_answer : Query → Wanted
@@ -223,13 +224,15 @@ run_of rows = do
   Some (Run config script workers states (is_set (codes "quiet") rows)
       (is_set (codes "strict") rows) (is_set (codes "verbose") rows))
 
--- `live C [--workers N] [--states N] [--strict] [--verbose]`
+-- `live C [--workers N] [--states N] [--strict] [--verbose] [--clock] [--events FORM]`
 abbrev pub live_of : List Row → Option Wanted
 live_of rows = do
   config ← first_of (codes "C") rows
   workers ← option_and_then workers_named (first_of (codes "workers") rows)
   states ← states_at rows
-  Some (Live config workers states (is_set (codes "strict") rows) (is_set (codes "verbose") rows))
+  Some (Live config workers states (is_set (codes "strict") rows)
+      (is_set (codes "verbose") rows) (is_set (codes "clock") rows)
+      (first_of (codes "events") rows))
 
 -- `cert HOOK FILE [--config C] [--states N]`
 abbrev pub certify_of : List Row → Option Asked

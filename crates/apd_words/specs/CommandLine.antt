@@ -63,6 +63,10 @@ json = record (flag (codes "json")) { short = Some 106 }
 abbrev pub context : Rule
 context = option (codes "context")
 
+-- `--events FORM`
+abbrev pub events : Rule
+events = option (codes "events")
+
 -- the argument HOOK, which must be the name of one
 abbrev pub hook : ValueParser → Rule
 hook hooks = record (required (codes "HOOK")) { parser = Some hooks }
@@ -122,11 +126,11 @@ run numbers =
     ∷ workers numbers ∷ states ∷ flag (codes "quiet") ∷ flag (codes "strict")
     ∷ flag (codes "verbose") ∷ [])
 
--- `live C [--workers N] [--states N] [--strict] [--verbose]`
+-- `live C [--workers N] [--states N] [--strict] [--verbose] [--clock] [--events FORM]`
 abbrev pub live : ValueParser → Shape
 live numbers =
     command (codes "live") (required (codes "C") ∷ workers numbers ∷ states
-    ∷ flag (codes "strict") ∷ flag (codes "verbose") ∷ [])
+    ∷ flag (codes "strict") ∷ flag (codes "verbose") ∷ flag (codes "clock") ∷ events ∷ [])
 
 -- `cert HOOK FILE [--config C] [--states N] [-o FILE]`
 abbrev pub certify : ValueParser → Shape

@@ -153,12 +153,16 @@ fn live<'a>(matches: &ArgMatches<'a>) -> Option<Request<'a>>
     let states = states(matches)?;
     let strict = flag(matches, "strict");
     let verbose = flag(matches, "verbose");
+    let clock = flag(matches, "clock");
+    let events = value(matches, "events");
     Some(Request::Live(LiveRun {
         config,
         workers,
         states,
         strict,
         verbose,
+        clock,
+        events,
     }))
 }
 

@@ -1,7 +1,8 @@
 //! A slot in which one thread leaves a value for another.
 
 use std::mem;
-use std::sync::{Condvar, Mutex, Wait};
+use std::sync::{Condvar, CondvarTimeouts, Mutex, Wait};
+use std::time::{Clock, Duration};
 
 /// Holds at most one value.
 #[derive(Drop)]
@@ -37,5 +38,14 @@ impl<T: Drop> Post<T> {
             slot = self.bell.wait(rt, slot);
         }
         unreachable!()
+    }
+
+    /// Waits for a value and takes it; `None` if none comes for so long, or the clock can't be read.
+    pub fn take_within<R: Wait + Clock>(&self, rt: &R, long: Duration) -> Option<T> {
+        let slot = self.slot.lock(rt);
+        let (mut slot, _) = self
+            .bell
+            .wait_timeout_while(rt, slot, long, |slot| slot.is_none());
+        mem::replace(&mut *slot, None)
     }
 }

@@ -2,7 +2,7 @@ use Rattle.std.proofs.Common.{refl, sym, ◌∙◌}
 use Rattle.apd_run.specs.Asking.{Unanswered}
 use Rattle.apd_run.specs.Shows.{Nothing, ThenFlushes, BehindInterval}
 use Rattle.apd_run.proofs.Batches.{shows_more, breaks_more}
-use Rattle.apd_run.proofs.input.InputLines.run.Goals as goal
+use Rattle.apd_run.proofs.input.Input.do_all.Goals as goal
 
 pub intervals-init : goal.intervals-init
 intervals-init g c =
