@@ -1,4 +1,6 @@
+mod Changing
 mod Following
+mod Judging
 mod Kept
 mod Led
 mod Rows

@@ -1,13 +1,13 @@
 //! A capture at an access point whose programs are tried.
 
-ghost use Rattle.std.specs.Prelude.{◌≡◌, ◌++◌, IfOk, IfSome, map};
+ghost use Rattle.std.specs.Prelude.{◌≡◌, ◌≤◌, ◌++◌, IfOk, IfSome, length, map, true};
 ghost use Rattle.bpf_helpers.specs.Hooked.{IsFitting};
 ghost use Rattle.ap_model.specs.AccessPoint.{InPlace};
 ghost use Rattle.ap_core.specs.AccessPoints.{rules_of};
 ghost use Rattle.capture.specs.Packets.{seen_of};
 ghost use Rattle.capture.specs.Radiotap.{bytes_in};
 ghost use Rattle.apd_policies.specs.Script.{start_of};
-ghost use Rattle.apd_eval.specs.Follows.{TimePasses, FrameComes, PacketComes, Follows, IsFollowed, rows_of};
+ghost use Rattle.apd_eval.specs.Follows.{TimePasses, is_received, FrameComes, PacketComes, Follows, IsFollowed, rows_of};
 
 use crate::handling::handle;
 use crate::ruling::Ruling;
@@ -65,6 +65,14 @@ fn pass(
     Ok(None)
 }
 
+/// Whether a frame with these bytes is received: it has 1 to 2400.
+pub(crate) fn is_received(bytes: &[u8]) -> bool
+    ensures is { result ≡ is_received bytes.now }
+    ensures short { result ≡ true → length bytes.now ≤ 2400 }
+{
+    1 <= bytes.len() && bytes.len() <= 2400
+}
+
 /// Receives a frame, if it has 1 to 2400 bytes.
 fn receive(
     alloc: Global,
@@ -82,7 +90,7 @@ fn receive(
 {
     match frame {
         Ok(bytes) => {
-            if 1 <= bytes.len() && bytes.len() <= 2400 {
+            if is_received(bytes) {
                 let octets = Octets::copy(alloc, bytes)?;
                 return handle(alloc, shards, policy, state, Event::Frame(octets));
             }
