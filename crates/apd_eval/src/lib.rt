@@ -25,3 +25,4 @@ pub use comparing::{Comparison, compare};
 pub use evaluating::{evaluate, evaluation_text};
 pub use follow::{Replay, Row};
 pub use ruling::Ruling;
+pub use tried::copied_shapes;

@@ -11,7 +11,7 @@ use Rattle.apd_run.specs.Counts.{none}
 use Rattle.apd_run.specs.Shows as shows
 use Rattle.apd_run.proofs.Ending.{runs_nothing}
 use Rattle.apd_program.specs.declared.answer.Answer.{Answer}
-use Rattle.apd_program.specs.declared.answer.Answer.TheVariants.{Accepted, Code, Instructions, Run, Verdicts, Page, Script, CutScript, Tested, Help, Fault, Refused, LineFault, Certificate, Unaccepted}
+use Rattle.apd_program.specs.declared.answer.Answer.TheVariants.{Accepted, Code, Instructions, Run, Verdicts, Differences, Page, Script, CutScript, Tested, Help, Fault, Refused, LineFault, Certificate, Unaccepted}
 use Rattle.apd_program.specs.declared.fault.ProgramFault.{ProgramFault}
 use Rattle.apd_program.specs.declared.fault.ProgramFault.TheVariants as fault
 use Rattle.apd_program.specs.Lines.{status_of}
@@ -76,6 +76,8 @@ status_within (Code code) = omega arith
 status_within (Instructions text) = omega arith
 status_within (Run text) = omega arith
 status_within (Verdicts text) = omega arith
+status_within (Differences text true) = omega arith
+status_within (Differences text false) = omega arith
 status_within (Page text) = omega arith
 status_within (Script text) = omega arith
 status_within (CutScript text f) = omega arith
