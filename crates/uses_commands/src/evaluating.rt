@@ -27,6 +27,11 @@ const REFUSES: &[u8] = b"b700000025000000 9500000000000000";
 
 const EXITS: &[u8] = b"9500000000000000";
 
+/// `mov r0, 1` and `exit`, and `mov r0, 11778` and `exit`.
+const DROPS: &[u8] = b"b700000001000000 9500000000000000";
+
+const MARKS: &[u8] = b"b7000000022e0000 9500000000000000";
+
 /// The capture `examples/voice.pcap`: an authentication, an association, two packets of voice, another, and one of ARP.
 const CAPTURE: &str = "d4c3b2a1020004000000000000000000ffff000069000000\
     e8030000000000001e0000001e000000\
@@ -45,10 +50,12 @@ const CAPTURE: &str = "d4c3b2a1020004000000000000000000ffff000069000000\
 /// Fails if `apd eval` with these words has another result.
 fn judges(rt: &impl Abort, alloc: Global, words: &[&str], status: u8, out: &str, err: &str) {
     let capture = hex::decode(alloc, CAPTURE).ok().expect(rt, "a capture");
-    let files: [(&str, &[u8]); 6] = [
+    let files: [(&str, &[u8]); 8] = [
         ("voice.hex", VOICE),
         ("refuses.hex", REFUSES),
         ("exits.hex", EXITS),
+        ("drops.hex", DROPS),
+        ("marks.hex", MARKS),
         ("lab.toml", LAB),
         ("other.toml", OTHER),
         ("voice.pcap", capture.as_slice()),
@@ -156,4 +163,96 @@ fn faults_are_told(rt: HostRuntime) {
     ];
     let why = "apd: voice.hex: not a capture file\n";
     judges(&rt, alloc, &words, 2, "", why);
+}
+
+/// Fails if `apd eval data` of a program against another one has another result.
+fn contrasts(rt: &impl Abort, alloc: Global, words: &[&str], told: (u8, &str, &str)) {
+    let first = ["apd", "eval", "data"];
+    let last = ["voice.pcap", "--config", "lab.toml", "--against"];
+    let Some((program, others)) = words.split_first() else {
+        return;
+    };
+    let mut all = Vec::from_slice(alloc, first.as_slice()).expect(rt, "memory");
+    all.push(*program).expect(rt, "memory");
+    all.extend_from_slice(last.as_slice()).expect(rt, "memory");
+    all.extend_from_slice(others).expect(rt, "memory");
+    let (status, out, err) = told;
+    judges(rt, alloc, all.as_slice(), status, out, err);
+}
+
+/// A program, the one in force and other words, with the status, the output and the error.
+const CONTRASTS: &[(&[&str], (u8, &str, &str))] = &[
+    (
+        &["drops.hex", "voice.hex"],
+        (
+            1,
+            "packet  station            verdict\n\
+            3       02:00:00:00:00:0a  pass mark 46 -> drop\n\
+            4       02:00:00:00:00:0a  pass mark 46 -> drop\n\
+            5       02:00:00:00:00:0a  pass -> drop\n\
+            6       02:00:00:00:00:0a  pass -> drop\n\
+            judged 4 of 6 packets by both: 4 verdicts differ\n",
+            "",
+        ),
+    ),
+    (
+        &["voice.hex", "marks.hex"],
+        (
+            1,
+            "packet  station            verdict\n\
+            5       02:00:00:00:00:0a  pass mark 46 -> pass\n\
+            6       02:00:00:00:00:0a  pass mark 46 -> pass\n\
+            judged 4 of 6 packets by both: 2 verdicts differ\n",
+            "",
+        ),
+    ),
+    (
+        &["voice.hex", "voice.hex"],
+        (
+            0,
+            "packet  station            verdict\n\
+            judged 4 of 6 packets by both: 0 verdicts differ\n",
+            "",
+        ),
+    ),
+    (
+        &["drops.hex", "voice.hex", "-j"],
+        (
+            1,
+            "{\"packet\":3,\"station\":\"02:00:00:00:00:0a\",\"old\":\"pass mark 46\",\"new\":\"drop\"}\n\
+            {\"packet\":4,\"station\":\"02:00:00:00:00:0a\",\"old\":\"pass mark 46\",\"new\":\"drop\"}\n\
+            {\"packet\":5,\"station\":\"02:00:00:00:00:0a\",\"old\":\"pass\",\"new\":\"drop\"}\n\
+            {\"packet\":6,\"station\":\"02:00:00:00:00:0a\",\"old\":\"pass\",\"new\":\"drop\"}\n",
+            "",
+        ),
+    ),
+    (&["drops.hex", "drops.hex", "-j"], (0, "", "")),
+    (
+        &["voice.hex", "exits.hex"],
+        (
+            1,
+            "refused 30 at 0\n",
+            "apd: slot 0 (exit): something unset is read; `apd explain 30` tells more\n\
+            apd: this is said of the program after --against\n",
+        ),
+    ),
+    (
+        &["exits.hex", "voice.hex"],
+        (
+            1,
+            "refused 30 at 0\n",
+            "apd: slot 0 (exit): something unset is read; `apd explain 30` tells more\n",
+        ),
+    ),
+    (
+        &["voice.hex", "no.hex"],
+        (2, "", "apd: cannot read no.hex: there is no such file\n"),
+    ),
+];
+
+#[test]
+fn verdicts_that_differ_are_rows(rt: HostRuntime) {
+    for (words, told) in CONTRASTS {
+        contrasts(&rt, rt.alloc(), words, *told);
+    }
 }
