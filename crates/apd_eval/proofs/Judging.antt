@@ -20,9 +20,9 @@ module _ (p : Policy) (packets : List Seen) where
 
   pub Comes-more : (G : List Contrast → Held → Type 0) (h held : Held) (row : Row) (rows : List Row) (contrasts : List Contrast) (ruling : Ruling)
       → Comes G h (row ∷ rows) contrasts → IsRuling (read_at p row) p.programs.now h (query_of packets row) ruling held
-      → Comes G held rows (contrasts ++ record { packet = row.packet; old = row.ruling; new = ruling } ∷ [])
+      → Comes G held rows (contrasts ++ record { packet = row.packet; in_force = row.ruling; tried = ruling } ∷ [])
   Comes-more G h held row rows contrasts ruling comes is = λ rest h' again.
-      let one : Contrast = record { packet = row.packet; old = row.ruling; new = ruling } in
+      let one : Contrast = record { packet = row.packet; in_force = row.ruling; tried = ruling } in
       let P : List Contrast → Type 0 = λ all. G all h' in
       subst P (sym (append_assoc contrasts (one ∷ []) rest)) (comes (one ∷ rest) h' (ruling, held, rest, is, refl, again))
 

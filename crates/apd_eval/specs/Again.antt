@@ -39,5 +39,5 @@ JudgesAgain p packets h [] contrasts h' = (contrasts ≡ []) × (h' ≡ h)
 JudgesAgain p packets h (row ∷ rows) contrasts h' =
     (ruling : Ruling) × (held : Held) × (more : List Contrast)
     × IsRuling (read_at p row) p.programs.now h (query_of packets row) ruling held
-    × (contrasts ≡ record { packet = row.packet; old = row.ruling; new = ruling } ∷ more)
+    × (contrasts ≡ record { packet = row.packet; in_force = row.ruling; tried = ruling } ∷ more)
     × JudgesAgain p packets held rows more h'

@@ -9,7 +9,7 @@ use Rattle.apd_eval.specs.declared.again.Contrast.{Contrast}
 
 -- both verdicts mean the same to the link
 abbrev pub Agrees : Contrast → Type 0
-Agrees c = verdict_of c.old ≡ verdict_of c.new
+Agrees c = verdict_of c.in_force ≡ verdict_of c.tried
 
 -- all verdicts are equal
 abbrev pub AllAgree : List Contrast → Type 0
@@ -25,16 +25,16 @@ pub data AreChanges : List Contrast → List Contrast → Type 0 where
 -- the line of a change
 abbrev pub change_line : Contrast → List ℕ
 change_line c =
-    column 8 (decimal c.packet) ++ (column 19 (station_text c.old.context)
-    ++ (words_of (verdict_of c.old) ++ (codes " -> " ++ (words_of (verdict_of c.new) ++ 10 ∷ []))))
+    column 8 (decimal c.packet) ++ (column 19 (station_text c.in_force.context)
+    ++ (words_of (verdict_of c.in_force) ++ (codes " -> " ++ (words_of (verdict_of c.tried) ++ 10 ∷ []))))
 
 -- the same as a line of JSON
 abbrev pub json_change : Contrast → List ℕ
 json_change c =
     codes "{\"packet\":" ++ (decimal c.packet ++ (codes ",\"station\":\""
-    ++ (station_text c.old.context ++ (codes "\",\"old\":\""
-    ++ (words_of (verdict_of c.old) ++ (codes "\",\"new\":\""
-    ++ (words_of (verdict_of c.new) ++ codes "\"}\n")))))))
+    ++ (station_text c.in_force.context ++ (codes "\",\"old\":\""
+    ++ (words_of (verdict_of c.in_force) ++ (codes "\",\"new\":\""
+    ++ (words_of (verdict_of c.tried) ++ codes "\"}\n")))))))
 
 -- how many verdicts differ, of how many packets; or why none was judged
 abbrev pub change_sums : Hook → List ℕ → List Seen → ℕ → ℕ → List ℕ

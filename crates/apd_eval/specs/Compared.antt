@@ -21,15 +21,15 @@ pub record AreJudgedAgain (v : Verified) (draw : ℕ) (packets : List Seen) (row
   pub held' : Held
   pub again : JudgesAgain policy packets held rows contrasts held'
 
--- The link follows the old program. The text has the verdicts of the new one that differ, and there is none exactly if
--- all are equal.
-pub record IsComparison (old new : Verified) (draw : ℕ) (config : Config) (packets : List Seen) (json : Bool) (text : List ℕ) (differs : Bool) : Type 0 where
+-- The link follows the program in force. The text has the verdicts of the tried one that differ, and there is none
+-- exactly if all are equal.
+pub record IsComparison (in_force tried : Verified) (draw : ℕ) (config : Config) (packets : List Seen) (json : Bool) (text : List ℕ) (differs : Bool) : Type 0 where
   pub rows : List Row
-  pub evaluated : IsEvaluated old draw config packets rows
+  pub evaluated : IsEvaluated in_force draw config packets rows
   pub contrasts : List Contrast
-  pub again : AreJudgedAgain new draw packets rows contrasts
+  pub again : AreJudgedAgain tried draw packets rows contrasts
   pub changes : List Contrast
   pub are_changes : AreChanges contrasts changes
   pub equal : (changes ≡ []) ↔ AllAgree contrasts
   pub differ : differs ≡ nat_lt 0 (length changes)
-  pub text_is : text ≡ changes_text changes (change_sums old.hook config.bssid packets (length contrasts) (length changes)) json
+  pub text_is : text ≡ changes_text changes (change_sums in_force.hook config.bssid packets (length contrasts) (length changes)) json

@@ -20,10 +20,10 @@ use std::alloc::{AllocError, Global};
 #[derive(Clone, Copy)]
 pub struct Contrast {
     pub packet: usize,
-    /// What the program says whose verdict the link follows.
-    pub old: Ruling,
-    /// What the other program says.
-    pub new: Ruling,
+    /// What the program in force says, whose verdict the link follows.
+    pub in_force: Ruling,
+    /// What the program says that is tried.
+    pub tried: Ruling,
 }
 
 impl Contrast {
@@ -31,7 +31,7 @@ impl Contrast {
     pub(crate) fn agrees(&self) -> bool
         ensures is { IsTrue result ↔ Agrees self.now }
     {
-        self.old.meaning() == self.new.meaning()
+        self.in_force.meaning() == self.tried.meaning()
     }
 }
 
@@ -89,11 +89,11 @@ pub(crate) fn judge_again(
 {
     let mut contrasts = Vec::new(alloc);
     for row in rows {
-        let new = rule(policy, state, row, packets);
+        let tried = rule(policy, state, row, packets);
         contrasts.push(Contrast {
             packet: row.packet,
-            old: row.ruling,
-            new,
+            in_force: row.ruling,
+            tried,
         })?;
     }
     Ok(contrasts)

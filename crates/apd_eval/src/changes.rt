@@ -35,12 +35,12 @@ fn append_line(alloc: Global, text: &mut String, change: &Contrast) -> Result<()
         (λ _. string_bytes text.new ≡ string_bytes text.old ++ change_line change.now) }
 {
     let packet = format!(in alloc; "{}", change.packet)?;
-    let station = station_text(alloc, &change.old.context)?;
+    let station = station_text(alloc, &change.in_force.context)?;
     let packet = packet.as_str();
     let station = station.as_str();
-    let old = change.old.meaning();
-    let new = change.new.meaning();
-    writeln!(text, "{packet:<8}{station:<19}{old} -> {new}")?;
+    let former = change.in_force.meaning();
+    let latter = change.tried.meaning();
+    writeln!(text, "{packet:<8}{station:<19}{former} -> {latter}")?;
     Ok(())
 }
 
@@ -49,13 +49,13 @@ fn append_json(alloc: Global, text: &mut String, change: &Contrast) -> Result<()
         (λ _. string_bytes text.new ≡ string_bytes text.old ++ json_change change.now) }
 {
     let packet = change.packet;
-    let station = station_text(alloc, &change.old.context)?;
+    let station = station_text(alloc, &change.in_force.context)?;
     let station = station.as_str();
-    let old = change.old.meaning();
-    let new = change.new.meaning();
+    let former = change.in_force.meaning();
+    let latter = change.tried.meaning();
     writeln!(
         text,
-        "{{\"packet\":{packet},\"station\":\"{station}\",\"old\":\"{old}\",\"new\":\"{new}\"}}"
+        "{{\"packet\":{packet},\"station\":\"{station}\",\"old\":\"{former}\",\"new\":\"{latter}\"}}"
     )?;
     Ok(())
 }

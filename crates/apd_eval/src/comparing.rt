@@ -43,22 +43,22 @@ fn judged_again(
     judge_again(alloc, policy, &mut state, rows, replay.packets)
 }
 
-/// The verdicts of a new program that differ from those of the old one, on the queries of the old one's hook as a
-/// capture's frames come to a new access point of which the old one is the only program. Each has maps of its own, whose
+/// The verdicts of a program that differ from those of the program in force, on the queries of its hook as a capture's
+/// frames come to a new access point of which it is the only program. Each has maps of its own, whose
 /// words are 0 at first, and draws the same first number; both read the clock and the stations of the query.
 pub fn compare(
     alloc: Global,
-    old: Accepted,
-    new: Accepted,
+    in_force: Accepted,
+    tried: Accepted,
     replay: Replay<'_>,
     json: bool,
 ) -> Result<Comparison, AllocError>
-    ensures is { IfOk result (λ c. IsComparison old new replay.entry.draw replay.entry.link.now
+    ensures is { IfOk result (λ c. IsComparison in_force tried replay.entry.draw replay.entry.link.now
         (map seen_of replay.entry.packets.now) json (string_bytes c.text) c.differs) }
 {
-    let hook = old.hook();
-    let rows = evaluate(alloc, old, replay)?;
-    let contrasts = judged_again(alloc, new, replay, rows.as_slice())?;
+    let hook = in_force.hook();
+    let rows = evaluate(alloc, in_force, replay)?;
+    let contrasts = judged_again(alloc, tried, replay, rows.as_slice())?;
     let changes = changes_of(alloc, contrasts.as_slice())?;
     let changed = changes.len();
     let sums = change_sums(alloc, hook, replay, contrasts.len(), changed)?;

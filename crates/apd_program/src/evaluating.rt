@@ -115,20 +115,20 @@ fn examine(
 /// The verdicts of the program that the code spells, if it is accepted, that differ from those of an old one.
 fn contrast(
     alloc: Global,
-    old: Accepted,
+    in_force: Accepted,
     code: &[u8],
     exam: Exam<'_>,
     reason: &mut Reason,
 ) -> Result<Answer, ProgramFault>
     ensures verdicts { IfOk result (IsOfAdmitted (nearest exam.entry.terms.states)
-        exam.entry.terms.hook (AreDifferences (replayed_by exam.entry) old)
+        exam.entry.terms.hook (AreDifferences (replayed_by exam.entry) in_force)
         code.now exam.entry.shapes.now) }
     ensures memory { IfErr result (λ e. e ≡ ProgramFault.NoMemory) }
 {
     let admission = admit_code(alloc, code, exam.shapes, exam.terms, reason)?;
     match admission {
-        Admission::Admitted(new) => {
-            let found = compare(alloc, old, new, exam.replay, exam.json)?;
+        Admission::Admitted(tried) => {
+            let found = compare(alloc, in_force, tried, exam.replay, exam.json)?;
             return Ok(Answer::Differences {
                 text: found.text,
                 differs: found.differs,
@@ -154,7 +154,7 @@ fn examine_against(
 {
     let admission = admit_code(alloc, old, exam.shapes, exam.terms, reason)?;
     match admission {
-        Admission::Admitted(old) => return contrast(alloc, old, code, exam, reason),
+        Admission::Admitted(in_force) => return contrast(alloc, in_force, code, exam, reason),
         Admission::Answered(answer) => {
             reason.blames_old(alloc);
             return Ok(answer);
