@@ -12,7 +12,7 @@ use Rattle.apd_files.specs.declared.inputs.files.FileKind.TheVariants.{Capture}
 use Rattle.apd_files.specs.Held.{Held, Keeps, Lacks}
 use Rattle.apd_words.specs.Asked.{text_of}
 use Rattle.apd_program.specs.Admitting.{IsOfAdmitted}
-use Rattle.apd_program.specs.Evaluating.{Replayed, AreVerdicts, AreDifferences, AreJudged, IsKept, HoldsOld, HasBadOld, IsMaterial, IsEvaluatedWith, HasNoEvaluation, NoConfig, OfConfiguration, OfCode, OfCapture, OfOld, link_of}
+use Rattle.apd_program.specs.Evaluating.{Replayed, AreVerdicts, AreDifferences, AreJudged, IsKept, HoldsIfAny, HasBadCodeInForce, IsMaterial, IsEvaluatedWith, HasNoEvaluation, NoConfig, OfConfiguration, OfCode, OfCapture, OfCodeInForce, link_of}
 use Rattle.apd_program.specs.Faults.{IsMemoryOr, HasBadConfiguration, HasBadCode, HasBadCapture, NoFile}
 use Rattle.apd_program.specs.declared.answer.Answer.{Answer}
 use Rattle.apd_program.specs.declared.evaluating.Material.{Material}
@@ -40,9 +40,9 @@ module _ (files : Held) (file capture : List ℕ) (against : Option (List ℕ)) 
   no_capture later same (inl memory) = inl memory
   no_capture later same (inr lacks) = inr (OfCapture (Some config) (let P : Held → Type 0 = λ f. HasBadCapture f capture in subst P same (NoFile lacks)))
 
-  pub bad_old : (later : Held) → later ≡ files → IsMemoryOr (HasBadOld later against) e → IsMemoryOr (HasNoEvaluation files file capture against (Some config)) e
-  bad_old later same (inl memory) = inl memory
-  bad_old later same (inr bad) = inr (OfOld (Some config) (let P : Held → Type 0 = λ f. HasBadOld f against in subst P same bad))
+  pub bad_code_in_force : (later : Held) → later ≡ files → IsMemoryOr (HasBadCodeInForce later against) e → IsMemoryOr (HasNoEvaluation files file capture against (Some config)) e
+  bad_code_in_force later same (inl memory) = inl memory
+  bad_code_in_force later same (inr bad) = inr (OfCodeInForce (Some config) (let P : Held → Type 0 = λ f. HasBadCodeInForce f against in subst P same bad))
 
   pub bad_capture : (later : Held) → later ≡ files → IsMemoryOr (HasBadCapture later capture) e → IsMemoryOr (HasNoEvaluation files file capture against (Some config)) e
   bad_capture later same (inl memory) = inl memory
@@ -54,7 +54,7 @@ unkept code h = cc
 module _ (files : Held) (limit : ℕ) (g : Replayed) (code kept : List ℕ) (shapes : List Shape) (a : Answer) where
   -- what is said of kept codes is said of the whole ones
   judged_whole : (against : Option (List ℕ)) (old : Option (Vec ℕ Global)) → Keeps (2 ^ 17) 8 code kept → IsKept files against old → AreJudged limit g (option_map (λ o. o.items) old) kept shapes a
-      → (whole : Option (List ℕ)) × HoldsOld files against whole × AreJudged limit g whole code shapes a
+      → (whole : Option (List ℕ)) × HoldsIfAny files against whole × AreJudged limit g whole code shapes a
   judged_whole None None keeps is h = (None, refl, IsOfAdmitted-kept limit g.hook shapes (AreVerdicts g) code kept a keeps h)
   judged_whole None (Some old) keeps is h = absurd (unkept old is)
   judged_whole (Some path) None keeps is h = absurd is
@@ -67,14 +67,14 @@ module _ (files : Held) (limit : ℕ) (g : Replayed) (code kept : List ℕ) (sha
   )
 
 pub IsEvaluatedWith-of : (files : Held) (limit : ℕ) (hook : Hook) (file capture config : List ℕ) (against : Option (List ℕ)) (json : Bool) (m : Material) (packets : List Seen) (r : Result Answer ProgramFault) → IsMaterial files config file capture against m → HoldsPackets m.capture.items packets
-    → IfOk r (AreJudged limit (record { hook = hook; draw = m.setting.draw; config = m.setting.link; packets = packets; json = json }) (option_map (λ o. o.items) m.old) m.code.items m.setting.shapes)
+    → IfOk r (AreJudged limit (record { hook = hook; draw = m.setting.draw; config = m.setting.link; packets = packets; json = json }) (option_map (λ o. o.items) m.in_force) m.code.items m.setting.shapes)
     → IfOk r (IsEvaluatedWith files limit hook file capture against json config)
 IsEvaluatedWith-of files limit hook file capture config against json m packets r is held said =
     let s = is.setting in
     let c = s.configuration in
     let on : ℕ → Config → Replayed = λ d l. record { hook = hook; draw = d; config = l; packets = packets; json = json } in
-    IfOk-weaker r (AreJudged limit (on m.setting.draw m.setting.link) (option_map (λ o. o.items) m.old) m.code.items m.setting.shapes) (IsEvaluatedWith files limit hook file capture against json config) (λ a h.
-    let whole = judged_whole files limit (on m.setting.draw m.setting.link) is.kept.code m.code.items m.setting.shapes a against m.old is.kept.keeps is.old h in
+    IfOk-weaker r (AreJudged limit (on m.setting.draw m.setting.link) (option_map (λ o. o.items) m.in_force) m.code.items m.setting.shapes) (IsEvaluatedWith files limit hook file capture against json config) (λ a h.
+    let whole = judged_whole files limit (on m.setting.draw m.setting.link) is.kept.code m.code.items m.setting.shapes a against m.in_force is.kept.keeps is.in_force h in
     let drawn = subst (λ d. AreJudged limit (on d m.setting.link) whole.0 is.kept.code m.setting.shapes a) s.draw whole.2 in
     let linked = subst (λ l. AreJudged limit (on c.draw l) whole.0 is.kept.code m.setting.shapes a) s.link drawn in
     record {
@@ -82,8 +82,8 @@ IsEvaluatedWith-of files limit hook file capture config against json m packets r
       configured = s.configured;
       code = is.kept.code;
       held = is.kept.held;
-      old = whole.0;
-      old_held = whole.1;
+      in_force = whole.0;
+      held_in_force = whole.1;
       packets = packets;
       captured = record { bytes = m.capture.items; there = is.there; held = held };
       said = subst (λ (maps : List Shape). AreJudged limit (on c.draw (link_of c)) whole.0 is.kept.code maps a) s.maps linked;

@@ -49,7 +49,7 @@ pub record IsMaterial (files : Held) (config file capture : List ℕ) (against :
   pub setting : HoldsSetting files config m.setting
   pub kept : HoldsKept (2 ^ 17) files file m.code.items
   pub there : Holds files capture m.capture.items
-  pub old : IsKept files against m.old
+  pub in_force : IsKept files against m.in_force
 
 -- the file is a capture of these packets
 pub record HoldsCapture (files : Held) (path : List ℕ) (packets : List Seen) : Type 0 where
@@ -79,23 +79,23 @@ abbrev pub AreVerdicts : Replayed → Verified → Answer → Type 0
 AreVerdicts g v (Verdicts text) = IsEvaluation v g.draw g.config g.packets g.json (string_bytes text)
 AreVerdicts g v _ = ⊥
 
--- the verdicts of a program that differ from those of the old one, which the link follows
+-- the verdicts of a program that differ from those of the one in force, which the link follows
 abbrev pub AreDifferences : Replayed → Verified → Verified → Answer → Type 0
-AreDifferences g old v (Differences text differs) =
-    IsComparison old v g.draw g.config g.packets g.json (string_bytes text) differs
-AreDifferences g old v _ = ⊥
+AreDifferences g in_force v (Differences text differs) =
+    IsComparison in_force v g.draw g.config g.packets g.json (string_bytes text) differs
+AreDifferences g in_force v _ = ⊥
 
 -- the verdicts of the program that code spells; or, with the code in force, those that differ. That is verified first.
 abbrev pub AreJudged : ℕ → Replayed → Option (List ℕ) → List ℕ → List Shape → Answer → Type 0
 AreJudged limit g None code shapes a = IsOfAdmitted limit g.hook (AreVerdicts g) code shapes a
-AreJudged limit g (Some old) code shapes a =
-    IsOfAdmitted limit g.hook (λ v. IsOfAdmitted limit g.hook (AreDifferences g v) code shapes) old shapes a
+AreJudged limit g (Some in_force) code shapes a =
+    IsOfAdmitted limit g.hook (λ v. IsOfAdmitted limit g.hook (AreDifferences g v) code shapes) in_force shapes a
 
 -- the code in the file, if one is named
-abbrev pub HoldsOld : Held → Option (List ℕ) → Option (List ℕ) → Type 0
-HoldsOld files None code = code ≡ None
-HoldsOld files (Some path) None = ⊥
-HoldsOld files (Some path) (Some code) = HoldsCode files path code
+abbrev pub HoldsIfAny : Held → Option (List ℕ) → Option (List ℕ) → Type 0
+HoldsIfAny files None code = code ≡ None
+HoldsIfAny files (Some path) None = ⊥
+HoldsIfAny files (Some path) (Some code) = HoldsCode files path code
 
 -- the program in a file is judged on the capture in another, at an access point of the configuration in a third,
 -- against that in a fourth, if one is named
@@ -104,11 +104,11 @@ pub record IsEvaluatedWith (files : Held) (limit : ℕ) (hook : Hook) (file capt
   pub configured : HoldsConfiguration files config configuration
   pub code : List ℕ
   pub held : HoldsCode files file code
-  pub old : Option (List ℕ)
-  pub old_held : HoldsOld files against old
+  pub in_force : Option (List ℕ)
+  pub held_in_force : HoldsIfAny files against in_force
   pub packets : List Seen
   pub captured : HoldsCapture files capture packets
-  pub said : AreJudged limit (record { hook = hook; draw = configuration.draw; config = link_of configuration; packets = packets; json = json }) old code configuration.maps a
+  pub said : AreJudged limit (record { hook = hook; draw = configuration.draw; config = link_of configuration; packets = packets; json = json }) in_force code configuration.maps a
 
 -- the same; there has to be a configuration
 abbrev pub IsEvaluatedFile : Held → ℕ → Hook → List ℕ → List ℕ → Option (List ℕ) → Bool → Option (List ℕ) → Answer → Type 0
@@ -117,9 +117,9 @@ IsEvaluatedFile files limit hook file capture against json (Some config) a =
     IsEvaluatedWith files limit hook file capture against json config a
 
 -- the code in a named file is faulty
-abbrev pub HasBadOld : Held → Option (List ℕ) → Type 0
-HasBadOld files None = ⊥
-HasBadOld files (Some path) = HasBadCode files path
+abbrev pub HasBadCodeInForce : Held → Option (List ℕ) → Type 0
+HasBadCodeInForce files None = ⊥
+HasBadCodeInForce files (Some path) = HasBadCode files path
 
 -- there is no configuration, or a file is faulty
 pub data HasNoEvaluation (files : Held) (file capture : List ℕ) (against : Option (List ℕ)) : Option (List ℕ) → Type 0 where
@@ -127,4 +127,4 @@ pub data HasNoEvaluation (files : Held) (file capture : List ℕ) (against : Opt
   OfConfiguration : (config : List ℕ) → HasBadConfiguration files config → HasNoEvaluation files file capture against (Some config)
   OfCode : (config : Option (List ℕ)) → HasBadCode files file → HasNoEvaluation files file capture against config
   OfCapture : (config : Option (List ℕ)) → HasBadCapture files capture → HasNoEvaluation files file capture against config
-  OfOld : (config : Option (List ℕ)) → HasBadOld files against → HasNoEvaluation files file capture against config
+  OfCodeInForce : (config : Option (List ℕ)) → HasBadCodeInForce files against → HasNoEvaluation files file capture against config

@@ -5,7 +5,7 @@ ghost use Rattle.bpf_verifier.specs.Limits.{nearest};
 ghost use Rattle.apd_words.specs.Asked.{asked_evaluation, text_of};
 ghost use Rattle.apd_program.specs.Admitting.{IsOfAdmitted};
 ghost use Rattle.apd_program.specs.Answers.{IsAnswer, HasNoAnswer};
-ghost use Rattle.apd_program.specs.Evaluating.{HoldsSetting, AreVerdicts, AreDifferences, AreJudged, replayed_by, IsKept, IsMaterial, IsEvaluatedWith, HasBadOld, HasNoEvaluation, link_of};
+ghost use Rattle.apd_program.specs.Evaluating.{HoldsSetting, AreVerdicts, AreDifferences, AreJudged, replayed_by, IsKept, IsMaterial, IsEvaluatedWith, HasBadCodeInForce, HasNoEvaluation, link_of};
 ghost use Rattle.apd_program.specs.Faults.{IsMemoryOr, HasBadConfiguration};
 
 use crate::admission::{Admission, admit_code};
@@ -42,7 +42,7 @@ pub(crate) struct Material {
     pub code: Vec<u8>,
     pub capture: Vec<u8>,
     /// The same of the code in force, if one is named.
-    pub old: Option<Vec<u8>>,
+    pub in_force: Option<Vec<u8>>,
 }
 
 /// How programs are verified, and the capture on which they are tried.
@@ -112,7 +112,7 @@ fn examine(
     }
 }
 
-/// The verdicts of the program that the code spells, if it is accepted, that differ from those of an old one.
+/// The verdicts of the program that the code spells, if it is accepted, that differ from those of the one in force.
 fn contrast(
     alloc: Global,
     in_force: Accepted,
@@ -141,7 +141,7 @@ fn contrast(
 /// The same, if the program in force is accepted, too.
 fn examine_against(
     alloc: Global,
-    old: &[u8],
+    in_force: &[u8],
     code: &[u8],
     exam: Exam<'_>,
     reason: &mut Reason,
@@ -149,14 +149,14 @@ fn examine_against(
     ensures verdicts { IfOk result (IsOfAdmitted (nearest exam.entry.terms.states)
         exam.entry.terms.hook (λ v. IsOfAdmitted (nearest exam.entry.terms.states)
         exam.entry.terms.hook (AreDifferences (replayed_by exam.entry) v)
-        code.now exam.entry.shapes.now) old.now exam.entry.shapes.now) }
+        code.now exam.entry.shapes.now) in_force.now exam.entry.shapes.now) }
     ensures memory { IfErr result (λ e. e ≡ ProgramFault.NoMemory) }
 {
-    let admission = admit_code(alloc, old, exam.shapes, exam.terms, reason)?;
+    let admission = admit_code(alloc, in_force, exam.shapes, exam.terms, reason)?;
     match admission {
         Admission::Admitted(in_force) => return contrast(alloc, in_force, code, exam, reason),
         Admission::Answered(answer) => {
-            reason.blames_old(alloc);
+            reason.blames_code_in_force(alloc);
             return Ok(answer);
         }
     }
@@ -165,18 +165,18 @@ fn examine_against(
 /// The verdicts of the program that the code spells; or, with the code in force, those that differ.
 fn judge(
     alloc: Global,
-    old: &Option<Vec<u8>>,
+    in_force: &Option<Vec<u8>>,
     code: &[u8],
     exam: Exam<'_>,
     reason: &mut Reason,
 ) -> Result<Answer, ProgramFault>
     ensures verdicts { IfOk result (AreJudged (nearest exam.entry.terms.states)
-        (replayed_by exam.entry) (option_map (λ old. old.items) old.now)
+        (replayed_by exam.entry) (option_map (λ code. code.items) in_force.now)
         code.now exam.entry.shapes.now) }
     ensures memory { IfErr result (λ e. e ≡ ProgramFault.NoMemory) }
 {
-    match old {
-        Some(old) => return examine_against(alloc, old.as_slice(), code, exam, reason),
+    match in_force {
+        Some(in_force) => return examine_against(alloc, in_force.as_slice(), code, exam, reason),
         None => return examine(alloc, code, exam, reason),
     }
 }
@@ -189,7 +189,7 @@ fn code_if_any<F: Files>(
 ) -> Result<Option<Vec<u8>>, ProgramFault>
     ensures code { IfOk result (IsKept (F.held files.old) (text_of path.entry)) }
     ensures fault { IfErr result
-        (IsMemoryOr (HasBadOld (F.held files.old) (text_of path.entry))) }
+        (IsMemoryOr (HasBadCodeInForce (F.held files.old) (text_of path.entry))) }
     ensures same { F.held files.new ≡ F.held files.old }
 {
     match path {
@@ -218,12 +218,12 @@ fn gather<F: Files>(
     let setting = configured(alloc, config, files)?;
     let code = code(alloc, evaluation.subject.source.file, files)?;
     let capture = read(alloc, evaluation.capture, FileKind::Capture, files)?;
-    let old = code_if_any(alloc, evaluation.against, files)?;
+    let in_force = code_if_any(alloc, evaluation.against, files)?;
     Ok(Material {
         setting,
         code,
         capture,
-        old,
+        in_force,
     })
 }
 
@@ -247,7 +247,7 @@ fn evaluated<F: Files>(
         setting,
         code,
         capture,
-        old,
+        in_force,
     } = gather(alloc, config, evaluation, files)?;
     match read_capture(alloc, capture.as_slice()) {
         Ok(packets) => {
@@ -263,7 +263,7 @@ fn evaluated<F: Files>(
                 replay,
                 json: evaluation.json,
             };
-            return judge(alloc, &old, code.as_slice(), exam, reason);
+            return judge(alloc, &in_force, code.as_slice(), exam, reason);
         }
         Err(fault) => return Err(of_capture(alloc, evaluation.capture, fault)),
     }

@@ -105,7 +105,7 @@ const CERTIFICATE: &[u8] = b"APC2";
 const EXCHANGED: &str = "apd: the code file begins like a certificate: are the two exchanged?\n";
 
 /// The message if the program in force isn't admitted.
-const OF_OLD: &str = "apd: this is said of the program after --against\n";
+const OF_CODE_IN_FORCE: &str = "apd: this is said of the program after --against\n";
 
 /// Why code isn't a program with maps of these shapes: each slot that isn't an instruction, or else its first fault.
 fn faults_of(alloc: Global, code: &[u8], shapes: Shapes) -> Result<String, AllocError> {
@@ -180,8 +180,8 @@ impl Reason {
     }
 
     /// Says that the answer is about the program in force.
-    pub(crate) fn blames_old(&mut self, alloc: Global) {
-        self.text = String::from_str(alloc, OF_OLD).map(Some);
+    pub(crate) fn blames_code_in_force(&mut self, alloc: Global) {
+        self.text = String::from_str(alloc, OF_CODE_IN_FORCE).map(Some);
     }
 
     /// Keeps the refused instruction of the code, as text.
