@@ -1,3 +1,4 @@
+mod Asking
 mod Changing
 mod Following
 mod Judging

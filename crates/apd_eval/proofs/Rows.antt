@@ -8,7 +8,7 @@ use Rattle.bpf_machine.specs.Verified.{Verified}
 use Rattle.capture.specs.Packets.{Seen}
 use Rattle.ap_model.specs.Readings.{Config}
 use Rattle.program_judge.specs.Programs.{no_programs, replaced}
-use Rattle.apd_eval.specs.Follows.{IsFollowed}
+use Rattle.apd_eval.specs.Asked.{IsFollowed}
 use Rattle.apd_eval.specs.Evaluated.{IsEvaluated}
 use Rattle.apd_eval.specs.declared.follow.Row.{Row}
 use Rattle.apd_eval.specs.declared.tried.Policy.{Policy}

@@ -5,7 +5,7 @@ use Rattle.bpf_machine.specs.Verified.{Verified}
 use Rattle.capture.specs.Packets.{Seen}
 use Rattle.ap_model.specs.Readings.{Config}
 use Rattle.program_judge.specs.Programs.{no_programs, replaced}
-use Rattle.apd_eval.specs.Follows.{IsFollowed}
+use Rattle.apd_eval.specs.Asked.{IsFollowed}
 use Rattle.apd_eval.specs.Sums.{Judged, sums_text}
 use Rattle.apd_eval.specs.Table.{table_text}
 use Rattle.apd_eval.specs.declared.follow.Row.{Row}

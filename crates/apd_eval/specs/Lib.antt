@@ -8,5 +8,6 @@ pub mod Table
 pub mod Sums
 pub mod Unjudged
 pub mod Again
+pub mod Asked
 pub mod Changes
 pub mod Compared

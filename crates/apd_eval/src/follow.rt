@@ -7,12 +7,15 @@ ghost use Rattle.ap_core.specs.AccessPoints.{rules_of};
 ghost use Rattle.capture.specs.Packets.{seen_of};
 ghost use Rattle.capture.specs.Radiotap.{bytes_in};
 ghost use Rattle.apd_policies.specs.Script.{start_of};
-ghost use Rattle.apd_eval.specs.Follows.{TimePasses, is_received, FrameComes, PacketComes, Follows, IsFollowed, rows_of};
+ghost use Rattle.apd_eval.specs.Asked.{IsFollowed};
+ghost use Rattle.apd_eval.specs.Follows.{TimePasses, is_received, FrameComes, PacketComes, Follows, rows_of};
 
 use crate::handling::handle;
 use crate::ruling::Ruling;
 use crate::tried::Policy;
+use crate::witness::Witness;
 use ap_core::{Event, LinkConfig, Shard, new_shards};
+use ap_laws::asks_law;
 use ap_model::Octets;
 use apd_policies::{start, unit};
 use bpf_helpers::WorkerState;
@@ -166,7 +169,7 @@ fn rows(
     Ok(rows)
 }
 
-/// The rows of a capture's packets, one after another, at a new access point.
+/// The rows of a capture's packets, one after another, at a new access point. Each is about the frame of its packet.
 pub(crate) fn follow(
     alloc: Global,
     policy: Policy<'_>,
@@ -177,6 +180,7 @@ pub(crate) fn follow(
     ensures rows { IfOk result (λ rows. IsFollowed policy.entry replay.entry.link.now
         (map seen_of replay.entry.packets.now) state.old rows.items) }
 {
+    asks_law::<Witness>();
     let mut shards = new_shards(alloc, replay.link)?;
     rows(alloc, &mut shards, policy, state, replay.packets)
 }
