@@ -22,10 +22,9 @@ use Rattle.ap_core.specs.declared.shard.Shard.{Shard}
 use Rattle.ap_core.specs.AccessPoints.{rules_of, readings_of}
 use Rattle.ap_single.proofs.Leading.{no_turns}
 use Rattle.ap_laws.specs.Asking.{IsAskOf, of_association, of_setup, of_data, AsksOnce, asks_nothing, asks_one, StepsAskOnce}
-use Rattle.program_judge.specs.Programs.{Programs}
-use Rattle.apd_eval.specs.Again.{query_of, received, frame_at, frame_in}
+use Rattle.apd_eval.specs.Again.{received, frame_at, frame_in}
 use Rattle.apd_eval.specs.Asked.{IsRuledOn, IsAsked, AreAsked}
-use Rattle.apd_eval.specs.Follows.{Chosen, is_received, Stays, FrameComes, PacketComes, Follows, rows_of}
+use Rattle.apd_eval.specs.Follows.{Chosen, is_received, Stays, FrameComes, Follows, rows_of}
 use Rattle.apd_eval.specs.Leading.{Leads, Happens}
 use Rattle.apd_eval.specs.Rulings.{Heard, IsRuling, GivesRuling}
 use Rattle.apd_eval.specs.declared.ruling.Ruling.{Ruling}

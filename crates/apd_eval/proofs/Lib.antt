@@ -3,6 +3,8 @@ mod Changing
 mod Following
 mod Judging
 mod Kept
+mod Lines
 mod Led
 mod Rows
+mod Splitting
 mod Tabled

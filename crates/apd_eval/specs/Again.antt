@@ -41,3 +41,7 @@ JudgesAgain p packets h (row ∷ rows) contrasts h' =
     × IsRuling (read_at p row) p.programs.now h (query_of packets row) ruling held
     × (contrasts ≡ record { packet = row.packet; in_force = row.ruling; tried = ruling } ∷ more)
     × JudgesAgain p packets held rows more h'
+
+-- these contrasts, from what is held at first to what is held then
+pub record AreContrasts (p : Policy) (packets : List Seen) (h : Held) (rows : List Row) (contrasts : List Contrast) (h' : Held) : Type 0 where
+  pub again : JudgesAgain p packets h rows contrasts h'

@@ -1,5 +1,5 @@
 -- The queries of rows: each is about the frame of its packet.
-use Rattle.std.specs.Prelude.{◌≡◌, ℕ, List, [], ◌∷◌}
+use Rattle.std.specs.Prelude.{◌≡◌, List, [], ◌∷◌}
 use Rattle.bpf_helpers.specs.Hooked.{Given, Held}
 use Rattle.capture.specs.Packets.{Seen}
 use Rattle.ap_model.specs.declared.event.Event.{Event}

@@ -36,12 +36,17 @@ json_change c =
     ++ (words_of (verdict_of c.in_force) ++ (codes "\",\"new\":\""
     ++ (words_of (verdict_of c.tried) ++ codes "\"}\n")))))))
 
--- how many verdicts differ, of how many packets; or why none was judged
+-- how many verdicts differ, of how many packets
+abbrev pub both_text : ℕ → ℕ → ℕ → List ℕ
+both_text judged packets changed =
+    codes "judged " ++ (decimal judged ++ (codes " of " ++ (decimal packets
+    ++ (codes " packets by both: " ++ (decimal changed ++ codes " verdicts differ\n")))))
+
+-- the same, or why none was judged
 abbrev pub change_sums : Hook → List ℕ → List Seen → ℕ → ℕ → List ℕ
 change_sums hook address packets judged changed =
     (if judged == 0 then unjudged_text hook address packets
-    else codes "judged " ++ (decimal judged ++ (codes " of " ++ (decimal (length packets)
-    ++ (codes " packets by both: " ++ (decimal changed ++ codes " verdicts differ\n"))))))
+    else both_text judged (length packets) changed)
 
 -- the heads of the columns
 abbrev pub change_heads : List ℕ

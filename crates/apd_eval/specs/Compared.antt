@@ -6,7 +6,7 @@ use Rattle.capture.specs.Packets.{Seen}
 use Rattle.ap_model.specs.Readings.{Config}
 use Rattle.program_judge.specs.Programs.{no_programs, replaced}
 use Rattle.apd_eval.specs.Evaluated.{IsEvaluated}
-use Rattle.apd_eval.specs.Again.{JudgesAgain}
+use Rattle.apd_eval.specs.Again.{AreContrasts}
 use Rattle.apd_eval.specs.Changes.{AllAgree, AreChanges, change_sums, changes_text}
 use Rattle.apd_eval.specs.declared.follow.Row.{Row}
 use Rattle.apd_eval.specs.declared.again.Contrast.{Contrast}
@@ -19,7 +19,7 @@ pub record AreJudgedAgain (v : Verified) (draw : ℕ) (packets : List Seen) (row
   pub held : Held
   pub drawn : held.draw ≡ draw
   pub held' : Held
-  pub again : JudgesAgain policy packets held rows contrasts held'
+  pub again : AreContrasts policy packets held rows contrasts held'
 
 -- The link follows the program in force. The text has the verdicts of the tried one that differ, and there is none
 -- exactly if all are equal.

@@ -1,5 +1,5 @@
 -- The line of sums below a table.
-use Rattle.std.specs.Prelude.{ℕ, Bool, true, false, not, max, fold, List, [], ◌∷◌, ◌++◌, codes, count_by, decimal, length, map}
+use Rattle.std.specs.Prelude.{ℕ, ◌==◌, Bool, true, false, not, max, fold, List, [], ◌∷◌, ◌++◌, codes, count_by, decimal, length, map, if◌then◌else◌}
 use Rattle.bpf_regions.specs.declared.hooks.Hook.{Hook}
 use Rattle.bpf_regions.specs.declared.hooks.Hook.TheVariants.{Association, Addba, Data}
 use Rattle.capture.specs.Packets.{Seen, seen_of}
@@ -47,7 +47,7 @@ counts_text Data rows =
 
 -- the most steps of a row
 abbrev pub most_steps : List Row → ℕ
-most_steps rows = fold (λ most row. max most row.ruling.steps) 0 rows
+most_steps rows = fold (λ most row. max row.ruling.steps most) 0 rows
 
 -- what was judged: the queries of a hook, by a program with this budget, as the packets came to an access point with
 -- this address
@@ -65,14 +65,23 @@ judged_of c = record {
   packets = map seen_of c.replay.packets.now;
 }
 
+-- in how many steps
+abbrev pub steps_text : ℕ → ℕ → List ℕ
+steps_text most budget =
+    codes "; steps at most " ++ (decimal most ++ (codes " of budget " ++ (decimal budget ++ 10 ∷ [])))
+
 -- how many packets were judged, how, and in how many steps
+abbrev pub judged_line : ℕ → ℕ → List ℕ → List ℕ → List ℕ
+judged_line judged packets counts steps =
+    codes "judged " ++ (decimal judged ++ (codes " of " ++ (decimal packets ++ (codes " packets: "
+    ++ (counts ++ steps)))))
+
+-- the same of rows
 abbrev pub judged_text : Judged → List Row → List ℕ
 judged_text j rows =
-    codes "judged " ++ (decimal (length rows) ++ (codes " of " ++ (decimal (length j.packets)
-    ++ (codes " packets: " ++ (counts_text j.hook rows ++ (codes "; steps at most "
-    ++ (decimal (most_steps rows) ++ (codes " of budget " ++ (decimal j.budget ++ 10 ∷ [])))))))))
+    judged_line (length rows) (length j.packets) (counts_text j.hook rows) (steps_text (most_steps rows) j.budget)
 
 -- the same, or why none was
 abbrev pub sums_text : Judged → List Row → List ℕ
-sums_text j [] = unjudged_text j.hook j.address j.packets
-sums_text j (row ∷ rows) = judged_text j (row ∷ rows)
+sums_text j rows =
+    (if length rows == 0 then unjudged_text j.hook j.address j.packets else judged_text j rows)

@@ -1,5 +1,5 @@
 -- Why no packet of a capture was judged.
-use Rattle.std.specs.Prelude.{ℕ, ◌/◌, ◌%◌, ◌==◌, ◌&&◌, ◌||◌, nat_le, Bool, true, false, not, List, [], ◌∷◌, ◌++◌, codes, count_by, decimal, length, slice_index_or, slice_range, Result, Ok, Err, if◌then◌else◌}
+use Rattle.std.specs.Prelude.{ℕ, ◌/◌, ◌%◌, ◌==◌, ◌&&◌, ◌||◌, nat_le, Bool, true, false, not, List, ◌++◌, codes, count_by, decimal, length, slice_index_or, slice_range, Result, Ok, Err, if◌then◌else◌}
 use Rattle.std.specs.Str.{bytes_eq}
 use Rattle.bpf_regions.specs.declared.hooks.Hook.{Hook}
 use Rattle.bpf_regions.specs.declared.hooks.Hook.TheVariants.{Association, Addba, Data}
@@ -59,12 +59,20 @@ other_kind Association = codes "no association request"
 other_kind Addba = codes "no ADDBA request"
 other_kind Data = codes "not data"
 
+-- how many packets have no frame, or one of another kind
+abbrev pub kinds_text : ℕ → ℕ → ℕ → List ℕ → List ℕ
+kinds_text packets missing other kind =
+    codes "judged 0 of " ++ (decimal packets ++ (codes " packets: " ++ (decimal missing
+    ++ (codes " without a frame, " ++ (decimal other ++ (codes " " ++ kind))))))
+
+-- how many have another receiver, are encrypted, or were refused
+abbrev pub refusals_text : ℕ → ℕ → ℕ → List ℕ
+refusals_text elsewhere encrypted unasked =
+    codes ", " ++ (decimal elsewhere ++ (codes " to another address, " ++ (decimal encrypted
+    ++ (codes " encrypted, " ++ (decimal unasked ++ codes " refused before any program\n")))))
+
 -- the line of sums of a table without rows
-abbrev pub unjudged_text : Hook → List ℕ → List Seen → List ℕ
+unfoldable pub unjudged_text : Hook → List ℕ → List Seen → List ℕ
 unjudged_text hook address packets =
-    codes "judged 0 of " ++ (decimal (length packets) ++ (codes " packets: "
-    ++ (decimal (count NoFrame hook address packets) ++ (codes " without a frame, "
-    ++ (decimal (count OtherKind hook address packets) ++ (codes " " ++ (other_kind hook ++ (codes ", "
-    ++ (decimal (count OtherReceiver hook address packets) ++ (codes " to another address, "
-    ++ (decimal (count Encrypted hook address packets) ++ (codes " encrypted, "
-    ++ (decimal (count Unasked hook address packets) ++ codes " refused before any program\n")))))))))))))
+    kinds_text (length packets) (count NoFrame hook address packets) (count OtherKind hook address packets) (other_kind hook)
+    ++ refusals_text (count OtherReceiver hook address packets) (count Encrypted hook address packets) (count Unasked hook address packets)

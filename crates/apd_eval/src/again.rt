@@ -3,7 +3,7 @@
 ghost use Rattle.std.specs.Prelude.{◌≡◌, ◌≤◌, ◌↔◌, IsTrue, IfOk, length, map};
 ghost use Rattle.bpf_helpers.specs.Hooked.{IsFitting};
 ghost use Rattle.capture.specs.Packets.{seen_of};
-ghost use Rattle.apd_eval.specs.Again.{frame_at, query_of, read_at, JudgesAgain};
+ghost use Rattle.apd_eval.specs.Again.{frame_at, query_of, read_at, AreContrasts};
 ghost use Rattle.apd_eval.specs.Changes.{Agrees};
 ghost use Rattle.apd_eval.specs.Rulings.{IsRuling};
 
@@ -84,7 +84,7 @@ pub(crate) fn judge_again(
     packets: &[Packet<'_>],
 ) -> Result<Vec<Contrast>, AllocError>
     requires fitting { IsFitting policy.maps.now 0 state.old.seats }
-    ensures contrasts { IfOk result (λ contrasts. JudgesAgain policy.entry
+    ensures contrasts { IfOk result (λ contrasts. AreContrasts policy.entry
         (map seen_of packets.now) state.old rows.now contrasts.items state.new) }
 {
     let mut contrasts = Vec::new(alloc);

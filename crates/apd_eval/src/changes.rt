@@ -2,7 +2,7 @@
 
 ghost use Rattle.std.specs.Prelude.{◌≡◌, ◌↔◌, ◌++◌, IfOk, [], map, string_bytes};
 ghost use Rattle.capture.specs.Packets.{seen_of};
-ghost use Rattle.apd_eval.specs.Changes.{AllAgree, AreChanges, change_line, json_change, change_sums, changes_text};
+ghost use Rattle.apd_eval.specs.Changes.{AllAgree, AreChanges, change_line, json_change, both_text, change_sums, changes_text};
 ghost use Rattle.apd_eval.specs.Table.{lines_of};
 
 use crate::again::Contrast;
@@ -80,7 +80,19 @@ fn append_all_json(alloc: Global, text: &mut String, changes: &[Contrast]) -> Re
     Ok(())
 }
 
-/// How many verdicts differ, of how many packets; or why none was judged.
+/// How many verdicts differ, of how many packets.
+fn both_text(
+    alloc: Global,
+    judged: usize,
+    packets: usize,
+    changed: usize,
+) -> Result<String, AllocError>
+    ensures is { IfOk result (λ text. string_bytes text ≡ both_text judged packets changed) }
+{
+    format!(in alloc; "judged {judged} of {packets} packets by both: {changed} verdicts differ\n")
+}
+
+/// The same, or why none was judged.
 pub(crate) fn change_sums(
     alloc: Global,
     hook: Hook,
@@ -94,8 +106,7 @@ pub(crate) fn change_sums(
     if judged == 0 {
         return unjudged_text(alloc, hook, replay);
     }
-    let packets = replay.packets.len();
-    format!(in alloc; "judged {judged} of {packets} packets by both: {changed} verdicts differ\n")
+    both_text(alloc, judged, replay.count(), changed)
 }
 
 /// The lines of changes in JSON, or as a table with this line of sums.

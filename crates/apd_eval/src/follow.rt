@@ -46,6 +46,15 @@ pub struct Replay<'a> {
     pub packets: &'a [Packet<'a>],
 }
 
+impl Replay<'_> {
+    /// How many packets there are.
+    pub(crate) fn count(self) -> usize
+        ensures is { result ≡ length (map seen_of self.entry.packets.now) }
+    {
+        self.packets.len()
+    }
+}
+
 /// Lets the time from a unit to a later one pass, at most 4294967295 units.
 fn pass(
     alloc: Global,

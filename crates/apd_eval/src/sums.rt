@@ -1,7 +1,7 @@
 //! The line of sums below a table.
 
 ghost use Rattle.std.specs.Prelude.{◌≡◌, not, IfOk, count_by, string_bytes};
-ghost use Rattle.apd_eval.specs.Sums.{grants, marks, counts_text, most_steps, judged_of, judged_text, sums_text};
+ghost use Rattle.apd_eval.specs.Sums.{grants, marks, counts_text, most_steps, steps_text, judged_line, judged_of, judged_text, sums_text};
 
 use crate::follow::{Replay, Row};
 use crate::unjudged::unjudged_text;
@@ -74,23 +74,47 @@ fn counts_text(alloc: Global, rows: &[Row], hook: Hook) -> Result<String, AllocE
 fn most_steps(rows: &[Row]) -> u32
     ensures is { result ≡ most_steps rows.now }
 {
-    rows.iter().map(|row| row.ruling.steps).max().unwrap_or(0)
+    let mut most = 0;
+    for row in rows {
+        most = row.ruling.steps.max(most);
+    }
+    most
 }
 
-/// How many of the packets were judged, how, and in how many steps.
+/// In how many steps, at most.
+fn steps_text(alloc: Global, most: u32, budget: u32) -> Result<String, AllocError>
+    ensures is { IfOk result (λ text. string_bytes text ≡ steps_text most budget) }
+{
+    format!(in alloc; "; steps at most {most} of budget {budget}\n")
+}
+
+/// How many packets were judged, how, and in how many steps.
+fn judged_line(
+    alloc: Global,
+    judged: usize,
+    packets: usize,
+    counts: &str,
+    steps: &str,
+) -> Result<String, AllocError>
+    ensures is { IfOk result
+        (λ text. string_bytes text ≡ judged_line judged packets counts.now steps.now) }
+{
+    format!(in alloc; "judged {judged} of {packets} packets: {counts}{steps}")
+}
+
+/// The same of rows.
 fn judged_text(alloc: Global, rows: &[Row], course: Course<'_>) -> Result<String, AllocError>
     ensures is { IfOk result
         (λ text. string_bytes text ≡ judged_text (judged_of course.entry) rows.now) }
 {
-    let counts = counts_text(alloc, rows, course.hook)?;
-    let counts = counts.as_str();
     let judged = rows.len();
-    let packets = course.replay.packets.len();
-    let budget = course.budget;
+    let packets = course.replay.count();
+    let counts = counts_text(alloc, rows, course.hook)?;
     let most = most_steps(rows);
-    format!(in alloc;
-        "judged {judged} of {packets} packets: {counts}; steps at most {most} of budget {budget}\n"
-    )
+    let steps = steps_text(alloc, most, course.budget)?;
+    let counts = counts.as_str();
+    let steps = steps.as_str();
+    judged_line(alloc, judged, packets, counts, steps)
 }
 
 /// The same, or why none was.

@@ -3,7 +3,7 @@
 ghost use Rattle.std.specs.Prelude.{◌≡◌, IfOk, map, slice_index_or, string_bytes};
 ghost use Rattle.capture.specs.Packets.{seen_of};
 ghost use Rattle.capture.specs.Radiotap.{bytes_in};
-ghost use Rattle.apd_eval.specs.Unjudged.{octet, is_judged, is_for, is_encrypted, reason_of, is_same, count, other_kind, unjudged_text};
+ghost use Rattle.apd_eval.specs.Unjudged.{octet, is_judged, is_for, is_encrypted, reason_of, is_same, count, other_kind, kinds_text, refusals_text, unjudged_text};
 
 use crate::follow::{Replay, is_received};
 use bpf_regions::Hook;
@@ -77,9 +77,9 @@ fn is_judged(hook: Hook, bytes: &[u8]) -> bool
 
 /// Whether the frame's receiver has this address, in octets 4 to 9.
 fn is_for(address: [u8; 6], bytes: &[u8]) -> bool
-    ensures is { result ≡ is_for address.entry bytes.now }
+    ensures is { result ≡ is_for address bytes.now }
 {
-    10 <= bytes.len() && bytes[4..10] == address
+    10 <= bytes.len() && bytes[4..10] == address[..]
 }
 
 /// Whether the flag Protected Frame is set, in the second octet (9.2.4.1.9).
@@ -91,7 +91,7 @@ fn is_encrypted(bytes: &[u8]) -> bool
 
 /// The first reason for which a frame wasn't judged by this hook of an access point with this address.
 fn reason_of(hook: Hook, address: [u8; 6], frame: Result<&[u8], LeftOut>) -> Reason
-    ensures is { result ≡ reason_of hook address.entry (bytes_in frame.entry) }
+    ensures is { result ≡ reason_of hook address (bytes_in frame.entry) }
 {
     match frame {
         Err(_) => Reason::NoFrame,
@@ -113,12 +113,41 @@ fn reason_of(hook: Hook, address: [u8; 6], frame: Result<&[u8], LeftOut>) -> Rea
 
 /// How many packets weren't judged for this reason.
 fn count(reason: Reason, hook: Hook, address: [u8; 6], packets: &[Packet<'_>]) -> usize
-    ensures is { result ≡ count reason hook address.entry (map seen_of packets.now) }
+    ensures is { result ≡ count reason hook address (map seen_of packets.now) }
 {
     packets
         .iter()
         .filter(|packet| reason_of(hook, address, packet.frame).is_same(reason))
         .count()
+}
+
+/// How many packets have no frame, or one of another kind.
+fn kinds_text(
+    alloc: Global,
+    packets: usize,
+    missing: usize,
+    other: usize,
+    kind: &str,
+) -> Result<String, AllocError>
+    ensures is { IfOk result
+        (λ text. string_bytes text ≡ kinds_text packets missing other kind.now) }
+{
+    format!(in alloc; "judged 0 of {packets} packets: {missing} without a frame, {other} {kind}")
+}
+
+/// How many have another receiver, are encrypted, or were refused.
+fn refusals_text(
+    alloc: Global,
+    elsewhere: usize,
+    encrypted: usize,
+    unasked: usize,
+) -> Result<String, AllocError>
+    ensures is { IfOk result
+        (λ text. string_bytes text ≡ refusals_text elsewhere encrypted unasked) }
+{
+    format!(in alloc;
+        ", {elsewhere} to another address, {encrypted} encrypted, {unasked} refused before any program\n"
+    )
 }
 
 /// The line of sums of a table without rows.
@@ -130,16 +159,17 @@ pub(crate) fn unjudged_text(
     ensures is { IfOk result (λ text. string_bytes text ≡ unjudged_text hook
         replay.entry.link.now.bssid (map seen_of replay.entry.packets.now)) }
 {
+    let total = replay.count();
     let packets = replay.packets;
     let address = replay.link.bssid().octets();
-    let total = packets.len();
     let kind = other_kind(hook);
     let missing = count(Reason::NoFrame, hook, address, packets);
     let other = count(Reason::OtherKind, hook, address, packets);
+    let mut text = kinds_text(alloc, total, missing, other, kind)?;
     let elsewhere = count(Reason::OtherReceiver, hook, address, packets);
     let encrypted = count(Reason::Encrypted, hook, address, packets);
     let unasked = count(Reason::Unasked, hook, address, packets);
-    format!(in alloc;
-        "judged 0 of {total} packets: {missing} without a frame, {other} {kind}, {elsewhere} to another address, {encrypted} encrypted, {unasked} refused before any program\n"
-    )
+    let rest = refusals_text(alloc, elsewhere, encrypted, unasked)?;
+    text.push_str(rest.as_str())?;
+    Ok(text)
 }
