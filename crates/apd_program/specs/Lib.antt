@@ -6,6 +6,7 @@ pub mod Programs
 pub mod Refusing
 pub mod Verifying
 pub mod Certifying
+pub mod Admitting
 pub mod Texts
 pub mod Drawings
 pub mod Pages

@@ -4,6 +4,7 @@
 //! the words once; what they ask for determines the rest.
 #![tactic(auto)]
 
+mod admission;
 mod answer;
 mod certifying;
 mod drawing;

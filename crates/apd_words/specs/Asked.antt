@@ -30,7 +30,7 @@ pub data Asked : Type 0 where
   ListRaw : Text → Option Text → Bool → Asked
   Graph : Text → Option Text → Asked
   Trace : Hook → Text → Text → Option Text → ℕ → Option Text → Bool → Asked
-  Evaluate : Hook → Text → Text → Option Text → ℕ → Bool → Asked
+  Evaluate : Hook → Text → Text → Option Text → Option Text → ℕ → Bool → Asked
   Certify : Hook → Text → Option Text → ℕ → Asked
   Check : Hook → Text → Text → Option Text → Asked
   Explain : Option Text → Asked
@@ -77,7 +77,8 @@ asked_graph source = Graph source.file.now (config_of source)
 abbrev pub asked_evaluation : Evaluation → Asked
 asked_evaluation evaluation =
     Evaluate evaluation.subject.terms.hook evaluation.subject.source.file.now evaluation.capture.now
-    (config_of evaluation.subject.source) evaluation.subject.terms.states evaluation.json
+    (config_of evaluation.subject.source) (text_of evaluation.against)
+    evaluation.subject.terms.states evaluation.json
 
 -- the question of `trace`
 abbrev pub asked_run : Trial → Asked
@@ -204,15 +205,15 @@ trace_of rows = do
   Some (Trace hook file frame (first_of (codes "config") rows) states
       (first_of (codes "context") rows) (is_set (codes "from-frame") rows))
 
--- `eval HOOK FILE CAPTURE [--config C] [--states N] [-j]`
+-- `eval HOOK FILE CAPTURE [--config C] [--against OLD] [--states N] [-j]`
 abbrev pub evaluate_of : List Row → Option Asked
 evaluate_of rows = do
   hook ← hook_at rows
   file ← first_of (codes "FILE") rows
   capture ← first_of (codes "CAPTURE") rows
   states ← states_at rows
-  Some (Evaluate hook file capture (first_of (codes "config") rows) states
-      (is_set (codes "json") rows))
+  Some (Evaluate hook file capture (first_of (codes "config") rows)
+      (first_of (codes "against") rows) states (is_set (codes "json") rows))
 
 -- `run C SCRIPT [--workers N] [--states N] [--quiet] [--strict] [--verbose]`
 abbrev pub run_of : List Row → Option Wanted

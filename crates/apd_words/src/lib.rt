@@ -54,11 +54,13 @@ pub struct Trial<'a> {
     pub explain: bool,
 }
 
-/// A program to judge the frames of a capture. `json` asks for lines of JSON.
+/// A program to judge the frames of a capture. With `against` the link follows that file's program, and only the
+/// verdicts that differ are printed. `json` asks for lines of JSON.
 #[derive(Clone, Copy)]
 pub struct Evaluation<'a> {
     pub subject: Subject<'a>,
     pub capture: &'a str,
+    pub against: Option<&'a str>,
     pub json: bool,
 }
 
