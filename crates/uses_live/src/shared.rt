@@ -3,8 +3,8 @@
 ghost use Rattle.std.specs.Prelude.{◌≡◌};
 ghost use Rattle.bpf_regions.specs.Maps.{word_count};
 
-use crate::live::{Live, load_both};
 use crate::same::same;
+use crate::sharing::{Live, load_both};
 use bpf_regions::{MapOp, Scope, Shape, WordWidth};
 use shared_maps::{MapSeat, MapTable};
 use std::alloc::Global;
