@@ -10,14 +10,14 @@ use std::process::Abort;
 
 /// Files in memory, by name, and the unread part of the open one, which is read in blocks of 7 bytes.
 #[derive(Drop)]
-pub struct Folder<'a> {
+struct Folder<'a> {
     files: &'a [(&'a str, &'a [u8])],
     left: &'a [u8],
     alloc: Global,
 }
 
 /// Files in memory; none is open.
-pub fn folder_of<'a>(files: &'a [(&'a str, &'a [u8])], alloc: Global) -> Folder<'a> {
+fn folder_of<'a>(files: &'a [(&'a str, &'a [u8])], alloc: Global) -> Folder<'a> {
     Folder {
         files,
         left: b"",
