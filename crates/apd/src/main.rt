@@ -5,7 +5,7 @@ use apd_files::RealFiles;
 use apd_program::{Messages, Standard, Streams};
 use std::alloc::{AllocError, Global};
 use std::env::FillError;
-use std::io::{ErrorKind, IsTerminal, Read, Write};
+use std::io::{ErrorKind, Input, IsTerminal, Read, Write};
 use std::process::ExitCode;
 use std::rt::Env;
 use std::sync::Wait;
@@ -66,7 +66,7 @@ fn run<R, I, O, E>(
     messages: Messages<'_, E>,
 ) -> io::Result<u8>
 where
-    R: Threads + Wait + Clock + Eprint + Env + rt::Files + AllocGlobal,
+    R: Threads + Wait + Clock + Input + Eprint + Env + rt::Files + AllocGlobal,
     R: Copy + Send + Sync + 'static,
     I: Read + Drop + Send + 'static,
     O: Write + Drop,

@@ -36,7 +36,7 @@ fn main(rt: HostRuntime) -> io::Result<()> {
 /// Runs a line, and prints the answer, the messages and the status.
 fn answer<R, I, O>(rt: &R, alloc: Global, line: &str, streams: Streams<I, O>) -> io::Result<()>
 where
-    R: Threads + Wait + Clock + Print + Eprint + Files + AllocGlobal,
+    R: Threads + Wait + Clock + Input + Print + Eprint + Files + AllocGlobal,
     R: Copy + Send + Sync + 'static,
     I: Read + Drop + Send + 'static,
     O: Write + Drop,
@@ -65,7 +65,7 @@ fn perform<R, I, O, E>(
     messages: Messages<'_, E>,
 ) -> io::Result<u8>
 where
-    R: Threads + Wait + Clock + Eprint + Files + AllocGlobal,
+    R: Threads + Wait + Clock + Input + Eprint + Files + AllocGlobal,
     R: Copy + Send + Sync + 'static,
     I: Read + Drop + Send + 'static,
     O: Write + Drop,
