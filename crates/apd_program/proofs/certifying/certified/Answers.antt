@@ -2,9 +2,8 @@ use Rattle.std.proofs.Common.{IfOk, subst}
 use Rattle.bpf_regions.specs.declared.hooks.Hook.{Hook}
 use Rattle.bpf_decode.specs.Program.{Code}
 use Rattle.bpf_cert.specs.Certified.{Covered, IsUncertified}
-use Rattle.bpf_cert.proofs.Uncertified.{refused}
 use Rattle.apd_program.specs.Certifying.{IsCertificate, Made}
-use Rattle.apd_program.proofs.Said.{IsCertificate-refused}
+use Rattle.apd_program.proofs.Said.{IsCertificate-refused, IsCertificate-unmade}
 use Rattle.apd_program.proofs.certifying.certified.Goals as goal
 
 pub returns-in-Ok-certificate_within-clause-certificate : goal.returns-in-Ok-certificate_within-clause-certificate
@@ -18,14 +17,13 @@ returns-in-Ok-certificate_within-clause-certificate c =
 pub returns-in-Ok-clause-certificate : goal.returns-in-Ok-clause-certificate
 returns-in-Ok-clause-certificate c =
     let e = c.in-Err-certificate_within.refusal in
-    let limit = c.limit_of-limit.result in
-    subst (λ n. IfOk c.refused.result (IsCertificate n c.args.terms.hook c.args.program)) c.limit_of-limit.ensures.is
-    (IsCertificate-refused limit c.args.terms.hook c.args.program c.refused.result e
-    (subst (λ (p : Code). IsUncertified p limit e) c.in-Ok.ensures.code c.in-Err-certificate_within.ensures.refused) c.refused.ensures.refusal)
+    let limits = c.limits_of-limits.result in
+    subst (λ l. IfOk c.refused.result (IsCertificate l c.args.terms.hook c.args.program)) c.limits_of-limits.ensures.is
+    (IsCertificate-unmade limits c.args.terms.hook c.args.program c.refused.result e
+    (subst (λ (p : Code). IsUncertified p limits.states e) c.in-Ok.ensures.code c.in-Err-certificate_within.ensures.refused) c.refused.ensures.refusal)
 
 pub returns-clause-certificate : goal.returns-clause-certificate
 returns-clause-certificate c =
-    let limit = c.limit_of-limit.result in
-    subst (λ n. IfOk c.refused-in-Err.result (IsCertificate n c.args.terms.hook c.args.program)) c.limit_of-limit.ensures.is
-    (IsCertificate-refused limit c.args.terms.hook c.args.program c.refused-in-Err.result c.in-Err.refusal
-    (refused c.args.program limit c.in-Err.refusal c.in-Err.ensures.refused) c.refused-in-Err.ensures.refusal)
+    let limits = c.limits_of-limits.result in
+    subst (λ l. IfOk c.refused-in-Err.result (IsCertificate l c.args.terms.hook c.args.program)) c.limits_of-limits.ensures.is
+    (IsCertificate-refused limits c.args.terms.hook c.args.program c.refused-in-Err.result c.in-Err.refusal c.in-Err.ensures.refused c.refused-in-Err.ensures.refusal)
