@@ -39,7 +39,7 @@ spends_none limit w = record { few = omega arith; units = omega arith; most = re
 never_passed : (limits : Limits) (w : Tally) → IsAmple limits → IsSpent limits.states (unspent limits.work) w → HasPassed w → ⊥
 never_passed limits w ample spent passed = omega (arith, ample, spent.few, spent.units, spent.most, passed.passes, passed.small)
 
-by_memory : (limits : Limits) (w : Tally) (fault : Fault) → IsAmple limits → IsSpent limits.states (unspent limits.work) w → IsMemoryOrPassed fault w → fault ≡ NoMemory
+pub by_memory : (limits : Limits) (w : Tally) (fault : Fault) → IsAmple limits → IsSpent limits.states (unspent limits.work) w → IsMemoryOrPassed fault w → fault ≡ NoMemory
 by_memory limits w fault ample spent (inl memory) = memory
 by_memory limits w fault ample spent (inr passed) = absurd (never_passed limits w ample spent passed)
 
