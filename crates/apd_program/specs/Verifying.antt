@@ -1,5 +1,5 @@
 -- The answers of `verify` and `trace` for a program.
-use Rattle.std.specs.Prelude.{◌≡◌, ◌≢◌, ℕ, List, Option, Some, None, string_bytes}
+use Rattle.std.specs.Prelude.{◌≡◌, ◌≢◌, ℕ, List, Option, string_bytes}
 use Rattle.bpf_regions.specs.declared.hooks.Hook.{Hook}
 use Rattle.bpf_decode.specs.Program.{Code}
 use Rattle.bpf_verifier.specs.Admission.{IsSafeBudget, IsRefusalWithin}
@@ -12,14 +12,9 @@ use Rattle.apd_words.specs.declared.Terms.{Terms}
 use Rattle.apd_program.specs.declared.answer.Answer.{Answer}
 use Rattle.apd_program.specs.declared.answer.Answer.TheVariants.{Accepted, Run, Refused}
 
--- the units of work that are allowed; without a limit as many as can be counted, which no exploration needs
-abbrev pub units_of : Option ℕ → ℕ
-units_of None = 18446744073709551615
-units_of (Some work) = work
-
 -- at most that many states, and that much work, if it is limited
 abbrev pub within : ℕ → Option ℕ → Limits
-within states work = record { states = nearest states; work = units_of work }
+within states work = record { states = nearest states; work = work }
 
 -- The verdict on a program within limits: what is said of it with a budget, or a refusal that isn't for lack of memory.
 pub data IsVerdict (limits : Limits) (says : Code → ℕ → Answer → Type 0) (p : Code) : Answer → Type 0 where

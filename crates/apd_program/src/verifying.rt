@@ -4,7 +4,7 @@ ghost use Rattle.std.specs.Prelude.{◌≡◌, IfOk, IfErr};
 ghost use Rattle.bpf_verifier.specs.Admission.{IsSafeBudget, IsRefusalWithin};
 ghost use Rattle.bpf_verifier.specs.Limits.{nearest};
 ghost use Rattle.apd_program.specs.Programs.{IsOfProgram};
-ghost use Rattle.apd_program.specs.Verifying.{IsVerified, IsRunWithin, units_of, within};
+ghost use Rattle.apd_program.specs.Verifying.{IsVerified, IsRunWithin, within};
 
 use crate::answer::{Answer, refused, undecoded};
 use crate::explaining::Reason;
@@ -27,23 +27,13 @@ pub(crate) struct Stimulus<'a> {
     pub draw: u64,
 }
 
-/// The most units of work that are allowed.
-fn units_of(work: Option<u64>) -> u64
-    ensures is { result ≡ units_of work }
-{
-    match work {
-        Some(work) => work,
-        None => u64::MAX,
-    }
-}
-
-/// The most states that the verifier may examine, 1 to 4194304, and the most work that it may do.
+/// The most states that the verifier may examine, 1 to 4194304, and the most work that it may do, if that is limited.
 pub(crate) fn limits_of(terms: Terms) -> Limits
     ensures is { result ≡ within terms.states terms.work }
 {
     Limits {
         states: StateLimit::nearest(terms.states),
-        work: units_of(terms.work),
+        work: terms.work,
     }
 }
 

@@ -1,5 +1,5 @@
 -- Why no certificate was made.
-use Rattle.std.proofs.Common.{◌≡◌, ℕ, Result, Ok, Err, IfErr, inl, inr, sym, subst}
+use Rattle.std.proofs.Common.{◌≡◌, ℕ, None, Result, Ok, Err, IfErr, inl, inr, sym, subst}
 use Rattle.std.proofs.lemmas.Result.{IfErr-weaker}
 use Rattle.bpf_decode.specs.Program.{Code, Begins}
 use Rattle.bpf_prune.specs.Spending.{Tally, unspent}
@@ -19,7 +19,7 @@ all_at_start program limit old new r first starts = IfErr-weaker r (λ e. e.pc �
 ample : (program : Code) (limit : ℕ) (w : Tally) (e : Refusal) → IsStateLimit limit → IsUncertifiedAfter program limit (unspent 18446744073709551615) w e → IsUncertified program limit e
 ample program limit w e is (Unexplored spent after) = record {
   begins = after.begins;
-  clear = λ clear. inl (by_memory (record { states = limit; work = 18446744073709551615 }) w e.fault (ample_most limit is) spent (after.clear clear));
+  clear = λ clear. inl (by_memory (record { states = limit; work = None }) w e.fault (ample_most limit is) spent (after.clear clear));
 }
 ample program limit w e is (Unwritten begins start) = record { begins = begins; clear = λ clear. inr start }
 

@@ -11,6 +11,7 @@ use Rattle.bpf_rules.specs.declared.fault.Fault.TheVariants as fault
 use Rattle.bpf_prune.specs.Spending.{Tally}
 use Rattle.bpf_verifier.specs.Admission.{IsRefusalAfter}
 use Rattle.bpf_verifier.specs.Spent.{IsSpent}
+use Rattle.bpf_verifier.specs.Limits.{units_of}
 use Rattle.bpf_verifier.specs.declared.limit.Limits.{Limits}
 use Rattle.bpf_verifier.specs.declared.refusal.Refusal.{Refusal}
 use Rattle.bpf_cert_format.specs.Answers.{Spells}
@@ -72,7 +73,7 @@ pub data IsUncertifiedAfter (program : Code) (limit : ℕ) (old new : Tally) (re
 pub record IsUncertifiedWithin (program : Code) (limits : Limits) (refusal : Refusal) : Type 0 where
   pub before : Tally
   pub tally : Tally
-  pub most : before.most ≡ limits.work
+  pub most : before.most ≡ units_of limits.work
   pub after : IsUncertifiedAfter program limits.states before tally refusal
 
 -- why bytes are refused: the first of these that applies; lack of memory says nothing

@@ -49,7 +49,7 @@ pub fn verify_within(
     limit.known();
     let limits = Limits {
         states: limit,
-        work: u64::MAX,
+        work: None,
     };
     verify_limited(alloc, program, hook, limits)
 }
@@ -66,7 +66,7 @@ pub fn verify_limited(
     ensures budget { IfOk result (λ accepted. IsSafeBudget program limits.states accepted.budget) }
     ensures refused { IfErr result (IsRefusalWithin program limits) }
 {
-    let mut work = Work::within(limits.work);
+    let mut work = Work::within(limits.units());
     verify_counted(alloc, program, hook, limits.states, &mut work)
 }
 

@@ -39,7 +39,7 @@ pub fn explore_within(
     limit.known();
     let limits = Limits {
         states: limit,
-        work: u64::MAX,
+        work: None,
     };
     explore_limited(alloc, program, limits)
 }
@@ -53,7 +53,7 @@ pub fn explore_limited(
     ensures budget { OnOk result ((b : ℕ) × IsSafeBudget program.now limits.states b) }
     ensures refused { IfErr result (IsRefusalWithin program.now limits) }
 {
-    let mut work = Work::within(limits.work);
+    let mut work = Work::within(limits.units());
     explore_counted(alloc, program, limits.states, &mut work)
 }
 
@@ -105,7 +105,7 @@ pub fn explain_within(
     limit.known();
     let limits = Limits {
         states: limit,
-        work: u64::MAX,
+        work: None,
     };
     explain_limited(alloc, program, limits)
 }
@@ -122,7 +122,7 @@ pub fn explain_limited(
 {
     program.whole();
     plain_law();
-    let mut work = Work::within(limits.work);
+    let mut work = Work::within(limits.units());
     let mut exploration = Exploration::new(alloc, program, Observer::listening(alloc))?;
     let verdict = observed_budget(alloc, program, &mut exploration, limits.states, &mut work);
     Ok(explained(alloc, verdict, exploration.into_observer()))

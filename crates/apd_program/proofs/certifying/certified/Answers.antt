@@ -19,7 +19,7 @@ pub returns-in-Ok-clause-certificate : goal.returns-in-Ok-clause-certificate
 returns-in-Ok-clause-certificate c =
     let e = c.in-Err-certificate_counted.refusal in
     let limits = c.limits_of-limits.result in
-    let most = c.verify_counted.ensures.spent.most ∙ ap (λ (w : Tally). w.most) c.within-work.ensures.is in
+    let most = c.verify_counted.ensures.spent.most ∙ ap (λ (w : Tally). w.most) c.within-work.ensures.is ∙ c.units.ensures.is in
     let why = record { before = c.verify_counted.new.work; tally = c.certificate_counted.new.work; most = most; after = c.in-Err-certificate_counted.ensures.refused } in
     subst (λ l. IfOk c.refused.result (IsCertificate l c.args.terms.hook c.args.program)) c.limits_of-limits.ensures.is
     (IsCertificate-unmade limits c.args.terms.hook c.args.program c.refused.result e
@@ -28,8 +28,8 @@ returns-in-Ok-clause-certificate c =
 pub returns-clause-certificate : goal.returns-clause-certificate
 returns-clause-certificate c =
     let limits = c.limits_of-limits.result in
-    let spent = rw c.within-work.ensures.is at c.verify_counted.ensures.spent in
-    let due = rw c.within-work.ensures.is at c.in-Err.ensures.due in
+    let spent = rw (c.within-work.ensures.is, c.units.ensures.is) at c.verify_counted.ensures.spent in
+    let due = rw (c.within-work.ensures.is, c.units.ensures.is) at c.in-Err.ensures.due in
     let why = record { tally = c.verify_counted.new.work; spent = spent; after = c.in-Err.ensures.refused; due = due } in
     subst (λ l. IfOk c.refused-in-Err.result (IsCertificate l c.args.terms.hook c.args.program)) c.limits_of-limits.ensures.is
     (IsCertificate-refused limits c.args.terms.hook c.args.program c.refused-in-Err.result c.in-Err.refusal why c.refused-in-Err.ensures.refusal)
