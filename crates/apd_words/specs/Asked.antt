@@ -40,8 +40,8 @@ pub data Asked : Type 0 where
 
 -- the run of a script, or of lines as they come, or a question and the file for its answer, if there is one
 pub data Wanted : Type 0 where
-  Run : Text → Text → ℕ → ℕ → Bool → Bool → Bool → Wanted
-  Live : Text → ℕ → ℕ → Bool → Bool → Wanted
+  Run : Text → Text → ℕ → ℕ → Option ℕ → Bool → Bool → Bool → Wanted
+  Live : Text → ℕ → ℕ → Option ℕ → Bool → Bool → Wanted
   Answer : Asked → Option Text → Wanted
 
 -- the text of a word, if there is one
@@ -118,11 +118,11 @@ asked_of (question.Help command) = Help (text_of command)
 -- the run of a script
 abbrev pub wanted_run : ScriptRun → Wanted
 wanted_run run =
-    Run run.config.now run.script.now run.workers run.states run.quiet run.strict run.verbose
+    Run run.config.now run.script.now run.workers run.states run.work run.quiet run.strict run.verbose
 
 -- the run of lines as they come
 abbrev pub wanted_live : LiveRun → Wanted
-wanted_live run = Live run.config.now run.workers run.states run.strict run.verbose
+wanted_live run = Live run.config.now run.workers run.states run.work run.strict run.verbose
 
 -- what a query wants
 abbrev pub wanted_answer : Query → Wanted
@@ -228,23 +228,24 @@ evaluate_of rows = do
   Some (Evaluate hook file capture (first_of (codes "config") rows) states (work_at rows)
       (is_set (codes "json") rows))
 
--- `run C SCRIPT [--workers N] [--states N] [--quiet] [--strict] [--verbose]`
+-- `run C SCRIPT [--workers N] [--states N] [--quiet] [--strict] [--verbose] [--work N]`
 abbrev pub run_of : List Row → Option Wanted
 run_of rows = do
   config ← first_of (codes "C") rows
   script ← first_of (codes "SCRIPT") rows
   workers ← option_and_then workers_named (first_of (codes "workers") rows)
   states ← states_at rows
-  Some (Run config script workers states (is_set (codes "quiet") rows)
+  Some (Run config script workers states (work_at rows) (is_set (codes "quiet") rows)
       (is_set (codes "strict") rows) (is_set (codes "verbose") rows))
 
--- `live C [--workers N] [--states N] [--strict] [--verbose]`
+-- `live C [--workers N] [--states N] [--strict] [--verbose] [--work N]`
 abbrev pub live_of : List Row → Option Wanted
 live_of rows = do
   config ← first_of (codes "C") rows
   workers ← option_and_then workers_named (first_of (codes "workers") rows)
   states ← states_at rows
-  Some (Live config workers states (is_set (codes "strict") rows) (is_set (codes "verbose") rows))
+  Some (Live config workers states (work_at rows) (is_set (codes "strict") rows)
+      (is_set (codes "verbose") rows))
 
 -- `cert HOOK FILE [--config C] [--states N] [--work N]`
 abbrev pub certify_of : List Row → Option Asked

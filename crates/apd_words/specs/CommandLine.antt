@@ -123,18 +123,18 @@ evaluate hooks =
     hook_command (codes "eval") hooks (required (codes "CAPTURE") ∷ config ∷ states ∷ json
     ∷ output ∷ work ∷ [])
 
--- `run C SCRIPT [--workers N] [--states N] [--quiet] [--strict] [--verbose]`
+-- `run C SCRIPT [--workers N] [--states N] [--quiet] [--strict] [--verbose] [--work N]`
 abbrev pub run : ValueParser → Shape
 run numbers =
     command (codes "run") (required (codes "C") ∷ required (codes "SCRIPT")
     ∷ workers numbers ∷ states ∷ flag (codes "quiet") ∷ flag (codes "strict")
-    ∷ flag (codes "verbose") ∷ [])
+    ∷ flag (codes "verbose") ∷ work ∷ [])
 
--- `live C [--workers N] [--states N] [--strict] [--verbose]`
+-- `live C [--workers N] [--states N] [--strict] [--verbose] [--work N]`
 abbrev pub live : ValueParser → Shape
 live numbers =
     command (codes "live") (required (codes "C") ∷ workers numbers ∷ states
-    ∷ flag (codes "strict") ∷ flag (codes "verbose") ∷ [])
+    ∷ flag (codes "strict") ∷ flag (codes "verbose") ∷ work ∷ [])
 
 -- `cert HOOK FILE [--config C] [--states N] [-o FILE] [--work N]`
 abbrev pub certify : ValueParser → Shape

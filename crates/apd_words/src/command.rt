@@ -237,7 +237,8 @@ fn run<'a>(alloc: Global, numbers: &'a [&'a str]) -> Made<'a>
     let strict = "End after the interval of the first refused load, with status 1";
     let command = with_arg(command, flag(alloc, "strict", strict));
     let verbose = "Tell on standard error what becomes of each load";
-    with_arg(command, flag(alloc, "verbose", verbose))
+    let command = with_arg(command, flag(alloc, "verbose", verbose));
+    with_arg(command, work(alloc))
 }
 
 fn live<'a>(alloc: Global, numbers: &'a [&'a str]) -> Made<'a>
@@ -253,7 +254,8 @@ fn live<'a>(alloc: Global, numbers: &'a [&'a str]) -> Made<'a>
     let strict = "End after the interval of the first malformed line or refused load";
     let command = with_arg(command, flag(alloc, "strict", strict));
     let verbose = "Tell on standard error what becomes of each load";
-    with_arg(command, flag(alloc, "verbose", verbose))
+    let command = with_arg(command, flag(alloc, "verbose", verbose));
+    with_arg(command, work(alloc))
 }
 
 fn certify<'a>(alloc: Global, hooks: &'a [&'a str]) -> Made<'a>

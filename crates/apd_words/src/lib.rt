@@ -82,6 +82,7 @@ pub struct ScriptRun<'a> {
     pub script: &'a str,
     pub workers: u8,
     pub states: u32,
+    pub work: Option<u64>,
     pub quiet: bool,
     pub strict: bool,
     pub verbose: bool,
@@ -94,6 +95,7 @@ pub struct LiveRun<'a> {
     pub config: &'a str,
     pub workers: u8,
     pub states: u32,
+    pub work: Option<u64>,
     pub strict: bool,
     pub verbose: bool,
 }

@@ -133,6 +133,7 @@ fn run<'a>(matches: &ArgMatches<'a>) -> Option<Request<'a>>
     let script = value(matches, "SCRIPT")?;
     let workers = workers_named(value(matches, "workers")?)?;
     let states = states(matches)?;
+    let work = work(matches);
     let quiet = flag(matches, "quiet");
     let strict = flag(matches, "strict");
     let verbose = flag(matches, "verbose");
@@ -141,6 +142,7 @@ fn run<'a>(matches: &ArgMatches<'a>) -> Option<Request<'a>>
         script,
         workers,
         states,
+        work,
         quiet,
         strict,
         verbose,
@@ -153,12 +155,14 @@ fn live<'a>(matches: &ArgMatches<'a>) -> Option<Request<'a>>
     let config = value(matches, "C")?;
     let workers = workers_named(value(matches, "workers")?)?;
     let states = states(matches)?;
+    let work = work(matches);
     let strict = flag(matches, "strict");
     let verbose = flag(matches, "verbose");
     Some(Request::Live(LiveRun {
         config,
         workers,
         states,
+        work,
         strict,
         verbose,
     }))

@@ -73,6 +73,12 @@ pub struct Limits {
 }
 
 impl Limits {
+    /// The greatest limit of states, and any work.
+    pub const MOST: Limits = Limits {
+        states: StateLimit::MOST,
+        work: None,
+    };
+
     /// How many units of work are allowed; without a limit, as many as can be counted.
     pub fn units(self) -> u64
         ensures is { result ≡ units_of self.work }
