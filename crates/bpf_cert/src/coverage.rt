@@ -1,6 +1,6 @@
 //! Whether claims show that a program is safe.
 
-ghost use Rattle.std.specs.Prelude.{◌≡◌, ◌+◌, ◌<◌, ◌≤◌, ℕ, IfOk, IfErr, IsTrue, MatchOption, Ok, Option, false, length, min};
+ghost use Rattle.std.specs.Prelude.{◌≡◌, ◌+◌, ◌<◌, ◌≤◌, ℕ, IfOk, IfErr, IsTrue, MatchOption, Ok, false, length, min};
 ghost use Rattle.std.specs.List.{All};
 ghost use Rattle.std.specs.Option.{option_map_or};
 ghost use Rattle.bpf_absstate.specs.View.{entry_view};

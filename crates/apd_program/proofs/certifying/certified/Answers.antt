@@ -1,7 +1,6 @@
-use Rattle.std.proofs.Common.{IfOk, ◌∙◌, ap, subst}
+use Rattle.std.proofs.Common.{IfOk, subst}
 use Rattle.bpf_regions.specs.declared.hooks.Hook.{Hook}
 use Rattle.bpf_decode.specs.Program.{Code}
-use Rattle.bpf_prune.specs.Spending.{Tally}
 use Rattle.bpf_cert.specs.Certified.{Covered, IsUncertifiedWithin}
 use Rattle.apd_program.specs.Certifying.{IsCertificate, Made}
 use Rattle.apd_program.proofs.Said.{IsCertificate-refused, IsCertificate-unmade}
@@ -19,8 +18,8 @@ pub returns-in-Ok-clause-certificate : goal.returns-in-Ok-clause-certificate
 returns-in-Ok-clause-certificate c =
     let e = c.in-Err-certificate_counted.refusal in
     let limits = c.limits_of-limits.result in
-    let most = c.verify_counted.ensures.spent.most ∙ ap (λ (w : Tally). w.most) c.within-work.ensures.is ∙ c.units.ensures.is in
-    let why = record { before = c.verify_counted.new.work; tally = c.certificate_counted.new.work; most = most; after = c.in-Err-certificate_counted.ensures.refused } in
+    let spent = rw (c.within-work.ensures.is, c.units.ensures.is) at c.verify_counted.ensures.spent in
+    let why = record { before = c.verify_counted.new.work; tally = c.certificate_counted.new.work; most = spent.most; after = c.in-Err-certificate_counted.ensures.refused } in
     subst (λ l. IfOk c.refused.result (IsCertificate l c.args.terms.hook c.args.program)) c.limits_of-limits.ensures.is
     (IsCertificate-unmade limits c.args.terms.hook c.args.program c.refused.result e
     (subst (λ (p : Code). IsUncertifiedWithin p limits e) c.in-Ok.ensures.code why) c.refused.ensures.refusal)
