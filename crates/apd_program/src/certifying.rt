@@ -21,8 +21,11 @@ fn unaccepted(fault: WithinFault) -> Result<Answer, ProgramFault>
     ensures memory { IfErr result (λ e. e ≡ ProgramFault.NoMemory) }
 {
     match fault {
-        WithinFault::Refused(CertFault::NoMemory) => Err(ProgramFault::NoMemory),
-        _ => Ok(Answer::Unaccepted(fault)),
+        WithinFault::TooMuchWork => Ok(Answer::Unaccepted(fault)),
+        WithinFault::Refused(why) => match why {
+            CertFault::NoMemory => Err(ProgramFault::NoMemory),
+            _ => Ok(Answer::Unaccepted(fault)),
+        },
     }
 }
 

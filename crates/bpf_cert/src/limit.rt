@@ -1,6 +1,7 @@
 //! The work of a check, counted or not, and why a check ends without a verdict.
 
-ghost use Rattle.std.specs.Prelude.{◌≡◌, ◌≤◌, IfErr};
+ghost use Rattle.std.specs.Prelude.{◌≡◌, ◌≤◌, ℕ, Option, Some, None, IfErr};
+ghost use Rattle.bpf_prune.specs.Spending.{HasPassed};
 ghost use Rattle.bpf_cert.specs.Limits.{IsStop, number_within, stopped};
 ghost use Rattle.bpf_cert.specs.declared.limit.Stop.TheVariants as stop;
 ghost use Rattle.bpf_cert.specs.declared.limit.WithinFault.TheVariants.{Refused};
@@ -78,9 +79,6 @@ impl From<Stop> for WithinFault {
 
 /// Counts the work of a check before it is done, and may refuse it.
 pub trait Meter {
-    ghost use Rattle.std.specs.Prelude.{◌≡◌, ◌≤◌, ℕ, Option, IfErr};
-    ghost use Rattle.bpf_cert.specs.Limits.{IsStop};
-
     /// The most units of work that it allows, if there is a limit.
     ghost limit: { Self → Option ℕ };
 
@@ -109,13 +107,12 @@ pub trait Meter {
 pub struct Unlimited;
 
 impl Meter for Unlimited {
-    ghost use Rattle.std.specs.Prelude.{None};
-
     ghost limit = { λ _. None };
 
     ghost has_passed = { λ _. ⊥ };
 
-    fn examines(&mut self, _state: &AbsState) -> Result<(), Stop> {
+    fn examines(&mut self, state: &AbsState) -> Result<(), Stop> {
+        let _state = state;
         Ok(())
     }
 
@@ -123,15 +120,13 @@ impl Meter for Unlimited {
         Ok(())
     }
 
-    fn spends(&mut self, _units: u64) -> Result<(), Stop> {
+    fn spends(&mut self, units: u64) -> Result<(), Stop> {
+        let _units = units;
         Ok(())
     }
 }
 
 impl Meter for Work {
-    ghost use Rattle.std.specs.Prelude.{Some};
-    ghost use Rattle.bpf_prune.specs.Spending.{HasPassed};
-
     ghost limit = { λ w. Some w.most };
 
     ghost has_passed = { λ w. HasPassed w };

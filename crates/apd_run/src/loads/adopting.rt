@@ -118,9 +118,14 @@ fn not_certified(fault: WithinFault) -> Told
     ensures { result ≡ certificate_told fault }
 {
     match fault {
-        WithinFault::Refused(CertFault::NoMemory) => Told::Memory,
-        _ => Told::Certificate {
+        WithinFault::TooMuchWork => Told::Certificate {
             fault: fault.number(),
+        },
+        WithinFault::Refused(why) => match why {
+            CertFault::NoMemory => Told::Memory,
+            CertFault::Malformed | CertFault::Other | CertFault::NotCovered => Told::Certificate {
+                fault: fault.number(),
+            },
         },
     }
 }
