@@ -53,8 +53,9 @@ pub fn explore_limited(
     ensures budget { OnOk result ((b : ℕ) × IsSafeBudget program.now limits.states b) }
     ensures refused { IfErr result (IsRefusalWithin program.now limits) }
 {
+    let states = limits.states;
     let mut work = Work::within(limits.units());
-    explore_counted(alloc, program, limits.states, &mut work)
+    explore_counted(alloc, program, states, &mut work)
 }
 
 /// Like `explore_limited`, but `work` has the limit on work, as for `verify_counted`.
@@ -122,9 +123,10 @@ pub fn explain_limited(
 {
     program.whole();
     plain_law();
+    let states = limits.states;
     let mut work = Work::within(limits.units());
     let mut exploration = Exploration::new(alloc, program, Observer::listening(alloc))?;
-    let verdict = observed_budget(alloc, program, &mut exploration, limits.states, &mut work);
+    let verdict = observed_budget(alloc, program, &mut exploration, states, &mut work);
     Ok(explained(alloc, verdict, exploration.into_observer()))
 }
 
