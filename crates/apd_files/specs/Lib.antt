@@ -1,5 +1,6 @@
 pub mod Kinds
 pub mod Held
+pub mod Paths
 pub mod Reading
 pub mod Faults
 pub mod Beginning

@@ -1,6 +1,8 @@
 -- Runs that break off.
-use Rattle.std.proofs.Common.{◌≡◌, ℕ, List, Bool, true, false, Option, refl}
-use Rattle.ap_books.specs.Counts.{Counts}
+use Rattle.std.proofs.Common.{◌≡◌, ℕ, List, [], Bool, true, false, Option, None, Some, refl}
+use Rattle.apd_script.specs.Asked.{Asked}
+use Rattle.apd_run.specs.Crews.{Crew}
+use Rattle.apd_run.specs.Done.{AreBegun}
 use Rattle.apd_run.specs.Shows.{Nothing, Before, Breaks, InInterval, is_over}
 
 -- if no line was refused, a run goes on
@@ -8,7 +10,12 @@ pub goes_on : (strict : Bool) → is_over strict false ≡ false
 goes_on true = refl
 goes_on false = refl
 
+-- no line was done
+pub begun_none : (script : Option (List (ℕ × Asked))) → AreBegun script [] []
+begun_none None = tt
+begun_none (Some lines) = (lines, refl, refl)
+
 -- before their first interval
-pub breaks_at_once : (strict : Bool) (old : Option (List ℕ)) (counted : Counts) → Breaks strict old old counted
-breaks_at_once strict old counted =
-    InInterval old counted false false Nothing (goes_on strict) (Before refl)
+pub breaks_at_once : (manner : Manner) (script : Option (List (ℕ × Asked))) (old : Option (List ℕ)) (crew : Crew) → Breaks manner script old old crew
+breaks_at_once manner script old crew =
+    InInterval [] [] [] [] old crew false false Nothing (goes_on manner.strict) (Before refl) (begun_none script)

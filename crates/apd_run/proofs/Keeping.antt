@@ -7,6 +7,7 @@ use Rattle.ap_live.specs.Tokens.{Operator, IsOperator, Worker, IsWorker}
 use Rattle.logbook.specs.Pages.{Book}
 use Rattle.versions.specs.Lists.{Beginning}
 use Rattle.versions.specs.Sets.{set_of}
+use Rattle.apd_files.specs.Held.{Held}
 use Rattle.apd_run.specs.Budgets.{AreBudgets}
 use Rattle.apd_run.specs.declared.access.budgets.Budgets.{Budgets}
 use Rattle.apd_run.specs.Hands.{RunOperator, IsRunOperator, RunWorker, IsRunWorker}
@@ -31,9 +32,9 @@ other_token shares list o t own same h =
     }
 
 -- an operator whose loads are of the same list, with the budgets of their programs
-pub other_loads : (shares : ℕ) (list : Book) (o : RunOperator) (b : Beginning) (budgets : Budgets) → b.list ≡ o.loads.list → AreBudgets budgets (set_of b.loads)
-    → IsRunOperator shares list o → IsRunOperator shares list (record o { loads = b; budgets = budgets })
-other_loads shares list o b budgets same in_force h =
+pub other_loads : (shares : ℕ) (list : Book) (o : RunOperator) (files : Held) (b : Beginning) (budgets : Budgets) → b.list ≡ o.loads.list → AreBudgets budgets (set_of b.loads)
+    → IsRunOperator shares list o → IsRunOperator shares list (record o { files = files; loads = b; budgets = budgets })
+other_loads shares list o files b budgets same in_force h =
     record {
       own = h.own;
       mine = h.mine;

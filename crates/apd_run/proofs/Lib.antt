@@ -1,4 +1,10 @@
 pub mod Tallying
+pub mod Puts
+pub mod Followed
+pub mod Gathering
+pub mod Segments
+pub mod Operated
+pub mod Living
 pub mod Waits
 pub mod Broken
 pub mod KeptCode
@@ -8,7 +14,6 @@ pub mod Served
 pub mod Keeping
 pub mod Loading
 pub mod OneByOne
-pub mod Ending
 pub mod Batches
 pub mod Entries
 pub mod Counted

@@ -18,7 +18,7 @@ use Rattle.apd_run.proofs.Sums.{none_plus, plus_three}
 
 -- ---- what reports count
 
-tallied_two : (xs ys : List Report) → tallied (xs ++ ys) ≡ plus (tallied xs) (tallied ys)
+pub tallied_two : (xs ys : List Report) → tallied (xs ++ ys) ≡ plus (tallied xs) (tallied ys)
 tallied_two xs ys i =
     record {
       events = sum_by-append (λ r. (report_counts r).events) xs ys i;
@@ -57,7 +57,7 @@ told_counted (t ∷ ts) =
 pub collects_told : (crew crew2 : Crew) (list list2 : List Report) (tags : List Tagged) → list2 ≡ list ++ reports_in tags → crew2 ≡ gains crew (tally tags) → Collects crew crew2 list list2
 collects_told crew crew2 list list2 tags listed counted =
     record {
-      reports = reports_in tags;
+      tags = tags;
       listed = listed;
       counted = counted ∙ ap (λ (c : Counts). gains crew c) (sym (told_counted tags));
     }

@@ -3,7 +3,9 @@ use Rattle.std.proofs.Common.{◌≡◌, ℕ, ◌+◌, List, [], ◌∷◌, ◌+
 use Rattle.std.specs.List.{sum_by}
 use Rattle.std.proofs.lemmas.List.Sums.{sum_by-append}
 use Rattle.ap_books.specs.Counts.{Counts, none, plus}
+use Rattle.ap_tagged.specs.declared.tagged.Tagged.{Tagged}
 use Rattle.apd_text.specs.declared.reports.report.Report.{Report}
+use Rattle.apd_run.specs.Telling.{reports_in, reports_of}
 use Rattle.apd_run.specs.Tallies.{told_counts, report_counts, tallied}
 use Rattle.apd_run.specs.Crews.{Crew, gains, Collects}
 use Rattle.apd_run.specs.Tells.{Tells}
@@ -31,42 +33,32 @@ plus_none c i =
       notes = add-zero c.notes i;
     }
 
-with_counts : Crew → Counts → Crew
-with_counts crew counts = record { workers = crew.workers; counted = counts }
+reports_two : (xs ys : List Tagged) → reports_in (xs ++ ys) ≡ reports_in xs ++ reports_in ys
+reports_two [] ys = refl
+reports_two (t ∷ ts) ys = ap (λ (l : List Report). reports_of t ++ l) (reports_two ts ys) ∙ sym (append_assoc (reports_of t) (reports_in ts) (reports_in ys))
 
 -- nothing was collected yet
 pub collects_none : (c : Crew) (xs : List Report) → Collects c c xs xs
 collects_none c xs =
     record {
-      reports = [];
+      tags = [];
       listed = sym (append-nil xs);
-      counted = λ i. record { workers = c.workers; counted = sym (plus_none c.counted) i };
+      counted = λ i. record { workers = c.workers; counted = sym (plus_none c.counted) i; work = c.work };
     }
 
 -- and then more was
 pub collects_more : (c d e : Crew) (xs ys zs : List Report) → Collects c d xs ys → Collects d e ys zs → Collects c e xs zs
 collects_more c d e xs ys zs h k =
+    let hs : List Report = reports_in h.tags in
+    let ks : List Report = reports_in k.tags in
+    let both : reports_in (h.tags ++ k.tags) ≡ hs ++ ks = reports_two h.tags k.tags in
     record {
-      reports = h.reports ++ k.reports;
-      listed = k.listed ∙ ap (λ l. l ++ k.reports) h.listed ∙ append_assoc xs h.reports k.reports;
-      counted = k.counted ∙ ap (λ x. gains x (tallied k.reports)) h.counted
-          ∙ (λ i. record { workers = c.workers; counted = counts_append c.counted h.reports k.reports i });
+      tags = h.tags ++ k.tags;
+      listed = k.listed ∙ ap (λ (l : List Report). l ++ ks) h.listed ∙ append_assoc xs hs ks ∙ ap (λ (l : List Report). xs ++ l) (sym both);
+      counted = k.counted ∙ ap (λ (x : Crew). gains x (tallied ks)) h.counted
+          ∙ (λ i. record { workers = c.workers; counted = counts_append c.counted hs ks i; work = c.work })
+          ∙ ap (λ (l : List Report). gains c (tallied l)) (sym both);
     }
-
--- the operator's reports count nothing, so all reports count what was collected
-pub counted_all : (c d : Crew) (xs ys : List Report) → Tells [] xs → Collects c d xs ys → d.counted ≡ plus c.counted (tallied ys)
-counted_all c d xs ys t h =
-    let told : tallied xs ≡ none = ap tallied t.listed ∙ t.nothing in
-    ap (λ x. x.counted) h.counted
-    ∙ ap (λ x. plus x (tallied h.reports)) (sym (plus_none c.counted) ∙ ap (plus c.counted) (sym told))
-    ∙ counts_append c.counted xs h.reports
-    ∙ ap (λ l. plus c.counted (tallied l)) (sym h.listed)
-
--- nothing was collected, and the reports count nothing
-pub counted_nothing : (c : Counts) (xs : List Report) → Tells [] xs → c ≡ plus c (tallied xs)
-counted_nothing c xs t =
-    let crew : Crew = record { workers = 0; counted = c } in
-    counted_all crew crew xs xs t (collects_none crew xs)
 
 -- the operator has reported nothing
 pub tells_none : (xs : List Report) → Tells xs xs

@@ -1,6 +1,8 @@
 -- Giving out the tokens of a run.
 use Rattle.std.specs.Prelude.{◌≡◌, ◌+◌, ◌≤◌, ℕ, List, length}
 use Rattle.std.specs.List.{All}
+use Rattle.bpf_regions.specs.declared.maps.Shape.{Shape}
+use Rattle.bpf_helpers.specs.Hooked.{shapes_of}
 use Rattle.ap_books.specs.Counts.{none}
 use Rattle.ap_books.specs.Holdings.{Holding, HasParts, sum_of}
 use Rattle.ap_shards.specs.Tokens.{holding_of}
@@ -8,17 +10,24 @@ use Rattle.ap_live.specs.Counting.{counted_by}
 use Rattle.ap_live.specs.Lives.{Live}
 use Rattle.ap_live.specs.Opening.{parts_in_all}
 use Rattle.ap_live.specs.Tokens.{Operator, IsOperator, Worker, IsWorker}
+use Rattle.ap_queues.specs.Lines.{HasPutNothing}
 
--- an operator's token with one part of each ledger, which has counted nothing
+-- an operator's token with one part of each ledger, which has counted nothing, and has put nothing
 pub record IsNewOperator (a : Live) (o : Operator) : Type 0 where
   pub own : IsOperator a o
   pub parts : HasParts 1 (holding_of o.shards)
   pub nothing : counted_by o.shards ≡ none
+  pub unput : HasPutNothing a.queues o.lines
 
 -- a worker's token with one part of each ledger, which has counted nothing
 pub record IsNewWorker (w : Worker) : Type 0 where
   pub parts : HasParts 1 (holding_of w.shards)
   pub nothing : counted_by w.shards ≡ none
+
+-- the access point has a queue for each of this many workers, and tables of maps of these shapes
+pub record IsFor (workers : ℕ) (shapes : List Shape) (a : Live) : Type 0 where
+  pub queues : length a.queues ≡ workers
+  pub maps : shapes_of a.stock.maps ≡ shapes
 
 -- new tokens of an operator and of at most 8 workers, and all other parts of the ledgers; nothing has been counted
 pub record AreHands (a : Live) (operator : Operator) (workers : List Worker) (hoard : Holding)

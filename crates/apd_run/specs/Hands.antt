@@ -1,5 +1,9 @@
 -- The operator and the workers of a run.
-use Rattle.std.specs.Prelude.{◌≡◌, ◌+◌, ◌<◌, ℕ}
+use Rattle.std.specs.Prelude.{◌≡◌, ◌+◌, ◌<◌, ℕ, List, [], replicate}
+use Rattle.bpf_regions.specs.declared.maps.Shape.{Shape}
+use Rattle.bpf_helpers.specs.Hooked.{shapes_of}
+use Rattle.ap_queues.specs.Lines.{puts_of}
+use Rattle.apd_files.specs.Held.{Held}
 use Rattle.ap_books.specs.Counts.{none}
 use Rattle.ap_books.specs.Holdings.{Holding, HasParts, sum_of}
 use Rattle.ap_books.specs.Reading.{Reads}
@@ -15,6 +19,7 @@ use Rattle.versions.specs.Lists.{Beginning}
 use Rattle.versions.specs.Sets.{set_of}
 use Rattle.apd_run.specs.Budgets.{AreBudgets}
 use Rattle.apd_run.specs.Crews.{Crew}
+use Rattle.apd_run.specs.Work.{Work}
 use Rattle.apd_run.specs.declared.access.budgets.Budgets.{Budgets}
 
 -- a worker's access point and token
@@ -28,10 +33,13 @@ pub record IsRunWorker (list : Book) (w : RunWorker) : Type 0 where
   pub list_is : w.ap.list.list ≡ list
   pub parts : HasParts 1 (holding_of w.token.shards)
 
--- An operator's access point and token, the parts of the ledgers and the pages that it keeps and how many of each they
--- are, what these have counted, how many workers have one, what was published, and the budgets of the programs in force.
+-- An operator's access point and token, what is known of the files of programs, the most states that the verifier
+-- examines, the parts of the ledgers and the pages that the operator keeps and how many of each they are, what these have
+-- counted, how many workers have one, what was published, and the budgets of the programs in force.
 pub record RunOperator : Type 0 where
   pub ap : Live
+  pub files : Held
+  pub limit : ℕ
   pub token : Operator
   pub hoard : Holding
   pub pages : EightPages
@@ -56,6 +64,25 @@ pub record IsRunOperator (shares : ℕ) (list : Book) (o : RunOperator) : Type 0
   pub reads : Reads o.totals (sum_of o.hoard)
   pub in_force : AreBudgets o.budgets (set_of o.loads.loads)
 
--- how many workers have rights, and what those that came back have counted
+-- what an operator works with, and what it has done
+abbrev pub work_of : RunOperator → Work
+work_of o = record { files = o.files; limit = o.limit; maps = o.ap.stock.maps; puts = puts_of o.token.lines; loads = o.loads; seats = o.token.seats }
+
+-- how many workers have rights, what those that came back have counted, and what the operator has done
 abbrev pub crew_of : RunOperator → Crew
-crew_of o = record { workers = o.workers; counted = sum_of o.hoard }
+crew_of o = record { workers = o.workers; counted = sum_of o.hoard; work = work_of o }
+
+-- the operator has put nothing into the queues of this many workers, nothing is published, and the maps have these shapes
+pub record IsNewWork (files : Held) (limit workers : ℕ) (shapes : List Shape) (w : Work) : Type 0 where
+  pub files_are : w.files ≡ files
+  pub limit_is : w.limit ≡ limit
+  pub maps : shapes_of w.maps ≡ shapes
+  pub unput : w.puts ≡ replicate workers []
+  pub for_maps : w.loads.shapes ≡ shapes
+  pub no_loads : w.loads.loads ≡ []
+
+-- nothing was counted yet either
+pub record IsNewCrew (files : Held) (limit workers : ℕ) (shapes : List Shape) (c : Crew) : Type 0 where
+  pub workers_are : c.workers ≡ workers
+  pub nothing : c.counted ≡ none
+  pub new : IsNewWork files limit workers shapes c.work

@@ -1,6 +1,6 @@
 pub mod Actions
 pub mod Intervals
-pub mod Crews
+pub mod Ticks
 pub mod Asking
 pub mod Shows
 pub mod Tells
@@ -9,10 +9,16 @@ pub mod Tallies
 pub mod Loading
 pub mod Adopting
 pub mod Telling
+pub mod Work
+pub mod Submitting
+pub mod Following
+pub mod Crews
+pub mod Done
 pub mod Budgets
 pub mod Listing
 pub mod Hands
 pub mod Dealing
+pub mod NewRuns
 pub mod Statuses
 pub use Rattle.ap_books.specs.Counts
 pub use Rattle.ap_shards.specs.Opening

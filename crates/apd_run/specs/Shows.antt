@@ -1,18 +1,26 @@
 -- What a run prints.
-use Rattle.std.specs.Prelude.{◌≡◌, ◌⊎◌, ℕ, List, Option, Bool, true, false, ◌||◌, ◌&&◌, if◌then◌else◌}
+use Rattle.std.specs.Prelude.{◌≡◌, ◌⊎◌, ℕ, List, [], ◌++◌, map, Option, Bool, true, false, ◌||◌, ◌&&◌, if◌then◌else◌}
 use Rattle.std.specs.List.{list_any}
 use Rattle.std.specs.Io.KnownBytes.{Appends, Keeps}
-use Rattle.ap_books.specs.Counts.{Counts, plus}
+use Rattle.ap_books.specs.Counts.{Counts}
 use Rattle.ap_books.specs.Reading.{Reads}
 use Rattle.ap_books.specs.declared.totals.Totals.{Totals}
+use Rattle.ap_tagged.specs.declared.tagged.Tagged.{Tagged}
 use Rattle.apd_files.specs.Beginning.{AppendsBeginning}
+use Rattle.apd_script.specs.Asked.{Asked}
 use Rattle.apd_text.specs.Lines.{reports_text, totals_text}
 use Rattle.apd_text.specs.Order.{IsOrdered}
 use Rattle.apd_text.specs.declared.reports.report.Report.{Report}
 use Rattle.apd_text.specs.declared.reports.report.Told.{Told}
 use Rattle.apd_text.specs.declared.reports.report.Told.TheVariants.{Memory, Fault, Refused, Certificate, Unreadable, Malformed}
 use Rattle.apd_run.specs.Asking.{TellsAnswer, BreaksAnswer}
+use Rattle.apd_run.specs.Crews.{Crew, LooksOn, gains, with_work}
+use Rattle.apd_run.specs.Done.{AreBegun, AreDone}
+use Rattle.apd_run.specs.Following.{FollowsAll}
 use Rattle.apd_run.specs.Tallies.{tallied}
+use Rattle.apd_run.specs.Telling.{reports_in}
+use Rattle.apd_run.specs.Work.{Work}
+use Rattle.apd_run.specs.declared.manner.Manner.{Manner}
 
 -- the report says `memory`
 abbrev pub is_memory : Told → Bool
@@ -60,45 +68,90 @@ pub record Prints (strict : Bool) (old new : Option (List ℕ)) (handed : List R
   pub memory_is : memory ≡ any_memory printed
   pub refused_is : refused ≡ any_fault strict printed
 
--- printing an interval breaks off: before it begins, or within the reports
-pub data BreaksOff (old new : Option (List ℕ)) : Type 0 where
-  Before : new ≡ old → BreaksOff old new
-  Within : (handed printed : List Report) → IsOrdered handed printed → AppendsBeginning old new (reports_text printed) → BreaksOff old new
+-- a report on each malformed line, in order
+abbrev pub AnswerMalformed : List ℕ → List Report → Type 0
+AnswerMalformed malformed reports = map (λ (r : Report). (r.line, is_malformed r.told)) reports ≡ map (λ (line : ℕ). (line, true)) malformed
 
--- one interval: the reports are printed, and are what was counted
-pub record ShowsOne (strict : Bool) (old new : Option (List ℕ)) (counted counted2 : Counts) (memory refused : Bool) : Type 0 where
+-- The reports of an interval: those of the operator, which follows the lines, those on malformed lines, and those on what
+-- became of events, from the workers. They are what was counted.
+pub record Gathered (lines : List (ℕ × Asked)) (malformed : List ℕ) (crew crew2 : Crew) (handed : List Report) : Type 0 where
+  pub work : Work
+  pub told : List Report
+  pub follows : FollowsAll crew.work lines work told
+  pub answers : List Report
+  pub on_malformed : AnswerMalformed malformed answers
+  pub tags : List Tagged
+  pub all : handed ≡ told ++ (answers ++ reports_in tags)
+  pub counts : crew2 ≡ with_work (gains crew (tallied handed)) work
+
+-- printing reports breaks off: before it begins, or within them
+pub data PrintsPart (form : Form) (old new : Option (List ℕ)) (handed : List Report) : Type 0 where
+  NotBegun : new ≡ old → PrintsPart form old new handed
+  Partly : (printed : List Report) → IsOrdered handed printed → AppendsBeginning old new (reports_text form printed) → PrintsPart form old new handed
+
+-- an interval breaks off: before its reports are printed, or within them
+pub data BreaksOff (form : Form) (lines : List (ℕ × Asked)) (malformed : List ℕ) (old new : Option (List ℕ)) (crew : Crew) : Type 0 where
+  Before : new ≡ old → BreaksOff form lines malformed old new crew
+  Within : (crew2 : Crew) (handed : List Report) → Gathered lines malformed crew crew2 handed → PrintsPart form old new handed
+      → BreaksOff form lines malformed old new crew
+
+-- an interval of the first of these lines breaks off
+pub record BreaksFrom (form : Form) (all : List (ℕ × Asked)) (malformed : List ℕ) (old new : Option (List ℕ)) (crew : Crew) : Type 0 where
+  pub lines : List (ℕ × Asked)
+  pub rest : List (ℕ × Asked)
+  pub first : all ≡ lines ++ rest
+  pub breaks : BreaksOff form lines malformed old new crew
+
+-- one interval of these lines: the reports are printed, and are what was counted
+pub record ShowsOne (manner : Manner) (lines : List (ℕ × Asked)) (malformed : List ℕ) (old new : Option (List ℕ)) (crew crew2 : Crew) (memory refused : Bool) : Type 0 where
   pub handed : List Report
-  pub prints : Prints strict old new handed memory refused
-  pub counts : counted2 ≡ plus counted (tallied handed)
+  pub prints : Prints manner old new handed memory refused
+  pub gathered : Gathered lines malformed crew crew2 handed
 
 -- one interval and then the answer to a question, if there is one, by what was counted until then
-pub record ShowsBatch (strict : Bool) (old new : Option (List ℕ)) (counted counted2 : Counts) (memory refused : Bool) : Type 0 where
+pub record ShowsBatch (manner : Manner) (old new : Option (List ℕ)) (crew crew2 : Crew) (memory refused : Bool) : Type 0 where
+  pub lines : List (ℕ × Asked)
+  pub malformed : List ℕ
   pub mid : Option (List ℕ)
-  pub shows : ShowsOne strict old mid counted counted2 memory refused
-  pub tells : TellsAnswer counted2 mid new
+  pub before : Crew
+  pub shows : ShowsOne manner lines malformed old mid crew before memory refused
+  pub tells : TellsAnswer before.counted mid new
+  pub looks : LooksOn before crew2
 
 -- it breaks off: in its interval, or in its answer
-pub data BreaksBatch (strict : Bool) (old new : Option (List ℕ)) (counted : Counts) : Type 0 where
-  InReports : BreaksOff old new → BreaksBatch strict old new counted
-  InAnswer : (mid : Option (List ℕ)) (counted2 : Counts) (memory refused : Bool) → ShowsOne strict old mid counted counted2 memory refused
-      → BreaksAnswer counted2 mid new → BreaksBatch strict old new counted
+pub data BreaksBatch (manner : Manner) (old new : Option (List ℕ)) (crew : Crew) : Type 0 where
+  InReports : (all : List (ℕ × Asked)) (malformed : List ℕ) → BreaksFrom manner.form all malformed old new crew → BreaksBatch manner old new crew
+  InAnswer : (lines : List (ℕ × Asked)) (malformed : List ℕ) (mid : Option (List ℕ)) (before : Crew) (memory refused : Bool) → ShowsOne manner lines malformed old mid crew before memory refused
+      → BreaksAnswer before.counted mid new → BreaksBatch manner old new crew
 
--- consecutive intervals, each with the answer that follows it; in a strict run, no interval follows a line at fault
-pub data Shows (strict : Bool) (old : Option (List ℕ)) (counted : Counts) : Option (List ℕ) → Counts → Bool → Bool → Type 0 where
-  Nothing : Shows strict old counted old counted false false
-  Then : (mid new : Option (List ℕ)) (before after : Counts) (memory more refused again : Bool) → Shows strict old counted mid before memory refused
-      → is_over strict refused ≡ false → ShowsOne strict mid new before after more again → Shows strict old counted new after (memory || more) (refused || again)
-  ThenAnswers : (mid new : Option (List ℕ)) (before : Counts) (memory refused : Bool) → Shows strict old counted mid before memory refused
-      → TellsAnswer before mid new → Shows strict old counted new before memory refused
-  ThenFlushes : (mid new : Option (List ℕ)) (before : Counts) (memory refused : Bool) → Shows strict old counted mid before memory refused
-      → Keeps mid new → Shows strict old counted new before memory refused
+-- consecutive intervals of these lines, each with the answer that follows it; in a strict run, no interval follows a line at
+-- fault
+pub data Shows (manner : Manner) (old : Option (List ℕ)) (crew : Crew) : List (ℕ × Asked) → List ℕ → Option (List ℕ) → Crew → Bool → Bool → Type 0 where
+  Nothing : Shows manner old crew [] [] old crew false false
+  Then : (lines own : List (ℕ × Asked)) (malformed bad : List ℕ) (mid new : Option (List ℕ)) (before after : Crew) (memory more refused again : Bool)
+      → Shows manner old crew lines malformed mid before memory refused → is_over manner.strict refused ≡ false → ShowsOne manner own bad mid new before after more again
+      → Shows manner old crew (lines ++ own) (malformed ++ bad) new after (memory || more) (refused || again)
+  ThenAnswers : (lines : List (ℕ × Asked)) (malformed : List ℕ) (mid new : Option (List ℕ)) (before after : Crew) (memory refused : Bool)
+      → Shows manner old crew lines malformed mid before memory refused → TellsAnswer before.counted mid new → LooksOn before after
+      → Shows manner old crew lines malformed new after memory refused
+  ThenFlushes : (lines : List (ℕ × Asked)) (malformed : List ℕ) (mid new : Option (List ℕ)) (before : Crew) (memory refused : Bool)
+      → Shows manner old crew lines malformed mid before memory refused → Keeps mid new → Shows manner old crew lines malformed new before memory refused
 
--- consecutive intervals, the last of which, or its answer, breaks off
-pub data Breaks (strict : Bool) (old new : Option (List ℕ)) (counted : Counts) : Type 0 where
-  InInterval : (mid : Option (List ℕ)) (before : Counts) (memory refused : Bool) → Shows strict old counted mid before memory refused
-      → is_over strict refused ≡ false → BreaksOff mid new → Breaks strict old new counted
-  BehindInterval : (mid : Option (List ℕ)) (before : Counts) (memory refused : Bool) → Shows strict old counted mid before memory refused
-      → BreaksAnswer before mid new → Breaks strict old new counted
+-- consecutive intervals of the script's lines
+pub record ShowsScript (manner : Manner) (script : Option (List (ℕ × Asked))) (old new : Option (List ℕ)) (crew crew2 : Crew) (memory refused : Bool) : Type 0 where
+  pub lines : List (ℕ × Asked)
+  pub malformed : List ℕ
+  pub shows : Shows manner old crew lines malformed new crew2 memory refused
+  pub done : AreDone script (is_over manner.strict refused) lines malformed
+
+-- consecutive intervals of the script's first lines, the last of which, or its answer, breaks off
+pub data Breaks (manner : Manner) (script : Option (List (ℕ × Asked))) (old new : Option (List ℕ)) (crew : Crew) : Type 0 where
+  InInterval : (lines own : List (ℕ × Asked)) (malformed bad : List ℕ) (mid : Option (List ℕ)) (before : Crew) (memory refused : Bool)
+      → Shows manner old crew lines malformed mid before memory refused → is_over manner.strict refused ≡ false → BreaksOff manner.form own bad mid new before
+      → AreBegun script (lines ++ own) (malformed ++ bad) → Breaks manner script old new crew
+  BehindInterval : (lines : List (ℕ × Asked)) (malformed : List ℕ) (mid : Option (List ℕ)) (before : Crew) (memory refused : Bool)
+      → Shows manner old crew lines malformed mid before memory refused → BreaksAnswer before.counted mid new → AreBegun script lines malformed
+      → Breaks manner script old new crew
 
 -- 3 if a line says `memory`; otherwise 1 if a line is at fault; otherwise 0
 abbrev pub status_of : Bool → Bool → ℕ
@@ -114,8 +167,8 @@ pub data Finishes (old new : Option (List ℕ)) (counted : Counts) (own : ℕ) :
   Part : (totals : Totals) (status : ℕ) → Reads totals counted → AppendsBeginning old new (totals_text totals) → IsBroken status
       → Finishes old new counted own status
 
--- a whole run and its status: its intervals and then the last line, or it breaks off in its intervals
-pub data Runs (strict : Bool) (old new : Option (List ℕ)) (counted : Counts) : ℕ → Type 0 where
-  Ends : (mid : Option (List ℕ)) (all : Counts) (memory refused : Bool) (status : ℕ) → Shows strict old counted mid all memory refused
-      → Finishes mid new all (status_of memory refused) status → Runs strict old new counted status
-  Fails : (status : ℕ) → Breaks strict old new counted → IsBroken status → Runs strict old new counted status
+-- a whole run of the script and its status: its intervals and then the last line, or it breaks off in its intervals
+pub data Runs (manner : Manner) (script : Option (List (ℕ × Asked))) (old new : Option (List ℕ)) (crew : Crew) : ℕ → Type 0 where
+  Ends : (mid : Option (List ℕ)) (all : Crew) (memory refused : Bool) (status : ℕ) → ShowsScript manner script old mid crew all memory refused
+      → Finishes mid new all.counted (status_of memory refused) status → Runs manner script old new crew status
+  Fails : (status : ℕ) → Breaks manner script old new crew → IsBroken status → Runs manner script old new crew status

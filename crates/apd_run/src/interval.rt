@@ -1,9 +1,11 @@
 //! Intervals: consecutive lines up to a `wait`, and at most 4096 of them.
 
-ghost use Rattle.std.specs.Prelude.{◌≡◌, ◌<◌, [], length, drop, vec_len, IfOk, OnOk, OnErr};
-ghost use Rattle.ap_books.specs.Counts.{Counts};
+ghost use Rattle.std.specs.Prelude.{◌≡◌, ◌<◌, ◌≤◌, [], Some, length, drop, slice_range, vec_len, IfOk, OnOk, OnErr};
+ghost use Rattle.apd_script.specs.Asked.{commands_of};
+ghost use Rattle.apd_script.specs.Batches.{numbers_of};
+ghost use Rattle.apd_run.specs.Crews.{Crew};
 ghost use Rattle.apd_run.specs.Intervals.{after_wait};
-ghost use Rattle.apd_run.specs.Shows.{is_memory, any_memory, Prints, BreaksOff, ShowsOne, Shows, Breaks};
+ghost use Rattle.apd_run.specs.Shows.{is_memory, any_memory, Prints, PrintsPart, BreaksFrom, ShowsOne, ShowsScript, Breaks};
 
 use crate::collecting::{collect, send_out};
 use crate::console::Console;
@@ -64,7 +66,8 @@ fn print_interval<P: Write>(
 ) -> Result<Found, PrintFault>
     ensures prints { IfOk result (λ found. Prints strict (P.contents writer.old)
         (P.contents writer.new) handed.items found.memory found.refused) }
-    ensures breaks { OnErr result (BreaksOff (P.contents writer.old) (P.contents writer.new)) }
+    ensures breaks { OnErr result (PrintsPart manner.form
+        (P.contents writer.old) (P.contents writer.new) handed.items) }
 {
     let mut reports = handed;
     put_in_order(&mut reports)?;
@@ -93,14 +96,20 @@ fn interval<W: Serving + Drop, O: Operating<W> + Drop, R: Wait, P: Console>(
     ensures workers { OnOk result
         ((O.crew staff.new.operator).workers ≡ (O.crew staff.old.operator).workers) }
     ensures on { IfOk result (λ passed. from.line < passed.next) }
+    ensures within { IfOk result (λ passed. passed.next ≤ length given.entry.commands.now) }
     ensures rest { IfOk result (λ passed.
         drop passed.next given.entry.commands.now
         ≡ after_wait (drop from.line given.entry.commands.now)) }
-    ensures shows { IfOk result (λ passed. ShowsOne setting.now.strict
+    ensures shows { IfOk result (λ passed. ShowsOne setting.now.manner
+        (commands_of (slice_range given.entry.commands.now from.line passed.next))
+        (numbers_of given.entry.malformed.now)
         (P.contents writer.old) (P.contents writer.new)
-        (O.crew staff.old.operator).counted (O.crew staff.new.operator).counted
+        (O.crew staff.old.operator) (O.crew staff.new.operator)
         passed.found.memory passed.found.refused) }
-    ensures breaks { OnErr result (BreaksOff (P.contents writer.old) (P.contents writer.new)) }
+    ensures breaks { OnErr result (BreaksFrom setting.now.manner.form
+        (commands_of (drop from.line given.entry.commands.now))
+        (numbers_of given.entry.malformed.now)
+        (P.contents writer.old) (P.contents writer.new) (O.crew staff.old.operator)) }
 {
     send_out(setting, &mut staff.workers, from.interval);
     let mut told = Vec::new(setting.alloc);
@@ -123,10 +132,11 @@ fn answer<P: Write>(
     malformed: &[MalformedLine<'_>],
     writer: &mut P,
 ) -> Result<Found, PrintFault>
-    ensures shows { (counted : Counts) → IfOk result (λ found. ShowsOne strict
-        (P.contents writer.old) (P.contents writer.new)
-        counted counted found.memory found.refused) }
-    ensures breaks { OnErr result (BreaksOff (P.contents writer.old) (P.contents writer.new)) }
+    ensures shows { (crew : Crew) → IfOk result (λ found. ShowsOne manner
+        [] (numbers_of malformed.now) (P.contents writer.old) (P.contents writer.new)
+        crew crew found.memory found.refused) }
+    ensures breaks { (crew : Crew) → OnErr result (BreaksFrom manner.form
+        [] (numbers_of malformed.now) (P.contents writer.old) (P.contents writer.new) crew) }
 {
     let mut told = Vec::new(alloc);
     tell_malformed(alloc, malformed, &mut told)?;
@@ -149,11 +159,14 @@ pub(crate) fn whole_interval<W: Serving + Drop, O: Operating<W> + Drop, R: Wait,
     ensures home { OnOk result (vec_len staff.new.workers ≡ length setting.now.desks.now) }
     ensures workers { OnOk result
         ((O.crew staff.new.operator).workers ≡ (O.crew staff.old.operator).workers) }
-    ensures shows { IfOk result (λ found. ShowsOne setting.now.strict
+    ensures shows { IfOk result (λ found. ShowsOne setting.now.manner
+        (commands_of given.entry.commands.now) (numbers_of given.entry.malformed.now)
         (P.contents writer.old) (P.contents writer.new)
-        (O.crew staff.old.operator).counted (O.crew staff.new.operator).counted
+        (O.crew staff.old.operator) (O.crew staff.new.operator)
         found.memory found.refused) }
-    ensures breaks { OnErr result (BreaksOff (P.contents writer.old) (P.contents writer.new)) }
+    ensures breaks { OnErr result (BreaksFrom setting.now.manner.form
+        (commands_of given.entry.commands.now) (numbers_of given.entry.malformed.now)
+        (P.contents writer.old) (P.contents writer.new) (O.crew staff.old.operator)) }
 {
     if given.commands.is_empty() {
         return answer(setting.alloc, setting.strict, given.malformed, writer);
@@ -180,11 +193,12 @@ pub(crate) fn intervals<W: Serving + Drop, O: Operating<W> + Drop, R: Wait, P: C
     ensures home { OnOk result (vec_len staff.new.workers ≡ length setting.now.desks.now) }
     ensures workers { OnOk result
         ((O.crew staff.new.operator).workers ≡ (O.crew staff.old.operator).workers) }
-    ensures shows { IfOk result (λ found. Shows setting.now.strict
-        (P.contents writer.old) (O.crew staff.old.operator).counted
-        (P.contents writer.new) (O.crew staff.new.operator).counted found.memory found.refused) }
-    ensures breaks { OnErr result (Breaks setting.now.strict
-        (P.contents writer.old) (P.contents writer.new) (O.crew staff.old.operator).counted) }
+    ensures shows { IfOk result (λ found. ShowsScript setting.now.manner
+        (Some (commands_of commands.now)) (P.contents writer.old) (P.contents writer.new)
+        (O.crew staff.old.operator) (O.crew staff.new.operator) found.memory found.refused) }
+    ensures breaks { OnErr result (Breaks setting.now.manner
+        (Some (commands_of commands.now)) (P.contents writer.old) (P.contents writer.new)
+        (O.crew staff.old.operator)) }
 {
     let mut line = 0;
     let mut found = Found::nothing();

@@ -1,12 +1,15 @@
 //! What the operator of a run can do.
 
-ghost use Rattle.std.specs.Prelude.{◌≡◌, ◌<◌, IfOk, IfSome};
+ghost use Rattle.std.specs.Prelude.{◌≡◌, ◌<◌, IfOk, IfErr, IfSome, OnOk};
 ghost use Rattle.ap_books.specs.Counts.{Counts, none};
 ghost use Rattle.ap_books.specs.Reading.{Reads};
 ghost use Rattle.ap_live.specs.Counting.{tally};
 ghost use Rattle.apd_run.specs.Asking.{AreAgreementsInOrder, AreStationsInOrder};
 ghost use Rattle.apd_run.specs.Tallies.{told_counts};
-ghost use Rattle.apd_run.specs.Crews.{Crew, gains, with_one_more};
+ghost use Rattle.ap_queues.specs.Putting.{first_shard};
+ghost use Rattle.apd_run.specs.Crews.{Crew, Works, gains, with_one_more};
+ghost use Rattle.apd_run.specs.Following.{Does, for_publication, for_use};
+ghost use Rattle.apd_run.specs.Submitting.{Concerns, WaitsAt, put_event, put_from};
 
 use crate::actions::{Publication, WordUse};
 use ap_books::Totals;
@@ -25,7 +28,7 @@ pub struct Waiting {
 
 /// The operator's interface to an access point whose events such workers handle.
 pub trait Operating<W> {
-    // How many workers have its rights, and what those that came back have counted.
+    // How many workers have its rights, what those that came back have counted, and what it has done.
     ghost crew: { Self → Crew };
 
     // What a worker has counted since the operator last took over its counts.
@@ -33,20 +36,32 @@ pub trait Operating<W> {
 
     /// Submits an event of the line to its shard's worker; a tick, to each shard's.
     fn submit<R: Wait>(&mut self, rt: &R, line: u64, event: Event) -> Result<(), Waiting>
-        ensures same { crew self.new ≡ crew self.old };
+        ensures works { Works (crew self.old) (crew self.new) }
+        ensures put { OnOk result
+            ((crew self.new).work ≡ put_event (crew self.old).work line event) }
+        ensures waits { IfErr result
+            (WaitsAt line event (first_shard event) (crew self.old).work (crew self.new).work) };
 
     /// Continues after a queue was full.
     fn go_on<R: Wait>(&mut self, rt: &R, line: u64, waiting: Waiting) -> Result<(), Waiting>
-        ensures same { crew self.new ≡ crew self.old };
+        requires concerned { Concerns waiting.event waiting.shard }
+        ensures works { Works (crew self.old) (crew self.new) }
+        ensures put { OnOk result ((crew self.new).work
+            ≡ put_from (crew self.old).work line waiting.event waiting.shard) }
+        ensures waits { IfErr result (WaitsAt line waiting.event waiting.shard
+            (crew self.old).work (crew self.new).work) };
 
     /// Changes the program of a hook, and returns what is printed of it.
     fn publish<R: Wait>(&mut self, rt: &R, publication: Publication<'_>) -> Option<Told>
-        ensures same { crew self.new ≡ crew self.old }
+        ensures works { Works (crew self.old) (crew self.new) }
+        ensures does { Does (crew self.old).work (crew self.new).work
+            (for_publication publication.entry) result }
         ensures nothing { IfSome result (λ told. told_counts told ≡ none) };
 
     /// Uses a word of a map, and returns what is printed of it.
     fn use_word(&mut self, wanted: WordUse) -> Option<Told>
-        ensures same { crew self.new ≡ crew self.old }
+        ensures works { Works (crew self.old) (crew self.new) }
+        ensures does { Does (crew self.old).work (crew self.new).work (for_use wanted) result }
         ensures nothing { IfSome result (λ told. told_counts told ≡ none) };
 
     /// The known stations, by address.

@@ -1,7 +1,8 @@
 //! A whole run.
 
-ghost use Rattle.std.specs.Prelude.{◌≡◌, vec_len, IfOk, OnOk, OnErr};
-ghost use Rattle.apd_run.specs.Shows.{Shows, Breaks, IsBroken, status_of, Finishes, Runs};
+ghost use Rattle.std.specs.Prelude.{◌≡◌, Some, vec_len, IfOk, OnOk, OnErr};
+ghost use Rattle.apd_script.specs.Asked.{commands_of};
+ghost use Rattle.apd_run.specs.Shows.{Breaks, ShowsScript, IsBroken, status_of, Finishes, Runs};
 
 use crate::console::Console;
 use crate::crew::{Desk, Ready, Serving, Signs};
@@ -104,12 +105,12 @@ where
     ensures home { OnOk result.found (vec_len result.staff.workers ≡ vec_len staff.workers) }
     ensures workers { OnOk result.found
         ((O.crew result.staff.operator).workers ≡ (O.crew staff.operator).workers) }
-    ensures shows { IfOk result.found (λ found. Shows (P.strict writer)
-        (P.contents writer) (O.crew staff.operator).counted
-        (P.contents result.writer) (O.crew result.staff.operator).counted
+    ensures shows { IfOk result.found (λ found. ShowsScript (P.manner writer) (L.script lines)
+        (P.contents writer) (P.contents result.writer)
+        (O.crew staff.operator) (O.crew result.staff.operator)
         found.memory found.refused) }
-    ensures breaks { OnErr result.found (Breaks (P.strict writer)
-        (P.contents writer) (P.contents result.writer) (O.crew staff.operator).counted) }
+    ensures breaks { OnErr result.found (Breaks (P.manner writer) (L.script lines)
+        (P.contents writer) (P.contents result.writer) (O.crew staff.operator)) }
 {
     let Ok(desks) = new_desks(alloc, staff.workers.len()) else {
         return Ran {
@@ -151,8 +152,8 @@ where
     R: Threads + Wait + Sync,
     P: Console + Drop,
     requires all { vec_len staff.workers ≡ (O.crew staff.operator).workers }
-    ensures runs { Runs (P.strict writer) (P.contents writer) (P.contents result.0)
-        (O.crew staff.operator).counted result.1 }
+    ensures runs { Runs (P.manner writer) (Some (commands_of commands.now))
+        (P.contents writer) (P.contents result.0) (O.crew staff.operator) result.1 }
 {
     run_lines(rt, alloc, staff, Script { commands }, writer)
 }
@@ -173,8 +174,8 @@ where
     L: Lines + Drop,
     P: Console + Drop,
     requires all { vec_len staff.workers ≡ (O.crew staff.operator).workers }
-    ensures runs { Runs (P.strict writer) (P.contents writer) (P.contents result.0)
-        (O.crew staff.operator).counted result.1 }
+    ensures runs { Runs (P.manner writer) (L.script lines)
+        (P.contents writer) (P.contents result.0) (O.crew staff.operator) result.1 }
 {
     let Ran {
         staff,

@@ -4,6 +4,7 @@ ghost use Rattle.std.specs.Prelude.{◌≡◌, ◌+◌, ◌≤◌, vec_len, IfOk
 ghost use Rattle.std.specs.List.{All};
 ghost use Rattle.ap_books.specs.Counts.{none};
 ghost use Rattle.ap_live.specs.Counting.{counted_by};
+ghost use Rattle.ap_live.specs.Lives.{KeepsLive};
 ghost use Rattle.ap_live.specs.Opening.{parts_in_all};
 ghost use Rattle.ap_live.specs.Tokens.{AreLeft, IsWorker};
 ghost use Rattle.ap_shards.specs.Pages.{HasPages};
@@ -49,7 +50,7 @@ fn give_rights<B: Ledgers + Journals>(
     ensures many { IfOk result (λ r. vec_len r.workers ≡ count) }
     ensures parts { IfOk result (λ _. left.new.parts + count + 1 ≡ left.old.parts) }
     ensures counted { IfOk result (λ _. counted_by left.new.shards ≡ counted_by left.old.shards) }
-    ensures list { ap.new.list ≡ ap.old.list }
+    ensures keeps { KeepsLive ap.old ap.new }
 {
     newcomers_law();
     tokens_law();
@@ -74,7 +75,7 @@ pub(crate) fn deal<B: Ledgers + Journals>(
     requires parts { left.parts ≡ parts_in_all }
     ensures hands { IfOk result (λ h. AreHands ap.new h.operator h.workers.items h.hoard h.parts) }
     ensures pages { IfOk result (λ h. HasPages h.parts h.pages) }
-    ensures list { ap.new.list ≡ ap.old.list }
+    ensures keeps { KeepsLive ap.old ap.new }
 {
     let mut left = left;
     let rights = match give_rights(ap, alloc, &mut left, count) {

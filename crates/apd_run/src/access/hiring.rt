@@ -3,6 +3,7 @@
 ghost use Rattle.std.specs.Prelude.{◌≡◌, ◌+◌, vec_len, IfOk};
 ghost use Rattle.std.specs.List.{All};
 ghost use Rattle.ap_live.specs.Counting.{counted_by};
+ghost use Rattle.ap_live.specs.Lives.{KeepsLive};
 ghost use Rattle.ap_live.specs.Tokens.{AreLeft, IsWorker};
 ghost use Rattle.apd_run.specs.Dealing.{IsNewWorker};
 
@@ -26,7 +27,7 @@ pub(crate) fn hire<B: Ledgers + Journals>(
     ensures many { IfOk result (λ ws. vec_len ws ≡ count) }
     ensures parts { IfOk result (λ ws. left.new.parts + vec_len ws ≡ left.old.parts) }
     ensures counted { IfOk result (λ _. counted_by left.new.shards ≡ counted_by left.old.shards) }
-    ensures list { ap.new.list ≡ ap.old.list }
+    ensures keeps { KeepsLive ap.old ap.new }
 {
     newcomers_law();
     tokens_law();

@@ -1,14 +1,16 @@
 //! The operator of a run.
 
-ghost use Rattle.std.specs.Prelude.{◌≡◌, ◌<◌, IfOk, IfSome};
+ghost use Rattle.std.specs.Prelude.{◌≡◌, ◌<◌, IfOk, IfSome, None, Some};
 ghost use Rattle.ap_books.specs.Counts.{none};
 ghost use Rattle.ap_books.specs.Reading.{Reads};
 ghost use Rattle.ap_live.specs.Counting.{counted_by};
 ghost use Rattle.versions.specs.Sets.{set_of};
 ghost use Rattle.apd_run.specs.Budgets.{program_rows};
-ghost use Rattle.apd_run.specs.Hands.{crew_of};
+ghost use Rattle.apd_script.specs.Asked.{Adopt, Load, Read, Store, Sum, Unload};
+ghost use Rattle.apd_run.specs.Following.{Does};
+ghost use Rattle.apd_run.specs.Hands.{crew_of, work_of};
 ghost use Rattle.apd_run.specs.Tallies.{told_counts};
-ghost use Rattle.apd_run.specs.Crews.{gains, with_one_more};
+ghost use Rattle.apd_run.specs.Crews.{Works, gains, with_one_more};
 
 use crate::access::budgets::Budgets;
 use crate::access::naming::Publications;
@@ -40,9 +42,9 @@ pub(crate) struct Sources<'a, F> {
 }
 
 /// The operator of a run: its token, the parts of the ledgers and the pages that no worker has, what these parts have
-/// counted, the programs in force, and their sources. Contracts see everything but the sources.
+/// counted, the programs in force, and their sources. Contracts see everything but the unread part of a file.
 #[derive(Drop)]
-pub struct LiveOperator<'a, B: Ledgers + Journals, L: Publications, F> {
+pub struct LiveOperator<'a, B: Ledgers + Journals, L: Publications, F: Files> {
     pub(crate) ap: &'a LiveAp<B>,
     pub(crate) token: OperatorToken<B>,
     pub(crate) hoard: Portions<B>,
@@ -56,13 +58,15 @@ pub struct LiveOperator<'a, B: Ledgers + Journals, L: Publications, F> {
     pub(crate) list: PhantomData<L>,
 }
 
-impl<'a, B: Ledgers + Journals, L: Publications, F> Model for LiveOperator<'a, B, L, F> {
+impl<'a, B: Ledgers + Journals, L: Publications, F: Files> Model for LiveOperator<'a, B, L, F> {
     ghost use Rattle.apd_run.specs.Hands.{RunOperator, IsRunOperator};
 
     ghost Value = { RunOperator };
 
     ghost view = { λ o. record {
       ap = o.ap.now;
+      files = F.held o.sources.files.now;
+      limit = o.sources.limit;
       token = o.token;
       hoard = o.hoard;
       pages = o.pages;
@@ -75,6 +79,8 @@ impl<'a, B: Ledgers + Journals, L: Publications, F> Model for LiveOperator<'a, B
 
     ghost invariant = { λ o. IsRunOperator B.shares L.list (record {
       ap = o.ap.now;
+      files = F.held o.sources.files.now;
+      limit = o.sources.limit;
       token = o.token;
       hoard = o.hoard;
       pages = o.pages;
@@ -88,7 +94,9 @@ impl<'a, B: Ledgers + Journals, L: Publications, F> Model for LiveOperator<'a, B
 
 impl<'a, B: Ledgers + Journals, L: Publications, F: Files> LiveOperator<'a, B, L, F> {
     fn load<R: Wait>(&mut self, rt: &R, hook: Hook, path: &str) -> Told
-        ensures same { crew_of self.new ≡ crew_of self.old }
+        ensures works { Works (crew_of self.old) (crew_of self.new) }
+        ensures does { Does (work_of self.old) (work_of self.new)
+            (Load hook path.now) (Some result) }
         ensures nothing { told_counts result ≡ none }
     {
         let limit = self.sources.limit;
@@ -99,7 +107,9 @@ impl<'a, B: Ledgers + Journals, L: Publications, F: Files> LiveOperator<'a, B, L
     }
 
     fn adopt<R: Wait>(&mut self, rt: &R, hook: Hook, path: &str, certificate: &str) -> Told
-        ensures same { crew_of self.new ≡ crew_of self.old }
+        ensures works { Works (crew_of self.old) (crew_of self.new) }
+        ensures does { Does (work_of self.old) (work_of self.new)
+            (Adopt hook path.now certificate.now) (Some result) }
         ensures nothing { told_counts result ≡ none }
     {
         let files = &mut *self.sources.files;
@@ -112,7 +122,8 @@ impl<'a, B: Ledgers + Journals, L: Publications, F: Files> LiveOperator<'a, B, L
     }
 
     fn unload<R: Wait>(&mut self, rt: &R, hook: Hook) -> Option<Told>
-        ensures same { crew_of self.new ≡ crew_of self.old }
+        ensures works { Works (crew_of self.old) (crew_of self.new) }
+        ensures does { Does (work_of self.old) (work_of self.new) (Unload hook) result }
         ensures nothing { IfSome result (λ told. told_counts told ≡ none) }
     {
         match self.loads.unload(rt, hook) {
@@ -134,7 +145,8 @@ impl<'a, B: Ledgers + Journals, L: Publications, F: Files> LiveOperator<'a, B, L
 
     /// Stores a number in a word of a shared map, if there is such a word.
     fn store(&mut self, at: MapWord, value: u64)
-        ensures same { crew_of self.new ≡ crew_of self.old }
+        ensures works { Works (crew_of self.old) (crew_of self.new) }
+        ensures does { Does (work_of self.old) (work_of self.new) (Store at value) None }
     {
         let map = at.map as usize;
         if self.ap.has_word(Scope::Shared, map, at.word) {
@@ -144,7 +156,8 @@ impl<'a, B: Ledgers + Journals, L: Publications, F: Files> LiveOperator<'a, B, L
 
     /// The number in a word of a shared map, if there is such a word.
     fn read(&mut self, at: MapWord) -> Option<Told>
-        ensures same { crew_of self.new ≡ crew_of self.old }
+        ensures works { Works (crew_of self.old) (crew_of self.new) }
+        ensures does { Does (work_of self.old) (work_of self.new) (Read at) result }
         ensures nothing { IfSome result (λ told. told_counts told ≡ none) }
     {
         let map = at.map as usize;
@@ -157,7 +170,8 @@ impl<'a, B: Ledgers + Journals, L: Publications, F: Files> LiveOperator<'a, B, L
 
     /// The sum of a word of a worker map over all workers, if there is such a word.
     fn sum(&mut self, at: MapWord) -> Option<Told>
-        ensures same { crew_of self.new ≡ crew_of self.old }
+        ensures works { Works (crew_of self.old) (crew_of self.new) }
+        ensures does { Does (work_of self.old) (work_of self.new) (Sum at) result }
         ensures nothing { IfSome result (λ told. told_counts told ≡ none) }
     {
         let map = at.map as usize;
@@ -169,7 +183,7 @@ impl<'a, B: Ledgers + Journals, L: Publications, F: Files> LiveOperator<'a, B, L
     }
 }
 
-impl<'a, B: Ledgers + Journals, L: Publications, F> LiveOperator<'a, B, L, F> {
+impl<'a, B: Ledgers + Journals, L: Publications, F: Files> LiveOperator<'a, B, L, F> {
     /// Takes over a worker's counts, which are these numbers, and gives it fresh parts of the ledgers.
     fn exchange<G: Drop>(&mut self, worker: &mut LiveWorker<'a, B, L, G>, numbers: Totals)
         requires numbers { Reads numbers (counted_by worker.old.token.shards) }
@@ -230,7 +244,9 @@ impl<'a, B: Ledgers + Journals, L: Publications, F> LiveOperator<'a, B, L, F> {
 }
 
 /// The part of an event that is still to be submitted.
-fn waiting_for(unserved: Unserved) -> Waiting {
+fn waiting_for(unserved: Unserved) -> Waiting
+    ensures is { result ≡ record { event = unserved.event; shard = unserved.shard } }
+{
     let Unserved { event, shard } = unserved;
     Waiting { event, shard }
 }
@@ -255,7 +271,7 @@ impl<'a, B: Ledgers + Journals, L: Publications, F: Files, G: Drop> Operating<
     fn go_on<R: Wait>(&mut self, rt: &R, line: u64, waiting: Waiting) -> Result<(), Waiting> {
         let Waiting { event, shard } = waiting;
         match event {
-            Event::Tick(units) if shard < 8 => {
+            Event::Tick(units) => {
                 let event = Event::Tick(units);
                 match self.ap.submit_at(rt, &mut self.token, line, event, shard) {
                     Ok(()) => return Ok(()),

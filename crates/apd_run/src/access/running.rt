@@ -2,15 +2,14 @@
 
 ghost use Rattle.std.specs.Prelude.{◌≡◌, ◌+◌, ◌<◌, ◌≤◌, [], vec_len, IfOk};
 ghost use Rattle.std.specs.List.{All};
-ghost use Rattle.ap_books.specs.Counts.{none};
 ghost use Rattle.ap_books.specs.Holdings.{HasParts, sum_of};
 ghost use Rattle.ap_live.specs.Opening.{parts_in_all};
 ghost use Rattle.ap_live.specs.Tokens.{IsWorker};
 ghost use Rattle.ap_shards.specs.Opening.{AreNamed};
 ghost use Rattle.ap_shards.specs.Pages.{HasPages};
-ghost use Rattle.apd_run.specs.Dealing.{AreHands, IsNewOperator, IsNewWorker};
-ghost use Rattle.apd_run.specs.Hands.{crew_of};
-ghost use Rattle.apd_run.specs.Shows.{Runs};
+ghost use Rattle.apd_run.specs.Dealing.{AreHands, IsFor, IsNewOperator, IsNewWorker};
+ghost use Rattle.apd_run.specs.Hands.{IsNewCrew, crew_of};
+ghost use Rattle.apd_run.specs.NewRuns.{RunsNew};
 
 use crate::access::budgets::Budgets;
 use crate::access::hands::{Hands, deal};
@@ -62,7 +61,8 @@ struct Equipment<B: Ledgers + Journals> {
 
 /// The end of a run for which an allocation failed before it began.
 fn without_memory<P: Console>(writer: P) -> (P, u8)
-    ensures runs { Runs (P.strict writer) (P.contents writer) (P.contents result.0) none result.1 }
+    ensures same { P.contents result.0 ≡ P.contents writer }
+    ensures status { result.1 ≡ 3 }
 {
     (writer, NO_MEMORY)
 }
@@ -111,6 +111,7 @@ fn new_operator<'a, B, L, F>(
 where
     B: Ledgers + Journals,
     L: Publications,
+    F: Files,
     requires new { IsNewOperator ap.now token }
     requires kept { HasParts kept.1 kept.0.0 }
     requires pages { HasPages kept.1 kept.0.1 }
@@ -120,8 +121,9 @@ where
     requires shares { B.shares ≡ parts_in_all }
     requires list { loads.old.list ≡ L.list }
     requires no_loads { loads.old.loads ≡ [] }
-    ensures workers { (crew_of result).workers ≡ workers }
-    ensures counted { (crew_of result).counted ≡ sum_of kept.0.0 }
+    requires opened { IsFor workers loads.old.shapes ap.now }
+    ensures new { IsNewCrew (F.held sources.entry.files.now) sources.entry.limit
+        workers loads.old.shapes (crew_of result) }
 {
     let ((hoard, pages), parts) = kept;
     LiveOperator {
@@ -164,7 +166,11 @@ where
     requires list { ap.now.list.list ≡ L.list }
     requires loads { equipment.loads.list ≡ L.list }
     requires no_loads { equipment.loads.loads ≡ [] }
-    ensures runs { Runs (P.strict writer) (P.contents writer) (P.contents result.0) none result.1 }
+    requires opened { IsFor (vec_len equipment.hands.workers) equipment.loads.shapes ap.now }
+    ensures runs { RunsNew (P.manner writer) (S.script lines)
+        (F.held supplies.entry.files.now) supplies.entry.limit
+        (vec_len equipment.hands.workers) equipment.loads.shapes
+        (P.contents writer) (P.contents result.0) result.1 }
 {
     let Supplies { files, limit, gate } = supplies;
     let Equipment { hands, loads } = equipment;
@@ -225,7 +231,10 @@ where
     requires named { AreNamed B.name_of B.shares B.journal_of opening.new }
     requires config { opening.settings.link ≡ B.config }
     requires shares { B.shares ≡ parts_in_all }
-    ensures runs { Runs (P.strict writer) (P.contents writer) (P.contents result.0) none result.1 }
+    ensures runs { RunsNew (P.manner writer) (S.script lines)
+        (F.held supplies.entry.files.now) supplies.entry.limit
+        opening.settings.workers opening.settings.shapes
+        (P.contents writer) (P.contents result.0) result.1 }
 {
     let Opening {
         settings,

@@ -1,8 +1,7 @@
 //! The commands `apd run` and `apd live`.
 
-ghost use Rattle.std.specs.Prelude.{◌≤◌};
-ghost use Rattle.apd_run.specs.Counts.{none};
-ghost use Rattle.apd_run.specs.Shows.{Runs};
+ghost use Rattle.std.specs.Prelude.{◌≡◌, ◌≤◌, IfOk};
+ghost use Rattle.apd_run.specs.NewRuns.{IsConfigured, RunsInput, RunsNew, RunsScript, workers_for};
 
 use crate::access::{NewShards, Opening, Supplies, run_live};
 use crate::console::{Console, Notes, Terminal};
@@ -88,7 +87,9 @@ where
     P: Console + Drop,
     requires some { 1 ≤ workers }
     requires few { workers ≤ 8 }
-    ensures runs { Runs (P.strict writer) (P.contents writer) (P.contents result.0) none result.1 }
+    ensures runs { RunsNew (P.manner writer) (L.script task.lines)
+        (F.held supplies.entry.files.now) supplies.entry.limit workers task.configuration.maps
+        (P.contents writer) (P.contents result.0) result.1 }
 {
     let Task {
         configuration,
@@ -122,8 +123,10 @@ where
     L: Lines + Drop,
     P: Write + Drop,
     E: Write,
-    ensures runs { Runs words.entry.strict
-        (P.contents out) (P.contents result.out) none result.status }
+    ensures runs { RunsNew words.entry.manner (L.script task.lines)
+        (F.held supplies.entry.files.now) supplies.entry.limit
+        (workers_for words.entry.workers) task.configuration.maps
+        (P.contents out) (P.contents result.out) result.status }
 {
     let RunWords {
         script,
@@ -176,7 +179,10 @@ where
     G: Watcher + Copy + Send,
     P: Write + Drop,
     E: Write,
-    ensures runs { Runs words.entry.strict (P.contents out) (P.contents result.0) none result.1 }
+    ensures runs { RunsScript words.entry.manner
+        (F.held supplies.entry.files.now) supplies.entry.limit words.entry.workers
+        words.entry.config.now words.entry.script.now
+        (P.contents out) (P.contents result.0) result.1 }
 {
     let Supplies { files, limit, gate } = supplies;
     let configuration = match configuration(alloc, words.config, files) {
@@ -237,8 +243,10 @@ where
     I: Read + Drop,
     P: Write + Drop,
     E: Write,
-    ensures runs { Runs words.entry.strict
-        (P.contents streams.out) (P.contents result.0) none result.1 }
+    ensures runs { RunsInput words.entry.manner
+        (F.held supplies.entry.files.now) supplies.entry.limit words.entry.workers
+        words.entry.config.now
+        (P.contents streams.out) (P.contents result.0) result.1 }
 {
     let Streams { input, out } = streams;
     let Supplies { files, limit, gate } = supplies;
@@ -273,7 +281,10 @@ fn live_configuration<F: Files, E: Write>(
     path: &str,
     files: &mut F,
     err: &mut E,
-) -> Result<Configuration, RunFault> {
+) -> Result<Configuration, RunFault>
+    ensures configured { IfOk result (IsConfigured (F.held files.old) path.now) }
+    ensures same { F.held files.new ≡ F.held files.old }
+{
     if let Err(why) = files.open(INPUT) {
         return Err(unreadable(alloc, INPUT, why));
     }

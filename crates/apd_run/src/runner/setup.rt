@@ -1,6 +1,8 @@
 //! The settings of an access point, from a configuration.
 
-ghost use Rattle.std.specs.Prelude.{◌≡◌, ◌<◌, ◌≤◌};
+ghost use Rattle.std.specs.Prelude.{◌≡◌, ◌<◌, ◌≤◌, IfOk};
+ghost use Rattle.apd_files.specs.Held.{Holds};
+ghost use Rattle.apd_run.specs.NewRuns.{IsConfigured};
 
 use crate::access::Settings;
 use crate::runner::fault::{RunFault, of_configuration, unreadable};
@@ -15,7 +17,10 @@ pub(crate) fn read<F: Files>(
     path: &str,
     kind: FileKind,
     files: &mut F,
-) -> Result<Vec<u8>, RunFault> {
+) -> Result<Vec<u8>, RunFault>
+    ensures held { IfOk result (λ bytes. Holds (F.held files.old) path.now bytes.items) }
+    ensures same { F.held files.new ≡ F.held files.old }
+{
     match read_whole(alloc, path, kind, files) {
         Ok(bytes) => Ok(bytes),
         Err(why) => Err(unreadable(alloc, path, why)),
@@ -26,7 +31,10 @@ pub(crate) fn configuration<F: Files>(
     alloc: Global,
     path: &str,
     files: &mut F,
-) -> Result<Configuration, RunFault> {
+) -> Result<Configuration, RunFault>
+    ensures configured { IfOk result (IsConfigured (F.held files.old) path.now) }
+    ensures same { F.held files.new ≡ F.held files.old }
+{
     let text = read(alloc, path, FileKind::Configuration, files)?;
     match read_configuration(alloc, text.as_slice()) {
         Ok(configuration) => Ok(configuration),

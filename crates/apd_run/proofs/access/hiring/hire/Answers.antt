@@ -1,6 +1,7 @@
 use Rattle.std.proofs.Common.{◌∙◌, arith}
 use Rattle.ap_live.specs.Tokens.{IsWorker}
 use Rattle.apd_run.specs.Dealing.{IsNewWorker}
+use Rattle.apd_run.proofs.Living.{keeps_further}
 use Rattle.apd_run.proofs.OneByOne.{all_and_one}
 use Rattle.apd_run.proofs.Sums.{given_none}
 use Rattle.apd_run.proofs.access.hiring.hire.Goals as goal
@@ -24,5 +25,5 @@ loop-number-preserved g c =
       many = omega (arith, c.in_ok-push.ensures.len, c.loop-number.invariant.many);
       parts = omega (arith, c.in_ok-push.ensures.len, given.parts, c.loop-number.invariant.parts);
       counted = given_none stock c.worker.new.left.shards given.shards ∙ c.loop-number.invariant.counted;
-      list = c.worker.ensures.keeps.list ∙ c.loop-number.invariant.list;
+      keeps = keeps_further _ _ _ c.loop-number.invariant.keeps c.worker.ensures.keeps;
     }

@@ -1,6 +1,7 @@
 use Rattle.std.proofs.Common.{◌≡◌, ◌+◌, vec_len}
 use Rattle.std.specs.List.{All}
 use Rattle.ap_live.specs.Counting.{counted_by}
+use Rattle.ap_live.specs.Lives.{KeepsLive}
 use Rattle.ap_live.specs.Tokens.{AreLeft, IsWorker}
 use Rattle.apd_run.specs.Dealing.{IsNewWorker}
 use Rattle.apd_run.proofs.access.hiring.hire.Given as goal
@@ -15,5 +16,5 @@ invariant-loop-number g l =
       many : vec_len l.tokens ≡ l.number;
       parts : l.left.parts + vec_len l.tokens ≡ l.initial.left.parts;
       counted : counted_by l.left.shards ≡ counted_by l.initial.left.shards;
-      list : l.ap.list ≡ l.initial.ap.list;
+      keeps : KeepsLive l.initial.ap l.ap;
     }

@@ -2,9 +2,10 @@ use Rattle.std.proofs.Common.{◌≡◌, ap, sym, subst, ◌∙◌}
 use Rattle.ap_books.specs.Holdings.{HasParts, sum_of}
 use Rattle.ap_books.specs.Reading.{Reads}
 use Rattle.ap_live.specs.Counting.{counted_by}
-use Rattle.apd_run.specs.Crews.{Crew, gains}
-use Rattle.apd_run.specs.Hands.{RunOperator, RunWorker, crew_of}
+use Rattle.apd_run.specs.Crews.{gains}
+use Rattle.apd_run.specs.Hands.{RunWorker, crew_of}
 use Rattle.apd_run.proofs.Keeping.{other_parts}
+use Rattle.apd_run.proofs.Operated.{gained_crew}
 use Rattle.apd_run.proofs.Sums.{exchanged_parts, exchanged_sum, fresh, more_than_one}
 use Rattle.apd_run.proofs.access.operator.LiveOperator.exchange.Goals as goal
 
@@ -47,7 +48,5 @@ returns-clause-crew g c =
     let hoard = c.self.inside.hoard in
     let shards = c.worker.inside.token.shards in
     let counted = exchanged_sum hoard c.split_off-fresh.new.self c.renew-counted.result c.merge.new.self (counted_by shards) c.split_off-fresh.ensures.counts c.merge.ensures (ap sum_of c.renew-counted.ensures.given) in
-    let before : Crew = record { workers = c.self.inside.workers; counted = sum_of hoard } in
-    let after : Crew = record { workers = c.self.inside.workers; counted = sum_of c.merge.new.self } in
-    let crew : after ≡ gains before (counted_by shards) = λ i. record { workers = c.self.inside.workers; counted = counted i } in
-    crew ∙ (ap (λ (o : RunOperator). gains (crew_of o) (counted_by shards)) c.self.view_is ∙ ap (λ (w : RunWorker). gains (crew_of c.args.self.now) (counted_by w.token.shards)) c.worker.view_is)
+    gained_crew _ _ c.merge.new.self (counted_by shards) c.self.view_is counted
+    ∙ ap (λ (w : RunWorker). gains (crew_of c.args.self.now) (counted_by w.token.shards)) c.worker.view_is
