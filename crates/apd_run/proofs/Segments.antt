@@ -48,12 +48,12 @@ begun_within commands given end start own rest malformed is within first none =
     let before : List (ℕ × Asked) = commands_of (take start commands) in
     let after : List (ℕ × Asked) = commands_of (drop end commands) in
     let parts : commands_of given ≡ before ++ (own ++ rest) =
-        ap commands_of (sym (take-append-drop start given)) ∙ (two (take start given) (drop start given)
-        ∙ ((λ i. commands_of (first_of commands given end start is within i) ++ first i))) in
+    ap commands_of (sym (take-append-drop start given)) ∙ (two (take start given) (drop start given)
+    ∙ ((λ i. commands_of (first_of commands given end start is within i) ++ first i))) in
     let whole : commands_of commands ≡ commands_of given ++ after =
-        ap commands_of (sym (take-append-drop end commands)) ∙ (two (take end commands) (drop end commands) ∙ ap (λ (l : List Numbered). commands_of l ++ after) (sym is)) in
+    ap commands_of (sym (take-append-drop end commands)) ∙ (two (take end commands) (drop end commands) ∙ ap (λ (l : List Numbered). commands_of l ++ after) (sym is)) in
     let all : commands_of commands ≡ (before ++ own) ++ (rest ++ after) =
-        whole ∙ (ap (λ (l : List (ℕ × Asked)). l ++ after) (parts ∙ sym (append_assoc before own rest)) ∙ append_assoc (before ++ own) rest after) in
+    whole ∙ (ap (λ (l : List (ℕ × Asked)). l ++ after) (parts ∙ sym (append_assoc before own rest)) ∙ append_assoc (before ++ own) rest after) in
     (rest ++ after, all, none)
 
 -- all lines

@@ -62,7 +62,7 @@ fn publish<W: Serving + Drop, O: Operating<W>, R: Wait>(
     ensures works { Works (O.crew operator.old) (O.crew operator.new) }
     ensures follows { OnOk result (Lists
         (Follows line (for_publication publication.entry)
-            (O.crew operator.old).work (O.crew operator.new).work)
+        (O.crew operator.old).work (O.crew operator.new).work)
         told.old.items told.new.items) }
     ensures told { OnOk result (Tells told.old.items told.new.items) }
 {
@@ -158,7 +158,7 @@ fn follow<W: Serving + Drop, O: Operating<W>, R: Wait>(
     ensures works { Works (O.crew operator.old) (O.crew operator.new) }
     ensures follows { OnOk result (Lists
         (Follows numbered.now.line (asked_of numbered.now.command)
-            (O.crew operator.old).work (O.crew operator.new).work)
+        (O.crew operator.old).work (O.crew operator.new).work)
         told.old.items told.new.items) }
     ensures told { OnOk result (Tells told.old.items told.new.items) }
     ensures waits { IfOk result (λ waits. waits ≡ is_wait numbered.now.command) }
@@ -198,7 +198,7 @@ pub(crate) fn feed<W: Serving + Drop, O: Operating<W>, R: Wait>(
     ensures works { Works (O.crew operator.old) (O.crew operator.new) }
     ensures follows { IfOk result (λ next. Lists
         (FollowsAll (O.crew operator.old).work
-            (commands_of (slice_range commands.now start next)) (O.crew operator.new).work)
+        (commands_of (slice_range commands.now start next)) (O.crew operator.new).work)
         told.old.items told.new.items) }
     ensures told { OnOk result (Tells told.old.items told.new.items) }
     ensures on { IfOk result (λ next. start < next) }

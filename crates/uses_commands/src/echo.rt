@@ -1,7 +1,8 @@
 //! An access point that reports each tick as refused, or, if it has no units, as not handled. It does what
 //! `run_script` requires of one.
 
-ghost use Rattle.std.specs.Prelude.{◌≡◌};
+ghost use Rattle.std.specs.Prelude.{◌≡◌, IfErr};
+ghost use Rattle.ap_queues.specs.Putting.{IsTick};
 ghost use Rattle.ap_books.specs.Counts.{none};
 ghost use Rattle.ap_live.specs.Counting.{fate_counts};
 ghost use Rattle.apd_run.specs.Tallies.{Serves};
@@ -108,8 +109,16 @@ fn put<R: Wait>(rt: &R, places: &[Place], tick: Tick) -> bool {
     true
 }
 
-/// Puts a tick; drops any other event.
-fn put_event<R: Wait>(rt: &R, places: &[Place], line: u64, event: Event) -> Result<(), Waiting> {
+/// Puts a tick, or returns it for this shard; drops any other event.
+fn put_event<R: Wait>(
+    rt: &R,
+    places: &[Place],
+    line: u64,
+    event: Event,
+    shard: u16,
+) -> Result<(), Waiting>
+    ensures waits { IfErr result (λ w. IsTick event × (w ≡ record { event = event; shard = shard })) }
+{
     match event {
         Event::Tick(units) => {
             if put(rt, places, Tick { line, units }) {
@@ -117,7 +126,7 @@ fn put_event<R: Wait>(rt: &R, places: &[Place], line: u64, event: Event) -> Resu
             }
             return Err(Waiting {
                 event: Event::Tick(units),
-                shard: 0,
+                shard,
             });
         }
         _ => return Ok(()),
@@ -126,18 +135,19 @@ fn put_event<R: Wait>(rt: &R, places: &[Place], line: u64, event: Event) -> Resu
 
 impl Operating<Echo> for Places {
     ghost use Rattle.ap_books.specs.Counts.{none};
+    ghost use Rattle.apd_run.specs.Work.{no_work};
 
-    ghost crew = { λ o. record { workers = o.workers; counted = none } };
+    ghost crew = { λ o. record { workers = o.workers; counted = none; work = no_work } };
 
     ghost taken = { λ _. none };
 
     fn submit<R: Wait>(&mut self, rt: &R, line: u64, event: Event) -> Result<(), Waiting> {
-        put_event(rt, self.places.as_slice(), line, event)
+        put_event(rt, self.places.as_slice(), line, event, 0)
     }
 
     fn go_on<R: Wait>(&mut self, rt: &R, line: u64, waiting: Waiting) -> Result<(), Waiting> {
-        let Waiting { event, shard: _ } = waiting;
-        put_event(rt, self.places.as_slice(), line, event)
+        let Waiting { event, shard } = waiting;
+        put_event(rt, self.places.as_slice(), line, event, shard)
     }
 
     fn publish<R: Wait>(&mut self, _rt: &R, publication: Publication<'_>) -> Option<Told> {
@@ -145,7 +155,7 @@ impl Operating<Echo> for Places {
             Publication::Load { .. } => return Some(Told::Unreadable(Unread::Code(
                 CodeFault::Unreadable(FileFault::Missing),
             ))),
-            Publication::Adopt { .. } => return None,
+            Publication::Adopt { .. } => return Some(Told::Memory),
             Publication::Unload(_) => return Some(Told::Memory),
         }
     }
