@@ -1,13 +1,16 @@
 -- Consecutive segments of a script's lines.
-use Rattle.std.proofs.Common.{◌≡◌, ◌+◌, ◌-◌, ◌≤◌, ◌<◌, ℕ, List, [], ◌∷◌, ◌++◌, Option, Some, Bool, true, false, length, take, drop, refl, sym, ap, subst, ◌∙◌, arith, append_assoc, append-nil}
+use Rattle.std.proofs.Common.{◌≡◌, ◌+◌, ◌-◌, ◌≤◌, ◌<◌, ℕ, List, [], ◌∷◌, ◌++◌, Option, Some, Bool, true, false, ◌||◌, length, take, drop, refl, sym, ap, subst, ◌∙◌, arith, append_assoc, append-nil}
 use Rattle.std.specs.List.{slice_range}
-use Rattle.std.proofs.lemmas.List.{map-append, take-append-drop, take-append-le}
+use Rattle.std.proofs.lemmas.List.{map-append, take-append-drop, take-append-le, take_all}
 use Rattle.std.proofs.lemmas.List.Folds.{drop_split}
 use Rattle.std.proofs.lemmas.Slice.{between_from_start}
 use Rattle.std.proofs.Math.Seq.{take-add}
 use Rattle.apd_script.specs.Asked.{Asked, commands_of, numbered_of}
 use Rattle.apd_script.specs.declared.command.Numbered.{Numbered}
+use Rattle.apd_run.specs.Crews.{Crew}
 use Rattle.apd_run.specs.Done.{AreBegun, AreDone}
+use Rattle.apd_run.specs.Shows.{Shows, ShowsOne, Then, is_over}
+use Rattle.apd_run.specs.declared.manner.Manner.{Manner}
 
 two : (xs ys : List Numbered) → commands_of (xs ++ ys) ≡ commands_of xs ++ commands_of ys
 two xs ys = map-append numbered_of xs ys
@@ -65,3 +68,25 @@ whole_segment commands next none =
 -- a segment, and the lines after it
 pub segment_first : (commands : List Numbered) (start next : ℕ) → start ≤ next → commands_of (drop start commands) ≡ commands_of (slice_range commands start next) ++ commands_of (drop next commands)
 segment_first commands start next le = ap commands_of (drop_split commands start next le) ∙ two (slice_range commands start next) (drop next commands)
+
+-- a run that is over
+pub done_over : (commands : List Numbered) (at : ℕ) (over : Bool) → over ≡ true → AreDone (Some (commands_of commands)) over (commands_of (take at commands)) []
+done_over commands at over is = subst (λ (b : Bool). AreDone (Some (commands_of commands)) b (commands_of (take at commands)) []) (sym is) (begun_at commands at)
+
+-- all lines were taken
+pub done_taken : (commands : List Numbered) (at : ℕ) (over : Bool) → length commands ≤ at → AreDone (Some (commands_of commands)) over (commands_of (take at commands)) []
+done_taken commands at over all = done_all commands (commands_of (take at commands)) over (ap commands_of (take_all commands at all))
+
+-- one more interval, of no malformed lines
+pub shows_then : (manner : Manner) (old mid new : Option (List ℕ)) (crew before after : Crew) (lines own lines2 : List (ℕ × Asked)) (malformed : List ℕ) (memory more refused again : Bool)
+    → lines2 ≡ lines ++ own → malformed ≡ [] → Shows manner old crew lines [] mid before memory refused → is_over manner.strict refused ≡ false
+    → ShowsOne manner own malformed mid new before after more again → Shows manner old crew lines2 [] new after (memory || more) (refused || again)
+shows_then manner old mid new crew before after lines own lines2 malformed memory more refused again is none shown goes_on one =
+    subst (λ (l : List (ℕ × Asked)). Shows manner old crew l [] new after (memory || more) (refused || again)) (sym is)
+    (subst (λ (m : List ℕ). Shows manner old crew (lines ++ own) m new after (memory || more) (refused || again)) none
+    (Then lines own [] malformed mid new before after memory more refused again shown goes_on one))
+
+-- the same interval, of lines that are the same
+pub shows_same : (manner : Manner) (lines lines2 : List (ℕ × Asked)) (malformed : List ℕ) (old new : Option (List ℕ)) (before after : Crew) (memory refused : Bool) → lines ≡ lines2
+    → ShowsOne manner lines malformed old new before after memory refused → ShowsOne manner lines2 malformed old new before after memory refused
+shows_same manner lines lines2 malformed old new before after memory refused is shown = subst (λ (l : List (ℕ × Asked)). ShowsOne manner l malformed old new before after memory refused) is shown

@@ -1,10 +1,11 @@
-use Rattle.std.proofs.Common.{refl, sym, ◌∙◌}
-use Rattle.apd_run.specs.Shows.{Nothing, Then, InInterval}
+use Rattle.std.proofs.Common.{refl, sym, ◌∙◌, arith}
+use Rattle.apd_run.specs.Shows.{Nothing, InInterval}
+use Rattle.apd_run.proofs.Segments.{begun_within, done_all, done_over, shows_then, taken_within}
 use Rattle.apd_run.proofs.interval.intervals.Goals as goal
 
 pub intervals-init : goal.intervals-init
 intervals-init g c =
-    record { home = c.requires.home; workers = refl; shown = rw c.nothing-found.ensures.memory (rw c.nothing-found.ensures.refused Nothing) }
+    record { home = c.requires.home; workers = refl; within = omega arith; shown = rw c.nothing-found.ensures.memory (rw c.nothing-found.ensures.refused Nothing) }
 
 pub intervals-preserved : goal.intervals-preserved
 intervals-preserved g c =
@@ -12,8 +13,9 @@ intervals-preserved g c =
     record {
       home = c.in-Ok.ensures.home;
       workers = c.in-Ok.ensures.workers ∙ c.intervals.invariant.workers;
-      shown = rw c.and-found.ensures.memory (rw c.and-found.ensures.refused (Then _ _ _ _ _ _ _ _ c.intervals.invariant.shown goes_on c.in-Ok.ensures.shows));
+      within = ?;
+      shown = rw c.and-found.ensures.memory (rw c.and-found.ensures.refused ?);
     }
 
 pub returns-in-Err-clause-breaks : goal.returns-in-Err-clause-breaks
-returns-in-Err-clause-breaks g c = InInterval _ _ _ _ c.intervals.invariant.shown (sym c.is_over.ensures.is ∙ c.if-is_over.false) c.in-Err.ensures.breaks
+returns-in-Err-clause-breaks g c = ?
