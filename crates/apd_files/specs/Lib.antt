@@ -1,6 +1,5 @@
 pub mod Kinds
 pub mod Held
-pub mod Paths
 pub mod Reading
 pub mod Faults
 pub mod Beginning

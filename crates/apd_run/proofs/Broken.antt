@@ -16,6 +16,6 @@ begun_none None = tt
 begun_none (Some lines) = (lines, refl, refl)
 
 -- before their first interval
-pub breaks_at_once : (manner : Manner) (script : Option (List (ℕ × Asked))) (old : Option (List ℕ)) (crew : Crew) → Breaks manner script old old crew
-breaks_at_once manner script old crew =
-    InInterval [] [] [] [] old crew false false Nothing (goes_on manner.strict) (Before refl) (begun_none script)
+pub breaks_at_once : (strict : Bool) (script : Option (List (ℕ × Asked))) (old : Option (List ℕ)) (crew : Crew) → Breaks strict script old old crew
+breaks_at_once strict script old crew =
+    InInterval [] [] [] [] old crew false false Nothing (goes_on strict) (Before refl) (begun_none script)

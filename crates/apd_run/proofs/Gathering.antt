@@ -1,12 +1,12 @@
 -- The reports of an interval, together.
-use Rattle.std.proofs.Common.{◌≡◌, ℕ, List, [], ◌∷◌, ◌++◌, map, true, refl, sym, ap, subst, ◌∙◌, append_assoc, append-nil}
+use Rattle.std.proofs.Common.{◌≡◌, ℕ, List, [], ◌∷◌, ◌++◌, map, refl, sym, ap, subst, ◌∙◌, append_assoc, append-nil}
 use Rattle.std.proofs.lemmas.List.{map-append}
 use Rattle.ap_books.specs.Counts.{Counts, none, plus}
 use Rattle.apd_script.specs.Asked.{Asked}
 use Rattle.apd_text.specs.declared.reports.report.Report.{Report}
 use Rattle.apd_run.specs.Crews.{Collects, Crew, Works, gains, with_work}
 use Rattle.apd_run.specs.Following.{FollowsAll, Lists, NoLine}
-use Rattle.apd_run.specs.Shows.{AnswerMalformed, Gathered, is_malformed}
+use Rattle.apd_run.specs.Shows.{AnswerMalformed, Gathered, malformed_at, malformed_by}
 use Rattle.apd_run.specs.Tallies.{tallied}
 use Rattle.apd_run.specs.Tells.{Tells}
 use Rattle.apd_run.specs.Telling.{reports_in}
@@ -62,7 +62,5 @@ answers_more ms ns ls xs ys zs all h k =
     record {
       reports = h.reports ++ k.reports;
       listed = k.listed ∙ (ap (λ (l : List Report). l ++ k.reports) h.listed ∙ append_assoc xs h.reports k.reports);
-      kind = map-append (λ (r : Report). (r.line, is_malformed r.told)) h.reports k.reports
-          ∙ (λ i. h.kind i ++ k.kind i)
-          ∙ (sym (map-append (λ (line : ℕ). (line, true)) ms ns) ∙ ap (λ (l : List ℕ). map (λ (line : ℕ). (line, true)) l) (sym all));
+      kind = map-append malformed_by h.reports k.reports ∙ ((λ i. h.kind i ++ k.kind i) ∙ (sym (map-append malformed_at ms ns) ∙ ap (λ (l : List ℕ). map malformed_at l) (sym all)));
     }

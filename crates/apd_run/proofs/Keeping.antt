@@ -14,9 +14,9 @@ use Rattle.apd_run.specs.Hands.{RunOperator, IsRunOperator, RunWorker, IsRunWork
 use Rattle.apd_run.proofs.Sums.{keeps_parts}
 
 -- an operator whose token has the same parts of the ledgers
-pub other_token : (shares : ℕ) (list : Book) (o : RunOperator) (t : Operator) → IsOperator o.ap t → t.shards ≡ o.token.shards → IsRunOperator shares list o
-    → IsRunOperator shares list (record o { token = t })
-other_token shares list o t own same h =
+pub other_token : (shares : ℕ) (list : Book) (held files : Held) (o : RunOperator) (t : Operator) → IsOperator o.ap t → t.shards ≡ o.token.shards → IsRunOperator shares list held files o
+    → IsRunOperator shares list held files (record o { token = t })
+other_token shares list held files o t own same h =
     record {
       own = own;
       mine = subst (λ (e : Eight). HasParts 1 (holding_of e)) (sym same) h.mine;
@@ -27,14 +27,15 @@ other_token shares list o t own same h =
       shares_are = h.shares_are;
       some = h.some;
       list_is = h.list_is;
+      files_are = h.files_are;
       reads = h.reads;
       in_force = h.in_force;
     }
 
 -- an operator whose loads are of the same list, with the budgets of their programs
-pub other_loads : (shares : ℕ) (list : Book) (o : RunOperator) (files : Held) (b : Beginning) (budgets : Budgets) → b.list ≡ o.loads.list → AreBudgets budgets (set_of b.loads)
-    → IsRunOperator shares list o → IsRunOperator shares list (record o { files = files; loads = b; budgets = budgets })
-other_loads shares list o files b budgets same in_force h =
+pub other_loads : (shares : ℕ) (list : Book) (held files more : Held) (o : RunOperator) (b : Beginning) (budgets : Budgets) → b.list ≡ o.loads.list → more ≡ files → AreBudgets budgets (set_of b.loads)
+    → IsRunOperator shares list held files o → IsRunOperator shares list held more (record o { loads = b; budgets = budgets })
+other_loads shares list held files more o b budgets same same_files in_force h =
     record {
       own = h.own;
       mine = h.mine;
@@ -45,6 +46,7 @@ other_loads shares list o files b budgets same in_force h =
       shares_are = h.shares_are;
       some = h.some;
       list_is = same ∙ h.list_is;
+      files_are = same_files ∙ h.files_are;
       reads = h.reads;
       in_force = in_force;
     }

@@ -10,7 +10,6 @@ use Rattle.apd_script.specs.declared.command.Numbered.{Numbered}
 use Rattle.apd_run.specs.Crews.{Crew}
 use Rattle.apd_run.specs.Done.{AreBegun, AreDone}
 use Rattle.apd_run.specs.Shows.{Shows, ShowsOne, Then, is_over}
-use Rattle.apd_run.specs.declared.manner.Manner.{Manner}
 
 two : (xs ys : List Numbered) → commands_of (xs ++ ys) ≡ commands_of xs ++ commands_of ys
 two xs ys = map-append numbered_of xs ys
@@ -78,15 +77,15 @@ pub done_taken : (commands : List Numbered) (at : ℕ) (over : Bool) → length 
 done_taken commands at over all = done_all commands (commands_of (take at commands)) over (ap commands_of (take_all commands at all))
 
 -- one more interval, of no malformed lines
-pub shows_then : (manner : Manner) (old mid new : Option (List ℕ)) (crew before after : Crew) (lines own lines2 : List (ℕ × Asked)) (malformed : List ℕ) (memory more refused again : Bool)
-    → lines2 ≡ lines ++ own → malformed ≡ [] → Shows manner old crew lines [] mid before memory refused → is_over manner.strict refused ≡ false
-    → ShowsOne manner own malformed mid new before after more again → Shows manner old crew lines2 [] new after (memory || more) (refused || again)
-shows_then manner old mid new crew before after lines own lines2 malformed memory more refused again is none shown goes_on one =
-    subst (λ (l : List (ℕ × Asked)). Shows manner old crew l [] new after (memory || more) (refused || again)) (sym is)
-    (subst (λ (m : List ℕ). Shows manner old crew (lines ++ own) m new after (memory || more) (refused || again)) none
+pub shows_then : (strict : Bool) (old mid new : Option (List ℕ)) (crew before after : Crew) (lines own lines2 : List (ℕ × Asked)) (malformed : List ℕ) (memory more refused again : Bool)
+    → lines2 ≡ lines ++ own → malformed ≡ [] → Shows strict old crew lines [] mid before memory refused → is_over strict refused ≡ false
+    → ShowsOne strict own malformed mid new before after more again → Shows strict old crew lines2 [] new after (memory || more) (refused || again)
+shows_then strict old mid new crew before after lines own lines2 malformed memory more refused again is none shown goes_on one =
+    subst (λ (l : List (ℕ × Asked)). Shows strict old crew l [] new after (memory || more) (refused || again)) (sym is)
+    (subst (λ (m : List ℕ). Shows strict old crew (lines ++ own) m new after (memory || more) (refused || again)) none
     (Then lines own [] malformed mid new before after memory more refused again shown goes_on one))
 
 -- the same interval, of lines that are the same
-pub shows_same : (manner : Manner) (lines lines2 : List (ℕ × Asked)) (malformed : List ℕ) (old new : Option (List ℕ)) (before after : Crew) (memory refused : Bool) → lines ≡ lines2
-    → ShowsOne manner lines malformed old new before after memory refused → ShowsOne manner lines2 malformed old new before after memory refused
-shows_same manner lines lines2 malformed old new before after memory refused is shown = subst (λ (l : List (ℕ × Asked)). ShowsOne manner l malformed old new before after memory refused) is shown
+pub shows_same : (strict : Bool) (lines lines2 : List (ℕ × Asked)) (malformed : List ℕ) (old new : Option (List ℕ)) (before after : Crew) (memory refused : Bool) → lines ≡ lines2
+    → ShowsOne strict lines malformed old new before after memory refused → ShowsOne strict lines2 malformed old new before after memory refused
+shows_same strict lines lines2 malformed old new before after memory refused is shown = subst (λ (l : List (ℕ × Asked)). ShowsOne strict l malformed old new before after memory refused) is shown

@@ -11,7 +11,6 @@ use Rattle.ap_model.specs.declared.event.Event.{Event}
 use Rattle.ap_model.specs.declared.event.Event.TheVariants as event
 use Rattle.ap_tables.specs.Accesses as words
 use Rattle.ap_tables.specs.Stocks.{Names}
-use Rattle.apd_files.specs.Paths.{path_of}
 use Rattle.apd_script.specs.Asked.{Asked, Frame, Tick, Kick, Close, Load, Unload, Adopt, Store, Read, Sum, Wait}
 use Rattle.apd_script.specs.declared.command.MapWord.{MapWord}
 use Rattle.apd_text.specs.declared.reports.report.Report.{Report}
@@ -25,6 +24,7 @@ use Rattle.apd_run.specs.declared.actions.WordUse.{WordUse}
 use Rattle.apd_run.specs.declared.actions.WordUse.TheVariants as used
 use Rattle.apd_run.specs.Adopting.{AdoptsFiles}
 use Rattle.apd_run.specs.Loading.{LoadsFile}
+use Rattle.apd_run.specs.Paths.{path_of}
 use Rattle.apd_run.specs.Submitting.{put_event}
 use Rattle.apd_run.specs.Telling.{report_if}
 use Rattle.apd_run.specs.Work.{Work, with_loads, with_seats}

@@ -33,12 +33,10 @@ pub record IsRunWorker (list : Book) (w : RunWorker) : Type 0 where
   pub list_is : w.ap.list.list ≡ list
   pub parts : HasParts 1 (holding_of w.token.shards)
 
--- An operator's access point and token, what is known of the files of programs, the most states that the verifier
--- examines, the parts of the ledgers and the pages that the operator keeps and how many of each they are, what these have
+-- An operator's access point and token, the most states that the verifier examines, the parts of the ledgers and the pages that the operator keeps and how many of each they are, what these have
 -- counted, how many workers have one, what was published, and the budgets of the programs in force.
 pub record RunOperator : Type 0 where
   pub ap : Live
-  pub files : Held
   pub limit : ℕ
   pub token : Operator
   pub hoard : Holding
@@ -50,8 +48,8 @@ pub record RunOperator : Type 0 where
   pub budgets : Budgets
 
 -- Its token belongs to the access point, whose published loads are this list, and has one part of each ledger, which
--- has counted nothing. The operator keeps, or the workers have, all other parts.
-pub record IsRunOperator (shares : ℕ) (list : Book) (o : RunOperator) : Type 0 where
+-- has counted nothing. The operator keeps, or the workers have, all other parts. Of its files this is known.
+pub record IsRunOperator (shares : ℕ) (list : Book) (held files : Held) (o : RunOperator) : Type 0 where
   pub own : IsOperator o.ap o.token
   pub mine : HasParts 1 (holding_of o.token.shards)
   pub nothing : counted_by o.token.shards ≡ none
@@ -61,16 +59,17 @@ pub record IsRunOperator (shares : ℕ) (list : Book) (o : RunOperator) : Type 0
   pub shares_are : shares ≡ parts_in_all
   pub some : 1 < o.parts
   pub list_is : o.loads.list ≡ list
+  pub files_are : files ≡ held
   pub reads : Reads o.totals (sum_of o.hoard)
   pub in_force : AreBudgets o.budgets (set_of o.loads.loads)
 
 -- what an operator works with, and what it has done
-abbrev pub work_of : RunOperator → Work
-work_of o = record { files = o.files; limit = o.limit; maps = o.ap.stock.maps; puts = puts_of o.token.lines; loads = o.loads; seats = o.token.seats }
+abbrev pub work_of : Held → RunOperator → Work
+work_of held o = record { files = held; limit = o.limit; maps = o.ap.stock.maps; puts = puts_of o.token.lines; loads = o.loads; seats = o.token.seats }
 
 -- how many workers have rights, what those that came back have counted, and what the operator has done
-abbrev pub crew_of : RunOperator → Crew
-crew_of o = record { workers = o.workers; counted = sum_of o.hoard; work = work_of o }
+abbrev pub crew_of : Held → RunOperator → Crew
+crew_of held o = record { workers = o.workers; counted = sum_of o.hoard; work = work_of held o }
 
 -- the operator has put nothing into the queues of this many workers, nothing is published, and the maps have these shapes
 pub record IsNewWork (files : Held) (limit workers : ℕ) (shapes : List Shape) (w : Work) : Type 0 where

@@ -1,6 +1,5 @@
 pub mod Actions
 pub mod Intervals
-pub mod Ticks
 pub mod Asking
 pub mod Shows
 pub mod Tells
@@ -9,6 +8,7 @@ pub mod Tallies
 pub mod Loading
 pub mod Adopting
 pub mod Telling
+pub mod Paths
 pub mod Work
 pub mod Submitting
 pub mod Following

@@ -20,7 +20,6 @@ use Rattle.apd_run.specs.Following.{FollowsAll}
 use Rattle.apd_run.specs.Tallies.{tallied}
 use Rattle.apd_run.specs.Telling.{reports_in}
 use Rattle.apd_run.specs.Work.{Work}
-use Rattle.apd_run.specs.declared.manner.Manner.{Manner}
 
 -- the report says `memory`
 abbrev pub is_memory : Told → Bool
@@ -68,9 +67,17 @@ pub record Prints (strict : Bool) (old new : Option (List ℕ)) (handed : List R
   pub memory_is : memory ≡ any_memory printed
   pub refused_is : refused ≡ any_fault strict printed
 
+-- a report's line, and whether the report says that the line is malformed
+abbrev pub malformed_by : Report → ℕ × Bool
+malformed_by r = (r.line, is_malformed r.told)
+
+-- that this line is malformed
+abbrev pub malformed_at : ℕ → ℕ × Bool
+malformed_at line = (line, true)
+
 -- a report on each malformed line, in order
 abbrev pub AnswerMalformed : List ℕ → List Report → Type 0
-AnswerMalformed malformed reports = map (λ (r : Report). (r.line, is_malformed r.told)) reports ≡ map (λ (line : ℕ). (line, true)) malformed
+AnswerMalformed malformed reports = map malformed_by reports ≡ map malformed_at malformed
 
 -- The reports of an interval: those of the operator, which follows the lines, those on malformed lines, and those on what
 -- became of events, from the workers. They are what was counted.
@@ -85,73 +92,73 @@ pub record Gathered (lines : List (ℕ × Asked)) (malformed : List ℕ) (crew c
   pub counts : crew2 ≡ with_work (gains crew (tallied handed)) work
 
 -- printing reports breaks off: before it begins, or within them
-pub data PrintsPart (form : Form) (old new : Option (List ℕ)) (handed : List Report) : Type 0 where
-  NotBegun : new ≡ old → PrintsPart form old new handed
-  Partly : (printed : List Report) → IsOrdered handed printed → AppendsBeginning old new (reports_text form printed) → PrintsPart form old new handed
+pub data PrintsPart (old new : Option (List ℕ)) (handed : List Report) : Type 0 where
+  NotBegun : new ≡ old → PrintsPart old new handed
+  Partly : (printed : List Report) → IsOrdered handed printed → AppendsBeginning old new (reports_text printed) → PrintsPart old new handed
 
 -- an interval breaks off: before its reports are printed, or within them
-pub data BreaksOff (form : Form) (lines : List (ℕ × Asked)) (malformed : List ℕ) (old new : Option (List ℕ)) (crew : Crew) : Type 0 where
-  Before : new ≡ old → BreaksOff form lines malformed old new crew
-  Within : (crew2 : Crew) (handed : List Report) → Gathered lines malformed crew crew2 handed → PrintsPart form old new handed
-      → BreaksOff form lines malformed old new crew
+pub data BreaksOff (lines : List (ℕ × Asked)) (malformed : List ℕ) (old new : Option (List ℕ)) (crew : Crew) : Type 0 where
+  Before : new ≡ old → BreaksOff lines malformed old new crew
+  Within : (crew2 : Crew) (handed : List Report) → Gathered lines malformed crew crew2 handed → PrintsPart old new handed
+      → BreaksOff lines malformed old new crew
 
 -- an interval of the first of these lines breaks off
-pub record BreaksFrom (form : Form) (all : List (ℕ × Asked)) (malformed : List ℕ) (old new : Option (List ℕ)) (crew : Crew) : Type 0 where
+pub record BreaksFrom (all : List (ℕ × Asked)) (malformed : List ℕ) (old new : Option (List ℕ)) (crew : Crew) : Type 0 where
   pub lines : List (ℕ × Asked)
   pub rest : List (ℕ × Asked)
   pub first : all ≡ lines ++ rest
-  pub breaks : BreaksOff form lines malformed old new crew
+  pub breaks : BreaksOff lines malformed old new crew
 
 -- one interval of these lines: the reports are printed, and are what was counted
-pub record ShowsOne (manner : Manner) (lines : List (ℕ × Asked)) (malformed : List ℕ) (old new : Option (List ℕ)) (crew crew2 : Crew) (memory refused : Bool) : Type 0 where
+pub record ShowsOne (strict : Bool) (lines : List (ℕ × Asked)) (malformed : List ℕ) (old new : Option (List ℕ)) (crew crew2 : Crew) (memory refused : Bool) : Type 0 where
   pub handed : List Report
-  pub prints : Prints manner old new handed memory refused
+  pub prints : Prints strict old new handed memory refused
   pub gathered : Gathered lines malformed crew crew2 handed
 
 -- one interval and then the answer to a question, if there is one, by what was counted until then
-pub record ShowsBatch (manner : Manner) (old new : Option (List ℕ)) (crew crew2 : Crew) (memory refused : Bool) : Type 0 where
+pub record ShowsBatch (strict : Bool) (old new : Option (List ℕ)) (crew crew2 : Crew) (memory refused : Bool) : Type 0 where
   pub lines : List (ℕ × Asked)
   pub malformed : List ℕ
   pub mid : Option (List ℕ)
   pub before : Crew
-  pub shows : ShowsOne manner lines malformed old mid crew before memory refused
+  pub shows : ShowsOne strict lines malformed old mid crew before memory refused
   pub tells : TellsAnswer before.counted mid new
   pub looks : LooksOn before crew2
 
 -- it breaks off: in its interval, or in its answer
-pub data BreaksBatch (manner : Manner) (old new : Option (List ℕ)) (crew : Crew) : Type 0 where
-  InReports : (all : List (ℕ × Asked)) (malformed : List ℕ) → BreaksFrom manner.form all malformed old new crew → BreaksBatch manner old new crew
-  InAnswer : (lines : List (ℕ × Asked)) (malformed : List ℕ) (mid : Option (List ℕ)) (before : Crew) (memory refused : Bool) → ShowsOne manner lines malformed old mid crew before memory refused
-      → BreaksAnswer before.counted mid new → BreaksBatch manner old new crew
+pub data BreaksBatch (strict : Bool) (old new : Option (List ℕ)) (crew : Crew) : Type 0 where
+  InReports : (all : List (ℕ × Asked)) (malformed : List ℕ) → BreaksFrom all malformed old new crew → BreaksBatch strict old new crew
+  InAnswer : (lines : List (ℕ × Asked)) (malformed : List ℕ) (mid : Option (List ℕ)) (before : Crew) (memory refused : Bool) → ShowsOne strict lines malformed old mid crew before memory refused
+      → BreaksAnswer before.counted mid new → BreaksBatch strict old new crew
 
 -- consecutive intervals of these lines, each with the answer that follows it; in a strict run, no interval follows a line at
 -- fault
-pub data Shows (manner : Manner) (old : Option (List ℕ)) (crew : Crew) : List (ℕ × Asked) → List ℕ → Option (List ℕ) → Crew → Bool → Bool → Type 0 where
-  Nothing : Shows manner old crew [] [] old crew false false
+pub data Shows (strict : Bool) (old : Option (List ℕ)) (crew : Crew) : List (ℕ × Asked) → List ℕ → Option (List ℕ) → Crew → Bool → Bool → Type 0 where
+  Nothing : Shows strict old crew [] [] old crew false false
   Then : (lines own : List (ℕ × Asked)) (malformed bad : List ℕ) (mid new : Option (List ℕ)) (before after : Crew) (memory more refused again : Bool)
-      → Shows manner old crew lines malformed mid before memory refused → is_over manner.strict refused ≡ false → ShowsOne manner own bad mid new before after more again
-      → Shows manner old crew (lines ++ own) (malformed ++ bad) new after (memory || more) (refused || again)
+      → Shows strict old crew lines malformed mid before memory refused → is_over strict refused ≡ false → ShowsOne strict own bad mid new before after more again
+      → Shows strict old crew (lines ++ own) (malformed ++ bad) new after (memory || more) (refused || again)
   ThenAnswers : (lines : List (ℕ × Asked)) (malformed : List ℕ) (mid new : Option (List ℕ)) (before after : Crew) (memory refused : Bool)
-      → Shows manner old crew lines malformed mid before memory refused → TellsAnswer before.counted mid new → LooksOn before after
-      → Shows manner old crew lines malformed new after memory refused
+      → Shows strict old crew lines malformed mid before memory refused → TellsAnswer before.counted mid new → LooksOn before after
+      → Shows strict old crew lines malformed new after memory refused
   ThenFlushes : (lines : List (ℕ × Asked)) (malformed : List ℕ) (mid new : Option (List ℕ)) (before : Crew) (memory refused : Bool)
-      → Shows manner old crew lines malformed mid before memory refused → Keeps mid new → Shows manner old crew lines malformed new before memory refused
+      → Shows strict old crew lines malformed mid before memory refused → Keeps mid new → Shows strict old crew lines malformed new before memory refused
 
 -- consecutive intervals of the script's lines
-pub record ShowsScript (manner : Manner) (script : Option (List (ℕ × Asked))) (old new : Option (List ℕ)) (crew crew2 : Crew) (memory refused : Bool) : Type 0 where
+pub record ShowsScript (strict : Bool) (script : Option (List (ℕ × Asked))) (old new : Option (List ℕ)) (crew crew2 : Crew) (memory refused : Bool) : Type 0 where
   pub lines : List (ℕ × Asked)
   pub malformed : List ℕ
-  pub shows : Shows manner old crew lines malformed new crew2 memory refused
-  pub done : AreDone script (is_over manner.strict refused) lines malformed
+  pub shows : Shows strict old crew lines malformed new crew2 memory refused
+  pub done : AreDone script (is_over strict refused) lines malformed
 
 -- consecutive intervals of the script's first lines, the last of which, or its answer, breaks off
-pub data Breaks (manner : Manner) (script : Option (List (ℕ × Asked))) (old new : Option (List ℕ)) (crew : Crew) : Type 0 where
+pub data Breaks (strict : Bool) (script : Option (List (ℕ × Asked))) (old new : Option (List ℕ)) (crew : Crew) : Type 0 where
   InInterval : (lines own : List (ℕ × Asked)) (malformed bad : List ℕ) (mid : Option (List ℕ)) (before : Crew) (memory refused : Bool)
-      → Shows manner old crew lines malformed mid before memory refused → is_over manner.strict refused ≡ false → BreaksOff manner.form own bad mid new before
-      → AreBegun script (lines ++ own) (malformed ++ bad) → Breaks manner script old new crew
+      → Shows strict old crew lines malformed mid before memory refused → is_over strict refused ≡ false → BreaksOff own bad mid new before
+      → AreBegun script (lines ++ own) (malformed ++ bad) → Breaks strict script old new crew
   BehindInterval : (lines : List (ℕ × Asked)) (malformed : List ℕ) (mid : Option (List ℕ)) (before : Crew) (memory refused : Bool)
-      → Shows manner old crew lines malformed mid before memory refused → BreaksAnswer before.counted mid new → AreBegun script lines malformed
-      → Breaks manner script old new crew
+      → Shows strict old crew lines malformed mid before memory refused → BreaksAnswer before.counted mid new → AreBegun script lines malformed
+      → Breaks strict script old new crew
 
 -- 3 if a line says `memory`; otherwise 1 if a line is at fault; otherwise 0
 abbrev pub status_of : Bool → Bool → ℕ
@@ -168,7 +175,7 @@ pub data Finishes (old new : Option (List ℕ)) (counted : Counts) (own : ℕ) :
       → Finishes old new counted own status
 
 -- a whole run of the script and its status: its intervals and then the last line, or it breaks off in its intervals
-pub data Runs (manner : Manner) (script : Option (List (ℕ × Asked))) (old new : Option (List ℕ)) (crew : Crew) : ℕ → Type 0 where
-  Ends : (mid : Option (List ℕ)) (all : Crew) (memory refused : Bool) (status : ℕ) → ShowsScript manner script old mid crew all memory refused
-      → Finishes mid new all.counted (status_of memory refused) status → Runs manner script old new crew status
-  Fails : (status : ℕ) → Breaks manner script old new crew → IsBroken status → Runs manner script old new crew status
+pub data Runs (strict : Bool) (script : Option (List (ℕ × Asked))) (old new : Option (List ℕ)) (crew : Crew) : ℕ → Type 0 where
+  Ends : (mid : Option (List ℕ)) (all : Crew) (memory refused : Bool) (status : ℕ) → ShowsScript strict script old mid crew all memory refused
+      → Finishes mid new all.counted (status_of memory refused) status → Runs strict script old new crew status
+  Fails : (status : ℕ) → Breaks strict script old new crew → IsBroken status → Runs strict script old new crew status

@@ -1,10 +1,9 @@
 //! Lines as they come.
 
-ghost use Rattle.std.specs.Prelude.{◌≡◌, [], None, true, length, vec_len, IfOk, OnOk, OnErr};
+ghost use Rattle.std.specs.Prelude.{◌≡◌, [], true, length, vec_len, IfOk, OnOk, OnErr};
 ghost use Rattle.std.specs.Io.KnownBytes.{Keeps};
 ghost use Rattle.apd_script.specs.Batches.{after_wait};
-ghost use Rattle.apd_run.specs.Shows.{Breaks, BreaksBatch, ShowsBatch, ShowsScript};
-ghost use Rattle.apd_run.specs.Ticks.{with_tick};
+ghost use Rattle.apd_run.specs.Shows.{BreaksBatch, ShowsBatch};
 
 use crate::asking::tell;
 use crate::console::Console;
@@ -144,7 +143,7 @@ fn do_batch<W: Serving + Drop, O: Operating<W> + Drop, R: Wait, P: Console>(
         (P.contents writer.old) (P.contents writer.new)
         (O.crew staff.old.operator) (O.crew staff.new.operator)
         found.memory found.refused) }
-    ensures breaks { OnErr result (BreaksBatch setting.now.manner
+    ensures breaks { OnErr result (BreaksBatch setting.now.strict
         (P.contents writer.old) (P.contents writer.new) (O.crew staff.old.operator)) }
 {
     let given = Given {
@@ -185,7 +184,7 @@ impl<I: Read + Drop> Input<I> {
             (P.contents writer.old) (P.contents writer.new)
             (O.crew staff.old.operator) (O.crew staff.new.operator)
             passed.found.memory passed.found.refused) }
-        ensures breaks { OnErr result (BreaksBatch setting.now.manner
+        ensures breaks { OnErr result (BreaksBatch setting.now.strict
             (P.contents writer.old) (P.contents writer.new) (O.crew staff.old.operator)) }
     {
         let first = self.number.min(MOST_NUMBER);
@@ -202,49 +201,7 @@ impl<I: Read + Drop> Input<I> {
     }
 }
 
-impl<S: Source + Drop> Input<S> {
-    /// Does all lines, or those up to a line at fault if the run is strict, and returns what the printed lines say.
-    fn do_all<W: Serving + Drop, O: Operating<W> + Drop, R: Wait, P: Console>(
-        &mut self,
-        setting: &Setting<'_, W, R>,
-        staff: &mut Staff<W, O>,
-        writer: &mut P,
-    ) -> Result<Found, PrintFault>
-        requires home { vec_len staff.old.workers ≡ length setting.now.desks.now }
-        ensures home { OnOk result (vec_len staff.new.workers ≡ length setting.now.desks.now) }
-        ensures workers { OnOk result
-            ((O.crew staff.new.operator).workers ≡ (O.crew staff.old.operator).workers) }
-        ensures shows { IfOk result (λ found. ShowsScript setting.now.manner None
-            (P.contents writer.old) (P.contents writer.new)
-            (O.crew staff.old.operator) (O.crew staff.new.operator)
-            found.memory found.refused) }
-        ensures breaks { OnErr result (Breaks setting.now.manner None
-            (P.contents writer.old) (P.contents writer.new) (O.crew staff.old.operator)) }
-    {
-        let mut found = Found::nothing();
-        let mut number = 1u64;
-        'intervals: while number < u64::MAX {
-            if is_over(setting.manner.strict, found.refused) {
-                return Ok(found);
-            }
-            match self.advance(setting.alloc, writer) {
-                Ok(true) => {}
-                Ok(false) => return Ok(found),
-                Err(fault) => return Err(fault),
-            }
-            let passed = match self.do_lines(setting, staff, number, writer) {
-                Ok(passed) => passed,
-                Err(fault) => return Err(fault),
-            };
-            self.pass(passed.step);
-            found = found.and(passed.found);
-            number += 1;
-        }
-        Ok(found)
-    }
-}
-
-impl<S: Source + Drop> Lines for Input<S> {
+impl<I: Read + Drop> Lines for Input<I> {
     ghost use Rattle.std.specs.Prelude.{None};
 
     ghost script = { λ _. None };

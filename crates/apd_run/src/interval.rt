@@ -66,7 +66,7 @@ fn print_interval<P: Write>(
 ) -> Result<Found, PrintFault>
     ensures prints { IfOk result (λ found. Prints strict (P.contents writer.old)
         (P.contents writer.new) handed.items found.memory found.refused) }
-    ensures breaks { OnErr result (PrintsPart manner.form
+    ensures breaks { OnErr result (PrintsPart
         (P.contents writer.old) (P.contents writer.new) handed.items) }
 {
     let mut reports = handed;
@@ -100,13 +100,13 @@ fn interval<W: Serving + Drop, O: Operating<W> + Drop, R: Wait, P: Console>(
     ensures rest { IfOk result (λ passed.
         drop passed.next given.entry.commands.now
         ≡ after_wait (drop from.line given.entry.commands.now)) }
-    ensures shows { IfOk result (λ passed. ShowsOne setting.now.manner
+    ensures shows { IfOk result (λ passed. ShowsOne setting.now.strict
         (commands_of (slice_range given.entry.commands.now from.line passed.next))
         (numbers_of given.entry.malformed.now)
         (P.contents writer.old) (P.contents writer.new)
         (O.crew staff.old.operator) (O.crew staff.new.operator)
         passed.found.memory passed.found.refused) }
-    ensures breaks { OnErr result (BreaksFrom setting.now.manner.form
+    ensures breaks { OnErr result (BreaksFrom
         (commands_of (drop from.line given.entry.commands.now))
         (numbers_of given.entry.malformed.now)
         (P.contents writer.old) (P.contents writer.new) (O.crew staff.old.operator)) }
@@ -132,10 +132,10 @@ fn answer<P: Write>(
     malformed: &[MalformedLine<'_>],
     writer: &mut P,
 ) -> Result<Found, PrintFault>
-    ensures shows { (crew : Crew) → IfOk result (λ found. ShowsOne manner
+    ensures shows { (crew : Crew) → IfOk result (λ found. ShowsOne strict
         [] (numbers_of malformed.now) (P.contents writer.old) (P.contents writer.new)
         crew crew found.memory found.refused) }
-    ensures breaks { (crew : Crew) → OnErr result (BreaksFrom manner.form
+    ensures breaks { (crew : Crew) → OnErr result (BreaksFrom
         [] (numbers_of malformed.now) (P.contents writer.old) (P.contents writer.new) crew) }
 {
     let mut told = Vec::new(alloc);
@@ -159,12 +159,12 @@ pub(crate) fn whole_interval<W: Serving + Drop, O: Operating<W> + Drop, R: Wait,
     ensures home { OnOk result (vec_len staff.new.workers ≡ length setting.now.desks.now) }
     ensures workers { OnOk result
         ((O.crew staff.new.operator).workers ≡ (O.crew staff.old.operator).workers) }
-    ensures shows { IfOk result (λ found. ShowsOne setting.now.manner
+    ensures shows { IfOk result (λ found. ShowsOne setting.now.strict
         (commands_of given.entry.commands.now) (numbers_of given.entry.malformed.now)
         (P.contents writer.old) (P.contents writer.new)
         (O.crew staff.old.operator) (O.crew staff.new.operator)
         found.memory found.refused) }
-    ensures breaks { OnErr result (BreaksFrom setting.now.manner.form
+    ensures breaks { OnErr result (BreaksFrom
         (commands_of given.entry.commands.now) (numbers_of given.entry.malformed.now)
         (P.contents writer.old) (P.contents writer.new) (O.crew staff.old.operator)) }
 {
@@ -193,10 +193,10 @@ pub(crate) fn intervals<W: Serving + Drop, O: Operating<W> + Drop, R: Wait, P: C
     ensures home { OnOk result (vec_len staff.new.workers ≡ length setting.now.desks.now) }
     ensures workers { OnOk result
         ((O.crew staff.new.operator).workers ≡ (O.crew staff.old.operator).workers) }
-    ensures shows { IfOk result (λ found. ShowsScript setting.now.manner
+    ensures shows { IfOk result (λ found. ShowsScript setting.now.strict
         (Some (commands_of commands.now)) (P.contents writer.old) (P.contents writer.new)
         (O.crew staff.old.operator) (O.crew staff.new.operator) found.memory found.refused) }
-    ensures breaks { OnErr result (Breaks setting.now.manner
+    ensures breaks { OnErr result (Breaks setting.now.strict
         (Some (commands_of commands.now)) (P.contents writer.old) (P.contents writer.new)
         (O.crew staff.old.operator)) }
 {

@@ -31,11 +31,11 @@ pub(crate) trait Lines {
         ensures home { OnOk result (vec_len staff.new.workers ≡ length setting.now.desks.now) }
         ensures workers { OnOk result
             ((O.crew staff.new.operator).workers ≡ (O.crew staff.old.operator).workers) }
-        ensures shows { IfOk result (λ found. ShowsScript setting.now.manner (script self)
+        ensures shows { IfOk result (λ found. ShowsScript setting.now.strict (script self)
             (P.contents writer.old) (P.contents writer.new)
             (O.crew staff.old.operator) (O.crew staff.new.operator)
             found.memory found.refused) }
-        ensures breaks { OnErr result (Breaks setting.now.manner (script self)
+        ensures breaks { OnErr result (Breaks setting.now.strict (script self)
             (P.contents writer.old) (P.contents writer.new) (O.crew staff.old.operator)) };
 }
 

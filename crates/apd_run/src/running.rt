@@ -59,11 +59,11 @@ fn beside<W: Serving + Drop, O: Operating<W> + Drop, R: Wait, L: Lines + Drop, P
         ≡ length setting.now.desks.now) }
     ensures workers { OnOk result.found
         ((O.crew result.staff.operator).workers ≡ (O.crew staff.operator).workers) }
-    ensures shows { IfOk result.found (λ found. ShowsScript setting.now.manner (L.script lines)
+    ensures shows { IfOk result.found (λ found. ShowsScript setting.now.strict (L.script lines)
         (P.contents writer) (P.contents result.writer)
         (O.crew staff.operator) (O.crew result.staff.operator)
         found.memory found.refused) }
-    ensures breaks { OnErr result.found (Breaks setting.now.manner (L.script lines)
+    ensures breaks { OnErr result.found (Breaks setting.now.strict (L.script lines)
         (P.contents writer) (P.contents result.writer) (O.crew staff.operator)) }
 {
     let mut staff = staff;
@@ -95,11 +95,11 @@ pub(crate) fn run_threads<
         ≡ length setting.now.desks.now) }
     ensures workers { OnOk result.found
         ((O.crew result.staff.operator).workers ≡ (O.crew staff.operator).workers) }
-    ensures shows { IfOk result.found (λ found. ShowsScript setting.now.manner (L.script lines)
+    ensures shows { IfOk result.found (λ found. ShowsScript setting.now.strict (L.script lines)
         (P.contents writer) (P.contents result.writer)
         (O.crew staff.operator) (O.crew result.staff.operator)
         found.memory found.refused) }
-    ensures breaks { OnErr result.found (Breaks setting.now.manner (L.script lines)
+    ensures breaks { OnErr result.found (Breaks setting.now.strict (L.script lines)
         (P.contents writer) (P.contents result.writer) (O.crew staff.operator)) }
 {
     let rt = setting.rt;

@@ -105,11 +105,11 @@ where
     ensures home { OnOk result.found (vec_len result.staff.workers ≡ vec_len staff.workers) }
     ensures workers { OnOk result.found
         ((O.crew result.staff.operator).workers ≡ (O.crew staff.operator).workers) }
-    ensures shows { IfOk result.found (λ found. ShowsScript (P.manner writer) (L.script lines)
+    ensures shows { IfOk result.found (λ found. ShowsScript (P.strict writer) (L.script lines)
         (P.contents writer) (P.contents result.writer)
         (O.crew staff.operator) (O.crew result.staff.operator)
         found.memory found.refused) }
-    ensures breaks { OnErr result.found (Breaks (P.manner writer) (L.script lines)
+    ensures breaks { OnErr result.found (Breaks (P.strict writer) (L.script lines)
         (P.contents writer) (P.contents result.writer) (O.crew staff.operator)) }
 {
     let Ok(desks) = new_desks(alloc, staff.workers.len()) else {
@@ -152,7 +152,7 @@ where
     R: Threads + Wait + Sync,
     P: Console + Drop,
     requires all { vec_len staff.workers ≡ (O.crew staff.operator).workers }
-    ensures runs { Runs (P.manner writer) (Some (commands_of commands.now))
+    ensures runs { Runs (P.strict writer) (Some (commands_of commands.now))
         (P.contents writer) (P.contents result.0) (O.crew staff.operator) result.1 }
 {
     run_lines(rt, alloc, staff, Script { commands }, writer)
@@ -174,7 +174,7 @@ where
     L: Lines + Drop,
     P: Console + Drop,
     requires all { vec_len staff.workers ≡ (O.crew staff.operator).workers }
-    ensures runs { Runs (P.manner writer) (L.script lines)
+    ensures runs { Runs (P.strict writer) (L.script lines)
         (P.contents writer) (P.contents result.0) (O.crew staff.operator) result.1 }
 {
     let Ran {

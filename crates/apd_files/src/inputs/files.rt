@@ -4,7 +4,6 @@ ghost use Rattle.std.specs.Prelude.{◌≡◌, ◌⊎◌, ◌≤◌, ℕ, List, 
 ghost use Rattle.std.specs.declared.option.Option.{Option};
 ghost use Rattle.apd_files.specs.Kinds.{most_of};
 ghost use Rattle.apd_files.specs.Held.{Holds, IsUnopened, IsUnread, Saved, Saves};
-ghost use Rattle.apd_files.specs.Paths.{path_of};
 ghost use Rattle.apd_files.specs.Reading.{Opens, Gives};
 
 use crate::outputs::Unwritten;
@@ -129,9 +128,7 @@ pub fn read_whole<F: Files>(
 }
 
 /// The path of the file that a word of a script names: `-` there is an ordinary file name.
-pub fn path_of_word(word: &str) -> &str
-    ensures is { result.now ≡ path_of word.now }
-{
+pub fn path_of_word(word: &str) -> &str {
     if word == "-" { "./-" } else { word }
 }
 

@@ -9,6 +9,7 @@ ghost use Rattle.apd_run.specs.Budgets.{program_rows};
 ghost use Rattle.apd_script.specs.Asked.{Adopt, Load, Read, Store, Sum, Unload};
 ghost use Rattle.apd_run.specs.Following.{Does};
 ghost use Rattle.apd_run.specs.Hands.{crew_of, work_of};
+ghost use Rattle.apd_run.specs.Paths.{path_of};
 ghost use Rattle.apd_run.specs.Tallies.{told_counts};
 ghost use Rattle.apd_run.specs.Crews.{Works, gains, with_one_more};
 
@@ -26,7 +27,7 @@ use ap_model::Event;
 use ap_queues::Unserved;
 use ap_shards::AllPages;
 use ap_tagged::Tagged;
-use apd_files::{Files, path_of_word};
+use apd_files::Files;
 use apd_script::MapWord;
 use apd_text::{AgreementRow, ProgramRow, StationRow};
 use bpf_regions::{Hook, Scope};
@@ -65,7 +66,6 @@ impl<'a, B: Ledgers + Journals, L: Publications, F: Files> Model for LiveOperato
 
     ghost view = { λ o. record {
       ap = o.ap.now;
-      files = F.held o.sources.files.now;
       limit = o.sources.limit;
       token = o.token;
       hoard = o.hoard;
@@ -77,9 +77,8 @@ impl<'a, B: Ledgers + Journals, L: Publications, F: Files> Model for LiveOperato
       budgets = o.budgets;
     } };
 
-    ghost invariant = { λ o. IsRunOperator B.shares L.list (record {
+    ghost invariant = { λ o. IsRunOperator B.shares L.list L.held (F.held o.sources.files.now) (record {
       ap = o.ap.now;
-      files = F.held o.sources.files.now;
       limit = o.sources.limit;
       token = o.token;
       hoard = o.hoard;
@@ -92,10 +91,17 @@ impl<'a, B: Ledgers + Journals, L: Publications, F: Files> Model for LiveOperato
     }) };
 }
 
+/// The path of the file that a word of a script names: `-` there is an ordinary file name.
+fn path_of_word(word: &str) -> &str
+    ensures is { result.now ≡ path_of word.now }
+{
+    if word == "-" { "./-" } else { word }
+}
+
 impl<'a, B: Ledgers + Journals, L: Publications, F: Files> LiveOperator<'a, B, L, F> {
     fn load<R: Wait>(&mut self, rt: &R, hook: Hook, path: &str) -> Told
-        ensures works { Works (crew_of self.old) (crew_of self.new) }
-        ensures does { Does (work_of self.old) (work_of self.new)
+        ensures works { Works (crew_of L.held self.old) (crew_of L.held self.new) }
+        ensures does { Does (work_of L.held self.old) (work_of L.held self.new)
             (Load hook path.now) (Some result) }
         ensures nothing { told_counts result ≡ none }
     {
@@ -107,8 +113,8 @@ impl<'a, B: Ledgers + Journals, L: Publications, F: Files> LiveOperator<'a, B, L
     }
 
     fn adopt<R: Wait>(&mut self, rt: &R, hook: Hook, path: &str, certificate: &str) -> Told
-        ensures works { Works (crew_of self.old) (crew_of self.new) }
-        ensures does { Does (work_of self.old) (work_of self.new)
+        ensures works { Works (crew_of L.held self.old) (crew_of L.held self.new) }
+        ensures does { Does (work_of L.held self.old) (work_of L.held self.new)
             (Adopt hook path.now certificate.now) (Some result) }
         ensures nothing { told_counts result ≡ none }
     {
@@ -122,8 +128,8 @@ impl<'a, B: Ledgers + Journals, L: Publications, F: Files> LiveOperator<'a, B, L
     }
 
     fn unload<R: Wait>(&mut self, rt: &R, hook: Hook) -> Option<Told>
-        ensures works { Works (crew_of self.old) (crew_of self.new) }
-        ensures does { Does (work_of self.old) (work_of self.new) (Unload hook) result }
+        ensures works { Works (crew_of L.held self.old) (crew_of L.held self.new) }
+        ensures does { Does (work_of L.held self.old) (work_of L.held self.new) (Unload hook) result }
         ensures nothing { IfSome result (λ told. told_counts told ≡ none) }
     {
         match self.loads.unload(rt, hook) {
@@ -145,8 +151,8 @@ impl<'a, B: Ledgers + Journals, L: Publications, F: Files> LiveOperator<'a, B, L
 
     /// Stores a number in a word of a shared map, if there is such a word.
     fn store(&mut self, at: MapWord, value: u64)
-        ensures works { Works (crew_of self.old) (crew_of self.new) }
-        ensures does { Does (work_of self.old) (work_of self.new) (Store at value) None }
+        ensures works { Works (crew_of L.held self.old) (crew_of L.held self.new) }
+        ensures does { Does (work_of L.held self.old) (work_of L.held self.new) (Store at value) None }
     {
         let map = at.map as usize;
         if self.ap.has_word(Scope::Shared, map, at.word) {
@@ -156,8 +162,8 @@ impl<'a, B: Ledgers + Journals, L: Publications, F: Files> LiveOperator<'a, B, L
 
     /// The number in a word of a shared map, if there is such a word.
     fn read(&mut self, at: MapWord) -> Option<Told>
-        ensures works { Works (crew_of self.old) (crew_of self.new) }
-        ensures does { Does (work_of self.old) (work_of self.new) (Read at) result }
+        ensures works { Works (crew_of L.held self.old) (crew_of L.held self.new) }
+        ensures does { Does (work_of L.held self.old) (work_of L.held self.new) (Read at) result }
         ensures nothing { IfSome result (λ told. told_counts told ≡ none) }
     {
         let map = at.map as usize;
@@ -170,8 +176,8 @@ impl<'a, B: Ledgers + Journals, L: Publications, F: Files> LiveOperator<'a, B, L
 
     /// The sum of a word of a worker map over all workers, if there is such a word.
     fn sum(&mut self, at: MapWord) -> Option<Told>
-        ensures works { Works (crew_of self.old) (crew_of self.new) }
-        ensures does { Does (work_of self.old) (work_of self.new) (Sum at) result }
+        ensures works { Works (crew_of L.held self.old) (crew_of L.held self.new) }
+        ensures does { Does (work_of L.held self.old) (work_of L.held self.new) (Sum at) result }
         ensures nothing { IfSome result (λ told. told_counts told ≡ none) }
     {
         let map = at.map as usize;
@@ -187,8 +193,8 @@ impl<'a, B: Ledgers + Journals, L: Publications, F: Files> LiveOperator<'a, B, L
     /// Takes over a worker's counts, which are these numbers, and gives it fresh parts of the ledgers.
     fn exchange<G: Drop>(&mut self, worker: &mut LiveWorker<'a, B, L, G>, numbers: Totals)
         requires numbers { Reads numbers (counted_by worker.old.token.shards) }
-        ensures crew { crew_of self.new ≡
-            gains (crew_of self.old) (counted_by worker.old.token.shards) }
+        ensures crew { crew_of L.held self.new ≡
+            gains (crew_of L.held self.old) (counted_by worker.old.token.shards) }
         ensures worker { counted_by worker.new.token.shards ≡ none }
     {
         let fresh = self.hoard.split_off(1);
@@ -199,7 +205,7 @@ impl<'a, B: Ledgers + Journals, L: Publications, F: Files> LiveOperator<'a, B, L
 
     /// Tells a worker of the loads so far.
     fn tell<G: Drop>(&mut self, worker: &mut LiveWorker<'a, B, L, G>)
-        ensures same { crew_of self.new ≡ crew_of self.old }
+        ensures same { crew_of L.held self.new ≡ crew_of L.held self.old }
         ensures worker { worker.new.token.shards ≡ worker.old.token.shards }
     {
         let news = self.loads.tell();
@@ -210,7 +216,7 @@ impl<'a, B: Ledgers + Journals, L: Publications, F: Files> LiveOperator<'a, B, L
     fn take_back<G: Drop>(&mut self, worker: LiveWorker<'a, B, L, G>)
         requires some { 0 < self.old.workers }
         requires nothing { counted_by worker.token.shards ≡ none }
-        ensures crew { crew_of self.old ≡ with_one_more (crew_of self.new) }
+        ensures crew { crew_of L.held self.old ≡ with_one_more (crew_of L.held self.new) }
     {
         let LiveWorker { token, .. } = worker;
         let (shares, pages) = token.into_parts();
@@ -224,7 +230,7 @@ impl<'a, B: Ledgers + Journals, L: Publications, F: Files> LiveOperator<'a, B, L
     /// journals, which the totals count, unless one is full.
     fn read_totals<R: Wait>(self, rt: &R) -> Totals
         requires all { self.workers ≡ 0 }
-        ensures reads { Reads result (crew_of self.entry).counted }
+        ensures reads { Reads result (crew_of L.held self.entry).counted }
     {
         let LiveOperator {
             ap,
@@ -257,7 +263,7 @@ impl<'a, B: Ledgers + Journals, L: Publications, F: Files, G: Drop> Operating<
     ghost use Rattle.ap_live.specs.Counting.{counted_by};
     ghost use Rattle.apd_run.specs.Hands.{crew_of};
 
-    ghost crew = { crew_of };
+    ghost crew = { crew_of L.held };
 
     ghost taken = { λ w. counted_by w.token.shards };
 

@@ -2,6 +2,7 @@
 
 ghost use Rattle.std.specs.Prelude.{◌≡◌, ◌+◌, ◌<◌, ◌≤◌, [], vec_len, IfOk};
 ghost use Rattle.std.specs.List.{All};
+ghost use Rattle.ap_books.specs.Counts.{none};
 ghost use Rattle.ap_books.specs.Holdings.{HasParts, sum_of};
 ghost use Rattle.ap_live.specs.Opening.{parts_in_all};
 ghost use Rattle.ap_live.specs.Tokens.{IsWorker};
@@ -122,8 +123,9 @@ where
     requires list { loads.old.list ≡ L.list }
     requires no_loads { loads.old.loads ≡ [] }
     requires opened { IsFor workers loads.old.shapes ap.now }
+    requires held { F.held sources.files.now ≡ L.held }
     ensures new { IsNewCrew (F.held sources.entry.files.now) sources.entry.limit
-        workers loads.old.shapes (crew_of result) }
+        workers loads.old.shapes (crew_of L.held result) }
 {
     let ((hoard, pages), parts) = kept;
     LiveOperator {
@@ -167,7 +169,8 @@ where
     requires loads { equipment.loads.list ≡ L.list }
     requires no_loads { equipment.loads.loads ≡ [] }
     requires opened { IsFor (vec_len equipment.hands.workers) equipment.loads.shapes ap.now }
-    ensures runs { RunsNew (P.manner writer) (S.script lines)
+    requires held { F.held supplies.files.now ≡ L.held }
+    ensures runs { RunsNew (P.strict writer) (S.script lines)
         (F.held supplies.entry.files.now) supplies.entry.limit
         (vec_len equipment.hands.workers) equipment.loads.shapes
         (P.contents writer) (P.contents result.0) result.1 }
@@ -231,7 +234,7 @@ where
     requires named { AreNamed B.name_of B.shares B.journal_of opening.new }
     requires config { opening.settings.link ≡ B.config }
     requires shares { B.shares ≡ parts_in_all }
-    ensures runs { RunsNew (P.manner writer) (S.script lines)
+    ensures runs { RunsNew (P.strict writer) (S.script lines)
         (F.held supplies.entry.files.now) supplies.entry.limit
         opening.settings.workers opening.settings.shapes
         (P.contents writer) (P.contents result.0) result.1 }

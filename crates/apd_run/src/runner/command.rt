@@ -87,7 +87,7 @@ where
     P: Console + Drop,
     requires some { 1 ≤ workers }
     requires few { workers ≤ 8 }
-    ensures runs { RunsNew (P.manner writer) (L.script task.lines)
+    ensures runs { RunsNew (P.strict writer) (L.script task.lines)
         (F.held supplies.entry.files.now) supplies.entry.limit workers task.configuration.maps
         (P.contents writer) (P.contents result.0) result.1 }
 {
@@ -123,7 +123,7 @@ where
     L: Lines + Drop,
     P: Write + Drop,
     E: Write,
-    ensures runs { RunsNew words.entry.manner (L.script task.lines)
+    ensures runs { RunsNew words.entry.strict (L.script task.lines)
         (F.held supplies.entry.files.now) supplies.entry.limit
         (workers_for words.entry.workers) task.configuration.maps
         (P.contents out) (P.contents result.out) result.status }
@@ -179,7 +179,7 @@ where
     G: Watcher + Copy + Send,
     P: Write + Drop,
     E: Write,
-    ensures runs { RunsScript words.entry.manner
+    ensures runs { RunsScript words.entry.strict
         (F.held supplies.entry.files.now) supplies.entry.limit words.entry.workers
         words.entry.config.now words.entry.script.now
         (P.contents out) (P.contents result.0) result.1 }
@@ -243,7 +243,7 @@ where
     I: Read + Drop,
     P: Write + Drop,
     E: Write,
-    ensures runs { RunsInput words.entry.manner
+    ensures runs { RunsInput words.entry.strict
         (F.held supplies.entry.files.now) supplies.entry.limit words.entry.workers
         words.entry.config.now
         (P.contents streams.out) (P.contents result.0) result.1 }

@@ -9,7 +9,7 @@ invariant-intervals g l =
       home : vec_len l.staff.workers ≡ length l.setting.desks.now;
       workers : (g.O.Operating.crew l.staff.operator).workers ≡ (g.O.Operating.crew l.fn.staff.operator).workers;
       within : l.line ≤ length l.commands;
-      shown : Shows l.setting.manner (g.P.Write.contents l.fn.writer) (g.O.Operating.crew l.fn.staff.operator) (commands_of (take l.line l.commands)) [] (g.P.Write.contents l.writer) (g.O.Operating.crew l.staff.operator) l.found.memory l.found.refused;
+      shown : Shows l.setting.strict (g.P.Write.contents l.fn.writer) (g.O.Operating.crew l.fn.staff.operator) (commands_of (take l.line l.commands)) [] (g.P.Write.contents l.writer) (g.O.Operating.crew l.staff.operator) l.found.memory l.found.refused;
     }
 
 abbrev pub decreases-intervals : goal.decreases-intervals

@@ -1,6 +1,6 @@
 use Rattle.std.proofs.Common.{refl, sym, ◌∙◌}
 use Rattle.apd_run.proofs.Batches.{breaks_flushed, breaks_more, shows_flushed, shows_more, shows_none}
-use Rattle.apd_run.proofs.input.Input.do_all.Goals as goal
+use Rattle.apd_run.proofs.input.InputLines.run.Goals as goal
 
 pub intervals-init : goal.intervals-init
 intervals-init g c =

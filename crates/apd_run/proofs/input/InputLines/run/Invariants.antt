@@ -1,13 +1,13 @@
 use Rattle.std.proofs.Common.{◌≡◌, ◌-◌, ◌^◌, None, length, vec_len}
 use Rattle.apd_run.specs.Shows.{ShowsScript}
-use Rattle.apd_run.proofs.input.Input.do_all.Given as goal
+use Rattle.apd_run.proofs.input.InputLines.run.Given as goal
 
 abbrev pub invariant-intervals : goal.invariant-intervals
 invariant-intervals g l =
     record {
       home : vec_len l.staff.workers ≡ length l.setting.desks.now;
       workers : (g.O.Operating.crew l.staff.operator).workers ≡ (g.O.Operating.crew l.fn.staff.operator).workers;
-      shown : ShowsScript l.setting.manner None (g.P.Write.contents l.fn.writer) (g.P.Write.contents l.writer) (g.O.Operating.crew l.fn.staff.operator) (g.O.Operating.crew l.staff.operator) l.found.memory l.found.refused;
+      shown : ShowsScript l.setting.strict None (g.P.Write.contents l.fn.writer) (g.P.Write.contents l.writer) (g.O.Operating.crew l.fn.staff.operator) (g.O.Operating.crew l.staff.operator) l.found.memory l.found.refused;
     }
 
 abbrev pub decreases-intervals : goal.decreases-intervals

@@ -8,4 +8,4 @@ pub returns-clause-ordered : goal.returns-clause-ordered
 returns-clause-ordered g c = if_rising agreement_row (λ r. (r.station, r.tid)) agreement_cmp _ _ c.agreement_rows.ensures.are (rw c.as_slice.ensures.value c.in_ok-agreements.ensures.shown.merges.ordered)
 
 pub returns-clause-same : goal.returns-clause-same
-returns-clause-same g c = listed_crew _ _ _ c.self.view_is c.agreements.ensures.same
+returns-clause-same g c = listed_crew _ _ _ _ c.self.view_is c.agreements.ensures.same

@@ -35,6 +35,7 @@ invariant_of-self g c =
       shares_are = i.shares_are;
       some = i.some;
       list_is = i.list_is;
+      files_are = i.files_are;
       in_force = i.in_force;
       reads = subst (Reads c.and-self-inside.result) (sym counted) (c.and-self-inside.ensures _ _ i.reads numbers);
     }
@@ -48,5 +49,5 @@ returns-clause-crew g c =
     let hoard = c.self.inside.hoard in
     let shards = c.worker.inside.token.shards in
     let counted = exchanged_sum hoard c.split_off-fresh.new.self c.renew-counted.result c.merge.new.self (counted_by shards) c.split_off-fresh.ensures.counts c.merge.ensures (ap sum_of c.renew-counted.ensures.given) in
-    gained_crew _ _ c.merge.new.self (counted_by shards) c.self.view_is counted
-    ∙ ap (λ (w : RunWorker). gains (crew_of c.args.self.now) (counted_by w.token.shards)) c.worker.view_is
+    gained_crew _ _ _ c.merge.new.self (counted_by shards) c.self.view_is counted
+    ∙ ap (λ (w : RunWorker). gains (crew_of g.L.Publications.held c.args.self.now) (counted_by w.token.shards)) c.worker.view_is

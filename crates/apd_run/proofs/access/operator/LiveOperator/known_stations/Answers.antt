@@ -9,4 +9,4 @@ pub returns-clause-ordered : goal.returns-clause-ordered
 returns-clause-ordered g c = if_rising station_row (λ r. r.station) (slice_cmp nat_cmp) _ _ c.station_rows.ensures.are (rw c.as_slice.ensures.value c.in_ok-known.ensures.shown.merges.ordered)
 
 pub returns-clause-same : goal.returns-clause-same
-returns-clause-same g c = listed_crew _ _ _ c.self.view_is c.known.ensures.same
+returns-clause-same g c = listed_crew _ _ _ _ c.self.view_is c.known.ensures.same

@@ -5,10 +5,10 @@ use Rattle.apd_run.proofs.Operated.{read_does, works}
 use Rattle.apd_run.proofs.access.operator.LiveOperator.read.Goals as goal
 
 pub invariant_of-self : goal.invariant_of-self
-invariant_of-self g c = other_token _ _ _ _ c.read-value.ensures.own (ap (λ (o : Operator). o.shards) c.read-value.ensures.same) c.self.invariant
+invariant_of-self g c = other_token _ _ _ _ _ _ c.read-value.ensures.own (ap (λ (o : Operator). o.shards) c.read-value.ensures.same) c.self.invariant
 
 pub returns-clause-works : goal.returns-clause-works
-returns-clause-works g c = works _ _ _ c.self.view_is
+returns-clause-works g c = works _ _ _ _ c.self.view_is
 
 pub returns-clause-does : goal.returns-clause-does
-returns-clause-does g c = read_does _ _ _ _ _ c.self.view_is c.read-value.ensures.same c.read-value.ensures.made
+returns-clause-does g c = read_does _ _ _ _ _ _ c.self.view_is c.read-value.ensures.same c.read-value.ensures.made

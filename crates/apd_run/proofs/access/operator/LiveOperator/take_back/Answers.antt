@@ -25,6 +25,7 @@ invariant_of-self g c =
       shares_are = i.shares_are;
       some = omega (arith, i.some);
       list_is = i.list_is;
+      files_are = i.files_are;
       in_force = i.in_force;
       reads = subst (Reads c.self.inside.totals) (sym counted) i.reads;
     }
