@@ -7,9 +7,7 @@ use Rattle.apd_words.specs.Reads.{AsksFor, IsHelp, TellsOf}
 use Rattle.apd_words.specs.Spells.{IsReadAs}
 use Rattle.apd_words.specs.declared.Told.{Told}
 use Rattle.apd_words.specs.declared.Told.TheVariants as told
-use Rattle.apd_run.specs.Counts.{none}
-use Rattle.apd_run.specs.Shows as shows
-use Rattle.apd_run.proofs.Ending.{runs_nothing}
+use Rattle.apd_run.specs.NewRuns.{NotBegun, InputNotBegun}
 use Rattle.apd_program.specs.declared.answer.Answer.{Answer}
 use Rattle.apd_program.specs.declared.answer.Answer.TheVariants.{Accepted, Code, Instructions, Run, Verdicts, Page, Script, CutScript, Tested, Help, Fault, Refused, LineFault, Certificate, Unaccepted}
 use Rattle.apd_program.specs.declared.fault.ProgramFault.{ProgramFault}
@@ -130,8 +128,8 @@ Responds-nothing files (LiveWanted config workers states strict verbose) o = (re
 
 Fulfils-nothing : (files : Held) (w : Wanted) (o : Option (List ℕ)) → Fulfils files w o o 3
 Fulfils-nothing files (AnswerWanted a output) o = Exhausted (Keeps-same o)
-Fulfils-nothing files (RunWanted config script workers states quiet strict verbose) o = runs_nothing strict o none 3 (inr refl)
-Fulfils-nothing files (LiveWanted config workers states strict verbose) o = runs_nothing strict o none 3 (inr refl)
+Fulfils-nothing files (RunWanted config script workers states quiet strict verbose) o = NotBegun 3 refl (inr refl)
+Fulfils-nothing files (LiveWanted config workers states strict verbose) o = InputNotBegun 3 refl (inr refl)
 
 -- words that always make a request are reported only for lack of memory
 pub Responds-told : (files : Held) (w : Wanted) (t : Told) (old new : Option (List ℕ)) (status : ℕ) → t ≡ told.NoMemory → Tells t old new status → Responds files w old new status

@@ -3,8 +3,8 @@ use Rattle.std.specs.Prelude.{◌≡◌, ◌⊎◌, ℕ, List, Option, string_by
 use Rattle.std.specs.Io.KnownBytes.{Appends, Keeps}
 use Rattle.clap.specs.declared.builder.value_parser.ValueParser.{ValueParser}
 use Rattle.apd_files.specs.Beginning.{AppendsBeginning}
-use Rattle.apd_run.specs.Counts.{none}
-use Rattle.apd_run.specs.Shows as shows
+use Rattle.bpf_verifier.specs.Limits.{nearest}
+use Rattle.apd_run.specs.NewRuns.{RunsInput, RunsScript}
 use Rattle.apd_words.specs.Asked.{Asked, Wanted, Run, Live, Answer}
 use Rattle.apd_words.specs.CommandLine.{TakesNames, hook_names, worker_names}
 use Rattle.apd_words.specs.Reads.{AsksFor, IsHelp}
@@ -41,9 +41,9 @@ Responds files (Live config workers states strict verbose) old new status = Refu
 abbrev pub Fulfils : Held → Wanted → Option (List ℕ) → Option (List ℕ) → ℕ → Type 0
 Fulfils files (Answer a output) old new status = Performs files a output old new status
 Fulfils files (Run config script workers states quiet strict verbose) old new status =
-    shows.Runs strict old new none status
+    RunsScript strict files (nearest states) workers config script old new status
 Fulfils files (Live config workers states strict verbose) old new status =
-    shows.Runs strict old new none status
+    RunsInput strict files (nearest states) workers config old new status
 
 -- what is written for words that make no request, and the status
 abbrev pub Tells : Told → Option (List ℕ) → Option (List ℕ) → ℕ → Type 0

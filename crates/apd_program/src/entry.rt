@@ -1,8 +1,8 @@
 //! From words to a status: `apd` runs a script, or lines as they come, with threads, or answers a question.
 
 ghost use Rattle.std.specs.Prelude.{◌≡◌, map};
-ghost use Rattle.apd_run.specs.Counts.{none};
-ghost use Rattle.apd_run.specs.Shows.{Runs};
+ghost use Rattle.bpf_verifier.specs.Limits.{nearest};
+ghost use Rattle.apd_run.specs.NewRuns.{RunsInput, RunsScript};
 ghost use Rattle.apd_words.specs.Asked.{Wanted};
 ghost use Rattle.apd_words.specs.Spells.{Spells};
 ghost use Rattle.apd_program.specs.Program.{Fulfils};
@@ -39,7 +39,10 @@ where
     F: Files,
     O: Write + Drop,
     E: Write,
-    ensures runs { Runs asked.entry.strict (O.contents out) (O.contents result.0) none result.1 }
+    ensures runs { RunsScript asked.entry.strict (F.held files.old)
+        (nearest asked.entry.states) asked.entry.workers
+        asked.entry.config.now asked.entry.script.now
+        (O.contents out) (O.contents result.0) result.1 }
 {
     let Messages { err, watched } = messages;
     let words = RunWords {
@@ -74,8 +77,9 @@ where
     I: Read + Drop,
     O: Write + Drop,
     E: Write,
-    ensures runs { Runs asked.entry.strict
-        (O.contents streams.out) (O.contents result.0) none result.1 }
+    ensures runs { RunsInput asked.entry.strict (F.held files.old)
+        (nearest asked.entry.states) asked.entry.workers asked.entry.config.now
+        (O.contents streams.out) (O.contents result.0) result.1 }
 {
     let words = RunWords {
         config: asked.config,

@@ -1,4 +1,4 @@
-use Rattle.std.proofs.Common.{[], refl}
+use Rattle.std.proofs.Common.{[], ◌≤◌, arith, refl}
 use Rattle.apd_run.specs.Shows.{Before, Within}
 use Rattle.apd_run.proofs.Gathering.{gathered}
 use Rattle.apd_run.proofs.Segments.{segment_first}
@@ -13,4 +13,26 @@ returns-clause-shows g c =
       handed = c.collect.new.all.items;
       prints = rw c.tell.ensures.output at c.in_ok-found.ensures.prints;
       gathered = gathered _ _ _ _ _ _ _ _ c.feed-fed.ensures.works follows c.in_ok-tell_malformed.ensures.answers told c.in_ok-collect.ensures.collects;
+    }
+
+pub returns-in_err-next-clause-breaks : goal.returns-in_err-next-clause-breaks
+returns-in_err-next-clause-breaks g c = record { lines = []; rest = _; first = refl; breaks = Before refl }
+
+pub returns-in_err-tell_malformed-clause-breaks : goal.returns-in_err-tell_malformed-clause-breaks
+returns-in_err-tell_malformed-clause-breaks g c = record { lines = []; rest = _; first = refl; breaks = Before c.tell.ensures.output }
+
+pub returns-in_err-collect-clause-breaks : goal.returns-in_err-collect-clause-breaks
+returns-in_err-collect-clause-breaks g c = record { lines = []; rest = _; first = refl; breaks = Before c.tell.ensures.output }
+
+pub returns-in_err-found-clause-breaks : goal.returns-in_err-found-clause-breaks
+returns-in_err-found-clause-breaks g c =
+    let told = tells_more _ _ _ (rw c.new-told.ensures.items at c.in_ok-next.ensures.told) c.in_ok-tell_malformed.ensures.told in
+    let follows = rw c.new-told.ensures.items at c.in_ok-next.ensures.follows in
+    let le : c.args.from.line ≤ c.in_ok-next.next = omega (arith, c.in_ok-next.ensures.on) in
+    record {
+      lines = _;
+      rest = _;
+      first = segment_first _ _ _ le;
+      breaks = Within _ _ (gathered _ _ _ _ _ _ _ _ c.feed-fed.ensures.works follows c.in_ok-tell_malformed.ensures.answers told c.in_ok-collect.ensures.collects)
+          (rw c.tell.ensures.output at c.in_err-found.ensures.breaks);
     }
