@@ -7,15 +7,15 @@ use Rattle.apd_run.proofs.feeding.follow.Goals as goal
 
 pub returns-in-Ok-Submit-clause-follows : goal.returns-in-Ok-Submit-clause-follows
 returns-in-Ok-Submit-clause-follows g c =
-    lists_nothing _ _ _ _ _ _ (Puts c.in-Ok-Submit.event (line_of _ _ (rw c.in-Ok-Submit.field-0-is at c.in-Ok-Submit.ensures.is)) c.in_ok-put.ensures.put) refl
+    lists_nothing _ _ _ _ _ _ (Puts c.in-Ok-Submit.event (line_of _ _ (rw c.in-Ok-Submit.field-0-is at c.in-Ok-Submit.ensures.is)) c.in_ok-put-in-Ok-Submit.ensures.put) refl
 
 pub returns-in-Ok-Publish-clause-follows : goal.returns-in-Ok-Publish-clause-follows
 returns-in-Ok-Publish-clause-follows g c =
-    lists_same _ _ _ _ _ _ _ (line_of _ _ (rw c.in-Ok-Publish.field-0-is at c.in-Ok-Publish.ensures.is)) c.in_ok-publish.ensures.follows
+    lists_same _ _ _ _ _ _ _ (line_of _ _ (rw c.in-Ok-Publish.field-0-is at c.in-Ok-Publish.ensures.is)) c.in_ok-publish-in-Ok-Publish.ensures.follows
 
 pub returns-in-Ok-UseWord-clause-follows : goal.returns-in-Ok-UseWord-clause-follows
 returns-in-Ok-UseWord-clause-follows g c =
-    lists_same _ _ _ _ _ _ _ (line_of _ _ (rw c.in-Ok-UseWord.field-0-is at c.in-Ok-UseWord.ensures.is)) c.in_ok-use_word.ensures.follows
+    lists_same _ _ _ _ _ _ _ (line_of _ _ (rw c.in-Ok-UseWord.field-0-is at c.in-Ok-UseWord.ensures.is)) c.in_ok-use_word-in-Ok-UseWord.ensures.follows
 
 pub returns-in-Ok-Wait-clause-follows : goal.returns-in-Ok-Wait-clause-follows
 returns-in-Ok-Wait-clause-follows g c = lists_nothing _ _ _ _ _ _ (Waits (line_of _ _ (rw c.in-Ok-Wait.field-0-is at c.in-Ok-Wait.ensures.is)) refl) refl
@@ -23,6 +23,6 @@ returns-in-Ok-Wait-clause-follows g c = lists_nothing _ _ _ _ _ _ (Waits (line_o
 pub returns-in-Err-clause-follows : goal.returns-in-Err-clause-follows
 returns-in-Err-clause-follows g c = record {
   reports = report_if c.args.numbered.now.line 0 (Some Memory);
-  listed = c.in_ok-tell_memory.ensures.listed;
+  listed = c.in_ok-tell_memory-in-Err.ensures.listed;
   kind = LacksMemory c.in-Err.ensures.frame refl;
 }
