@@ -15,4 +15,4 @@ returns-in-Some-clause-told g c =
     tells_one _ _ _ report c.in-Some.ensures.nothing c.in_ok-reserve.ensures.items (rw c.of_line.ensures at c.push_reserved.ensures.items)
 
 pub returns-in_default-clause-follows : goal.returns-in_default-clause-follows
-returns-in_default-clause-follows g c = lists_nothing _ _ _ _ _ _ (DoesIt None c.in_default.ensures.does) c.in_ok-reserve.ensures.items
+returns-in_default-clause-follows g c = lists_nothing _ _ _ _ _ _ (DoesIt None (rw c.in_default.is at c.use_word.ensures.does)) c.in_ok-reserve.ensures.items
