@@ -4,11 +4,3 @@
 #![tactic(auto)]
 
 pub mod live;
-#[cfg(test)]
-mod same;
-#[cfg(test)]
-mod seats;
-#[cfg(test)]
-mod speed;
-#[cfg(test)]
-mod tests;

@@ -1,5 +1,5 @@
-//! Tests of programs over the tables of maps that workers share, and of program sets that are published while programs
-//! run.
+//! Tests of the tables of maps that workers share, of programs over them, and of program sets that are published while
+//! programs run.
 #![tactic(auto)]
 
 #[cfg(test)]
@@ -14,5 +14,11 @@ mod programs;
 mod rows;
 #[cfg(test)]
 mod same;
+#[cfg(test)]
+mod seats;
+#[cfg(test)]
+mod shared;
+#[cfg(test)]
+mod speed;
 #[cfg(test)]
 mod threads;

@@ -1,4 +1,5 @@
-//! Tests of programs on the machine: the results of whole runs, and certificates.
+//! Tests of programs: their instructions, code and text against outside rows, as the tables of RFC 9669; the results of
+//! whole runs; and certificates.
 //!
 //! Worked programs are decoded, probed, verified, certified, run and traced, and compared with rows. It depends on
 //! `bpf_verifier`, `bpf_cert`, `bpf_text` and `bpf_helpers`. The tests are here and not in those crates, since a crate
@@ -10,15 +11,23 @@
 #[cfg(test)]
 mod alike;
 #[cfg(test)]
+mod assembling;
+#[cfg(test)]
 mod bare;
 #[cfg(test)]
 mod by_hand;
 #[cfg(test)]
 mod checking;
 #[cfg(test)]
+mod coding;
+#[cfg(test)]
 mod format;
 #[cfg(test)]
 mod hostile;
+#[cfg(test)]
+mod instructions;
+#[cfg(test)]
+mod lines;
 #[cfg(test)]
 mod making;
 #[cfg(test)]
@@ -27,6 +36,8 @@ mod policies;
 mod probed;
 #[cfg(test)]
 mod programs;
+#[cfg(test)]
+mod regions;
 #[cfg(test)]
 mod same;
 #[cfg(test)]

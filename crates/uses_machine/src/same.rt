@@ -19,5 +19,7 @@ pub fn holds(rt: &impl Abort, is_so: bool, what: &str) {
 pub fn counts(rt: &impl Abort, found: usize, wanted: usize, what: &str)
     ensures { found ≡ wanted }
 {
-    assert_eq!(rt; found, wanted, "{what}");
+    if found != wanted {
+        panic!(rt; "{what}: {found}, not {wanted}");
+    }
 }
