@@ -4,8 +4,8 @@ ghost use Rattle.std.specs.Prelude.{◌≡◌};
 ghost use Rattle.bpf_regions.specs.Maps.{word_count};
 
 use crate::same::same;
+use crate::sharing::{Live, load_both};
 use bpf_regions::{MapOp, Scope, Shape, WordWidth};
-use map_uses::live::{Live, load_both};
 use shared_maps::{MapSeat, MapTable};
 use std::alloc::Global;
 use std::process::Abort;

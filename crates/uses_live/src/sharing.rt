@@ -1,6 +1,6 @@
 //! Tables that threads share by reference, while each has its own seat.
 
-ghost use Rattle.map_uses.specs.Loads.{IsSeatAt, Loaded};
+ghost use Rattle.uses_live.specs.Loads.{IsSeatAt, Loaded};
 
 use bpf_regions::MapOp;
 use shared_maps::{MapSeat, MapTable};
