@@ -2,6 +2,7 @@
 
 use crate::loads::{Load, nanos_of};
 use crate::stations::{event, join_all};
+use crate::watch::Watch;
 use ap_books::Ledgers;
 use ap_locked::Journals;
 use ap_tagged::OpenGate;
@@ -14,7 +15,7 @@ use std::sync::atomic::AtomicU64;
 use std::sync::atomic::Ordering::SeqCst;
 use std::thread;
 use std::thread::Threads;
-use std::time::{Duration, Instant};
+use std::time::Duration;
 use versions::Publisher;
 
 /// How many events a queue holds.
@@ -85,27 +86,12 @@ impl Filled {
     }
 
     /// Notes how many events a worker has served in a round. The first worker adds the time until all have served.
-    fn note<R: Wait + Clock>(
-        &self,
-        rt: &R,
-        worker: u8,
-        events: usize,
-        round: u64,
-        start: Option<Instant>,
-    ) {
+    fn note<R: Wait + Clock>(&self, rt: &R, worker: u8, events: usize, round: u64, watch: Watch) {
         self.served.fetch_add(events as u64, SeqCst);
         self.ended.fetch_add(1, SeqCst);
         if worker == 0 {
             await_sign(rt, &self.ended, self.workers.wrapping_mul(round));
-            self.add_time(rt, start);
-        }
-    }
-
-    fn add_time<R: Clock>(&self, rt: &R, start: Option<Instant>) {
-        if let Some(start) = start {
-            if let Ok(spent) = start.elapsed(rt) {
-                self.nanos.fetch_add(nanos_of(spent), SeqCst);
-            }
+            self.nanos.fetch_add(nanos_of(rt, watch), SeqCst);
         }
     }
 
@@ -136,9 +122,9 @@ impl<R: Wait + Clock> Story<R> for Filled {
         let mut list = Vec::new(alloc);
         for round in 1..self.load.size.saturating_add(1) {
             self.meet(rt, round);
-            let start = Instant::now(rt).ok();
+            let watch = Watch::start(rt);
             let _ = hand.serve(rt, alloc, &OpenGate, &mut list);
-            self.note(rt, hand.number, list.len(), round, start);
+            self.note(rt, hand.number, list.len(), round, watch);
             list.clear();
         }
     }

@@ -9,7 +9,6 @@ use crate::asked::Size;
 use crate::link::{Sent, association, authentication, config, datagram, ups};
 use crate::policies::{COUNTER, FILTER, Policies, Seated, entered, one_seat};
 use crate::watch::Watch;
-use anyhow::{Result, bail};
 use ap_core::{Event, Judge, ListJudge, Shard};
 use bpf_helpers::{WorkerState, WorkerView, run_hook};
 use bpf_machine::Accepted;
@@ -203,7 +202,7 @@ fn spent_by_itself<R: Clock>(
     frame: &Frame<'_>,
     policies: &Policies<'_, '_>,
     state: &mut WorkerState,
-) -> Result<(u128, u128)>
+) -> io::Result<(u128, u128)>
     requires seats { IsFitting policies.now.maps.now 0 state.old.seats }
     ensures seats { IsFitting policies.now.maps.now 0 state.new.seats }
 {
@@ -213,7 +212,7 @@ fn spent_by_itself<R: Clock>(
     };
     let (ended, run) = time_runs(rt, accepted, frame, policies, state);
     if judged != ended {
-        bail!("a verdict that is not R0");
+        return Err(io::Error::other("a verdict that is not R0"));
     }
     Ok((verdict, run))
 }
@@ -225,14 +224,14 @@ fn round<R: Clock>(
     served: &mut Served,
     policies: &Policies<'_, '_>,
     state: &mut WorkerState,
-) -> Result<Spent>
+) -> io::Result<Spent>
     requires seats { IsFitting policies.now.maps.now 0 state.old.seats }
     ensures seats { IsFitting policies.now.maps.now 0 state.new.seats }
 {
     let (passed, in_shard) = time_frames(rt, alloc, served, policies, state)?;
     let frame = match served.frame() {
         Some(frame) if passed == TIMES => frame,
-        _ => bail!("a frame that is not passed up"),
+        _ => return Err(io::Error::other("a frame that is not passed up")),
     };
     let (verdict, run) = spent_by_itself(rt, &frame, policies, state)?;
     Ok(Spent {
@@ -250,7 +249,7 @@ fn least<R: Clock>(
     served: &mut Served,
     policies: &Policies<'_, '_>,
     state: &mut WorkerState,
-) -> Result<Spent>
+) -> io::Result<Spent>
     requires seats { IsFitting policies.now.maps.now 0 state.old.seats }
 {
     let mut least = round(rt, alloc, served, policies, state)?;
@@ -267,7 +266,7 @@ fn least_under<R: Clock + Wait>(
     further: u64,
     served: &mut Served,
     text: Option<&str>,
-) -> Result<Spent> {
+) -> io::Result<Spent> {
     let Seated { maps, mut state } = one_seat(alloc)?;
     let (publisher, held) = entered(rt, alloc, text, maps.as_slice())?;
     let policies = Policies {
@@ -305,7 +304,7 @@ fn turn<R: Clock + Wait>(
     alloc: Global,
     further: u64,
     served: &mut Served,
-) -> Result<Beside> {
+) -> io::Result<Beside> {
     let without = least_under(rt, alloc, further, served, None)?;
     let filter = least_under(rt, alloc, further, served, Some(FILTER))?;
     let counter = least_under(rt, alloc, further, served, Some(COUNTER))?;
@@ -322,7 +321,7 @@ fn in_turn<R: Clock + Wait>(
     alloc: Global,
     served: &mut Served,
     size: Size,
-) -> Result<Beside> {
+) -> io::Result<Beside> {
     let further = size.choose(49, 1);
     served.associate(alloc)?;
     let mut least = turn(rt, alloc, further, served)?;
@@ -333,7 +332,7 @@ fn in_turn<R: Clock + Wait>(
 }
 
 /// The same, with a new shard.
-fn measured<R: Clock + Wait>(rt: &R, alloc: Global, size: Size) -> Result<Beside> {
+fn measured<R: Clock + Wait>(rt: &R, alloc: Global, size: Size) -> io::Result<Beside> {
     let mut served = Served::new(alloc)?;
     in_turn(rt, alloc, &mut served, size)
 }
@@ -392,7 +391,7 @@ fn report<R: Eprint>(rt: &R, name: &str, spent: Spent, without: Spent) -> io::Re
 }
 
 /// Prints how long each takes without a program, under the filter, and under the counter.
-pub fn print_times<R: Clock + Eprint + Wait>(rt: &R, alloc: Global, size: Size) -> Result<()> {
+pub fn print_times<R: Clock + Eprint + Wait>(rt: &R, alloc: Global, size: Size) -> io::Result<()> {
     let least = measured(rt, alloc, size)?;
     report(rt, "no program", least.without, least.without)?;
     report(rt, "port filter", least.filter, least.without)?;

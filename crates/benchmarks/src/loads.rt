@@ -1,7 +1,8 @@
 //! What is measured, and the result.
 
 use crate::loaded::Policy;
-use std::time::Duration;
+use crate::watch::Watch;
+use std::rt::Clock;
 
 /// A measurement: a policy, and how many rounds or events; and its result: how many events were served, and in how many
 /// nanoseconds.
@@ -31,7 +32,7 @@ impl Load {
     }
 }
 
-/// A duration in nanoseconds.
-pub fn nanos_of(time: Duration) -> u64 {
-    u64::try_from(time.as_nanos()).unwrap_or(u64::MAX)
+/// The nanoseconds of a watch; `u64::MAX` if there are more.
+pub fn nanos_of<R: Clock>(rt: &R, watch: Watch) -> u64 {
+    u64::try_from(watch.nanos(rt)).unwrap_or(u64::MAX)
 }

@@ -59,7 +59,6 @@ mod verifier;
 mod watch;
 mod windows;
 
-use anyhow::Result;
 use asked::{ALL, Benchmark, Task};
 use rates::{Kind, print_rates};
 use std::alloc::Global;
@@ -71,24 +70,24 @@ use std::{env, io};
 
 /// The reply to an unknown argument.
 const USAGE: &str =
-    "the benchmarks are text, verifier, machine, certificates, versions, frames, windows, link, judge, \
-                     filled, submitted and soak; quick makes them small";
+    "the benchmarks are text, verifier, machine, certificates, versions, frames, windows, link, \
+judge, filled, submitted and soak; quick makes them small";
 
-/// Measures programs or the link, and prints the result. Does nothing for threads.
+/// Measures what a task requests, and prints the result.
 fn perform<R: Threads + Wait + Runtime + Sync + AllocGlobal>(
     rt: &R,
     alloc: Global,
     task: &Task<'_>,
-) -> Result<()> {
+) -> io::Result<()> {
     match task.benchmark {
-        Benchmark::Text => Ok(text::print_times(rt, alloc)?),
-        Benchmark::Verifier => Ok(verifier::print_times(rt, alloc, task)?),
-        Benchmark::Machine => Ok(machine::print_times(rt, alloc, task.size)?),
-        Benchmark::Certificates => Ok(certificates::print_times(rt, alloc, task)?),
-        Benchmark::Versions => Ok(replaced::print_times(rt, alloc, task)?),
-        Benchmark::Frames => Ok(frames::print_times(rt, alloc, task.size)?),
-        Benchmark::Windows => Ok(windows::print_times(rt, task)?),
-        Benchmark::Link => Ok(link::print_times(rt, alloc, task)?),
+        Benchmark::Text => text::print_times(rt, alloc),
+        Benchmark::Verifier => verifier::print_times(rt, alloc, task),
+        Benchmark::Machine => machine::print_times(rt, alloc, task.size),
+        Benchmark::Certificates => certificates::print_times(rt, alloc, task),
+        Benchmark::Versions => replaced::print_times(rt, alloc, task),
+        Benchmark::Frames => frames::print_times(rt, alloc, task.size),
+        Benchmark::Windows => windows::print_times(rt, task),
+        Benchmark::Link => link::print_times(rt, alloc, task),
         Benchmark::Judge => judged::print_times(rt, alloc, task.size),
         Benchmark::Filled => print_rates(rt, alloc, Kind::Filled, task.number_or(1000, 2)),
         Benchmark::Submitted => print_rates(
@@ -110,7 +109,7 @@ fn perform_all<R: Threads + Wait + Runtime + Sync + AllocGlobal>(
     rt: &R,
     alloc: Global,
     words: &[String],
-) -> Result<()> {
+) -> io::Result<()> {
     let mut chosen = false;
     for at in 0..words.len() {
         if let Some(task) = Task::at(words, at) {
@@ -129,14 +128,14 @@ fn perform_each<R: Threads + Wait + Runtime + Sync + AllocGlobal>(
     rt: &R,
     alloc: Global,
     words: &[String],
-) -> Result<()> {
+) -> io::Result<()> {
     for benchmark in ALL {
         perform(rt, alloc, &Task::whole(benchmark, words))?;
     }
     Ok(())
 }
 
-fn main(rt: HostRuntime) -> Result<ExitCode> {
+fn main(rt: HostRuntime) -> io::Result<ExitCode> {
     let alloc = rt.alloc();
     let mut words = Vec::new(alloc);
     for word in env::args(&rt)?.skip(1) {

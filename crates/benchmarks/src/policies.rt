@@ -5,7 +5,6 @@ ghost use Rattle.bpf_helpers.specs.Hooked.{HaveTables, IsFitting, shapes_of};
 ghost use Rattle.bpf_regions.specs.declared.hooks.Hook.TheVariants.{Data};
 ghost use Rattle.versions.specs.Sets.{kept};
 
-use anyhow::{Result, bail};
 use bpf_decode::decode;
 use bpf_helpers::{MapTables, WorkerState};
 use bpf_machine::Accepted;
@@ -13,6 +12,7 @@ use bpf_regions::{Hook, Scope, Shape, Shapes, WordWidth};
 use bpf_text::assemble;
 use bpf_verifier::verify;
 use std::alloc::Global;
+use std::io;
 use std::sync::{Arc, Wait};
 use versions::opening::published;
 use versions::{Entered, ProgramSet, Published, Publisher};
@@ -59,7 +59,7 @@ pub struct Seated {
 }
 
 /// One map of one word of eight bytes that all workers share, with one seat.
-fn one_map(alloc: Global) -> Result<Vec<MapTables>>
+fn one_map(alloc: Global) -> io::Result<Vec<MapTables>>
     ensures tables { IfOk result (λ maps. HaveTables maps.items 0) }
 {
     let shape = Shape {
@@ -69,61 +69,65 @@ fn one_map(alloc: Global) -> Result<Vec<MapTables>>
         scope: Scope::Shared,
     };
     let Ok(map) = MapTables::new(alloc, shape, 1, 1) else {
-        bail!("no map");
+        return Err(io::Error::other("no map"));
     };
     Ok(vec![in alloc; map]?)
 }
 
 /// The next seat of worker 0 at each table of these maps.
-fn seat_at(alloc: Global, maps: &mut [MapTables]) -> Result<WorkerState>
+fn seat_at(alloc: Global, maps: &mut [MapTables]) -> io::Result<WorkerState>
     requires there { HaveTables maps.old 0 }
     ensures fits { IfOk result (λ state. IsFitting maps.new 0 state.seats) }
 {
     match WorkerState::seated(alloc, maps, 0, 0) {
         Ok(state) => Ok(state),
-        Err(_) => bail!("no seat"),
+        Err(_) => return Err(io::Error::other("no seat")),
     }
 }
 
 /// That map, with its seat.
-pub fn one_seat(alloc: Global) -> Result<Seated> {
+pub fn one_seat(alloc: Global) -> io::Result<Seated> {
     let mut maps = one_map(alloc)?;
     let state = seat_at(alloc, maps.as_mut_slice())?;
     Ok(Seated { maps, state })
 }
 
 /// The shapes of one map.
-fn shapes_of(alloc: Global, maps: &[MapTables]) -> Result<Shapes>
+fn shapes_of(alloc: Global, maps: &[MapTables]) -> io::Result<Shapes>
     ensures is { IfOk result (λ shapes. shapes ≡ shapes_of maps.now) }
 {
     let [map] = maps else {
-        bail!("another number of maps");
+        return Err(io::Error::other("another number of maps"));
     };
     let shapes = vec![in alloc; map.shape()]?;
     match Shapes::new(shapes) {
         Some(shapes) => Ok(shapes),
-        None => bail!("a map out of limits"),
+        None => return Err(io::Error::other("a map out of limits")),
     }
 }
 
 /// The program of a text, accepted for data and these maps.
-fn accepted(alloc: Global, text: &str, maps: &[MapTables]) -> Result<Accepted>
+fn accepted(alloc: Global, text: &str, maps: &[MapTables]) -> io::Result<Accepted>
     ensures { IfOk result (λ accepted. accepted.hook ≡ Data) }
 {
     let Ok(code) = assemble(alloc, text) else {
-        bail!("a text that is no program");
+        return Err(io::Error::other("a text that is no program"));
     };
     let Ok(program) = decode(alloc, &code, shapes_of(alloc, maps)?) else {
-        bail!("a program that is not well formed");
+        return Err(io::Error::other("a program that is not well formed"));
     };
     match verify(alloc, program, Hook::Data) {
         Ok(accepted) => Ok(accepted),
-        Err(_) => bail!("a program that is not safe"),
+        Err(_) => return Err(io::Error::other("a program that is not safe")),
     }
 }
 
 /// The same to share, if there is a text.
-fn loaded(alloc: Global, text: Option<&str>, maps: &[MapTables]) -> Result<Option<Arc<Accepted>>>
+fn loaded(
+    alloc: Global,
+    text: Option<&str>,
+    maps: &[MapTables],
+) -> io::Result<Option<Arc<Accepted>>>
     ensures { IfOk result (λ program. IfSome (kept program) (λ p. p.hook ≡ Data)) }
 {
     match text {
@@ -141,7 +145,7 @@ fn opened<R: Wait>(
     alloc: Global,
     text: Option<&str>,
     maps: &[MapTables],
-) -> Result<(Publisher, Published)>
+) -> io::Result<(Publisher, Published)>
     ensures shapes { IfOk result (λ t. t.1.shapes ≡ shapes_of maps.now) }
     ensures list { IfOk result (λ t. t.1.list ≡ t.0.list) }
 {
@@ -149,7 +153,7 @@ fn opened<R: Wait>(
     let (mut publisher, sets) = published(rt, alloc, shapes_of(alloc, maps)?, 1)?;
     if publisher.publish(rt, Hook::Data, program).is_err() {
         publisher.close(rt);
-        bail!("no set");
+        return Err(io::Error::other("no set"));
     }
     Ok((publisher, sets))
 }
@@ -169,7 +173,7 @@ pub fn entered<R: Wait>(
     alloc: Global,
     text: Option<&str>,
     maps: &[MapTables],
-) -> Result<(Publisher, Entered)>
+) -> io::Result<(Publisher, Entered)>
     ensures shapes { IfOk result (λ t. t.1.shapes ≡ shapes_of maps.now) }
 {
     let (mut publisher, mut sets) = opened(rt, alloc, text, maps)?;
@@ -177,7 +181,7 @@ pub fn entered<R: Wait>(
         Some(held) => return Ok((publisher, held)),
         None => {
             publisher.close(rt);
-            bail!("no set");
+            return Err(io::Error::other("no set"));
         }
     }
 }

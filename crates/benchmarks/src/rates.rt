@@ -3,7 +3,6 @@
 use crate::loaded::POLICIES;
 use crate::loads::Load;
 use crate::{filled, submitted};
-use anyhow::{Result, bail};
 use std::alloc::Global;
 use std::io;
 use std::rt::Clock;
@@ -60,10 +59,10 @@ fn report<R: Threads + Wait + Clock + Eprint + Sync>(
     workers: u32,
     kind: Kind,
     load: Load,
-) -> Result<()> {
+) -> io::Result<()> {
     match kind.measured(rt, alloc, workers, load) {
         Some(measured) => Ok(print_rate(rt, workers, kind, measured)?),
-        None => bail!("no memory"),
+        None => return Err(io::Error::other("no memory")),
     }
 }
 
@@ -73,7 +72,7 @@ pub fn print_rates<R: Threads + Wait + Clock + Eprint + Sync>(
     alloc: Global,
     kind: Kind,
     size: u64,
-) -> Result<()> {
+) -> io::Result<()> {
     for policy in POLICIES {
         for workers in WORKERS {
             report(rt, alloc, workers, kind, Load::new(policy, size))?;

@@ -1,7 +1,6 @@
 //! The soak of `live_scenes`, as long as the task says.
 
 use crate::watch::Watch;
-use anyhow::{Result, bail};
 use ap_books::Totals;
 use bpf_regions::WordWidth;
 use live_scenes::{Found, Soak, play, settings};
@@ -40,14 +39,14 @@ pub fn print_found<R: Threads + Wait + Clock + Eprint + Sync>(
     rt: &R,
     alloc: Global,
     events: u64,
-) -> Result<()> {
+) -> io::Result<()> {
     let watch = Watch::start(rt);
     let Some((found, totals)) = run_soak(rt, alloc, events) else {
-        bail!("no memory");
+        return Err(io::Error::other("no memory"));
     };
     report(rt, &found, watch.nanos(rt) / 1_000_000)?;
     match found.fault(totals) {
-        Some(fault) => bail!("the soak: {fault}"),
+        Some(fault) => Err(io::Error::other(fault)),
         None => Ok(()),
     }
 }

@@ -2,6 +2,7 @@
 
 use crate::loads::{Load, nanos_of};
 use crate::stations::{event, join_all};
+use crate::watch::Watch;
 use ap_books::Ledgers;
 use ap_locked::Journals;
 use ap_model::Event;
@@ -14,7 +15,6 @@ use std::sync::atomic::AtomicU64;
 use std::sync::atomic::Ordering::SeqCst;
 use std::sync::{Mutex, Wait};
 use std::thread::Threads;
-use std::time::Instant;
 use std::{mem, thread};
 use versions::Publisher;
 
@@ -24,8 +24,8 @@ struct Submitted {
     load: Load,
     /// What is to be submitted, the last first.
     events: Mutex<Vec<Event>>,
-    /// When the submitter began.
-    start: Mutex<Option<Instant>>,
+    /// Started when the submitter begins.
+    watch: Mutex<Watch>,
     /// 0 once all is submitted.
     submitting: AtomicU64,
     served: AtomicU64,
@@ -48,7 +48,7 @@ impl Submitted {
         Submitted {
             load,
             events: Mutex::new(Vec::new(alloc)),
-            start: Mutex::new(None),
+            watch: Mutex::new(Watch::NONE),
             submitting: AtomicU64::new(1),
             served: AtomicU64::new(0),
             nanos: Mutex::new(0),
@@ -74,20 +74,16 @@ impl Submitted {
     /// Takes what is to be submitted, and notes the submitter's start.
     fn begin<R: Wait + Clock>(&self, rt: &R, alloc: Global) -> Vec<Event> {
         let events = mem::replace(&mut *self.events.lock(rt), Vec::new(alloc));
-        *self.start.lock(rt) = Instant::now(rt).ok();
+        *self.watch.lock(rt) = Watch::start(rt);
         events
     }
 
     /// Notes that a worker has served all.
     fn note_end<R: Wait + Clock>(&self, rt: &R) {
-        let start = *self.start.lock(rt);
-        let Some(start) = start else {
-            return;
-        };
-        if let Ok(spent) = start.elapsed(rt) {
-            let mut nanos = self.nanos.lock(rt);
-            *nanos = (*nanos).max(nanos_of(spent));
-        }
+        let watch = *self.watch.lock(rt);
+        let spent = nanos_of(rt, watch);
+        let mut nanos = self.nanos.lock(rt);
+        *nanos = (*nanos).max(spent);
     }
 }
 

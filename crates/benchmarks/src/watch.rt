@@ -10,6 +10,9 @@ pub struct Watch {
 }
 
 impl Watch {
+    /// No measurement.
+    pub const NONE: Watch = Watch { start: None };
+
     /// Begins a measurement.
     pub fn start<R: Clock>(rt: &R) -> Watch {
         Watch {
