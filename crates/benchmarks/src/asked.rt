@@ -123,12 +123,13 @@ pub struct Task<'w> {
 impl<'w> Task<'w> {
     /// What the argument at an index requests, if it names a benchmark.
     pub fn at(words: &'w [String], index: usize) -> Option<Task<'w>> {
-        let word = words.get(index)?;
-        let benchmark = Benchmark::named(word.as_str())?;
+        let (_earlier, rest) = words.split_at(index.min(words.len()));
+        let (name, later) = rest.split_first()?;
+        let benchmark = Benchmark::named(name.as_str())?;
         Some(Task {
             benchmark,
             size: Size::of(words),
-            words: before_the_next(words.get(index + 1..)?),
+            words: before_the_next(later),
         })
     }
 
@@ -148,13 +149,13 @@ impl<'w> Task<'w> {
 
     /// The number at an index among those after the name.
     pub fn number(&self, index: usize) -> Option<u64> {
-        let mut before = 0;
+        let mut left = index;
         for word in self.words {
             if let Some(number) = number_in(word.as_str()) {
-                if before == index {
+                if left == 0 {
                     return Some(number);
                 }
-                before += 1;
+                left -= 1;
             }
         }
         None
