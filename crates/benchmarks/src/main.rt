@@ -129,8 +129,8 @@ fn perform_each<R: Threads + Wait + Runtime + Sync + AllocGlobal>(
     alloc: Global,
     words: &[String],
 ) -> io::Result<()> {
-    for benchmark in ALL {
-        perform(rt, alloc, &Task::whole(benchmark, words))?;
+    for benchmark in &ALL {
+        perform(rt, alloc, &Task::whole(*benchmark, words))?;
     }
     Ok(())
 }

@@ -73,9 +73,9 @@ pub fn print_rates<R: Threads + Wait + Clock + Eprint + Sync>(
     kind: Kind,
     size: u64,
 ) -> io::Result<()> {
-    for policy in POLICIES {
-        for workers in WORKERS {
-            report(rt, alloc, workers, kind, Load::new(policy, size))?;
+    for policy in &POLICIES {
+        for workers in &WORKERS {
+            report(rt, alloc, *workers, kind, Load::new(*policy, size))?;
         }
     }
     Ok(())

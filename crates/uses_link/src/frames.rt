@@ -194,9 +194,9 @@ fn has_fault(rt: &impl Abort, alloc: Global, digits: &str, number: u8) {
 
 #[test]
 fn the_first_fault_is_named(rt: HostRuntime) {
-    for (number, frames) in REFUSED {
-        for digits in frames {
-            has_fault(&rt, rt.alloc(), digits, number);
+    for (number, frames) in &REFUSED {
+        for digits in *frames {
+            has_fault(&rt, rt.alloc(), digits, *number);
         }
     }
 }
@@ -300,14 +300,14 @@ fn data_of(
 #[test]
 fn data_are_read(rt: HostRuntime) {
     let alloc = rt.alloc();
-    for (digits, source, destination, tid, number, body) in DATA {
+    for (digits, source, destination, tid, number, body) in &DATA {
         let source = address(&rt, alloc, source);
         let destination = address(&rt, alloc, destination);
         let found = ends_of(&rt, alloc, digits);
         same(&rt, found, (source, true, destination), digits);
         let found = data_of(&rt, alloc, digits, body);
-        let number = SequenceNumber::new(number);
-        same(&rt, found, (tid, number, true), digits);
+        let number = SequenceNumber::new(*number);
+        same(&rt, found, (*tid, number, true), digits);
     }
 }
 
@@ -647,9 +647,9 @@ fn is_cut(rt: &impl Abort, alloc: Global, digits: &str, cut: (usize, usize, &[us
 
 #[test]
 fn every_kind_is_written_and_read_and_cut_at_every_length(rt: HostRuntime) {
-    for (digits, cut) in KINDS.into_iter().zip(CUTS) {
+    for (digits, cut) in KINDS.iter().zip(CUTS.iter()) {
         is_written_and_read(&rt, rt.alloc(), digits);
-        is_cut(&rt, rt.alloc(), digits, cut);
+        is_cut(&rt, rt.alloc(), digits, *cut);
     }
 }
 
@@ -672,7 +672,7 @@ fn count_read(rt: &impl Abort, alloc: Global, digits: &str) -> u64 {
 
 #[test]
 fn every_byte_of_every_kind_set_to_every_value(rt: HostRuntime) {
-    for digits in KINDS {
+    for digits in &KINDS {
         holds(&rt, count_read(&rt, rt.alloc(), digits) > 0, "count read");
     }
 }

@@ -20,7 +20,7 @@ fn is_again(rt: &impl Abort, alloc: Global, line: &str, text: &str) {
 }
 
 /// Each form, as it is written.
-const FORMS: [&str; 31] = [
+const FORMS: &[&str] = &[
     "add r0, r1",
     "add32 r10, -5",
     "mov r3, r1",
@@ -55,7 +55,7 @@ const FORMS: [&str; 31] = [
 ];
 
 /// Spaces, comments and other spellings, and how they are written again.
-const SPELLINGS: [(&str, &str); 10] = [
+const SPELLINGS: &[(&str, &str)] = &[
     ("", ""),
     ("   # a comment", ""),
     ("  add r0 ,r1  # sum", "add r0, r1"),
@@ -69,7 +69,7 @@ const SPELLINGS: [(&str, &str); 10] = [
 ];
 
 /// Faulty lines.
-const FAULTY: [(&str, &str); 29] = [
+const FAULTY: &[(&str, &str)] = &[
     ("add r0,  0x1ffffffff", "#"),
     ("mov r0, 4294967296", "#"),
     ("mov r0, -2147483649", "#"),
