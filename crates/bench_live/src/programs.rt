@@ -1,0 +1,90 @@
+//! The programs under which events are measured.
+
+use bpf_regions::WordWidth;
+use live_scenes::publish;
+use std::alloc::Global;
+use std::sync::Wait;
+use versions::Publisher;
+
+/// A program for data, or none.
+#[derive(Clone, Copy)]
+pub struct Policy {
+    pub name: &'static str,
+    text: Option<&'static str>,
+}
+
+/// R0 is 0 for QoS data with LLC/SNAP, IPv4 and UDP to port 53, and else 1. It tests the frame's end first. The events
+/// are such data.
+const FILTER: &str = "mov r4, r1
+add r4, 58
+jgt r4, r2, +23
+ldxb r2, [r1+26]
+jne r2, 170, +21
+ldxb r2, [r1+27]
+jne r2, 170, +19
+ldxh r2, [r1+32]
+be16 r2
+jne r2, 2048, +16
+ldxb r3, [r1+34]
+mov r4, r3
+rsh r4, 4
+jne r4, 4, +12
+and r3, 15
+jne r3, 5, +10
+ldxb r2, [r1+43]
+jne r2, 17, +8
+ldxh r2, [r1+40]
+and r2, 8191
+jne r2, 0, +5
+ldxh r2, [r1+56]
+be16 r2
+jne r2, 53, +2
+mov r0, 0
+exit
+mov r0, 1
+exit
+";
+
+const SHARED: &str = "lddw r1, value 0 0
+mov r2, 1
+atomic_add [r1+0], r2
+mov r0, 0
+exit
+";
+
+const OWN: &str = "lddw r1, value 1 0
+mov r2, 1
+atomic_add [r1+0], r2
+mov r0, 0
+exit
+";
+
+/// No program, and the programs.
+pub const POLICIES: [Policy; 4] = [
+    Policy {
+        name: "no program",
+        text: None,
+    },
+    Policy {
+        name: "port filter",
+        text: Some(FILTER),
+    },
+    Policy {
+        name: "shared counter",
+        text: Some(SHARED),
+    },
+    Policy {
+        name: "counter of each worker",
+        text: Some(OWN),
+    },
+];
+
+impl Policy {
+    /// Publishes the program, if there is one. False if it is refused.
+    pub fn publish<R: Wait>(self, rt: &R, alloc: Global, publisher: &mut Publisher) -> bool {
+        match self.text {
+            Some(text) => publish(rt, alloc, publisher, text, WordWidth::Eight),
+            None => true,
+        }
+    }
+}
