@@ -1,14 +1,12 @@
 -- From what was printed to what the program did.
-use Rattle.std.proofs.Common.{◌≡◌, ◌≢◌, ◌∙◌, ◌⊎◌, ◌≤◌, ℕ, true, false, List, Option, Result, Ok, Err, inl, inr, refl, sym, subst, arith}
+use Rattle.std.proofs.Common.{◌≡◌, ◌≢◌, ◌∙◌, ◌⊎◌, ◌≤◌, ℕ, true, false, List, Option, Result, Err, inl, inr, refl, sym, subst, arith}
 use Rattle.std.specs.Io.KnownBytes.{Keeps}
 use Rattle.clap.specs.declared.builder.value_parser.ValueParser.{ValueParser}
 use Rattle.apd_words.specs.Asked.{Asked, Wanted, Run as RunWanted, Live as LiveWanted, Answer as AnswerWanted}
-use Rattle.apd_words.specs.Reads.{AsksFor, IsHelp, TellsOf}
-use Rattle.apd_words.specs.Spells.{IsReadAs}
+use Rattle.apd_words.specs.Reads.{TellsOf}
 use Rattle.apd_words.specs.declared.Told.{Told}
 use Rattle.apd_words.specs.declared.Told.TheVariants as told
 use Rattle.apd_run.specs.Counts.{none}
-use Rattle.apd_run.specs.Shows as shows
 use Rattle.apd_run.proofs.Ending.{runs_nothing}
 use Rattle.apd_program.specs.declared.answer.Answer.{Answer}
 use Rattle.apd_program.specs.declared.answer.Answer.TheVariants.{Accepted, Code, Instructions, Run, Verdicts, Differences, Page, Script, CutScript, Tested, Help, Fault, Refused, LineFault, Certificate, Unaccepted}
@@ -17,11 +15,11 @@ use Rattle.apd_program.specs.declared.fault.ProgramFault.TheVariants as fault
 use Rattle.apd_program.specs.Lines.{status_of}
 use Rattle.apd_files.specs.Held.{Held}
 use Rattle.apd_program.specs.Answers.{IsAnswer, HasNoAnswer}
-use Rattle.apd_program.specs.Printed.{PrintsText, WholeText, BeginningOfText, fault_status}
+use Rattle.apd_program.specs.Printed.{WholeText, BeginningOfText, fault_status}
 use Rattle.apd_program.specs.Delivered.{Delivers, Printed, Stored, Begun, Unstored, Nothing, status_after}
 use Rattle.apd_program.specs.declared.output.Undelivered.{Undelivered}
 use Rattle.apd_program.specs.declared.output.Undelivered.TheVariants as undelivered
-use Rattle.apd_program.specs.Program.{Performs, Wrote, Saved, Stopped, Unsaved, Refrained, Exhausted, Responds, Fulfils, Tells, Does, Performed, Complained, Helped, StoppedHelp}
+use Rattle.apd_program.specs.Program.{Performs, Wrote, Saved, Stopped, Unsaved, Refrained, Exhausted, Responds, Fulfils, Tells, Does, Complained, Helped, StoppedHelp}
 use Rattle.apd_program.proofs.Kept.{Keeps-same}
 
 -- a failed write has status 2
