@@ -85,7 +85,7 @@ const JUDGED: &[(&str, &str, u8)] = &[
          a.test:4: FAILED: expected pass, was refused 30 at 0\n\
          a.test:5: FAILED: expected budget <= 9, was refused 30 at 0\na.test:7: ok\n\
          a.test:9: FAILED: expected refused 15, was accepted budget 9\na.test:10: ok\n\
-         a.test:11: FAILED: expected budget <= 8, was accepted budget 9\n4 passed, 5 failed\n",
+         a.test:11: FAILED: expected budget <= 8, was accepted budget 9\n3 passed, 5 failed\n",
         1,
     ),
     (
