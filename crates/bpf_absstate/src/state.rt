@@ -17,7 +17,6 @@ use std::marker::Model;
 use std::rc::Rc;
 
 /// A set of states of a run, all at one slot and with the same call chain.
-#[derive(Drop)]
 pub struct AbsState {
     pc: usize,
     registers: Registers,
@@ -59,6 +58,20 @@ impl Model for AbsState {
       least = a.least;
       rooms = a.rooms.value;
     }) };
+}
+
+/// By hand, so that the crates above do not prove again how the parts are freed.
+impl Drop for AbsState {
+    fn drop(self) {
+        let Self {
+            pc: _,
+            registers: _registers,
+            frames: _frames,
+            rooms: _rooms,
+            least: _,
+            depth: _,
+        } = self;
+    }
 }
 
 impl Clone for AbsState {
