@@ -358,15 +358,17 @@ pub fn read_words(words: &[&str]) -> Said
     ensures valid { IfOk result IsInsn }
 {
     match words {
-        [] => Err(LineFault::Grammar),
-        [name] => of_one(name),
-        [name, operand] => one(name, operand),
-        [name, second, third] => of_three(name, second, third),
-        [name, second, third, fourth] => of_four(name, second, third, fourth),
-        [name, second, third, fourth, fifth] => of_five(name, second, third, fourth, fifth),
-        [name, second, third, fourth, fifth, sixth] => {
-            of_six(name, second, third, fourth, fifth, sixth)
+        [] => return Err(LineFault::Grammar),
+        [name] => return of_one(name),
+        [name, operand] => return one(name, operand),
+        [name, second, third] => return of_three(name, second, third),
+        [name, second, third, fourth] => return of_four(name, second, third, fourth),
+        [name, second, third, fourth, fifth] => {
+            return of_five(name, second, third, fourth, fifth);
         }
-        [_, _, _, _, _, _, _, ..] => Err(LineFault::Grammar),
+        [name, second, third, fourth, fifth, sixth] => {
+            return of_six(name, second, third, fourth, fifth, sixth);
+        }
+        [_, _, _, _, _, _, _, ..] => return Err(LineFault::Grammar),
     }
 }

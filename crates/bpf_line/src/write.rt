@@ -1,6 +1,7 @@
 //! The text of an instruction.
 
 ghost use Rattle.std.specs.Prelude.{◌≡◌, Some};
+ghost use Rattle.bpf_insn.specs.declared.insn.Insn.TheVariants.{Alu, Branch, Store, Atomic};
 ghost use Rattle.bpf_line.specs.Spellings.{alu_name, compare_name, atomic_name, extension_name, order_name, load_name, size_name, suffix, register_text, offset_text, source_text, memory_text, wide_text, text_of};
 
 use bpf_insn::{
@@ -201,6 +202,100 @@ impl fmt::Display for WideOperand {
     }
 }
 
+/// The text of arithmetic.
+#[derive(Clone, Copy)]
+struct Arithmetic {
+    op: AluOp,
+    wide: bool,
+    dst: Reg,
+    source: Source,
+}
+
+impl fmt::Display for Arithmetic {
+    ghost output = { λ t. Some (text_of (Alu t.op t.wide t.dst t.source)) };
+
+    fn fmt<W: fmt::Write>(&self, f: &mut fmt::Formatter<W>) -> fmt::Result {
+        write!(
+            f,
+            "{}{} {}, {}",
+            alu_name(self.op),
+            suffix(self.wide),
+            Register(self.dst),
+            Operand(self.source)
+        )
+    }
+}
+
+/// The text of a conditional jump.
+#[derive(Clone, Copy)]
+struct ConditionalJump {
+    compare: Compare,
+    wide: bool,
+    dst: Reg,
+    source: Source,
+    offset: i16,
+}
+
+impl fmt::Display for ConditionalJump {
+    ghost output = { λ t. Some (text_of (Branch t.compare t.wide t.dst t.source t.offset)) };
+
+    fn fmt<W: fmt::Write>(&self, f: &mut fmt::Formatter<W>) -> fmt::Result {
+        write!(
+            f,
+            "{}{} {}, {}, {}",
+            compare_name(self.compare),
+            suffix(self.wide),
+            Register(self.dst),
+            Operand(self.source),
+            Offset(i32::from(self.offset))
+        )
+    }
+}
+
+/// The text of a store.
+#[derive(Clone, Copy)]
+struct Stored {
+    size: Size,
+    place: Memory,
+    source: Source,
+}
+
+impl fmt::Display for Stored {
+    ghost output = { λ t. Some (text_of (Store t.size t.place.base t.place.offset t.source)) };
+
+    fn fmt<W: fmt::Write>(&self, f: &mut fmt::Formatter<W>) -> fmt::Result {
+        let size = size_name(self.size);
+        match self.source {
+            Source::Imm(number) => write!(f, "st{size} {}, {number}", self.place),
+            Source::Reg(src) => write!(f, "stx{size} {}, {}", self.place, Register(src)),
+        }
+    }
+}
+
+/// The text of an atomic.
+#[derive(Clone, Copy)]
+struct Exchanged {
+    op: AtomicOp,
+    wide: bool,
+    place: Memory,
+    src: Reg,
+}
+
+impl fmt::Display for Exchanged {
+    ghost output = { λ t. Some (text_of (Atomic t.op t.wide t.place.base t.src t.place.offset)) };
+
+    fn fmt<W: fmt::Write>(&self, f: &mut fmt::Formatter<W>) -> fmt::Result {
+        write!(
+            f,
+            "{}{} {}, {}",
+            atomic_name(self.op),
+            suffix(self.wide),
+            self.place,
+            Register(self.src)
+        )
+    }
+}
+
 /// An instruction, displayed as its line of assembler text.
 #[derive(Clone, Copy, Debug)]
 pub struct InsnText(pub Insn);
@@ -215,29 +310,21 @@ impl fmt::Display for InsnText {
                 wide,
                 dst,
                 source,
-            } => {
-                write!(
-                    f,
-                    "{}{} {}, {}",
-                    alu_name(op),
-                    suffix(wide),
-                    Register(dst),
-                    Operand(source)
-                )
+            } => Arithmetic {
+                op,
+                wide,
+                dst,
+                source,
             }
+            .fmt(f),
             Insn::MovSx {
                 from,
                 wide,
                 dst,
                 src,
             } => {
-                write!(
-                    f,
-                    "{} {}, {}",
-                    extension_name(from, wide),
-                    Register(dst),
-                    Register(src)
-                )
+                let name = extension_name(from, wide);
+                write!(f, "{name} {}, {}", Register(dst), Register(src))
             }
             Insn::Neg { wide, dst } => write!(f, "neg{} {}", suffix(wide), Register(dst)),
             Insn::End { order, width, dst } => {
@@ -252,15 +339,14 @@ impl fmt::Display for InsnText {
                 source,
                 offset,
             } => {
-                let target = Offset(i32::from(offset));
-                write!(
-                    f,
-                    "{}{} {}, {}, {target}",
-                    compare_name(compare),
-                    suffix(wide),
-                    Register(dst),
-                    Operand(source)
-                )
+                ConditionalJump {
+                    compare,
+                    wide,
+                    dst,
+                    source,
+                    offset,
+                }
+                .fmt(f)
             }
             Insn::Call { helper } => write!(f, "call {helper}"),
             Insn::CallLocal { offset } => write!(f, "call local {}", Offset(offset)),
@@ -282,15 +368,12 @@ impl fmt::Display for InsnText {
                 source,
             } => {
                 let place = Memory { base: dst, offset };
-                match source {
-                    Source::Imm(number) => write!(f, "st{} {place}, {number}", size_name(size)),
-                    Source::Reg(src) => write!(
-                        f,
-                        "stx{} {place}, {}",
-                        size_name(size),
-                        Register(src)
-                    ),
+                Stored {
+                    size,
+                    place,
+                    source,
                 }
+                .fmt(f)
             }
             Insn::Atomic {
                 op,
@@ -300,13 +383,13 @@ impl fmt::Display for InsnText {
                 offset,
             } => {
                 let place = Memory { base: dst, offset };
-                write!(
-                    f,
-                    "{}{} {place}, {}",
-                    atomic_name(op),
-                    suffix(wide),
-                    Register(src)
-                )
+                Exchanged {
+                    op,
+                    wide,
+                    place,
+                    src,
+                }
+                .fmt(f)
             }
             Insn::LoadWide { dst, value } => {
                 write!(f, "lddw {}, {}", Register(dst), WideOperand(value))
