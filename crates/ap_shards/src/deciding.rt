@@ -41,7 +41,8 @@ fn decide_at<B: Ledgers + Journals, const SHARD: usize>(
         clock: locked.clock(),
         stations: locked.stations(),
     };
-    let mut judge = SetJudge::new(desk.set, view, state);
+    let set = desk.set.in_force();
+    let mut judge = SetJudge::new(set, view, state);
     match locked.decide(desk.alloc, mine, event, &mut judge) {
         Ok((outs, dropped)) => Fate::Decided { outs, dropped },
         Err(_) => Fate::Refused,

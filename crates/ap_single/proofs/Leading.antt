@@ -10,8 +10,8 @@ use Rattle.ap_model.specs.Readings.{Readings, Rules}
 use Rattle.ap_model.specs.Runs.{Entry, Run, rests, goes_on}
 use Rattle.ap_model.specs.AccessPoint.{Turn, AreTurns, no_event, refused, at_its_shard, ticked, EventsLead, shard_of, entries_of, asked_of}
 use Rattle.ap_core.specs.AccessPoints.{rules_of, readings_of, RunsAll}
-use Rattle.program_judge.specs.declared.judge.ProgramJudge.{ProgramJudge}
-use Rattle.program_judge.specs.Judges.{Judges}
+use Rattle.hook_judge.specs.declared.judge.SetJudge.{SetJudge}
+use Rattle.hook_judge.specs.Judges.{Judges}
 use Rattle.ap_single.specs.Leading.{Parts, IsGiven, IsLike, Leads}
 
 not_cons : {A : Type 0} (x : A) (xs : List A) → [] ≡ x ∷ xs → ⊥
@@ -63,7 +63,7 @@ module _ {S : Type 0} (R : S → Ask → ℕ → S → Type 0) (c : ℕ → Rule
 
 module _ (a a' : Parts) (e : Event) where
   -- a refused event changes nothing
-  pub like_by : (j k : ProgramJudge) (rs : List (Option (List Out))) → RunsAll Judges a.shards (e ∷ []) j rs a'.shards k → rs ≡ None ∷ [] → a'.programs ≡ a.programs → IsLike a a' × (k ≡ j)
+  pub like_by : (j k : SetJudge) (rs : List (Option (List Out))) → RunsAll Judges a.shards (e ∷ []) j rs a'.shards k → rs ≡ None ∷ [] → a'.programs ≡ a.programs → IsLike a a' × (k ≡ j)
   like_by j k rs ran none kept =
       let led = subst (λ (x : List (Option (List Out))). EventsLead Judges (rules_of a.shards) (readings_of a.shards) (e ∷ []) j x (readings_of a'.shards) k) none ran.leads in (
         record {

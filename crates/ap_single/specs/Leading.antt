@@ -9,13 +9,13 @@ use Rattle.ap_model.specs.Stations.{AreAssociated}
 use Rattle.ap_model.specs.AccessPoint.{EventsLead, shard_of}
 use Rattle.ap_core.specs.declared.shard.Shard.{Shard}
 use Rattle.ap_core.specs.AccessPoints.{rules_of, readings_of}
-use Rattle.program_judge.specs.Programs.{Programs}
-use Rattle.program_judge.specs.Verdicts.{GivesVerdict}
+use Rattle.hook_judge.specs.Owned.{Owned}
+use Rattle.hook_judge.specs.Verdicts.{GivesVerdict}
 
 -- the eight shards, and the hooks' programs
 pub record Parts : Type 0 where
   pub shards : List Shard
-  pub programs : Programs
+  pub programs : Owned
 
 -- What programs read: the tables of the maps, and, of a shard before the event, the clock and the number of associated
 -- stations.
@@ -37,6 +37,6 @@ pub record IsLike (a a' : Parts) : Type 0 where
 pub record Leads (a : Parts) (event : Event) (maps : List Tables) (h : Held) (result : Option (List Out)) (a' : Parts) (h' : Held) : Type 0 where
   pub given : Given
   pub is_given : (s : ℕ) → shard_of event ≡ Some s → IsGiven maps (readings_of a.shards s) given
-  pub leads : EventsLead (GivesVerdict given a.programs) (rules_of a.shards) (readings_of a.shards) (event ∷ []) h (result ∷ []) (readings_of a'.shards) h'
+  pub leads : EventsLead (GivesVerdict given a.programs.in_force) (rules_of a.shards) (readings_of a.shards) (event ∷ []) h (result ∷ []) (readings_of a'.shards) h'
   pub rules : (s : ℕ) → rules_of a'.shards s ≡ rules_of a.shards s
   pub programs : a'.programs ≡ a.programs

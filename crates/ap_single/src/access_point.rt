@@ -8,7 +8,8 @@ ghost use Rattle.ap_model.specs.AccessPoint.{shard_of};
 ghost use Rattle.ap_core.specs.Shards.{reads};
 ghost use Rattle.ap_core.specs.AccessPoints.{readings_of, outs_in, AreFresh};
 ghost use Rattle.ap_core.specs.Listing.{Joins, ListsAgreements, ListsStations, MergesAgreements, MergesStations};
-ghost use Rattle.program_judge.specs.Programs.{IsFor, no_programs, replaced};
+ghost use Rattle.bpf_machine.specs.ByHook.{IsFor};
+ghost use Rattle.hook_judge.specs.Owned.{none_for, with_program};
 ghost use Rattle.ap_single.specs.Leading.{IsGiven, IsLike, Leads};
 
 use ap_core::{
@@ -17,8 +18,8 @@ use ap_core::{
 use bpf_helpers::{MapTables, WorkerState, WorkerView};
 use bpf_machine::Accepted;
 use bpf_regions::{Hook, Shapes};
+use hook_judge::{Programs, SetJudge, judging_law};
 use mac_types::{Address, Tid};
-use program_judge::{ProgramJudge, Programs, judged_law};
 use std::alloc::{AllocError, Global};
 use std::marker::Model;
 
@@ -107,7 +108,7 @@ impl AccessPoint {
     /// An access point that has handled nothing and has no programs, for maps of these shapes.
     pub fn new(alloc: Global, config: &LinkConfig, shapes: Shapes) -> Result<Self, AllocError>
         ensures fresh { IfOk result (λ a. AreFresh config.now a.shards) }
-        ensures programs { IfOk result (λ a. a.programs ≡ no_programs shapes) }
+        ensures programs { IfOk result (λ a. a.programs ≡ none_for shapes) }
     {
         let shards = new_shards(alloc, config)?;
         let programs = Programs::none(shapes);
@@ -142,7 +143,7 @@ impl AccessPoint {
     /// Puts this program, or none, in place of a hook's program.
     pub fn put(&mut self, hook: Hook, program: Option<Accepted>)
         requires fits { IfSome program (IsFor self.old.programs.shapes hook) }
-        ensures programs { self.new.programs ≡ replaced hook self.old.programs program }
+        ensures programs { self.new.programs ≡ with_program hook self.old.programs program }
         ensures shards { self.new.shards ≡ self.old.shards }
     {
         self.programs.put(hook, program);
@@ -165,10 +166,11 @@ impl AccessPoint {
         ensures refused { result ≡ None → IsLike self.old self.new × (state.new ≡ state.old) }
         ensures fitting { IsFitting maps.now 0 state.new.seats }
     {
-        judged_law();
+        judging_law();
         let view = view_at(&self.shards, &event, maps);
         let events = [event];
-        let mut judge = ProgramJudge::new(&self.programs, view, state);
+        let set = self.programs.in_force();
+        let mut judge = SetJudge::new(set, view, state);
         match handle_all(alloc, &mut self.shards, &events, &mut judge) {
             Err(_) => return None,
             Ok(results) => {

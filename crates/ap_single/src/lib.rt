@@ -1,6 +1,6 @@
 //! The access point of one caller: eight shards, and the programs by which they judge.
 //!
-//! Main calls: `AccessPoint::new` and `handle`. It depends on `ap_core` and `program_judge`. An event is a step of the
+//! Main calls: `AccessPoint::new` and `handle`. It depends on `ap_core` and `hook_judge`. An event is a step of the
 //! link whose verdicts are those of the caller's programs, over the caller's maps; an event refused for lack of memory
 //! changes nothing and queries nothing. No call waits.
 #![tactic(auto)]

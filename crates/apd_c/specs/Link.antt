@@ -5,7 +5,7 @@ use Rattle.bpf_regions.specs.Hooks.{number_of}
 use Rattle.bpf_machine.specs.Verified.{Verified}
 use Rattle.ap_model.specs.Readings.{Config}
 use Rattle.ap_core.specs.AccessPoints.{AreFresh}
-use Rattle.program_judge.specs.Programs.{no_programs, replaced}
+use Rattle.hook_judge.specs.Owned.{none_for, with_program}
 use Rattle.ap_single.specs.Leading.{Parts}
 use Rattle.apd_c.specs.declared.handle.Content.{Content}
 use Rattle.apd_c.specs.declared.handle.Content.TheVariants as content
@@ -43,7 +43,7 @@ IsLinkNumber network shapes o = UnlessNone o 92 (IsNewNumber network shapes)
 -- a new access point of this configuration, without programs, for maps of these shapes
 pub record IsMade (network : Network) (shapes : List MapShape) (a : Parts) : Type 0 where
   pub fresh : AreFresh (config_of network) a.shards
-  pub programs : a.programs ≡ no_programs (map shape_of shapes)
+  pub programs : a.programs ≡ none_for (map shape_of shapes)
 
 -- the content is such an access point
 abbrev pub HoldsMade : Network → List MapShape → Option Content → Type 0
@@ -53,7 +53,7 @@ HoldsMade network shapes o = (a : Parts) × (link_of o ≡ Some a) × IsMade net
 pub record Puts (hook : Hook) (program : Verified) (a a' : Parts) : Type 0 where
   pub for_hook : program.hook ≡ hook
   pub for_maps : program.code.shapes ≡ a.programs.shapes
-  pub programs : a'.programs ≡ replaced hook a.programs (Some program)
+  pub programs : a'.programs ≡ with_program hook a.programs (Some program)
   pub shards : a'.shards ≡ a.shards
 
 -- the same if the content is an access point
@@ -62,7 +62,7 @@ HasPut hook program o o' = (a : Parts) × (a' : Parts) × (link_of o ≡ Some a)
 
 -- the hook's program is removed
 pub record Unloads (hook : Hook) (a a' : Parts) : Type 0 where
-  pub programs : a'.programs ≡ replaced hook a.programs None
+  pub programs : a'.programs ≡ with_program hook a.programs None
   pub shards : a'.shards ≡ a.shards
 
 -- the same if the content is an access point

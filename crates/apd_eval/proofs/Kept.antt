@@ -3,7 +3,7 @@ use Rattle.std.proofs.Common.{ℕ, List, [], ◌∷◌, ap, ◌∙◌, subst, Bo
 use Rattle.bpf_helpers.specs.declared.worker.WorkerView.{WorkerView}
 use Rattle.bpf_helpers.specs.HookPorts.{given_by}
 use Rattle.ap_model.specs.Asks.{Ask, Answered}
-use Rattle.program_judge.specs.Programs.{Programs}
+use Rattle.hook_judge.specs.Owned.{Owned}
 use Rattle.apd_eval.specs.Rulings.{GivesRuling}
 use Rattle.apd_eval.specs.Witnesses.{Keeps, Witnesses, heard_by}
 use Rattle.apd_eval.specs.declared.witness.Witness.{Witness}
@@ -36,5 +36,5 @@ given j k (a ∷ asked) answered =
       heard_by mid,
       one.given,
       subst (λ (v : WorkerView). Answered (GivesRuling (given_by v) j.programs.now) (heard_by mid) asked (heard_by k)) one.keeps.view
-          (subst (λ (s : Bor Programs). Answered (GivesRuling (given_by mid.view) s.now) (heard_by mid) asked (heard_by k)) one.keeps.programs rest),
+          (subst (λ (s : Bor Owned). Answered (GivesRuling (given_by mid.view) s.now) (heard_by mid) asked (heard_by k)) one.keeps.programs rest),
     )

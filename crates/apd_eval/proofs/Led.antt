@@ -10,7 +10,7 @@ use Rattle.ap_model.specs.Asks.{Answered}
 use Rattle.ap_model.specs.AccessPoint.{Turn, AreTurns, no_event, refused, at_its_shard, ticked, shard_of, asked_of}
 use Rattle.ap_core.specs.declared.shard.Shard.{Shard}
 use Rattle.ap_core.specs.AccessPoints.{readings_of, RunsAll}
-use Rattle.program_judge.specs.Programs.{Programs}
+use Rattle.hook_judge.specs.Owned.{Owned}
 use Rattle.apd_eval.specs.Rulings.{GivesRuling}
 use Rattle.apd_eval.specs.Witnesses.{Witnesses, heard_by}
 use Rattle.apd_eval.specs.Leading.{IsGiven, Leads}
@@ -35,7 +35,7 @@ module _ (p : Policy) (e : Event) (shards shards' : List Shard) (j k : Witness) 
       let asks = asked_of run.turns in
       let base = given j k asks run.listed in
       let seen = subst (λ (w : WorkerView). Answered (GivesRuling (given_by w) j.programs.now) (heard_by j) asks (heard_by k)) viewed base in
-      let judged = subst (λ (b : Bor Programs). Answered (GivesRuling (given_by v) b.now) (heard_by j) asks (heard_by k)) same seen in
+      let judged = subst (λ (b : Bor Owned). Answered (GivesRuling (given_by v) b.now) (heard_by j) asks (heard_by k)) same seen in
       record {
         given = given_by v;
         is_given = reads;

@@ -7,13 +7,13 @@ use Rattle.bpf_helpers.specs.Hooked.{Held}
 use Rattle.bpf_machine.specs.Verified.{Verified}
 use Rattle.capture.specs.Packets.{Seen}
 use Rattle.ap_model.specs.Readings.{Config}
-use Rattle.program_judge.specs.Programs.{no_programs, replaced}
+use Rattle.hook_judge.specs.Owned.{none_for, with_program}
 use Rattle.apd_eval.specs.Follows.{IsFollowed}
 use Rattle.apd_eval.specs.Evaluated.{IsEvaluated}
 use Rattle.apd_eval.specs.declared.follow.Row.{Row}
 use Rattle.apd_eval.specs.declared.tried.Policy.{Policy}
 
-pub evaluated : (v : Verified) (draw : ℕ) (config : Config) (packets : List Seen) (p : Policy) (h : Held) (r : Result (Vec Row Global) AllocError) → p.hook ≡ v.hook → p.programs.now ≡ replaced v.hook (no_programs v.code.shapes) (Some v) → h.draw ≡ draw
+pub evaluated : (v : Verified) (draw : ℕ) (config : Config) (packets : List Seen) (p : Policy) (h : Held) (r : Result (Vec Row Global) AllocError) → p.hook ≡ v.hook → p.programs.now ≡ with_program v.hook (none_for v.code.shapes) (Some v) → h.draw ≡ draw
     → IfOk r (λ rows. IsFollowed p config packets h rows.items) → IfOk r (λ rows. IsEvaluated v draw config packets rows.items)
 evaluated v draw config packets p h r hook programs drawn followed =
     IfOk-weaker r (λ rows. IsFollowed p config packets h rows.items) (λ rows. IsEvaluated v draw config packets rows.items) (λ rows f. record {

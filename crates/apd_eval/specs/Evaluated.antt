@@ -4,7 +4,7 @@ use Rattle.bpf_helpers.specs.Hooked.{Held}
 use Rattle.bpf_machine.specs.Verified.{Verified}
 use Rattle.capture.specs.Packets.{Seen}
 use Rattle.ap_model.specs.Readings.{Config}
-use Rattle.program_judge.specs.Programs.{no_programs, replaced}
+use Rattle.hook_judge.specs.Owned.{none_for, with_program}
 use Rattle.apd_eval.specs.Follows.{IsFollowed}
 use Rattle.apd_eval.specs.Table.{IsTable}
 use Rattle.apd_eval.specs.declared.follow.Row.{Row}
@@ -14,7 +14,7 @@ use Rattle.apd_eval.specs.declared.tried.Policy.{Policy}
 pub record IsEvaluated (v : Verified) (draw : ℕ) (config : Config) (packets : List Seen) (rows : List Row) : Type 0 where
   pub policy : Policy
   pub hook : policy.hook ≡ v.hook
-  pub programs : policy.programs.now ≡ replaced v.hook (no_programs v.code.shapes) (Some v)
+  pub programs : policy.programs.now ≡ with_program v.hook (none_for v.code.shapes) (Some v)
   pub held : Held
   pub drawn : held.draw ≡ draw
   pub followed : IsFollowed policy config packets held rows

@@ -1,6 +1,6 @@
 //! Policies on captures: what a program says of each frame that comes to it.
 //!
-//! Main call: `evaluation_text`. It depends on `ap_core`, `program_judge` and `capture`. The frames of a capture come to
+//! Main call: `evaluation_text`. It depends on `ap_core`, `hook_judge` and `capture`. The frames of a capture come to
 //! a new access point of which the program is the only one; each query of its hook is a row, with the verdict and the
 //! steps of the program's run on that query.
 #![tactic(auto)]

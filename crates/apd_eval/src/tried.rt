@@ -2,13 +2,13 @@
 
 ghost use Rattle.std.specs.Prelude.{◌≡◌, IfOk, Some};
 ghost use Rattle.bpf_helpers.specs.Hooked.{IsFitting, shapes_of};
-ghost use Rattle.program_judge.specs.Programs.{no_programs, replaced};
+ghost use Rattle.hook_judge.specs.Owned.{none_for, with_program};
 
 use ap_tables::ApTables;
 use bpf_helpers::{MapTables, WorkerState, tables_law};
 use bpf_machine::Accepted;
 use bpf_regions::{Hook, Shapes};
-use program_judge::Programs;
+use hook_judge::Programs;
 use std::alloc::{AllocError, Global};
 
 /// Programs, the maps over which they run, and the hook whose verdicts are wanted.
@@ -44,7 +44,7 @@ fn copied(alloc: Global, shapes: &Shapes) -> Result<Shapes, AllocError>
 /// The program alone, at its hook.
 fn alone(alloc: Global, accepted: Accepted) -> Result<Programs, AllocError>
     ensures programs { IfOk result (λ programs.
-        programs ≡ replaced accepted.hook (no_programs accepted.code.shapes) (Some accepted)) }
+        programs ≡ with_program accepted.hook (none_for accepted.code.shapes) (Some accepted)) }
 {
     let hook = accepted.hook();
     let shapes = copied(alloc, accepted.program().shapes())?;
@@ -57,7 +57,7 @@ impl Tried {
     /// The program alone, at its hook, with maps of zeros and this draw word.
     pub(crate) fn new(alloc: Global, accepted: Accepted, draw: u64) -> Result<Tried, AllocError>
         ensures programs { IfOk result (λ tried. tried.programs
-            ≡ replaced accepted.hook (no_programs accepted.code.shapes) (Some accepted)) }
+            ≡ with_program accepted.hook (none_for accepted.code.shapes) (Some accepted)) }
         ensures draw { IfOk result (λ tried. tried.state.draw ≡ draw) }
     {
         let programs = alone(alloc, accepted)?;

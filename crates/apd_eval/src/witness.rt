@@ -9,10 +9,10 @@ use crate::ruling::Ruling;
 use ap_model::{AskLog, Judge};
 use bpf_helpers::{WorkerState, WorkerView, run_hook};
 use bpf_regions::{Context, Frame, Hook};
+use hook_judge::Programs;
 use hooks::no_program;
-use program_judge::Programs;
 
-/// Judges as a `ProgramJudge` does, and keeps the last query with its verdict and steps. It is made anew for each event.
+/// Judges as a `SetJudge` does, and keeps the last query with its verdict and steps. It is made anew for each event.
 #[derive(Drop)]
 pub(crate) struct Witness<'p, 't, 's> {
     pub programs: &'p Programs,

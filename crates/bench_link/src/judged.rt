@@ -108,7 +108,8 @@ fn handled(
 {
     judging_law();
     let view = view_of(policies, served.shard.clock(), served.shard.stations());
-    let mut judge = SetJudge::new(policies.set, view, state);
+    let set = policies.set.in_force();
+    let mut judge = SetJudge::new(set, view, state);
     let outs = served.shard.handle(alloc, &served.sent.event, &mut judge)?;
     Ok(ups(&outs))
 }
@@ -119,7 +120,8 @@ fn verdict(frame: &Frame<'_>, policies: &Policies<'_, '_>, state: &mut WorkerSta
     ensures seats { IsFitting policies.now.maps.now 0 state.new.seats }
 {
     let view = view_of(policies, 0, 1);
-    let mut judge = SetJudge::new(policies.set, view, state);
+    let set = policies.set.in_force();
+    let mut judge = SetJudge::new(set, view, state);
     judge.judge(Hook::Data, frame, &Context::new([0; 32]))
 }
 
@@ -246,7 +248,7 @@ fn spent_by_itself<R: Clock>(
     ensures seats { IsFitting policies.now.maps.now 0 state.new.seats }
 {
     let (judged, verdict) = time_verdicts(rt, frame, policies, state)?;
-    let Some(accepted) = policies.set.program(Hook::Data) else {
+    let Some(accepted) = policies.set.in_force().program(Hook::Data) else {
         return Ok((verdict, 0));
     };
     let (ended, run) = time_runs(rt, accepted, frame, policies, state)?;

@@ -1,4 +1,5 @@
 pub mod Verified
+pub mod ByHook
 pub mod Runs
 pub mod SoFar
 pub mod Listed

@@ -9,6 +9,7 @@
 
 pub mod accepted;
 pub mod bare;
+pub mod in_force;
 pub mod list_port;
 pub mod outcome;
 pub mod probing;
@@ -21,6 +22,7 @@ pub use accepted::Accepted;
 pub use bare::Bare;
 pub use bpf_bare::Word;
 pub use bpf_tagged::Port;
+pub use in_force::InForce;
 pub use list_port::ListPort;
 pub use outcome::{Outcome, Probe, Step};
 pub use running::run;

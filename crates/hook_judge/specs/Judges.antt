@@ -1,14 +1,14 @@
 -- What a judge by programs gives, by the references that it borrowed.
 use Rattle.std.specs.Prelude.{◌≡◌, ◌+◌, ◌%◌, ◌^◌, ◌++◌, ◌∷◌, ℕ, []}
 use Rattle.ap_model.specs.Asks.{Ask}
-use Rattle.versions.specs.Sets.{Programs, set_of}
 use Rattle.bpf_helpers.specs.HookPorts.{given_by}
+use Rattle.bpf_machine.specs.ByHook.{Programs, programs_of}
 use Rattle.hook_judge.specs.declared.judge.SetJudge.{SetJudge}
 use Rattle.hook_judge.specs.Verdicts.{GivesIn}
 
 -- the programs by which it judges
-abbrev pub programs_of : SetJudge → Programs
-programs_of j = set_of j.set.now.loads
+abbrev pub judges_by : SetJudge → Programs
+judges_by j = programs_of j.set
 
 -- k borrows what j does
 pub record Keeps (j k : SetJudge) : Type 0 where
@@ -20,6 +20,6 @@ pub record Keeps (j k : SetJudge) : Type 0 where
 pub record Judges (j : SetJudge) (ask : Ask) (verdict : ℕ) (k : SetJudge) : Type 0 where
   pub keeps : Keeps j k
   pub steps : ℕ
-  pub given : GivesIn (given_by j.view) (programs_of j) j.state.now ask verdict steps k.state.now
+  pub given : GivesIn (given_by j.view) (judges_by j) j.state.now ask verdict steps k.state.now
   pub counted : k.steps ≡ (j.steps + steps) % 2 ^ 64
   pub listed : k.asked.asks ≡ j.asked.asks ++ (ask, verdict) ∷ []

@@ -1,4 +1,4 @@
--- The verdicts that a set of programs gives.
+-- The verdicts that programs give.
 use Rattle.std.specs.Prelude.{◌≡◌, ◌≤◌, ℕ, List, Option, Some, None}
 use Rattle.bpf_regions.specs.declared.asks.Ask as program
 use Rattle.bpf_model.specs.Run.{Safe, Ends}
@@ -7,7 +7,7 @@ use Rattle.bpf_machine.specs.Verified.{Verified}
 use Rattle.bpf_machine.specs.Runs.{setting_of}
 use Rattle.bpf_helpers.specs.Hooked.{Given, Held, Gives, shapes_of}
 use Rattle.hooks.specs.Verdicts.{no_program}
-use Rattle.versions.specs.Sets.{Programs, program_at}
+use Rattle.bpf_machine.specs.ByHook.{Programs, program_at}
 use Rattle.ap_model.specs.Asks.{Ask}
 
 -- A program's run on the frame and context of a query. The program was accepted for the hook, so no run of it faults

@@ -1,35 +1,36 @@
-//! A judge by a set of programs.
+//! A judge by programs.
 
 ghost use Rattle.std.specs.Prelude.{◌≡◌, []};
 ghost use Rattle.bpf_helpers.specs.Hooked.{IsFitting, shapes_of};
+ghost use Rattle.bpf_machine.specs.ByHook.{AreFor, programs_of};
 
 use ap_model::{AskLog, Judge};
 use bpf_helpers::{WorkerState, WorkerView, run_hook};
+use bpf_machine::InForce;
 use bpf_regions::{Context, Frame, Hook};
 use hooks::no_program;
-use versions::ProgramSet;
 
 /// Judges by one set of programs, over one worker's tables: a hook's verdict is R0 of a run of the set's program for
 /// that hook, or, if it has none, the number of the verdict tables. It is made anew for each event, only of borrowed
 /// values, and allocates nothing. What programs note is dropped.
 #[derive(Drop)]
 pub struct SetJudge<'p, 't, 's> {
-    pub set: &'p ProgramSet,
+    pub set: InForce<'p>,
     pub view: WorkerView<'t>,
     pub state: &'s mut WorkerState,
     /// How many steps its runs executed, mod 2^64.
     pub steps: u64,
     pub asked: AskLog,
-    pub ghost for_maps: { set.now.shapes ≡ shapes_of view.maps.now },
+    pub ghost for_maps: { AreFor (shapes_of view.maps.now) (programs_of set) },
     pub ghost fitting: { IsFitting view.maps.now view.worker state.now.seats },
 }
 
 impl<'p, 't, 's> SetJudge<'p, 't, 's> {
-    /// A judge by this set, which must be one for the maps in use. Nothing has been asked of it.
-    pub fn new(set: &'p ProgramSet, view: WorkerView<'t>, state: &'s mut WorkerState) -> Self
-        requires for_maps { set.now.shapes ≡ shapes_of view.maps.now }
+    /// A judge by this set, whose programs must be for the maps in use. Nothing has been asked of it.
+    pub fn new(set: InForce<'p>, view: WorkerView<'t>, state: &'s mut WorkerState) -> Self
+        requires for_maps { AreFor (shapes_of view.maps.now) (programs_of set) }
         requires fitting { IsFitting view.maps.now view.worker state.old.seats }
-        ensures set { result.set ≡ set.entry }
+        ensures set { result.set ≡ set }
         ensures view { result.view ≡ view.entry }
         ensures same_state { result.state.ghost_name ≡ state.entry.ghost_name }
         ensures state { result.state.now ≡ state.old }

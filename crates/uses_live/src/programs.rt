@@ -43,7 +43,7 @@ pub fn accepted(
 
 /// The outcome of a run of a hook's program on an empty frame; None if the hook has no program.
 pub fn outcome_of(set: &ProgramSet, hook: Hook) -> Option<Outcome> {
-    let accepted = set.program(hook)?;
+    let accepted = set.in_force().program(hook)?;
     let frame = Frame::new(&[])?;
     let mut port = ListPort::new(accepted.program().shapes(), &[]);
     Some(run(accepted, &frame, &Context::new([0; 32]), &mut port))

@@ -13,8 +13,7 @@ use Rattle.bpf_helpers.specs.HookPorts.{given_by}
 use Rattle.versions.specs.Sets.{Programs}
 use Rattle.hook_judge.specs.declared.judge.SetJudge.{SetJudge}
 use Rattle.hook_judge.specs.Verdicts.{GivesVerdict}
-use Rattle.hook_judge.specs.Judges.{Keeps, Judges}
-use Rattle.hook_judge.specs.Judges as judges
+use Rattle.hook_judge.specs.Judges.{Keeps, Judges, judges_by}
 use Rattle.uses_policies.specs.declared.policies.Policies.{Policies}
 use Rattle.uses_policies.specs.Policed.{programs_of, IsGiven}
 use Rattle.uses_policies.specs.Headline.{EventHolds}
@@ -23,7 +22,7 @@ use Rattle.uses_policies.specs.Headline.{EventHolds}
 abbrev pub JudgesSo : Type 0
 JudgesSo =
     (j k : SetJudge) (asked : List (Ask × ℕ)) → Answered Judges j asked k →
-    Keeps j k × Answered (GivesVerdict (given_by j.view) (judges.programs_of j)) j.state.now asked k.state.now
+    Keeps j k × Answered (GivesVerdict (given_by j.view) (judges_by j)) j.state.now asked k.state.now
 
 -- the seats still fit
 pub fits_after : (p : Policies) (j k : SetJudge) → j.view.maps ≡ p.maps → j.view.worker ≡ p.worker → Keeps j k → (h' : Held) →
@@ -35,7 +34,7 @@ fits_after p j k maps worker keeps h' last =
 -- the queries of a judge, by the policies of which it was made
 pub at_one : EventsHold Judges → JudgesSo → (p : Policies) (old new : Shard) (event : Event) (j k : SetJudge) (outs : List Out) (h h' : Held) →
     ∥ History (ruled old) (reads old) ∥₁ → Handles Judges old event j outs new k →
-    judges.programs_of j ≡ programs_of p → IsGiven p (reads old) (given_by j.view) → j.state.now ≡ h → (j.state.ghost_name ≡ k.state.ghost_name → h' ≡ k.state.now) →
+    judges_by j ≡ programs_of p → IsGiven p (reads old) (given_by j.view) → j.state.now ≡ h → (j.state.ghost_name ≡ k.state.ghost_name → h' ≡ k.state.now) →
     ∥ EventHolds p old event h outs new h' ∥₁
 at_one law judged p old new event j k outs h h' some handled same given first last =
     ∥∥₁_map some (λ past.

@@ -21,8 +21,7 @@ use Rattle.bpf_helpers.specs.HookPorts.{given_by}
 use Rattle.versions.specs.Sets.{Programs}
 use Rattle.hook_judge.specs.declared.judge.SetJudge.{SetJudge}
 use Rattle.hook_judge.specs.Verdicts.{GivesVerdict}
-use Rattle.hook_judge.specs.Judges.{Judges}
-use Rattle.hook_judge.specs.Judges as judges
+use Rattle.hook_judge.specs.Judges.{Judges, judges_by}
 use Rattle.uses_policies.specs.declared.policies.Policies.{Policies}
 use Rattle.uses_policies.specs.Policed.{programs_of, IsGiven, IsVerdict, AreVerdicts, PolicedRun, no_entry, policed}
 use Rattle.uses_policies.specs.Eight.{EventsPoliced, rules_by, HeadlineHolds}
@@ -133,7 +132,7 @@ one_of (x ∷ y ∷ xs) d one = absurd (omega (arith, one))
 
 -- what one event leads to
 pub one_policed : JudgesSo → (p : Policies) (old new : List Shard) (events : List Event) (e : Event) (j k : SetJudge) (results : List (Option (List Out))) →
-    length events ≡ 1 → e ≡ get_or events 0 e → RunsAll Judges old events j results new k → judges.programs_of j ≡ programs_of p →
+    length events ≡ 1 → e ≡ get_or events 0 e → RunsAll Judges old events j results new k → judges_by j ≡ programs_of p →
     ((s : ℕ) → shard_of e ≡ Some s → IsGiven p (readings_of old s) (given_by j.view)) → EventsPoliced p old events results new
 one_policed judged p old new events e j k results one is ran same given =
     let led = ran.leads in

@@ -48,7 +48,8 @@ fn decide_at(
 {
     judging_law();
     let view = view_at(shards, &event[0], policies);
-    let mut judge = SetJudge::new(policies.set, view, state);
+    let set = policies.set.in_force();
+    let mut judge = SetJudge::new(set, view, state);
     let results = handle_all(alloc, shards, event, &mut judge)?;
     Ok(results)
 }

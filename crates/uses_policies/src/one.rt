@@ -49,7 +49,8 @@ pub fn decide(
     link_law::<SetJudge<'_, '_, '_>>();
     judging_law();
     shard.known();
-    let mut judge = SetJudge::new(policies.set, view_of(shard, policies), state);
+    let set = policies.set.in_force();
+    let mut judge = SetJudge::new(set, view_of(shard, policies), state);
     let outs = shard.handle(alloc, event, &mut judge)?;
     Ok(outs)
 }

@@ -5,31 +5,9 @@ use Rattle.std.specs.Arc.{arc_value}
 use Rattle.std.specs.declared.sync.Arc.{Arc}
 use Rattle.bpf_regions.specs.declared.maps.Shape.{Shape}
 use Rattle.bpf_regions.specs.declared.hooks.Hook.{Hook}
-use Rattle.bpf_regions.specs.declared.hooks.Hook.TheVariants.{Association, Addba, Data}
 use Rattle.bpf_machine.specs.Verified.{Verified}
+pub use Rattle.bpf_machine.specs.ByHook.{Programs, no_programs, program_at, replaced, IsFor}
 use Rattle.versions.specs.declared.list.Load.{Load}
-
--- for each hook a program, or none
-pub record Programs : Type 0 where
-  pub association : Option Verified
-  pub addba : Option Verified
-  pub frames : Option Verified
-
--- the set without programs
-abbrev pub no_programs : Programs
-no_programs = record { association = None; addba = None; frames = None }
-
--- a hook's program
-abbrev pub program_at : Hook → Programs → Option Verified
-program_at Association s = s.association
-program_at Addba s = s.addba
-program_at Data s = s.frames
-
--- the same set with another program, or none, at one hook
-abbrev pub replaced : Hook → Programs → Option Verified → Programs
-replaced Association s p = record s { association = p }
-replaced Addba s p = record s { addba = p }
-replaced Data s p = record s { frames = p }
 
 -- the load of a program for a hook; None removes the hook's program
 abbrev pub load : Hook → Option Verified → Load
@@ -42,11 +20,6 @@ after s l = replaced l.hook s l.program
 -- the set that a list of loads results in
 abbrev pub set_of : List Load → Programs
 set_of loads = fold after no_programs loads
-
--- the program was accepted for this hook, and for maps of these shapes
-pub record IsFor (shapes : List Shape) (hook : Hook) (p : Verified) : Type 0 where
-  pub hook_is : p.hook ≡ hook
-  pub shapes_are : p.code.shapes ≡ shapes
 
 -- the loaded program, if any, is for the hook and these shapes
 abbrev pub Fits : List Shape → Load → Type 0

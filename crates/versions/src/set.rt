@@ -1,12 +1,13 @@
 //! The set of the hooks' programs.
 
-ghost use Rattle.std.specs.Prelude.{◌≡◌, [], IfOk, IfSome};
+ghost use Rattle.std.specs.Prelude.{◌≡◌, [], IfOk};
 ghost use Rattle.std.specs.Option.{option_copied};
-ghost use Rattle.versions.specs.Sets.{IsFor, after, kept, load, program_at, set_of};
-ghost use Rattle.versions.specs.Owned.{programs_of};
+ghost use Rattle.bpf_machine.specs.ByHook.{AreFor, programs_of};
+ghost use Rattle.versions.specs.Sets.{after, kept, load, set_of};
+ghost use Rattle.versions.specs.Owned.{owned};
 
 use crate::list::Known;
-use bpf_machine::Accepted;
+use bpf_machine::{Accepted, InForce};
 use bpf_regions::Hook;
 use left_right::Absorb;
 use std::alloc::AllocError;
@@ -52,6 +53,16 @@ fn another(program: &Option<Arc<Accepted>>) -> Result<Option<Arc<Accepted>>, All
     }
 }
 
+/// A shared program, borrowed.
+fn borrowed(program: &Option<Arc<Accepted>>) -> Option<&Accepted>
+    ensures { option_copied result ≡ kept program.now }
+{
+    match program {
+        None => None,
+        Some(shared) => Some(&**shared),
+    }
+}
+
 impl ProgramSet {
     /// The set before any load.
     pub fn empty(known: Known) -> ProgramSet
@@ -68,7 +79,7 @@ impl ProgramSet {
 
     /// The set that those loads result in.
     pub fn of(owners: Owners, known: Known) -> ProgramSet
-        requires { programs_of owners ≡ set_of known.loads }
+        requires { owned owners ≡ set_of known.loads }
         ensures { result ≡ known }
     {
         let Owners {
@@ -98,7 +109,7 @@ impl ProgramSet {
 
     /// The programs after one more load.
     pub fn loaded(&self, hook: Hook, program: &Option<Arc<Accepted>>) -> Result<Owners, AllocError>
-        ensures { IfOk result (λ o. programs_of o ≡ after (set_of self.now.loads)
+        ensures { IfOk result (λ o. owned o ≡ after (set_of self.now.loads)
             (load hook (kept program.now))) }
     {
         let new = another(program)?;
@@ -124,20 +135,16 @@ impl ProgramSet {
         &self.known
     }
 
-    /// A hook's program, which was accepted for that hook and for the map shapes in use; None if it has none.
-    pub fn program(&self, hook: Hook) -> Option<&Accepted>
-        ensures is { option_copied result ≡ program_at hook (set_of self.now.loads) }
-        ensures own { IfSome result (λ p. IsFor self.now.shapes hook p.now) }
+    /// The programs, borrowed. Each was accepted for its hook and for the map shapes in use.
+    pub fn in_force(&self) -> InForce<'_>
+        ensures is { programs_of result ≡ set_of self.now.loads }
+        ensures own { AreFor self.now.shapes (programs_of result) }
     {
         self.known.fitting();
-        let program = match hook {
-            Hook::Association => &self.association,
-            Hook::Addba => &self.addba,
-            Hook::Data => &self.frames,
-        };
-        match program {
-            None => None,
-            Some(shared) => Some(&**shared),
+        InForce {
+            association: borrowed(&self.association),
+            addba: borrowed(&self.addba),
+            frames: borrowed(&self.frames),
         }
     }
 }

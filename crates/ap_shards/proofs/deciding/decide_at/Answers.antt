@@ -1,4 +1,5 @@
 use Rattle.std.proofs.Common.{rules, ◌≡◌, List, ◌∙◌, ap, sym, subst}
+use Rattle.bpf_machine.specs.ByHook.{programs_of}
 use Rattle.bpf_helpers.specs.declared.worker.WorkerView.{WorkerView}
 use Rattle.shared_maps.specs.Tables.{Place}
 use Rattle.bpf_helpers.specs.Hooked.{Held, IsFitting}
@@ -24,7 +25,7 @@ returns-in-Ok-clause-fate g c =
     let view = ap given_by c.new-judge.ensures.view ∙ (λ i. record { maps = c.args.desk.maps.now; worker = c.args.desk.worker; clock = c.clock.ensures i; stations = c.stations.result }) in
     let added : Adds (ByDesk c.args.desk c.args.state.now k.state.now) rs c.args.mine.now c.args.event.now c.in-Ok.outs.items c.in-Ok.dropped c.decide.new.mine =
     adds (ByDesk c.args.desk c.args.state.now k.state.now) rs {k2 = c.decide.new.self} {t2 = c.decide.new.mine} {j2 = k} c.known.ensures d
-    (λ asked listed. by_desk c.args.desk c.args.state.now k.state.now r c.stations.result j asked c.stations.ensures.are view c.new-judge.ensures.set c.new-judge.ensures.state (c.judging_law.ensures.judged j k asked listed).1) in
+    (λ asked listed. by_desk c.args.desk c.args.state.now k.state.now r c.stations.result j asked c.stations.ensures.are view (ap programs_of c.new-judge.ensures.set ∙ c.in_force-set.ensures.is) c.new-judge.ensures.state (c.judging_law.ensures.judged j k asked listed).1) in
     subst (λ (h : Held). Adds (ByDesk c.args.desk c.args.state.now h) rs c.args.mine.now c.args.event.now c.in-Ok.outs.items c.in-Ok.dropped c.decide.new.mine) (search rules) added
 
 pub returns-in-Ok-clause-fitting : goal.returns-in-Ok-clause-fitting

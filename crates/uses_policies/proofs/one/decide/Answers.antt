@@ -1,8 +1,9 @@
-use Rattle.std.proofs.Common.{rules, ◌≡◌, refl, sym, ◌∙◌}
+use Rattle.std.proofs.Common.{rules, ◌≡◌, refl, sym, ap, ◌∙◌}
 use Rattle.bpf_helpers.specs.Hooked.{Held, IsFitting}
 use Rattle.bpf_helpers.specs.HookPorts.{given_by}
 use Rattle.ap_core.specs.Shards.{reads}
-use Rattle.hook_judge.specs.Judges as judges
+use Rattle.bpf_machine.specs.ByHook as in_force
+use Rattle.hook_judge.specs.Judges.{judges_by}
 use Rattle.uses_policies.specs.Policed.{programs_of, IsGiven}
 use Rattle.uses_policies.specs.Headline.{EventHolds}
 use Rattle.uses_policies.proofs.Conclusions.{at_one, fits_after}
@@ -13,7 +14,7 @@ returns-clause-headline c =
     let j = c.new-judge.result in
     let k = c.handle.new.judge in
     let p = c.args.policies in
-    let same : judges.programs_of j ≡ programs_of p = rw c.new-judge.ensures.set refl in
+    let same : judges_by j ≡ programs_of p = ap in_force.programs_of c.new-judge.ensures.set ∙ c.in_force-set.ensures.is in
     let given : IsGiven p (reads c.args.shard.now) (given_by j.view) = rw c.new-judge.ensures.view (record {
       maps = rw c.view_of.ensures.maps refl;
       worker = c.view_of.ensures.worker;

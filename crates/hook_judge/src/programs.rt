@@ -1,10 +1,11 @@
-//! The hooks' programs.
+//! Programs that their owner replaces.
 
-ghost use Rattle.std.specs.Prelude.{◌≡◌, None, IfSome};
+ghost use Rattle.std.specs.Prelude.{◌≡◌, IfSome};
 ghost use Rattle.std.specs.Option.{option_copied};
-ghost use Rattle.program_judge.specs.Programs.{IsFor, no_programs, program_at, replaced};
+ghost use Rattle.bpf_machine.specs.ByHook.{AreFor, IsFor, program_at, programs_of};
+ghost use Rattle.hook_judge.specs.Owned.{none_for, with_program};
 
-use bpf_machine::Accepted;
+use bpf_machine::{Accepted, InForce};
 use bpf_regions::{Hook, Shapes};
 use std::marker::Model;
 
@@ -18,19 +19,20 @@ pub struct Programs {
 }
 
 impl Model for Programs {
-    ghost use Rattle.program_judge.specs.Programs.{Programs, AreFor};
+    ghost use Rattle.bpf_machine.specs.ByHook.{AreFor};
+    ghost use Rattle.hook_judge.specs.Owned.{Owned};
 
-    ghost Value = { Programs };
+    ghost Value = { Owned };
 
-    ghost view = { λ p. record { shapes = p.shapes; association = p.association; addba = p.addba; frames = p.frames } };
+    ghost view = { λ p. record { shapes = p.shapes; in_force = record { association = p.association; addba = p.addba; frames = p.frames } } };
 
-    ghost invariant = { λ p. AreFor (record { shapes = p.shapes; association = p.association; addba = p.addba; frames = p.frames }) };
+    ghost invariant = { λ p. AreFor p.shapes (record { association = p.association; addba = p.addba; frames = p.frames }) };
 }
 
 impl Programs {
     /// No programs, for maps of these shapes.
     pub fn none(shapes: Shapes) -> Programs
-        ensures { result ≡ no_programs shapes }
+        ensures { result ≡ none_for shapes }
     {
         Programs {
             shapes,
@@ -50,7 +52,7 @@ impl Programs {
     /// Puts this program, or none, in place of a hook's program.
     pub fn put(&mut self, hook: Hook, program: Option<Accepted>)
         requires fits { IfSome program (IsFor self.old.shapes hook) }
-        ensures { self.new ≡ replaced hook self.old program }
+        ensures { self.new ≡ with_program hook self.old program }
     {
         match hook {
             Hook::Association => self.association = program,
@@ -59,16 +61,23 @@ impl Programs {
         }
     }
 
+    /// The programs, borrowed. Each was accepted for its hook and for maps of these shapes.
+    pub fn in_force(&self) -> InForce<'_>
+        ensures is { programs_of result ≡ self.now.in_force }
+        ensures own { AreFor self.now.shapes (programs_of result) }
+    {
+        InForce {
+            association: self.association.as_ref(),
+            addba: self.addba.as_ref(),
+            frames: self.frames.as_ref(),
+        }
+    }
+
     /// A hook's program, which was accepted for that hook and for maps of these shapes. None if the hook has none.
     pub fn program(&self, hook: Hook) -> Option<&Accepted>
-        ensures is { option_copied result ≡ program_at hook self.now }
+        ensures is { option_copied result ≡ program_at hook self.now.in_force }
         ensures own { IfSome result (λ p. IsFor self.now.shapes hook p.now) }
     {
-        let program = match hook {
-            Hook::Association => &self.association,
-            Hook::Addba => &self.addba,
-            Hook::Data => &self.frames,
-        };
-        program.as_ref()
+        self.in_force().program(hook)
     }
 }

@@ -1,20 +1,21 @@
--- Programs for hooks.
+-- Programs by hook.
 use Rattle.std.specs.Prelude.{◌≡◌, List, Option, None, IfSome}
+use Rattle.std.specs.Option.{option_copied}
 use Rattle.bpf_regions.specs.declared.maps.Shape.{Shape}
 use Rattle.bpf_regions.specs.declared.hooks.Hook.{Hook}
 use Rattle.bpf_regions.specs.declared.hooks.Hook.TheVariants.{Association, Addba, Data}
 use Rattle.bpf_machine.specs.Verified.{Verified}
+use Rattle.bpf_machine.specs.declared.in_force.InForce.{InForce}
 
--- for each hook a program, or none, and the shapes of the maps that they are for
+-- for each hook a program, or none
 pub record Programs : Type 0 where
-  pub shapes : List Shape
   pub association : Option Verified
   pub addba : Option Verified
   pub frames : Option Verified
 
--- no programs, for maps of these shapes
-abbrev pub no_programs : List Shape → Programs
-no_programs shapes = record { shapes = shapes; association = None; addba = None; frames = None }
+-- no programs
+abbrev pub no_programs : Programs
+no_programs = record { association = None; addba = None; frames = None }
 
 -- a hook's program
 abbrev pub program_at : Hook → Programs → Option Verified
@@ -34,7 +35,14 @@ pub record IsFor (shapes : List Shape) (hook : Hook) (p : Verified) : Type 0 whe
   pub shapes_are : p.code.shapes ≡ shapes
 
 -- each program was accepted for its hook, and for maps of these shapes
-pub record AreFor (s : Programs) : Type 0 where
-  pub association : IfSome s.association (IsFor s.shapes Association)
-  pub addba : IfSome s.addba (IsFor s.shapes Addba)
-  pub frames : IfSome s.frames (IsFor s.shapes Data)
+abbrev pub AreFor : List Shape → Programs → Type 0
+AreFor shapes s = (hook : Hook) → IfSome (program_at hook s) (IsFor shapes hook)
+
+-- the programs that are borrowed
+abbrev pub programs_of : InForce → Programs
+programs_of p =
+    record {
+      association = option_copied p.association;
+      addba = option_copied p.addba;
+      frames = option_copied p.frames;
+    }
