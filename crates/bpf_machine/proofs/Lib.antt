@@ -4,3 +4,4 @@ pub mod Standing
 pub mod Stood
 pub mod Noting
 pub mod Stopping
+mod Lending

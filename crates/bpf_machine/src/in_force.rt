@@ -19,8 +19,8 @@ pub struct InForce<'p> {
 impl<'p> InForce<'p> {
     /// A hook's program, or None.
     pub fn program(self, hook: Hook) -> Option<&'p Accepted>
-        ensures is { option_copied result ≡ program_at hook (programs_of self) }
-        ensures own { (shapes : List Shape) → AreFor shapes (programs_of self) →
+        ensures is { option_copied result ≡ program_at hook (programs_of self.entry) }
+        ensures own { (shapes : List Shape) → AreFor shapes (programs_of self.entry) →
             IfSome result (λ p. IsFor shapes hook p.now) }
     {
         match hook {

@@ -30,7 +30,7 @@ impl<'p, 't, 's> SetJudge<'p, 't, 's> {
     pub fn new(set: InForce<'p>, view: WorkerView<'t>, state: &'s mut WorkerState) -> Self
         requires for_maps { AreFor (shapes_of view.maps.now) (programs_of set) }
         requires fitting { IsFitting view.maps.now view.worker state.old.seats }
-        ensures set { result.set ≡ set }
+        ensures set { result.set ≡ set.entry }
         ensures view { result.view ≡ view.entry }
         ensures same_state { result.state.ghost_name ≡ state.entry.ghost_name }
         ensures state { result.state.now ≡ state.old }
