@@ -35,8 +35,10 @@ pub record IsFor (shapes : List Shape) (hook : Hook) (p : Verified) : Type 0 whe
   pub shapes_are : p.code.shapes ≡ shapes
 
 -- each program was accepted for its hook, and for maps of these shapes
-abbrev pub AreFor : List Shape → Programs → Type 0
-AreFor shapes s = (hook : Hook) → IfSome (program_at hook s) (IsFor shapes hook)
+pub record AreFor (shapes : List Shape) (s : Programs) : Type 0 where
+  pub association : IfSome s.association (IsFor shapes Association)
+  pub addba : IfSome s.addba (IsFor shapes Addba)
+  pub frames : IfSome s.frames (IsFor shapes Data)
 
 -- the programs that are borrowed
 abbrev pub programs_of : InForce → Programs

@@ -9,7 +9,11 @@ use Rattle.bpf_machine.specs.ByHook.{AreFor}
 use Rattle.versions.specs.declared.list.Load.{Load}
 use Rattle.versions.specs.Sets.{Programs, no_programs, program_at, replaced, after, set_of, IsFor, Fits}
 
-replaced_fits : (shapes : List Shape) (s : Programs) (hook : Hook) (p : Option Verified) → AreFor shapes s → IfSome p (IsFor shapes hook) → AreFor shapes (replaced hook s p)
+-- each program of the set is for its hook and these shapes
+abbrev pub AllFor : List Shape → Programs → Type 0
+AllFor shapes s = (hook : Hook) → IfSome (program_at hook s) (IsFor shapes hook)
+
+replaced_fits : (shapes : List Shape) (s : Programs) (hook : Hook) (p : Option Verified) → AllFor shapes s → IfSome p (IsFor shapes hook) → AllFor shapes (replaced hook s p)
 replaced_fits shapes s Association p old new Association = new
 replaced_fits shapes s Association p old new Addba = old Addba
 replaced_fits shapes s Association p old new Data = old Data
@@ -20,15 +24,17 @@ replaced_fits shapes s Data p old new Association = old Association
 replaced_fits shapes s Data p old new Addba = old Addba
 replaced_fits shapes s Data p old new Data = new
 
-fold_fits : (shapes : List Shape) (s : Programs) (loads : List Load) → AreFor shapes s → All (Fits shapes) loads → AreFor shapes (fold after s loads)
+fold_fits : (shapes : List Shape) (s : Programs) (loads : List Load) → AllFor shapes s → All (Fits shapes) loads → AllFor shapes (fold after s loads)
 fold_fits shapes s [] old fitting = old
 fold_fits shapes s (l ∷ loads) old fitting =
     fold_fits shapes (after s l) loads (replaced_fits shapes s l.hook l.program old (fitting 0 l (omega arith))) (λ k d within. fitting (suc k) d (omega arith))
 
-none_fits : (shapes : List Shape) → AreFor shapes no_programs
+none_fits : (shapes : List Shape) → AllFor shapes no_programs
 none_fits shapes Association = tt
 none_fits shapes Addba = tt
 none_fits shapes Data = tt
 
 pub set_fits : (shapes : List Shape) (loads : List Load) → All (Fits shapes) loads → AreFor shapes (set_of loads)
-set_fits shapes loads fitting = fold_fits shapes no_programs loads (none_fits shapes) fitting
+set_fits shapes loads fitting =
+    let each = fold_fits shapes no_programs loads (none_fits shapes) fitting in
+    record { association = each Association; addba = each Addba; frames = each Data }
