@@ -1,7 +1,9 @@
 -- Reports on a worker's list.
 use Rattle.std.proofs.Common.{◌≡◌, ℕ, List, [], ◌∷◌, ◌++◌, refl, sym, ap, ◌∙◌, zero-add}
+use Rattle.std.specs.Prelude.{true, false, None}
 use Rattle.std.proofs.lemmas.List.Sums.{sum_by-append}
 use Rattle.ap_model.specs.Readings.{Config}
+use Rattle.ap_model.specs.declared.event.Event.{Event}
 use Rattle.ap_books.specs.Counts.{Counts, none, plus}
 use Rattle.ap_live.specs.Counting.{counted_by, fate_counts, tally}
 use Rattle.ap_live.specs.Lives.{Live}
@@ -13,7 +15,7 @@ use Rattle.ap_live.specs.declared.tagged.Tagged.{Tagged}
 use Rattle.apd_run.specs.Crews.{Collects, Crew, gains}
 use Rattle.apd_run.specs.Reports.{Handled, Memory, Report}
 use Rattle.apd_run.specs.Tallies.{Serves, report_counts, tallied, told_counts}
-use Rattle.apd_run.specs.Telling.{report_if, reports_in, reports_of, told_of}
+use Rattle.apd_run.specs.Telling.{dropped_in, report_if, reports_in, reports_of, told_of}
 use Rattle.apd_run.proofs.Sums.{none_plus, plus_three}
 
 -- ---- what reports count
@@ -40,10 +42,11 @@ counts_one r i =
     }
 
 -- the report on an event counts what became of it
-report_counted : (line shard : ℕ) (f : Fate) → tallied (report_if line shard (told_of f)) ≡ fate_counts f
-report_counted line shard (Decided outs dropped) = counts_one (record { line = line; shard = shard; told = Handled outs dropped })
-report_counted line shard Refused = counts_one (record { line = line; shard = shard; told = Memory })
-report_counted line shard NotHandled = refl
+report_counted : (line shard : ℕ) (e : Event) (f : Fate) → tallied (report_if line shard (told_of e f)) ≡ fate_counts f
+report_counted line shard e (Decided outs true) = counts_one (record { line = line; shard = shard; told = Handled outs (dropped_in e true) })
+report_counted line shard e (Decided outs false) = counts_one (record { line = line; shard = shard; told = Handled outs None })
+report_counted line shard e Refused = counts_one (record { line = line; shard = shard; told = Memory })
+report_counted line shard e NotHandled = refl
 
 -- so do the reports on all
 told_counted : (ts : List Tagged) → tallied (reports_in ts) ≡ tally ts
@@ -51,7 +54,7 @@ unfolding tally
 told_counted [] = refl
 told_counted (t ∷ ts) =
     tallied_two (reports_of t) (reports_in ts)
-    ∙ (ap (λ (c : Counts). plus c (tallied (reports_in ts))) (report_counted t.item.call t.item.shard t.fate) ∙ ap (λ (c : Counts). plus (fate_counts t.fate) c) (told_counted ts))
+    ∙ (ap (λ (c : Counts). plus c (tallied (reports_in ts))) (report_counted t.item.call t.item.shard t.item.event t.fate) ∙ ap (λ (c : Counts). plus (fate_counts t.fate) c) (told_counted ts))
 
 -- a worker came back, and the reports on its list were appended
 pub collects_told : (crew crew2 : Crew) (list list2 : List Report) (tags : List Tagged) → list2 ≡ list ++ reports_in tags → crew2 ≡ gains crew (tally tags) → Collects crew crew2 list list2

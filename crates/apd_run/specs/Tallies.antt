@@ -1,5 +1,5 @@
 -- What reports count, and what workers counted.
-use Rattle.std.specs.Prelude.{◌≡◌, List, ◌++◌, sum_by}
+use Rattle.std.specs.Prelude.{◌≡◌, List, ◌++◌, is_some, sum_by}
 use Rattle.ap_books.specs.Counts.{Counts, none, plus, counts_of}
 use Rattle.ap_live.specs.Counting.{tally}
 use Rattle.ap_live.specs.declared.tagged.Tagged.{Tagged}
@@ -9,7 +9,7 @@ use Rattle.apd_text.specs.declared.reports.report.Told.TheVariants.{Handled}
 
 -- a handled event counts by its outputs; any other report counts nothing
 abbrev pub told_counts : Told → Counts
-told_counts (Handled outs dropped) = counts_of outs.items dropped
+told_counts (Handled outs dropped) = counts_of outs.items (is_some dropped)
 told_counts _ = none
 
 -- what a report counts

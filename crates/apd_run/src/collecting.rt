@@ -3,13 +3,14 @@
 ghost use Rattle.std.specs.Prelude.{◌≡◌, ◌+◌, ◌++◌, length, OnOk, vec_len};
 ghost use Rattle.ap_live.specs.Counting.{tally};
 ghost use Rattle.apd_run.specs.Crews.{gains, Collects};
-ghost use Rattle.apd_run.specs.Telling.{told_of, reports_of, reports_in};
+ghost use Rattle.apd_run.specs.Telling.{dropped_in, octets_of, told_of, reports_of, reports_in};
 
 use crate::crew::{Desk, Done, Order, Ready, Serving};
 use crate::operating::Operating;
 use crate::setting::{Setting, Staff};
 use ap_live::{Fate, Tagged};
-use apd_text::{Report, Told};
+use ap_model::Event;
+use apd_text::{Dropped, Report, Told};
 use std::alloc::AllocError;
 use std::sync::Wait;
 
@@ -47,12 +48,36 @@ fn settled<W: Serving + Drop, O: Operating<W>>(
     (Ready { worker }, list)
 }
 
+/// The octets of a received frame; none of another event.
+fn octets_of(event: &Event) -> &[u8]
+    ensures is { result.now ≡ octets_of event.now }
+{
+    match event {
+        Event::Frame(octets) => octets.as_slice(),
+        Event::Tick(_) | Event::Kick { .. } | Event::Close { .. } => &[],
+    }
+}
+
+/// The data of an event, if a verdict dropped it.
+fn dropped_in(event: &Event, dropped: bool) -> Option<Dropped>
+    ensures is { result ≡ dropped_in event.now dropped }
+{
+    if dropped {
+        Some(Dropped::of(octets_of(event)))
+    } else {
+        None
+    }
+}
+
 /// The report on an event; `None` if it was not handled.
-fn told_of(fate: Fate) -> Option<Told>
-    ensures { result ≡ told_of fate }
+fn told_of(event: &Event, fate: Fate) -> Option<Told>
+    ensures is { result ≡ told_of event.now fate }
 {
     match fate {
-        Fate::Decided { outs, dropped } => return Some(Told::Handled { outs, dropped }),
+        Fate::Decided { outs, dropped } => {
+            let dropped = dropped_in(event, dropped);
+            return Some(Told::Handled { outs, dropped });
+        }
         Fate::Refused => return Some(Told::Memory),
         Fate::NotHandled => return None,
     }
@@ -64,7 +89,7 @@ fn report(all: &mut Vec<Report>, tagged: Tagged) -> Result<(), AllocError>
     ensures { OnOk result (all.new.items ≡ all.old.items ++ reports_of tagged) }
 {
     let Tagged { item, fate } = tagged;
-    match told_of(fate) {
+    match told_of(&item.event, fate) {
         Some(told) => {
             all.push(Report {
                 line: item.call,

@@ -1,5 +1,5 @@
 -- Outputs as JSON, one object a line.
-use Rattle.std.specs.Prelude.{ℕ, List, [], ◌∷◌, ◌++◌, codes, decimal, Option, Some, None, Bool, if◌then◌else◌}
+use Rattle.std.specs.Prelude.{ℕ, List, [], ◌∷◌, ◌++◌, codes, decimal, Option, Some, None}
 use Rattle.std.specs.List.{flat_map}
 use Rattle.hex.specs.Hex.{encode_lower}
 use Rattle.mac_types.specs.Texts.{address_text}
@@ -7,7 +7,8 @@ use Rattle.ap_model.specs.declared.event.Out.{Out}
 use Rattle.ap_model.specs.declared.event.Out.TheVariants.{Send, Up, Note}
 use Rattle.ap_model.specs.declared.event.Up as passed
 use Rattle.apd_text.specs.Notices.{notice_of}
-use Rattle.apd_text.specs.NoticeTexts.{notice_members}
+use Rattle.apd_text.specs.NoticeTexts.{drop_members, notice_members}
+use Rattle.apd_text.specs.declared.reports.notice.Dropped.{Dropped}
 use Rattle.apd_text.specs.declared.reports.notice.Notice.{Notice}
 
 -- the object of the line with this number, which has these members too, and a line feed (10)
@@ -65,8 +66,9 @@ abbrev pub outs_json : ℕ → List Out → List ℕ
 outs_json number outs = flat_map (λ out. json_line number (out_members out)) outs
 
 -- an object for data that was dropped
-abbrev pub drop_json : ℕ → Bool → List ℕ
-drop_json number dropped = if dropped then json_line number (codes "\"event\":\"drop\"") else []
+abbrev pub drop_json : ℕ → Option Dropped → List ℕ
+drop_json number None = []
+drop_json number (Some dropped) = json_line number (drop_members dropped)
 
 -- a program is in force, with this budget
 abbrev pub loaded_members : ℕ → List ℕ

@@ -1,5 +1,5 @@
 -- The lines of a run.
-use Rattle.std.specs.Prelude.{ℕ, Bool, true, false, List, [], ◌∷◌, ◌++◌, codes, decimal, string_bytes, Option, None, Some}
+use Rattle.std.specs.Prelude.{ℕ, List, [], ◌∷◌, ◌++◌, codes, decimal, string_bytes, Option, None, Some}
 use Rattle.std.specs.List.{flat_map}
 use Rattle.bpf_decode.specs.Answer.{fault_text}
 use Rattle.bpf_verifier.specs.Refusals.{refusal_text}
@@ -8,8 +8,9 @@ use Rattle.ap_books.specs.declared.totals.Totals.{Totals}
 use Rattle.ap_model.specs.declared.event.Out.TheVariants as out
 use Rattle.apd_text.specs.Json.{drop_json, json_line, loaded_members, outs_json}
 use Rattle.apd_text.specs.Notices.{notice_of}
-use Rattle.apd_text.specs.NoticeTexts.{notice_words}
+use Rattle.apd_text.specs.NoticeTexts.{drop_words, notice_words}
 use Rattle.apd_text.specs.Words.{then, out_words}
+use Rattle.apd_text.specs.declared.reports.notice.Dropped.{Dropped}
 use Rattle.apd_text.specs.declared.reports.notice.Notice.{Notice}
 use Rattle.apd_text.specs.declared.reports.report.Form.{Form}
 use Rattle.apd_text.specs.declared.reports.report.Form.TheVariants as form
@@ -57,9 +58,9 @@ abbrev pub noticed_outs : ℕ → List Out → List ℕ
 noticed_outs number outs = flat_map (noticed_out number) outs
 
 -- a line for data that was dropped
-abbrev pub drop_text : ℕ → Bool → List ℕ
-drop_text number true = line_of number (codes "drop")
-drop_text number false = []
+abbrev pub drop_text : ℕ → Option Dropped → List ℕ
+drop_text number None = []
+drop_text number (Some dropped) = line_of number (drop_words dropped)
 
 -- the report on a line with what its frames mean
 abbrev pub noticed_text : ℕ → Told → List ℕ

@@ -5,6 +5,7 @@ use Rattle.apd_text.specs.Words.{then}
 use Rattle.apd_text.specs.declared.reports.notice.Meaning.{Meaning}
 use Rattle.apd_text.specs.declared.reports.notice.Meaning.TheVariants.{Authenticated, Associated, Refused, Agreement, Ended, Left}
 use Rattle.apd_text.specs.declared.reports.notice.Notice.{Notice}
+use Rattle.apd_text.specs.declared.reports.notice.Dropped.{Dropped}
 
 -- what a frame means to a station, in words
 abbrev pub meaning_words : List ℕ → Meaning → List ℕ
@@ -42,3 +43,12 @@ meaning_members station (Left reason) =
 -- a notice as members of a JSON object
 abbrev pub notice_members : Notice → List ℕ
 notice_members n = meaning_members n.station n.meaning
+
+-- dropped data in words
+abbrev pub drop_words : Dropped → List ℕ
+drop_words d = then (codes "drop") (then (address_text d.station) (decimal d.number))
+
+-- dropped data as members of a JSON object
+abbrev pub drop_members : Dropped → List ℕ
+drop_members d =
+    codes "\"event\":\"drop\",\"station\":\"" ++ (address_text d.station ++ (codes "\",\"number\":" ++ decimal d.number))

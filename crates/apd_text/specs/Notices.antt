@@ -1,8 +1,10 @@
--- What frames mean to the stations to which the access point sends them (IEEE 802.11-2016, 9.3.3 and 9.6.5).
+-- What frames mean to the stations to which the access point sends them (IEEE 802.11-2016, 9.3.3 and 9.6.5), and whose
+-- data was dropped.
 use Rattle.std.specs.Prelude.{ℕ, ◌+◌, ◌*◌, ◌/◌, ◌%◌, ◌==◌, ◌||◌, ◌&&◌, List, [], ◌∷◌, Option, Some, None, option_map, slice_get, if◌then◌else◌}
 use Rattle.apd_text.specs.declared.reports.notice.Meaning.{Meaning}
 use Rattle.apd_text.specs.declared.reports.notice.Meaning.TheVariants.{Authenticated, Associated, Refused, Agreement, Ended, Left}
 use Rattle.apd_text.specs.declared.reports.notice.Notice.{Notice}
+use Rattle.apd_text.specs.declared.reports.notice.Dropped.{Dropped}
 
 -- an octet, or 0 for none
 abbrev pub octet_or_0 : Option ℕ → ℕ
@@ -21,6 +23,15 @@ word_at frame place = octet_at frame place + 256 * octet_at frame (place + 1)
 abbrev pub receiver_of : List ℕ → List ℕ
 receiver_of frame =
     octet_at frame 4 ∷ octet_at frame 5 ∷ octet_at frame 6 ∷ octet_at frame 7 ∷ octet_at frame 8 ∷ octet_at frame 9 ∷ []
+
+-- address 2 begins with octet 10
+abbrev pub sender_of : List ℕ → List ℕ
+sender_of frame =
+    octet_at frame 10 ∷ octet_at frame 11 ∷ octet_at frame 12 ∷ octet_at frame 13 ∷ octet_at frame 14 ∷ octet_at frame 15 ∷ []
+
+-- who sent data, and its number: the sequence control begins with octet 22, and has the number from bit 4 on (9.2.4.4)
+abbrev pub dropped_of : List ℕ → Dropped
+dropped_of frame = record { station = sender_of frame; number = word_at frame 22 / 16 }
 
 -- with status 0 a response grants what was asked for
 abbrev pub answered : Meaning → ℕ → Meaning

@@ -11,7 +11,7 @@ mod printing;
 mod report;
 mod words;
 
-pub use notice::{Meaning, Notice};
+pub use notice::{Dropped, Meaning, Notice};
 pub use order::put_in_order;
 pub use printing::{PrintFault, print_reports, print_totals};
 pub use report::{Form, Report, Told, Unread};

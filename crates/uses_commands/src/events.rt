@@ -24,7 +24,7 @@ const NOTICED: &str = "1 send b000000002000000000a020000000001020000000001000000
     5 up 02000000000a 0200000000ff - 3 0 68656c6c6f\n\
     6 note 50\n\
     7 loaded 2\n\
-    8 drop\n\
+    8 drop 02000000000a 3\n\
     9 send c000000002000000000a02000000000102000000000100000300\n\
     9 left 02000000000a reason 3\n\
     total events 16 sent 5 up 2 dropped 1 notes 1\n";
@@ -37,7 +37,7 @@ const OBJECTS: &str = "{\"line\":1,\"event\":\"authenticated\",\"station\":\"020
     {\"line\":5,\"event\":\"up\",\"source\":\"02000000000a\",\"destination\":\"0200000000ff\",\"tid\":null,\"number\":3,\"mark\":0,\"body\":\"68656c6c6f\"}\n\
     {\"line\":6,\"event\":\"note\",\"number\":50}\n\
     {\"line\":7,\"event\":\"loaded\",\"budget\":2}\n\
-    {\"line\":8,\"event\":\"drop\"}\n\
+    {\"line\":8,\"event\":\"drop\",\"station\":\"02000000000a\",\"number\":3}\n\
     {\"line\":9,\"event\":\"left\",\"station\":\"02000000000a\",\"reason\":3}\n\
     total events 16 sent 5 up 2 dropped 1 notes 1\n";
 

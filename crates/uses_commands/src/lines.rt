@@ -29,7 +29,7 @@ fn handled(rt: &impl Abort, alloc: Global, line: u64, shard: u16, out: Out) -> R
         shard,
         told: Told::Handled {
             outs,
-            dropped: false,
+            dropped: None,
         },
     }
 }

@@ -4,7 +4,7 @@ ghost use Rattle.std.specs.Prelude.{◌≡◌, ◌++◌, IfOk, Some, string_byte
 ghost use Rattle.hex.specs.Hex.{encode_lower};
 ghost use Rattle.apd_text.specs.Json.{addresses_members, drop_json, json_line, loaded_members, note_members, numbers_members, out_members, outs_json, send_members, sent_members, tid_value, up_members};
 
-use crate::reports::notice::{Members, notice_of};
+use crate::reports::notice::{DropMembers, Dropped, Members, notice_of};
 use ap_model::{Out, Up};
 use mac_types::Tid;
 use std::alloc::{AllocError, Global};
@@ -143,13 +143,15 @@ pub(crate) fn append_outs_json(
 pub(crate) fn append_drop_json(
     text: &mut String,
     line: u64,
-    dropped: bool,
+    dropped: Option<Dropped>,
 ) -> Result<(), AllocError>
     ensures ok { IfOk result (λ _. string_bytes text.new ≡ string_bytes text.old
         ++ drop_json line dropped) }
 {
-    if dropped {
-        append_object(text, line, "\"event\":\"drop\"")?;
+    if let Some(dropped) = dropped {
+        text.push_str("{\"line\":")?;
+        write!(text, "{line},{}", DropMembers(dropped))?;
+        text.push_str("}\n")?;
     }
     Ok(())
 }

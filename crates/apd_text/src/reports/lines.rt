@@ -5,7 +5,7 @@ ghost use Rattle.apd_text.specs.Words.{out_words};
 ghost use Rattle.apd_text.specs.Lines.{drop_text, json_text, line_of, notice_line, notice_text, noticed_out, noticed_outs, noticed_text, outs_text, report_text, told_text, totals_text};
 
 use crate::reports::json::{append_drop_json, append_loaded_json, append_outs_json};
-use crate::reports::notice::{Notice, notice_of};
+use crate::reports::notice::{Dropped, Notice, notice_of};
 use crate::reports::report::{Form, Report, Told};
 use crate::reports::words::{TidWord, bytes_word};
 use ap_books::Totals;
@@ -120,12 +120,12 @@ fn append_noticed_outs(
 }
 
 /// Appends a line if data was dropped.
-fn append_drop(text: &mut String, line: u64, dropped: bool) -> Result<(), AllocError>
+fn append_drop(text: &mut String, line: u64, dropped: Option<Dropped>) -> Result<(), AllocError>
     ensures ok { IfOk result (λ _. string_bytes text.new ≡ string_bytes text.old
         ++ drop_text line dropped) }
 {
-    if dropped {
-        writeln!(text, "{line} drop")?;
+    if let Some(dropped) = dropped {
+        writeln!(text, "{line} {dropped}")?;
     }
     Ok(())
 }

@@ -1,8 +1,8 @@
-//! What frames mean to the stations to which the access point sends them.
+//! What frames mean to the stations to which the access point sends them, and whose data was dropped.
 
 ghost use Rattle.std.specs.Prelude.{◌≡◌, ◌<◌, Some};
-ghost use Rattle.apd_text.specs.Notices.{answered, block_ack_meaning, meaning_of, notice_of, octet_at, receiver_of, word_at};
-ghost use Rattle.apd_text.specs.NoticeTexts.{notice_members, notice_words};
+ghost use Rattle.apd_text.specs.Notices.{answered, block_ack_meaning, dropped_of, meaning_of, notice_of, octet_at, receiver_of, sender_of, word_at};
+ghost use Rattle.apd_text.specs.NoticeTexts.{drop_members, drop_words, notice_members, notice_words};
 
 use mac_types::Address;
 use std::fmt;
@@ -46,6 +46,52 @@ impl fmt::Display for Notice {
             Meaning::Ended { tid, reason } => { write!(f, "ended {station} {tid} reason {reason}") }
             Meaning::Left { reason } => write!(f, "left {station} reason {reason}"),
         }
+    }
+}
+
+/// Data that a verdict dropped.
+#[derive(Clone, Copy)]
+pub struct Dropped {
+    /// Who sent it.
+    pub station: Address,
+    /// Its sequence number.
+    pub number: u16,
+}
+
+impl Dropped {
+    /// The data of a received frame.
+    pub fn of(frame: &[u8]) -> Dropped
+        ensures is { result ≡ dropped_of frame.now }
+    {
+        Dropped {
+            station: sender_of(frame),
+            number: word_at(frame, 22) / 16,
+        }
+    }
+}
+
+impl fmt::Display for Dropped {
+    ghost output = { λ dropped. Some (drop_words dropped) };
+
+    fn fmt<W: fmt::Write>(&self, f: &mut fmt::Formatter<W>) -> fmt::Result {
+        let Dropped { station, number } = *self;
+        write!(f, "drop {station} {number}")
+    }
+}
+
+/// Dropped data as members of a JSON object.
+#[derive(Clone, Copy)]
+pub(crate) struct DropMembers(pub Dropped);
+
+impl fmt::Display for DropMembers {
+    ghost output = { λ members. Some (drop_members members.0) };
+
+    fn fmt<W: fmt::Write>(&self, f: &mut fmt::Formatter<W>) -> fmt::Result {
+        let Dropped { station, number } = self.0;
+        write!(
+            f,
+            "\"event\":\"drop\",\"station\":\"{station}\",\"number\":{number}"
+        )
     }
 }
 
@@ -117,6 +163,20 @@ fn receiver_of(frame: &[u8]) -> Address
         octet_at(frame, 7),
         octet_at(frame, 8),
         octet_at(frame, 9),
+    ])
+}
+
+/// Address 2.
+fn sender_of(frame: &[u8]) -> Address
+    ensures is { result ≡ sender_of frame.now }
+{
+    Address::new([
+        octet_at(frame, 10),
+        octet_at(frame, 11),
+        octet_at(frame, 12),
+        octet_at(frame, 13),
+        octet_at(frame, 14),
+        octet_at(frame, 15),
     ])
 }
 

@@ -1,5 +1,6 @@
 //! What became of a script's lines.
 
+use crate::reports::notice::Dropped;
 use ap_model::Out;
 use apd_files::CodeFault;
 use bpf_decode::DecodeFault;
@@ -17,24 +18,36 @@ pub enum Unread {
 /// What became of a line of a script, or of one shard's part of it.
 #[derive(Drop)]
 pub enum Told {
-    /// A shard handled an event: its outputs, and whether a verdict dropped its data.
-    Handled { outs: Vec<Out>, dropped: bool },
+    /// A shard handled an event: its outputs, and its data if a verdict dropped it.
+    Handled {
+        outs: Vec<Out>,
+        dropped: Option<Dropped>,
+    },
     /// An allocation failed, and nothing changed.
     Memory,
     /// A program of `slots` slots is in force, and safe within the budget.
-    Loaded { budget: u32, slots: usize },
+    Loaded {
+        budget: u32,
+        slots: usize,
+    },
     /// The code of a file isn't well formed.
     Fault(DecodeFault),
     /// The verifier refuses a program.
     Refused(Refusal),
     /// 70 to 72: why a certificate doesn't admit a program.
-    Certificate { fault: u8 },
+    Certificate {
+        fault: u8,
+    },
     /// A file can't be read, or doesn't hold pairs of hex digits.
     Unreadable(Unread),
     /// The value of a word of a map.
-    Word { value: u64 },
+    Word {
+        value: u64,
+    },
     /// The line is malformed, and changes nothing.
-    Malformed { why: String },
+    Malformed {
+        why: String,
+    },
 }
 
 /// What became of the line with this number. The shard is 0 if the line concerns none.
