@@ -6,6 +6,7 @@ use Rattle.bpf_verifier.specs.Refusals.{refusal_text}
 use Rattle.ap_model.specs.declared.event.Out.{Out}
 use Rattle.ap_books.specs.declared.totals.Totals.{Totals}
 use Rattle.ap_model.specs.declared.event.Out.TheVariants as out
+use Rattle.apd_text.specs.Colours.{colour_in, painted}
 use Rattle.apd_text.specs.Json.{drop_json, json_line, loaded_members, outs_json}
 use Rattle.apd_text.specs.Notices.{notice_of}
 use Rattle.apd_text.specs.NoticeTexts.{drop_words, notice_words}
@@ -13,7 +14,8 @@ use Rattle.apd_text.specs.Words.{then, out_words}
 use Rattle.apd_text.specs.declared.reports.notice.Dropped.{Dropped}
 use Rattle.apd_text.specs.declared.reports.notice.Notice.{Notice}
 use Rattle.apd_text.specs.declared.reports.report.Form.{Form}
-use Rattle.apd_text.specs.declared.reports.report.Form.TheVariants as form
+use Rattle.apd_text.specs.declared.reports.report.Style.{Style}
+use Rattle.apd_text.specs.declared.reports.report.Style.TheVariants as style
 use Rattle.apd_text.specs.declared.reports.report.Told.{Told}
 use Rattle.apd_text.specs.declared.reports.report.Told.TheVariants as told
 use Rattle.apd_text.specs.declared.reports.report.Report.{Report}
@@ -73,11 +75,15 @@ json_text number (told.Handled outs dropped) = outs_json number outs.items ++ dr
 json_text number (told.Loaded budget slots) = json_line number (loaded_members budget)
 json_text number told = told_text number told
 
+-- the report on a line in a style
+abbrev pub styled_text : Style → ℕ → Told → List ℕ
+styled_text style.Lines number told = told_text number told
+styled_text style.Notices number told = noticed_text number told
+styled_text style.Json number told = json_text number told
+
 -- the report on a line in a form
 abbrev pub formed_text : Form → ℕ → Told → List ℕ
-formed_text form.Lines number told = told_text number told
-formed_text form.Notices number told = noticed_text number told
-formed_text form.Json number told = json_text number told
+formed_text form number told = painted (colour_in form.colours told) (styled_text form.style number told)
 
 -- the lines of one report
 abbrev pub report_text : Form → Report → List ℕ

@@ -20,7 +20,7 @@ pub use raw::{raw_faults, raw_text};
 pub use reasons::{fault_text, insn_text, reason_text};
 pub use refusals::{Example, Explanation, explain, page_text};
 pub use reports::{
-    Dropped, Form, Meaning, Notice, PrintFault, Report, Told, Unread, print_reports, print_totals,
-    put_in_order,
+    Dropped, Form, Meaning, Notice, PrintFault, Report, Style, Told, Unread, print_reports,
+    print_totals, put_in_order,
 };
 pub use trace::trace_text;

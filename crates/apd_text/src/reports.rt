@@ -14,4 +14,4 @@ mod words;
 pub use notice::{Dropped, Meaning, Notice};
 pub use order::put_in_order;
 pub use printing::{PrintFault, print_reports, print_totals};
-pub use report::{Form, Report, Told, Unread};
+pub use report::{Form, Report, Style, Told, Unread};

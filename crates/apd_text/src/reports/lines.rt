@@ -2,11 +2,12 @@
 
 ghost use Rattle.std.specs.Prelude.{◌≡◌, ◌++◌, IfOk, string_bytes};
 ghost use Rattle.apd_text.specs.Words.{out_words};
-ghost use Rattle.apd_text.specs.Lines.{drop_text, json_text, line_of, notice_line, notice_text, noticed_out, noticed_outs, noticed_text, outs_text, report_text, told_text, totals_text};
+ghost use Rattle.apd_text.specs.Colours.{colour_of};
+ghost use Rattle.apd_text.specs.Lines.{drop_text, json_text, line_of, notice_line, notice_text, noticed_out, noticed_outs, noticed_text, outs_text, report_text, styled_text, told_text, totals_text};
 
 use crate::reports::json::{append_drop_json, append_loaded_json, append_outs_json};
 use crate::reports::notice::{Dropped, Notice, notice_of};
-use crate::reports::report::{Form, Report, Told};
+use crate::reports::report::{Form, Report, Style, Told};
 use crate::reports::words::{TidWord, bytes_word};
 use ap_books::Totals;
 use ap_model::{Out, Up};
@@ -206,6 +207,41 @@ fn append_told_json(
     }
 }
 
+/// Appends what became of a line, in a style.
+fn append_styled(
+    alloc: Global,
+    text: &mut String,
+    style: Style,
+    report: &Report,
+) -> Result<(), AllocError>
+    ensures ok { IfOk result (λ _. string_bytes text.new ≡ string_bytes text.old
+        ++ styled_text style report.now.line report.now.told) }
+{
+    let line = report.line;
+    let told = &report.told;
+    match style {
+        Style::Lines => return append_told(alloc, text, line, told),
+        Style::Notices => return append_told_noticed(alloc, text, line, told),
+        Style::Json => return append_told_json(alloc, text, line, told),
+    }
+}
+
+/// The colour of what became of a line, if it has one.
+fn colour_of(told: &Told) -> Option<u8>
+    ensures is { result ≡ colour_of told.now }
+{
+    match told {
+        Told::Handled { .. } | Told::Word { .. } => None,
+        Told::Loaded { .. } => Some(32),
+        Told::Memory
+        | Told::Fault(_)
+        | Told::Refused(_)
+        | Told::Certificate { .. }
+        | Told::Unreadable(_)
+        | Told::Malformed { .. } => Some(31),
+    }
+}
+
 /// Appends the lines of a report.
 pub(crate) fn append_report(
     alloc: Global,
@@ -216,12 +252,18 @@ pub(crate) fn append_report(
     ensures ok { IfOk result (λ _. string_bytes text.new ≡ string_bytes text.old
         ++ report_text form report.now) }
 {
-    let line = report.line;
-    let told = &report.told;
-    match form {
-        Form::Lines => return append_told(alloc, text, line, told),
-        Form::Notices => return append_told_noticed(alloc, text, line, told),
-        Form::Json => return append_told_json(alloc, text, line, told),
+    let Form { style, colours } = form;
+    if !colours {
+        return append_styled(alloc, text, style, report);
+    }
+    match colour_of(&report.told) {
+        None => return append_styled(alloc, text, style, report),
+        Some(colour) => {
+            write!(text, "\x1b[{colour}m")?;
+            append_styled(alloc, text, style, report)?;
+            text.push_str("\x1b[0m")?;
+            return Ok(());
+        }
     }
 }
 

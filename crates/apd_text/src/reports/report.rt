@@ -1,5 +1,8 @@
 //! What became of a script's lines.
 
+ghost use Rattle.std.specs.Prelude.{◌≡◌};
+ghost use Rattle.apd_text.specs.Colours.{plain};
+
 use crate::reports::notice::Dropped;
 use ap_model::Out;
 use apd_files::CodeFault;
@@ -58,13 +61,32 @@ pub struct Report {
     pub told: Told,
 }
 
-/// How reports are printed.
-#[derive(Clone, Copy, Debug, PartialEq, Eq)]
-pub enum Form {
+/// The lines that are printed of reports.
+#[derive(Clone, Copy, PartialEq, Eq)]
+pub enum Style {
     /// A line for each output: frames to send as hex digits.
     Lines,
     /// The same, each frame followed by what it means to its station; and a line for data that a verdict dropped.
     Notices,
     /// A JSON object for each output, for dropped data, and for a program that is in force; all else as lines.
     Json,
+}
+
+/// How reports are printed: in which style, and whether what went wrong is red, and what is in force green.
+#[derive(Clone, Copy, PartialEq, Eq)]
+pub struct Form {
+    pub style: Style,
+    pub colours: bool,
+}
+
+impl Form {
+    /// A style without colours.
+    pub fn plain(style: Style) -> Form
+        ensures is { result ≡ plain style }
+    {
+        Form {
+            style,
+            colours: false,
+        }
+    }
 }
