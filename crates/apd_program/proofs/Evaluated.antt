@@ -5,6 +5,7 @@ use Rattle.std.specs.Borrow.{Bor}
 use Rattle.bpf_regions.specs.declared.hooks.Hook.{Hook}
 use Rattle.bpf_decode.specs.Program.{Code}
 use Rattle.bpf_machine.specs.Verified.{Verified}
+use Rattle.bpf_verifier.specs.declared.limit.Limits.{Limits}
 use Rattle.bpf_regions.specs.declared.maps.Shape.{Shape}
 use Rattle.capture.specs.Packets.{Seen}
 use Rattle.capture.specs.Captures.{Holds as HoldsPackets}
@@ -54,13 +55,13 @@ module _ (files : Held) (file capture config : List ℕ) (e : ProgramFault) wher
   bad_capture later same (inl memory) = inl memory
   bad_capture later same (inr bad) = inr (OfCapture (Some config) (let P : Held → Type 0 = λ f. HasBadCapture f capture in subst P same bad))
 
-pub IsEvaluatedWith-of : (files : Held) (limit : ℕ) (hook : Hook) (file capture config : List ℕ) (json : Bool) (m : Material) (packets : List Seen) (r : Result Answer ProgramFault) → IsMaterial files config file capture m → HoldsPackets m.capture.items packets
-    → IfOk r (IsOfProgram (IsVerdict limit (AreVerdicts hook m.setting.draw m.setting.link packets json)) m.code.items m.setting.shapes) → IfOk r (IsEvaluatedWith files limit hook file capture config json)
-IsEvaluatedWith-of files limit hook file capture config json m packets r is held said =
+pub IsEvaluatedWith-of : (files : Held) (limits : Limits) (hook : Hook) (file capture config : List ℕ) (json : Bool) (m : Material) (packets : List Seen) (r : Result Answer ProgramFault) → IsMaterial files config file capture m → HoldsPackets m.capture.items packets
+    → IfOk r (IsOfProgram (IsVerdict limits (AreVerdicts hook m.setting.draw m.setting.link packets json)) m.code.items m.setting.shapes) → IfOk r (IsEvaluatedWith files limits hook file capture config json)
+IsEvaluatedWith-of files limits hook file capture config json m packets r is held said =
     let s = is.setting in
     let c = s.configuration in
-    let says : ℕ → Config → Code → Answer → Type 0 = λ d l. IsVerdict limit (AreVerdicts hook d l packets json) in
-    IfOk-weaker r (IsOfProgram (says m.setting.draw m.setting.link) m.code.items m.setting.shapes) (IsEvaluatedWith files limit hook file capture config json) (λ a h.
+    let says : ℕ → Config → Code → Answer → Type 0 = λ d l. IsVerdict limits (AreVerdicts hook d l packets json) in
+    IfOk-weaker r (IsOfProgram (says m.setting.draw m.setting.link) m.code.items m.setting.shapes) (IsEvaluatedWith files limits hook file capture config json) (λ a h.
     let whole = IsOfProgram-kept (says m.setting.draw m.setting.link) m.setting.shapes is.kept.code m.code.items a is.kept.keeps h in
     let drawn = subst (λ d. IsOfProgram (says d m.setting.link) is.kept.code m.setting.shapes a) s.draw whole in
     let linked = subst (λ l. IsOfProgram (says c.draw l) is.kept.code m.setting.shapes a) s.link drawn in

@@ -2,6 +2,7 @@
 use Rattle.std.specs.Prelude.{◌≡◌, ◌^◌, ℕ, Bool, List, Option, Some, None, string_bytes}
 use Rattle.bpf_regions.specs.declared.hooks.Hook.{Hook}
 use Rattle.bpf_decode.specs.Program.{Code}
+use Rattle.bpf_verifier.specs.declared.limit.Limits.{Limits}
 use Rattle.capture.specs.Packets.{Seen}
 use Rattle.capture.specs.Captures.{Holds as HoldsPackets}
 use Rattle.ap_model.specs.Readings.{Config}
@@ -54,20 +55,20 @@ AreVerdicts hook draw config packets json p budget (Verdicts text) =
 AreVerdicts hook draw config packets json p budget _ = ⊥
 
 -- the verdicts of the program in a file on the capture in another, at an access point of the configuration in a third
-pub record IsEvaluatedWith (files : Held) (limit : ℕ) (hook : Hook) (file capture config : List ℕ) (json : Bool) (a : Answer) : Type 0 where
+pub record IsEvaluatedWith (files : Held) (limits : Limits) (hook : Hook) (file capture config : List ℕ) (json : Bool) (a : Answer) : Type 0 where
   pub configuration : Configuration
   pub configured : HoldsConfiguration files config configuration
   pub code : List ℕ
   pub held : HoldsCode files file code
   pub packets : List Seen
   pub captured : HoldsCapture files capture packets
-  pub said : IsOfProgram (IsVerdict limit (AreVerdicts hook configuration.draw (link_of configuration) packets json)) code configuration.maps a
+  pub said : IsOfProgram (IsVerdict limits (AreVerdicts hook configuration.draw (link_of configuration) packets json)) code configuration.maps a
 
 -- the same; there has to be a configuration
-abbrev pub IsEvaluatedFile : Held → ℕ → Hook → List ℕ → List ℕ → Option (List ℕ) → Bool → Answer → Type 0
-IsEvaluatedFile files limit hook file capture None json a = ⊥
-IsEvaluatedFile files limit hook file capture (Some config) json a =
-    IsEvaluatedWith files limit hook file capture config json a
+abbrev pub IsEvaluatedFile : Held → Limits → Hook → List ℕ → List ℕ → Option (List ℕ) → Bool → Answer → Type 0
+IsEvaluatedFile files limits hook file capture None json a = ⊥
+IsEvaluatedFile files limits hook file capture (Some config) json a =
+    IsEvaluatedWith files limits hook file capture config json a
 
 -- there is no configuration, or a file is faulty
 pub data HasNoEvaluation (files : Held) (file capture : List ℕ) : Option (List ℕ) → Type 0 where

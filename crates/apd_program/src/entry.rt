@@ -9,7 +9,7 @@ ghost use Rattle.apd_program.specs.Program.{Fulfils};
 
 use crate::program::{respond, tell};
 use apd_files::Files;
-use apd_run::{OpenGate, Progress, RunWords, StateLimit, Streams, Supplies, live, run};
+use apd_run::{Limits, OpenGate, Progress, RunWords, StateLimit, Streams, Supplies, live, run};
 use apd_words::{LiveRun, Request, ScriptRun, read_words};
 use std::alloc::Global;
 use std::io::{Input, Read, Write};
@@ -49,14 +49,39 @@ where
         strict: asked.strict,
         verbose: asked.verbose,
     };
-    let limit = StateLimit::nearest(asked.states);
+    let limits = Limits {
+        states: StateLimit::nearest(asked.states),
+        work: asked.work,
+    };
     if watched && !asked.quiet {
         let progress = Progress::new(rt);
         let gate = &progress;
-        return run(rt, alloc, words, Supplies { files, limit, gate }, out, err);
+        return run(
+            rt,
+            alloc,
+            words,
+            Supplies {
+                files,
+                limits,
+                gate,
+            },
+            out,
+            err,
+        );
     }
     let gate = OpenGate;
-    return run(rt, alloc, words, Supplies { files, limit, gate }, out, err);
+    return run(
+        rt,
+        alloc,
+        words,
+        Supplies {
+            files,
+            limits,
+            gate,
+        },
+        out,
+        err,
+    );
 }
 
 /// Runs lines as they come on an input.
@@ -84,9 +109,16 @@ where
         strict: asked.strict,
         verbose: asked.verbose,
     };
-    let limit = StateLimit::nearest(asked.states);
+    let limits = Limits {
+        states: StateLimit::nearest(asked.states),
+        work: asked.work,
+    };
     let gate = OpenGate;
-    let supplies = Supplies { files, limit, gate };
+    let supplies = Supplies {
+        files,
+        limits,
+        gate,
+    };
     return live(rt, alloc, words, supplies, streams, err);
 }
 

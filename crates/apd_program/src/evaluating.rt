@@ -1,14 +1,13 @@
 //! Verdicts on a capture: the command `eval`.
 
 ghost use Rattle.std.specs.Prelude.{◌≡◌, IfOk, IfErr, Some, map};
-ghost use Rattle.bpf_verifier.specs.Limits.{nearest};
 ghost use Rattle.capture.specs.Packets.{seen_of};
 ghost use Rattle.apd_words.specs.Asked.{asked_evaluation};
 ghost use Rattle.apd_program.specs.Answers.{IsAnswer, HasNoAnswer};
 ghost use Rattle.apd_program.specs.Evaluating.{HoldsSetting, AreVerdicts, IsMaterial, IsEvaluatedWith, HasNoEvaluation, link_of};
 ghost use Rattle.apd_program.specs.Faults.{IsMemoryOr, HasBadConfiguration};
 ghost use Rattle.apd_program.specs.Programs.{IsOfProgram};
-ghost use Rattle.apd_program.specs.Verifying.{IsVerdict};
+ghost use Rattle.apd_program.specs.Verifying.{IsVerdict, within};
 
 use crate::answer::{Answer, refused, undecoded};
 use crate::explaining::Reason;
@@ -96,7 +95,7 @@ fn examined(
     exam: Exam<'_>,
     reason: &mut Reason,
 ) -> Result<Answer, ProgramFault>
-    ensures verdicts { IfOk result (IsVerdict (nearest exam.entry.terms.states)
+    ensures verdicts { IfOk result (IsVerdict (within exam.entry.terms.states exam.entry.terms.work)
         (AreVerdicts exam.entry.terms.hook exam.entry.replay.draw exam.entry.replay.link.now
         (map seen_of exam.entry.replay.packets.now) exam.entry.json) program) }
     ensures memory { IfErr result (λ e. e ≡ ProgramFault.NoMemory) }
@@ -123,7 +122,7 @@ fn examine(
     exam: Exam<'_>,
     reason: &mut Reason,
 ) -> Result<Answer, ProgramFault>
-    ensures verdicts { IfOk result (IsOfProgram (IsVerdict (nearest exam.entry.terms.states)
+    ensures verdicts { IfOk result (IsOfProgram (IsVerdict (within exam.entry.terms.states exam.entry.terms.work)
         (AreVerdicts exam.entry.terms.hook exam.entry.replay.draw exam.entry.replay.link.now
         (map seen_of exam.entry.replay.packets.now) exam.entry.json)) code.now shapes) }
     ensures memory { IfErr result (λ e. e ≡ ProgramFault.NoMemory) }
@@ -169,7 +168,8 @@ fn evaluated<F: Files>(
     reason: &mut Reason,
 ) -> Result<Answer, ProgramFault>
     ensures verdicts { IfOk result (IsEvaluatedWith (F.held files.old)
-        (nearest evaluation.entry.subject.terms.states) evaluation.entry.subject.terms.hook
+        (within evaluation.entry.subject.terms.states evaluation.entry.subject.terms.work)
+        evaluation.entry.subject.terms.hook
         evaluation.entry.subject.source.file.now evaluation.entry.capture.now config.now
         evaluation.entry.json) }
     ensures fault { IfErr result (IsMemoryOr (HasNoEvaluation (F.held files.old)

@@ -1,8 +1,7 @@
 use Rattle.std.proofs.Common.{map}
-use Rattle.bpf_verifier.specs.Limits.{nearest}
 use Rattle.capture.specs.Packets.{seen_of}
 use Rattle.apd_program.specs.Evaluating.{AreVerdicts}
-use Rattle.apd_program.specs.Verifying.{Admitted}
+use Rattle.apd_program.specs.Verifying.{Admitted, within}
 use Rattle.apd_program.proofs.Evaluated.{IsEvaluation-of}
 use Rattle.apd_program.proofs.Said.{IsVerdict-refused}
 use Rattle.apd_program.proofs.evaluating.examined.Goals as goal
@@ -14,5 +13,5 @@ returns-in_ok-text-in-Ok-clause-verdicts c =
 
 pub returns-in-Err-clause-verdicts : goal.returns-in-Err-clause-verdicts
 returns-in-Err-clause-verdicts c =
-    IsVerdict-refused (nearest c.args.exam.terms.states) (AreVerdicts c.args.exam.terms.hook c.args.exam.replay.draw c.args.exam.replay.link.now (map seen_of c.args.exam.replay.packets.now) c.args.exam.json) _ _
+    IsVerdict-refused (within c.args.exam.terms.states c.args.exam.terms.work) (AreVerdicts c.args.exam.terms.hook c.args.exam.replay.draw c.args.exam.replay.link.now (map seen_of c.args.exam.replay.packets.now) c.args.exam.json) _ _
     c.in-Err.refusal c.in-Err.ensures.refused c.refused.ensures.refusal
