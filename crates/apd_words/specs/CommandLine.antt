@@ -59,6 +59,10 @@ config = option (codes "config")
 abbrev pub output : Rule
 output = record (option (codes "output")) { short = Some 111 }
 
+-- `--against OLD`
+abbrev pub against : Rule
+against = option (codes "against")
+
 -- `-j`, or `--json`; the letter is 106
 abbrev pub json : Rule
 json = record (flag (codes "json")) { short = Some 106 }
@@ -66,6 +70,10 @@ json = record (flag (codes "json")) { short = Some 106 }
 -- `--context KEY=VALUE,..`
 abbrev pub context : Rule
 context = option (codes "context")
+
+-- `--events FORM`
+abbrev pub events : Rule
+events = option (codes "events")
 
 -- the argument HOOK, which must be the name of one
 abbrev pub hook : ValueParser → Rule
@@ -117,11 +125,19 @@ trace hooks =
     hook_command (codes "trace") hooks (required (codes "FRAME") ∷ config ∷ states ∷ context
     ∷ flag (codes "from-frame") ∷ flag (codes "explain") ∷ work ∷ [])
 
+<<<<<<< HEAD
 -- `eval HOOK FILE CAPTURE [--config C] [--states N] [-j] [-o FILE] [--work N]`
 abbrev pub evaluate : ValueParser → Shape
 evaluate hooks =
     hook_command (codes "eval") hooks (required (codes "CAPTURE") ∷ config ∷ states ∷ json
     ∷ output ∷ work ∷ [])
+=======
+-- `eval HOOK FILE CAPTURE [--config C] [--against OLD] [--states N] [-j] [-o FILE]`
+abbrev pub evaluate : ValueParser → Shape
+evaluate hooks =
+    hook_command (codes "eval") hooks (required (codes "CAPTURE") ∷ config ∷ against ∷ states
+    ∷ json ∷ output ∷ [])
+>>>>>>> origin/main
 
 -- `run C SCRIPT [--workers N] [--states N] [--quiet] [--strict] [--verbose] [--work N]`
 abbrev pub run : ValueParser → Shape
@@ -130,11 +146,19 @@ run numbers =
     ∷ workers numbers ∷ states ∷ flag (codes "quiet") ∷ flag (codes "strict")
     ∷ flag (codes "verbose") ∷ work ∷ [])
 
+<<<<<<< HEAD
 -- `live C [--workers N] [--states N] [--strict] [--verbose] [--work N]`
 abbrev pub live : ValueParser → Shape
 live numbers =
     command (codes "live") (required (codes "C") ∷ workers numbers ∷ states
     ∷ flag (codes "strict") ∷ flag (codes "verbose") ∷ work ∷ [])
+=======
+-- `live C [--workers N] [--states N] [--strict] [--verbose] [--clock] [--events FORM]`
+abbrev pub live : ValueParser → Shape
+live numbers =
+    command (codes "live") (required (codes "C") ∷ workers numbers ∷ states
+    ∷ flag (codes "strict") ∷ flag (codes "verbose") ∷ flag (codes "clock") ∷ events ∷ [])
+>>>>>>> origin/main
 
 -- `cert HOOK FILE [--config C] [--states N] [-o FILE] [--work N]`
 abbrev pub certify : ValueParser → Shape

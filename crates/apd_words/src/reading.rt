@@ -114,6 +114,7 @@ fn evaluate<'a>(matches: &ArgMatches<'a>) -> Option<Question<'a>>
     let file = value(matches, "FILE")?;
     let capture = value(matches, "CAPTURE")?;
     let config = value(matches, "config");
+    let against = value(matches, "against");
     let states = states(matches)?;
     let work = work(matches);
     let json = flag(matches, "json");
@@ -122,6 +123,7 @@ fn evaluate<'a>(matches: &ArgMatches<'a>) -> Option<Question<'a>>
     Some(Question::Evaluate(Evaluation {
         subject: Subject { source, terms },
         capture,
+        against,
         json,
     }))
 }
@@ -158,6 +160,8 @@ fn live<'a>(matches: &ArgMatches<'a>) -> Option<Request<'a>>
     let work = work(matches);
     let strict = flag(matches, "strict");
     let verbose = flag(matches, "verbose");
+    let clock = flag(matches, "clock");
+    let events = value(matches, "events");
     Some(Request::Live(LiveRun {
         config,
         workers,
@@ -165,6 +169,8 @@ fn live<'a>(matches: &ArgMatches<'a>) -> Option<Request<'a>>
         work,
         strict,
         verbose,
+        clock,
+        events,
     }))
 }
 
