@@ -1,9 +1,5 @@
 -- From parts of an answer to the answer.
-<<<<<<< HEAD
-use Rattle.std.proofs.Common.{◌≡◌, ◌≢◌, ℕ, List, Option, Result, Err, IfOk, IfErr, IsUtf8, take, ap, sym, subst}
-=======
-use Rattle.std.proofs.Common.{◌≡◌, ℕ, List, Result, IfOk, IsUtf8, take, sym, subst}
->>>>>>> origin/main
+use Rattle.std.proofs.Common.{◌≡◌, ℕ, List, Option, Result, Err, IfOk, IfErr, IsUtf8, take, ap, sym, subst}
 use Rattle.std.specs.Str.Lossy.{utf8_valid_len}
 use Rattle.std.proofs.lemmas.Result.{IfOk-weaker}
 use Rattle.bpf_regions.specs.declared.hooks.Hook.{Hook}
@@ -20,13 +16,9 @@ use Rattle.bpf_cert.specs.Certified as shown
 use Rattle.bpf_cert.specs.Certified.{IsUncertifiedWithin}
 use Rattle.bpf_cert.specs.Limits.{Within, HasPassedLimit}
 use Rattle.bpf_cert.specs.declared.fault.CertFault.{CertFault}
-<<<<<<< HEAD
 use Rattle.bpf_cert.specs.declared.fault.CertFault.TheVariants as cert_fault
 use Rattle.bpf_cert.specs.declared.limit.WithinFault.{WithinFault}
 use Rattle.bpf_cert.specs.declared.limit.WithinFault.TheVariants as within
-use Rattle.bpf_rules.specs.declared.fault.Fault.TheVariants as verify_fault
-=======
->>>>>>> origin/main
 use Rattle.apd_text.specs.Trace.{IsTrace}
 use Rattle.apd_program.specs.declared.answer.Answer.{Answer}
 use Rattle.apd_program.specs.declared.answer.Answer.TheVariants.{Accepted, Code, Instructions, Run, Verdicts, Differences, Page, Script, CutScript, Tested, Help, Fault, Refused, LineFault, Certificate, Unaccepted}

@@ -63,17 +63,10 @@ IsAnswer files (Assemble file) a = IsOfText IsAssembly files file a
 IsAnswer files (Disassemble file config slots) a = IsOfCode (λ setup. IsListingWith slots) files file config a
 IsAnswer files (ListRaw file config slots) a = IsOfSlots (IsRawListing slots) files file config a
 IsAnswer files (Graph file config) a = IsOfCode (λ setup. IsDrawing) files file config a
-<<<<<<< HEAD
 IsAnswer files (Trace hook file word config states work words from_frame) a =
     IsTraced files (within states work) hook file word config words from_frame a
-IsAnswer files (Evaluate hook file capture config states work json) a =
-    IsEvaluatedFile files (within states work) hook file capture config json a
-=======
-IsAnswer files (Trace hook file word config states words from_frame) a =
-    IsTraced files (nearest states) hook file word config words from_frame a
-IsAnswer files (Evaluate hook file capture config against states json) a =
-    IsEvaluatedFile files (nearest states) hook file capture against json config a
->>>>>>> origin/main
+IsAnswer files (Evaluate hook file capture config against states work json) a =
+    IsEvaluatedFile files (within states work) hook file capture against json config a
 IsAnswer files (Explain number) a = IsPageFor number a
 IsAnswer files (Frames capture ticks) a = IsOfText (IsScript ticks) files capture a
 IsAnswer files (Test file) a = IsTested files file a
@@ -90,12 +83,8 @@ HasNoAnswer files (ListRaw file config slots) = IsAtFault files file config
 HasNoAnswer files (Graph file config) = IsAtFault files file config
 HasNoAnswer files (Trace hook file word config states work words from_frame) =
     HasNoTrial files file word config words from_frame
-<<<<<<< HEAD
-HasNoAnswer files (Evaluate hook file capture config states work json) = HasNoEvaluation files file capture config
-=======
-HasNoAnswer files (Evaluate hook file capture config against states json) =
+HasNoAnswer files (Evaluate hook file capture config against states work json) =
     HasNoEvaluation files file capture against config
->>>>>>> origin/main
 HasNoAnswer files (Explain number) = HasNoPage number
 HasNoAnswer files (Frames capture ticks) = HasBadCapture files capture
 HasNoAnswer files (Test file) = HasNoTest files file

@@ -2,15 +2,10 @@
 use Rattle.std.specs.Prelude.{◌≡◌, ◌^◌, ℕ, Bool, List, map, Option, Some, None, Vec, string_bytes}
 use Rattle.std.specs.declared.alloc.Global.{Global}
 use Rattle.bpf_regions.specs.declared.hooks.Hook.{Hook}
-<<<<<<< HEAD
-use Rattle.bpf_decode.specs.Program.{Code}
-use Rattle.bpf_verifier.specs.declared.limit.Limits.{Limits}
-use Rattle.capture.specs.Packets.{Seen}
-=======
 use Rattle.bpf_regions.specs.declared.maps.Shape.{Shape}
 use Rattle.bpf_machine.specs.Verified.{Verified}
+use Rattle.bpf_verifier.specs.declared.limit.Limits.{Limits}
 use Rattle.capture.specs.Packets.{Seen, seen_of}
->>>>>>> origin/main
 use Rattle.capture.specs.Captures.{Holds as HoldsPackets}
 use Rattle.ap_model.specs.Readings.{Config}
 use Rattle.apd_config.specs.Text.{IsTextOf}
@@ -71,10 +66,6 @@ pub record Replayed : Type 0 where
   pub packets : List Seen
   pub json : Bool
 
-<<<<<<< HEAD
--- the verdicts of the program in a file on the capture in another, at an access point of the configuration in a third
-pub record IsEvaluatedWith (files : Held) (limits : Limits) (hook : Hook) (file capture config : List ℕ) (json : Bool) (a : Answer) : Type 0 where
-=======
 abbrev pub replayed_by : Exam → Replayed
 replayed_by e = record {
   hook = e.terms.hook;
@@ -96,10 +87,10 @@ AreDifferences g in_force v (Differences text differs) =
 AreDifferences g in_force v _ = ⊥
 
 -- the verdicts of the program that code spells; or, with the code in force, those that differ. That is verified first.
-abbrev pub AreJudged : ℕ → Replayed → Option (List ℕ) → List ℕ → List Shape → Answer → Type 0
-AreJudged limit g None code shapes a = IsOfAdmitted limit g.hook (AreVerdicts g) code shapes a
-AreJudged limit g (Some in_force) code shapes a =
-    IsOfAdmitted limit g.hook (λ v. IsOfAdmitted limit g.hook (AreDifferences g v) code shapes) in_force shapes a
+abbrev pub AreJudged : Limits → Replayed → Option (List ℕ) → List ℕ → List Shape → Answer → Type 0
+AreJudged limits g None code shapes a = IsOfAdmitted limits g.hook (AreVerdicts g) code shapes a
+AreJudged limits g (Some in_force) code shapes a =
+    IsOfAdmitted limits g.hook (λ v. IsOfAdmitted limits g.hook (AreDifferences g v) code shapes) in_force shapes a
 
 -- the code in the file, if one is named
 abbrev pub HoldsIfAny : Held → Option (List ℕ) → Option (List ℕ) → Type 0
@@ -109,8 +100,7 @@ HoldsIfAny files (Some path) (Some code) = HoldsCode files path code
 
 -- the program in a file is judged on the capture in another, at an access point of the configuration in a third,
 -- against that in a fourth, if one is named
-pub record IsEvaluatedWith (files : Held) (limit : ℕ) (hook : Hook) (file capture : List ℕ) (against : Option (List ℕ)) (json : Bool) (config : List ℕ) (a : Answer) : Type 0 where
->>>>>>> origin/main
+pub record IsEvaluatedWith (files : Held) (limits : Limits) (hook : Hook) (file capture : List ℕ) (against : Option (List ℕ)) (json : Bool) (config : List ℕ) (a : Answer) : Type 0 where
   pub configuration : Configuration
   pub configured : HoldsConfiguration files config configuration
   pub code : List ℕ
@@ -119,28 +109,18 @@ pub record IsEvaluatedWith (files : Held) (limit : ℕ) (hook : Hook) (file capt
   pub held_in_force : HoldsIfAny files against in_force
   pub packets : List Seen
   pub captured : HoldsCapture files capture packets
-<<<<<<< HEAD
-  pub said : IsOfProgram (IsVerdict limits (AreVerdicts hook configuration.draw (link_of configuration) packets json)) code configuration.maps a
+  pub said : AreJudged limits (record { hook = hook; draw = configuration.draw; config = link_of configuration; packets = packets; json = json }) in_force code configuration.maps a
 
 -- the same; there has to be a configuration
-abbrev pub IsEvaluatedFile : Held → Limits → Hook → List ℕ → List ℕ → Option (List ℕ) → Bool → Answer → Type 0
-IsEvaluatedFile files limits hook file capture None json a = ⊥
-IsEvaluatedFile files limits hook file capture (Some config) json a =
-    IsEvaluatedWith files limits hook file capture config json a
-=======
-  pub said : AreJudged limit (record { hook = hook; draw = configuration.draw; config = link_of configuration; packets = packets; json = json }) in_force code configuration.maps a
-
--- the same; there has to be a configuration
-abbrev pub IsEvaluatedFile : Held → ℕ → Hook → List ℕ → List ℕ → Option (List ℕ) → Bool → Option (List ℕ) → Answer → Type 0
-IsEvaluatedFile files limit hook file capture against json None a = ⊥
-IsEvaluatedFile files limit hook file capture against json (Some config) a =
-    IsEvaluatedWith files limit hook file capture against json config a
+abbrev pub IsEvaluatedFile : Held → Limits → Hook → List ℕ → List ℕ → Option (List ℕ) → Bool → Option (List ℕ) → Answer → Type 0
+IsEvaluatedFile files limits hook file capture against json None a = ⊥
+IsEvaluatedFile files limits hook file capture against json (Some config) a =
+    IsEvaluatedWith files limits hook file capture against json config a
 
 -- the code in a named file is faulty
 abbrev pub HasBadCodeInForce : Held → Option (List ℕ) → Type 0
 HasBadCodeInForce files None = ⊥
 HasBadCodeInForce files (Some path) = HasBadCode files path
->>>>>>> origin/main
 
 -- there is no configuration, or a file is faulty
 pub data HasNoEvaluation (files : Held) (file capture : List ℕ) (against : Option (List ℕ)) : Option (List ℕ) → Type 0 where

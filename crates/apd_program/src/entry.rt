@@ -11,13 +11,10 @@ ghost use Rattle.apd_program.specs.Forms.{in_lines};
 use crate::lines::run_live;
 use crate::program::{respond, tell};
 use apd_files::Files;
-<<<<<<< HEAD
-use apd_run::{Limits, OpenGate, Progress, RunWords, StateLimit, Streams, Supplies, live, run};
-use apd_words::{LiveRun, Request, ScriptRun, read_words};
-=======
-use apd_run::{Form, Manner, OpenGate, Progress, RunWords, StateLimit, Streams, Supplies, run};
+use apd_run::{
+    Form, Limits, Manner, OpenGate, Progress, RunWords, StateLimit, Streams, Supplies, run,
+};
 use apd_words::{Request, ScriptRun, read_words};
->>>>>>> origin/main
 use std::alloc::Global;
 use std::io::{Read, Write};
 use std::sync::Wait;
@@ -95,47 +92,6 @@ where
     );
 }
 
-<<<<<<< HEAD
-/// Runs lines as they come on an input.
-fn run_live<R, F, I, O, E>(
-    rt: &R,
-    alloc: Global,
-    asked: LiveRun<'_>,
-    files: &mut F,
-    streams: Streams<I, O>,
-    err: &mut E,
-) -> (O, u8)
-where
-    R: Threads + Wait + Sync,
-    F: Files,
-    I: Read + Drop,
-    O: Write + Drop,
-    E: Write,
-    ensures runs { Runs asked.entry.strict
-        (O.contents streams.out) (O.contents result.0) none result.1 }
-{
-    let words = RunWords {
-        config: asked.config,
-        script: "-",
-        workers: asked.workers,
-        strict: asked.strict,
-        verbose: asked.verbose,
-    };
-    let limits = Limits {
-        states: StateLimit::nearest(asked.states),
-        work: asked.work,
-    };
-    let gate = OpenGate;
-    let supplies = Supplies {
-        files,
-        limits,
-        gate,
-    };
-    return live(rt, alloc, words, supplies, streams, err);
-}
-
-=======
->>>>>>> origin/main
 /// Does what the words ask for; the first is the program's own name. An answer goes to `out`, or, if it is a
 /// success, to the file named for it. Returns `out` and the exit status: 0 for success; 1 if something was refused
 /// (in a script's run, only if it is strict), a line of `live` is malformed or a capture is cut; 2 for a fault of the

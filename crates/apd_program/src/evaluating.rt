@@ -1,23 +1,12 @@
 //! Verdicts on a capture, of one program or of two: the command `eval`.
 
-<<<<<<< HEAD
-ghost use Rattle.std.specs.Prelude.{◌≡◌, IfOk, IfErr, Some, map};
-ghost use Rattle.capture.specs.Packets.{seen_of};
-ghost use Rattle.apd_words.specs.Asked.{asked_evaluation};
-=======
 ghost use Rattle.std.specs.Prelude.{◌≡◌, IfOk, IfErr, Some, option_map};
-ghost use Rattle.bpf_verifier.specs.Limits.{nearest};
 ghost use Rattle.apd_words.specs.Asked.{asked_evaluation, text_of};
 ghost use Rattle.apd_program.specs.Admitting.{IsOfAdmitted};
->>>>>>> origin/main
 ghost use Rattle.apd_program.specs.Answers.{IsAnswer, HasNoAnswer};
 ghost use Rattle.apd_program.specs.Evaluating.{HoldsSetting, AreVerdicts, AreDifferences, AreJudged, replayed_by, IsKept, IsMaterial, IsEvaluatedWith, HasBadCodeInForce, HasNoEvaluation, link_of};
 ghost use Rattle.apd_program.specs.Faults.{IsMemoryOr, HasBadConfiguration};
-<<<<<<< HEAD
-ghost use Rattle.apd_program.specs.Programs.{IsOfProgram};
-ghost use Rattle.apd_program.specs.Verifying.{IsVerdict, within};
-=======
->>>>>>> origin/main
+ghost use Rattle.apd_program.specs.Verifying.{within};
 
 use crate::admission::{Admission, admit_code};
 use crate::answer::Answer;
@@ -101,52 +90,16 @@ fn configured<F: Files>(alloc: Global, path: &str, files: &mut F) -> Result<Sett
     }
 }
 
-<<<<<<< HEAD
-/// The verdicts of a program on a capture, or the verifier's refusal.
-fn examined(
-    alloc: Global,
-    program: Program,
-    exam: Exam<'_>,
-    reason: &mut Reason,
-) -> Result<Answer, ProgramFault>
-    ensures verdicts { IfOk result (IsVerdict (within exam.entry.terms.states exam.entry.terms.work)
-        (AreVerdicts exam.entry.terms.hook exam.entry.replay.draw exam.entry.replay.link.now
-        (map seen_of exam.entry.replay.packets.now) exam.entry.json) program) }
-    ensures memory { IfErr result (λ e. e ≡ ProgramFault.NoMemory) }
-{
-    let Exam {
-        terms,
-        replay,
-        json,
-    } = exam;
-    match admit(alloc, program, terms, reason) {
-        Ok(accepted) => {
-            let text = evaluation_text(alloc, accepted, replay, json)?;
-            Ok(Answer::Verdicts(text))
-        }
-        Err(refusal) => refused(refusal),
-    }
-}
-
-/// The verdicts of the program that the code spells, if it is admitted.
-=======
 /// The verdicts of the program that the code spells, if it is accepted.
->>>>>>> origin/main
 fn examine(
     alloc: Global,
     code: &[u8],
     exam: Exam<'_>,
     reason: &mut Reason,
 ) -> Result<Answer, ProgramFault>
-<<<<<<< HEAD
-    ensures verdicts { IfOk result (IsOfProgram (IsVerdict (within exam.entry.terms.states exam.entry.terms.work)
-        (AreVerdicts exam.entry.terms.hook exam.entry.replay.draw exam.entry.replay.link.now
-        (map seen_of exam.entry.replay.packets.now) exam.entry.json)) code.now shapes) }
-=======
-    ensures verdicts { IfOk result (IsOfAdmitted (nearest exam.entry.terms.states)
+    ensures verdicts { IfOk result (IsOfAdmitted (within exam.entry.terms.states exam.entry.terms.work)
         exam.entry.terms.hook (AreVerdicts (replayed_by exam.entry))
         code.now exam.entry.shapes.now) }
->>>>>>> origin/main
     ensures memory { IfErr result (λ e. e ≡ ProgramFault.NoMemory) }
 {
     let admission = admit_code(alloc, code, exam.shapes, exam.terms, reason)?;
@@ -167,7 +120,7 @@ fn contrast(
     exam: Exam<'_>,
     reason: &mut Reason,
 ) -> Result<Answer, ProgramFault>
-    ensures verdicts { IfOk result (IsOfAdmitted (nearest exam.entry.terms.states)
+    ensures verdicts { IfOk result (IsOfAdmitted (within exam.entry.terms.states exam.entry.terms.work)
         exam.entry.terms.hook (AreDifferences (replayed_by exam.entry) in_force)
         code.now exam.entry.shapes.now) }
     ensures memory { IfErr result (λ e. e ≡ ProgramFault.NoMemory) }
@@ -193,8 +146,8 @@ fn examine_against(
     exam: Exam<'_>,
     reason: &mut Reason,
 ) -> Result<Answer, ProgramFault>
-    ensures verdicts { IfOk result (IsOfAdmitted (nearest exam.entry.terms.states)
-        exam.entry.terms.hook (λ v. IsOfAdmitted (nearest exam.entry.terms.states)
+    ensures verdicts { IfOk result (IsOfAdmitted (within exam.entry.terms.states exam.entry.terms.work)
+        exam.entry.terms.hook (λ v. IsOfAdmitted (within exam.entry.terms.states exam.entry.terms.work)
         exam.entry.terms.hook (AreDifferences (replayed_by exam.entry) v)
         code.now exam.entry.shapes.now) in_force.now exam.entry.shapes.now) }
     ensures memory { IfErr result (λ e. e ≡ ProgramFault.NoMemory) }
@@ -217,7 +170,7 @@ fn judge(
     exam: Exam<'_>,
     reason: &mut Reason,
 ) -> Result<Answer, ProgramFault>
-    ensures verdicts { IfOk result (AreJudged (nearest exam.entry.terms.states)
+    ensures verdicts { IfOk result (AreJudged (within exam.entry.terms.states exam.entry.terms.work)
         (replayed_by exam.entry) (option_map (λ code. code.items) in_force.now)
         code.now exam.entry.shapes.now) }
     ensures memory { IfErr result (λ e. e ≡ ProgramFault.NoMemory) }
@@ -283,16 +236,10 @@ fn evaluated<F: Files>(
     reason: &mut Reason,
 ) -> Result<Answer, ProgramFault>
     ensures verdicts { IfOk result (IsEvaluatedWith (F.held files.old)
-<<<<<<< HEAD
         (within evaluation.entry.subject.terms.states evaluation.entry.subject.terms.work)
         evaluation.entry.subject.terms.hook
-        evaluation.entry.subject.source.file.now evaluation.entry.capture.now config.now
-        evaluation.entry.json) }
-=======
-        (nearest evaluation.entry.subject.terms.states) evaluation.entry.subject.terms.hook
         evaluation.entry.subject.source.file.now evaluation.entry.capture.now
         (text_of evaluation.entry.against) evaluation.entry.json config.now) }
->>>>>>> origin/main
     ensures fault { IfErr result (IsMemoryOr (HasNoEvaluation (F.held files.old)
         evaluation.entry.subject.source.file.now evaluation.entry.capture.now
         (text_of evaluation.entry.against) (Some config.now))) }

@@ -13,13 +13,8 @@ mod operator;
 mod running;
 mod worker;
 
-<<<<<<< HEAD
 pub use crate::loads::{Limits, StateLimit};
-pub use ap_live::Settings;
-=======
-pub use crate::loads::StateLimit;
 pub use ap_live::{Gate, OpenGate, Settings};
->>>>>>> origin/main
 pub use ap_shards::NewShards;
 pub use naming::Publications;
 pub use operator::LiveOperator;

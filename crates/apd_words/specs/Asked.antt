@@ -29,17 +29,10 @@ pub data Asked : Type 0 where
   Disassemble : Text → Option Text → Bool → Asked
   ListRaw : Text → Option Text → Bool → Asked
   Graph : Text → Option Text → Asked
-<<<<<<< HEAD
   Trace : Hook → Text → Text → Option Text → ℕ → Option ℕ → Option Text → Bool → Asked
-  Evaluate : Hook → Text → Text → Option Text → ℕ → Option ℕ → Bool → Asked
+  Evaluate : Hook → Text → Text → Option Text → Option Text → ℕ → Option ℕ → Bool → Asked
   Certify : Hook → Text → Option Text → ℕ → Option ℕ → Asked
   Check : Hook → Text → Text → Option Text → Option ℕ → Asked
-=======
-  Trace : Hook → Text → Text → Option Text → ℕ → Option Text → Bool → Asked
-  Evaluate : Hook → Text → Text → Option Text → Option Text → ℕ → Bool → Asked
-  Certify : Hook → Text → Option Text → ℕ → Asked
-  Check : Hook → Text → Text → Option Text → Asked
->>>>>>> origin/main
   Explain : Option Text → Asked
   Frames : Text → Bool → Asked
   Test : Text → Asked
@@ -47,13 +40,8 @@ pub data Asked : Type 0 where
 
 -- the run of a script, or of lines as they come, or a question and the file for its answer, if there is one
 pub data Wanted : Type 0 where
-<<<<<<< HEAD
   Run : Text → Text → ℕ → ℕ → Option ℕ → Bool → Bool → Bool → Wanted
-  Live : Text → ℕ → ℕ → Option ℕ → Bool → Bool → Wanted
-=======
-  Run : Text → Text → ℕ → ℕ → Bool → Bool → Bool → Wanted
-  Live : Text → ℕ → ℕ → Bool → Bool → Bool → Option Text → Wanted
->>>>>>> origin/main
+  Live : Text → ℕ → ℕ → Option ℕ → Bool → Bool → Bool → Option Text → Wanted
   Answer : Asked → Option Text → Wanted
 
 -- the text of a word, if there is one
@@ -90,13 +78,8 @@ asked_graph source = Graph source.file.now (config_of source)
 abbrev pub asked_evaluation : Evaluation → Asked
 asked_evaluation evaluation =
     Evaluate evaluation.subject.terms.hook evaluation.subject.source.file.now evaluation.capture.now
-<<<<<<< HEAD
-    (config_of evaluation.subject.source) evaluation.subject.terms.states
-    evaluation.subject.terms.work evaluation.json
-=======
     (config_of evaluation.subject.source) (text_of evaluation.against)
-    evaluation.subject.terms.states evaluation.json
->>>>>>> origin/main
+    evaluation.subject.terms.states evaluation.subject.terms.work evaluation.json
 
 -- the question of `trace`
 abbrev pub asked_run : Trial → Asked
@@ -139,12 +122,9 @@ wanted_run run =
 
 -- the run of lines as they come
 abbrev pub wanted_live : LiveRun → Wanted
-<<<<<<< HEAD
-wanted_live run = Live run.config.now run.workers run.states run.work run.strict run.verbose
-=======
 wanted_live run =
-    Live run.config.now run.workers run.states run.strict run.verbose run.clock (text_of run.events)
->>>>>>> origin/main
+    Live run.config.now run.workers run.states run.work run.strict run.verbose run.clock
+    (text_of run.events)
 
 -- what a query wants
 abbrev pub wanted_answer : Query → Wanted
@@ -240,24 +220,15 @@ trace_of rows = do
   Some (Trace hook file frame (first_of (codes "config") rows) states (work_at rows)
       (first_of (codes "context") rows) (is_set (codes "from-frame") rows))
 
-<<<<<<< HEAD
--- `eval HOOK FILE CAPTURE [--config C] [--states N] [-j] [--work N]`
-=======
--- `eval HOOK FILE CAPTURE [--config C] [--against OLD] [--states N] [-j]`
->>>>>>> origin/main
+-- `eval HOOK FILE CAPTURE [--config C] [--against OLD] [--states N] [-j] [--work N]`
 abbrev pub evaluate_of : List Row → Option Asked
 evaluate_of rows = do
   hook ← hook_at rows
   file ← first_of (codes "FILE") rows
   capture ← first_of (codes "CAPTURE") rows
   states ← states_at rows
-<<<<<<< HEAD
-  Some (Evaluate hook file capture (first_of (codes "config") rows) states (work_at rows)
-      (is_set (codes "json") rows))
-=======
   Some (Evaluate hook file capture (first_of (codes "config") rows)
-      (first_of (codes "against") rows) states (is_set (codes "json") rows))
->>>>>>> origin/main
+      (first_of (codes "against") rows) states (work_at rows) (is_set (codes "json") rows))
 
 -- `run C SCRIPT [--workers N] [--states N] [--quiet] [--strict] [--verbose] [--work N]`
 abbrev pub run_of : List Row → Option Wanted
@@ -269,24 +240,15 @@ run_of rows = do
   Some (Run config script workers states (work_at rows) (is_set (codes "quiet") rows)
       (is_set (codes "strict") rows) (is_set (codes "verbose") rows))
 
-<<<<<<< HEAD
--- `live C [--workers N] [--states N] [--strict] [--verbose] [--work N]`
-=======
--- `live C [--workers N] [--states N] [--strict] [--verbose] [--clock] [--events FORM]`
->>>>>>> origin/main
+-- `live C [--workers N] [--states N] [--strict] [--verbose] [--clock] [--events FORM] [--work N]`
 abbrev pub live_of : List Row → Option Wanted
 live_of rows = do
   config ← first_of (codes "C") rows
   workers ← option_and_then workers_named (first_of (codes "workers") rows)
   states ← states_at rows
-<<<<<<< HEAD
   Some (Live config workers states (work_at rows) (is_set (codes "strict") rows)
-      (is_set (codes "verbose") rows))
-=======
-  Some (Live config workers states (is_set (codes "strict") rows)
       (is_set (codes "verbose") rows) (is_set (codes "clock") rows)
       (first_of (codes "events") rows))
->>>>>>> origin/main
 
 -- `cert HOOK FILE [--config C] [--states N] [--work N]`
 abbrev pub certify_of : List Row → Option Asked

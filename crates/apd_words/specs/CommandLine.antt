@@ -125,19 +125,11 @@ trace hooks =
     hook_command (codes "trace") hooks (required (codes "FRAME") ∷ config ∷ states ∷ context
     ∷ flag (codes "from-frame") ∷ flag (codes "explain") ∷ work ∷ [])
 
-<<<<<<< HEAD
--- `eval HOOK FILE CAPTURE [--config C] [--states N] [-j] [-o FILE] [--work N]`
-abbrev pub evaluate : ValueParser → Shape
-evaluate hooks =
-    hook_command (codes "eval") hooks (required (codes "CAPTURE") ∷ config ∷ states ∷ json
-    ∷ output ∷ work ∷ [])
-=======
--- `eval HOOK FILE CAPTURE [--config C] [--against OLD] [--states N] [-j] [-o FILE]`
+-- `eval HOOK FILE CAPTURE [--config C] [--against OLD] [--states N] [-j] [-o FILE] [--work N]`
 abbrev pub evaluate : ValueParser → Shape
 evaluate hooks =
     hook_command (codes "eval") hooks (required (codes "CAPTURE") ∷ config ∷ against ∷ states
-    ∷ json ∷ output ∷ [])
->>>>>>> origin/main
+    ∷ json ∷ output ∷ work ∷ [])
 
 -- `run C SCRIPT [--workers N] [--states N] [--quiet] [--strict] [--verbose] [--work N]`
 abbrev pub run : ValueParser → Shape
@@ -146,19 +138,12 @@ run numbers =
     ∷ workers numbers ∷ states ∷ flag (codes "quiet") ∷ flag (codes "strict")
     ∷ flag (codes "verbose") ∷ work ∷ [])
 
-<<<<<<< HEAD
--- `live C [--workers N] [--states N] [--strict] [--verbose] [--work N]`
+-- `live C [--workers N] [--states N] [--strict] [--verbose] [--clock] [--events FORM] [--work N]`
 abbrev pub live : ValueParser → Shape
 live numbers =
     command (codes "live") (required (codes "C") ∷ workers numbers ∷ states
-    ∷ flag (codes "strict") ∷ flag (codes "verbose") ∷ work ∷ [])
-=======
--- `live C [--workers N] [--states N] [--strict] [--verbose] [--clock] [--events FORM]`
-abbrev pub live : ValueParser → Shape
-live numbers =
-    command (codes "live") (required (codes "C") ∷ workers numbers ∷ states
-    ∷ flag (codes "strict") ∷ flag (codes "verbose") ∷ flag (codes "clock") ∷ events ∷ [])
->>>>>>> origin/main
+    ∷ flag (codes "strict") ∷ flag (codes "verbose") ∷ flag (codes "clock") ∷ events
+    ∷ work ∷ [])
 
 -- `cert HOOK FILE [--config C] [--states N] [-o FILE] [--work N]`
 abbrev pub certify : ValueParser → Shape

@@ -5,11 +5,7 @@ ghost use Rattle.clap.specs.Words.{App, Rule, Shape, app_of, rule_of, with_subco
 ghost use Rattle.clap.specs.Simple.{new_shape};
 ghost use Rattle.clap.specs.declared.builder.value_parser.ValueParser.TheVariants.{Names};
 ghost use Rattle.apd_words.specs.Built.{IsProgram, IsCommand, with_argument};
-<<<<<<< HEAD
-ghost use Rattle.apd_words.specs.CommandLine.{command_line, program, with_code_commands, with_trial_commands, with_run_commands, with_certificate_commands, with_reading_commands, hook_command, required, optional, flag, hook, file, config, json, output, context, workers, states, work, verify, assemble, disassemble, trace, evaluate, run, live, certify, check, explain, frames, test, help};
-=======
-ghost use Rattle.apd_words.specs.CommandLine.{command_line, program, with_code_commands, with_trial_commands, with_run_commands, with_certificate_commands, with_reading_commands, hook_command, required, optional, flag, hook, file, config, against, json, output, context, events, workers, states, verify, assemble, disassemble, trace, evaluate, run, live, certify, check, explain, frames, test, help};
->>>>>>> origin/main
+ghost use Rattle.apd_words.specs.CommandLine.{command_line, program, with_code_commands, with_trial_commands, with_run_commands, with_certificate_commands, with_reading_commands, hook_command, required, optional, flag, hook, file, config, against, json, output, context, events, workers, states, work, verify, assemble, disassemble, trace, evaluate, run, live, certify, check, explain, frames, test, help};
 
 use clap::builder::ValueParser;
 use clap::{Arg, ArgAction, Command};
@@ -220,15 +216,9 @@ fn evaluate<'a>(alloc: Global, hooks: &'a [&'a str]) -> Made<'a>
         hook_command(alloc, "eval", about, hooks),
         required(alloc, "CAPTURE", capture),
     );
-<<<<<<< HEAD
-    let command = with_arg(with_arg(command, config(alloc)), states(alloc));
-    let command = with_arg(with_arg(command, json(alloc)), output(alloc));
-    with_arg(command, work(alloc))
-=======
     let command = with_arg(with_arg(command, config(alloc)), against(alloc));
     let command = with_arg(with_arg(command, states(alloc)), json(alloc));
-    with_arg(command, output(alloc))
->>>>>>> origin/main
+    with_arg(with_arg(command, output(alloc)), work(alloc))
 }
 
 fn run<'a>(alloc: Global, numbers: &'a [&'a str]) -> Made<'a>
@@ -265,13 +255,9 @@ fn live<'a>(alloc: Global, numbers: &'a [&'a str]) -> Made<'a>
     let command = with_arg(command, flag(alloc, "strict", strict));
     let verbose = "Tell on standard error what becomes of each load";
     let command = with_arg(command, flag(alloc, "verbose", verbose));
-<<<<<<< HEAD
-    with_arg(command, work(alloc))
-=======
     let clock = "Let time pass by the clock, too";
     let command = with_arg(command, flag(alloc, "clock", clock));
-    with_arg(command, events(alloc))
->>>>>>> origin/main
+    with_arg(with_arg(command, events(alloc)), work(alloc))
 }
 
 fn certify<'a>(alloc: Global, hooks: &'a [&'a str]) -> Made<'a>

@@ -1,11 +1,7 @@
 //! Files in memory, and runs with them.
 
 use apd_files::{FileFault, Files};
-<<<<<<< HEAD
-use apd_run::{Limits, OpenGate, RunWords, Supplies, Watcher, run};
-=======
-use apd_run::{Form, Manner, OpenGate, RunWords, StateLimit, Supplies, Watcher, run};
->>>>>>> origin/main
+use apd_run::{Form, Limits, Manner, OpenGate, RunWords, Supplies, Watcher, run};
 use std::alloc::Global;
 use std::sync::Wait;
 use std::thread::Threads;
