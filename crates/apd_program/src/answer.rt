@@ -45,7 +45,7 @@ pub enum Answer {
     LineFault(AsmFault),
     /// The bytes of a certificate.
     Certificate(Vec<u8>),
-    /// The certificate isn't accepted (70 to 72).
+    /// The certificate isn't accepted (36, or 70 to 72).
     Unaccepted(WithinFault),
 }
 

@@ -24,8 +24,8 @@ pub struct Source<'a> {
     pub config: Option<&'a str>,
 }
 
-/// The hook for which a program is verified, how many states the verifier may examine, and how many units of work it may
-/// do, if that is limited.
+/// The hook for which a program is verified, how many states the verifier may examine, and how many units of work it
+/// may do, if that is limited.
 #[derive(Clone, Copy)]
 pub struct Terms {
     pub hook: Hook,

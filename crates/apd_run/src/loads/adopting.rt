@@ -22,9 +22,9 @@ pub struct Adoption<'a> {
 
 impl Loads {
     /// Reads code and a certificate from two files of hex digits, and puts the program in force for a hook if the
-    /// certificate shows it safe, by a check within a limit of work, if there is one. Returns `Unreadable` if a file can't be read or doesn't hold pairs of hex digits, the
-    /// code's fault, the number of the certificate's fault, `Memory`, or the budget that the certificate shows. All but
-    /// the last leave the programs in force unchanged.
+    /// certificate shows it safe, by a check within a limit of work, if there is one. Returns `Unreadable` if a file
+    /// can't be read or doesn't hold pairs of hex digits, the code's fault, the number of the certificate's fault,
+    /// `Memory`, or the budget that the certificate shows. All but the last leave the programs in force unchanged.
     pub fn adopt<R: Wait, F: Files>(
         &mut self,
         rt: &R,

@@ -68,9 +68,9 @@ impl Loads {
     }
 
     /// Reads code from a file of hex digits, and puts the program in force for a hook if the verifier admits it within
-    /// limits of states and of work. Returns `Unreadable` if the file can't be read or doesn't hold pairs of hex digits, the
-    /// code's fault, the verifier's refusal, `Memory`, or the program's budget. All but the last leave the programs in
-    /// force unchanged.
+    /// limits of states and of work. Returns `Unreadable` if the file can't be read or doesn't hold pairs of hex
+    /// digits, the code's fault, the verifier's refusal, `Memory`, or the program's budget. All but the last leave the
+    /// programs in force unchanged.
     pub fn load<R: Wait, F: Files>(
         &mut self,
         rt: &R,
