@@ -276,9 +276,10 @@ APD_INLINE apd_answer apd_check(apd_handle *code, uint32_t hook, const uint8_t *
                        apd_some_bytes(certificate), certificate_length);
 }
 
-/* The same within a limit of work, which bounds the time that a stranger's certificate takes: the states that are
-   examined, and the comparisons of a state with one of the certificate. One that needs more is refused with 36. 0 is for
-   no limit. Besides, the certificate is read once: limit its length too. */
+/* The same within a limit of work, which bounds the time that a stranger's certificate takes. A unit is a part of a state
+   that is examined, or compared with one of the certificate: a register or a slot of the stack, as the verifier counts
+   them. One that needs more is refused with 36. 0 is for no limit. Besides, the certificate is read once: limit its length
+   too. */
 APD_INLINE apd_answer apd_check_within(apd_handle *code, uint32_t hook, const uint8_t *bytes, size_t length,
                                        const apd_shape *shapes, size_t maps, const uint8_t *certificate,
                                        size_t certificate_length, uint64_t work)

@@ -1,5 +1,5 @@
 -- Certificates, as C sees them.
-use Rattle.std.specs.Prelude.{◌≡◌, ◌≢◌, ◌⊎◌, ◌==◌, if◌then◌else◌, ℕ, List, [], map, Option, Some, None}
+use Rattle.std.specs.Prelude.{◌≡◌, ◌⊎◌, ◌==◌, if◌then◌else◌, ℕ, List, [], map, Option, Some, None}
 use Rattle.bpf_regions.specs.declared.hooks.Hook.{Hook}
 use Rattle.bpf_regions.specs.declared.maps.Shape.{Shape}
 use Rattle.bpf_regions.specs.Hooks.{number_of}
@@ -10,6 +10,7 @@ use Rattle.bpf_rules.specs.Faults as rules
 use Rattle.bpf_rules.specs.declared.fault.Fault.{Fault}
 use Rattle.bpf_cert.specs.Certified.{Covered, Refuses}
 use Rattle.bpf_cert.specs.Faults as faults
+use Rattle.bpf_cert.specs.Limits.{HasPassedLimit}
 use Rattle.bpf_cert.specs.declared.fault.CertFault.{CertFault}
 use Rattle.apd_c.specs.declared.answer.Answer.{Answer}
 use Rattle.apd_c.specs.declared.handle.Content.{Content}
@@ -59,9 +60,9 @@ pub record IsUnshown (hook : Hook) (bytes : List ℕ) (shapes : List Shape) (cer
 abbrev pub work_limit : ℕ → Option ℕ
 work_limit work = if work == 0 then None else Some work
 
--- there is a limit of work, and the answer is 36
+-- there is a limit of work, the work has passed it, and the answer is 36
 abbrev pub IsTooMuchWork : Option ℕ → Answer → Type 0
-IsTooMuchWork most a = (most ≢ None) × (a ≡ answer 36)
+IsTooMuchWork most a = HasPassedLimit most × (a ≡ answer 36)
 
 -- 0, or why the program isn't admitted
 abbrev pub IsShownOr : ℕ → List ℕ → List Shape → List ℕ → Option ℕ → Answer → Type 0
@@ -70,7 +71,7 @@ IsShownOr hook bytes shapes certificate most a =
 
 -- The answer of filling an empty handle by a certificate: 92 exactly if it isn't empty; otherwise perhaps 40; otherwise
 -- 90 exactly if there is no such hook or the shapes are out of their limits; otherwise 0, or why the program isn't
--- admitted, which is 36 only if there is a limit of work.
+-- admitted, which is 36 only if the work has passed its limit.
 abbrev pub IsCheckVerdict : ℕ → List ℕ → List MapShape → List ℕ → Option ℕ → Option Content → Answer → Type 0
 IsCheckVerdict hook bytes shapes certificate most o =
     UnlessNone o (answer 92) (Perhaps (answer 40) (Unless (IsAskable hook shapes) (answer 90) (IsShownOr hook bytes (map shape_of shapes) certificate most)))

@@ -170,8 +170,8 @@ fn shown_for(
 }
 
 /// Fills an empty handle with a program, as `apd_c_verify` does, if a certificate shows it safe within a budget. The
-/// program isn't explored. Work is counted: how many states are examined, and how many comparisons of a state with one
-/// of the certificate are made. The check does at most `work`; 0 stands for no limit.
+/// program isn't explored. Work is counted in the verifier's units: each part of a state that is examined, and of one
+/// that is compared with one of the certificate. The check does at most `work`; 0 stands for no limit.
 ///
 /// 0: the handle holds it. 1 to 3 and 10 to 19: the bytes aren't well-formed code. 36: more work is needed, which
 /// is possible only if the limit isn't 0. 70: the certificate is malformed. 71: it is for another hook or other code. 72:

@@ -4,6 +4,7 @@ use Rattle.std.proofs.lemmas.Result.{IfOk-weaker}
 use Rattle.std.specs.Borrow.{Bor}
 use Rattle.std.specs.declared.alloc.Global.{Global}
 use Rattle.bpf_regions.specs.declared.hooks.Hook.{Hook}
+use Rattle.bpf_verifier.specs.declared.limit.Limits.{Limits}
 use Rattle.bpf_regions.specs.declared.maps.Shape.{Shape}
 use Rattle.capture.specs.Packets.{Seen}
 use Rattle.capture.specs.Captures.{Holds as HoldsPackets}
@@ -51,32 +52,32 @@ module _ (files : Held) (file capture : List ℕ) (against : Option (List ℕ)) 
 unkept : (code : Vec ℕ Global) → Some code ≡ None → ⊥
 unkept code h = cc
 
-module _ (files : Held) (limit : ℕ) (g : Replayed) (code kept : List ℕ) (shapes : List Shape) (a : Answer) where
+module _ (files : Held) (limits : Limits) (g : Replayed) (code kept : List ℕ) (shapes : List Shape) (a : Answer) where
   -- what is said of kept codes is said of the whole ones
-  judged_whole : (against : Option (List ℕ)) (old : Option (Vec ℕ Global)) → Keeps (2 ^ 17) 8 code kept → IsKept files against old → AreJudged limit g (option_map (λ o. o.items) old) kept shapes a
-      → (whole : Option (List ℕ)) × HoldsIfAny files against whole × AreJudged limit g whole code shapes a
-  judged_whole None None keeps is h = (None, refl, IsOfAdmitted-kept limit g.hook shapes (AreVerdicts g) code kept a keeps h)
+  judged_whole : (against : Option (List ℕ)) (old : Option (Vec ℕ Global)) → Keeps (2 ^ 17) 8 code kept → IsKept files against old → AreJudged limits g (option_map (λ o. o.items) old) kept shapes a
+      → (whole : Option (List ℕ)) × HoldsIfAny files against whole × AreJudged limits g whole code shapes a
+  judged_whole None None keeps is h = (None, refl, IsOfAdmitted-kept limits g.hook shapes (AreVerdicts g) code kept a keeps h)
   judged_whole None (Some old) keeps is h = absurd (unkept old is)
   judged_whole (Some path) None keeps is h = absurd is
   judged_whole (Some path) (Some old) keeps is h = (
     Some is.code,
     is.held,
-    IsOfAdmitted-kept limit g.hook shapes (λ v. IsOfAdmitted limit g.hook (AreDifferences g v) code shapes) is.code old.items a is.keeps
-        (IsOfAdmitted-weaker limit g.hook shapes (λ v. IsOfAdmitted limit g.hook (AreDifferences g v) kept shapes) (λ v. IsOfAdmitted limit g.hook (AreDifferences g v) code shapes) old.items a
-        (λ v said. IsOfAdmitted-kept limit g.hook shapes (AreDifferences g v) code kept a keeps said) h),
+    IsOfAdmitted-kept limits g.hook shapes (λ v. IsOfAdmitted limits g.hook (AreDifferences g v) code shapes) is.code old.items a is.keeps
+        (IsOfAdmitted-weaker limits g.hook shapes (λ v. IsOfAdmitted limits g.hook (AreDifferences g v) kept shapes) (λ v. IsOfAdmitted limits g.hook (AreDifferences g v) code shapes) old.items a
+        (λ v said. IsOfAdmitted-kept limits g.hook shapes (AreDifferences g v) code kept a keeps said) h),
   )
 
-pub IsEvaluatedWith-of : (files : Held) (limit : ℕ) (hook : Hook) (file capture config : List ℕ) (against : Option (List ℕ)) (json : Bool) (m : Material) (packets : List Seen) (r : Result Answer ProgramFault) → IsMaterial files config file capture against m → HoldsPackets m.capture.items packets
-    → IfOk r (AreJudged limit (record { hook = hook; draw = m.setting.draw; config = m.setting.link; packets = packets; json = json }) (option_map (λ o. o.items) m.in_force) m.code.items m.setting.shapes)
-    → IfOk r (IsEvaluatedWith files limit hook file capture against json config)
-IsEvaluatedWith-of files limit hook file capture config against json m packets r is held said =
+pub IsEvaluatedWith-of : (files : Held) (limits : Limits) (hook : Hook) (file capture config : List ℕ) (against : Option (List ℕ)) (json : Bool) (m : Material) (packets : List Seen) (r : Result Answer ProgramFault) → IsMaterial files config file capture against m → HoldsPackets m.capture.items packets
+    → IfOk r (AreJudged limits (record { hook = hook; draw = m.setting.draw; config = m.setting.link; packets = packets; json = json }) (option_map (λ o. o.items) m.in_force) m.code.items m.setting.shapes)
+    → IfOk r (IsEvaluatedWith files limits hook file capture against json config)
+IsEvaluatedWith-of files limits hook file capture config against json m packets r is held said =
     let s = is.setting in
     let c = s.configuration in
     let on : ℕ → Config → Replayed = λ d l. record { hook = hook; draw = d; config = l; packets = packets; json = json } in
-    IfOk-weaker r (AreJudged limit (on m.setting.draw m.setting.link) (option_map (λ o. o.items) m.in_force) m.code.items m.setting.shapes) (IsEvaluatedWith files limit hook file capture against json config) (λ a h.
-    let whole = judged_whole files limit (on m.setting.draw m.setting.link) is.kept.code m.code.items m.setting.shapes a against m.in_force is.kept.keeps is.in_force h in
-    let drawn = subst (λ d. AreJudged limit (on d m.setting.link) whole.0 is.kept.code m.setting.shapes a) s.draw whole.2 in
-    let linked = subst (λ l. AreJudged limit (on c.draw l) whole.0 is.kept.code m.setting.shapes a) s.link drawn in
+    IfOk-weaker r (AreJudged limits (on m.setting.draw m.setting.link) (option_map (λ o. o.items) m.in_force) m.code.items m.setting.shapes) (IsEvaluatedWith files limits hook file capture against json config) (λ a h.
+    let whole = judged_whole files limits (on m.setting.draw m.setting.link) is.kept.code m.code.items m.setting.shapes a against m.in_force is.kept.keeps is.in_force h in
+    let drawn = subst (λ d. AreJudged limits (on d m.setting.link) whole.0 is.kept.code m.setting.shapes a) s.draw whole.2 in
+    let linked = subst (λ l. AreJudged limits (on c.draw l) whole.0 is.kept.code m.setting.shapes a) s.link drawn in
     record {
       configuration = c;
       configured = s.configured;
@@ -86,5 +87,5 @@ IsEvaluatedWith-of files limit hook file capture config against json m packets r
       held_in_force = whole.1;
       packets = packets;
       captured = record { bytes = m.capture.items; there = is.there; held = held };
-      said = subst (λ (maps : List Shape). AreJudged limit (on c.draw (link_of c)) whole.0 is.kept.code maps a) s.maps linked;
+      said = subst (λ (maps : List Shape). AreJudged limits (on c.draw (link_of c)) whole.0 is.kept.code maps a) s.maps linked;
     }) said

@@ -1,5 +1,5 @@
 -- From parts of an answer to the answer.
-use Rattle.std.proofs.Common.{◌≡◌, ℕ, List, Result, IfOk, IsUtf8, take, sym, subst}
+use Rattle.std.proofs.Common.{◌≡◌, ℕ, List, Option, Result, Err, IfOk, IfErr, IsUtf8, take, ap, sym, subst}
 use Rattle.std.specs.Str.Lossy.{utf8_valid_len}
 use Rattle.std.proofs.lemmas.Result.{IfOk-weaker}
 use Rattle.bpf_regions.specs.declared.hooks.Hook.{Hook}
@@ -9,11 +9,16 @@ use Rattle.bpf_decode.specs.Answer.{Refuses}
 use Rattle.bpf_decode.specs.declared.fault.DecodeFault.{DecodeFault}
 use Rattle.bpf_machine.specs.Verified.{Verified}
 use Rattle.bpf_text.specs.declared.fault.AsmFault.TheVariants as asm_fault
-use Rattle.bpf_verifier.specs.Admission.{IsRefusal}
+use Rattle.bpf_verifier.specs.Admission.{IsRefusalWithin}
+use Rattle.bpf_verifier.specs.declared.limit.Limits.{Limits}
 use Rattle.bpf_verifier.specs.declared.refusal.Refusal.{Refusal}
 use Rattle.bpf_cert.specs.Certified as shown
-use Rattle.bpf_cert.specs.Certified.{IsUncertified}
+use Rattle.bpf_cert.specs.Certified.{IsUncertifiedWithin}
+use Rattle.bpf_cert.specs.Limits.{Within, HasPassedLimit}
 use Rattle.bpf_cert.specs.declared.fault.CertFault.{CertFault}
+use Rattle.bpf_cert.specs.declared.fault.CertFault.TheVariants as cert_fault
+use Rattle.bpf_cert.specs.declared.limit.WithinFault.{WithinFault}
+use Rattle.bpf_cert.specs.declared.limit.WithinFault.TheVariants as within
 use Rattle.apd_text.specs.Trace.{IsTrace}
 use Rattle.apd_program.specs.declared.answer.Answer.{Answer}
 use Rattle.apd_program.specs.declared.answer.Answer.TheVariants.{Accepted, Code, Instructions, Run, Verdicts, Differences, Page, Script, CutScript, Tested, Help, Fault, Refused, LineFault, Certificate, Unaccepted}
@@ -21,7 +26,7 @@ use Rattle.apd_program.specs.declared.fault.ProgramFault.{ProgramFault}
 use Rattle.apd_program.specs.Programs.{IsOfProgram, Undecoded, Decoded}
 use Rattle.apd_program.specs.Refusing.{IsUndecoded, IsRefused, IsUnaccepted}
 use Rattle.apd_program.specs.Verifying.{IsVerdict, NotAdmitted}
-use Rattle.apd_program.specs.Certifying.{IsCertificate, NotMade, IsChecked, NotShown}
+use Rattle.apd_program.specs.Certifying.{IsCertificate, Unsafe, NotMade, IsChecked, NotShown, NotDone}
 use Rattle.apd_program.specs.Texts.{BreaksOff, broken_off, IsAssembly, Broken}
 
 module _ (says : decoded.Code → Answer → Type 0) (code : List ℕ) (shapes : List Shape) (r : Result Answer ProgramFault) where
@@ -33,23 +38,37 @@ module _ (says : decoded.Code → Answer → Type 0) (code : List ℕ) (shapes :
       let P : Answer → Type 0 = IsOfProgram says code shapes in
       IfOk-weaker r (IsUndecoded e) P (λ a h. subst P (sym h.0) (Undecoded e h.1 refuses)) told
 
-pub IsVerdict-refused : (limit : ℕ) (says : decoded.Code → ℕ → Answer → Type 0) (p : decoded.Code) (r : Result Answer ProgramFault) (e : Refusal) → IsRefusal p limit e
-    → IfOk r (IsRefused e) → IfOk r (IsVerdict limit says p)
-IsVerdict-refused limit says p r e refusal told =
-    let P : Answer → Type 0 = IsVerdict limit says p in
+pub IsVerdict-refused : (limits : Limits) (says : decoded.Code → ℕ → Answer → Type 0) (p : decoded.Code) (r : Result Answer ProgramFault) (e : Refusal) → IsRefusalWithin p limits e
+    → IfOk r (IsRefused e) → IfOk r (IsVerdict limits says p)
+IsVerdict-refused limits says p r e refusal told =
+    let P : Answer → Type 0 = IsVerdict limits says p in
     IfOk-weaker r (IsRefused e) P (λ a h. subst P (sym h.0) (NotAdmitted e h.1 refusal)) told
 
-pub IsCertificate-refused : (limit : ℕ) (hook : Hook) (p : decoded.Code) (r : Result Answer ProgramFault) (e : Refusal) → IsUncertified p limit e
-    → IfOk r (IsRefused e) → IfOk r (IsCertificate limit hook p)
-IsCertificate-refused limit hook p r e refusal told =
-    let P : Answer → Type 0 = IsCertificate limit hook p in
+pub IsCertificate-refused : (limits : Limits) (hook : Hook) (p : decoded.Code) (r : Result Answer ProgramFault) (e : Refusal) → IsRefusalWithin p limits e
+    → IfOk r (IsRefused e) → IfOk r (IsCertificate limits hook p)
+IsCertificate-refused limits hook p r e refusal told =
+    let P : Answer → Type 0 = IsCertificate limits hook p in
+    IfOk-weaker r (IsRefused e) P (λ a h. subst P (sym h.0) (Unsafe e h.1 refusal)) told
+
+pub IsCertificate-unmade : (limits : Limits) (hook : Hook) (p : decoded.Code) (r : Result Answer ProgramFault) (e : Refusal) → IsUncertifiedWithin p limits e
+    → IfOk r (IsRefused e) → IfOk r (IsCertificate limits hook p)
+IsCertificate-unmade limits hook p r e refusal told =
+    let P : Answer → Type 0 = IsCertificate limits hook p in
     IfOk-weaker r (IsRefused e) P (λ a h. subst P (sym h.0) (NotMade e h.1 refusal)) told
 
-pub IsChecked-refused : (hook : Hook) (bytes : List ℕ) (p : decoded.Code) (r : Result Answer ProgramFault) (e : CertFault) → shown.Refuses p hook bytes e
-    → IfOk r (IsUnaccepted e) → IfOk r (IsChecked hook bytes p)
-IsChecked-refused hook bytes p r e refuses told =
-    let P : Answer → Type 0 = IsChecked hook bytes p in
-    IfOk-weaker r (IsUnaccepted e) P (λ a h. subst P (sym h.0) (NotShown e h.1 refuses)) told
+-- why a certificate isn't accepted within a limit of work
+abbrev IsReason : Hook → List ℕ → Option ℕ → decoded.Code → WithinFault → Type 0
+IsReason hook bytes work p e = Within (HasPassedLimit work) (λ (r : Result Verified CertFault). IfErr r (shown.Refuses p hook bytes)) (Err e)
+
+unaccepted : (hook : Hook) (bytes : List ℕ) (work : Option ℕ) (p : decoded.Code) (e : WithinFault) → (e ≡ within.Refused cert_fault.NoMemory → ⊥) → IsReason hook bytes work p e → IsChecked hook bytes work p (Unaccepted e)
+unaccepted hook bytes work p (within.Refused f) other why = NotShown f (λ is. other (ap within.Refused is)) why
+unaccepted hook bytes work p within.TooMuchWork other why = NotDone why
+
+pub IsChecked-refused : (hook : Hook) (bytes : List ℕ) (work : Option ℕ) (p : decoded.Code) (r : Result Answer ProgramFault) (e : WithinFault) → IsReason hook bytes work p e
+    → IfOk r (IsUnaccepted e) → IfOk r (IsChecked hook bytes work p)
+IsChecked-refused hook bytes work p r e why told =
+    let P : Answer → Type 0 = IsChecked hook bytes work p in
+    IfOk-weaker r (IsUnaccepted e) P (λ a h. subst P (sym h.0) (unaccepted hook bytes work p e h.1 why)) told
 
 pub IsTrace-of : (accepted : Verified) (p : decoded.Code) (hook : Hook) (frame context : List ℕ) (draw : ℕ) (text : List ℕ) → accepted.code ≡ p → accepted.hook ≡ hook → IsTrace accepted frame context draw text
     → IsTrace (record { code = p; hook = hook; budget = accepted.budget }) frame context draw text

@@ -2,7 +2,7 @@
 use Rattle.std.specs.Prelude.{◌^◌, Bool, List, ℕ, Option}
 use Rattle.bpf_regions.specs.declared.hooks.Hook.{Hook}
 use Rattle.bpf_decode.specs.Program.{Code}
-use Rattle.bpf_verifier.specs.Limits.{nearest}
+use Rattle.bpf_verifier.specs.declared.limit.Limits.{Limits}
 use Rattle.apd_words.specs.Asked.{Asked, Verify, Assemble, Disassemble, ListRaw, Graph, Trace, Evaluate, Explain, Frames, Test, Help, Certify, Check}
 use Rattle.apd_program.specs.declared.answer.Answer.{Answer}
 use Rattle.apd_program.specs.declared.reading.Setup.{Setup}
@@ -13,7 +13,7 @@ use Rattle.apd_program.specs.Faults.{IsAtFault, HasNoTrial, HasBadCapture, HasNo
 use Rattle.apd_program.specs.Pages.{IsPageFor, HasNoPage, IsHelpText, HasNoHelp, help_words}
 use Rattle.apd_program.specs.Scripts.{IsScript}
 use Rattle.apd_program.specs.Programs.{IsOfProgram}
-use Rattle.apd_program.specs.Verifying.{IsVerdict, IsBudget, IsRun}
+use Rattle.apd_program.specs.Verifying.{IsVerdict, IsBudget, IsRun, within}
 use Rattle.apd_program.specs.Texts.{IsAssembly, IsListingWith, IsRawListing}
 use Rattle.apd_program.specs.Drawings.{IsDrawing}
 use Rattle.apd_program.specs.Evaluating.{IsEvaluatedFile, HasNoEvaluation}
@@ -43,51 +43,51 @@ pub record IsOfSlots (says : List ℕ → Answer → Type 0) (files : Held) (fil
   pub said : says kept a
 
 -- the run of the program in the file on the frame that the word spells, with its context
-pub record IsTraced (files : Held) (limit : ℕ) (hook : Hook) (file word : List ℕ) (config words : Option (List ℕ)) (from_frame : Bool) (a : Answer) : Type 0 where
+pub record IsTraced (files : Held) (limits : Limits) (hook : Hook) (file word : List ℕ) (config words : Option (List ℕ)) (from_frame : Bool) (a : Answer) : Type 0 where
   pub frame : List ℕ
   pub spelled : IsFrame word frame
   pub context : List ℕ
   pub told : IsContext hook words from_frame context
-  pub said : IsOfCode (λ setup. IsVerdict limit (IsRun hook frame context setup.draw)) files file config a
+  pub said : IsOfCode (λ setup. IsVerdict limits (IsRun hook frame context setup.draw)) files file config a
 
--- what the certificate in one file shows of the program in the other
-pub record IsCheckedFile (files : Held) (hook : Hook) (file certificate : List ℕ) (config : Option (List ℕ)) (a : Answer) : Type 0 where
+-- what the certificate in one file shows of the program in the other, within a limit of work
+pub record IsCheckedFile (files : Held) (hook : Hook) (file certificate : List ℕ) (config : Option (List ℕ)) (work : Option ℕ) (a : Answer) : Type 0 where
   pub bytes : List ℕ
   pub held : HoldsCode files certificate bytes
-  pub said : IsOfCode (λ setup. IsChecked hook bytes) files file config a
+  pub said : IsOfCode (λ setup. IsChecked hook bytes work) files file config a
 
 -- the answer to each question, by what the files hold
 abbrev pub IsAnswer : Held → Asked → Answer → Type 0
-IsAnswer files (Verify hook file config states) a = IsOfCode (λ setup. IsVerdict (nearest states) IsBudget) files file config a
+IsAnswer files (Verify hook file config states work) a = IsOfCode (λ setup. IsVerdict (within states work) IsBudget) files file config a
 IsAnswer files (Assemble file) a = IsOfText IsAssembly files file a
 IsAnswer files (Disassemble file config slots) a = IsOfCode (λ setup. IsListingWith slots) files file config a
 IsAnswer files (ListRaw file config slots) a = IsOfSlots (IsRawListing slots) files file config a
 IsAnswer files (Graph file config) a = IsOfCode (λ setup. IsDrawing) files file config a
-IsAnswer files (Trace hook file word config states words from_frame) a =
-    IsTraced files (nearest states) hook file word config words from_frame a
-IsAnswer files (Evaluate hook file capture config against states json) a =
-    IsEvaluatedFile files (nearest states) hook file capture against json config a
+IsAnswer files (Trace hook file word config states work words from_frame) a =
+    IsTraced files (within states work) hook file word config words from_frame a
+IsAnswer files (Evaluate hook file capture config against states work json) a =
+    IsEvaluatedFile files (within states work) hook file capture against json config a
 IsAnswer files (Explain number) a = IsPageFor number a
 IsAnswer files (Frames capture ticks) a = IsOfText (IsScript ticks) files capture a
 IsAnswer files (Test file) a = IsTested files file a
 IsAnswer files (Help command) a = IsHelpText (help_words command) a
-IsAnswer files (Certify hook file config states) a = IsOfCode (λ setup. IsCertificate (nearest states) hook) files file config a
-IsAnswer files (Check hook file certificate config) a = IsCheckedFile files hook file certificate config a
+IsAnswer files (Certify hook file config states work) a = IsOfCode (λ setup. IsCertificate (within states work) hook) files file config a
+IsAnswer files (Check hook file certificate config work) a = IsCheckedFile files hook file certificate config work a
 
 -- there is no answer: a file or a word is faulty
 abbrev pub HasNoAnswer : Held → Asked → Type 0
-HasNoAnswer files (Verify hook file config states) = IsAtFault files file config
+HasNoAnswer files (Verify hook file config states work) = IsAtFault files file config
 HasNoAnswer files (Assemble file) = Lacks kind.Text files file
 HasNoAnswer files (Disassemble file config slots) = IsAtFault files file config
 HasNoAnswer files (ListRaw file config slots) = IsAtFault files file config
 HasNoAnswer files (Graph file config) = IsAtFault files file config
-HasNoAnswer files (Trace hook file word config states words from_frame) =
+HasNoAnswer files (Trace hook file word config states work words from_frame) =
     HasNoTrial files file word config words from_frame
-HasNoAnswer files (Evaluate hook file capture config against states json) =
+HasNoAnswer files (Evaluate hook file capture config against states work json) =
     HasNoEvaluation files file capture against config
 HasNoAnswer files (Explain number) = HasNoPage number
 HasNoAnswer files (Frames capture ticks) = HasBadCapture files capture
 HasNoAnswer files (Test file) = HasNoTest files file
 HasNoAnswer files (Help command) = HasNoHelp (help_words command)
-HasNoAnswer files (Certify hook file config states) = IsAtFault files file config
-HasNoAnswer files (Check hook file certificate config) = HasNoCertificate files file certificate config
+HasNoAnswer files (Certify hook file config states work) = IsAtFault files file config
+HasNoAnswer files (Check hook file certificate config work) = HasNoCertificate files file certificate config

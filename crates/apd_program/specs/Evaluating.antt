@@ -4,6 +4,7 @@ use Rattle.std.specs.declared.alloc.Global.{Global}
 use Rattle.bpf_regions.specs.declared.hooks.Hook.{Hook}
 use Rattle.bpf_regions.specs.declared.maps.Shape.{Shape}
 use Rattle.bpf_machine.specs.Verified.{Verified}
+use Rattle.bpf_verifier.specs.declared.limit.Limits.{Limits}
 use Rattle.capture.specs.Packets.{Seen, seen_of}
 use Rattle.capture.specs.Captures.{Holds as HoldsPackets}
 use Rattle.ap_model.specs.Readings.{Config}
@@ -86,10 +87,10 @@ AreDifferences g in_force v (Differences text differs) =
 AreDifferences g in_force v _ = ⊥
 
 -- the verdicts of the program that code spells; or, with the code in force, those that differ. That is verified first.
-abbrev pub AreJudged : ℕ → Replayed → Option (List ℕ) → List ℕ → List Shape → Answer → Type 0
-AreJudged limit g None code shapes a = IsOfAdmitted limit g.hook (AreVerdicts g) code shapes a
-AreJudged limit g (Some in_force) code shapes a =
-    IsOfAdmitted limit g.hook (λ v. IsOfAdmitted limit g.hook (AreDifferences g v) code shapes) in_force shapes a
+abbrev pub AreJudged : Limits → Replayed → Option (List ℕ) → List ℕ → List Shape → Answer → Type 0
+AreJudged limits g None code shapes a = IsOfAdmitted limits g.hook (AreVerdicts g) code shapes a
+AreJudged limits g (Some in_force) code shapes a =
+    IsOfAdmitted limits g.hook (λ v. IsOfAdmitted limits g.hook (AreDifferences g v) code shapes) in_force shapes a
 
 -- the code in the file, if one is named
 abbrev pub HoldsIfAny : Held → Option (List ℕ) → Option (List ℕ) → Type 0
@@ -99,7 +100,7 @@ HoldsIfAny files (Some path) (Some code) = HoldsCode files path code
 
 -- the program in a file is judged on the capture in another, at an access point of the configuration in a third,
 -- against that in a fourth, if one is named
-pub record IsEvaluatedWith (files : Held) (limit : ℕ) (hook : Hook) (file capture : List ℕ) (against : Option (List ℕ)) (json : Bool) (config : List ℕ) (a : Answer) : Type 0 where
+pub record IsEvaluatedWith (files : Held) (limits : Limits) (hook : Hook) (file capture : List ℕ) (against : Option (List ℕ)) (json : Bool) (config : List ℕ) (a : Answer) : Type 0 where
   pub configuration : Configuration
   pub configured : HoldsConfiguration files config configuration
   pub code : List ℕ
@@ -108,13 +109,13 @@ pub record IsEvaluatedWith (files : Held) (limit : ℕ) (hook : Hook) (file capt
   pub held_in_force : HoldsIfAny files against in_force
   pub packets : List Seen
   pub captured : HoldsCapture files capture packets
-  pub said : AreJudged limit (record { hook = hook; draw = configuration.draw; config = link_of configuration; packets = packets; json = json }) in_force code configuration.maps a
+  pub said : AreJudged limits (record { hook = hook; draw = configuration.draw; config = link_of configuration; packets = packets; json = json }) in_force code configuration.maps a
 
 -- the same; there has to be a configuration
-abbrev pub IsEvaluatedFile : Held → ℕ → Hook → List ℕ → List ℕ → Option (List ℕ) → Bool → Option (List ℕ) → Answer → Type 0
-IsEvaluatedFile files limit hook file capture against json None a = ⊥
-IsEvaluatedFile files limit hook file capture against json (Some config) a =
-    IsEvaluatedWith files limit hook file capture against json config a
+abbrev pub IsEvaluatedFile : Held → Limits → Hook → List ℕ → List ℕ → Option (List ℕ) → Bool → Option (List ℕ) → Answer → Type 0
+IsEvaluatedFile files limits hook file capture against json None a = ⊥
+IsEvaluatedFile files limits hook file capture against json (Some config) a =
+    IsEvaluatedWith files limits hook file capture against json config a
 
 -- the code in a named file is faulty
 abbrev pub HasBadCodeInForce : Held → Option (List ℕ) → Type 0

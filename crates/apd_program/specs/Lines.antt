@@ -3,7 +3,7 @@ use Rattle.std.specs.Prelude.{ℕ, ◌/◌, List, ◌++◌, length, codes, decim
 use Rattle.bpf_decode.specs.Answer.{fault_text}
 use Rattle.bpf_verifier.specs.Refusals.{refusal_text}
 use Rattle.bpf_text.specs.Refusals as line
-use Rattle.bpf_cert.specs.Faults as certificate
+use Rattle.bpf_cert.specs.Limits as certificate
 use Rattle.hex.specs.Hex.{encode_lower}
 use Rattle.apd_program.specs.Slots.{line_of, slot_lines}
 use Rattle.apd_program.specs.declared.answer.Answer.{Answer}
@@ -26,7 +26,7 @@ printed (Fault e) = line_of (fault_text e)
 printed (Refused e) = line_of (refusal_text e)
 printed (LineFault e) = line_of (line.text_of e)
 printed (Certificate bytes) = line_of (encode_lower bytes.items)
-printed (Unaccepted e) = line_of (codes "certificate " ++ decimal (certificate.number_of e))
+printed (Unaccepted e) = line_of (codes "certificate " ++ decimal (certificate.number_within e))
 
 -- 0 for a success, 1 for a refusal, a failed case, verdicts that differ or a cut capture
 abbrev pub status_of : Answer → ℕ

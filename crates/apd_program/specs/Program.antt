@@ -35,15 +35,15 @@ Refuses old new status = (new ≡ old) × ((status ≡ 2) ⊎ (status ≡ 3))
 -- what is wanted is done without threads: no script runs, nor lines as they come
 abbrev pub Responds : Held → Wanted → Option (List ℕ) → Option (List ℕ) → ℕ → Type 0
 Responds files (Answer a output) old new status = Performs files a output old new status
-Responds files (Run config script workers states quiet strict verbose) old new status = Refuses old new status
-Responds files (Live config workers states strict verbose clock events) old new status = Refuses old new status
+Responds files (Run config script workers states work quiet strict verbose) old new status = Refuses old new status
+Responds files (Live config workers states work strict verbose clock events) old new status = Refuses old new status
 
 -- what is wanted is done: a script runs from its first line, or lines as they come
 abbrev pub Fulfils : Held → Wanted → Option (List ℕ) → Option (List ℕ) → ℕ → Type 0
 Fulfils files (Answer a output) old new status = Performs files a output old new status
-Fulfils files (Run config script workers states quiet strict verbose) old new status =
+Fulfils files (Run config script workers states work quiet strict verbose) old new status =
     shows.Runs (in_lines strict) old new none status
-Fulfils files (Live config workers states strict verbose clock events) old new status =
+Fulfils files (Live config workers states work strict verbose clock events) old new status =
     RunsLive strict events old new status
 
 -- what is written for words that make no request, and the status

@@ -2,8 +2,8 @@
 
 ghost use Rattle.std.specs.Prelude.{◌≡◌, IfOk, IfErr};
 ghost use Rattle.bpf_decode.specs.Program.{Spells};
-ghost use Rattle.bpf_verifier.specs.Limits.{nearest};
 ghost use Rattle.apd_program.specs.Admitting.{IsAdmission};
+ghost use Rattle.apd_program.specs.Verifying.{within};
 
 use crate::answer::{Answer, refused, undecoded};
 use crate::explaining::Reason;
@@ -34,7 +34,7 @@ fn admit_program(
 ) -> Result<Admission, ProgramFault>
     requires spelled { Spells code.now program }
     ensures admission { IfOk result
-        (IsAdmission (nearest terms.states) terms.hook code.now program.shapes) }
+        (IsAdmission (within terms.states terms.work) terms.hook code.now program.shapes) }
     ensures memory { IfErr result (λ e. e ≡ ProgramFault.NoMemory) }
 {
     match admit(alloc, program, terms, reason) {
@@ -58,7 +58,7 @@ pub(crate) fn admit_code(
     reason: &mut Reason,
 ) -> Result<Admission, ProgramFault>
     ensures admission { IfOk result
-        (IsAdmission (nearest terms.states) terms.hook code.now shapes.now) }
+        (IsAdmission (within terms.states terms.work) terms.hook code.now shapes.now) }
     ensures memory { IfErr result (λ e. e ≡ ProgramFault.NoMemory) }
 {
     let shapes = copied_shapes(alloc, shapes)?;

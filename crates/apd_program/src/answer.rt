@@ -5,7 +5,7 @@ ghost use Rattle.apd_program.specs.Refusing.{IsUndecoded, IsRefused};
 ghost use Rattle.apd_program.specs.Slots.{digits_line, slot_lines};
 
 use crate::fault::ProgramFault;
-use bpf_cert::CertFault;
+use bpf_cert::WithinFault;
 use bpf_decode::DecodeFault;
 use bpf_text::AsmFault;
 use bpf_verifier::{Fault, Refusal};
@@ -45,8 +45,8 @@ pub enum Answer {
     LineFault(AsmFault),
     /// The bytes of a certificate.
     Certificate(Vec<u8>),
-    /// The certificate isn't accepted (70 to 72).
-    Unaccepted(CertFault),
+    /// The certificate isn't accepted (36, or 70 to 72).
+    Unaccepted(WithinFault),
 }
 
 impl Answer {

@@ -7,22 +7,25 @@ ghost use Rattle.apd_program.specs.Refusing.{IsUnaccepted};
 
 use crate::answer::{Answer, refused, undecoded};
 use crate::fault::ProgramFault;
-use crate::verifying::limit_of;
+use crate::verifying::limits_of;
 use apd_words::Terms;
-use bpf_cert::{CertFault, certificate_within};
+use bpf_cert::{CertFault, WithinFault, Work, certificate_counted, check_within};
 use bpf_decode::{Program, decode};
 use bpf_regions::{Hook, Shapes};
-use bpf_verifier::verify_within;
+use bpf_verifier::verify_counted;
 use std::alloc::Global;
 
 /// The answer for a certificate that isn't accepted.
-fn unaccepted(fault: CertFault) -> Result<Answer, ProgramFault>
+fn unaccepted(fault: WithinFault) -> Result<Answer, ProgramFault>
     ensures fault { IfOk result (IsUnaccepted fault) }
     ensures memory { IfErr result (λ e. e ≡ ProgramFault.NoMemory) }
 {
     match fault {
-        CertFault::NoMemory => Err(ProgramFault::NoMemory),
-        _ => Ok(Answer::Unaccepted(fault)),
+        WithinFault::TooMuchWork => Ok(Answer::Unaccepted(fault)),
+        WithinFault::Refused(why) => match why {
+            CertFault::NoMemory => Err(ProgramFault::NoMemory),
+            _ => Ok(Answer::Unaccepted(fault)),
+        },
     }
 }
 
@@ -31,9 +34,10 @@ fn certified(alloc: Global, program: Program, terms: Terms) -> Result<Answer, Pr
     ensures certificate { IfOk result (IsCertificateWithin terms program) }
     ensures memory { IfErr result (λ e. e ≡ ProgramFault.NoMemory) }
 {
-    let limit = limit_of(terms);
-    match verify_within(alloc, program, terms.hook, limit) {
-        Ok(accepted) => match certificate_within(alloc, &accepted, limit) {
+    let limits = limits_of(terms);
+    let mut work = Work::within(limits.units());
+    match verify_counted(alloc, program, terms.hook, limits.states, &mut work) {
+        Ok(accepted) => match certificate_counted(alloc, &accepted, limits.states, &mut work) {
             Ok(bytes) => Ok(Answer::Certificate(bytes)),
             Err(refusal) => refused(refusal),
         },
@@ -57,17 +61,22 @@ pub(crate) fn certify(
     }
 }
 
+/// For which hook a certificate's bytes are checked, and the most work that may be done, if that is limited.
+#[derive(Clone, Copy)]
+pub(crate) struct Inquiry<'a> {
+    pub hook: Hook,
+    pub bytes: &'a [u8],
+    pub work: Option<u64>,
+}
+
 /// Checks the bytes of a certificate for a program.
-fn checked(
-    alloc: Global,
-    program: Program,
-    hook: Hook,
-    bytes: &[u8],
-) -> Result<Answer, ProgramFault>
-    ensures checked { IfOk result (IsChecked hook bytes.now program) }
+fn checked(alloc: Global, program: Program, inquiry: Inquiry<'_>) -> Result<Answer, ProgramFault>
+    ensures checked { IfOk result
+        (IsChecked inquiry.entry.hook inquiry.entry.bytes.now inquiry.entry.work program) }
     ensures memory { IfErr result (λ e. e ≡ ProgramFault.NoMemory) }
 {
-    match bpf_cert::check(alloc, program, hook, bytes) {
+    let Inquiry { hook, bytes, work } = inquiry;
+    match check_within(alloc, program, hook, bytes, work) {
         Ok(accepted) => Ok(Answer::Accepted {
             budget: accepted.budget(),
         }),
@@ -80,14 +89,15 @@ pub(crate) fn check(
     alloc: Global,
     code: &[u8],
     shapes: Shapes,
-    hook: Hook,
-    bytes: &[u8],
+    inquiry: Inquiry<'_>,
 ) -> Result<Answer, ProgramFault>
-    ensures checked { IfOk result (IsOfProgram (IsChecked hook bytes.now) code.now shapes) }
+    ensures checked { IfOk result (IsOfProgram
+        (IsChecked inquiry.entry.hook inquiry.entry.bytes.now inquiry.entry.work) code.now
+        shapes) }
     ensures memory { IfErr result (λ e. e ≡ ProgramFault.NoMemory) }
 {
     match decode(alloc, code, shapes) {
-        Ok(program) => checked(alloc, program, hook, bytes),
+        Ok(program) => checked(alloc, program, inquiry),
         Err(fault) => undecoded(fault),
     }
 }

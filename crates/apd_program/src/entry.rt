@@ -11,7 +11,9 @@ ghost use Rattle.apd_program.specs.Forms.{in_lines};
 use crate::lines::run_live;
 use crate::program::{respond, tell};
 use apd_files::Files;
-use apd_run::{Form, Manner, OpenGate, Progress, RunWords, StateLimit, Streams, Supplies, run};
+use apd_run::{
+    Form, Limits, Manner, OpenGate, Progress, RunWords, StateLimit, Streams, Supplies, run,
+};
 use apd_words::{Request, ScriptRun, read_words};
 use std::alloc::Global;
 use std::io::{Read, Write};
@@ -55,14 +57,39 @@ where
         },
         verbose: asked.verbose,
     };
-    let limit = StateLimit::nearest(asked.states);
+    let limits = Limits {
+        states: StateLimit::nearest(asked.states),
+        work: asked.work,
+    };
     if watched && !asked.quiet {
         let progress = Progress::new(rt);
         let gate = &progress;
-        return run(rt, alloc, words, Supplies { files, limit, gate }, out, err);
+        return run(
+            rt,
+            alloc,
+            words,
+            Supplies {
+                files,
+                limits,
+                gate,
+            },
+            out,
+            err,
+        );
     }
     let gate = OpenGate;
-    return run(rt, alloc, words, Supplies { files, limit, gate }, out, err);
+    return run(
+        rt,
+        alloc,
+        words,
+        Supplies {
+            files,
+            limits,
+            gate,
+        },
+        out,
+        err,
+    );
 }
 
 /// Does what the words ask for; the first is the program's own name. An answer goes to `out`, or, if it is a

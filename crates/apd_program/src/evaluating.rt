@@ -1,12 +1,12 @@
 //! Verdicts on a capture, of one program or of two: the command `eval`.
 
 ghost use Rattle.std.specs.Prelude.{◌≡◌, IfOk, IfErr, Some, option_map};
-ghost use Rattle.bpf_verifier.specs.Limits.{nearest};
 ghost use Rattle.apd_words.specs.Asked.{asked_evaluation, text_of};
 ghost use Rattle.apd_program.specs.Admitting.{IsOfAdmitted};
 ghost use Rattle.apd_program.specs.Answers.{IsAnswer, HasNoAnswer};
 ghost use Rattle.apd_program.specs.Evaluating.{HoldsSetting, AreVerdicts, AreDifferences, AreJudged, replayed_by, IsKept, IsMaterial, IsEvaluatedWith, HasBadCodeInForce, HasNoEvaluation, link_of};
 ghost use Rattle.apd_program.specs.Faults.{IsMemoryOr, HasBadConfiguration};
+ghost use Rattle.apd_program.specs.Verifying.{within};
 
 use crate::admission::{Admission, admit_code};
 use crate::answer::Answer;
@@ -97,7 +97,7 @@ fn examine(
     exam: Exam<'_>,
     reason: &mut Reason,
 ) -> Result<Answer, ProgramFault>
-    ensures verdicts { IfOk result (IsOfAdmitted (nearest exam.entry.terms.states)
+    ensures verdicts { IfOk result (IsOfAdmitted (within exam.entry.terms.states exam.entry.terms.work)
         exam.entry.terms.hook (AreVerdicts (replayed_by exam.entry))
         code.now exam.entry.shapes.now) }
     ensures memory { IfErr result (λ e. e ≡ ProgramFault.NoMemory) }
@@ -120,7 +120,7 @@ fn contrast(
     exam: Exam<'_>,
     reason: &mut Reason,
 ) -> Result<Answer, ProgramFault>
-    ensures verdicts { IfOk result (IsOfAdmitted (nearest exam.entry.terms.states)
+    ensures verdicts { IfOk result (IsOfAdmitted (within exam.entry.terms.states exam.entry.terms.work)
         exam.entry.terms.hook (AreDifferences (replayed_by exam.entry) in_force)
         code.now exam.entry.shapes.now) }
     ensures memory { IfErr result (λ e. e ≡ ProgramFault.NoMemory) }
@@ -146,8 +146,8 @@ fn examine_against(
     exam: Exam<'_>,
     reason: &mut Reason,
 ) -> Result<Answer, ProgramFault>
-    ensures verdicts { IfOk result (IsOfAdmitted (nearest exam.entry.terms.states)
-        exam.entry.terms.hook (λ v. IsOfAdmitted (nearest exam.entry.terms.states)
+    ensures verdicts { IfOk result (IsOfAdmitted (within exam.entry.terms.states exam.entry.terms.work)
+        exam.entry.terms.hook (λ v. IsOfAdmitted (within exam.entry.terms.states exam.entry.terms.work)
         exam.entry.terms.hook (AreDifferences (replayed_by exam.entry) v)
         code.now exam.entry.shapes.now) in_force.now exam.entry.shapes.now) }
     ensures memory { IfErr result (λ e. e ≡ ProgramFault.NoMemory) }
@@ -170,7 +170,7 @@ fn judge(
     exam: Exam<'_>,
     reason: &mut Reason,
 ) -> Result<Answer, ProgramFault>
-    ensures verdicts { IfOk result (AreJudged (nearest exam.entry.terms.states)
+    ensures verdicts { IfOk result (AreJudged (within exam.entry.terms.states exam.entry.terms.work)
         (replayed_by exam.entry) (option_map (λ code. code.items) in_force.now)
         code.now exam.entry.shapes.now) }
     ensures memory { IfErr result (λ e. e ≡ ProgramFault.NoMemory) }
@@ -236,7 +236,8 @@ fn evaluated<F: Files>(
     reason: &mut Reason,
 ) -> Result<Answer, ProgramFault>
     ensures verdicts { IfOk result (IsEvaluatedWith (F.held files.old)
-        (nearest evaluation.entry.subject.terms.states) evaluation.entry.subject.terms.hook
+        (within evaluation.entry.subject.terms.states evaluation.entry.subject.terms.work)
+        evaluation.entry.subject.terms.hook
         evaluation.entry.subject.source.file.now evaluation.entry.capture.now
         (text_of evaluation.entry.against) evaluation.entry.json config.now) }
     ensures fault { IfErr result (IsMemoryOr (HasNoEvaluation (F.held files.old)

@@ -7,7 +7,7 @@ ghost use Rattle.apd_program.specs.Forms.{form_named, form_of, RunsLive};
 use crate::fault::ProgramFault;
 use crate::printing::complain;
 use apd_files::Files;
-use apd_run::{Form, Manner, OpenGate, RunWords, StateLimit, Streams, Supplies, live};
+use apd_run::{Form, Limits, Manner, OpenGate, RunWords, StateLimit, Streams, Supplies, live};
 use apd_source::{Direct, Timed};
 use apd_words::LiveRun;
 use std::alloc::Global;
@@ -85,9 +85,16 @@ where
         },
         verbose: asked.verbose,
     };
-    let limit = StateLimit::nearest(asked.states);
+    let limits = Limits {
+        states: StateLimit::nearest(asked.states),
+        work: asked.work,
+    };
     let gate = OpenGate;
-    let supplies = Supplies { files, limit, gate };
+    let supplies = Supplies {
+        files,
+        limits,
+        gate,
+    };
     if !asked.clock {
         let input = Direct { input };
         return live(rt, alloc, words, supplies, Streams { input, out }, err);

@@ -12,6 +12,7 @@ ghost use Rattle.apd_program.specs.Answers.{IsAnswer, IsOfText, HasNoAnswer};
 ghost use Rattle.apd_program.specs.Program.{Performs, Responds, Runs, Tells};
 
 use crate::answer::Answer;
+use crate::certifying::Inquiry;
 use crate::explaining::Reason;
 use crate::fault::{ProgramFault, of_context};
 use crate::output::{conclude, deliver};
@@ -263,11 +264,10 @@ fn check<F: Files>(
     let Loaded { code, setup } = load(alloc, claim.source, files)?;
     let bytes = certificate(alloc, claim.certificate, files)?;
     reason.suspects_exchange(alloc, code.as_slice());
-    certifying::check(
-        alloc,
-        code.as_slice(),
-        setup.shapes,
-        claim.hook,
-        bytes.as_slice(),
-    )
+    let inquiry = Inquiry {
+        hook: claim.hook,
+        bytes: bytes.as_slice(),
+        work: claim.work,
+    };
+    certifying::check(alloc, code.as_slice(), setup.shapes, inquiry)
 }

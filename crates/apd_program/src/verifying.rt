@@ -1,10 +1,10 @@
 //! Verifying code, and running what is admitted: the commands `verify` and `trace`.
 
 ghost use Rattle.std.specs.Prelude.{◌≡◌, IfOk, IfErr};
-ghost use Rattle.bpf_verifier.specs.Admission.{IsSafeBudget, IsRefusal};
+ghost use Rattle.bpf_verifier.specs.Admission.{IsSafeBudget, IsRefusalWithin};
 ghost use Rattle.bpf_verifier.specs.Limits.{nearest};
 ghost use Rattle.apd_program.specs.Programs.{IsOfProgram};
-ghost use Rattle.apd_program.specs.Verifying.{IsVerified, IsRunWithin};
+ghost use Rattle.apd_program.specs.Verifying.{IsVerified, IsRunWithin, within};
 
 use crate::answer::{Answer, refused, undecoded};
 use crate::explaining::Reason;
@@ -14,7 +14,7 @@ use apd_words::Terms;
 use bpf_decode::{Program, decode};
 use bpf_machine::Accepted;
 use bpf_regions::{Context, Frame, Shapes};
-use bpf_verifier::{Refusal, StateLimit, explain_within, verify_within};
+use bpf_verifier::{Limits, Refusal, StateLimit, explain_limited, verify_limited};
 use std::alloc::Global;
 
 /// How a program is verified, and the input of its run.
@@ -27,11 +27,14 @@ pub(crate) struct Stimulus<'a> {
     pub draw: u64,
 }
 
-/// The most states that the verifier may examine, 1 to 4194304.
-pub(crate) fn limit_of(terms: Terms) -> StateLimit
-    ensures is { result ≡ nearest terms.states }
+/// The most states that the verifier may examine, 1 to 4194304, and the most work that it may do, if that is limited.
+pub(crate) fn limits_of(terms: Terms) -> Limits
+    ensures is { result ≡ within terms.states terms.work }
 {
-    StateLimit::nearest(terms.states)
+    Limits {
+        states: StateLimit::nearest(terms.states),
+        work: terms.work,
+    }
 }
 
 /// Admits a program, or returns why not. The program is explored once, and the reason, if it is wanted, describes
@@ -46,14 +49,14 @@ pub(crate) fn admit(
     ensures hook { IfOk result (λ accepted. accepted.hook ≡ terms.hook) }
     ensures budget { IfOk result
         (λ accepted. IsSafeBudget program (nearest terms.states) accepted.budget) }
-    ensures refused { IfErr result (IsRefusal program (nearest terms.states)) }
+    ensures refused { IfErr result (IsRefusalWithin program (within terms.states terms.work)) }
 {
     program.whole();
-    let limit = limit_of(terms);
+    let limits = limits_of(terms);
     if !reason.is_wanted() {
-        return verify_within(alloc, program, terms.hook, limit);
+        return verify_limited(alloc, program, terms.hook, limits);
     }
-    let explanation = explain_within(alloc, &program, limit)?;
+    let explanation = explain_limited(alloc, &program, limits)?;
     reason.explain(alloc, &program, &explanation);
     match explanation.verdict {
         Ok(budget) => {

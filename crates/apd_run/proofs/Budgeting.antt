@@ -5,6 +5,7 @@ use Rattle.bpf_regions.specs.declared.hooks.Hook.{Hook}
 use Rattle.bpf_regions.specs.declared.hooks.Hook.TheVariants.{Association, Addba, Data}
 use Rattle.bpf_decode.specs.Program.{Code}
 use Rattle.bpf_machine.specs.Verified.{Verified}
+use Rattle.bpf_verifier.specs.declared.limit.Limits.{Limits}
 use Rattle.versions.specs.Lists.{Beginning, with_load}
 use Rattle.versions.specs.Sets.{Programs, after, load, no_programs, replaced, set_of}
 use Rattle.versions.specs.declared.list.Load.{Load}
@@ -40,39 +41,40 @@ force_budgets hook program b old new budget f h =
     loaded_budgets hook b old new (Some f.accepted) (Some budget) (ap Some (sym f.budget_is)) f.loaded h
 
 module _ (hook : Hook) (b : Budgets) (old new : Beginning) (h : AreBudgets b (set_of old.loads)) where
-  program_budgets : (limit : ℕ) (program : Code) (told : Told) → LoadsProgram limit hook program old new told → AreBudgets (noted hook told b) (set_of new.loads)
-  program_budgets limit program _ (Admitted budget force small) = force_budgets hook program b old new budget force h
-  program_budgets limit program _ (NotAdmitted refusal is) = same_budgets b old new is.unchanged h
-  program_budgets limit program _ (NoRoomToLoad is) = same_budgets b old new is h
+  program_budgets : (limits : Limits) (program : Code) (told : Told) → LoadsProgram limits hook program old new told → AreBudgets (noted hook told b) (set_of new.loads)
+  program_budgets limits program _ (Admitted budget force small) = force_budgets hook program b old new budget force h
+  program_budgets limits program _ (NotAdmitted refusal is) = same_budgets b old new is.unchanged h
+  program_budgets limits program _ (NoRoomToLoad is) = same_budgets b old new is h
 
-  code_budgets : (limit : ℕ) (code : List ℕ) (told : Told) → LoadsCode limit hook code old new told → AreBudgets (noted hook told b) (set_of new.loads)
-  code_budgets limit code _ (Decoded program told spells shapes loads) = program_budgets limit program told loads
-  code_budgets limit code _ (NotDecoded fault other refuses is) = same_budgets b old new is h
-  code_budgets limit code _ (NoRoomToDecode is) = same_budgets b old new is h
+  code_budgets : (limits : Limits) (code : List ℕ) (told : Told) → LoadsCode limits hook code old new told → AreBudgets (noted hook told b) (set_of new.loads)
+  code_budgets limits code _ (Decoded program told spells shapes loads) = program_budgets limits program told loads
+  code_budgets limits code _ (NotDecoded fault other refuses is) = same_budgets b old new is h
+  code_budgets limits code _ (NoRoomToDecode is) = same_budgets b old new is h
 
   -- after a load from a file
-  pub file_budgets : (files : Held) (limit : ℕ) (path : List ℕ) (told : Told) → LoadsFile files limit hook path old new told → AreBudgets (noted hook told b) (set_of new.loads)
-  file_budgets files limit path _ (Read code told holds loads) = code_budgets limit code told loads
-  file_budgets files limit path _ (NotRead fault other is_fault is) = same_budgets b old new is h
-  file_budgets files limit path _ (NoRoomToRead is) = same_budgets b old new is h
+  pub file_budgets : (files : Held) (limits : Limits) (path : List ℕ) (told : Told) → LoadsFile files limits hook path old new told → AreBudgets (noted hook told b) (set_of new.loads)
+  file_budgets files limits path _ (Read code told holds loads) = code_budgets limits code told loads
+  file_budgets files limits path _ (NotRead fault other is_fault is) = same_budgets b old new is h
+  file_budgets files limits path _ (NoRoomToRead is) = same_budgets b old new is h
 
-  adopted_budgets : (program : Code) (certificate : List ℕ) (told : Told) → adopting.AdoptsProgram hook program certificate old new told → AreBudgets (noted hook told b) (set_of new.loads)
-  adopted_budgets program certificate _ (adopting.Certified budget is) = force_budgets hook program b old new budget is.force h
-  adopted_budgets program certificate _ (adopting.NotCertified fault other refuses is) = same_budgets b old new is h
-  adopted_budgets program certificate _ (adopting.NoRoomToAdopt is) = same_budgets b old new is h
+  adopted_budgets : (work : Option ℕ) (program : Code) (certificate : List ℕ) (told : Told) → adopting.AdoptsProgram work hook program certificate old new told → AreBudgets (noted hook told b) (set_of new.loads)
+  adopted_budgets work program certificate _ (adopting.Certified budget is) = force_budgets hook program b old new budget is.force h
+  adopted_budgets work program certificate _ (adopting.NotCertified fault other refuses is) = same_budgets b old new is h
+  adopted_budgets work program certificate _ (adopting.NotChecked passed is) = same_budgets b old new is h
+  adopted_budgets work program certificate _ (adopting.NoRoomToAdopt is) = same_budgets b old new is h
 
-  adopted_code_budgets : (code certificate : List ℕ) (told : Told) → adopting.AdoptsCode hook code certificate old new told → AreBudgets (noted hook told b) (set_of new.loads)
-  adopted_code_budgets code certificate _ (adopting.Decoded program told spells shapes adopts) = adopted_budgets program certificate told adopts
-  adopted_code_budgets code certificate _ (adopting.NotDecoded fault other refuses is) = same_budgets b old new is h
-  adopted_code_budgets code certificate _ (adopting.NoRoomToDecode is) = same_budgets b old new is h
+  adopted_code_budgets : (work : Option ℕ) (code certificate : List ℕ) (told : Told) → adopting.AdoptsCode work hook code certificate old new told → AreBudgets (noted hook told b) (set_of new.loads)
+  adopted_code_budgets work code certificate _ (adopting.Decoded program told spells shapes adopts) = adopted_budgets work program certificate told adopts
+  adopted_code_budgets work code certificate _ (adopting.NotDecoded fault other refuses is) = same_budgets b old new is h
+  adopted_code_budgets work code certificate _ (adopting.NoRoomToDecode is) = same_budgets b old new is h
 
   -- after an adoption of a file
-  pub adopted_file_budgets : (files : Held) (path shown : List ℕ) (told : Told) → adopting.AdoptsFiles files hook path shown old new told
+  pub adopted_file_budgets : (files : Held) (work : Option ℕ) (path shown : List ℕ) (told : Told) → adopting.AdoptsFiles files work hook path shown old new told
       → AreBudgets (noted hook told b) (set_of new.loads)
-  adopted_file_budgets files path shown _ (adopting.Read code certificate told holds shows adopts) = adopted_code_budgets code certificate told adopts
-  adopted_file_budgets files path shown _ (adopting.CodeNotRead fault other is_fault is) = same_budgets b old new is h
-  adopted_file_budgets files path shown _ (adopting.CertificateNotRead fault other is_fault is) = same_budgets b old new is h
-  adopted_file_budgets files path shown _ (adopting.NoRoomToRead is) = same_budgets b old new is h
+  adopted_file_budgets files work path shown _ (adopting.Read code certificate told holds shows adopts) = adopted_code_budgets work code certificate told adopts
+  adopted_file_budgets files work path shown _ (adopting.CodeNotRead fault other is_fault is) = same_budgets b old new is h
+  adopted_file_budgets files work path shown _ (adopting.CertificateNotRead fault other is_fault is) = same_budgets b old new is h
+  adopted_file_budgets files work path shown _ (adopting.NoRoomToRead is) = same_budgets b old new is h
 
 -- the rows of budgets are those of the set
 pub rows_of_set : (b : Budgets) (set : Programs) → AreBudgets b set → budget_rows b ≡ program_rows set

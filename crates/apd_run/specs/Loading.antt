@@ -8,7 +8,8 @@ use Rattle.bpf_decode.specs.declared.fault.DecodeFault.TheVariants as decode
 use Rattle.bpf_model.specs.Run.{Safe}
 use Rattle.bpf_machine.specs.Verified.{Verified}
 use Rattle.bpf_rules.specs.declared.fault.Fault.TheVariants as verify
-use Rattle.bpf_verifier.specs.Admission.{IsRefusal}
+use Rattle.bpf_verifier.specs.Admission.{IsRefusalWithin}
+use Rattle.bpf_verifier.specs.declared.limit.Limits.{Limits}
 use Rattle.bpf_verifier.specs.declared.refusal.Refusal.{Refusal}
 use Rattle.versions.specs.Lists.{Beginning, with_load}
 use Rattle.versions.specs.Sets.{load}
@@ -36,38 +37,38 @@ pub data PutsInForce (hook : Hook) (a : Verified) (old new : Beginning) : Told �
   InForce : IsInForce hook a.code old new a.budget → PutsInForce hook a old new (Loaded a.budget (length a.code.slots))
   NoRoomToPut : new ≡ old → PutsInForce hook a old new Memory
 
--- the verifier refuses the program within the limit of states, and nothing changes
+-- the verifier refuses the program within the limits, and nothing changes
 pub record IsRefused
-    (limit : ℕ) (program : Code) (old new : Beginning) (refusal : Refusal) : Type 0 where
+    (limits : Limits) (program : Code) (old new : Beginning) (refusal : Refusal) : Type 0 where
   pub reason : refusal.fault ≢ verify.NoMemory
-  pub of_verifier : IsRefusal program limit refusal
+  pub of_verifier : IsRefusalWithin program limits refusal
   pub unchanged : new ≡ old
 
 -- a load of a program, and its report
 pub data LoadsProgram
-    (limit : ℕ) (hook : Hook) (program : Code) (old new : Beginning) : Told → Type 0 where
-  Admitted : (budget : ℕ) → IsInForce hook program old new budget → budget ≤ limit →
-      LoadsProgram limit hook program old new (Loaded budget (length program.slots))
-  NotAdmitted : (refusal : Refusal) → IsRefused limit program old new refusal →
-      LoadsProgram limit hook program old new (Refused refusal)
-  NoRoomToLoad : new ≡ old → LoadsProgram limit hook program old new Memory
+    (limits : Limits) (hook : Hook) (program : Code) (old new : Beginning) : Told → Type 0 where
+  Admitted : (budget : ℕ) → IsInForce hook program old new budget → budget ≤ limits.states →
+      LoadsProgram limits hook program old new (Loaded budget (length program.slots))
+  NotAdmitted : (refusal : Refusal) → IsRefused limits program old new refusal →
+      LoadsProgram limits hook program old new (Refused refusal)
+  NoRoomToLoad : new ≡ old → LoadsProgram limits hook program old new Memory
 
 -- the same of code, which spells one program for the maps in use, or has a fault
 pub data LoadsCode
-    (limit : ℕ) (hook : Hook) (code : List ℕ) (old new : Beginning) : Told → Type 0 where
+    (limits : Limits) (hook : Hook) (code : List ℕ) (old new : Beginning) : Told → Type 0 where
   Decoded : (program : Code) (told : Told) → Spells code program → program.shapes ≡ old.shapes
-      → LoadsProgram limit hook program old new told → LoadsCode limit hook code old new told
+      → LoadsProgram limits hook program old new told → LoadsCode limits hook code old new told
   NotDecoded : (fault : DecodeFault) → fault ≢ decode.NoMemory →
       Refuses code old.shapes fault → new ≡ old
-      → LoadsCode limit hook code old new (Fault fault)
-  NoRoomToDecode : new ≡ old → LoadsCode limit hook code old new Memory
+      → LoadsCode limits hook code old new (Fault fault)
+  NoRoomToDecode : new ≡ old → LoadsCode limits hook code old new Memory
 
 -- the same of a file, as far as its contents are known
-pub data LoadsFile (files : Held) (limit : ℕ) (hook : Hook) (path : List ℕ)
+pub data LoadsFile (files : Held) (limits : Limits) (hook : Hook) (path : List ℕ)
     (old new : Beginning) : Told → Type 0 where
   Read : (code : List ℕ) (told : Told) → HoldsCode files path code →
-      LoadsCode limit hook code old new told
-      → LoadsFile files limit hook path old new told
+      LoadsCode limits hook code old new told
+      → LoadsFile files limits hook path old new told
   NotRead : (fault : CodeFault) → fault ≢ read.NoMemory → IsFaultOf kind.Code files path fault → new ≡ old
-      → LoadsFile files limit hook path old new (Unreadable (unread.Code fault))
-  NoRoomToRead : new ≡ old → LoadsFile files limit hook path old new Memory
+      → LoadsFile files limits hook path old new (Unreadable (unread.Code fault))
+  NoRoomToRead : new ≡ old → LoadsFile files limits hook path old new Memory

@@ -13,7 +13,7 @@ mod operator;
 mod running;
 mod worker;
 
-pub use crate::loads::StateLimit;
+pub use crate::loads::{Limits, StateLimit};
 pub use ap_live::{Gate, OpenGate, Settings};
 pub use ap_shards::NewShards;
 pub use naming::Publications;

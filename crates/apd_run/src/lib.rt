@@ -34,6 +34,6 @@ pub use console::Console;
 pub use manner::Manner;
 pub use operating::{Operating, Waiting};
 pub use progress::{Progress, Watcher};
-pub use runner::{Gate, OpenGate, RunWords, StateLimit, Streams, Supplies, live, run};
+pub use runner::{Gate, Limits, OpenGate, RunWords, StateLimit, Streams, Supplies, live, run};
 pub use script::run_script;
 pub use setting::Staff;

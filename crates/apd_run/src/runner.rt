@@ -7,5 +7,5 @@ mod command;
 mod fault;
 mod setup;
 
-pub use crate::access::{Gate, OpenGate, StateLimit, Supplies};
+pub use crate::access::{Gate, Limits, OpenGate, StateLimit, Supplies};
 pub use command::{RunWords, Streams, live, run};

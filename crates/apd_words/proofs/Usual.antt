@@ -112,12 +112,12 @@ unfolding clap_on_literals
 verify_with_ends p name file config = refl
 
 verify_asks : (p : ValueParser) (name file : Text)
-    → command_asks (leaf (verify p)).name (finished (leaf (verify p)).rules (verified p name file)) ≡ by_hook (λ hook. Verify hook file None most_states) name
+    → command_asks (leaf (verify p)).name (finished (leaf (verify p)).rules (verified p name file)) ≡ by_hook (λ hook. Verify hook file None most_states None) name
 unfolding clap_on_literals
 verify_asks p name file = refl
 
 verify_with_asks : (p : ValueParser) (name file config : Text)
-    → command_asks (leaf (verify p)).name (finished (leaf (verify p)).rules (verified_with p name file config)) ≡ by_hook (λ hook. Verify hook file (Some config) most_states) name
+    → command_asks (leaf (verify p)).name (finished (leaf (verify p)).rules (verified_with p name file config)) ≡ by_hook (λ hook. Verify hook file (Some config) most_states None) name
 unfolding clap_on_literals
 verify_with_asks p name file config = refl
 
@@ -139,7 +139,7 @@ verify_within_ends p name file number a = rw a refl
 
 verify_within_asks : (p : ValueParser) (name file number : Text)
     → command_asks (leaf (verify p)).name (finished (leaf (verify p)).rules (verified_within p name file number))
-    ≡ option_and_then (λ hook. option_and_then (λ n. Some (Verify hook file None n)) (states_named number)) (hook_named name)
+    ≡ option_and_then (λ hook. option_and_then (λ n. Some (Verify hook file None n None)) (states_named number)) (hook_named name)
 unfolding clap_on_literals
 verify_within_asks p name file number = refl
 
@@ -159,34 +159,34 @@ verify_within_output : (p : ValueParser) (name file number : Text) → first_of 
 unfolding clap_on_literals
 verify_within_output p name file number = refl
 
-pub verify_plain : (program file : Text) (hook : Hook) → IsOperand file → Spells (program ∷ codes "verify" ∷ name_of hook ∷ file ∷ []) (Answer (Verify hook file None most_states) None)
+pub verify_plain : (program file : Text) (hook : Hook) → IsOperand file → Spells (program ∷ codes "verify" ∷ name_of hook ∷ file ∷ []) (Answer (Verify hook file None most_states None) None)
 verify_plain program file hook f p q t u =
     let name = name_of hook in
     let passes = verify_operands p name file (taken p hook t) (named hook) (plain file f) (no_more _ _) in
     record {
       faultless = command_passes (verify_enters p q) (name ∷ file ∷ []) (level_passes passes (verify_ends p name file));
-      asked = ap wanted_in (command_gives (verify_enters p q) passes) ∙ answered (leaf (verify p)).name (finished (leaf (verify p)).rules (verified p name file)) (verify_is_other p) (verify_asks p name file ∙ hook_is_named hook (λ it. Verify it file None most_states)) (verify_output p name file);
+      asked = ap wanted_in (command_gives (verify_enters p q) passes) ∙ answered (leaf (verify p)).name (finished (leaf (verify p)).rules (verified p name file)) (verify_is_other p) (verify_asks p name file ∙ hook_is_named hook (λ it. Verify it file None most_states None)) (verify_output p name file);
     }
 
 pub verify_configured : (program file config : Text) (hook : Hook) → IsOperand file → IsOperand config
-    → Spells (program ∷ codes "verify" ∷ name_of hook ∷ file ∷ codes "--config" ∷ config ∷ []) (Answer (Verify hook file (Some config) most_states) None)
+    → Spells (program ∷ codes "verify" ∷ name_of hook ∷ file ∷ codes "--config" ∷ config ∷ []) (Answer (Verify hook file (Some config) most_states None) None)
 verify_configured program file config hook f c p q t u =
     let name = name_of hook in
     let passes = verify_operands p name file (taken p hook t) (named hook) (plain file f) (verify_option p name file config (plain config c)) in
     record {
       faultless = command_passes (verify_enters p q) (name ∷ file ∷ codes "--config" ∷ config ∷ []) (level_passes passes (verify_with_ends p name file config));
-      asked = ap wanted_in (command_gives (verify_enters p q) passes) ∙ answered (leaf (verify p)).name (finished (leaf (verify p)).rules (verified_with p name file config)) (verify_is_other p) (verify_with_asks p name file config ∙ hook_is_named hook (λ it. Verify it file (Some config) most_states)) (verify_with_output p name file config);
+      asked = ap wanted_in (command_gives (verify_enters p q) passes) ∙ answered (leaf (verify p)).name (finished (leaf (verify p)).rules (verified_with p name file config)) (verify_is_other p) (verify_with_asks p name file config ∙ hook_is_named hook (λ it. Verify it file (Some config) most_states None)) (verify_with_output p name file config);
     }
 
 pub verify_limited : (program file number : Text) (hook : Hook) (n : ℕ) → IsOperand file → IsOperand number → states_named number ≡ Some n
-    → Spells (program ∷ codes "verify" ∷ name_of hook ∷ file ∷ codes "--states" ∷ number ∷ []) (Answer (Verify hook file None n) None)
+    → Spells (program ∷ codes "verify" ∷ name_of hook ∷ file ∷ codes "--states" ∷ number ∷ []) (Answer (Verify hook file None n None) None)
 verify_limited program file number hook n f c e p q t u =
     let name = name_of hook in
     let passes = verify_operands p name file (taken p hook t) (named hook) (plain file f) (verify_limit p name file number (plain number c)) in
     record {
       faultless = command_passes (verify_enters p q) (name ∷ file ∷ codes "--states" ∷ number ∷ []) (level_passes passes (verify_within_ends p name file number (accepted number n e)));
       asked = ap wanted_in (command_gives (verify_enters p q) passes) ∙ answered (leaf (verify p)).name (finished (leaf (verify p)).rules (verified_within p name file number)) (verify_is_other p) (verify_within_asks p name file number
-          ∙ ap (λ o. option_and_then (λ it. option_and_then (λ m. Some (Verify it file None m)) o) (hook_named name)) e ∙ hook_is_named hook (λ it. Verify it file None n))
+          ∙ ap (λ o. option_and_then (λ it. option_and_then (λ m. Some (Verify it file None m None)) o) (hook_named name)) e ∙ hook_is_named hook (λ it. Verify it file None n None))
           (verify_within_output p name file number);
     }
 
@@ -329,12 +329,12 @@ unfolding clap_on_literals
 trace_with_ends p name file frame config = refl
 
 trace_asks : (p : ValueParser) (name file frame : Text)
-    → command_asks (leaf (trace p)).name (finished (leaf (trace p)).rules (traced p name file frame)) ≡ by_hook (λ hook. Trace hook file frame None most_states None false) name
+    → command_asks (leaf (trace p)).name (finished (leaf (trace p)).rules (traced p name file frame)) ≡ by_hook (λ hook. Trace hook file frame None most_states None None false) name
 unfolding clap_on_literals
 trace_asks p name file frame = refl
 
 trace_with_asks : (p : ValueParser) (name file frame config : Text)
-    → command_asks (leaf (trace p)).name (finished (leaf (trace p)).rules (traced_with p name file frame config)) ≡ by_hook (λ hook. Trace hook file frame (Some config) most_states None false) name
+    → command_asks (leaf (trace p)).name (finished (leaf (trace p)).rules (traced_with p name file frame config)) ≡ by_hook (λ hook. Trace hook file frame (Some config) most_states None None false) name
 unfolding clap_on_literals
 trace_with_asks p name file frame config = refl
 
@@ -365,7 +365,7 @@ trace_within_ends p name file frame number a =
 
 trace_within_asks : (p : ValueParser) (name file frame number : Text)
     → command_asks (leaf (trace p)).name (finished (leaf (trace p)).rules (traced_within p name file frame number))
-    ≡ option_and_then (λ hook. option_and_then (λ n. Some (Trace hook file frame None n None false)) (states_named number)) (hook_named name)
+    ≡ option_and_then (λ hook. option_and_then (λ n. Some (Trace hook file frame None n None None false)) (states_named number)) (hook_named name)
 unfolding clap_on_literals
 trace_within_asks p name file frame number = refl
 
@@ -386,33 +386,33 @@ unfolding clap_on_literals
 trace_within_output p name file frame number = refl
 
 pub trace_plain : (program file frame : Text) (hook : Hook) → IsOperand file → IsOperand frame
-    → Spells (program ∷ codes "trace" ∷ name_of hook ∷ file ∷ frame ∷ []) (Answer (Trace hook file frame None most_states None false) None)
+    → Spells (program ∷ codes "trace" ∷ name_of hook ∷ file ∷ frame ∷ []) (Answer (Trace hook file frame None most_states None None false) None)
 trace_plain program file frame hook f g p q t u =
     let name = name_of hook in
     let passes = trace_operands p name file frame (taken p hook t) (named hook) (plain file f) (plain frame g) (no_more _ _) in
     record {
       faultless = command_passes (trace_enters p q) (name ∷ file ∷ frame ∷ []) (level_passes passes (trace_ends p name file frame));
-      asked = ap wanted_in (command_gives (trace_enters p q) passes) ∙ answered (leaf (trace p)).name (finished (leaf (trace p)).rules (traced p name file frame)) (trace_is_other p) (trace_asks p name file frame ∙ hook_is_named hook (λ it. Trace it file frame None most_states None false)) (trace_output p name file frame);
+      asked = ap wanted_in (command_gives (trace_enters p q) passes) ∙ answered (leaf (trace p)).name (finished (leaf (trace p)).rules (traced p name file frame)) (trace_is_other p) (trace_asks p name file frame ∙ hook_is_named hook (λ it. Trace it file frame None most_states None None false)) (trace_output p name file frame);
     }
 
 pub trace_configured : (program file frame config : Text) (hook : Hook) → IsOperand file → IsOperand frame → IsOperand config
-    → Spells (program ∷ codes "trace" ∷ name_of hook ∷ file ∷ frame ∷ codes "--config" ∷ config ∷ []) (Answer (Trace hook file frame (Some config) most_states None false) None)
+    → Spells (program ∷ codes "trace" ∷ name_of hook ∷ file ∷ frame ∷ codes "--config" ∷ config ∷ []) (Answer (Trace hook file frame (Some config) most_states None None false) None)
 trace_configured program file frame config hook f g c p q t u =
     let name = name_of hook in
     let passes = trace_operands p name file frame (taken p hook t) (named hook) (plain file f) (plain frame g) (trace_option p name file frame config (plain config c)) in
     record {
       faultless = command_passes (trace_enters p q) (name ∷ file ∷ frame ∷ codes "--config" ∷ config ∷ []) (level_passes passes (trace_with_ends p name file frame config));
-      asked = ap wanted_in (command_gives (trace_enters p q) passes) ∙ answered (leaf (trace p)).name (finished (leaf (trace p)).rules (traced_with p name file frame config)) (trace_is_other p) (trace_with_asks p name file frame config ∙ hook_is_named hook (λ it. Trace it file frame (Some config) most_states None false)) (trace_with_output p name file frame config);
+      asked = ap wanted_in (command_gives (trace_enters p q) passes) ∙ answered (leaf (trace p)).name (finished (leaf (trace p)).rules (traced_with p name file frame config)) (trace_is_other p) (trace_with_asks p name file frame config ∙ hook_is_named hook (λ it. Trace it file frame (Some config) most_states None None false)) (trace_with_output p name file frame config);
     }
 
 pub trace_limited : (program file frame number : Text) (hook : Hook) (n : ℕ) → IsOperand file → IsOperand frame → IsOperand number → states_named number ≡ Some n
-    → Spells (program ∷ codes "trace" ∷ name_of hook ∷ file ∷ frame ∷ codes "--states" ∷ number ∷ []) (Answer (Trace hook file frame None n None false) None)
+    → Spells (program ∷ codes "trace" ∷ name_of hook ∷ file ∷ frame ∷ codes "--states" ∷ number ∷ []) (Answer (Trace hook file frame None n None None false) None)
 trace_limited program file frame number hook n f g c e p q t u =
     let name = name_of hook in
     let passes = trace_operands p name file frame (taken p hook t) (named hook) (plain file f) (plain frame g) (trace_limit p name file frame number (plain number c)) in
     record {
       faultless = command_passes (trace_enters p q) (name ∷ file ∷ frame ∷ codes "--states" ∷ number ∷ []) (level_passes passes (trace_within_ends p name file frame number (accepted number n e)));
       asked = ap wanted_in (command_gives (trace_enters p q) passes) ∙ answered (leaf (trace p)).name (finished (leaf (trace p)).rules (traced_within p name file frame number)) (trace_is_other p) (trace_within_asks p name file frame number
-          ∙ ap (λ o. option_and_then (λ it. option_and_then (λ m. Some (Trace it file frame None m None false)) o) (hook_named name)) e ∙ hook_is_named hook (λ it. Trace it file frame None n None false))
+          ∙ ap (λ o. option_and_then (λ it. option_and_then (λ m. Some (Trace it file frame None m None None false)) o) (hook_named name)) e ∙ hook_is_named hook (λ it. Trace it file frame None n None None false))
           (trace_within_output p name file frame number);
     }

@@ -8,7 +8,7 @@ use Rattle.clap.specs.ValueTests.{is_unsigned_in}
 use Rattle.clap.specs.Words.{Row, Text, first_of}
 use Rattle.bpf_regions.specs.declared.hooks.Hook.{Hook}
 use Rattle.bpf_regions.specs.declared.hooks.Hook.TheVariants.{Association, Addba, Data}
-use Rattle.apd_words.specs.CommandLine.{most_states}
+use Rattle.apd_words.specs.CommandLine.{most_states, most_work}
 use Rattle.apd_words.specs.declared.Claim.{Claim}
 use Rattle.apd_words.specs.declared.Evaluation.{Evaluation}
 use Rattle.apd_words.specs.declared.LiveRun.{LiveRun}
@@ -24,15 +24,15 @@ use Rattle.apd_words.specs.declared.Request.TheVariants as request
 
 -- a question, whose words are texts
 pub data Asked : Type 0 where
-  Verify : Hook → Text → Option Text → ℕ → Asked
+  Verify : Hook → Text → Option Text → ℕ → Option ℕ → Asked
   Assemble : Text → Asked
   Disassemble : Text → Option Text → Bool → Asked
   ListRaw : Text → Option Text → Bool → Asked
   Graph : Text → Option Text → Asked
-  Trace : Hook → Text → Text → Option Text → ℕ → Option Text → Bool → Asked
-  Evaluate : Hook → Text → Text → Option Text → Option Text → ℕ → Bool → Asked
-  Certify : Hook → Text → Option Text → ℕ → Asked
-  Check : Hook → Text → Text → Option Text → Asked
+  Trace : Hook → Text → Text → Option Text → ℕ → Option ℕ → Option Text → Bool → Asked
+  Evaluate : Hook → Text → Text → Option Text → Option Text → ℕ → Option ℕ → Bool → Asked
+  Certify : Hook → Text → Option Text → ℕ → Option ℕ → Asked
+  Check : Hook → Text → Text → Option Text → Option ℕ → Asked
   Explain : Option Text → Asked
   Frames : Text → Bool → Asked
   Test : Text → Asked
@@ -40,8 +40,8 @@ pub data Asked : Type 0 where
 
 -- the run of a script, or of lines as they come, or a question and the file for its answer, if there is one
 pub data Wanted : Type 0 where
-  Run : Text → Text → ℕ → ℕ → Bool → Bool → Bool → Wanted
-  Live : Text → ℕ → ℕ → Bool → Bool → Bool → Option Text → Wanted
+  Run : Text → Text → ℕ → ℕ → Option ℕ → Bool → Bool → Bool → Wanted
+  Live : Text → ℕ → ℕ → Option ℕ → Bool → Bool → Bool → Option Text → Wanted
   Answer : Asked → Option Text → Wanted
 
 -- the text of a word, if there is one
@@ -60,6 +60,7 @@ config_of source = text_of source.config
 abbrev pub asked_verdict : Subject → Asked
 asked_verdict subject =
     Verify subject.terms.hook subject.source.file.now (config_of subject.source) subject.terms.states
+    subject.terms.work
 
 -- the question of `disasm`, with slots or without
 abbrev pub asked_listing : Source → Bool → Asked
@@ -78,24 +79,25 @@ abbrev pub asked_evaluation : Evaluation → Asked
 asked_evaluation evaluation =
     Evaluate evaluation.subject.terms.hook evaluation.subject.source.file.now evaluation.capture.now
     (config_of evaluation.subject.source) (text_of evaluation.against)
-    evaluation.subject.terms.states evaluation.json
+    evaluation.subject.terms.states evaluation.subject.terms.work evaluation.json
 
 -- the question of `trace`
 abbrev pub asked_run : Trial → Asked
 asked_run trial =
     Trace trial.subject.terms.hook trial.subject.source.file.now trial.frame.now
-    (config_of trial.subject.source) trial.subject.terms.states
+    (config_of trial.subject.source) trial.subject.terms.states trial.subject.terms.work
     (text_of trial.given.context) trial.given.from_frame
 
 -- the question of `cert`
 abbrev pub asked_certificate : Subject → Asked
 asked_certificate subject =
     Certify subject.terms.hook subject.source.file.now (config_of subject.source) subject.terms.states
+    subject.terms.work
 
 -- the question of `check`
 abbrev pub asked_check : Claim → Asked
 asked_check claim =
-    Check claim.hook claim.source.file.now claim.certificate.now (config_of claim.source)
+    Check claim.hook claim.source.file.now claim.certificate.now (config_of claim.source) claim.work
 
 -- what a question asks for, without `explain`, which only adds a text on standard error
 abbrev pub asked_of : Question → Asked
@@ -116,12 +118,13 @@ asked_of (question.Help command) = Help (text_of command)
 -- the run of a script
 abbrev pub wanted_run : ScriptRun → Wanted
 wanted_run run =
-    Run run.config.now run.script.now run.workers run.states run.quiet run.strict run.verbose
+    Run run.config.now run.script.now run.workers run.states run.work run.quiet run.strict run.verbose
 
 -- the run of lines as they come
 abbrev pub wanted_live : LiveRun → Wanted
 wanted_live run =
-    Live run.config.now run.workers run.states run.strict run.verbose run.clock (text_of run.events)
+    Live run.config.now run.workers run.states run.work run.strict run.verbose run.clock
+    (text_of run.events)
 
 -- what a query wants
 abbrev pub wanted_answer : Query → Wanted
@@ -151,11 +154,19 @@ workers_named (digit ∷ []) =
     (if nat_le 49 digit && nat_le digit 56 then Some (digit - 48) else None)
 workers_named _ = None
 
--- a number from 1 to `most_states`, in decimal digits, perhaps after a plus sign
-abbrev pub states_named : Text → Option ℕ
-states_named text =
-    (if is_unsigned_in 1 most_states text then Some (digits_value 10 (without_leading_plus text))
+-- a number from 1 to another one, in decimal digits, perhaps after a plus sign
+abbrev pub number_to : ℕ → Text → Option ℕ
+number_to most text =
+    (if is_unsigned_in 1 most text then Some (digits_value 10 (without_leading_plus text))
     else None)
+
+-- a number of states
+abbrev pub states_named : Text → Option ℕ
+states_named text = number_to most_states text
+
+-- a number of units of work
+abbrev pub work_named : Text → Option ℕ
+work_named text = number_to most_work text
 
 -- ---- what the arguments of a command ask for; `first_of id rows` is the value of an argument
 
@@ -171,13 +182,17 @@ hook_at rows = option_and_then hook_named (first_of (codes "HOOK") rows)
 abbrev pub states_at : List Row → Option ℕ
 states_at rows = option_and_then states_named (first_of (codes "states") rows)
 
--- `verify HOOK FILE [--config C] [--states N] [--explain]`
+-- how many units of work the verifier, or a check, may do; none if no limit is named
+abbrev pub work_at : List Row → Option ℕ
+work_at rows = option_and_then work_named (first_of (codes "work") rows)
+
+-- `verify HOOK FILE [--config C] [--states N] [--explain] [--work N]`
 abbrev pub verify_of : List Row → Option Asked
 verify_of rows = do
   hook ← hook_at rows
   file ← first_of (codes "FILE") rows
   states ← states_at rows
-  Some (Verify hook file (first_of (codes "config") rows) states)
+  Some (Verify hook file (first_of (codes "config") rows) states (work_at rows))
 
 -- `asm FILE`
 abbrev pub assemble_of : List Row → Option Asked
@@ -195,17 +210,17 @@ disassemble_of rows = do
       else Some (Disassemble file (first_of (codes "config") rows) (is_set (codes "slots") rows))))
 
 -- `trace HOOK FILE FRAME [--config C] [--states N] [--context KEY=VALUE,..] [--from-frame]
--- [--explain]`
+-- [--explain] [--work N]`
 abbrev pub trace_of : List Row → Option Asked
 trace_of rows = do
   hook ← hook_at rows
   file ← first_of (codes "FILE") rows
   frame ← first_of (codes "FRAME") rows
   states ← states_at rows
-  Some (Trace hook file frame (first_of (codes "config") rows) states
+  Some (Trace hook file frame (first_of (codes "config") rows) states (work_at rows)
       (first_of (codes "context") rows) (is_set (codes "from-frame") rows))
 
--- `eval HOOK FILE CAPTURE [--config C] [--against OLD] [--states N] [-j]`
+-- `eval HOOK FILE CAPTURE [--config C] [--against OLD] [--states N] [-j] [--work N]`
 abbrev pub evaluate_of : List Row → Option Asked
 evaluate_of rows = do
   hook ← hook_at rows
@@ -213,43 +228,43 @@ evaluate_of rows = do
   capture ← first_of (codes "CAPTURE") rows
   states ← states_at rows
   Some (Evaluate hook file capture (first_of (codes "config") rows)
-      (first_of (codes "against") rows) states (is_set (codes "json") rows))
+      (first_of (codes "against") rows) states (work_at rows) (is_set (codes "json") rows))
 
--- `run C SCRIPT [--workers N] [--states N] [--quiet] [--strict] [--verbose]`
+-- `run C SCRIPT [--workers N] [--states N] [--quiet] [--strict] [--verbose] [--work N]`
 abbrev pub run_of : List Row → Option Wanted
 run_of rows = do
   config ← first_of (codes "C") rows
   script ← first_of (codes "SCRIPT") rows
   workers ← option_and_then workers_named (first_of (codes "workers") rows)
   states ← states_at rows
-  Some (Run config script workers states (is_set (codes "quiet") rows)
+  Some (Run config script workers states (work_at rows) (is_set (codes "quiet") rows)
       (is_set (codes "strict") rows) (is_set (codes "verbose") rows))
 
--- `live C [--workers N] [--states N] [--strict] [--verbose] [--clock] [--events FORM]`
+-- `live C [--workers N] [--states N] [--strict] [--verbose] [--clock] [--events FORM] [--work N]`
 abbrev pub live_of : List Row → Option Wanted
 live_of rows = do
   config ← first_of (codes "C") rows
   workers ← option_and_then workers_named (first_of (codes "workers") rows)
   states ← states_at rows
-  Some (Live config workers states (is_set (codes "strict") rows)
+  Some (Live config workers states (work_at rows) (is_set (codes "strict") rows)
       (is_set (codes "verbose") rows) (is_set (codes "clock") rows)
       (first_of (codes "events") rows))
 
--- `cert HOOK FILE [--config C] [--states N]`
+-- `cert HOOK FILE [--config C] [--states N] [--work N]`
 abbrev pub certify_of : List Row → Option Asked
 certify_of rows = do
   hook ← hook_at rows
   file ← first_of (codes "FILE") rows
   states ← states_at rows
-  Some (Certify hook file (first_of (codes "config") rows) states)
+  Some (Certify hook file (first_of (codes "config") rows) states (work_at rows))
 
--- `check HOOK FILE CERT [--config C]`
+-- `check HOOK FILE CERT [--config C] [--work N]`
 abbrev pub check_of : List Row → Option Asked
 check_of rows = do
   hook ← hook_at rows
   file ← first_of (codes "FILE") rows
   certificate ← first_of (codes "CERT") rows
-  Some (Check hook file certificate (first_of (codes "config") rows))
+  Some (Check hook file certificate (first_of (codes "config") rows) (work_at rows))
 
 -- `explain [NUMBER]`
 abbrev pub explain_of : List Row → Option Asked

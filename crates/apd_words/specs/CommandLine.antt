@@ -21,6 +21,10 @@ worker_names =
 abbrev pub most_states : ℕ
 most_states = 4194304
 
+-- the largest limit of work that may be named; no program needs it
+abbrev pub most_work : ℕ
+most_work = 1099511627776
+
 -- a value is one of these names
 pub record TakesNames (parser : ValueParser) (names : List Text) : Type 0 where
   pub given : Bor (List (Bor Text))
@@ -87,6 +91,10 @@ states = record (option (codes "states")) {
   defaults = codes "4194304" ∷ [];
 }
 
+-- `--work N`, by default without a limit
+abbrev pub work : Rule
+work = record (option (codes "work")) { parser = Some (Unsigned 1 most_work) }
+
 -- a command with these arguments
 abbrev pub command : Text → List Rule → Shape
 command name rules = record (new_shape name) { rules = rules }
@@ -95,10 +103,10 @@ command name rules = record (new_shape name) { rules = rules }
 abbrev pub hook_command : Text → ValueParser → List Rule → Shape
 hook_command name hooks more = command name (hook hooks ∷ file ∷ more)
 
--- `verify HOOK FILE [--config C] [--states N] [--explain]`
+-- `verify HOOK FILE [--config C] [--states N] [--explain] [--work N]`
 abbrev pub verify : ValueParser → Shape
 verify hooks =
-    hook_command (codes "verify") hooks (config ∷ states ∷ flag (codes "explain") ∷ [])
+    hook_command (codes "verify") hooks (config ∷ states ∷ flag (codes "explain") ∷ work ∷ [])
 
 -- `asm FILE [-o FILE]`
 abbrev pub assemble : Shape
@@ -111,38 +119,39 @@ disassemble =
     ∷ flag (codes "dot") ∷ output ∷ [])
 
 -- `trace HOOK FILE FRAME [--config C] [--states N] [--context KEY=VALUE,..] [--from-frame]
--- [--explain]`
+-- [--explain] [--work N]`
 abbrev pub trace : ValueParser → Shape
 trace hooks =
     hook_command (codes "trace") hooks (required (codes "FRAME") ∷ config ∷ states ∷ context
-    ∷ flag (codes "from-frame") ∷ flag (codes "explain") ∷ [])
+    ∷ flag (codes "from-frame") ∷ flag (codes "explain") ∷ work ∷ [])
 
--- `eval HOOK FILE CAPTURE [--config C] [--against OLD] [--states N] [-j] [-o FILE]`
+-- `eval HOOK FILE CAPTURE [--config C] [--against OLD] [--states N] [-j] [-o FILE] [--work N]`
 abbrev pub evaluate : ValueParser → Shape
 evaluate hooks =
     hook_command (codes "eval") hooks (required (codes "CAPTURE") ∷ config ∷ against ∷ states
-    ∷ json ∷ output ∷ [])
+    ∷ json ∷ output ∷ work ∷ [])
 
--- `run C SCRIPT [--workers N] [--states N] [--quiet] [--strict] [--verbose]`
+-- `run C SCRIPT [--workers N] [--states N] [--quiet] [--strict] [--verbose] [--work N]`
 abbrev pub run : ValueParser → Shape
 run numbers =
     command (codes "run") (required (codes "C") ∷ required (codes "SCRIPT")
     ∷ workers numbers ∷ states ∷ flag (codes "quiet") ∷ flag (codes "strict")
-    ∷ flag (codes "verbose") ∷ [])
+    ∷ flag (codes "verbose") ∷ work ∷ [])
 
--- `live C [--workers N] [--states N] [--strict] [--verbose] [--clock] [--events FORM]`
+-- `live C [--workers N] [--states N] [--strict] [--verbose] [--clock] [--events FORM] [--work N]`
 abbrev pub live : ValueParser → Shape
 live numbers =
     command (codes "live") (required (codes "C") ∷ workers numbers ∷ states
-    ∷ flag (codes "strict") ∷ flag (codes "verbose") ∷ flag (codes "clock") ∷ events ∷ [])
+    ∷ flag (codes "strict") ∷ flag (codes "verbose") ∷ flag (codes "clock") ∷ events
+    ∷ work ∷ [])
 
--- `cert HOOK FILE [--config C] [--states N] [-o FILE]`
+-- `cert HOOK FILE [--config C] [--states N] [-o FILE] [--work N]`
 abbrev pub certify : ValueParser → Shape
-certify hooks = hook_command (codes "cert") hooks (config ∷ states ∷ output ∷ [])
+certify hooks = hook_command (codes "cert") hooks (config ∷ states ∷ output ∷ work ∷ [])
 
--- `check HOOK FILE CERT [--config C]`
+-- `check HOOK FILE CERT [--config C] [--work N]`
 abbrev pub check : ValueParser → Shape
-check hooks = hook_command (codes "check") hooks (required (codes "CERT") ∷ config ∷ [])
+check hooks = hook_command (codes "check") hooks (required (codes "CERT") ∷ config ∷ work ∷ [])
 
 -- `explain [NUMBER]`
 abbrev pub explain : Shape

@@ -5,7 +5,7 @@ ghost use Rattle.clap.specs.Words.{App, Rule, Shape, app_of, rule_of, with_subco
 ghost use Rattle.clap.specs.Simple.{new_shape};
 ghost use Rattle.clap.specs.declared.builder.value_parser.ValueParser.TheVariants.{Names};
 ghost use Rattle.apd_words.specs.Built.{IsProgram, IsCommand, with_argument};
-ghost use Rattle.apd_words.specs.CommandLine.{command_line, program, with_code_commands, with_trial_commands, with_run_commands, with_certificate_commands, with_reading_commands, hook_command, required, optional, flag, hook, file, config, against, json, output, context, events, workers, states, verify, assemble, disassemble, trace, evaluate, run, live, certify, check, explain, frames, test, help};
+ghost use Rattle.apd_words.specs.CommandLine.{command_line, program, with_code_commands, with_trial_commands, with_run_commands, with_certificate_commands, with_reading_commands, hook_command, required, optional, flag, hook, file, config, against, json, output, context, events, workers, states, work, verify, assemble, disassemble, trace, evaluate, run, live, certify, check, explain, frames, test, help};
 
 use clap::builder::ValueParser;
 use clap::{Arg, ArgAction, Command};
@@ -14,6 +14,9 @@ use std::alloc::{AllocError, Global};
 pub(crate) static HOOKS: [&str; 3] = ["assoc", "addba", "data"];
 
 pub(crate) static WORKERS: [&str; 8] = ["1", "2", "3", "4", "5", "6", "7", "8"];
+
+/// The most units of work that a limit may name.
+pub(crate) const MOST_WORK: u64 = 1099511627776;
 
 /// The most states that a limit may name.
 pub(crate) const MOST_STATES: u32 = 4194304;
@@ -153,7 +156,8 @@ fn verify<'a>(alloc: Global, hooks: &'a [&'a str]) -> Made<'a>
     let command = with_arg(hook_command(alloc, "verify", about, hooks), config(alloc));
     let command = with_arg(command, states(alloc));
     let why = "Tell on standard error why, and what is known there";
-    with_arg(command, flag(alloc, "explain", why))
+    let command = with_arg(command, flag(alloc, "explain", why));
+    with_arg(command, work(alloc))
 }
 
 fn assemble<'a>(alloc: Global) -> Made<'a>
@@ -199,7 +203,8 @@ fn trace<'a>(alloc: Global, hooks: &'a [&'a str]) -> Made<'a>
     let frame = "Tell the program what the frame says of itself";
     let command = with_arg(command, flag(alloc, "from-frame", frame));
     let why = "Tell on standard error why, and what is known there";
-    with_arg(command, flag(alloc, "explain", why))
+    let command = with_arg(command, flag(alloc, "explain", why));
+    with_arg(command, work(alloc))
 }
 
 fn evaluate<'a>(alloc: Global, hooks: &'a [&'a str]) -> Made<'a>
@@ -213,7 +218,7 @@ fn evaluate<'a>(alloc: Global, hooks: &'a [&'a str]) -> Made<'a>
     );
     let command = with_arg(with_arg(command, config(alloc)), against(alloc));
     let command = with_arg(with_arg(command, states(alloc)), json(alloc));
-    with_arg(command, output(alloc))
+    with_arg(with_arg(command, output(alloc)), work(alloc))
 }
 
 fn run<'a>(alloc: Global, numbers: &'a [&'a str]) -> Made<'a>
@@ -232,7 +237,8 @@ fn run<'a>(alloc: Global, numbers: &'a [&'a str]) -> Made<'a>
     let strict = "End after the interval of the first refused load, with status 1";
     let command = with_arg(command, flag(alloc, "strict", strict));
     let verbose = "Tell on standard error what becomes of each load";
-    with_arg(command, flag(alloc, "verbose", verbose))
+    let command = with_arg(command, flag(alloc, "verbose", verbose));
+    with_arg(command, work(alloc))
 }
 
 fn live<'a>(alloc: Global, numbers: &'a [&'a str]) -> Made<'a>
@@ -251,7 +257,7 @@ fn live<'a>(alloc: Global, numbers: &'a [&'a str]) -> Made<'a>
     let command = with_arg(command, flag(alloc, "verbose", verbose));
     let clock = "Let time pass by the clock, too";
     let command = with_arg(command, flag(alloc, "clock", clock));
-    with_arg(command, events(alloc))
+    with_arg(with_arg(command, events(alloc)), work(alloc))
 }
 
 fn certify<'a>(alloc: Global, hooks: &'a [&'a str]) -> Made<'a>
@@ -259,7 +265,8 @@ fn certify<'a>(alloc: Global, hooks: &'a [&'a str]) -> Made<'a>
 {
     let about = "Verify a program and print its certificate in hex";
     let command = with_arg(hook_command(alloc, "cert", about, hooks), config(alloc));
-    with_arg(with_arg(command, states(alloc)), output(alloc))
+    let command = with_arg(with_arg(command, states(alloc)), output(alloc));
+    with_arg(command, work(alloc))
 }
 
 fn check<'a>(alloc: Global, hooks: &'a [&'a str]) -> Made<'a>
@@ -270,7 +277,7 @@ fn check<'a>(alloc: Global, hooks: &'a [&'a str]) -> Made<'a>
         hook_command(alloc, "check", about, hooks),
         required(alloc, "CERT", "The certificate, as hex digits"),
     );
-    with_arg(command, config(alloc))
+    with_arg(with_arg(command, config(alloc)), work(alloc))
 }
 
 fn explain<'a>(alloc: Global) -> Made<'a>
@@ -453,4 +460,16 @@ fn states<'a>(alloc: Global) -> Arg<'a>
         .value_parser(ValueParser::Unsigned(1, u64::from(MOST_STATES)))
         .default_value("4194304")
         .help("How many states the verifier may examine, 1 to 4194304")
+}
+
+fn work<'a>(alloc: Global) -> Arg<'a>
+    ensures is { rule_of result ≡ work }
+    ensures local { result.global ≡ false }
+{
+    Arg::new(alloc, "work")
+        .long("work")
+        .value_name("N")
+        .action(ArgAction::Set)
+        .value_parser(ValueParser::Unsigned(1, MOST_WORK))
+        .help("How many units of work may be done, 1 to 1099511627776; without it, any number")
 }

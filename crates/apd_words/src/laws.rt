@@ -12,15 +12,15 @@ ghost use Rattle.apd_words.specs.Spells.{IsOperand, Spells};
 pub fn verify_law()
     ensures plain { (program file : List ℕ) (hook : Hook) → IsOperand file
         → Spells (program ∷ codes "verify" ∷ name_of hook ∷ file ∷ [])
-        (Answer (Verify hook file None most_states) None) }
+        (Answer (Verify hook file None most_states None) None) }
     ensures configured { (program file config : List ℕ) (hook : Hook) →
         IsOperand file → IsOperand config
         → Spells (program ∷ codes "verify" ∷ name_of hook ∷ file ∷ codes "--config" ∷ config ∷ [])
-        (Answer (Verify hook file (Some config) most_states) None) }
+        (Answer (Verify hook file (Some config) most_states None) None) }
     ensures limited { (program file number : List ℕ) (hook : Hook) (states : ℕ) →
         IsOperand file → IsOperand number → states_named number ≡ Some states
         → Spells (program ∷ codes "verify" ∷ name_of hook ∷ file ∷ codes "--states" ∷ number ∷ [])
-        (Answer (Verify hook file None states) None) }
+        (Answer (Verify hook file None states None) None) }
 {}
 
 /// The law of `apd asm FILE`: the words ask for what they say if FILE doesn't begin with a hyphen.
@@ -44,13 +44,13 @@ pub fn disassemble_law()
 pub fn trace_law()
     ensures plain { (program file frame : List ℕ) (hook : Hook) → IsOperand file → IsOperand frame
         → Spells (program ∷ codes "trace" ∷ name_of hook ∷ file ∷ frame ∷ [])
-        (Answer (Trace hook file frame None most_states None false) None) }
+        (Answer (Trace hook file frame None most_states None None false) None) }
     ensures configured { (program file frame config : List ℕ) (hook : Hook) →
         IsOperand file → IsOperand frame → IsOperand config
         → Spells (program ∷ codes "trace" ∷ name_of hook ∷ file ∷ frame ∷ codes "--config"
-        ∷ config ∷ []) (Answer (Trace hook file frame (Some config) most_states None false) None) }
+        ∷ config ∷ []) (Answer (Trace hook file frame (Some config) most_states None None false) None) }
     ensures limited { (program file frame number : List ℕ) (hook : Hook) (states : ℕ) →
         IsOperand file → IsOperand frame → IsOperand number → states_named number ≡ Some states
         → Spells (program ∷ codes "trace" ∷ name_of hook ∷ file ∷ frame ∷ codes "--states"
-        ∷ number ∷ []) (Answer (Trace hook file frame None states None false) None) }
+        ∷ number ∷ []) (Answer (Trace hook file frame None states None None false) None) }
 {}

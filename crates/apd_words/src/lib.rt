@@ -24,11 +24,13 @@ pub struct Source<'a> {
     pub config: Option<&'a str>,
 }
 
-/// The hook for which a program is verified, and how many states the verifier may examine.
+/// The hook for which a program is verified, how many states the verifier may examine, and how many units of work it
+/// may do, if that is limited.
 #[derive(Clone, Copy)]
 pub struct Terms {
     pub hook: Hook,
     pub states: u32,
+    pub work: Option<u64>,
 }
 
 /// A program to verify.
@@ -64,12 +66,14 @@ pub struct Evaluation<'a> {
     pub json: bool,
 }
 
-/// A program, and the file of a certificate that should show it safe for a hook.
+/// A program, the file of a certificate that should show it safe for a hook, and how many units of work the check may
+/// do, if that is limited.
 #[derive(Clone, Copy)]
 pub struct Claim<'a> {
     pub hook: Hook,
     pub source: Source<'a>,
     pub certificate: &'a str,
+    pub work: Option<u64>,
 }
 
 /// A script to run by 1 to 8 workers. `quiet` suppresses progress on standard error, `strict` ends the run after the
@@ -80,6 +84,7 @@ pub struct ScriptRun<'a> {
     pub script: &'a str,
     pub workers: u8,
     pub states: u32,
+    pub work: Option<u64>,
     pub quiet: bool,
     pub strict: bool,
     pub verbose: bool,
@@ -93,6 +98,7 @@ pub struct LiveRun<'a> {
     pub config: &'a str,
     pub workers: u8,
     pub states: u32,
+    pub work: Option<u64>,
     pub strict: bool,
     pub verbose: bool,
     pub clock: bool,

@@ -4,9 +4,9 @@ ghost use Rattle.std.specs.Prelude.{◌≡◌, ◌≤◌, ◌^◌, IfSome, optio
 ghost use Rattle.clap.specs.Matches.{found_of};
 ghost use Rattle.clap.specs.Simple.{subcommand_rows_of};
 ghost use Rattle.clap.specs.Walk.{first_of, rows_of};
-ghost use Rattle.apd_words.specs.Asked.{asked_of, command_asks, answers_to, wanted_of, wanted_in, asked_verdict, asked_certificate, hook_named, hook_at, workers_named, states_named, states_at, verify_of, assemble_of, disassemble_of, trace_of, evaluate_of, run_of, live_of, certify_of, check_of, explain_of, frames_of, test_of, help_of, is_set};
+ghost use Rattle.apd_words.specs.Asked.{asked_of, command_asks, answers_to, wanted_of, wanted_in, asked_verdict, asked_certificate, hook_named, hook_at, workers_named, states_named, states_at, work_named, work_at, verify_of, assemble_of, disassemble_of, trace_of, evaluate_of, run_of, live_of, certify_of, check_of, explain_of, frames_of, test_of, help_of, is_set};
 
-use crate::command::MOST_STATES;
+use crate::command::{MOST_STATES, MOST_WORK};
 use crate::{
     Claim, Evaluation, Given, LiveRun, Query, Question, Request, ScriptRun, Source, Subject, Terms,
     Trial,
@@ -95,9 +95,10 @@ fn trace<'a>(matches: &ArgMatches<'a>) -> Option<Question<'a>>
     let frame = value(matches, "FRAME")?;
     let config = value(matches, "config");
     let states = states(matches)?;
+    let work = work(matches);
     let explain = flag(matches, "explain");
     let source = Source { file, config };
-    let terms = Terms { hook, states };
+    let terms = Terms { hook, states, work };
     Some(Question::Trace(Trial {
         subject: Subject { source, terms },
         frame,
@@ -115,9 +116,10 @@ fn evaluate<'a>(matches: &ArgMatches<'a>) -> Option<Question<'a>>
     let config = value(matches, "config");
     let against = value(matches, "against");
     let states = states(matches)?;
+    let work = work(matches);
     let json = flag(matches, "json");
     let source = Source { file, config };
-    let terms = Terms { hook, states };
+    let terms = Terms { hook, states, work };
     Some(Question::Evaluate(Evaluation {
         subject: Subject { source, terms },
         capture,
@@ -133,6 +135,7 @@ fn run<'a>(matches: &ArgMatches<'a>) -> Option<Request<'a>>
     let script = value(matches, "SCRIPT")?;
     let workers = workers_named(value(matches, "workers")?)?;
     let states = states(matches)?;
+    let work = work(matches);
     let quiet = flag(matches, "quiet");
     let strict = flag(matches, "strict");
     let verbose = flag(matches, "verbose");
@@ -141,6 +144,7 @@ fn run<'a>(matches: &ArgMatches<'a>) -> Option<Request<'a>>
         script,
         workers,
         states,
+        work,
         quiet,
         strict,
         verbose,
@@ -153,6 +157,7 @@ fn live<'a>(matches: &ArgMatches<'a>) -> Option<Request<'a>>
     let config = value(matches, "C")?;
     let workers = workers_named(value(matches, "workers")?)?;
     let states = states(matches)?;
+    let work = work(matches);
     let strict = flag(matches, "strict");
     let verbose = flag(matches, "verbose");
     let clock = flag(matches, "clock");
@@ -161,6 +166,7 @@ fn live<'a>(matches: &ArgMatches<'a>) -> Option<Request<'a>>
         config,
         workers,
         states,
+        work,
         strict,
         verbose,
         clock,
@@ -182,11 +188,13 @@ fn check<'a>(matches: &ArgMatches<'a>) -> Option<Question<'a>>
     let file = value(matches, "FILE")?;
     let certificate = value(matches, "CERT")?;
     let config = value(matches, "config");
+    let work = work(matches);
     let source = Source { file, config };
     Some(Question::Check(Claim {
         hook,
         source,
         certificate,
+        work,
     }))
 }
 
@@ -242,8 +250,9 @@ fn subject<'a>(matches: &ArgMatches<'a>) -> Option<Subject<'a>>
     let file = value(matches, "FILE")?;
     let config = value(matches, "config");
     let states = states(matches)?;
+    let work = work(matches);
     let source = Source { file, config };
-    let terms = Terms { hook, states };
+    let terms = Terms { hook, states, work };
     Some(Subject { source, terms })
 }
 
@@ -318,6 +327,24 @@ fn states_named(text: &str) -> Option<u32>
 {
     match text.parse::<u32>() {
         Ok(states) if 1 <= states && states <= MOST_STATES => Some(states),
+        _ => None,
+    }
+}
+
+fn work(matches: &ArgMatches<'_>) -> Option<u64>
+    ensures is { result ≡ work_at (rows_of (found_of matches.now)) }
+    ensures from { IfSome result (λ work. 1 ≤ work) }
+{
+    let text = value(matches, "work")?;
+    work_named(text)
+}
+
+fn work_named(text: &str) -> Option<u64>
+    ensures is { result ≡ work_named text.now }
+    ensures from { IfSome result (λ work. 1 ≤ work) }
+{
+    match text.parse::<u64>() {
+        Ok(work) if 1 <= work && work <= MOST_WORK => Some(work),
         _ => None,
     }
 }

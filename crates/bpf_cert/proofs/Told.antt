@@ -1,7 +1,9 @@
 -- Booleans that tell whether something holds.
 use Rattle.std.proofs.Common.{◌≡◌, ℕ, suc, ◌+◌, ◌≤◌, ◌<◌, inl, inr, Bool, true, false, List, sym, ◌∙◌, ap, subst, arith, Result, Ok, Err}
-use Rattle.std.specs.Prelude.{IfOk}
+use Rattle.std.specs.Prelude.{IfOk, IfErr}
 use Rattle.bpf_cert.specs.declared.limit.Stop.{Stop}
+use Rattle.bpf_cert.specs.declared.limit.Stop.TheVariants as stop
+use Rattle.bpf_cert.specs.Limits.{IsStop}
 use Rattle.std.proofs.lemmas.Bool.{true≢false}
 use Rattle.bpf_insn.specs.declared.insn.Insn.{Insn}
 use Rattle.bpf_decode.specs.Program.{Code, Holds, IsTarget, Begins}
@@ -20,12 +22,20 @@ use Rattle.bpf_cert.specs.declared.coverage.Step.TheVariants.{Decided, Onward}
 use Rattle.bpf_cert.specs.Covered.{Includes, IsIncluded, LeadsWithin}
 use Rattle.bpf_cert.specs.Steps.{Tells, Serves, Arrives, IsSame, Goes}
 
+-- lack of memory
+pub starved : {T : Type 0} (passed : Type 0) (r : Result T Stop) → IfErr r (λ e. e ≡ stop.NoMemory) → IfErr r (IsStop passed)
+starved passed (Ok x) h = h
+starved passed (Err e) h = subst (IsStop passed) (sym h) tt
+
 pub open_includes : (e : Claim) (a : View) (r : Bool) → e.is_open ≡ true → r ≡ state_included a e.state → Tells r (Includes e a)
 open_includes e a true o h = record { included = sym h; is_open = o }
 open_includes e a false o h = λ x. true≢false (sym x.included ∙ sym h)
 
 pub closed_includes : (e : Claim) (a : View) → e.is_open ≡ false → Tells e.is_open (Includes e a)
 closed_includes e a h = subst (λ (b : Bool). Tells b (Includes e a)) (sym h) (λ x. true≢false (sym x.is_open ∙ h))
+
+pub closed_includes_not : (e : Claim) (a : View) → e.is_open ≡ false → Includes e a → ⊥
+closed_includes_not e a h x = true≢false (sym x.is_open ∙ h)
 
 -- what is told of P is told of an equivalent Q
 pub tells_same : (told : Bool) (P Q : Type 0) → (P → Q) → (Q → P) → Tells told P → Tells told Q

@@ -8,6 +8,11 @@ use Rattle.bpf_machine.specs.Verified.{Verified}
 use Rattle.bpf_absstate.specs.View.{entry_view}
 use Rattle.bpf_plain.specs.Clear.{IsClear}
 use Rattle.bpf_rules.specs.declared.fault.Fault.TheVariants as fault
+use Rattle.bpf_prune.specs.Spending.{Tally}
+use Rattle.bpf_verifier.specs.Admission.{IsRefusalAfter}
+use Rattle.bpf_verifier.specs.Spent.{IsSpent}
+use Rattle.bpf_verifier.specs.Limits.{units_of}
+use Rattle.bpf_verifier.specs.declared.limit.Limits.{Limits}
 use Rattle.bpf_verifier.specs.declared.refusal.Refusal.{Refusal}
 use Rattle.bpf_cert_format.specs.Answers.{Spells}
 use Rattle.bpf_cert_format.specs.declared.frame.Frame.{Frame}
@@ -56,6 +61,20 @@ IsCertificate a bytes = (b : ℕ) × Covered a.code a.hook bytes b
 pub record IsUncertified (program : Code) (limit : ℕ) (refusal : Refusal) : Type 0 where
   pub begins : Begins program.slots refusal.pc
   pub clear : IsClear program entry_view limit → (refusal.fault ≡ fault.NoMemory) ⊎ (refusal.pc ≡ 0)
+
+-- Why no certificate was made, with the work before and after: the exploration refused the program, or it is at slot 0.
+pub data IsUncertifiedAfter (program : Code) (limit : ℕ) (old new : Tally) (refusal : Refusal) : Type 0 where
+  Unexplored : IsSpent limit old new → IsRefusalAfter program limit new refusal →
+      IsUncertifiedAfter program limit old new refusal
+  Unwritten : Begins program.slots refusal.pc → refusal.pc ≡ 0 →
+      IsUncertifiedAfter program limit old new refusal
+
+-- The same within limits of states and of work; some of the work may have been done before.
+pub record IsUncertifiedWithin (program : Code) (limits : Limits) (refusal : Refusal) : Type 0 where
+  pub before : Tally
+  pub tally : Tally
+  pub most : before.most ≡ units_of limits.work
+  pub after : IsUncertifiedAfter program limits.states before tally refusal
 
 -- why bytes are refused: the first of these that applies; lack of memory says nothing
 abbrev pub Refuses : Code → Hook → List ℕ → CertFault → Type 0

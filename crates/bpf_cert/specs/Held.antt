@@ -8,4 +8,4 @@ use Rattle.bpf_cert.specs.States.{claim_of}
 -- the claim itself, or that of the entry at its position
 abbrev pub claim_in : Form → Claim
 claim_in (Built claim) = claim
-claim_in (Spelled u) = claim_of (entry_from u)
+claim_in (Spelled s) = claim_of (entry_from s.unread)

@@ -1,6 +1,6 @@
 -- Checks within a limit of work.
-use Rattle.std.specs.Prelude.{◌≢◌, ℕ, List, Option, None, Result, Ok, Err}
-use Rattle.bpf_cert.specs.declared.claim.Claim.{Claim}
+use Rattle.std.specs.Prelude.{◌≡◌, ℕ, Option, Some, Result, Ok, Err}
+use Rattle.bpf_prune.specs.Spending.{Tally, HasPassed}
 use Rattle.bpf_cert.specs.declared.fault.CertFault.{CertFault}
 use Rattle.bpf_cert.specs.declared.fault.CertFault.TheVariants as fault
 use Rattle.bpf_cert.specs.declared.limit.Stop.{Stop}
@@ -9,19 +9,10 @@ use Rattle.bpf_cert.specs.declared.limit.WithinFault.{WithinFault}
 use Rattle.bpf_cert.specs.declared.limit.WithinFault.TheVariants as within
 use Rattle.bpf_cert.specs.Faults.{number_of}
 
--- claims, and the most work that may be done over them
-pub record Limited : Type 0 where
-  pub list : List Claim
-  pub most : Option ℕ
-
--- there is a limit
-abbrev pub IsLimited : Option ℕ → Type 0
-IsLimited most = most ≢ None
-
--- lack of memory, or of work, if there is a limit
-abbrev pub IsStop : Option ℕ → Stop → Type 0
-IsStop most stop.NoMemory = Unit {0}
-IsStop most stop.TooMuchWork = IsLimited most
+-- lack of memory; or of work, if it has passed the limit
+abbrev pub IsStop : Type 0 → Stop → Type 0
+IsStop passed stop.NoMemory = Unit {0}
+IsStop passed stop.TooMuchWork = passed
 
 -- the refusal when a check stops
 abbrev pub stopped : Stop → WithinFault
@@ -33,8 +24,14 @@ abbrev pub number_within : WithinFault → ℕ
 number_within (within.Refused f) = number_of f
 number_within within.TooMuchWork = 36
 
--- P of the result as it is without a limit, or there is a limit
-abbrev pub Within : {X : Type 0} → Option ℕ → (Result X CertFault → Type 0) → Result X WithinFault → Type 0
-Within most P (Ok x) = P (Ok x)
-Within most P (Err (within.Refused f)) = P (Err f)
-Within most P (Err within.TooMuchWork) = IsLimited most
+-- P of the result as it is without a limit, or the work has passed the limit
+abbrev pub Within : {X : Type 0} → Type 0 → (Result X CertFault → Type 0) → Result X WithinFault → Type 0
+Within passed P (Ok x) = P (Ok x)
+Within passed P (Err (within.Refused f)) = P (Err f)
+Within passed P (Err within.TooMuchWork) = passed
+
+-- there is a limit, and the work of a tally within it has passed it
+pub record HasPassedLimit (most : Option ℕ) : Type 0 where
+  pub tally : Tally
+  pub within : most ≡ Some tally.most
+  pub passed : HasPassed tally

@@ -1,7 +1,7 @@
 //! Makes certificates: explores an admitted program again, and writes down what was found.
 
 ghost use Rattle.std.specs.Prelude.{◌≡◌, ◌^◌, ℕ, IfOk, IfErr};
-ghost use Rattle.bpf_cert.specs.Certified.{Covered, IsCertificate, IsUncertified};
+ghost use Rattle.bpf_cert.specs.Certified.{Covered, IsCertificate, IsUncertified, IsUncertifiedAfter};
 
 use crate::checking::certified_budget;
 use crate::describing::described;
@@ -13,9 +13,9 @@ use bpf_cert_format::{Certificate, Leaf, WriteFault, write};
 use bpf_decode::{Program, encode};
 use bpf_machine::Accepted;
 use bpf_plain::laws::standing_law;
-use bpf_prune::Entry as Finished;
+use bpf_prune::{Entry as Finished, Work};
 use bpf_regions::Hook;
-use bpf_verifier::{Fault, Refusal, StateLimit, explore_within};
+use bpf_verifier::{Fault, Refusal, StateLimit, explore_counted};
 use std::alloc::{AllocError, Global};
 
 /// Adds the entries that describe these states.
@@ -33,10 +33,15 @@ fn describe(
 
 /// The entries that finished states give a program's certificate, without needless ones, ordered by slot and budget. In
 /// that order `check` finds them fast.
-fn entries_of(alloc: Global, program: &Program, finished: &[Finished]) -> Result<Vec<Leaf>, Stop> {
-    let claims = widened(alloc, program, finished)?;
+fn entries_of(
+    alloc: Global,
+    program: &Program,
+    finished: &[Finished],
+    work: &mut Work,
+) -> Result<Vec<Leaf>, Stop> {
+    let claims = widened(alloc, program, finished, work)?;
     let mut entries = Vec::new(alloc);
-    for mut of_slot in sifted(alloc, program, &claims)? {
+    for mut of_slot in sifted(alloc, program, &claims, work)? {
         of_slot.sort_by_key(|one| one.budget)?;
         describe(alloc, &mut entries, of_slot.as_slice())?;
     }
@@ -90,11 +95,17 @@ fn unwritten(fault: WriteFault) -> Refusal
 }
 
 /// Returns the certificate's bytes if they show that the program is safe.
-fn proved(alloc: Global, program: &Program, hook: Hook, bytes: Vec<u8>) -> Result<Vec<u8>, Refusal>
+fn proved(
+    alloc: Global,
+    program: &Program,
+    hook: Hook,
+    bytes: Vec<u8>,
+    work: &mut Work,
+) -> Result<Vec<u8>, Refusal>
     ensures covered { IfOk result (λ made. (b : ℕ) × Covered program.now hook made.items b) }
     ensures start { IfErr result (λ e. e.pc ≡ 0) }
 {
-    match certified_budget(alloc, program, hook, bytes.as_slice(), None) {
+    match certified_budget(alloc, program, hook, bytes.as_slice(), work) {
         Ok(_) => Ok(bytes),
         Err(fault) => Err(unmade(fault)),
     }
@@ -122,16 +133,35 @@ pub fn certificate_within(
     ensures certificate { IfOk result (λ bytes. IsCertificate accepted.now bytes.items) }
     ensures refused { IfErr result (IsUncertified accepted.now.code limit) }
 {
+    limit.known();
+    let mut work = Work::within(u64::MAX);
+    certificate_counted(alloc, accepted, limit, &mut work)
+}
+
+/// Like `certificate_within`, but `work` has a limit of work, and counts each unit before it is done: of the
+/// exploration as `verify_counted` does, and of making and checking the certificate as `check_counted` does. What was
+/// counted before stays. The states that are examined and the comparisons are together at most the units that are
+/// allowed.
+pub fn certificate_counted(
+    alloc: Global,
+    accepted: &Accepted,
+    limit: StateLimit,
+    work: &mut Work,
+) -> Result<Vec<u8>, Refusal>
+    ensures certificate { IfOk result (λ bytes. IsCertificate accepted.now bytes.items) }
+    ensures refused { IfErr result
+        (IsUncertifiedAfter accepted.now.code limit work.old work.new) }
+{
     let program = accepted.program();
     let hook = accepted.hook();
     program.whole();
     standing_law();
-    let finished = explore_within(alloc, program, limit)?;
-    match entries_of(alloc, program, &finished) {
+    let finished = explore_counted(alloc, program, limit, work)?;
+    match entries_of(alloc, program, &finished, work) {
         Err(stop) => Err(unfound(stop)),
         Ok(entries) => match written(alloc, program, hook, entries) {
             Err(fault) => Err(unwritten(fault)),
-            Ok(bytes) => proved(alloc, program, hook, bytes),
+            Ok(bytes) => proved(alloc, program, hook, bytes, work),
         },
     }
 }

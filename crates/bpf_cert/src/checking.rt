@@ -1,13 +1,14 @@
 //! Checks certificates: admits a program that was verified elsewhere.
 
-ghost use Rattle.std.specs.Prelude.{◌≡◌, ◌≤◌, ◌^◌, ◌++◌, [], ◌∷◌, ℕ, ℤ, Some, IfOk, IfErr, IfSome, OnOk, length, map, drop};
+ghost use Rattle.std.specs.Prelude.{◌≡◌, ◌≤◌, ◌+◌, ◌^◌, ◌++◌, [], ◌∷◌, ℕ, ℤ, Some, IfOk, IfErr, IfSome, OnOk, length, map, drop};
 ghost use Rattle.std.specs.List.{All};
 ghost use Rattle.bpf_insn.specs.declared.insn.Insn.TheVariants.{CallLocal};
 ghost use Rattle.bpf_decode.specs.Program.{Begins};
 ghost use Rattle.bpf_model.specs.Run.{Safe};
+ghost use Rattle.bpf_prune.specs.Spending.{HasPassed};
 ghost use Rattle.bpf_absstate.specs.WellFormed.{IsView};
 ghost use Rattle.bpf_cert_format.specs.Fits.{FitsEntry};
-ghost use Rattle.bpf_cert.specs.Limits.{IsStop, Within};
+ghost use Rattle.bpf_cert.specs.Limits.{IsStop, Within, HasPassedLimit};
 ghost use Rattle.bpf_cert.specs.Steps.{Tells};
 ghost use Rattle.bpf_cert.specs.States.{claim_of};
 ghost use Rattle.bpf_cert.specs.Certified.{IsFor, FollowsCall, AllFollow, StandsWell, Shows, Finds};
@@ -17,12 +18,13 @@ use crate::claims::Claims;
 use crate::coverage::{begins, covered_budget};
 use crate::fault::{CertFault, unread};
 use crate::laws::covered_law;
-use crate::limit::{Stop, WithinFault};
+use crate::limit::{Meter, Stop, Unlimited, WithinFault};
 use crate::source::Source;
 use bpf_cert_format::{Certificate, Entry, Frame, Kind, Leaf, read};
 use bpf_decode::{Program, encode, spelling_law};
 use bpf_insn::Insn;
 use bpf_machine::Accepted;
+use bpf_prune::Work;
 use bpf_regions::Hook;
 use std::alloc::{AllocError, Global};
 
@@ -125,6 +127,13 @@ fn all_stand(alloc: Global, program: &Program, entries: &[Leaf]) -> Result<bool,
     Ok(true)
 }
 
+/// The units of work that reading an entry counts: one for each part of its state, and for each label.
+fn reading_of(entry: &Entry) -> u64 {
+    let frames = entry.frames().len() as u64;
+    let rooms = entry.rooms().len() as u64;
+    frames.saturating_mul(74).saturating_add(rooms)
+}
+
 /// Adds the claim of an entry. If the entry isn't held as a value and claims already take much memory, the claim is
 /// rebuilt on each use.
 fn add_claim(
@@ -135,8 +144,7 @@ fn add_claim(
     claims: &mut Claims,
 ) -> Result<(), AllocError>
     requires fits { FitsEntry maps leaf.now }
-    ensures is { OnOk result (claims.new.list ≡ claims.old.list ++ claim_of leaf.now ∷ []) }
-    ensures limit { claims.new.most ≡ claims.old.most }
+    ensures is { OnOk result (claims.new ≡ claims.old ++ claim_of leaf.now ∷ []) }
     ensures whole { OnOk result (IsView (claim_of leaf.now).state) }
 {
     match leaf.kind() {
@@ -155,29 +163,26 @@ fn add_claim(
                 return Ok(());
             }
             let spelled = spelled.clone()?;
-            claims.push_unread(spelled, claim.state.pc(), claim.budget)?;
+            claims.push_unread(spelled, &claim, reading_of(&entry))?;
             return Ok(());
         }
     }
 }
 
-/// The claims of entries, and the most work over them. They may take about `room` bytes of memory, besides entries held
-/// as values.
+/// The claims of entries. They may take about `room` bytes of memory, besides entries held as values.
 fn claims_of(
     alloc: Global,
     program: &Program,
     entries: &[Leaf],
     room: usize,
-    most: Option<u64>,
 ) -> Result<Claims, AllocError>
     requires fit { All (FitsEntry (length program.now.shapes)) entries.now }
-    ensures is { IfOk result (λ claims. claims.list ≡ map claim_of entries.now) }
-    ensures limit { IfOk result (λ claims. claims.most ≡ most) }
-    ensures whole { IfOk result (λ claims. All (λ e. IsView e.state) claims.list) }
+    ensures is { IfOk result (λ claims. claims ≡ map claim_of entries.now) }
+    ensures whole { IfOk result (λ claims. All (λ e. IsView e.state) claims) }
 {
     let maps = program.shapes().len();
     let mut source = Source::new(alloc, room)?;
-    let mut claims = Claims::new(alloc, program.len(), most)?;
+    let mut claims = Claims::new(alloc, program.len())?;
     for leaf in entries {
         add_claim(alloc, maps, &mut source, leaf, &mut claims)?;
     }
@@ -194,28 +199,29 @@ fn small(budget: Option<u32>) -> Option<u32>
     }
 }
 
-/// The budget within which entries show that a program ends, if they do. No more work than `most` is done over them.
-fn shown_budget(
+/// The budget within which entries show that a program ends, if they do.
+fn shown_budget<M: Meter>(
     alloc: Global,
     program: &Program,
     entries: &[Leaf],
     room: usize,
-    most: Option<u64>,
+    work: &mut M,
 ) -> Result<Option<u32>, Stop>
     requires fit { All (FitsEntry (length program.now.shapes)) entries.now }
     ensures is { IfOk result (λ o. Finds o (Shows program.now entries.now)) }
     ensures safe { IfOk result (λ o. IfSome o (Safe program.now.slots program.now.shapes)) }
-    ensures stop { IfErr result (IsStop most) }
+    ensures limit { M.limit work.new ≡ M.limit work.old }
+    ensures stop { IfErr result (IsStop (M.has_passed work.new)) }
 {
     let stand = all_stand(alloc, program, entries)?;
     if !stand {
         return Ok(None);
     }
-    let claims = claims_of(alloc, program, entries, room, most)?;
+    let claims = claims_of(alloc, program, entries, room)?;
     program.whole();
     program.shapes().whole();
     covered_law();
-    let budget = covered_budget(alloc, program, &claims)?;
+    let budget = covered_budget(program, &claims, work)?;
     Ok(small(budget))
 }
 
@@ -229,20 +235,22 @@ fn accept(alloc: Global, program: Program, hook: Hook, budget: u32) -> Result<Ac
     Accepted::new(alloc, program, hook, budget)
 }
 
-/// The budget that the bytes show for a program and a hook, or the refusal that `check_within` gives.
-pub(crate) fn certified_budget(
+/// The budget that the bytes show for a program and a hook, or the refusal of a check.
+pub(crate) fn certified_budget<M: Meter>(
     alloc: Global,
     program: &Program,
     hook: Hook,
     bytes: &[u8],
-    most: Option<u64>,
+    work: &mut M,
 ) -> Result<u32, WithinFault>
     ensures ok { IfOk result (Covered program.now hook bytes.now) }
     ensures safe { IfOk result (Safe program.now.slots program.now.shapes) }
     ensures small { IfOk result (λ b. b ≤ 2 ^ 22) }
     ensures only { (b : ℕ) → Covered program.now hook bytes.now b →
-        Within most (λ r. Answers r b) result }
-    ensures err { Within most (λ r. IfErr r (Refuses program.now hook bytes.now)) result }
+        Within (M.has_passed work.new) (λ r. Answers r b) result }
+    ensures err { Within (M.has_passed work.new)
+        (λ r. IfErr r (Refuses program.now hook bytes.now)) result }
+    ensures limit { M.limit work.new ≡ M.limit work.old }
 {
     match read(alloc, program.shapes(), bytes) {
         Err(fault) => Err(WithinFault::Refused(unread(fault))),
@@ -251,12 +259,32 @@ pub(crate) fn certified_budget(
                 return Err(WithinFault::Refused(CertFault::Other));
             }
             let room = bytes.len().saturating_mul(ROOM);
-            match shown_budget(alloc, program, certificate.entries(), room, most)? {
+            match shown_budget(alloc, program, certificate.entries(), room, work)? {
                 None => Err(WithinFault::Refused(CertFault::NotCovered)),
                 Some(budget) => Ok(budget),
             }
         }
     }
+}
+
+/// Admits the program if the bytes show its safety, with work that is counted by any meter.
+fn admitted<M: Meter>(
+    alloc: Global,
+    program: Program,
+    hook: Hook,
+    bytes: &[u8],
+    work: &mut M,
+) -> Result<Accepted, WithinFault>
+    ensures ok { IfOk result (IsAdmitted program hook bytes.now) }
+    ensures only { (b : ℕ) → Covered program hook bytes.now b →
+        Within (M.has_passed work.new) (λ r. Admits r b) result }
+    ensures err { Within (M.has_passed work.new)
+        (λ r. IfErr r (Refuses program hook bytes.now)) result }
+    ensures limit { M.limit work.new ≡ M.limit work.old }
+{
+    let budget = certified_budget(alloc, &program, hook, bytes, work)?;
+    let accepted = accept(alloc, program, hook, budget)?;
+    Ok(accepted)
 }
 
 /// Admits the program if the bytes are a certificate which shows within how many instructions each of its runs ends.
@@ -276,7 +304,8 @@ pub fn check(
     // Which refusal applies.
     ensures err { IfErr result (Refuses program hook bytes.now) }
 {
-    match check_within(alloc, program, hook, bytes, None) {
+    let mut work = Unlimited;
+    match admitted(alloc, program, hook, bytes, &mut work) {
         Ok(accepted) => return Ok(accepted),
         Err(fault) => match fault {
             WithinFault::Refused(fault) => return Err(fault),
@@ -285,10 +314,8 @@ pub fn check(
     }
 }
 
-/// Like `check`, but does no more work than `most`: a certificate that needs more is refused with 36. The work is how
-/// many states are examined, each at one instruction, and how many comparisons of a state with an entry's are made.
-///
-/// Besides that work, whose amount no clause states, the bytes are read, and each entry is compared with the start.
+/// Like `check`, but does no more work than `most`, if there is such a limit: a certificate that needs more is refused
+/// with 36. Work is counted as for `check_counted`.
 pub fn check_within(
     alloc: Global,
     program: Program,
@@ -298,13 +325,49 @@ pub fn check_within(
 ) -> Result<Accepted, WithinFault>
     // The admitted program is the given one, with a budget that is shown.
     ensures ok { IfOk result (IsAdmitted program hook bytes.now) }
-    // A program whose budget is shown is admitted with it, unless memory is lacking or there is a limit.
+    // A program whose budget is shown is admitted with it, unless memory is lacking or the work has passed the limit.
     ensures only { (b : ℕ) → Covered program hook bytes.now b →
-        Within most (λ r. Admits r b) result }
-    // Which refusal applies: one of `check`, or 36 if there is a limit.
-    ensures err { Within most (λ r. IfErr r (Refuses program hook bytes.now)) result }
+        Within (HasPassedLimit most) (λ r. Admits r b) result }
+    // Which refusal applies: one of `check`, or 36 if the work has passed the limit.
+    ensures err { Within (HasPassedLimit most)
+        (λ r. IfErr r (Refuses program hook bytes.now)) result }
 {
-    let budget = certified_budget(alloc, &program, hook, bytes, most)?;
-    let accepted = accept(alloc, program, hook, budget)?;
-    Ok(accepted)
+    match most {
+        None => match check(alloc, program, hook, bytes) {
+            Ok(accepted) => return Ok(accepted),
+            Err(fault) => return Err(WithinFault::Refused(fault)),
+        },
+        Some(most) => {
+            let mut work = Work::within(most);
+            let checked = check_counted(alloc, program, hook, bytes, &mut work);
+            return checked;
+        }
+    }
+}
+
+/// Like `check`, but `work` has a limit of work, as for `bpf_verifier::verify_counted`, and counts each unit before it is
+/// done: each part of a state that is examined, and of one that is compared with a claim. What was counted before stays.
+/// The states that are examined and the comparisons are together at most the units that are allowed. Refused with 36
+/// only if the work has passed the limit.
+///
+/// Besides that work the bytes are read, and each entry is compared with the start, in time in proportion to the bytes.
+pub fn check_counted(
+    alloc: Global,
+    program: Program,
+    hook: Hook,
+    bytes: &[u8],
+    work: &mut Work,
+) -> Result<Accepted, WithinFault>
+    ensures ok { IfOk result (IsAdmitted program hook bytes.now) }
+    ensures only { (b : ℕ) → Covered program hook bytes.now b →
+        Within (HasPassed work.new) (λ r. Admits r b) result }
+    ensures err { Within (HasPassed work.new)
+        (λ r. IfErr r (Refuses program hook bytes.now)) result }
+    ensures most { work.new.most ≡ work.old.most }
+    ensures allowed { work.new.units ≤ work.old.most }
+    ensures together { work.new.examined + work.new.compared ≤ work.old.most }
+{
+    let checked = admitted(alloc, program, hook, bytes, work);
+    work.known();
+    checked
 }

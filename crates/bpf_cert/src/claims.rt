@@ -9,7 +9,7 @@ ghost use Rattle.bpf_cert.specs.Steps.{Tells};
 
 use crate::claim::Claim;
 use crate::held::Held;
-use crate::limit::Stop;
+use crate::limit::{Meter, Stop};
 use bpf_absstate::{AbsState, Difference};
 use bpf_cert_format::Unread;
 use std::alloc::{AllocError, Global};
@@ -31,48 +31,23 @@ struct Row {
     served: Cell<usize>,
 }
 
-/// What is noted while claims are searched.
-#[derive(Drop)]
-struct Notes {
-    /// Where a state was last found not included in a claim.
-    recent: Cell<Difference>,
-    /// How much work was done.
-    work: Cell<u64>,
-    /// The most work that may be done.
-    most: Option<u64>,
-}
-
-impl Notes {
-    /// Counts one more piece of work, before it is done. Refused if it is above the limit.
-    fn spend(&self) -> Result<(), Stop>
-        ensures stop { IfErr result (IsStop self.now.most) }
-    {
-        let work = self.work.get();
-        match self.most {
-            Some(most) if most <= work => return Err(Stop::TooMuchWork),
-            _ => {
-                self.work.set(work.saturating_add(1));
-                return Ok(());
-            }
-        }
-    }
-}
-
-/// Claims in the order of insertion, with a limit of the work over them: the states that are examined, and the
-/// comparisons of a state with a claim. Contracts see the list and the limit.
+/// Claims in the order of insertion. Contracts see the list.
 #[derive(Drop)]
 pub struct Claims {
+    alloc: Global,
     list: Vec<Held>,
     rows: Vec<Row>,
-    notes: Notes,
+    /// Where a state was last found not included in a claim.
+    recent: Cell<Difference>,
 }
 
 impl Model for Claims {
-    ghost use Rattle.bpf_cert.specs.Limits.{Limited};
+    ghost use Rattle.std.specs.Prelude.{List};
+    ghost use Rattle.bpf_cert.specs.declared.claim.Claim.{Claim};
 
-    ghost Value = { Limited };
+    ghost Value = { List Claim };
 
-    ghost view = { λ a. record { list = a.list.items; most = a.notes.most } };
+    ghost view = { λ a. a.list.items };
 }
 
 /// How many of these precede the first claim with a budget above what is left, if budgets don't fall; otherwise any
@@ -95,19 +70,19 @@ fn count_within(spots: &[Spot], left: u32) -> usize
 
 /// Whether some claim includes a state, with a budget of at most what is left. Examines all claims before it returns
 /// false.
-fn some_includes(
-    alloc: Global,
+fn some_includes<M: Meter>(
     list: &[Held],
     state: &AbsState,
     left: u32,
-    notes: &Notes,
+    recent: &Cell<Difference>,
+    work: &mut M,
 ) -> Result<bool, Stop>
     ensures is { IfOk result (λ told. Tells told (IsIncluded list.now state.now left)) }
-    ensures stop { IfErr result (IsStop notes.now.most) }
+    ensures limit { M.limit work.new ≡ M.limit work.old }
+    ensures stop { IfErr result (IsStop (M.has_passed work.new)) }
 {
     for held in list {
-        notes.spend()?;
-        let told = held.serves(alloc, state, left, &notes.recent)?;
+        let told = held.serves(state, left, recent, work)?;
         if told {
             return Ok(true);
         }
@@ -116,9 +91,9 @@ fn some_includes(
 }
 
 impl Claims {
-    /// An empty list, for that many slots, and the most work over its claims.
-    pub fn new(alloc: Global, slots: usize, most: Option<u64>) -> Result<Claims, AllocError>
-        ensures is { IfOk result (λ claims. claims ≡ record { list = []; most = most }) }
+    /// An empty list, for that many slots.
+    pub fn new(alloc: Global, slots: usize) -> Result<Claims, AllocError>
+        ensures is { IfOk result (λ claims. claims ≡ []) }
     {
         let mut rows = Vec::with_capacity(alloc, slots)?;
         for _slot in 0..slots {
@@ -128,44 +103,39 @@ impl Claims {
             })?;
         }
         Ok(Claims {
+            alloc,
             list: Vec::new(alloc),
             rows,
-            notes: Notes {
-                recent: Cell::new(Difference::Apart),
-                work: Cell::new(0),
-                most,
-            },
+            recent: Cell::new(Difference::Apart),
         })
     }
 
-    /// Counts a state that is examined. Refused if that is above the limit of work.
-    pub(crate) fn spend(&self) -> Result<(), Stop>
-        ensures stop { IfErr result (IsStop self.now.most) }
-    {
-        self.notes.spend()
+    /// The allocator of the list.
+    pub(crate) fn alloc(&self) -> Global {
+        self.alloc
     }
 
     /// The number of claims.
     pub fn len(&self) -> usize
-        ensures is { result ≡ length self.now.list }
+        ensures is { result ≡ length self.now }
     {
         self.list.len()
     }
 
     /// True only if there are no claims.
     pub fn is_empty(&self) -> bool
-        ensures is { IsTrue result → self.now.list ≡ [] }
+        ensures is { IsTrue result → self.now ≡ [] }
     {
         self.list.is_empty()
     }
 
     /// A copy of the claim at an index.
-    pub fn claim(&self, alloc: Global, place: usize) -> Result<Claim, AllocError>
-        requires { place < length self.now.list }
-        ensures is { IfOk result (λ claim. slice_get self.now.list place ≡ Some claim) }
+    pub fn claim(&self, place: usize) -> Result<Claim, AllocError>
+        requires { place < length self.now }
+        ensures is { IfOk result (λ claim. slice_get self.now place ≡ Some claim) }
     {
         let held = &self.list[place];
-        let claim = held.claim(alloc)?;
+        let claim = held.claim()?;
         Ok(claim)
     }
 
@@ -182,58 +152,63 @@ impl Claims {
 
     /// Adds a claim.
     pub fn push(&mut self, claim: Claim) -> Result<(), AllocError>
-        ensures is { OnOk result (self.new.list ≡ self.old.list ++ claim ∷ []) }
-        ensures limit { self.new.most ≡ self.old.most }
+        ensures is { OnOk result (self.new ≡ self.old ++ claim ∷ []) }
     {
         self.note(claim.state.pc(), claim.budget)?;
         self.list.push(Held::built(claim))?;
         Ok(())
     }
 
-    /// Adds the claim of an entry that is read on each use. The given slot and budget only say where to look first.
+    /// Adds the claim of an entry that is read on each use, and the units of work that this counts. The given claim's
+    /// slot and budget only say where to look first.
     pub(crate) fn push_unread(
         &mut self,
         unread: Unread,
-        pc: usize,
-        budget: u32,
+        claim: &Claim,
+        units: u64,
     ) -> Result<(), AllocError>
-        ensures is { OnOk result
-            (self.new.list ≡ self.old.list ++ claim_of (entry_from unread) ∷ []) }
-        ensures limit { self.new.most ≡ self.old.most }
+        ensures is { OnOk result (self.new ≡ self.old ++ claim_of (entry_from unread) ∷ []) }
     {
-        self.note(pc, budget)?;
-        self.list.push(Held::unread(unread))?;
+        self.note(claim.state.pc(), claim.budget)?;
+        self.list.push(Held::unread(self.alloc, unread, units))?;
         Ok(())
     }
 
     /// True only if some claim includes a state with a budget of at most what is left. Only the claim at an index is
     /// examined.
-    fn serves(&self, alloc: Global, place: usize, state: &AbsState, left: u32) -> Result<bool, Stop>
-        ensures is { IfOk result (λ told. IsTrue told → IsIncluded self.now.list state.now left) }
-        ensures stop { IfErr result (IsStop self.now.most) }
+    fn serves<M: Meter>(
+        &self,
+        place: usize,
+        state: &AbsState,
+        left: u32,
+        work: &mut M,
+    ) -> Result<bool, Stop>
+        ensures is { IfOk result (λ told. IsTrue told → IsIncluded self.now state.now left) }
+        ensures limit { M.limit work.new ≡ M.limit work.old }
+        ensures stop { IfErr result (IsStop (M.has_passed work.new)) }
     {
         if place >= self.list.len() {
             return Ok(false);
         }
-        self.notes.spend()?;
         let held = &self.list[place];
-        let told = held.serves(alloc, state, left, &self.notes.recent)?;
+        let told = held.serves(state, left, &self.recent, work)?;
         Ok(told)
     }
 
     /// The index of one of these claims that does, searched from the last.
-    fn one_serving(
+    fn one_serving<M: Meter>(
         &self,
-        alloc: Global,
         spots: &[Spot],
         state: &AbsState,
         left: u32,
+        work: &mut M,
     ) -> Result<Option<usize>, Stop>
-        ensures is { IfOk result (λ place. OnSome place (IsIncluded self.now.list state.now left)) }
-        ensures stop { IfErr result (IsStop self.now.most) }
+        ensures is { IfOk result (λ place. OnSome place (IsIncluded self.now state.now left)) }
+        ensures limit { M.limit work.new ≡ M.limit work.old }
+        ensures stop { IfErr result (IsStop (M.has_passed work.new)) }
     {
         for spot in spots.iter().rev() {
-            if self.serves(alloc, spot.place, state, left)? {
+            if self.serves(spot.place, state, left, work)? {
                 return Ok(Some(spot.place));
             }
         }
@@ -242,27 +217,28 @@ impl Claims {
 
     /// True only if a claim includes a state, with a budget of at most what is left. Examines claims at its slot: the
     /// one that served last, and `most` of those whose budgets serve, from the greatest.
-    pub(crate) fn soon_include(
+    pub(crate) fn soon_include<M: Meter>(
         &self,
-        alloc: Global,
         state: &AbsState,
         left: u32,
         most: usize,
+        work: &mut M,
     ) -> Result<bool, Stop>
-        ensures is { IfOk result (λ told. IsTrue told → IsIncluded self.now.list state.now left) }
-        ensures stop { IfErr result (IsStop self.now.most) }
+        ensures is { IfOk result (λ told. IsTrue told → IsIncluded self.now state.now left) }
+        ensures limit { M.limit work.new ≡ M.limit work.old }
+        ensures stop { IfErr result (IsStop (M.has_passed work.new)) }
     {
         let pc = state.pc();
         if pc >= self.rows.len() {
             return Ok(false);
         }
         let row = &self.rows[pc];
-        if self.serves(alloc, row.served.get(), state, left)? {
+        if self.serves(row.served.get(), state, left, work)? {
             return Ok(true);
         }
         let end = count_within(row.spots.as_slice(), left);
         let first = end.saturating_sub(most);
-        match self.one_serving(alloc, &row.spots[first..end], state, left)? {
+        match self.one_serving(&row.spots[first..end], state, left, work)? {
             None => Ok(false),
             Some(place) => {
                 row.served.set(place);
@@ -274,14 +250,15 @@ impl Claims {
     /// Whether some claim includes a state, with a budget of at most what is left. The claim that served last at the
     /// slot is examined first, then, if claims were added by rising budgets, those with the greatest budgets that can
     /// serve. Before it returns false, it examines all.
-    pub fn include(&self, alloc: Global, state: &AbsState, left: u32) -> Result<bool, Stop>
-        ensures is { IfOk result (λ told. Tells told (IsIncluded self.now.list state.now left)) }
-        ensures stop { IfErr result (IsStop self.now.most) }
+    pub fn include<M: Meter>(&self, state: &AbsState, left: u32, work: &mut M) -> Result<bool, Stop>
+        ensures is { IfOk result (λ told. Tells told (IsIncluded self.now state.now left)) }
+        ensures limit { M.limit work.new ≡ M.limit work.old }
+        ensures stop { IfErr result (IsStop (M.has_passed work.new)) }
     {
-        if self.soon_include(alloc, state, left, usize::MAX)? {
+        if self.soon_include(state, left, usize::MAX, work)? {
             return Ok(true);
         }
-        let told = some_includes(alloc, self.list.as_slice(), state, left, &self.notes)?;
+        let told = some_includes(self.list.as_slice(), state, left, &self.recent, work)?;
         Ok(told)
     }
 }

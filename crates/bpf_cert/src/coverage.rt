@@ -1,6 +1,6 @@
 //! Whether claims show that a program is safe.
 
-ghost use Rattle.std.specs.Prelude.{◌≡◌, ◌+◌, ◌<◌, ◌≤◌, ℕ, IfOk, IfErr, IsTrue, MatchOption, Ok, Option, false, length, min};
+ghost use Rattle.std.specs.Prelude.{◌≡◌, ◌+◌, ◌<◌, ◌≤◌, ℕ, IfOk, IfErr, IsTrue, MatchOption, Ok, false, length, min};
 ghost use Rattle.std.specs.List.{All};
 ghost use Rattle.std.specs.Option.{option_map_or};
 ghost use Rattle.bpf_absstate.specs.View.{entry_view};
@@ -17,12 +17,12 @@ ghost use Rattle.bpf_cert.specs.Steps.{Tells, Arrives, Goes, SecondIsTarget};
 use crate::claim::Claim;
 use crate::claims::Claims;
 use crate::held::includes;
-use crate::limit::Stop;
+use crate::limit::{Meter, Stop};
 use bpf_absstate::AbsState;
 use bpf_checks::examine_moved;
 use bpf_decode::Program;
 use bpf_rules::{Fault, Ways};
-use std::alloc::{AllocError, Global};
+use std::alloc::AllocError;
 
 /// The result of one step.
 #[derive(Drop)]
@@ -44,49 +44,51 @@ pub(crate) fn begins(program: &Program, slot: usize) -> bool
 }
 
 /// A successor.
-fn arrive(
-    alloc: Global,
+fn arrive<M: Meter>(
     program: &Program,
     claims: &Claims,
     state: AbsState,
     left: u32,
+    work: &mut M,
 ) -> Result<Step, Stop>
     ensures is { IfOk result
-        (Goes program.now claims.now.list left (Arrives program.now claims.now.list left state)) }
-    ensures stop { IfErr result (IsStop claims.now.most) }
+        (Goes program.now claims.now left (Arrives program.now claims.now left state)) }
+    ensures limit { M.limit work.new ≡ M.limit work.old }
+    ensures stop { IfErr result (IsStop (M.has_passed work.new)) }
 {
     if program.is_target(state.pc()) {
-        let told = claims.include(alloc, &state, left)?;
+        let told = claims.include(&state, left, work)?;
         return Ok(Step::Decided(told));
     }
     Ok(Step::Onward(state))
 }
 
 /// The successors of a state.
-fn follow(
-    alloc: Global,
+fn follow<M: Meter>(
     program: &Program,
     claims: &Claims,
     ways: Ways,
     left: u32,
+    work: &mut M,
 ) -> Result<Step, Stop>
     requires target { SecondIsTarget program.now ways }
     ensures is { IfOk result
-        (Goes program.now claims.now.list left (EachWay ways (Arrives program.now claims.now.list left))) }
-    ensures stop { IfErr result (IsStop claims.now.most) }
+        (Goes program.now claims.now left (EachWay ways (Arrives program.now claims.now left))) }
+    ensures limit { M.limit work.new ≡ M.limit work.old }
+    ensures stop { IfErr result (IsStop (M.has_passed work.new)) }
 {
     match ways {
         Ways::Nowhere => Ok(Step::Decided(true)),
         Ways::One(next) => {
-            let step = arrive(alloc, program, claims, next, left)?;
+            let step = arrive(program, claims, next, left, work)?;
             return Ok(step);
         }
         Ways::Two(next, target) => {
-            let told = claims.include(alloc, &target, left)?;
+            let told = claims.include(&target, left, work)?;
             if !told {
                 return Ok(Step::Decided(false));
             }
-            let step = arrive(alloc, program, claims, next, left)?;
+            let step = arrive(program, claims, next, left, work)?;
             return Ok(step);
         }
     }
@@ -95,7 +97,7 @@ fn follow(
 /// On a fault the state leads nowhere; lack of memory is passed on.
 fn refused(fault: Fault) -> Result<Step, Stop>
     ensures is { IfOk result (λ told. (told ≡ Decided false) × (fault ≡ NoMemory → ⊥)) }
-    ensures stop { (most : Option ℕ) → IfErr result (IsStop most) }
+    ensures stop { IfErr result (λ e. e ≡ Stop.NoMemory) }
 {
     match fault {
         Fault::NoMemory => Err(Stop::NoMemory),
@@ -104,25 +106,25 @@ fn refused(fault: Fault) -> Result<Step, Stop>
 }
 
 /// Examines the instruction at a state, which is consumed, with at most `left` instructions after it.
-fn advance(
-    alloc: Global,
+fn advance<M: Meter>(
     program: &Program,
     claims: &Claims,
     state: AbsState,
     left: u32,
+    work: &mut M,
 ) -> Result<Step, Stop>
     ensures is { IfOk result
-        (Goes program.now claims.now.list left
-        (LeadsWithin program.now claims.now.list (left + 1) state)) }
-    ensures stop { IfErr result (IsStop claims.now.most) }
+        (Goes program.now claims.now left (LeadsWithin program.now claims.now (left + 1) state)) }
+    ensures limit { M.limit work.new ≡ M.limit work.old }
+    ensures stop { IfErr result (IsStop (M.has_passed work.new)) }
 {
     program.whole();
     if !begins(program, state.pc()) {
         return Ok(Step::Decided(false));
     }
-    match examine_moved(alloc, program, state) {
+    match examine_moved(claims.alloc(), program, state) {
         Ok(ways) => {
-            let step = follow(alloc, program, claims, ways, left)?;
+            let step = follow(program, claims, ways, left, work)?;
             return Ok(step);
         }
         Err(fault) => return refused(fault),
@@ -130,22 +132,23 @@ fn advance(
 }
 
 /// Whether from a claim, which is consumed, every path leads within its budget to EXIT or to a claim.
-pub(crate) fn leads(
-    alloc: Global,
+pub(crate) fn leads<M: Meter>(
     program: &Program,
     claims: &Claims,
     claim: Claim,
+    work: &mut M,
 ) -> Result<bool, Stop>
     ensures is { IfOk result
-        (λ told. Tells told (LeadsWithin program.now claims.now.list claim.budget claim.state)) }
-    ensures stop { IfErr result (IsStop claims.now.most) }
+        (λ told. Tells told (LeadsWithin program.now claims.now claim.budget claim.state)) }
+    ensures limit { M.limit work.new ≡ M.limit work.old }
+    ensures stop { IfErr result (IsStop (M.has_passed work.new)) }
 {
     let mut state = claim.state;
     let mut left = claim.budget;
     while left > 0 {
-        claims.spend()?;
+        work.examines(&state)?;
         left -= 1;
-        match advance(alloc, program, claims, state, left)? {
+        match advance(program, claims, state, left, work)? {
             Step::Decided(told) => return Ok(told),
             Step::Onward(next) => state = next,
         }
@@ -154,13 +157,14 @@ pub(crate) fn leads(
 }
 
 /// Whether every claim does.
-fn are_kept(alloc: Global, program: &Program, claims: &Claims) -> Result<bool, Stop>
-    ensures is { IfOk result (λ told. Tells told (AreKept program.now claims.now.list)) }
-    ensures stop { IfErr result (IsStop claims.now.most) }
+fn are_kept<M: Meter>(program: &Program, claims: &Claims, work: &mut M) -> Result<bool, Stop>
+    ensures is { IfOk result (λ told. Tells told (AreKept program.now claims.now)) }
+    ensures limit { M.limit work.new ≡ M.limit work.old }
+    ensures stop { IfErr result (IsStop (M.has_passed work.new)) }
 {
     for place in 0..claims.len() {
-        let claim = claims.claim(alloc, place)?;
-        if !leads(alloc, program, claims, claim)? {
+        let claim = claims.claim(place)?;
+        if !leads(program, claims, claim, work)? {
             return Ok(false);
         }
     }
@@ -178,15 +182,15 @@ fn lesser(best: Option<u32>, budget: u32) -> u32
 }
 
 /// The least budget of the claims that include the start.
-fn start_budget(alloc: Global, claims: &Claims, start: &AbsState) -> Result<Option<u32>, AllocError>
+fn start_budget(claims: &Claims, start: &AbsState) -> Result<Option<u32>, AllocError>
     requires start { start.now ≡ entry_view }
     ensures is { IfOk result
-        (λ o. MatchOption o (All (λ e. Includes e entry_view → ⊥) claims.now.list)
-        (BeginsWithin claims.now.list)) }
+        (λ o. MatchOption o (All (λ e. Includes e entry_view → ⊥) claims.now)
+        (BeginsWithin claims.now)) }
 {
     let mut best = None;
     for place in 0..claims.len() {
-        let claim = claims.claim(alloc, place)?;
+        let claim = claims.claim(place)?;
         if includes(&claim, start) {
             best = Some(lesser(best, claim.budget));
         }
@@ -195,20 +199,21 @@ fn start_budget(alloc: Global, claims: &Claims, start: &AbsState) -> Result<Opti
 }
 
 /// The budget within which claims show that a program ends, if they do.
-pub fn covered_budget(
-    alloc: Global,
+pub fn covered_budget<M: Meter>(
     program: &Program,
     claims: &Claims,
+    work: &mut M,
 ) -> Result<Option<u32>, Stop>
     ensures is { IfOk result
-        (λ o. MatchOption o ((b : ℕ) → AreCovered program.now claims.now.list b → ⊥)
-        (AreCovered program.now claims.now.list)) }
-    ensures stop { IfErr result (IsStop claims.now.most) }
+        (λ o. MatchOption o ((b : ℕ) → AreCovered program.now claims.now b → ⊥)
+        (AreCovered program.now claims.now)) }
+    ensures limit { M.limit work.new ≡ M.limit work.old }
+    ensures stop { IfErr result (IsStop (M.has_passed work.new)) }
 {
-    let start = AbsState::entry(alloc)?;
-    if !are_kept(alloc, program, claims)? {
+    let start = AbsState::entry(claims.alloc())?;
+    if !are_kept(program, claims, work)? {
         return Ok(None);
     }
-    let budget = start_budget(alloc, claims, &start)?;
+    let budget = start_budget(claims, &start)?;
     Ok(budget)
 }

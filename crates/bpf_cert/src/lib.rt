@@ -22,9 +22,10 @@ mod sifting;
 mod source;
 mod widening;
 
-pub use certifying::{certificate, certificate_within};
-pub use checking::{check, check_within};
+pub use bpf_prune::Work;
+pub use certifying::{certificate, certificate_counted, certificate_within};
+pub use checking::{check, check_counted, check_within};
 pub use claim::Claim;
 pub use claims::Claims;
 pub use fault::CertFault;
-pub use limit::WithinFault;
+pub use limit::{Meter, Unlimited, WithinFault};

@@ -1,13 +1,15 @@
-//! A limit on the work of a check: how many states it examines, and how many comparisons of a state with a claim it
-//! makes.
+//! The work of a check, counted or not, and why a check ends without a verdict.
 
-ghost use Rattle.std.specs.Prelude.{◌≡◌};
-ghost use Rattle.bpf_cert.specs.Limits.{number_within, stopped};
+ghost use Rattle.std.specs.Prelude.{◌≡◌, ◌≤◌, ℕ, Option, Some, None, IfErr};
+ghost use Rattle.bpf_prune.specs.Spending.{HasPassed};
+ghost use Rattle.bpf_cert.specs.Limits.{IsStop, number_within, stopped};
 ghost use Rattle.bpf_cert.specs.declared.limit.Stop.TheVariants as stop;
 ghost use Rattle.bpf_cert.specs.declared.limit.WithinFault.TheVariants.{Refused};
 ghost use Rattle.bpf_cert.specs.declared.fault.CertFault.TheVariants as fault;
 
 use crate::fault::CertFault;
+use bpf_absstate::AbsState;
+use bpf_prune::{TooMuchWork, Work};
 use std::alloc::{AllocError, AllocFailed};
 
 /// Why claims aren't examined to the end.
@@ -73,4 +75,97 @@ impl From<Stop> for WithinFault {
             Stop::TooMuchWork => WithinFault::TooMuchWork,
         }
     }
+}
+
+/// Counts the work of a check before it is done, and may refuse it.
+pub trait Meter {
+    /// The most units of work that it allows, if there is a limit.
+    ghost limit: { Self → Option ℕ };
+
+    /// What was done passes the limit with the piece that was refused.
+    ghost has_passed: { Self → Type 0 };
+
+    /// Counts a state that is examined.
+    fn examines(&mut self, state: &AbsState) -> Result<(), Stop>
+        ensures limit { limit self.new ≡ limit self.old }
+        ensures stop { IfErr result (IsStop (has_passed self.new)) };
+
+    /// Counts a comparison of a state with a claim.
+    fn compares(&mut self) -> Result<(), Stop>
+        ensures limit { limit self.new ≡ limit self.old }
+        ensures stop { IfErr result (IsStop (has_passed self.new)) };
+
+    /// Counts units.
+    fn spends(&mut self, units: u64) -> Result<(), Stop>
+        requires small { units ≤ 563 }
+        ensures limit { limit self.new ≡ limit self.old }
+        ensures stop { IfErr result (IsStop (has_passed self.new)) };
+}
+
+/// Counts nothing, and refuses nothing.
+#[derive(Clone, Copy, Debug)]
+pub struct Unlimited;
+
+impl Meter for Unlimited {
+    ghost limit = { λ _. None };
+
+    ghost has_passed = { λ _. ⊥ };
+
+    fn examines(&mut self, state: &AbsState) -> Result<(), Stop> {
+        let _state = state;
+        Ok(())
+    }
+
+    fn compares(&mut self) -> Result<(), Stop> {
+        Ok(())
+    }
+
+    fn spends(&mut self, units: u64) -> Result<(), Stop> {
+        let _units = units;
+        Ok(())
+    }
+}
+
+impl Meter for Work {
+    ghost limit = { λ w. Some w.most };
+
+    ghost has_passed = { λ w. HasPassed w };
+
+    fn examines(&mut self, state: &AbsState) -> Result<(), Stop> {
+        match self.examine(state) {
+            Ok(()) => Ok(()),
+            Err(TooMuchWork) => Err(Stop::TooMuchWork),
+        }
+    }
+
+    fn compares(&mut self) -> Result<(), Stop> {
+        match self.compare() {
+            Ok(()) => Ok(()),
+            Err(TooMuchWork) => Err(Stop::TooMuchWork),
+        }
+    }
+
+    fn spends(&mut self, units: u64) -> Result<(), Stop> {
+        match self.spend(units) {
+            Ok(()) => Ok(()),
+            Err(TooMuchWork) => Err(Stop::TooMuchWork),
+        }
+    }
+}
+
+/// How many units are counted at once.
+const PIECE: u64 = 563;
+
+/// Counts any number of units.
+pub(crate) fn spend_all<M: Meter>(work: &mut M, units: u64) -> Result<(), Stop>
+    ensures limit { M.limit work.new ≡ M.limit work.old }
+    ensures stop { IfErr result (IsStop (M.has_passed work.new)) }
+{
+    let mut left = units;
+    while left > 0 {
+        let piece = left.min(PIECE);
+        work.spends(piece)?;
+        left -= piece;
+    }
+    Ok(())
 }

@@ -11,7 +11,7 @@ use bpf_absstate::AbsState;
 use bpf_absval::{AbsSlot, AbsVal};
 use bpf_decode::Program;
 use bpf_insn::Reg;
-use bpf_prune::Entry;
+use bpf_prune::{Entry, Work};
 use std::alloc::{AllocError, Global};
 
 /// With how many claims of its slot a state is compared.
@@ -165,17 +165,17 @@ struct Trial<'a> {
 
 impl Trial<'_> {
     /// Whether the state still leads to claims within its budget.
-    fn passes(self, cut: Cut) -> Result<bool, Stop> {
+    fn passes(self, cut: Cut, work: &mut Work) -> Result<bool, Stop> {
         let claim = Claim {
             state: without(self.alloc, self.state, cut)?,
             budget: self.budget,
             is_open: true,
         };
-        leads(self.alloc, self.program, self.claims, claim)
+        leads(self.program, self.claims, claim, work)
     }
 
     /// Omits as much of one register as possible.
-    fn cut_register(self, cut: Cut, number: u8) -> Result<Cut, Stop>
+    fn cut_register(self, cut: Cut, number: u8, work: &mut Work) -> Result<Cut, Stop>
         requires { number < 10 }
     {
         let unset = Cut {
@@ -183,30 +183,30 @@ impl Trial<'_> {
             ..cut
         };
         let value = self.state.register(Reg::new(number));
-        if matches!(value, AbsVal::Unset) || self.passes(unset)? {
+        if matches!(value, AbsVal::Unset) || self.passes(unset, work)? {
             return Ok(unset);
         }
         let loose = Cut {
             loose: cut.loose | 1 << number,
             ..cut
         };
-        if loosened(value) != value && self.passes(loose)? {
+        if loosened(value) != value && self.passes(loose, work)? {
             return Ok(loose);
         }
         Ok(cut)
     }
 
     /// Omits as much of the registers as possible.
-    fn cut_registers(self, cut: Cut) -> Result<Cut, Stop> {
+    fn cut_registers(self, cut: Cut, work: &mut Work) -> Result<Cut, Stop> {
         let mut cut = cut;
         for number in 0..10 {
-            cut = self.cut_register(cut, number)?;
+            cut = self.cut_register(cut, number, work)?;
         }
         Ok(cut)
     }
 
     /// Omits a slot of the newest stack, if possible.
-    fn cut_slot(self, cut: Cut, index: u8) -> Result<Cut, Stop>
+    fn cut_slot(self, cut: Cut, index: u8, work: &mut Work) -> Result<Cut, Stop>
         requires { index < 64 }
     {
         let less = Cut {
@@ -214,48 +214,53 @@ impl Trial<'_> {
             ..cut
         };
         let slot = self.state.slot(self.state.depth() - 1, index as usize);
-        if matches!(slot, AbsSlot::Unset) || self.passes(less)? {
+        if matches!(slot, AbsSlot::Unset) || self.passes(less, work)? {
             return Ok(less);
         }
         Ok(cut)
     }
 
     /// Omits as many slots of the newest stack as possible.
-    fn cut_slots(self, cut: Cut) -> Result<Cut, Stop> {
+    fn cut_slots(self, cut: Cut, work: &mut Work) -> Result<Cut, Stop> {
         let mut cut = cut;
         for index in 0..64 {
-            cut = self.cut_slot(cut, index)?;
+            cut = self.cut_slot(cut, index, work)?;
         }
         Ok(cut)
     }
 
     /// What can be omitted. What was last omitted at its slot, if anything, is tried first.
-    fn cut(self, before: Cut) -> Result<Cut, Stop> {
-        if before != WHOLE && self.passes(before)? {
+    fn cut(self, before: Cut, work: &mut Work) -> Result<Cut, Stop> {
+        if before != WHOLE && self.passes(before, work)? {
             return Ok(before);
         }
         let short = Cut {
             length: true,
             ..WHOLE
         };
-        let cut = if self.passes(short)? { short } else { WHOLE };
-        let cut = self.cut_registers(cut)?;
-        self.cut_slots(cut)
+        let cut = if self.passes(short, work)? {
+            short
+        } else {
+            WHOLE
+        };
+        let cut = self.cut_registers(cut, work)?;
+        self.cut_slots(cut, work)
     }
 }
 
-/// Finished states as claims, each without what its checks don't need. A state that such a claim includes, with a
+/// Finished states as claims, each without what its checks don't need; the checks count as work. A state that such a claim includes, with a
 /// budget that serves, is left out.
 pub(crate) fn widened(
     alloc: Global,
     program: &Program,
     finished: &[Entry],
+    work: &mut Work,
 ) -> Result<Claims, Stop> {
-    let mut claims = Claims::new(alloc, program.len(), None)?;
+    let mut claims = Claims::new(alloc, program.len())?;
     let mut cuts = vec![in alloc; WHOLE; program.len()]?;
     for one in finished {
         let pc = one.state.pc();
-        if pc >= cuts.len() || claims.soon_include(alloc, &one.state, one.budget, NEWEST)? {
+        if pc >= cuts.len() || claims.soon_include(&one.state, one.budget, NEWEST, work)? {
             continue;
         }
         let trial = Trial {
@@ -265,7 +270,7 @@ pub(crate) fn widened(
             state: &one.state,
             budget: one.budget,
         };
-        cuts[pc] = trial.cut(cuts[pc])?;
+        cuts[pc] = trial.cut(cuts[pc], work)?;
         claims.push(Claim {
             state: without(alloc, &one.state, cuts[pc])?,
             budget: one.budget,

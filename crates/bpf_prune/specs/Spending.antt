@@ -4,7 +4,7 @@ use Rattle.bpf_absstate.specs.View.{View}
 use Rattle.bpf_prune.specs.declared.kept.Entry.{Entry}
 use Rattle.bpf_prune.specs.Covering.{newest_covering}
 
--- the units allowed and the units done; how many states were examined, and how many comparisons of a state with a kept
+-- the units allowed and the units done; how many states were examined, and how many comparisons of a state with another
 -- one were begun; and the units of the piece of work that was refused last, 0 if none was
 pub record Tally : Type 0 where
   pub most : ℕ

@@ -13,4 +13,4 @@ pub mod work;
 
 pub use finished::Finished;
 pub use kept::{Entry, Kept};
-pub use work::{TooMuchWork, Work};
+pub use work::{TooMuchWork, Work, parts_of};

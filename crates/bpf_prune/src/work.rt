@@ -2,7 +2,8 @@
 //!
 //! One unit is one part of a state that is looked at: a register, or of a call frame its return slot, one of the
 //! caller's R6 to R9, or a slot of its stack. A state that is examined counts all its parts. So does a comparison of a
-//! state with a kept one, if none of six parts decides it; before, it counts those.
+//! state with a kept one, if none of six parts decides it; before, it counts those. A comparison with a claim of a
+//! certificate counts two parts before all.
 
 ghost use Rattle.std.specs.Prelude.{◌≡◌, ◌+◌, ◌*◌, ◌≤◌, OnOk, OnErr};
 ghost use Rattle.bpf_prune.specs.Spending.{HasPassed, parts, unspent};
@@ -23,7 +24,7 @@ pub struct Work {
     units: u64,
     /// The states that were examined.
     examined: u64,
-    /// The comparisons of a state with a kept one.
+    /// The comparisons of a state with another one.
     compared: u64,
     /// The units of the piece that was refused last; 0 if none was.
     refused: u64,
@@ -47,7 +48,7 @@ impl Model for Work {
 }
 
 /// How many parts a state has, 80 to 563.
-pub(crate) fn parts_of(state: &AbsState) -> u64
+pub fn parts_of(state: &AbsState) -> u64
     ensures is { result ≡ parts state.now }
     ensures some { 80 ≤ result }
     ensures few { result ≤ 563 }
@@ -86,7 +87,7 @@ impl Work {
     }
 
     /// Counts units before they are done. Refused if that passes the limit.
-    pub(crate) fn spend(&mut self, units: u64) -> Result<(), TooMuchWork>
+    pub fn spend(&mut self, units: u64) -> Result<(), TooMuchWork>
         requires small { units ≤ 563 }
         ensures most { self.new.most ≡ self.old.most }
         ensures examined { self.new.examined ≡ self.old.examined }
@@ -119,9 +120,9 @@ impl Work {
         Ok(())
     }
 
-    /// Counts a comparison of a state with a kept one, and the part that is compared first. Refused if that passes the
+    /// Counts a comparison of a state with another one, and the part that is compared first. Refused if that passes the
     /// limit.
-    pub(crate) fn compare(&mut self) -> Result<(), TooMuchWork>
+    pub fn compare(&mut self) -> Result<(), TooMuchWork>
         ensures most { self.new.most ≡ self.old.most }
         ensures examined { self.new.examined ≡ self.old.examined }
         ensures compared { OnOk result (self.new.compared ≡ self.old.compared + 1) }

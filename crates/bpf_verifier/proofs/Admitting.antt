@@ -1,5 +1,5 @@
 -- From parts of a verdict to the verdict.
-use Rattle.std.proofs.Common.{◌≡◌, ◌≤◌, ◌^◌, ℕ, Result, Ok, Err, IfOk, IfErr, inl, inr, refl, sym, subst, arith}
+use Rattle.std.proofs.Common.{◌≡◌, ◌≤◌, ◌^◌, ℕ, None, Result, Ok, Err, IfOk, IfErr, inl, inr, refl, sym, subst, arith}
 use Rattle.bpf_decode.specs.Program.{Code, Begins}
 use Rattle.bpf_model.specs.Run.{Safe}
 use Rattle.bpf_absstate.specs.View.{entry_view}
@@ -9,7 +9,7 @@ use Rattle.bpf_prune.specs.Spending.{Tally, HasPassed, unspent}
 use Rattle.bpf_rules.specs.declared.fault.Fault.TheVariants.{NoMemory}
 use Rattle.bpf_rules.specs.declared.fault.Fault.{Fault}
 use Rattle.bpf_verifier.specs.Admission.{IsSafeBudget, IsRefusal, IsRefusalAfter, IsRefusalWithin}
-use Rattle.bpf_verifier.specs.Limits.{IsStateLimit}
+use Rattle.bpf_verifier.specs.Limits.{IsStateLimit, units_of}
 use Rattle.bpf_verifier.specs.Spent.{IsSpent, IsAmple, IsMemoryOrPassed}
 use Rattle.bpf_verifier.specs.Causes.{IsDue, ByMemory}
 use Rattle.bpf_verifier.specs.declared.limit.Limits.{Limits}
@@ -36,10 +36,10 @@ pub spends_none : (limit : ℕ) (w : Tally) → IsSpent limit w w
 spends_none limit w = record { few = omega arith; units = omega arith; most = refl }
 
 -- ample work is never passed
-never_passed : (limits : Limits) (w : Tally) → IsAmple limits → IsSpent limits.states (unspent limits.work) w → HasPassed w → ⊥
+never_passed : (limits : Limits) (w : Tally) → IsAmple limits → IsSpent limits.states (unspent (units_of limits.work)) w → HasPassed w → ⊥
 never_passed limits w ample spent passed = omega (arith, ample, spent.few, spent.units, spent.most, passed.passes, passed.small)
 
-by_memory : (limits : Limits) (w : Tally) (fault : Fault) → IsAmple limits → IsSpent limits.states (unspent limits.work) w → IsMemoryOrPassed fault w → fault ≡ NoMemory
+pub by_memory : (limits : Limits) (w : Tally) (fault : Fault) → IsAmple limits → IsSpent limits.states (unspent (units_of limits.work)) w → IsMemoryOrPassed fault w → fault ≡ NoMemory
 by_memory limits w fault ample spent (inl memory) = memory
 by_memory limits w fault ample spent (inr passed) = absurd (never_passed limits w ample spent passed)
 
@@ -60,10 +60,10 @@ pub explains : {E : Type 0} (program : Code) (limits : Limits) (r : Result Expla
 explains program limits (Ok x) ample h = exacts program limits x.verdict ample h
 explains program limits (Err e) ample h = h
 
-pub ample_most : (states : ℕ) → IsStateLimit states → IsAmple (record { states = states; work = 18446744073709551615 })
+pub ample_most : (states : ℕ) → IsStateLimit states → IsAmple (record { states = states; work = None })
 ample_most states limit = omega (arith, limit.0, limit.1)
 
-pub withins : {X : Type 0} (program : Code) (limits : Limits) (w : Tally) (r : Result X Refusal) → IsSpent limits.states (unspent limits.work) w → IfErr r (IsRefusalAfter program limits.states w) → IfErr r (IsDue program limits.states (unspent limits.work) w)
+pub withins : {X : Type 0} (program : Code) (limits : Limits) (w : Tally) (r : Result X Refusal) → IsSpent limits.states (unspent (units_of limits.work)) w → IfErr r (IsRefusalAfter program limits.states w) → IfErr r (IsDue program limits.states (unspent (units_of limits.work)) w)
     → IfErr r (IsRefusalWithin program limits)
 withins program limits w (Ok x) spent after due = after
 withins program limits w (Err e) spent after due = record { tally = w; spent = spent; after = after; due = due }
@@ -73,8 +73,8 @@ pub budgets : (program : Code) (limit : ℕ) (r : Result ℕ Refusal) → IfOk r
 budgets program limit (Ok budget) safe small walk = record { safe = safe; small = small; walk = walk }
 budgets program limit (Err e) safe small walk = safe
 
-pub refusal_within : (program : Code) (limits : Limits) (w : Tally) (e : Refusal) → PlainIsClear program → IsSpent limits.states (unspent limits.work) w → Begins program.slots e.pc
-    → (IsClear program entry_view limits.states → IsMemoryOrPassed e.fault w) → IsDue program limits.states (unspent limits.work) w e → IsRefusalWithin program limits e
+pub refusal_within : (program : Code) (limits : Limits) (w : Tally) (e : Refusal) → PlainIsClear program → IsSpent limits.states (unspent (units_of limits.work)) w → Begins program.slots e.pc
+    → (IsClear program entry_view limits.states → IsMemoryOrPassed e.fault w) → IsDue program limits.states (unspent (units_of limits.work)) w e → IsRefusalWithin program limits e
 refusal_within program limits w e law spent begins clear due = record {
   tally = w;
   spent = spent;
@@ -84,13 +84,13 @@ refusal_within program limits w e law spent begins clear due = record {
 
 pub starved_within : (program : Code) (limits : Limits) → Begins program.slots 0 → IsRefusalWithin program limits (record { fault = NoMemory; pc = 0 })
 starved_within program limits begins = record {
-  tally = unspent limits.work;
-  spent = spends_none limits.states (unspent limits.work);
-  after = starved_after program limits.states (unspent limits.work) begins;
+  tally = unspent (units_of limits.work);
+  spent = spends_none limits.states (unspent (units_of limits.work));
+  after = starved_after program limits.states (unspent (units_of limits.work)) begins;
   due = ByMemory refl;
 }
 
-pub refusals : (program : Code) (limits : Limits) (w : Tally) (r : Result ℕ Refusal) → PlainIsClear program → IsSpent limits.states (unspent limits.work) w → IfErr r (λ e. Begins program.slots e.pc)
-    → IfErr r (λ e. IsClear program entry_view limits.states → IsMemoryOrPassed e.fault w) → IfErr r (IsDue program limits.states (unspent limits.work) w) → IfErr r (IsRefusalWithin program limits)
+pub refusals : (program : Code) (limits : Limits) (w : Tally) (r : Result ℕ Refusal) → PlainIsClear program → IsSpent limits.states (unspent (units_of limits.work)) w → IfErr r (λ e. Begins program.slots e.pc)
+    → IfErr r (λ e. IsClear program entry_view limits.states → IsMemoryOrPassed e.fault w) → IfErr r (IsDue program limits.states (unspent (units_of limits.work)) w) → IfErr r (IsRefusalWithin program limits)
 refusals program limits w (Ok budget) law spent begins clear due = begins
 refusals program limits w (Err e) law spent begins clear due = refusal_within program limits w e law spent begins clear due

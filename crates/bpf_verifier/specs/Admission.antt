@@ -9,6 +9,7 @@ use Rattle.bpf_plain.specs.Walks.{IsPlain, HasWalk}
 use Rattle.bpf_rules.specs.declared.fault.Fault.TheVariants.{NoMemory}
 use Rattle.bpf_verifier.specs.Causes.{IsDue}
 use Rattle.bpf_verifier.specs.Spent.{IsSpent, IsMemoryOrPassed}
+use Rattle.bpf_verifier.specs.Limits.{units_of}
 use Rattle.bpf_verifier.specs.declared.limit.Limits.{Limits}
 use Rattle.bpf_verifier.specs.declared.refusal.Refusal.{Refusal}
 
@@ -35,6 +36,6 @@ pub record IsRefusalAfter (program : Code) (limit : ℕ) (work : Tally) (refusal
 -- A refusal within limits of states and of work, after the work that a tally counts.
 pub record IsRefusalWithin (program : Code) (limits : Limits) (refusal : Refusal) : Type 0 where
   pub tally : Tally
-  pub spent : IsSpent limits.states (unspent limits.work) tally
+  pub spent : IsSpent limits.states (unspent (units_of limits.work)) tally
   pub after : IsRefusalAfter program limits.states tally refusal
-  pub due : IsDue program limits.states (unspent limits.work) tally refusal
+  pub due : IsDue program limits.states (unspent (units_of limits.work)) tally refusal

@@ -3,6 +3,7 @@ use Rattle.std.specs.Prelude.{◌≡◌, ◌⊎◌, ℕ, ◌+◌, ◌*◌, ◌�
 use Rattle.bpf_prune.specs.Spending.{Tally, HasPassed}
 use Rattle.bpf_rules.specs.declared.fault.Fault.{Fault}
 use Rattle.bpf_rules.specs.declared.fault.Fault.TheVariants.{NoMemory}
+use Rattle.bpf_verifier.specs.Limits.{units_of}
 use Rattle.bpf_verifier.specs.declared.limit.Limits.{Limits}
 
 -- What an exploration within a limit of states adds to the work. A state has at most 563 parts, and is compared with at
@@ -15,7 +16,7 @@ pub record IsSpent (states : ℕ) (old new : Tally) : Type 0 where
 
 -- with so much work allowed no exploration within the limit of states needs more
 abbrev pub IsAmple : Limits → Type 0
-IsAmple limits = 36979 * (limits.states + 1) + 563 ≤ limits.work
+IsAmple limits = 36979 * (limits.states + 1) + 563 ≤ units_of limits.work
 
 -- lack of memory, or more work than is allowed
 abbrev pub IsMemoryOrPassed : Fault → Tally → Type 0

@@ -49,7 +49,7 @@ pub fn verify_within(
     limit.known();
     let limits = Limits {
         states: limit,
-        work: u64::MAX,
+        work: None,
     };
     verify_limited(alloc, program, hook, limits)
 }
@@ -66,8 +66,9 @@ pub fn verify_limited(
     ensures budget { IfOk result (λ accepted. IsSafeBudget program limits.states accepted.budget) }
     ensures refused { IfErr result (IsRefusalWithin program limits) }
 {
-    let mut work = Work::within(limits.work);
-    verify_counted(alloc, program, hook, limits.states, &mut work)
+    let states = limits.states;
+    let mut work = Work::within(limits.units());
+    verify_counted(alloc, program, hook, states, &mut work)
 }
 
 /// Like `verify_limited`, but `work` has the limit on work, and counts each unit before it is done; what was counted

@@ -22,6 +22,7 @@ pub use bpf_prune::Work;
 pub use bpf_rules::Fault;
 pub use limit::{Limits, StateLimit};
 pub use listing::{
-    Explanation, explain_limited, explain_within, explore, explore_limited, explore_within,
+    Explanation, explain_limited, explain_within, explore, explore_counted, explore_limited,
+    explore_within,
 };
 pub use refusal::Refusal;

@@ -1,7 +1,7 @@
 //! The limits on examined states and on work.
 
 ghost use Rattle.std.specs.Prelude.{◌≡◌, ◌↔◌, ℕ, IsSome, IfSome};
-ghost use Rattle.bpf_verifier.specs.Limits.{IsStateLimit, nearest};
+ghost use Rattle.bpf_verifier.specs.Limits.{IsStateLimit, nearest, units_of};
 
 use std::marker::Model;
 
@@ -68,6 +68,24 @@ impl StateLimit {
 pub struct Limits {
     /// The most states that it examines.
     pub states: StateLimit,
-    /// The most units of work, as [`bpf_prune::work`] counts them. No exploration needs 2^38.
-    pub work: u64,
+    /// The most units of work, as [`bpf_prune::work`] counts them, if they are limited. No exploration needs 2^38.
+    pub work: Option<u64>,
+}
+
+impl Limits {
+    /// The greatest limit of states, and any work.
+    pub const MOST: Limits = Limits {
+        states: StateLimit::MOST,
+        work: None,
+    };
+
+    /// How many units of work are allowed; without a limit, as many as can be counted.
+    pub fn units(self) -> u64
+        ensures is { result ≡ units_of self.work }
+    {
+        match self.work {
+            Some(work) => work,
+            None => u64::MAX,
+        }
+    }
 }

@@ -1,7 +1,9 @@
 //! The states that an exploration finishes.
 
 ghost use Rattle.std.specs.Prelude.{◌≡◌, ◌^◌, ℕ, IfOk, IfErr, OnOk};
-ghost use Rattle.bpf_verifier.specs.Admission.{IsSafeBudget, IsRefusal, IsRefusalWithin};
+ghost use Rattle.bpf_verifier.specs.Admission.{IsSafeBudget, IsRefusal, IsRefusalAfter, IsRefusalWithin};
+ghost use Rattle.bpf_verifier.specs.Causes.{IsDue};
+ghost use Rattle.bpf_verifier.specs.Spent.{IsSpent};
 
 use crate::exploration::{Exploration, observed_budget};
 use crate::limit::{Limits, StateLimit};
@@ -37,7 +39,7 @@ pub fn explore_within(
     limit.known();
     let limits = Limits {
         states: limit,
-        work: u64::MAX,
+        work: None,
     };
     explore_limited(alloc, program, limits)
 }
@@ -51,12 +53,28 @@ pub fn explore_limited(
     ensures budget { OnOk result ((b : ℕ) × IsSafeBudget program.now limits.states b) }
     ensures refused { IfErr result (IsRefusalWithin program.now limits) }
 {
+    let states = limits.states;
+    let mut work = Work::within(limits.units());
+    explore_counted(alloc, program, states, &mut work)
+}
+
+/// Like `explore_limited`, but `work` has the limit on work, as for `verify_counted`.
+pub fn explore_counted(
+    alloc: Global,
+    program: &Program,
+    limit: StateLimit,
+    work: &mut Work,
+) -> Result<Vec<Entry>, Refusal>
+    ensures budget { OnOk result ((b : ℕ) × IsSafeBudget program.now limit b) }
+    ensures refused { IfErr result (IsRefusalAfter program.now limit work.new) }
+    ensures due { IfErr result (IsDue program.now limit work.old work.new) }
+    ensures spent { IsSpent limit work.old work.new }
+{
     program.whole();
     plain_law();
     standing_law();
-    let mut work = Work::within(limits.work);
     let mut exploration = Exploration::new(alloc, program, Observer::listening(alloc))?;
-    let _budget = observed_budget(alloc, program, &mut exploration, limits.states, &mut work)?;
+    let _budget = observed_budget(alloc, program, &mut exploration, limit, work)?;
     match exploration.into_observer().into_heard() {
         Some(heard) => Ok(heard.finished),
         None => Ok(Vec::new(alloc)),
@@ -88,7 +106,7 @@ pub fn explain_within(
     limit.known();
     let limits = Limits {
         states: limit,
-        work: u64::MAX,
+        work: None,
     };
     explain_limited(alloc, program, limits)
 }
@@ -105,9 +123,10 @@ pub fn explain_limited(
 {
     program.whole();
     plain_law();
-    let mut work = Work::within(limits.work);
+    let states = limits.states;
+    let mut work = Work::within(limits.units());
     let mut exploration = Exploration::new(alloc, program, Observer::listening(alloc))?;
-    let verdict = observed_budget(alloc, program, &mut exploration, limits.states, &mut work);
+    let verdict = observed_budget(alloc, program, &mut exploration, states, &mut work);
     Ok(explained(alloc, verdict, exploration.into_observer()))
 }
 

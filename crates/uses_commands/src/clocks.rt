@@ -4,7 +4,7 @@ use crate::lab::{ANSWERS, ASSOCIATION, AUTHENTICATION, LAB, file, joined};
 use crate::memory::{Memory, Outcome, words};
 use crate::same::same;
 use apd_files::FileFault;
-use apd_run::{OpenGate, RunWords, StateLimit, Streams, Supplies, live};
+use apd_run::{Limits, OpenGate, RunWords, Streams, Supplies, live};
 use apd_source::{Arrival, Direct, Passing, Source, Timed};
 use std::alloc::Global;
 use std::io::{self, Read};
@@ -119,7 +119,7 @@ pub fn lived<R: Threads + Wait + Sync, S: Source + Drop>(
     };
     let supplies = Supplies {
         files: &mut memory,
-        limit: StateLimit::MOST,
+        limits: Limits::MOST,
         gate: OpenGate,
     };
     let streams = Streams {

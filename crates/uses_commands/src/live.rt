@@ -3,7 +3,7 @@
 use crate::lab::{ANSWERS, ASSOCIATION, AUTHENTICATION, LAB, file, joined};
 use crate::memory::{Memory, Outcome, STRICT, ran, words};
 use crate::same::same;
-use apd_run::{OpenGate, RunWords, StateLimit, Streams, Supplies, live};
+use apd_run::{Limits, OpenGate, RunWords, Streams, Supplies, live};
 use apd_source::Direct;
 use std::alloc::Global;
 use std::io::{self, Error, ErrorKind, Read, Write};
@@ -76,7 +76,7 @@ fn lived_with<R: Threads + Wait + Sync, I: Read + Drop>(
     };
     let supplies = Supplies {
         files: &mut memory,
-        limit: StateLimit::MOST,
+        limits: Limits::MOST,
         gate: OpenGate,
     };
     let streams = Streams {
@@ -330,7 +330,7 @@ fn answers_are_flushed_before_the_next_read(rt: HostRuntime) {
     };
     let supplies = Supplies {
         files: &mut memory,
-        limit: StateLimit::MOST,
+        limits: Limits::MOST,
         gate: OpenGate,
     };
     let streams = Streams {
@@ -441,7 +441,7 @@ fn a_reader_that_goes_away_ends_a_run_quietly(rt: HostRuntime) {
         };
         let supplies = Supplies {
             files: &mut memory,
-            limit: StateLimit::MOST,
+            limits: Limits::MOST,
             gate: OpenGate,
         };
         let streams = Streams {

@@ -1,7 +1,7 @@
 //! Files in memory, and runs with them.
 
 use apd_files::{FileFault, Files};
-use apd_run::{Form, Manner, OpenGate, RunWords, StateLimit, Supplies, Watcher, run};
+use apd_run::{Form, Limits, Manner, OpenGate, RunWords, Supplies, Watcher, run};
 use std::alloc::Global;
 use std::sync::Wait;
 use std::thread::Threads;
@@ -98,7 +98,7 @@ fn run_of<R: Threads + Wait + Sync, G: Watcher + Copy + Send>(
     };
     let supplies = Supplies {
         files: &mut memory,
-        limit: StateLimit::MOST,
+        limits: Limits::MOST,
         gate,
     };
     let mut err = Vec::new(alloc);

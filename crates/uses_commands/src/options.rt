@@ -61,6 +61,14 @@ const FILES: &[(&str, &str)] = &[
         "1851000000000000 0000000000000000 b700000000000000 9500000000000000",
     ),
     ("one.cert", "4150433203"),
+    // a certificate of one.hex with one entry: slot 0, budget 2, and nothing is known
+    (
+        "own.cert",
+        "41504332030200 b700000001000000 9500000000000000 01000000 0000 02000000 0000 0000 01 0000 \
+         00000000000000000000 \
+         00000000000000000000000000000000000000000000000000000000000000000000000000000000000000000000\
+         000000000000000000000000000000000000",
+    ),
 ];
 
 /// The result of a command, and what it writes to a file.
@@ -240,4 +248,52 @@ fn a_script_is_run_by_threads_alone(rt: HostRuntime) {
     let words = ["apd", "run", "lab.toml", "lab.script"];
     let why = "apd: a script is run by threads alone\n";
     says(&rt, rt.alloc(), &words, 2, "", why);
+}
+
+/// Commands, how many units of work they take, and what they say with one unit less.
+const WORK: &[(&[&str], u64, &str)] = &[
+    // two states of 80 parts
+    (
+        &["apd", "verify", "data", "one.hex"],
+        160,
+        "refused 36 at 1\n",
+    ),
+    (
+        &["apd", "trace", "data", "one.hex", ""],
+        160,
+        "refused 36 at 1\n",
+    ),
+    // they are explored twice, then without the frame's length and three registers, and then checked
+    (
+        &["apd", "cert", "data", "one.hex"],
+        1120,
+        "refused 36 at 0\n",
+    ),
+    (
+        &["apd", "check", "data", "one.hex", "own.cert"],
+        160,
+        "certificate 36\n",
+    ),
+];
+
+/// The result of a command within a limit of work.
+fn worked(rt: &impl Abort, alloc: Global, words: &[&str], units: u64) -> Told {
+    let limit = format!(in alloc; "{units}").expect(rt, "memory");
+    let mut all = Vec::from_slice(alloc, words).expect(rt, "memory");
+    all.push("--work").expect(rt, "memory");
+    all.push(limit.as_str()).expect(rt, "memory");
+    let (told, _) = answer(alloc, all.as_slice());
+    told
+}
+
+#[test]
+fn more_work_than_is_allowed_is_refused(rt: HostRuntime) {
+    let alloc = rt.alloc();
+    for (words, units, refusal) in WORK {
+        let told = worked(&rt, alloc, words, *units);
+        same(&rt, told.status, 0, "the status");
+        let told = worked(&rt, alloc, words, units.saturating_sub(1));
+        same(&rt, told.status, 1, "the status");
+        same(&rt, told.out.as_slice(), refusal.as_bytes(), "the refusal");
+    }
 }

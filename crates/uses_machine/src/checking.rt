@@ -65,12 +65,12 @@ fn limited(rt: &impl Abort, alloc: Global, most: Option<u64>) -> u32 {
 
 #[test]
 fn a_check_keeps_its_limit_of_work(rt: HostRuntime) {
-    // two states are examined, and none is compared
+    // two states of 80 parts are examined, and none is compared
     for (most, answer) in [
         (None, 2),
         (Some(0), 36),
-        (Some(1), 36),
-        (Some(2), 2),
+        (Some(159), 36),
+        (Some(160), 2),
         (Some(u64::MAX), 2),
     ] {
         let found = limited(&rt, rt.alloc(), most);

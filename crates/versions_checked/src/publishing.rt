@@ -1,10 +1,10 @@
 //! Publication after a check.
 
-ghost use Rattle.std.specs.Prelude.{◌≡◌, ℕ, IfOk, IfErr, OnErr};
+ghost use Rattle.std.specs.Prelude.{◌≡◌, ℕ, None, IfOk, IfErr, OnErr};
 ghost use Rattle.versions_checked.specs.Publishing.{IsPublished, IsRefusal, IsShown, Obtains};
 
 use crate::fault::CheckedFault;
-use bpf_cert::check;
+use bpf_cert::check_within;
 use bpf_decode::Program;
 use bpf_regions::Hook;
 use std::alloc::Global;
@@ -34,16 +34,38 @@ pub fn publish_checked<R: Wait>(
     ensures shapes { publisher.new.shapes ≡ publisher.old.shapes }
     ensures added { IfOk result (IsPublished publisher.old publisher.new offer.entry) }
     ensures refused { OnErr result (publisher.new ≡ publisher.old) }
-    ensures why { IfErr result (IsRefusal publisher.old offer.entry) }
+    ensures why { IfErr result (IsRefusal None publisher.old offer.entry) }
     // If the certificate shows a budget, it is returned, or 60 if the shapes differ, or 40.
-    ensures only { (b : ℕ) → IsShown offer.entry b → Obtains publisher.old offer.entry result b }
+    ensures only { (b : ℕ) → IsShown offer.entry b →
+        Obtains None publisher.old offer.entry result b }
+{
+    publish_checked_within(rt, alloc, publisher, offer, None)
+}
+
+/// Like `publish_checked`, but the check does no more work than `most`, if there is such a limit: a certificate that
+/// needs more is refused with 36, as by `check_within`.
+pub fn publish_checked_within<R: Wait>(
+    rt: &R,
+    alloc: Global,
+    publisher: &mut Publisher,
+    offer: Offer<'_>,
+    most: Option<u64>,
+) -> Result<u32, CheckedFault>
+    ensures list { publisher.new.list ≡ publisher.old.list }
+    ensures shapes { publisher.new.shapes ≡ publisher.old.shapes }
+    ensures added { IfOk result (IsPublished publisher.old publisher.new offer.entry) }
+    ensures refused { OnErr result (publisher.new ≡ publisher.old) }
+    ensures why { IfErr result (IsRefusal most publisher.old offer.entry) }
+    // If the certificate shows a budget, it is returned, or 60 if the shapes differ, or 40, or 36.
+    ensures only { (b : ℕ) → IsShown offer.entry b →
+        Obtains most publisher.old offer.entry result b }
 {
     let Offer {
         program,
         hook,
         certificate,
     } = offer;
-    let accepted = check(alloc, program, hook, certificate)?;
+    let accepted = check_within(alloc, program, hook, certificate, most)?;
     let budget = accepted.budget();
     let shared = Arc::new(alloc, accepted)?;
     match publisher.publish(rt, hook, Some(shared)) {

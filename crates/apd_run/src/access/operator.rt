@@ -15,7 +15,7 @@ use crate::access::naming::Publications;
 use crate::access::worker::LiveWorker;
 use crate::actions::{Publication, WordUse};
 use crate::counting::counted_in;
-use crate::loads::{Loads, StateLimit};
+use crate::loads::{Adoption, Limits, Loads};
 use crate::{Operating, Told, Waiting};
 use ap_books::{Ledgers, Portions, Totals};
 use ap_live::{LiveAp, OperatorToken, Tagged};
@@ -31,11 +31,11 @@ use std::alloc::{AllocError, Global};
 use std::marker::{Model, PhantomData};
 use std::sync::Wait;
 
-/// The sources of programs: files, and how many states of each program the verifier may examine.
+/// The sources of programs: files, and what the verifier or a check may do for each program.
 #[derive(Drop)]
 pub(crate) struct Sources<'a, F> {
     pub(crate) files: &'a mut F,
-    pub(crate) limit: StateLimit,
+    pub(crate) limits: Limits,
 }
 
 /// The operator of a run: its token, the parts of the ledgers and the pages that no worker has, what these parts have
@@ -90,9 +90,9 @@ impl<'a, B: Ledgers + Journals, L: Publications, F: Files> LiveOperator<'a, B, L
         ensures same { crew_of self.new ≡ crew_of self.old }
         ensures nothing { told_counts result ≡ none }
     {
-        let limit = self.sources.limit;
+        let limits = self.sources.limits;
         let files = &mut *self.sources.files;
-        let told = self.loads.load(rt, files, hook, path_of_word(path), limit);
+        let told = self.loads.load(rt, files, hook, path_of_word(path), limits);
         self.budgets.note(hook, &told);
         told
     }
@@ -101,11 +101,13 @@ impl<'a, B: Ledgers + Journals, L: Publications, F: Files> LiveOperator<'a, B, L
         ensures same { crew_of self.new ≡ crew_of self.old }
         ensures nothing { told_counts result ≡ none }
     {
+        let work = self.sources.limits.work;
         let files = &mut *self.sources.files;
-        let certificate = path_of_word(certificate);
-        let told = self
-            .loads
-            .adopt(rt, files, hook, path_of_word(path), certificate);
+        let adoption = Adoption {
+            code: path_of_word(path),
+            certificate: path_of_word(certificate),
+        };
+        let told = self.loads.adopt(rt, files, hook, adoption, work);
         self.budgets.note(hook, &told);
         told
     }

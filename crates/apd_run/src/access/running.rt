@@ -19,7 +19,7 @@ use crate::access::operator::{LiveOperator, Sources};
 use crate::access::worker::LiveWorker;
 use crate::console::Console;
 use crate::lines::Lines;
-use crate::loads::{Loads, StateLimit};
+use crate::loads::{Limits, Loads};
 use crate::script::run_lines;
 use crate::{Ready, Staff};
 use ap_books::{Ledgers, Portions, Totals};
@@ -36,12 +36,12 @@ use std::thread::Threads;
 /// The status of a run for which an allocation failed.
 const NO_MEMORY: u8 = 3;
 
-/// What a run uses besides its access point: the files of its loads, how many states of each program the verifier may
-/// examine, and the gate that is told of each event.
+/// What a run uses besides its access point: the files of its loads, what the verifier or a check may do for each
+/// program, and the gate that is told of each event.
 #[derive(Drop)]
 pub struct Supplies<'a, F, G: Drop> {
     pub files: &'a mut F,
-    pub limit: StateLimit,
+    pub limits: Limits,
     pub gate: G,
 }
 
@@ -165,7 +165,11 @@ where
     requires no_loads { equipment.loads.loads ≡ [] }
     ensures runs { Runs (P.manner writer) (P.contents writer) (P.contents result.0) none result.1 }
 {
-    let Supplies { files, limit, gate } = supplies;
+    let Supplies {
+        files,
+        limits,
+        gate,
+    } = supplies;
     let Equipment { hands, loads } = equipment;
     let Hands {
         operator,
@@ -184,7 +188,7 @@ where
         return without_memory(writer);
     };
     let many = ready.len() as u64;
-    let sources = Sources { files, limit };
+    let sources = Sources { files, limits };
     let operator = new_operator::<B, L, F>(
         ap,
         operator,

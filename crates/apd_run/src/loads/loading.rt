@@ -11,7 +11,7 @@ use bpf_decode::{DecodeFault, Program, decode};
 use bpf_machine::Accepted;
 use bpf_regions::{Hook, Shapes};
 use bpf_rules::Fault;
-use bpf_verifier::{StateLimit, verify_within};
+use bpf_verifier::{Limits, verify_limited};
 use std::alloc::{AllocError, Global};
 use std::marker::Model;
 use std::sync::{Arc, Wait};
@@ -68,23 +68,23 @@ impl Loads {
     }
 
     /// Reads code from a file of hex digits, and puts the program in force for a hook if the verifier admits it within
-    /// a limit of states. Returns `Unreadable` if the file can't be read or doesn't hold pairs of hex digits, the
-    /// code's fault, the verifier's refusal, `Memory`, or the program's budget. All but the last leave the programs in
-    /// force unchanged.
+    /// limits of states and of work. Returns `Unreadable` if the file can't be read or doesn't hold pairs of hex
+    /// digits, the code's fault, the verifier's refusal, `Memory`, or the program's budget. All but the last leave the
+    /// programs in force unchanged.
     pub fn load<R: Wait, F: Files>(
         &mut self,
         rt: &R,
         files: &mut F,
         hook: Hook,
         path: &str,
-        limit: StateLimit,
+        limits: Limits,
     ) -> Told
-        ensures loads { LoadsFile (F.held files.old) limit hook path.now self.old self.new result }
+        ensures loads { LoadsFile (F.held files.old) limits hook path.now self.old self.new result }
         ensures same { F.held files.new ≡ F.held files.old }
     {
         match read_code(self.alloc, path, files) {
             Ok(code) => {
-                let told = self.load_code(rt, hook, code.as_slice(), limit);
+                let told = self.load_code(rt, hook, code.as_slice(), limits);
                 return told;
             }
             Err(fault) => match fault {
@@ -112,15 +112,15 @@ impl Loads {
         self.shapes.clone()
     }
 
-    fn load_code<R: Wait>(&mut self, rt: &R, hook: Hook, code: &[u8], limit: StateLimit) -> Told
-        ensures { LoadsCode limit hook code.now self.old self.new result }
+    fn load_code<R: Wait>(&mut self, rt: &R, hook: Hook, code: &[u8], limits: Limits) -> Told
+        ensures { LoadsCode limits hook code.now self.old self.new result }
     {
         let Ok(shapes) = self.shapes() else {
             return Told::Memory;
         };
         match decode(self.alloc, code, shapes) {
             Ok(program) => {
-                let told = self.load_program(rt, hook, program, limit);
+                let told = self.load_program(rt, hook, program, limits);
                 return told;
             }
             Err(fault) => match fault {
@@ -135,12 +135,12 @@ impl Loads {
         rt: &R,
         hook: Hook,
         program: Program,
-        limit: StateLimit,
+        limits: Limits,
     ) -> Told
         requires { program.shapes ≡ self.old.shapes }
-        ensures { LoadsProgram limit hook program self.old self.new result }
+        ensures { LoadsProgram limits hook program self.old self.new result }
     {
-        match verify_within(self.alloc, program, hook, limit) {
+        match verify_limited(self.alloc, program, hook, limits) {
             Ok(accepted) => {
                 let told = self.put_in_force(rt, hook, accepted);
                 return told;

@@ -180,7 +180,11 @@ where
     E: Write,
     ensures runs { Runs words.entry.manner (P.contents out) (P.contents result.0) none result.1 }
 {
-    let Supplies { files, limit, gate } = supplies;
+    let Supplies {
+        files,
+        limits,
+        gate,
+    } = supplies;
     let configuration = match configuration(alloc, words.config, files) {
         Ok(configuration) => configuration,
         Err(fault) => return (out, complain(alloc, &fault, err)),
@@ -205,7 +209,11 @@ where
         configuration,
         lines,
     };
-    let supplies = Supplies { files, limit, gate };
+    let supplies = Supplies {
+        files,
+        limits,
+        gate,
+    };
     let ended = run_told(rt, alloc, words, task, supplies, out, err);
     let Ended {
         out,
@@ -245,7 +253,11 @@ where
         (P.contents streams.out) (P.contents result.0) none result.1 }
 {
     let Streams { input, out } = streams;
-    let Supplies { files, limit, gate } = supplies;
+    let Supplies {
+        files,
+        limits,
+        gate,
+    } = supplies;
     let configuration = match live_configuration(alloc, words.config, files, err) {
         Ok(configuration) => configuration,
         Err(fault) => {
@@ -262,7 +274,11 @@ where
         configuration,
         lines,
     };
-    let supplies = Supplies { files, limit, gate };
+    let supplies = Supplies {
+        files,
+        limits,
+        gate,
+    };
     let ended = run_told(rt, alloc, words, task, supplies, out, err);
     let Ended {
         out,

@@ -85,8 +85,9 @@ is used.",
     Explanation {
         number: 36,
         title: "the verifier gives up",
-        meaning: "It examined 4194304 states without an end, or as many as `--states` lets it: the program never ends, \
-or it has too many paths. The slot says where it stood.",
+        meaning: "It examined 4194304 states without an end, or as many as `--states` lets it, or did as much work as \
+`--work` lets it: the program never ends, or it has too many paths. The slot says where it stood. A check of a \
+certificate gives up only by `--work`.",
         habit: "A loop without a bound, or one that advances a pointer in each iteration, so that no two iterations \
 are alike.",
         programs: Some((

@@ -18,6 +18,6 @@ pub returns-clause-checked : goal.returns-clause-checked
 returns-clause-checked g c =
     let bytes = c.in_ok-bytes.bytes.items in
     let held = subst (λ (f : Held). HoldsCode f c.args.claim.certificate.now bytes) c.load.ensures.same c.in_ok-bytes.ensures.code in
-    let said = IsOfCode-loaded (λ setup. IsChecked c.args.claim.hook bytes) _ c.args.claim.source _ c.check.result c.in_ok-code.ensures.loaded
+    let said = IsOfCode-loaded (λ setup. IsChecked c.args.claim.hook bytes c.args.claim.work) _ c.args.claim.source _ c.check.result c.in_ok-code.ensures.loaded
     (rw c.as_slice-2.ensures.value at (rw c.as_slice-3.ensures.value at c.check.ensures.checked)) in
     IfOk-weaker c.check.result _ _ (λ a h. record { bytes = bytes; held = held; said = h }) said

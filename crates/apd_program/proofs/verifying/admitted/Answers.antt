@@ -1,6 +1,5 @@
 use Rattle.std.proofs.Common.{refl}
-use Rattle.bpf_verifier.specs.Limits.{nearest}
-use Rattle.apd_program.specs.Verifying.{Admitted, IsBudget}
+use Rattle.apd_program.specs.Verifying.{Admitted, IsBudget, within}
 use Rattle.apd_program.proofs.Said.{IsVerdict-refused}
 use Rattle.apd_program.proofs.verifying.admitted.Goals as goal
 
@@ -9,4 +8,4 @@ returns-in-Ok-clause-verdict c = Admitted c.budget.result _ (rw c.budget.ensures
 
 pub returns-in-Err-clause-verdict : goal.returns-in-Err-clause-verdict
 returns-in-Err-clause-verdict c =
-    IsVerdict-refused (nearest c.args.terms.states) IsBudget _ _ c.in-Err.refusal c.in-Err.ensures.refused c.refused.ensures.refusal
+    IsVerdict-refused (within c.args.terms.states c.args.terms.work) IsBudget _ _ c.in-Err.refusal c.in-Err.ensures.refused c.refused.ensures.refusal

@@ -1,5 +1,4 @@
-use Rattle.bpf_verifier.specs.Limits.{nearest}
-use Rattle.apd_program.specs.Verifying.{Admitted, IsRun}
+use Rattle.apd_program.specs.Verifying.{Admitted, IsRun, within}
 use Rattle.apd_program.proofs.Said.{IsVerdict-refused, IsTrace-of}
 use Rattle.apd_program.proofs.verifying.run.Goals as goal
 
@@ -10,5 +9,5 @@ returns-in_ok-text-in-Ok-clause-run c =
 
 pub returns-in-Err-clause-run : goal.returns-in-Err-clause-run
 returns-in-Err-clause-run c =
-    IsVerdict-refused (nearest c.args.stimulus.terms.states) (IsRun c.args.stimulus.terms.hook c.args.stimulus.frame.now c.args.stimulus.context.now c.args.stimulus.draw) _ _
+    IsVerdict-refused (within c.args.stimulus.terms.states c.args.stimulus.terms.work) (IsRun c.args.stimulus.terms.hook c.args.stimulus.frame.now c.args.stimulus.context.now c.args.stimulus.draw) _ _
     c.in-Err.refusal c.in-Err.ensures.refused c.refused.ensures.refusal

@@ -1,13 +1,19 @@
-use Rattle.std.proofs.Common.{ap, ◌∙◌}
-use Rattle.std.proofs.lemmas.Result.{err_from_is_err_and}
-use Rattle.bpf_machine.specs.Verified.{Verified}
-use Rattle.bpf_cert.proofs.Limits.{answers_admits}
+use Rattle.std.proofs.Common.{Option, ◌∙◌, ap, sym, subst}
+use Rattle.std.specs.Prelude.{ℕ, IfErr}
+use Rattle.bpf_prune.specs.Spending.{Tally}
+use Rattle.bpf_cert.specs.Certified.{Admits, Refuses}
+use Rattle.bpf_cert.specs.Limits.{Within, HasPassedLimit}
+use Rattle.bpf_cert.proofs.Limits.{passed_limits}
 use Rattle.bpf_cert.proofs.checking.check_within.Goals as goal
 
-pub returns-in_err-budget-clause-only : goal.returns-in_err-budget-clause-only
-returns-in_err-budget-clause-only c = λ b v.
-    let p = err_from_is_err_and c.from_residual.result c.from_residual.ensures.1 in
-    rw (p.1, p.2) (answers_admits c.args.most _ b (c.in_err-budget.ensures.only b v))
+pub returns-in-Some-clause-only : goal.returns-in-Some-clause-only
+returns-in-Some-clause-only c = λ b v.
+    let counted = c.check_counted-checked in
+    let within = counted.ensures.most ∙ ap (λ (w : Tally). w.most) c.within-work.ensures.is in
+    subst (λ (o : Option ℕ). Within (HasPassedLimit o) (λ r. Admits r b) counted.result) (sym c.in-Some.is) (passed_limits c.in-Some.most _ _ counted.result within (counted.ensures.only b v))
 
-pub returns-clause-only : goal.returns-clause-only
-returns-clause-only c = λ b v. ap (λ (a : Verified). a.budget) c.in_ok-accepted.ensures.is ∙ c.in_ok-budget.ensures.only b v
+pub returns-in-Some-clause-err : goal.returns-in-Some-clause-err
+returns-in-Some-clause-err c =
+    let counted = c.check_counted-checked in
+    let within = counted.ensures.most ∙ ap (λ (w : Tally). w.most) c.within-work.ensures.is in
+    subst (λ (o : Option ℕ). Within (HasPassedLimit o) (λ r. IfErr r (Refuses c.args.program c.args.hook c.args.bytes.now)) counted.result) (sym c.in-Some.is) (passed_limits c.in-Some.most _ _ counted.result within counted.ensures.err)

@@ -7,7 +7,6 @@ use Rattle.bpf_cert.proofs.checking.claims_of.Given as goal
 
 abbrev pub invariant-loop-leaf : goal.invariant-loop-leaf
 invariant-loop-leaf l = record {
-  is : l.claims.list ≡ map claim_of (take l.leaf-index l.entries);
-  limit : l.claims.most ≡ l.fn.most;
-  whole : All (λ e. IsView e.state) l.claims.list;
+  is : l.claims ≡ map claim_of (take l.leaf-index l.entries);
+  whole : All (λ e. IsView e.state) l.claims;
 }

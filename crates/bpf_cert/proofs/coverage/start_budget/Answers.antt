@@ -12,7 +12,7 @@ pub loop-place-preserved : goal.loop-place-preserved
 loop-place-preserved c =
     elim c.if-includes.branch [
       | then-includes w ↦
-          let es = c.args.claims.now.list in
+          let es = c.args.claims.now in
           let i = c.loop-place.place in
           let e = c.in_ok-claim.claim in
           let lt : i < length es = let size = c.len-place-end.ensures.is in omega (arith, size, c.loop-place-test.true) in
@@ -20,7 +20,7 @@ loop-place-preserved c =
           let all = takes es i e c.loop-place.best lt (sym (get_or_from_slice_get es i e e c.in_ok-claim.ensures.is)) in_e c.loop-place.invariant in
           subst (SoFar es (i + 1)) (sym w.best-is) (subst (IsLeast es (i + 1)) (sym w.lesser.ensures.is) all)
       | else-includes w ↦
-          let es = c.args.claims.now.list in
+          let es = c.args.claims.now in
           let i = c.loop-place.place in
           let e = c.in_ok-claim.claim in
           let lt : i < length es = let size = c.len-place-end.ensures.is in omega (arith, size, c.loop-place-test.true) in

@@ -7,4 +7,4 @@ use Rattle.bpf_cert.specs.Steps.{IsLeast}
 use Rattle.bpf_cert.proofs.coverage.start_budget.Given as goal
 
 abbrev pub invariant-loop-place : goal.invariant-loop-place
-invariant-loop-place l = MatchOption l.best ((k : ℕ) (d : Claim) → k < l.place → Includes (get_or l.claims.list k d) entry_view → ⊥) (IsLeast l.claims.list l.place)
+invariant-loop-place l = MatchOption l.best ((k : ℕ) (d : Claim) → k < l.place → Includes (get_or l.claims k d) entry_view → ⊥) (IsLeast l.claims l.place)

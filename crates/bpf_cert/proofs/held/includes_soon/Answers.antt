@@ -1,8 +1,8 @@
-use Rattle.bpf_cert.proofs.Told.{open_includes, closed_includes}
+use Rattle.bpf_cert.proofs.Told.{open_includes, closed_includes_not}
 use Rattle.bpf_cert.proofs.held.includes_soon.Goals as goal
 
-pub returns-then-claim : goal.returns-then-claim
-returns-then-claim c = record { is = open_includes c.args.claim.now c.args.state.now c.lies_in.result c.if-claim.true c.lies_in.ensures.is }
+pub returns-clause-is : goal.returns-clause-is
+returns-clause-is g c = open_includes c.args.claim.now c.args.state.now c.in_ok-told.told c.if-not-is_open.false c.in_ok-told.ensures.is
 
-pub returns-else-claim : goal.returns-else-claim
-returns-else-claim c = record { is = closed_includes c.args.claim.now c.args.state.now c.if-claim.false }
+pub returns-then-not-is_open-clause-is : goal.returns-then-not-is_open-clause-is
+returns-then-not-is_open-clause-is g c = closed_includes_not c.args.claim.now c.args.state.now c.if-not-is_open.true

@@ -1,21 +1,7 @@
-use Rattle.std.proofs.lemmas.Result.{err_from_is_err_and}
-use Rattle.bpf_verifier.proofs.Admitting.{refusal_within, starved_within}
+use Rattle.bpf_verifier.proofs.Admitting.{withins}
 use Rattle.bpf_verifier.proofs.listing.explore_limited.Goals as goal
 
-pub returns-in_err-exploration-clause-refused : goal.returns-in_err-exploration-clause-refused
-returns-in_err-exploration-clause-refused c =
-    let p = err_from_is_err_and c.from_residual.result c.from_residual.ensures.1 in
-    rw (p.1, p.2) (starved_within c.args.program.now c.args.limits c.whole.ensures.is.first)
-
-pub returns-in_err-_budget-clause-refused : goal.returns-in_err-_budget-clause-refused
-returns-in_err-_budget-clause-refused c =
-    let p = err_from_is_err_and c.from_residual-in_err-_budget.result c.from_residual-in_err-_budget.ensures.1 in
-    rw (p.1, p.2)
-    (refusal_within c.args.program.now c.args.limits _ _ (c.plain_law.ensures.clear c.args.program.now c.whole.ensures.is) (rw c.within-work.ensures.is at c.in_err-_budget.ensures.spent)
-    c.in_err-_budget.ensures.begins c.in_err-_budget.ensures.clear (rw c.within-work.ensures.is at c.in_err-_budget.ensures.due))
-
-pub returns-in-Some-clause-budget : goal.returns-in-Some-clause-budget
-returns-in-Some-clause-budget c = (_, record { safe = c.in_ok-_budget.ensures.safe; small = c.in_ok-_budget.ensures.small; walk = c.in_ok-_budget.ensures.walk })
-
-pub returns-in-None-clause-budget : goal.returns-in-None-clause-budget
-returns-in-None-clause-budget c = (_, record { safe = c.in_ok-_budget.ensures.safe; small = c.in_ok-_budget.ensures.small; walk = c.in_ok-_budget.ensures.walk })
+pub returns-clause-refused : goal.returns-clause-refused
+returns-clause-refused c =
+    let v = c.explore_counted in
+    withins c.args.program.now c.args.limits _ v.result (rw (c.within-work.ensures.is, c.units.ensures.is) at v.ensures.spent) v.ensures.refused (rw (c.within-work.ensures.is, c.units.ensures.is) at v.ensures.due)

@@ -7,11 +7,11 @@ use Rattle.apd_run.proofs.access.operator.LiveOperator.adopt.Goals as goal
 
 pub invariant_of-self : goal.invariant_of-self
 invariant_of-self g c =
-    other_loads _ _ _ _ _ (adopted_file_list _ _ _ _ _ _ _ c.adopt-told.ensures.adopts)
-    (rw c.note.ensures.is (adopted_file_budgets _ _ _ _ c.self.invariant.in_force _ _ _ _ c.adopt-told.ensures.adopts)) c.self.invariant
+    other_loads _ _ _ _ _ (adopted_file_list _ _ _ _ _ _ _ _ c.adopt-told.ensures.adopts)
+    (rw c.note.ensures.is (adopted_file_budgets _ _ _ _ c.self.invariant.in_force _ _ _ _ _ c.adopt-told.ensures.adopts)) c.self.invariant
 
 pub returns-clause-same : goal.returns-clause-same
 returns-clause-same g c = ap crew_of c.self.view_is
 
 pub returns-clause-nothing : goal.returns-clause-nothing
-returns-clause-nothing g c = adopted_file_told _ _ _ _ _ _ _ c.adopt-told.ensures.adopts
+returns-clause-nothing g c = adopted_file_told _ _ _ _ _ _ _ _ c.adopt-told.ensures.adopts

@@ -11,8 +11,8 @@ returns-in-Ok g c =
     let added = c.in-Ok.ensures.added in
     let told : Told = Loaded c.in-Ok.budget (length c.args.program.slots) in
     rw c.len-slots.ensures.is
-    (subst (λ (old : Beginning). AdoptsProgram c.args.hook c.args.program c.args.certificate.now old c.publish_checked.new.publisher told) c.self.view_is
-    (adopted _ _ _ _ _ c.in-Ok.budget added.shown added.safe added.is))
+    (subst (λ (old : Beginning). AdoptsProgram c.args.work c.args.hook c.args.program c.args.certificate.now old c.publish_checked_within.new.publisher told) c.self.view_is
+    (adopted _ _ _ _ _ _ c.in-Ok.budget added.shown added.safe added.is))
 
 pub returns-in-Err-Certificate : goal.returns-in-Err-Certificate
 returns-in-Err-Certificate g c =

@@ -1,4 +1,4 @@
-use Rattle.versions_checked.proofs.publishing.publish_checked.Goals as goal
+use Rattle.versions_checked.proofs.publishing.publish_checked_within.Goals as goal
 
 -- the budget that the certificate shows is the admitted one
 pub returns-in-Ok-clause-only : goal.returns-in-Ok-clause-only
