@@ -20,13 +20,27 @@ fn main(rt: HostRuntime) -> ExitCode {
         err: &mut err,
         watched,
     };
+    let out = rt.stdout();
+    let shown = out.is_terminal() && has_colours(&rt);
     let streams = Streams {
         input: Standard { rt },
-        out: rt.stdout(),
+        out,
+        typed: watched && rt.stdin().is_terminal(),
+        shown,
     };
     match run(&rt, rt.alloc(), streams, messages) {
         Ok(status) => ExitCode::from(status),
         Err(error) => ExitCode::from(failed(&rt, &mut err, &error)),
+    }
+}
+
+/// Whether the terminal, by its name in the environment, has colours.
+fn has_colours(rt: &impl Env) -> bool {
+    let mut name = [0; 64];
+    match rt.var("TERM", &mut name) {
+        Ok(length) => name.get(..length) != Some(b"dumb".as_slice()),
+        Err(FillError::TooLong) => true,
+        Err(FillError::NotPresent) => false,
     }
 }
 

@@ -1,16 +1,38 @@
--- Runs in the form that `--events` names.
-use Rattle.std.proofs.Common.{◌≡◌, ℕ, Bool, List, Option, Some, None, refl, subst}
+-- Runs in the form that `--events` and `--color` name.
+use Rattle.std.proofs.Common.{◌≡◌, ℕ, Bool, List, Option, Some, None, refl, sym, subst, ◌∙◌}
 use Rattle.apd_text.specs.declared.reports.report.Form.{Form}
+use Rattle.apd_text.specs.declared.reports.report.Style.{Style}
 use Rattle.apd_run.specs.Counts.{none}
 use Rattle.apd_run.specs.Shows.{IsBroken, Runs}
-use Rattle.apd_program.specs.Forms.{RunsFormed, RunsLive, form_of}
+use Rattle.apd_program.specs.Forms.{RunsFormed, RunsLive, colours_of, form_of, style_of}
 
--- it names a form, and the run prints in this
-pub runs_formed : (strict : Bool) (form : Form) (events : Option (List ℕ)) (old new : Option (List ℕ)) (status : ℕ) → Some form ≡ form_of events
-    → Runs (record { strict = strict; form = form }) old new none status → RunsLive strict events old new status
-runs_formed strict form events old new status is runs = subst (λ (f : Option Form). RunsFormed strict f old new status) is runs
+form_named : (style : Style) (colours : Bool) (s : Option Style) (b : Option Bool) → Some style ≡ s → Some colours ≡ b
+    → Some (record { style = style; colours = colours }) ≡ form_of s b
+form_named style colours s b is named =
+    subst (λ (x : Option Style). Some (record { style = style; colours = colours }) ≡ form_of x b) is
+    (subst (λ (x : Option Bool). Some (record { style = style; colours = colours }) ≡ form_of (Some style) x) named refl)
 
--- it names none, and nothing is written
-pub runs_in_no_form : (strict : Bool) (events : Option (List ℕ)) (old : Option (List ℕ)) (status : ℕ) → None ≡ form_of events → IsBroken status
-    → RunsLive strict events old old status
-runs_in_no_form strict events old status is broken = subst (λ (f : Option Form). RunsFormed strict f old old status) is (refl, broken)
+-- they name a form, and the run prints in this
+pub runs_formed : (shown strict : Bool) (style : Style) (colours : Bool) (events color : Option (List ℕ)) (old new : Option (List ℕ)) (status : ℕ)
+    → Some style ≡ style_of events → Some colours ≡ colours_of shown color
+    → Runs (record { strict = strict; form = record { style = style; colours = colours } }) old new none status
+    → RunsLive shown strict events color old new status
+runs_formed shown strict style colours events color old new status is named runs =
+    subst (λ (f : Option Form). RunsFormed strict f old new status) (form_named style colours (style_of events) (colours_of shown color) is named) runs
+
+-- one names no style, and nothing is written
+pub runs_in_no_style : (shown strict : Bool) (events color : Option (List ℕ)) (old : Option (List ℕ)) (status : ℕ) → None ≡ style_of events → IsBroken status
+    → RunsLive shown strict events color old old status
+runs_in_no_style shown strict events color old status is broken =
+    subst (λ (s : Option Style). RunsFormed strict (form_of s (colours_of shown color)) old old status) is (refl, broken)
+
+no_colours : (s : Option Style) → None ≡ form_of s None
+no_colours None = refl
+no_colours (Some style) = refl
+
+-- the other asks for no colours that there are, and nothing is written
+pub runs_in_no_colours : (shown strict : Bool) (events color : Option (List ℕ)) (old : Option (List ℕ)) (status : ℕ) → None ≡ colours_of shown color → IsBroken status
+    → RunsLive shown strict events color old old status
+runs_in_no_colours shown strict events color old status is broken =
+    subst (λ (b : Option Bool). RunsFormed strict (form_of (style_of events) b) old old status) is
+    (subst (λ (f : Option Form). RunsFormed strict f old old status) (no_colours (style_of events)) (refl, broken))

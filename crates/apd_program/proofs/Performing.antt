@@ -9,7 +9,7 @@ use Rattle.apd_words.specs.declared.Told.TheVariants as told
 use Rattle.apd_run.specs.Counts.{none}
 use Rattle.apd_run.proofs.Ending.{runs_nothing}
 use Rattle.apd_text.specs.declared.reports.report.Form.{Form}
-use Rattle.apd_program.specs.Forms.{RunsFormed, form_of, in_lines}
+use Rattle.apd_program.specs.Forms.{RunsFormed, colours_of, form_of, in_lines, style_of}
 use Rattle.apd_program.specs.declared.answer.Answer.{Answer}
 use Rattle.apd_program.specs.declared.answer.Answer.TheVariants.{Accepted, Code, Instructions, Run, Verdicts, Differences, Page, Script, CutScript, Tested, Help, Fault, Refused, LineFault, Certificate, Unaccepted}
 use Rattle.apd_program.specs.declared.fault.ProgramFault.{ProgramFault}
@@ -46,7 +46,8 @@ complained files a output o (fault.Capture path f) (inl memory) = cc
 complained files a output o (fault.NoPage word ranges) (inl memory) = cc
 complained files a output o (fault.Context why) (inl memory) = cc
 complained files a output o fault.NoThreads (inl memory) = cc
-complained files a output o fault.NoForm (inl memory) = cc
+complained files a output o fault.NoStyle (inl memory) = cc
+complained files a output o fault.NoColours (inl memory) = cc
 complained files a output o (fault.NoCommand name) (inl memory) = cc
 complained files a output o (fault.NoDigits path) (inl memory) = cc
 complained files a output o (fault.OddDigits path) (inl memory) = cc
@@ -60,7 +61,8 @@ complained files a output o (fault.Capture path f) (inr h) = Refrained h (Keeps-
 complained files a output o (fault.NoPage word ranges) (inr h) = Refrained h (Keeps-same o)
 complained files a output o (fault.Context why) (inr h) = Refrained h (Keeps-same o)
 complained files a output o fault.NoThreads (inr h) = Refrained h (Keeps-same o)
-complained files a output o fault.NoForm (inr h) = Refrained h (Keeps-same o)
+complained files a output o fault.NoStyle (inr h) = Refrained h (Keeps-same o)
+complained files a output o fault.NoColours (inr h) = Refrained h (Keeps-same o)
 complained files a output o (fault.NoCommand name) (inr h) = Refrained h (Keeps-same o)
 complained files a output o (fault.NoDigits path) (inr h) = Refrained h (Keeps-same o)
 complained files a output o (fault.OddDigits path) (inr h) = Refrained h (Keeps-same o)
@@ -118,28 +120,28 @@ two_or_three status (inr e) = omega (arith, e)
 
 pub Responds-status : (files : Held) (w : Wanted) (old new : Option (List ℕ)) (status : ℕ) → Responds files w old new status → status ≤ 3
 Responds-status files (AnswerWanted a output) old new status h = Performs-status files a output old new status h
-Responds-status files (RunWanted config script workers states quiet strict verbose) old new status h = two_or_three status h.1
-Responds-status files (LiveWanted config workers states strict verbose clock events) old new status h = two_or_three status h.1
+Responds-status files (RunWanted config script workers states work quiet strict verbose) old new status h = two_or_three status h.1
+Responds-status files (LiveWanted config workers states work strict verbose clock events color) old new status h = two_or_three status h.1
 
 pub Responds-memory : (files : Held) (w : Wanted) (old new : Option (List ℕ)) (status : ℕ) → Responds files w old new status → status ≡ 3 → Keeps old new
 Responds-memory files (AnswerWanted a output) old new status h e = Performs-memory files a output old new status h e
-Responds-memory files (RunWanted config script workers states quiet strict verbose) old new status h e = kept_same old new h.0
-Responds-memory files (LiveWanted config workers states strict verbose clock events) old new status h e = kept_same old new h.0
+Responds-memory files (RunWanted config script workers states work quiet strict verbose) old new status h e = kept_same old new h.0
+Responds-memory files (LiveWanted config workers states work strict verbose clock events color) old new status h e = kept_same old new h.0
 
 -- unchanged output with status 3 is a response to any request
 pub Responds-nothing : (files : Held) (w : Wanted) (o : Option (List ℕ)) → Responds files w o o 3
 Responds-nothing files (AnswerWanted a output) o = Exhausted (Keeps-same o)
-Responds-nothing files (RunWanted config script workers states quiet strict verbose) o = (refl, inr refl)
-Responds-nothing files (LiveWanted config workers states strict verbose clock events) o = (refl, inr refl)
+Responds-nothing files (RunWanted config script workers states work quiet strict verbose) o = (refl, inr refl)
+Responds-nothing files (LiveWanted config workers states work strict verbose clock events color) o = (refl, inr refl)
 
 formed_nothing : (strict : Bool) (form : Option Form) (o : Option (List ℕ)) → RunsFormed strict form o o 3
 formed_nothing strict None o = (refl, inr refl)
 formed_nothing strict (Some form) o = runs_nothing (record { strict = strict; form = form }) o none 3 (inr refl)
 
-Fulfils-nothing : (files : Held) (w : Wanted) (o : Option (List ℕ)) → Fulfils files w o o 3
-Fulfils-nothing files (AnswerWanted a output) o = Exhausted (Keeps-same o)
-Fulfils-nothing files (RunWanted config script workers states quiet strict verbose) o = runs_nothing (in_lines strict) o none 3 (inr refl)
-Fulfils-nothing files (LiveWanted config workers states strict verbose clock events) o = formed_nothing strict (form_of events) o
+Fulfils-nothing : (shown : Bool) (files : Held) (w : Wanted) (o : Option (List ℕ)) → Fulfils shown files w o o 3
+Fulfils-nothing shown files (AnswerWanted a output) o = Exhausted (Keeps-same o)
+Fulfils-nothing shown files (RunWanted config script workers states work quiet strict verbose) o = runs_nothing (in_lines strict) o none 3 (inr refl)
+Fulfils-nothing shown files (LiveWanted config workers states work strict verbose clock events color) o = formed_nothing strict (form_of (style_of events) (colours_of shown color)) o
 
 -- words that always make a request are reported only for lack of memory
 pub Responds-told : (files : Held) (w : Wanted) (t : Told) (old new : Option (List ℕ)) (status : ℕ) → t ≡ told.NoMemory → Tells t old new status → Responds files w old new status
@@ -147,10 +149,10 @@ Responds-told files w (told.Help text) old new status e tells = cc
 Responds-told files w (told.Fault text) old new status e tells = cc
 Responds-told files w told.NoMemory old new status e tells = rw (tells.0, tells.1) (Responds-nothing files w old)
 
-pub Fulfils-told : (files : Held) (w : Wanted) (t : Told) (old new : Option (List ℕ)) (status : ℕ) → t ≡ told.NoMemory → Tells t old new status → Fulfils files w old new status
-Fulfils-told files w (told.Help text) old new status e tells = cc
-Fulfils-told files w (told.Fault text) old new status e tells = cc
-Fulfils-told files w told.NoMemory old new status e tells = rw (tells.0, tells.1) (Fulfils-nothing files w old)
+pub Fulfils-told : (shown : Bool) (files : Held) (w : Wanted) (t : Told) (old new : Option (List ℕ)) (status : ℕ) → t ≡ told.NoMemory → Tells t old new status → Fulfils shown files w old new status
+Fulfils-told shown files w (told.Help text) old new status e tells = cc
+Fulfils-told shown files w (told.Fault text) old new status e tells = cc
+Fulfils-told shown files w told.NoMemory old new status e tells = rw (tells.0, tells.1) (Fulfils-nothing shown files w old)
 
 pub Tells-status : (t : Told) (old new : Option (List ℕ)) (status : ℕ) → Tells t old new status → status ≤ 3
 Tells-status (told.Help text) old new status (WholeText written) = omega arith

@@ -1,32 +1,52 @@
 -- How a run prints.
-use Rattle.std.specs.Prelude.{◌≡◌, ℕ, List, Bool, Option, Some, None, codes, if◌then◌else◌}
+use Rattle.std.specs.Prelude.{◌≡◌, ℕ, List, Bool, true, false, Option, Some, None, codes, if◌then◌else◌}
 use Rattle.std.specs.Str.{bytes_eq}
 use Rattle.apd_text.specs.declared.reports.report.Form.{Form}
-use Rattle.apd_text.specs.declared.reports.report.Form.TheVariants.{Lines, Notices, Json}
+use Rattle.apd_text.specs.declared.reports.report.Style.{Style}
+use Rattle.apd_text.specs.declared.reports.report.Style.TheVariants.{Lines, Notices, Json}
 use Rattle.apd_run.specs.Counts.{none}
 use Rattle.apd_run.specs.Shows.{IsBroken, Runs}
 use Rattle.apd_run.specs.declared.manner.Manner.{Manner}
 
--- a run that prints lines
+-- a run that prints lines, without colours
 abbrev pub in_lines : Bool → Manner
-in_lines strict = record { strict = strict; form = Lines }
+in_lines strict = record { strict = strict; form = record { style = Lines; colours = false } }
 
--- the form with a name
-abbrev pub form_named : List ℕ → Option Form
-form_named name =
+-- the style with a name
+abbrev pub style_named : List ℕ → Option Style
+style_named name =
     (if bytes_eq name (codes "text") then Some Notices
     else (if bytes_eq name (codes "json") then Some Json else None))
 
--- the form that `--events` names; without it, lines
-abbrev pub form_of : Option (List ℕ) → Option Form
-form_of None = Some Lines
-form_of (Some name) = form_named name
+-- the style that `--events` names; without it, lines
+abbrev pub style_of : Option (List ℕ) → Option Style
+style_of None = Some Lines
+style_of (Some name) = style_named name
+
+-- whether a word asks for colours, if a terminal shows the output or doesn't
+abbrev pub colours_named : Bool → List ℕ → Option Bool
+colours_named shown name =
+    (if bytes_eq name (codes "auto") then Some shown
+    else (if bytes_eq name (codes "always") then Some true
+    else (if bytes_eq name (codes "never") then Some false else None)))
+
+-- whether `--color` asks for colours; without it, a terminal gets them
+abbrev pub colours_of : Bool → Option (List ℕ) → Option Bool
+colours_of shown None = Some shown
+colours_of shown (Some name) = colours_named shown name
+
+-- a style, with colours or without
+abbrev pub form_of : Option Style → Option Bool → Option Form
+form_of (Some style) (Some colours) = Some (record { style = style; colours = colours })
+form_of (Some style) None = None
+form_of None colours = None
 
 -- lines run as they come, in this form; without a form nothing is written, and the status is that of a fault
 abbrev pub RunsFormed : Bool → Option Form → Option (List ℕ) → Option (List ℕ) → ℕ → Type 0
 RunsFormed strict None old new status = (new ≡ old) × IsBroken status
 RunsFormed strict (Some form) old new status = Runs (record { strict = strict; form = form }) old new none status
 
--- the same in the form that `--events` names
-abbrev pub RunsLive : Bool → Option (List ℕ) → Option (List ℕ) → Option (List ℕ) → ℕ → Type 0
-RunsLive strict events old new status = RunsFormed strict (form_of events) old new status
+-- the same in the form that `--events` and `--color` name, where a terminal shows the output or doesn't
+abbrev pub RunsLive : Bool → Bool → Option (List ℕ) → Option (List ℕ) → Option (List ℕ) → Option (List ℕ) → ℕ → Type 0
+RunsLive shown strict events color old new status =
+    RunsFormed strict (form_of (style_of events) (colours_of shown color)) old new status

@@ -1,5 +1,5 @@
 -- What a run of the program does.
-use Rattle.std.specs.Prelude.{◌≡◌, ◌⊎◌, ℕ, List, Option, string_bytes}
+use Rattle.std.specs.Prelude.{◌≡◌, ◌⊎◌, ℕ, Bool, List, Option, string_bytes}
 use Rattle.std.specs.Io.KnownBytes.{Appends, Keeps}
 use Rattle.clap.specs.declared.builder.value_parser.ValueParser.{ValueParser}
 use Rattle.apd_files.specs.Beginning.{AppendsBeginning}
@@ -36,15 +36,16 @@ Refuses old new status = (new ≡ old) × ((status ≡ 2) ⊎ (status ≡ 3))
 abbrev pub Responds : Held → Wanted → Option (List ℕ) → Option (List ℕ) → ℕ → Type 0
 Responds files (Answer a output) old new status = Performs files a output old new status
 Responds files (Run config script workers states work quiet strict verbose) old new status = Refuses old new status
-Responds files (Live config workers states work strict verbose clock events) old new status = Refuses old new status
+Responds files (Live config workers states work strict verbose clock events color) old new status = Refuses old new status
 
--- what is wanted is done: a script runs from its first line, or lines as they come
-abbrev pub Fulfils : Held → Wanted → Option (List ℕ) → Option (List ℕ) → ℕ → Type 0
-Fulfils files (Answer a output) old new status = Performs files a output old new status
-Fulfils files (Run config script workers states work quiet strict verbose) old new status =
+-- what is wanted is done: a script runs from its first line, or lines as they come, whose answers a terminal shows or
+-- doesn't
+abbrev pub Fulfils : Bool → Held → Wanted → Option (List ℕ) → Option (List ℕ) → ℕ → Type 0
+Fulfils shown files (Answer a output) old new status = Performs files a output old new status
+Fulfils shown files (Run config script workers states work quiet strict verbose) old new status =
     shows.Runs (in_lines strict) old new none status
-Fulfils files (Live config workers states work strict verbose clock events) old new status =
-    RunsLive strict events old new status
+Fulfils shown files (Live config workers states work strict verbose clock events color) old new status =
+    RunsLive shown strict events color old new status
 
 -- what is written for words that make no request, and the status
 abbrev pub Tells : Told → Option (List ℕ) → Option (List ℕ) → ℕ → Type 0

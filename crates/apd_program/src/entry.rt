@@ -53,9 +53,10 @@ where
         workers: asked.workers,
         manner: Manner {
             strict: asked.strict,
-            form: Form::Lines,
+            form: Form::LINES,
         },
         verbose: asked.verbose,
+        prompts: false,
     };
     let limits = Limits {
         states: StateLimit::nearest(asked.states),
@@ -111,17 +112,34 @@ where
     O: Write + Drop,
     E: Write,
     ensures fulfils { (w : Wanted) → Spells (map (λ word. word.now) words.entry.now) w
-        → Fulfils (F.held files.old) w (O.contents streams.out) (O.contents result.0) result.1 }
+        → Fulfils streams.shown (F.held files.old) w (O.contents streams.out) (O.contents result.0) result.1 }
 {
     let Messages { err, watched } = messages;
-    let Streams { input, out } = streams;
+    let Streams {
+        input,
+        out,
+        typed,
+        shown,
+    } = streams;
     let mut out = out;
     match read_words(alloc, words) {
         Ok(Request::Run(asked)) => {
             return run_watched(rt, alloc, asked, files, out, Messages { err, watched });
         }
         Ok(Request::Live(asked)) => {
-            return run_live(rt, alloc, asked, files, Streams { input, out }, err);
+            return run_live(
+                rt,
+                alloc,
+                asked,
+                files,
+                Streams {
+                    input,
+                    out,
+                    typed,
+                    shown,
+                },
+                err,
+            );
         }
         Ok(Request::Answer(query)) => {
             let status = respond(alloc, query, files, &mut out, err);

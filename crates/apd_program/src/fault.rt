@@ -47,7 +47,8 @@ pub(crate) enum ProgramFault {
     LongFrame,
     Context(String),
     NoThreads,
-    NoForm,
+    NoStyle,
+    NoColours,
     NoMemory,
 }
 
@@ -77,7 +78,10 @@ impl fmt::Display for ProgramFault {
             ProgramFault::LongFrame => f.write_str("apd: FRAME: more than 2400 bytes"),
             ProgramFault::Context(why) => write!(f, "apd: {why}"),
             ProgramFault::NoThreads => f.write_str("apd: a script is run by threads alone"),
-            ProgramFault::NoForm => f.write_str("apd: `--events` takes `text` or `json`"),
+            ProgramFault::NoStyle => f.write_str("apd: `--events` takes `text` or `json`"),
+            ProgramFault::NoColours => {
+                f.write_str("apd: `--color` takes `auto`, `always` or `never`")
+            }
             ProgramFault::NoMemory => f.write_str("apd: out of memory"),
         }
     }

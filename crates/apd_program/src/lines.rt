@@ -2,12 +2,14 @@
 
 ghost use Rattle.std.specs.Prelude.{◌≡◌};
 ghost use Rattle.apd_words.specs.Asked.{text_of};
-ghost use Rattle.apd_program.specs.Forms.{form_named, form_of, RunsLive};
+ghost use Rattle.apd_program.specs.Forms.{colours_named, colours_of, style_named, style_of, RunsLive};
 
 use crate::fault::ProgramFault;
 use crate::printing::complain;
 use apd_files::Files;
-use apd_run::{Form, Limits, Manner, OpenGate, RunWords, StateLimit, Streams, Supplies, live};
+use apd_run::{
+    Form, Limits, Manner, OpenGate, RunWords, StateLimit, Streams, Style, Supplies, live,
+};
 use apd_source::{Direct, Timed};
 use apd_words::LiveRun;
 use std::alloc::Global;
@@ -28,31 +30,56 @@ impl<R: Input> Read for Standard<R> {
     }
 }
 
-/// The form with a name.
-fn form_named(name: &str) -> Option<Form>
-    ensures is { result ≡ form_named name.now }
+/// The style with a name.
+fn style_named(name: &str) -> Option<Style>
+    ensures is { result ≡ style_named name.now }
 {
     if name == "text" {
-        Some(Form::Notices)
+        Some(Style::Notices)
     } else if name == "json" {
-        Some(Form::Json)
+        Some(Style::Json)
     } else {
         None
     }
 }
 
-/// The form that `--events` names; lines without it.
-fn form_of(events: Option<&str>) -> Option<Form>
-    ensures is { result ≡ form_of (text_of events.entry) }
+/// The style that `--events` names; lines without it.
+fn style_of(events: Option<&str>) -> Option<Style>
+    ensures is { result ≡ style_of (text_of events.entry) }
 {
     match events {
-        Some(name) => form_named(name),
-        None => Some(Form::Lines),
+        Some(name) => style_named(name),
+        None => Some(Style::Lines),
+    }
+}
+
+/// Whether a word asks for colours, if a terminal shows the output or doesn't.
+fn colours_named(shown: bool, name: &str) -> Option<bool>
+    ensures is { result ≡ colours_named shown name.now }
+{
+    if name == "auto" {
+        Some(shown)
+    } else if name == "always" {
+        Some(true)
+    } else if name == "never" {
+        Some(false)
+    } else {
+        None
+    }
+}
+
+/// Whether `--color` asks for colours; without it, a terminal gets them.
+fn colours_of(shown: bool, color: Option<&str>) -> Option<bool>
+    ensures is { result ≡ colours_of shown (text_of color.entry) }
+{
+    match color {
+        Some(name) => colours_named(shown, name),
+        None => Some(shown),
     }
 }
 
 /// Runs lines as they come on an input, with a clock if that is asked for. The status is 2 if `--events` names no
-/// form, and 3 if there is no memory for the thread that reads beside a clock.
+/// style or `--color` is another word, and 3 if there is no memory for the thread that reads beside a clock.
 pub(crate) fn run_live<R, F, I, O, E>(
     rt: &R,
     alloc: Global,
@@ -67,13 +94,21 @@ where
     I: Read + Drop + Send + 'static,
     O: Write + Drop,
     E: Write,
-    ensures runs { RunsLive asked.entry.strict (text_of asked.entry.events)
+    ensures runs { RunsLive streams.shown asked.entry.strict
+        (text_of asked.entry.events) (text_of asked.entry.color)
         (O.contents streams.out) (O.contents result.0) result.1 }
 {
-    let Streams { input, out } = streams;
-    let form = match form_of(asked.events) {
-        Some(form) => form,
-        None => return (out, complain(alloc, &ProgramFault::NoForm, err)),
+    let Streams {
+        input,
+        out,
+        typed,
+        shown,
+    } = streams;
+    let Some(style) = style_of(asked.events) else {
+        return (out, complain(alloc, &ProgramFault::NoStyle, err));
+    };
+    let Some(colours) = colours_of(shown, asked.color) else {
+        return (out, complain(alloc, &ProgramFault::NoColours, err));
     };
     let words = RunWords {
         config: asked.config,
@@ -81,9 +116,10 @@ where
         workers: asked.workers,
         manner: Manner {
             strict: asked.strict,
-            form,
+            form: Form { style, colours },
         },
         verbose: asked.verbose,
+        prompts: typed,
     };
     let limits = Limits {
         states: StateLimit::nearest(asked.states),
@@ -97,10 +133,34 @@ where
     };
     if !asked.clock {
         let input = Direct { input };
-        return live(rt, alloc, words, supplies, Streams { input, out }, err);
+        return live(
+            rt,
+            alloc,
+            words,
+            supplies,
+            Streams {
+                input,
+                out,
+                typed,
+                shown,
+            },
+            err,
+        );
     }
     match Timed::start(rt, alloc, rt, input) {
-        Ok(input) => return live(rt, alloc, words, supplies, Streams { input, out }, err),
+        Ok(input) => return live(
+            rt,
+            alloc,
+            words,
+            supplies,
+            Streams {
+                input,
+                out,
+                typed,
+                shown,
+            },
+            err,
+        ),
         Err(_) => return (out, complain(alloc, &ProgramFault::NoMemory, err)),
     }
 }

@@ -29,7 +29,7 @@ mod setting;
 
 pub use crate::crew::{Ready, Serving};
 pub use actions::{Publication, WordUse};
-pub use apd_text::{Form, Report, Told, Unread};
+pub use apd_text::{Form, Report, Style, Told, Unread};
 pub use console::Console;
 pub use manner::Manner;
 pub use operating::{Operating, Waiting};

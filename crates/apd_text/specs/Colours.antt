@@ -1,13 +1,7 @@
 -- Reports in colours.
 use Rattle.std.specs.Prelude.{ℕ, Bool, true, false, List, ◌∷◌, ◌++◌, codes, decimal, Option, Some, None}
-use Rattle.apd_text.specs.declared.reports.report.Form.{Form}
-use Rattle.apd_text.specs.declared.reports.report.Style.{Style}
 use Rattle.apd_text.specs.declared.reports.report.Told.{Told}
 use Rattle.apd_text.specs.declared.reports.report.Told.TheVariants as told
-
--- a style without colours
-abbrev pub plain : Style → Form
-plain style = record { style = style; colours = false }
 
 -- the colour of a report, if it has one: red (31) for what went wrong, green (32) for what is in force
 abbrev pub colour_of : Told → Option ℕ

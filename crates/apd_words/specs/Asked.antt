@@ -41,7 +41,7 @@ pub data Asked : Type 0 where
 -- the run of a script, or of lines as they come, or a question and the file for its answer, if there is one
 pub data Wanted : Type 0 where
   Run : Text → Text → ℕ → ℕ → Option ℕ → Bool → Bool → Bool → Wanted
-  Live : Text → ℕ → ℕ → Option ℕ → Bool → Bool → Bool → Option Text → Wanted
+  Live : Text → ℕ → ℕ → Option ℕ → Bool → Bool → Bool → Option Text → Option Text → Wanted
   Answer : Asked → Option Text → Wanted
 
 -- the text of a word, if there is one
@@ -124,7 +124,7 @@ wanted_run run =
 abbrev pub wanted_live : LiveRun → Wanted
 wanted_live run =
     Live run.config.now run.workers run.states run.work run.strict run.verbose run.clock
-    (text_of run.events)
+    (text_of run.events) (text_of run.color)
 
 -- what a query wants
 abbrev pub wanted_answer : Query → Wanted
@@ -240,7 +240,8 @@ run_of rows = do
   Some (Run config script workers states (work_at rows) (is_set (codes "quiet") rows)
       (is_set (codes "strict") rows) (is_set (codes "verbose") rows))
 
--- `live C [--workers N] [--states N] [--strict] [--verbose] [--clock] [--events FORM] [--work N]`
+-- `live C [--workers N] [--states N] [--strict] [--verbose] [--clock] [--events FORM] [--color WHEN]
+-- [--work N]`
 abbrev pub live_of : List Row → Option Wanted
 live_of rows = do
   config ← first_of (codes "C") rows
@@ -248,7 +249,7 @@ live_of rows = do
   states ← states_at rows
   Some (Live config workers states (work_at rows) (is_set (codes "strict") rows)
       (is_set (codes "verbose") rows) (is_set (codes "clock") rows)
-      (first_of (codes "events") rows))
+      (first_of (codes "events") rows) (first_of (codes "color") rows))
 
 -- `cert HOOK FILE [--config C] [--states N] [--work N]`
 abbrev pub certify_of : List Row → Option Asked

@@ -75,6 +75,10 @@ context = option (codes "context")
 abbrev pub events : Rule
 events = option (codes "events")
 
+-- `--color WHEN`
+abbrev pub color : Rule
+color = option (codes "color")
+
 -- the argument HOOK, which must be the name of one
 abbrev pub hook : ValueParser → Rule
 hook hooks = record (required (codes "HOOK")) { parser = Some hooks }
@@ -138,12 +142,13 @@ run numbers =
     ∷ workers numbers ∷ states ∷ flag (codes "quiet") ∷ flag (codes "strict")
     ∷ flag (codes "verbose") ∷ work ∷ [])
 
--- `live C [--workers N] [--states N] [--strict] [--verbose] [--clock] [--events FORM] [--work N]`
+-- `live C [--workers N] [--states N] [--strict] [--verbose] [--clock] [--events FORM] [--color WHEN]
+-- [--work N]`
 abbrev pub live : ValueParser → Shape
 live numbers =
     command (codes "live") (required (codes "C") ∷ workers numbers ∷ states
     ∷ flag (codes "strict") ∷ flag (codes "verbose") ∷ flag (codes "clock") ∷ events
-    ∷ work ∷ [])
+    ∷ color ∷ work ∷ [])
 
 -- `cert HOOK FILE [--config C] [--states N] [-o FILE] [--work N]`
 abbrev pub certify : ValueParser → Shape

@@ -5,7 +5,7 @@ ghost use Rattle.clap.specs.Words.{App, Rule, Shape, app_of, rule_of, with_subco
 ghost use Rattle.clap.specs.Simple.{new_shape};
 ghost use Rattle.clap.specs.declared.builder.value_parser.ValueParser.TheVariants.{Names};
 ghost use Rattle.apd_words.specs.Built.{IsProgram, IsCommand, with_argument};
-ghost use Rattle.apd_words.specs.CommandLine.{command_line, program, with_code_commands, with_trial_commands, with_run_commands, with_certificate_commands, with_reading_commands, hook_command, required, optional, flag, hook, file, config, against, json, output, context, events, workers, states, work, verify, assemble, disassemble, trace, evaluate, run, live, certify, check, explain, frames, test, help};
+ghost use Rattle.apd_words.specs.CommandLine.{command_line, program, with_code_commands, with_trial_commands, with_run_commands, with_certificate_commands, with_reading_commands, hook_command, required, optional, flag, hook, file, config, against, json, output, context, events, color, workers, states, work, verify, assemble, disassemble, trace, evaluate, run, live, certify, check, explain, frames, test, help};
 
 use clap::builder::ValueParser;
 use clap::{Arg, ArgAction, Command};
@@ -257,7 +257,8 @@ fn live<'a>(alloc: Global, numbers: &'a [&'a str]) -> Made<'a>
     let command = with_arg(command, flag(alloc, "verbose", verbose));
     let clock = "Let time pass by the clock, too";
     let command = with_arg(command, flag(alloc, "clock", clock));
-    with_arg(with_arg(command, events(alloc)), work(alloc))
+    let command = with_arg(with_arg(command, events(alloc)), color(alloc));
+    with_arg(command, work(alloc))
 }
 
 fn certify<'a>(alloc: Global, hooks: &'a [&'a str]) -> Made<'a>
@@ -433,6 +434,17 @@ fn events<'a>(alloc: Global) -> Arg<'a>
         .value_name("FORM")
         .action(ArgAction::Set)
         .help("Tell what frames mean: `text` beside the frames, `json` in their place")
+}
+
+fn color<'a>(alloc: Global) -> Arg<'a>
+    ensures is { rule_of result ≡ color }
+    ensures local { result.global ≡ false }
+{
+    Arg::new(alloc, "color")
+        .long("color")
+        .value_name("WHEN")
+        .action(ArgAction::Set)
+        .help("Colours in the answers: `auto` (at a terminal), `always` or `never`")
 }
 
 fn workers<'a>(alloc: Global, numbers: &'a [&'a str]) -> Arg<'a>

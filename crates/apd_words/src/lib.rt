@@ -92,7 +92,8 @@ pub struct ScriptRun<'a> {
 
 /// An access point of 1 to 8 workers that answers lines as they come on standard input. `strict` ends it after the first
 /// interval in which a line was malformed or refused, and `verbose` reports each load on standard error. By `clock` time
-/// passes also by the clock, and `events` says how events are told, as it was written.
+/// passes also by the clock; `events` says how events are told, and `color` when answers have colours, as they were
+/// written.
 #[derive(Clone, Copy)]
 pub struct LiveRun<'a> {
     pub config: &'a str,
@@ -103,6 +104,7 @@ pub struct LiveRun<'a> {
     pub verbose: bool,
     pub clock: bool,
     pub events: Option<&'a str>,
+    pub color: Option<&'a str>,
 }
 
 /// A request that runs no script. Paths, frames and numbers are as they were written. The verifier may examine 1 to

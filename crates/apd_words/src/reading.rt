@@ -162,6 +162,7 @@ fn live<'a>(matches: &ArgMatches<'a>) -> Option<Request<'a>>
     let verbose = flag(matches, "verbose");
     let clock = flag(matches, "clock");
     let events = value(matches, "events");
+    let color = value(matches, "color");
     Some(Request::Live(LiveRun {
         config,
         workers,
@@ -171,6 +172,7 @@ fn live<'a>(matches: &ArgMatches<'a>) -> Option<Request<'a>>
         verbose,
         clock,
         events,
+        color,
     }))
 }
 

@@ -26,6 +26,8 @@ fn main(rt: HostRuntime) -> io::Result<()> {
             let streams = Streams {
                 input: Standard { rt },
                 out: rt.stdout(),
+                typed: false,
+                shown: false,
             };
             answer(&rt, alloc, &line, streams)?;
         }

@@ -125,6 +125,8 @@ pub fn lived<R: Threads + Wait + Sync, S: Source + Drop>(
     let streams = Streams {
         input,
         out: Vec::new(alloc),
+        typed: false,
+        shown: false,
     };
     let mut err = Vec::new(alloc);
     let (out, status) = live(rt, alloc, asked, supplies, streams, &mut err);

@@ -4,7 +4,7 @@ use crate::clocks::{AGREED, HELD, Steps, lived};
 use crate::lab::{ASSOCIATION, AUTHENTICATION, joined};
 use crate::memory::words;
 use crate::same::same;
-use apd_run::{Form, Manner, RunWords};
+use apd_run::{Form, Manner, RunWords, Style};
 use std::alloc::Global;
 use std::process::Abort;
 use std::sync::Wait;
@@ -41,8 +41,8 @@ const OBJECTS: &str = "{\"line\":1,\"event\":\"authenticated\",\"station\":\"020
     {\"line\":9,\"event\":\"left\",\"station\":\"02000000000a\",\"reason\":3}\n\
     total events 16 sent 5 up 2 dropped 1 notes 1\n";
 
-/// Fails if a session in a form, by one, two or eight workers, prints something else.
-fn prints<R: Threads + Wait + Abort + Sync>(rt: &R, alloc: Global, form: Form, printed: &str) {
+/// Fails if a session in a style, by one, two or eight workers, prints something else.
+fn prints<R: Threads + Wait + Abort + Sync>(rt: &R, alloc: Global, style: Style, printed: &str) {
     let text = joined(rt, alloc, &[AUTHENTICATION, ASSOCIATION, AGREED, HELD]);
     let steps = [
         (text.as_str(), 0),
@@ -59,7 +59,10 @@ fn prints<R: Threads + Wait + Abort + Sync>(rt: &R, alloc: Global, form: Form, p
         };
         let manner = Manner {
             strict: false,
-            form,
+            form: Form {
+                style,
+                colours: false,
+            },
         };
         let asked = RunWords {
             manner,
@@ -73,10 +76,10 @@ fn prints<R: Threads + Wait + Abort + Sync>(rt: &R, alloc: Global, form: Form, p
 
 #[test]
 fn frames_are_followed_by_what_they_mean(rt: HostRuntime) {
-    prints(&rt, rt.alloc(), Form::Notices, NOTICED);
+    prints(&rt, rt.alloc(), Style::Notices, NOTICED);
 }
 
 #[test]
 fn outputs_are_objects(rt: HostRuntime) {
-    prints(&rt, rt.alloc(), Form::Json, OBJECTS);
+    prints(&rt, rt.alloc(), Style::Json, OBJECTS);
 }

@@ -60,7 +60,7 @@ fn prints(rt: &impl Abort, alloc: Global, reports: Vec<Report>, lines: &str) {
     let mut reports = reports;
     put_in_order(&mut reports).expect(rt, "memory");
     let mut out = Vec::new(alloc);
-    let printed = print_reports(alloc, &mut out, Form::Lines, reports.as_slice());
+    let printed = print_reports(alloc, &mut out, Form::LINES, reports.as_slice());
     holds(rt, printed.is_ok(), "printed");
     same(rt, out.as_slice(), lines.as_bytes(), "lines");
 }

@@ -82,6 +82,8 @@ fn lived_with<R: Threads + Wait + Sync, I: Read + Drop>(
     let streams = Streams {
         input: Direct { input },
         out: Vec::new(alloc),
+        typed: false,
+        shown: false,
     };
     let mut err = Vec::new(alloc);
     let (out, status) = live(rt, alloc, asked, supplies, streams, &mut err);
@@ -344,6 +346,8 @@ fn answers_are_flushed_before_the_next_read(rt: HostRuntime) {
             taken: 0,
             flushed: &flushed,
         },
+        typed: false,
+        shown: false,
     };
     let mut err = Vec::new(alloc);
     let (_, status) = live(&rt, alloc, words(2), supplies, streams, &mut err);
@@ -449,6 +453,8 @@ fn a_reader_that_goes_away_ends_a_run_quietly(rt: HostRuntime) {
                 input: Chunks::of(b"frame 00\n", 7),
             },
             out: Failing { why },
+            typed: false,
+            shown: false,
         };
         let mut err = Vec::new(alloc);
         let (_, status) = live(&rt, alloc, words(2), supplies, streams, &mut err);

@@ -63,13 +63,13 @@ pub struct Outcome {
 /// A run that isn't strict, and prints lines.
 pub const MANNER: Manner = Manner {
     strict: false,
-    form: Form::Lines,
+    form: Form::LINES,
 };
 
 /// A strict run that prints lines.
 pub const STRICT: Manner = Manner {
     strict: true,
-    form: Form::Lines,
+    form: Form::LINES,
 };
 
 /// The arguments to run the file `script` with the configuration `config` by `workers` workers.
@@ -80,6 +80,7 @@ pub fn words(workers: u8) -> RunWords<'static> {
         workers,
         manner: MANNER,
         verbose: false,
+        prompts: false,
     }
 }
 

@@ -89,7 +89,7 @@ fn ran<R: Threads + Wait + Abort + Sync>(
         text: Vec::new(alloc),
         manner: Manner {
             strict,
-            form: Form::Lines,
+            form: Form::LINES,
         },
     };
     run_script(rt, alloc, staff, commands.as_slice(), page)

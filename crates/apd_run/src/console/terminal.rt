@@ -17,6 +17,8 @@ pub(crate) struct Terminal<'a, O: Drop, E> {
     pub err: &'a mut E,
     pub notes: Notes,
     pub manner: Manner,
+    /// Whether a prompt on standard error asks for lines.
+    pub prompts: bool,
     /// Whether all that was written is flushed.
     pub is_flushed: bool,
     /// Whether a write failed since nobody reads standard output any more.
@@ -31,6 +33,20 @@ impl<'a, O: Drop, E> Terminal<'a, O, E> {
     {
         self.is_flushed = false;
         self.reader_left = error.kind() == ErrorKind::BrokenPipe;
+    }
+}
+
+impl<'a, O: Drop, E: Write> Terminal<'a, O, E> {
+    /// Asks whoever types for a line.
+    fn prompt(&mut self)
+        ensures out { self.new.out ≡ self.old.out }
+        ensures manner { self.new.manner ≡ self.old.manner }
+        ensures flushed { self.new.is_flushed ≡ self.old.is_flushed }
+    {
+        if self.prompts {
+            let _ = self.err.write_all(b"> ");
+            let _ = self.err.flush();
+        }
     }
 }
 
@@ -68,6 +84,7 @@ impl<'a, O: Write + Drop, E: Write> Console for Terminal<'a, O, E> {
         match self.out.flush() {
             Ok(()) => {
                 self.is_flushed = true;
+                self.prompt();
                 return Ok(());
             }
             Err(error) => {

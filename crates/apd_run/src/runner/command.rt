@@ -34,6 +34,8 @@ pub struct RunWords<'a> {
     pub manner: Manner,
     /// Whether messages tell of each load, and of each hook without a program at the end.
     pub verbose: bool,
+    /// Whether a prompt on standard error asks for lines.
+    pub prompts: bool,
 }
 
 /// Where the lines of `apd live` come from, with the time that passes, and where its answers go.
@@ -41,6 +43,10 @@ pub struct RunWords<'a> {
 pub struct Streams<S: Drop, P: Drop> {
     pub input: S,
     pub out: P,
+    /// Whether somebody types the input, at a terminal.
+    pub typed: bool,
+    /// Whether a terminal shows what is written to `out`.
+    pub shown: bool,
 }
 
 /// The configuration of an access point, and the lines that it does.
@@ -131,6 +137,7 @@ where
         workers,
         manner,
         verbose,
+        prompts,
         ..
     } = words;
     let Ok(notes) = Notes::new(alloc, script, &task.configuration.maps, verbose) else {
@@ -145,6 +152,7 @@ where
         err: &mut *err,
         notes,
         manner,
+        prompts,
         is_flushed: false,
         reader_left: false,
     };
@@ -252,7 +260,7 @@ where
     ensures runs { Runs words.entry.manner
         (P.contents streams.out) (P.contents result.0) none result.1 }
 {
-    let Streams { input, out } = streams;
+    let Streams { input, out, .. } = streams;
     let Supplies {
         files,
         limits,

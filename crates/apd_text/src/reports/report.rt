@@ -1,8 +1,5 @@
 //! What became of a script's lines.
 
-ghost use Rattle.std.specs.Prelude.{◌≡◌};
-ghost use Rattle.apd_text.specs.Colours.{plain};
-
 use crate::reports::notice::Dropped;
 use ap_model::Out;
 use apd_files::CodeFault;
@@ -80,13 +77,9 @@ pub struct Form {
 }
 
 impl Form {
-    /// A style without colours.
-    pub fn plain(style: Style) -> Form
-        ensures is { result ≡ plain style }
-    {
-        Form {
-            style,
-            colours: false,
-        }
-    }
+    /// Lines without colours.
+    pub const LINES: Form = Form {
+        style: Style::Lines,
+        colours: false,
+    };
 }
