@@ -4,4 +4,3 @@ use Rattle.apd_run.proofs.Ending.{runs_nothing}
 use Rattle.apd_program.proofs.Formed.{runs_formed, runs_in_no_colours, runs_in_no_style}
 use Rattle.apd_program.proofs.lines.run_live.Goals as goal
 
-?
