@@ -1,8 +1,8 @@
 -- Runs in the form that `--events` names.
 use Rattle.std.proofs.Common.{◌≡◌, ℕ, Bool, List, Option, Some, None, refl, subst}
-use Rattle.apd_text.specs.declared.reports.report.Form.{Form}
-use Rattle.apd_run.specs.Counts.{none}
-use Rattle.apd_run.specs.Shows.{IsBroken, Runs}
+use Rattle.apd_driver.specs.declared.reports.report.Form.{Form}
+use Rattle.apd_driver.specs.Counts.{none}
+use Rattle.apd_driver.specs.Shows.{IsBroken, Runs}
 use Rattle.apd_program.specs.Forms.{RunsFormed, RunsLive, form_of}
 
 -- it names a form, and the run prints in this

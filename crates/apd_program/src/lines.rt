@@ -6,9 +6,9 @@ ghost use Rattle.apd_program.specs.Forms.{form_named, form_of, RunsLive};
 
 use crate::fault::ProgramFault;
 use crate::printing::complain;
+use apd_driver::{Direct, Form, Manner, Timed};
 use apd_files::Files;
-use apd_run::{Form, Manner, OpenGate, RunWords, StateLimit, Streams, Supplies, live};
-use apd_source::{Direct, Timed};
+use apd_run::{OpenGate, RunWords, StateLimit, Streams, Supplies, live};
 use apd_words::LiveRun;
 use std::alloc::Global;
 use std::io::{self, Input, Read, Write};

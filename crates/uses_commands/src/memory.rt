@@ -1,7 +1,8 @@
 //! Files in memory, and runs with them.
 
+use apd_driver::{Form, Manner};
 use apd_files::{FileFault, Files};
-use apd_run::{Form, Manner, OpenGate, RunWords, StateLimit, Supplies, Watcher, run};
+use apd_run::{OpenGate, RunWords, StateLimit, Supplies, Watcher, run};
 use std::alloc::Global;
 use std::sync::Wait;
 use std::thread::Threads;
