@@ -1,9 +1,9 @@
 -- Runs in the form that `--events` and `--color` name.
 use Rattle.std.proofs.Common.{◌≡◌, ℕ, Bool, List, Option, Some, None, refl, sym, subst, ◌∙◌}
-use Rattle.apd_text.specs.declared.reports.report.Form.{Form}
-use Rattle.apd_text.specs.declared.reports.report.Style.{Style}
-use Rattle.apd_run.specs.Counts.{none}
-use Rattle.apd_run.specs.Shows.{IsBroken, Runs}
+use Rattle.apd_driver.specs.declared.reports.report.Form.{Form}
+use Rattle.apd_driver.specs.declared.reports.report.Style.{Style}
+use Rattle.apd_driver.specs.Counts.{none}
+use Rattle.apd_driver.specs.Shows.{IsBroken, Runs}
 use Rattle.apd_program.specs.Forms.{RunsFormed, RunsLive, colours_of, form_of, style_of}
 
 form_named : (style : Style) (colours : Bool) (s : Option Style) (b : Option Bool) → Some style ≡ s → Some colours ≡ b

@@ -6,9 +6,9 @@ use Rattle.apd_words.specs.Asked.{Asked, Wanted, Run as RunWanted, Live as LiveW
 use Rattle.apd_words.specs.Reads.{TellsOf}
 use Rattle.apd_words.specs.declared.Told.{Told}
 use Rattle.apd_words.specs.declared.Told.TheVariants as told
-use Rattle.apd_run.specs.Counts.{none}
-use Rattle.apd_run.proofs.Ending.{runs_nothing}
-use Rattle.apd_text.specs.declared.reports.report.Form.{Form}
+use Rattle.apd_driver.specs.Counts.{none}
+use Rattle.apd_driver.proofs.Ending.{runs_nothing}
+use Rattle.apd_driver.specs.declared.reports.report.Form.{Form}
 use Rattle.apd_program.specs.Forms.{RunsFormed, colours_of, form_of, in_lines, style_of}
 use Rattle.apd_program.specs.declared.answer.Answer.{Answer}
 use Rattle.apd_program.specs.declared.answer.Answer.TheVariants.{Accepted, Code, Instructions, Run, Verdicts, Differences, Page, Script, CutScript, Tested, Help, Fault, Refused, LineFault, Certificate, Unaccepted}

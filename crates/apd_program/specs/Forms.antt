@@ -1,12 +1,12 @@
 -- How a run prints.
 use Rattle.std.specs.Prelude.{◌≡◌, ℕ, List, Bool, true, false, Option, Some, None, codes, if◌then◌else◌}
 use Rattle.std.specs.Str.{bytes_eq}
-use Rattle.apd_text.specs.declared.reports.report.Form.{Form}
-use Rattle.apd_text.specs.declared.reports.report.Style.{Style}
-use Rattle.apd_text.specs.declared.reports.report.Style.TheVariants.{Lines, Notices, Json}
-use Rattle.apd_run.specs.Counts.{none}
-use Rattle.apd_run.specs.Shows.{IsBroken, Runs}
-use Rattle.apd_run.specs.declared.manner.Manner.{Manner}
+use Rattle.apd_driver.specs.declared.reports.report.Form.{Form}
+use Rattle.apd_driver.specs.declared.reports.report.Style.{Style}
+use Rattle.apd_driver.specs.declared.reports.report.Style.TheVariants.{Lines, Notices, Json}
+use Rattle.apd_driver.specs.Counts.{none}
+use Rattle.apd_driver.specs.Shows.{IsBroken, Runs}
+use Rattle.apd_driver.specs.declared.manner.Manner.{Manner}
 
 -- a run that prints lines, without colours
 abbrev pub in_lines : Bool → Manner

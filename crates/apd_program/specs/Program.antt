@@ -3,8 +3,8 @@ use Rattle.std.specs.Prelude.{◌≡◌, ◌⊎◌, ℕ, Bool, List, Option, str
 use Rattle.std.specs.Io.KnownBytes.{Appends, Keeps}
 use Rattle.clap.specs.declared.builder.value_parser.ValueParser.{ValueParser}
 use Rattle.apd_files.specs.Beginning.{AppendsBeginning}
-use Rattle.apd_run.specs.Counts.{none}
-use Rattle.apd_run.specs.Shows as shows
+use Rattle.apd_driver.specs.Counts.{none}
+use Rattle.apd_driver.specs.Shows as shows
 use Rattle.apd_words.specs.Asked.{Asked, Wanted, Run, Live, Answer}
 use Rattle.apd_words.specs.CommandLine.{TakesNames, hook_names, worker_names}
 use Rattle.apd_words.specs.Reads.{AsksFor, IsHelp}

@@ -1,8 +1,8 @@
 //! From words to a status: `apd` runs a script, or lines as they come, with threads, or answers a question.
 
 ghost use Rattle.std.specs.Prelude.{◌≡◌, map};
-ghost use Rattle.apd_run.specs.Counts.{none};
-ghost use Rattle.apd_run.specs.Shows.{Runs};
+ghost use Rattle.apd_driver.specs.Counts.{none};
+ghost use Rattle.apd_driver.specs.Shows.{Runs};
 ghost use Rattle.apd_words.specs.Asked.{Wanted};
 ghost use Rattle.apd_words.specs.Spells.{Spells};
 ghost use Rattle.apd_program.specs.Program.{Fulfils};
@@ -10,10 +10,9 @@ ghost use Rattle.apd_program.specs.Forms.{in_lines};
 
 use crate::lines::run_live;
 use crate::program::{respond, tell};
+use apd_driver::{Form, Manner};
 use apd_files::Files;
-use apd_run::{
-    Form, Limits, Manner, OpenGate, Progress, RunWords, StateLimit, Streams, Supplies, run,
-};
+use apd_run::{Limits, OpenGate, Progress, RunWords, StateLimit, Streams, Supplies, run};
 use apd_words::{Request, ScriptRun, read_words};
 use std::alloc::Global;
 use std::io::{Read, Write};

@@ -6,11 +6,9 @@ ghost use Rattle.apd_program.specs.Forms.{colours_named, colours_of, style_named
 
 use crate::fault::ProgramFault;
 use crate::printing::complain;
+use apd_driver::{Direct, Form, Manner, Style, Timed};
 use apd_files::Files;
-use apd_run::{
-    Form, Limits, Manner, OpenGate, RunWords, StateLimit, Streams, Style, Supplies, live,
-};
-use apd_source::{Direct, Timed};
+use apd_run::{Limits, OpenGate, RunWords, StateLimit, Streams, Supplies, live};
 use apd_words::LiveRun;
 use std::alloc::Global;
 use std::io::{self, Input, Read, Write};

@@ -1,15 +1,20 @@
 -- What changes of tokens and of loads preserve.
-use Rattle.std.proofs.Common.{◌≡◌, ℕ, sym, ap, subst, ◌∙◌}
-use Rattle.ap_books.specs.Holdings.{Holding, HasParts}
+use Rattle.std.proofs.Common.{◌≡◌, ℕ, List, [], sym, ap, subst, ◌∙◌}
+use Rattle.ap_model.specs.Readings.{Config}
+use Rattle.ap_books.specs.Counts.{none}
+use Rattle.ap_books.specs.Holdings.{Holding, HasParts, sum_of}
 use Rattle.ap_shards.specs.Tokens.{Eight, holding_of}
-use Rattle.ap_live.specs.Counting.{KeepParts, counted_by}
+use Rattle.ap_live.specs.Counting.{counted_by}
+use Rattle.ap_live.specs.Serving.{Served}
 use Rattle.ap_live.specs.Tokens.{Operator, IsOperator, Worker, IsWorker}
+use Rattle.ap_live.specs.declared.tagged.Tagged.{Tagged}
 use Rattle.logbook.specs.Pages.{Book}
 use Rattle.versions.specs.Lists.{Beginning}
 use Rattle.versions.specs.Sets.{set_of}
 use Rattle.apd_run.specs.Budgets.{AreBudgets}
 use Rattle.apd_run.specs.declared.access.budgets.Budgets.{Budgets}
 use Rattle.apd_run.specs.Hands.{RunOperator, IsRunOperator, RunWorker, IsRunWorker}
+use Rattle.apd_run.proofs.Served.{more_counted, nothing_counted}
 use Rattle.apd_run.proofs.Sums.{keeps_parts}
 
 -- an operator whose token has the same parts of the ledgers
@@ -48,14 +53,15 @@ other_loads shares list o b budgets same in_force h =
       in_force = in_force;
     }
 
--- a worker whose token has other parts of the ledgers, one of each
-pub other_parts : (list : Book) (w : RunWorker) (t : Worker) (fresh : Holding) → t ≡ record w.token { shards = t.shards } → holding_of t.shards ≡ fresh → HasParts 1 fresh
-    → IsRunWorker list w → IsRunWorker list (record w { token = t })
-other_parts list w t fresh same taken one h =
+-- a worker whose token has other parts of the ledgers, one of each, which have counted nothing
+pub other_parts : (list : Book) (w : RunWorker) (t : Worker) (fresh : Holding) (handled : List Tagged) → t ≡ record w.token { shards = t.shards } → holding_of t.shards ≡ fresh
+    → HasParts 1 fresh → sum_of fresh ≡ none → handled ≡ [] → IsRunWorker list w → IsRunWorker list (record w { token = t; handled = handled })
+other_parts list w t fresh handled same taken one nothing empty h =
     record {
       own = subst (IsWorker w.ap) (sym same) (record { number = h.own.number; pass = h.own.pass; list = h.own.list; fitting = h.own.fitting });
       list_is = h.list_is;
       parts = subst (HasParts 1) (sym taken) one;
+      counts = nothing_counted _ _ (ap sum_of taken ∙ nothing) empty;
     }
 
 -- a worker whose token has the same parts of the ledgers
@@ -65,8 +71,16 @@ same_parts list w t own same h =
       own = own;
       list_is = h.list_is;
       parts = subst (λ (e : Eight). HasParts 1 (holding_of e)) (sym same) h.parts;
+      counts = ap counted_by same ∙ h.counts;
     }
 
 -- a worker that served
-pub served_worker : (list : Book) (w : RunWorker) (t : Worker) → IsWorker w.ap t → KeepParts w.token.shards t.shards → IsRunWorker list w → IsRunWorker list (record w { token = t })
-served_worker list w t own keep h = record { own = own; list_is = h.list_is; parts = keeps_parts 1 w.token.shards t.shards keep h.parts }
+pub served_worker : (config : Config) (list : Book) (w : RunWorker) (t : Worker) (handled : List Tagged) → IsWorker w.ap t → Served config w.ap w.token t w.handled handled
+    → IsRunWorker list w → IsRunWorker list (record w { token = t; handled = handled })
+served_worker config list w t handled own served h =
+    record {
+      own = own;
+      list_is = h.list_is;
+      parts = keeps_parts 1 w.token.shards t.shards served.parts h.parts;
+      counts = more_counted _ _ _ _ served.tags h.counts served.listed served.counted;
+    }

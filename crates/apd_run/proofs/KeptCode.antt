@@ -8,7 +8,7 @@ use Rattle.bpf_decode.specs.declared.fault.DecodeFault.TheVariants as fault
 use Rattle.bpf_verifier.specs.declared.limit.Limits.{Limits}
 use Rattle.versions.specs.Lists.{Beginning}
 use Rattle.apd_files.specs.Held.{Keeps, Whole, Part}
-use Rattle.apd_text.specs.declared.reports.report.Told.{Told}
+use Rattle.apd_driver.specs.declared.reports.report.Told.{Told}
 use Rattle.apd_run.specs.Loading as load
 use Rattle.apd_run.specs.Adopting as adopt
 

@@ -1,6 +1,3 @@
-pub mod Tallying
-pub mod Waits
-pub mod Broken
 pub mod KeptCode
 pub mod Putting
 pub mod Sums
@@ -8,9 +5,6 @@ pub mod Served
 pub mod Keeping
 pub mod Loading
 pub mod OneByOne
-pub mod Ending
-pub mod Batches
-pub mod Entries
 pub mod Counted
 pub mod Budgeting
 pub mod Rising

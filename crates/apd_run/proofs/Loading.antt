@@ -7,7 +7,7 @@ use Rattle.bpf_verifier.specs.declared.limit.Limits.{Limits}
 use Rattle.versions.specs.Lists.{Beginning}
 use Rattle.apd_files.specs.Held.{Held}
 use Rattle.apd_run.specs.Reports.{Told}
-use Rattle.apd_run.specs.Tallies.{told_counts}
+use Rattle.apd_driver.specs.Tallies.{told_counts}
 use Rattle.apd_run.specs.Adopting as adopting
 use Rattle.apd_run.specs.Loading.{LoadsProgram, Admitted, NotAdmitted, NoRoomToLoad, LoadsCode, Decoded, NotDecoded, NoRoomToDecode, LoadsFile, Read, NotRead, NoRoomToRead}
 

@@ -14,8 +14,8 @@ use Rattle.versions.specs.Sets.{load}
 use Rattle.versions_checked.specs.Publishing.{IsRefusal}
 use Rattle.versions_checked.specs.declared.fault.CheckedFault.TheVariants as checked
 use Rattle.versions_checked.specs.declared.publishing.Offer.{Offer}
-use Rattle.apd_text.specs.declared.reports.report.Told.{Told}
-use Rattle.apd_text.specs.declared.reports.report.Told.TheVariants.{Loaded}
+use Rattle.apd_driver.specs.declared.reports.report.Told.{Told}
+use Rattle.apd_driver.specs.declared.reports.report.Told.TheVariants.{Loaded}
 use Rattle.apd_run.specs.Loading.{IsInForce, PutsInForce, InForce, NoRoomToPut, LoadsProgram, Admitted, NoRoomToLoad}
 use Rattle.apd_run.specs.Adopting.{AdoptsProgram, Certified, NotCertified, NotChecked, NoRoomToAdopt, certificate_told}
 

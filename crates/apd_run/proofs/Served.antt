@@ -2,19 +2,15 @@
 use Rattle.std.proofs.Common.{◌≡◌, ℕ, List, [], ◌∷◌, ◌++◌, refl, sym, ap, ◌∙◌, zero-add}
 use Rattle.std.specs.Prelude.{true, false, None}
 use Rattle.std.proofs.lemmas.List.Sums.{sum_by-append}
-use Rattle.ap_model.specs.Readings.{Config}
 use Rattle.ap_model.specs.declared.event.Event.{Event}
 use Rattle.ap_books.specs.Counts.{Counts, none, plus}
-use Rattle.ap_live.specs.Counting.{counted_by, fate_counts, tally}
-use Rattle.ap_live.specs.Lives.{Live}
-use Rattle.ap_live.specs.Serving.{Served}
-use Rattle.ap_live.specs.Tokens.{Worker}
+use Rattle.ap_live.specs.Counting.{fate_counts, tally}
 use Rattle.ap_shards.specs.declared.fate.Fate.{Fate}
 use Rattle.ap_shards.specs.declared.fate.Fate.TheVariants.{Decided, Refused, NotHandled}
 use Rattle.ap_live.specs.declared.tagged.Tagged.{Tagged}
-use Rattle.apd_run.specs.Crews.{Collects, Crew, gains}
+use Rattle.apd_driver.specs.Crews.{Collects, Crew, gains}
 use Rattle.apd_run.specs.Reports.{Handled, Memory, Report}
-use Rattle.apd_run.specs.Tallies.{Serves, report_counts, tallied, told_counts}
+use Rattle.apd_driver.specs.Tallies.{report_counts, tallied, told_counts}
 use Rattle.apd_run.specs.Telling.{dropped_in, report_if, reports_in, reports_of, told_of}
 use Rattle.apd_run.proofs.Sums.{none_plus, plus_three}
 
@@ -66,10 +62,6 @@ collects_told crew crew2 list list2 tags listed counted =
     }
 
 -- ---- what workers counted
-
--- what was served, as a run sees it
-pub served_tags : (config : Config) (a : Live) (w w2 : Worker) (list list2 : List Tagged) → Served config a w w2 list list2 → Serves (counted_by w.shards) (counted_by w2.shards) list list2
-served_tags config a w w2 list list2 s = record { tags = s.tags; listed = s.listed; counts = s.counted }
 
 -- no event counts nothing
 pub tally_none : tally [] ≡ none

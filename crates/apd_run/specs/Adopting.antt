@@ -18,9 +18,9 @@ use Rattle.apd_files.specs.Faults.{IsFaultOf}
 use Rattle.apd_files.specs.declared.inputs.files.FileKind.TheVariants as kind
 use Rattle.apd_files.specs.declared.inputs.code.CodeFault.{CodeFault}
 use Rattle.apd_files.specs.declared.inputs.code.CodeFault.TheVariants as read
-use Rattle.apd_text.specs.declared.reports.report.Unread.TheVariants as unread
-use Rattle.apd_text.specs.declared.reports.report.Told.{Told}
-use Rattle.apd_text.specs.declared.reports.report.Told.TheVariants.{Memory, Loaded, Fault, Certificate, Unreadable}
+use Rattle.apd_driver.specs.declared.reports.report.Unread.TheVariants as unread
+use Rattle.apd_driver.specs.declared.reports.report.Told.{Told}
+use Rattle.apd_driver.specs.declared.reports.report.Told.TheVariants.{Memory, Loaded, Fault, Certificate, Unreadable}
 use Rattle.apd_run.specs.Loading.{IsInForce}
 
 -- the report on a certificate's fault

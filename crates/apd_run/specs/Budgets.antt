@@ -4,9 +4,9 @@ use Rattle.bpf_regions.specs.declared.hooks.Hook.{Hook}
 use Rattle.bpf_regions.specs.declared.hooks.Hook.TheVariants.{Association, Addba, Data}
 use Rattle.bpf_machine.specs.Verified.{Verified}
 use Rattle.versions.specs.Sets.{Programs}
-use Rattle.apd_text.specs.declared.answers.answer.ProgramRow.{ProgramRow}
-use Rattle.apd_text.specs.declared.reports.report.Told.{Told}
-use Rattle.apd_text.specs.declared.reports.report.Told.TheVariants.{Loaded}
+use Rattle.apd_driver.specs.declared.answers.answer.ProgramRow.{ProgramRow}
+use Rattle.apd_driver.specs.declared.reports.report.Told.{Told}
+use Rattle.apd_driver.specs.declared.reports.report.Told.TheVariants.{Loaded}
 use Rattle.apd_run.specs.declared.access.budgets.Budgets.{Budgets}
 
 -- a program's budget, if there is one

@@ -1,32 +1,36 @@
 -- The operator and the workers of a run.
-use Rattle.std.specs.Prelude.{◌≡◌, ◌+◌, ◌<◌, ℕ}
+use Rattle.std.specs.Prelude.{◌≡◌, ◌+◌, ◌<◌, ℕ, List}
 use Rattle.ap_books.specs.Counts.{none}
 use Rattle.ap_books.specs.Holdings.{Holding, HasParts, sum_of}
 use Rattle.ap_books.specs.Reading.{Reads}
 use Rattle.ap_books.specs.declared.totals.Totals.{Totals}
 use Rattle.ap_shards.specs.Pages.{EightPages, HasPages}
 use Rattle.ap_shards.specs.Tokens.{holding_of}
-use Rattle.ap_live.specs.Counting.{counted_by}
+use Rattle.ap_live.specs.Counting.{counted_by, tally}
 use Rattle.ap_live.specs.Lives.{Live}
 use Rattle.ap_live.specs.Opening.{parts_in_all}
 use Rattle.ap_live.specs.Tokens.{Operator, IsOperator, Worker, IsWorker}
+use Rattle.ap_live.specs.declared.tagged.Tagged.{Tagged}
 use Rattle.logbook.specs.Pages.{Book}
 use Rattle.versions.specs.Lists.{Beginning}
 use Rattle.versions.specs.Sets.{set_of}
 use Rattle.apd_run.specs.Budgets.{AreBudgets}
-use Rattle.apd_run.specs.Crews.{Crew}
+use Rattle.apd_driver.specs.Crews.{Crew}
 use Rattle.apd_run.specs.declared.access.budgets.Budgets.{Budgets}
 
--- a worker's access point and token
+-- a worker's access point and token, and what became of its events since the operator last took over its counts
 pub record RunWorker : Type 0 where
   pub ap : Live
   pub token : Worker
+  pub handled : List Tagged
 
--- its token belongs to the access point, whose published loads are this list, and has one part of each ledger
+-- Its token belongs to the access point, whose published loads are this list, and has one part of each ledger, which has
+-- counted what the events count.
 pub record IsRunWorker (list : Book) (w : RunWorker) : Type 0 where
   pub own : IsWorker w.ap w.token
   pub list_is : w.ap.list.list ≡ list
   pub parts : HasParts 1 (holding_of w.token.shards)
+  pub counts : counted_by w.token.shards ≡ tally w.handled
 
 -- An operator's access point and token, the parts of the ledgers and the pages that it keeps and how many of each they
 -- are, what these have counted, how many workers have one, what was published, and the budgets of the programs in force.

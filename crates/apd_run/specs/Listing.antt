@@ -8,8 +8,8 @@ use Rattle.assoc.specs.declared.standing.KnownStation.{KnownStation}
 use Rattle.ap_agreements.specs.declared.in_force.AgreementInForce.{AgreementInForce}
 use Rattle.ap_shards.specs.Listing.{Shows}
 use Rattle.ap_shards.specs.Tokens.{Eight}
-use Rattle.apd_text.specs.declared.answers.answer.AgreementRow.{AgreementRow}
-use Rattle.apd_text.specs.declared.answers.answer.StationRow.{StationRow}
+use Rattle.apd_driver.specs.declared.answers.answer.AgreementRow.{AgreementRow}
+use Rattle.apd_driver.specs.declared.answers.answer.StationRow.{StationRow}
 
 -- the association identifier of an associated station
 abbrev pub aid_of : Known → Option ℕ

@@ -7,6 +7,7 @@ use Rattle.bpf_decode.specs.declared.fault.DecodeFault.{DecodeFault}
 use Rattle.bpf_decode.specs.declared.fault.DecodeFault.TheVariants as decode
 use Rattle.bpf_model.specs.Run.{Safe}
 use Rattle.bpf_machine.specs.Verified.{Verified}
+use Rattle.bpf_rules.specs.Faults.{number_of}
 use Rattle.bpf_rules.specs.declared.fault.Fault.TheVariants as verify
 use Rattle.bpf_verifier.specs.Admission.{IsRefusalWithin}
 use Rattle.bpf_verifier.specs.declared.limit.Limits.{Limits}
@@ -18,9 +19,9 @@ use Rattle.apd_files.specs.Faults.{IsFaultOf}
 use Rattle.apd_files.specs.declared.inputs.files.FileKind.TheVariants as kind
 use Rattle.apd_files.specs.declared.inputs.code.CodeFault.{CodeFault}
 use Rattle.apd_files.specs.declared.inputs.code.CodeFault.TheVariants as read
-use Rattle.apd_text.specs.declared.reports.report.Unread.TheVariants as unread
-use Rattle.apd_text.specs.declared.reports.report.Told.{Told}
-use Rattle.apd_text.specs.declared.reports.report.Told.TheVariants.{Memory, Loaded, Fault, Refused, Unreadable}
+use Rattle.apd_driver.specs.declared.reports.report.Unread.TheVariants as unread
+use Rattle.apd_driver.specs.declared.reports.report.Told.{Told}
+use Rattle.apd_driver.specs.declared.reports.report.Told.TheVariants.{Memory, Loaded, Fault, Refused, Unreadable}
 
 -- the program is newly in force for the hook, and safe within its budget
 pub record IsInForce
@@ -44,13 +45,17 @@ pub record IsRefused
   pub of_verifier : IsRefusalWithin program limits refusal
   pub unchanged : new ≡ old
 
+-- the report on a refusal
+abbrev pub refused_told : Refusal → Told
+refused_told r = Refused (number_of r.fault) r.pc
+
 -- a load of a program, and its report
 pub data LoadsProgram
     (limits : Limits) (hook : Hook) (program : Code) (old new : Beginning) : Told → Type 0 where
   Admitted : (budget : ℕ) → IsInForce hook program old new budget → budget ≤ limits.states →
       LoadsProgram limits hook program old new (Loaded budget (length program.slots))
   NotAdmitted : (refusal : Refusal) → IsRefused limits program old new refusal →
-      LoadsProgram limits hook program old new (Refused refusal)
+      LoadsProgram limits hook program old new (refused_told refusal)
   NoRoomToLoad : new ≡ old → LoadsProgram limits hook program old new Memory
 
 -- the same of code, which spells one program for the maps in use, or has a fault

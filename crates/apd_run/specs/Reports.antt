@@ -1,5 +1,5 @@
--- A worker's report on a line, by `apd_text`.
+-- A worker's report on a line, by `apd_driver`.
 
-pub use Rattle.apd_text.specs.declared.reports.report.Report.{Report}
-pub use Rattle.apd_text.specs.declared.reports.report.Told.{Told}
-pub use Rattle.apd_text.specs.declared.reports.report.Told.TheVariants.{Handled, Memory}
+pub use Rattle.apd_driver.specs.declared.reports.report.Report.{Report}
+pub use Rattle.apd_driver.specs.declared.reports.report.Told.{Told}
+pub use Rattle.apd_driver.specs.declared.reports.report.Told.TheVariants.{Handled, Memory}

@@ -5,8 +5,8 @@ use Rattle.ap_shards.specs.declared.fate.Fate.TheVariants.{Decided, Refused, Not
 use Rattle.ap_live.specs.declared.tagged.Tagged.{Tagged}
 use Rattle.ap_model.specs.declared.event.Event.{Event}
 use Rattle.ap_model.specs.declared.event.Event.TheVariants.{Frame}
-use Rattle.apd_text.specs.Notices.{dropped_of}
-use Rattle.apd_text.specs.declared.reports.notice.Dropped.{Dropped}
+use Rattle.apd_driver.specs.Notices.{dropped_of}
+use Rattle.apd_driver.specs.declared.reports.notice.Dropped.{Dropped}
 use Rattle.apd_run.specs.Reports.{Report, Told, Handled, Memory}
 
 -- the octets of a received frame; none of another event

@@ -1,16 +1,18 @@
 //! Running a script, or lines as they come, on a live access point.
 //!
-//! Main call: `run_live`. It depends on `ap_live`, `loads` and `running`. A worker of the run serves the queue of one
-//! worker of the access point by `LiveAp::serve`, and reports each event. The operator submits events, loads and
-//! unloads programs and reads maps. The last line says what all shares of the ledgers have counted, which is what the
+//! Main call: `run_live`. It depends on `ap_live`, `apd_driver` and `loads`. A worker of the run serves the queue of one
+//! worker of the access point by `LiveAp::serve`, and keeps what became of each event. The operator submits events, loads
+//! and unloads programs and reads maps. The last line says what all shares of the ledgers have counted, which is what the
 //! reports count.
 mod budgets;
+mod counting;
 mod hands;
 mod hiring;
 mod listing;
 mod naming;
 mod operator;
 mod running;
+mod telling;
 mod worker;
 
 pub use crate::loads::{Limits, StateLimit};

@@ -1,12 +1,3 @@
-pub mod Words
-pub mod Notices
-pub mod NoticeTexts
-pub mod Json
-pub mod Colours
-pub mod Lines
-pub mod Order
-pub mod Answers
-pub mod Moving
 pub mod Pages
 pub mod Listing
 pub mod Raw

@@ -3,9 +3,9 @@
 use crate::lab::{ANSWERS, ASSOCIATION, AUTHENTICATION, LAB, file, joined};
 use crate::memory::{Memory, Outcome, words};
 use crate::same::same;
+use apd_driver::{Arrival, Direct, Passing, Source, Timed};
 use apd_files::FileFault;
 use apd_run::{Limits, OpenGate, RunWords, Streams, Supplies, live};
-use apd_source::{Arrival, Direct, Passing, Source, Timed};
 use std::alloc::Global;
 use std::io::{self, Read};
 use std::sync::Wait;

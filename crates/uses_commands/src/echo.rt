@@ -1,17 +1,15 @@
-//! An access point that reports each tick as refused, or, if it has no units, as not handled. It does what
-//! `run_script` requires of one.
+//! An access point that reports each tick as refused, unless it has no units. It does what `run_lines` requires of one.
 
-ghost use Rattle.std.specs.Prelude.{◌≡◌};
-ghost use Rattle.ap_books.specs.Counts.{none};
-ghost use Rattle.ap_live.specs.Counting.{fate_counts};
-ghost use Rattle.apd_run.specs.Tallies.{Serves};
+ghost use Rattle.std.specs.Prelude.{OnOk};
+ghost use Rattle.apd_driver.specs.Tells.{Tells};
 
 use ap_books::Totals;
-use ap_live::{Fate, Item, Tagged};
 use ap_model::Event;
+use apd_driver::{
+    AgreementRow, Operating, ProgramRow, Publication, Report, Serving, StationRow, Told, Unread,
+    Waiting, WordUse,
+};
 use apd_files::{CodeFault, FileFault};
-use apd_run::{Operating, Publication, Serving, Waiting, WordUse};
-use apd_text::{AgreementRow, ProgramRow, StationRow, Told, Unread};
 use std::alloc::{AllocError, Global};
 use std::sync::{Arc, Mutex, Wait};
 
@@ -25,9 +23,12 @@ pub struct Tick {
 /// A place for one tick, which a worker empties.
 pub type Place = Arc<Mutex<Option<Tick>>>;
 
-/// Serves one place.
+/// Serves one place, and keeps the lines of the ticks that it refused.
 #[derive(Drop)]
-pub struct Echo(pub Place);
+pub struct Echo {
+    pub place: Place,
+    pub refused: Vec<u64>,
+}
 
 /// Takes the tick of a place, if there is one.
 fn taken<R: Wait>(rt: &R, place: &Place) -> Option<Tick> {
@@ -37,49 +38,18 @@ fn taken<R: Wait>(rt: &R, place: &Place) -> Option<Tick> {
     tick
 }
 
-/// The fate of a tick.
-fn fate_of(units: u32) -> Fate
-    ensures nothing { fate_counts result ≡ none }
-{
-    if units == 0 {
-        Fate::NotHandled
-    } else {
-        Fate::Refused
-    }
-}
-
-/// Reports the tick of a place, if there is one; returns `true` if there is none.
-fn list_tick<R: Wait>(rt: &R, place: &Place, list: &mut Vec<Tagged>) -> Result<bool, AllocError>
-    ensures { Serves none none list.old.items list.new.items }
-{
-    list.reserve(1)?;
+/// Takes the tick of a place, and keeps its line if it has units. Returns whether there was one.
+fn take_tick<R: Wait>(rt: &R, place: &Place, refused: &mut Vec<u64>) -> Result<bool, AllocError> {
+    refused.reserve(1)?;
     match taken(rt, place) {
-        None => Ok(true),
+        None => Ok(false),
         Some(Tick { line, units }) => {
-            let item = Item {
-                call: line,
-                shard: 0,
-                event: Event::Tick(units),
-            };
-            list.push_reserved(Tagged {
-                item,
-                fate: fate_of(units),
-            });
-            Ok(false)
+            if units != 0 {
+                refused.push_reserved(line);
+            }
+            Ok(true)
         }
     }
-}
-
-/// Reports ticks until there is none.
-fn list_ticks<R: Wait>(rt: &R, place: &Place, list: &mut Vec<Tagged>) -> Result<(), AllocError>
-    ensures { Serves none none list.old.items list.new.items }
-{
-    for _ in rt.forever() {
-        if list_tick(rt, place, list)? {
-            return Ok(());
-        }
-    }
-    unreachable!()
 }
 
 impl Serving for Echo {
@@ -87,9 +57,38 @@ impl Serving for Echo {
 
     ghost counted = { λ _. none };
 
-    fn serve<R: Wait>(&mut self, rt: &R, list: &mut Vec<Tagged>) -> Result<(), AllocError> {
-        list_ticks(rt, &self.0, list)
+    fn serve<R: Wait>(&mut self, rt: &R) -> Result<bool, AllocError> {
+        let mut any = false;
+        for _ in rt.forever() {
+            if !take_tick(rt, &self.place, &mut self.refused)? {
+                return Ok(any);
+            }
+            any = true;
+        }
+        unreachable!()
     }
+}
+
+/// Appends a report on each of these lines that it was refused.
+fn report_refused(reports: &mut Vec<Report>, lines: &[u64]) -> Result<(), AllocError>
+    ensures told { OnOk result (Tells reports.old.items reports.new.items) }
+{
+    for line in lines {
+        report_one(reports, *line)?;
+    }
+    Ok(())
+}
+
+fn report_one(reports: &mut Vec<Report>, line: u64) -> Result<(), AllocError>
+    ensures told { OnOk result (Tells reports.old.items reports.new.items) }
+{
+    reports.reserve(1)?;
+    reports.push_reserved(Report {
+        line,
+        shard: 0,
+        told: Told::Memory,
+    });
+    Ok(())
 }
 
 /// A place for each worker, and the number of workers not dismissed.
@@ -178,7 +177,11 @@ impl Operating<Echo> for Places {
         Totals::new()
     }
 
-    fn settle(&mut self, _worker: &mut Echo, _list: &[Tagged]) {}
+    fn settle(&mut self, worker: &mut Echo, reports: &mut Vec<Report>) -> Result<(), AllocError> {
+        report_refused(reports, worker.refused.as_slice())?;
+        worker.refused.clear();
+        Ok(())
+    }
 
     fn dismiss(&mut self, _worker: Echo) {
         self.workers -= 1;

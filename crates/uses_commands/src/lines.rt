@@ -3,11 +3,9 @@
 use crate::same::{holds, same};
 use ap_books::Totals;
 use ap_model::{Octets, Out, Up};
+use apd_driver::{Form, Report, Told, Unread, print_reports, print_totals, put_in_order};
 use apd_files::{CodeFault, DigitFault};
-use apd_text::{Form, Report, Told, Unread, print_reports, print_totals, put_in_order};
 use bpf_decode::DecodeFault;
-use bpf_rules::Fault;
-use bpf_verifier::Refusal;
 use mac_types::{Address, SequenceNumber, Tid};
 use std::alloc::Global;
 use std::process::Abort;
@@ -98,7 +96,6 @@ fn outs_are_spelled(rt: HostRuntime) {
 #[test]
 fn answers_are_spelled(rt: HostRuntime) {
     let alloc = rt.alloc();
-    let fault = Fault::Unset;
     let reports = vec![in alloc;
         told(8, Told::Word { value: u64::MAX }),
         told(
@@ -106,7 +103,7 @@ fn answers_are_spelled(rt: HostRuntime) {
             Told::Unreadable(Unread::Certificate(CodeFault::Digits(DigitFault::Odd)))
         ),
         told(6, Told::Certificate { fault: 72 }),
-        told(5, Told::Refused(Refusal { fault, pc: 3 })),
+        told(5, Told::Refused { fault: 30, slot: 3 }),
         told(4, Told::Fault(DecodeFault::Empty)),
         told(
             3,

@@ -3,8 +3,8 @@
 use crate::lab::{ANSWERS, ASSOCIATION, AUTHENTICATION, LAB, file, joined};
 use crate::memory::{Memory, Outcome, STRICT, ran, words};
 use crate::same::same;
+use apd_driver::Direct;
 use apd_run::{Limits, OpenGate, RunWords, Streams, Supplies, live};
-use apd_source::Direct;
 use std::alloc::Global;
 use std::io::{self, Error, ErrorKind, Read, Write};
 use std::process::Abort;

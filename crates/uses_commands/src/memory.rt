@@ -1,7 +1,8 @@
 //! Files in memory, and runs with them.
 
+use apd_driver::{Form, Manner};
 use apd_files::{FileFault, Files};
-use apd_run::{Form, Limits, Manner, OpenGate, RunWords, Supplies, Watcher, run};
+use apd_run::{Limits, OpenGate, RunWords, Supplies, Watcher, run};
 use std::alloc::Global;
 use std::sync::Wait;
 use std::thread::Threads;

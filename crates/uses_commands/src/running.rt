@@ -4,9 +4,8 @@ ghost use Rattle.std.specs.Prelude.{◌≡◌, vec_len};
 
 use crate::echo::{Echo, Place, Places};
 use crate::same::same;
-use apd_run::{Console, Form, Manner, Ready, Staff, run_script};
+use apd_driver::{Console, Form, Manner, Ready, Report, Script, Staff, run_lines};
 use apd_script::{Numbered, read_script};
-use apd_text::Report;
 use bpf_regions::Shapes;
 use std::alloc::Global;
 use std::io;
@@ -61,7 +60,12 @@ fn staff(rt: &impl Abort, alloc: Global, workers: usize) -> Staff<Echo, Places>
         let mine = Arc::try_clone(&place).expect(rt, "one more owner");
         places.push(place).expect(rt, "memory");
         hands
-            .push(Ready { worker: Echo(mine) })
+            .push(Ready {
+                worker: Echo {
+                    place: mine,
+                    refused: Vec::new(alloc),
+                },
+            })
             .expect(rt, "memory");
     }
     let operator = Places {
@@ -92,7 +96,8 @@ fn ran<R: Threads + Wait + Abort + Sync>(
             form: Form::LINES,
         },
     };
-    run_script(rt, alloc, staff, commands.as_slice(), page)
+    let commands = commands.as_slice();
+    run_lines(rt, alloc, staff, Script { commands }, page)
 }
 
 const SCRIPT: &str = "tick 10\ntick 0\ntick 30\nunload data\nwait\ntick 60\nload data absent\n";

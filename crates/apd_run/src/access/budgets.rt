@@ -3,12 +3,12 @@
 ghost use Rattle.std.specs.Prelude.{◌≡◌, ◌++◌, IfOk, OnOk, None};
 ghost use Rattle.apd_run.specs.Budgets.{budget_rows, noted, put_budget, row_if};
 
-use apd_text::{ProgramRow, Told};
+use apd_driver::{ProgramRow, Told};
 use bpf_regions::Hook;
 use std::alloc::{AllocError, Global};
 
 /// The budget of each hook's program, if the hook has one.
-#[derive(Clone, Copy, Debug, PartialEq, Eq)]
+#[derive(Clone, Copy, PartialEq, Eq)]
 pub struct Budgets {
     pub association: Option<u32>,
     pub addba: Option<u32>,

@@ -3,7 +3,7 @@
 ghost use Rattle.std.specs.Prelude.{◌≡◌, IfOk, map};
 ghost use Rattle.ap_core.specs.Listing.{MergesAgreements, MergesStations};
 ghost use Rattle.ap_shards.specs.Listing.{Shows};
-ghost use Rattle.apd_run.specs.Asking.{AreAgreementsInOrder, AreStationsInOrder};
+ghost use Rattle.apd_driver.specs.Asking.{AreAgreementsInOrder, AreStationsInOrder};
 ghost use Rattle.apd_run.specs.Hands.{crew_of};
 ghost use Rattle.apd_run.specs.Listing.{ListsAgreements, ListsStations, agreement_row, station_row};
 
@@ -12,7 +12,7 @@ use crate::access::operator::LiveOperator;
 use ap_books::Ledgers;
 use ap_live::{AgreementInForce, Known, KnownStation};
 use ap_locked::Journals;
-use apd_text::{AgreementRow, StationRow};
+use apd_driver::{AgreementRow, StationRow};
 use std::alloc::{AllocError, Global};
 use std::sync::Wait;
 

@@ -3,32 +3,34 @@
 ghost use Rattle.std.specs.Prelude.{◌≡◌, ◌<◌, IfOk, IfSome};
 ghost use Rattle.ap_books.specs.Counts.{none};
 ghost use Rattle.ap_books.specs.Reading.{Reads};
-ghost use Rattle.ap_live.specs.Counting.{counted_by};
+ghost use Rattle.ap_live.specs.Counting.{counted_by, tally};
 ghost use Rattle.versions.specs.Sets.{set_of};
 ghost use Rattle.apd_run.specs.Budgets.{program_rows};
 ghost use Rattle.apd_run.specs.Hands.{crew_of};
-ghost use Rattle.apd_run.specs.Tallies.{told_counts};
-ghost use Rattle.apd_run.specs.Crews.{gains, with_one_more};
+ghost use Rattle.apd_driver.specs.Tallies.{told_counts};
+ghost use Rattle.apd_driver.specs.Crews.{gains, with_one_more};
 
 use crate::access::budgets::Budgets;
+use crate::access::counting::counted_in;
 use crate::access::naming::Publications;
+use crate::access::telling::report_all;
 use crate::access::worker::LiveWorker;
-use crate::actions::{Publication, WordUse};
-use crate::counting::counted_in;
 use crate::loads::{Adoption, Limits, Loads};
-use crate::{Operating, Told, Waiting};
 use ap_books::{Ledgers, Portions, Totals};
 use ap_live::{LiveAp, OperatorToken, Tagged};
 use ap_locked::Journals;
 use ap_model::Event;
 use ap_queues::Unserved;
 use ap_shards::AllPages;
+use apd_driver::{
+    AgreementRow, Operating, ProgramRow, Publication, Report, StationRow, Told, Waiting, WordUse,
+};
 use apd_files::{Files, path_of_word};
 use apd_script::MapWord;
-use apd_text::{AgreementRow, ProgramRow, StationRow};
 use bpf_regions::{Hook, Scope};
 use std::alloc::{AllocError, Global};
 use std::marker::{Model, PhantomData};
+use std::mem;
 use std::sync::Wait;
 
 /// The sources of programs: files, and what the verifier or a check may do for each program.
@@ -171,17 +173,18 @@ impl<'a, B: Ledgers + Journals, L: Publications, F: Files> LiveOperator<'a, B, L
 }
 
 impl<'a, B: Ledgers + Journals, L: Publications, F> LiveOperator<'a, B, L, F> {
-    /// Takes over a worker's counts, which are these numbers, and gives it fresh parts of the ledgers.
-    fn exchange<G: Drop>(&mut self, worker: &mut LiveWorker<'a, B, L, G>, numbers: Totals)
-        requires numbers { Reads numbers (counted_by worker.old.token.shards) }
-        ensures crew { crew_of self.new ≡
-            gains (crew_of self.old) (counted_by worker.old.token.shards) }
+    /// Takes over a worker's counts, gives it fresh parts of the ledgers, and returns what became of its events.
+    fn exchange<G: Drop>(&mut self, worker: &mut LiveWorker<'a, B, L, G>) -> Vec<Tagged>
+        ensures crew { crew_of self.new ≡ gains (crew_of self.old) (tally result.items) }
         ensures worker { counted_by worker.new.token.shards ≡ none }
     {
+        let handled = mem::replace(&mut worker.handled, Vec::new(worker.alloc));
+        let numbers = counted_in(handled.as_slice());
         let fresh = self.hoard.split_off(1);
         let counted = worker.token.renew(fresh);
         self.hoard.merge(counted);
         self.totals = self.totals.and(numbers);
+        handled
     }
 
     /// Tells a worker of the loads so far.
@@ -313,9 +316,15 @@ impl<'a, B: Ledgers + Journals, L: Publications, F: Files, G: Drop> Operating<
         self.totals
     }
 
-    fn settle(&mut self, worker: &mut LiveWorker<'a, B, L, G>, list: &[Tagged]) {
-        self.exchange(worker, counted_in(list));
+    fn settle(
+        &mut self,
+        worker: &mut LiveWorker<'a, B, L, G>,
+        reports: &mut Vec<Report>,
+    ) -> Result<(), AllocError> {
+        let handled = self.exchange(worker);
         self.tell(worker);
+        report_all(reports, handled)?;
+        Ok(())
     }
 
     fn dismiss(&mut self, worker: LiveWorker<'a, B, L, G>) {

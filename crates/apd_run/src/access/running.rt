@@ -10,22 +10,19 @@ ghost use Rattle.ap_shards.specs.Opening.{AreNamed};
 ghost use Rattle.ap_shards.specs.Pages.{HasPages};
 ghost use Rattle.apd_run.specs.Dealing.{AreHands, IsNewOperator, IsNewWorker};
 ghost use Rattle.apd_run.specs.Hands.{crew_of};
-ghost use Rattle.apd_run.specs.Shows.{Runs};
+ghost use Rattle.apd_driver.specs.Shows.{Runs};
 
 use crate::access::budgets::Budgets;
 use crate::access::hands::{Hands, deal};
 use crate::access::naming::Publications;
 use crate::access::operator::{LiveOperator, Sources};
 use crate::access::worker::LiveWorker;
-use crate::console::Console;
-use crate::lines::Lines;
 use crate::loads::{Limits, Loads};
-use crate::script::run_lines;
-use crate::{Ready, Staff};
 use ap_books::{Ledgers, Portions, Totals};
 use ap_live::{Gate, LiveAp, Opened, OperatorToken, Settings, WorkerToken};
 use ap_locked::Journals;
 use ap_shards::{AllPages, NewShards};
+use apd_driver::{Console, Lines, Ready, Staff, run_lines};
 use apd_files::Files;
 use bpf_regions::Shapes;
 use std::alloc::{AllocError, Global};
@@ -91,6 +88,7 @@ where
                 alloc,
                 gate,
                 token,
+                handled: Vec::new(alloc),
                 list: PhantomData,
             },
         });

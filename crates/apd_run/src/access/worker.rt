@@ -1,21 +1,23 @@
 //! The workers of a run.
 
-use crate::Serving;
 use crate::access::naming::Publications;
 use ap_books::Ledgers;
 use ap_live::{Gate, LiveAp, Tagged, WorkerToken};
 use ap_locked::Journals;
+use apd_driver::Serving;
 use std::alloc::{AllocError, Global};
 use std::marker::{Model, PhantomData};
 use std::sync::Wait;
 
-/// A worker of a run: its token, and what it needs for each event. Contracts see the access point and the token.
+/// A worker of a run: its token, what it needs for each event, and what became of each since the operator last took over
+/// its counts, which are what these count. Contracts see the access point, the token and the list.
 #[derive(Drop)]
 pub struct LiveWorker<'a, B: Ledgers + Journals, L: Publications, G: Drop> {
     pub(crate) ap: &'a LiveAp<B>,
     pub(crate) alloc: Global,
     pub(crate) gate: G,
     pub(crate) token: WorkerToken<B>,
+    pub(crate) handled: Vec<Tagged>,
     pub(crate) list: PhantomData<L>,
 }
 
@@ -24,9 +26,10 @@ impl<'a, B: Ledgers + Journals, L: Publications, G: Drop> Model for LiveWorker<'
 
     ghost Value = { RunWorker };
 
-    ghost view = { λ w. record { ap = w.ap.now; token = w.token } };
+    ghost view = { λ w. record { ap = w.ap.now; token = w.token; handled = w.handled.items } };
 
-    ghost invariant = { λ w. IsRunWorker L.list (record { ap = w.ap.now; token = w.token }) };
+    ghost invariant = { λ w. IsRunWorker L.list
+        (record { ap = w.ap.now; token = w.token; handled = w.handled.items }) };
 }
 
 impl<'a, B: Ledgers + Journals, L: Publications, G: Gate + Drop> Serving
@@ -35,8 +38,11 @@ impl<'a, B: Ledgers + Journals, L: Publications, G: Gate + Drop> Serving
 
     ghost counted = { λ w. counted_by w.token.shards };
 
-    fn serve<R: Wait>(&mut self, rt: &R, list: &mut Vec<Tagged>) -> Result<(), AllocError> {
-        self.ap
-            .serve(rt, self.alloc, &mut self.token, &self.gate, list)
+    fn serve<R: Wait>(&mut self, rt: &R) -> Result<bool, AllocError> {
+        let before = self.handled.len();
+        let token = &mut self.token;
+        let handled = &mut self.handled;
+        self.ap.serve(rt, self.alloc, token, &self.gate, handled)?;
+        Ok(self.handled.len() > before)
     }
 }

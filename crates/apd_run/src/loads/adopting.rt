@@ -4,8 +4,8 @@ ghost use Rattle.std.specs.Prelude.{◌≡◌};
 ghost use Rattle.apd_run.specs.Adopting.{AdoptsProgram, AdoptsCode, AdoptsFiles, certificate_told};
 
 use crate::loads::loading::Loads;
+use apd_driver::{Told, Unread};
 use apd_files::{CodeFault, Files, read_certificate, read_code};
-use apd_text::{Told, Unread};
 use bpf_cert::{CertFault, WithinFault};
 use bpf_decode::{DecodeFault, Program, decode};
 use bpf_regions::Hook;

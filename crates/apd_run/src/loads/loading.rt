@@ -3,15 +3,15 @@
 ghost use Rattle.std.specs.Prelude.{◌≡◌, IfOk, None, OnOk, OnErr};
 ghost use Rattle.versions.specs.Lists.{with_load};
 ghost use Rattle.versions.specs.Sets.{load};
-ghost use Rattle.apd_run.specs.Loading.{PutsInForce, LoadsProgram, LoadsCode, LoadsFile};
+ghost use Rattle.apd_run.specs.Loading.{PutsInForce, LoadsProgram, LoadsCode, LoadsFile, refused_told};
 
+use apd_driver::{Told, Unread};
 use apd_files::{CodeFault, Files, read_code};
-use apd_text::{Told, Unread};
 use bpf_decode::{DecodeFault, Program, decode};
 use bpf_machine::Accepted;
 use bpf_regions::{Hook, Shapes};
 use bpf_rules::Fault;
-use bpf_verifier::{Limits, verify_limited};
+use bpf_verifier::{Limits, Refusal, verify_limited};
 use std::alloc::{AllocError, Global};
 use std::marker::Model;
 use std::sync::{Arc, Wait};
@@ -147,7 +147,7 @@ impl Loads {
             }
             Err(refusal) => match refusal.fault {
                 Fault::NoMemory => return Told::Memory,
-                _ => return Told::Refused(refusal),
+                _ => return refused_told(refusal),
             },
         }
     }
@@ -167,5 +167,15 @@ impl Loads {
             Err(PublishFault::NoMemory) => return Told::Memory,
             Err(PublishFault::OtherShapes) => unreachable!(),
         }
+    }
+}
+
+/// The report on a refused program.
+fn refused_told(refusal: Refusal) -> Told
+    ensures { result ≡ refused_told refusal }
+{
+    Told::Refused {
+        fault: refusal.number(),
+        slot: refusal.pc,
     }
 }

@@ -1,23 +1,19 @@
 //! The commands `apd run` and `apd live`.
 
 ghost use Rattle.std.specs.Prelude.{◌≤◌};
-ghost use Rattle.apd_run.specs.Counts.{none};
-ghost use Rattle.apd_run.specs.Shows.{Runs};
+ghost use Rattle.apd_driver.specs.Counts.{none};
+ghost use Rattle.apd_driver.specs.Shows.{Runs};
 
 use crate::access::{NewShards, Opening, Supplies, run_live};
-use crate::console::{Console, Notes, Terminal};
-use crate::input::Input;
-use crate::lines::{Lines, Script};
-use crate::manner::Manner;
 use crate::progress::Watcher;
 use crate::runner::fault::{
     RunFault, complain, of_script, say_if_group, say_why, say_why_live, unreadable,
 };
 use crate::runner::setup::{configuration, read, settings};
 use apd_config::Configuration;
+use apd_driver::{Console, Input, Lines, Manner, Notes, Script, Source, Terminal};
 use apd_files::{FileKind, Files};
 use apd_script::{Numbered, read_script};
-use apd_source::Source;
 use std::alloc::Global;
 use std::io::Write;
 use std::marker::Brand;
@@ -26,7 +22,7 @@ use std::thread::Threads;
 
 /// A command's arguments: the paths of a configuration and of a script, and the number of workers, 1 to 8. A larger
 /// number counts as 8, and 0 as 1. `apd live` has `-` for the script.
-#[derive(Clone, Copy, Debug)]
+#[derive(Clone, Copy)]
 pub struct RunWords<'a> {
     pub config: &'a str,
     pub script: &'a str,

@@ -1,7 +1,7 @@
 //! Why no script runs.
 
 ghost use Rattle.std.specs.Prelude.{◌≡◌};
-ghost use Rattle.apd_run.specs.Shows.{IsBroken};
+ghost use Rattle.apd_driver.specs.Shows.{IsBroken};
 ghost use Rattle.apd_run.specs.declared.runner.fault.RunFault.TheVariants.{NoMemory};
 ghost use Rattle.apd_run.specs.Statuses.{fault_status};
 

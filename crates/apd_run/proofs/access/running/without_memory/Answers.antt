@@ -1,7 +1,7 @@
 use Rattle.std.proofs.Common.{inr, refl}
 use Rattle.ap_books.specs.Counts.{none}
-use Rattle.apd_run.specs.Shows.{Fails}
-use Rattle.apd_run.proofs.Broken.{breaks_at_once}
+use Rattle.apd_driver.specs.Shows.{Fails}
+use Rattle.apd_driver.proofs.Broken.{breaks_at_once}
 use Rattle.apd_run.proofs.access.running.without_memory.Goals as goal
 
 pub returns : goal.returns

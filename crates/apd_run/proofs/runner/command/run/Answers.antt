@@ -1,4 +1,4 @@
-use Rattle.apd_run.proofs.Ending.{runs_nothing}
+use Rattle.apd_driver.proofs.Ending.{runs_nothing}
 use Rattle.apd_run.proofs.runner.command.run.Goals as goal
 
 pub returns-in-Err : goal.returns-in-Err

@@ -1,5 +1,5 @@
 use Rattle.std.proofs.Common.{inr, refl}
-use Rattle.apd_run.proofs.Ending.{runs_nothing}
+use Rattle.apd_driver.proofs.Ending.{runs_nothing}
 use Rattle.apd_run.proofs.runner.command.run_told.Goals as goal
 
 pub returns-in_default : goal.returns-in_default

@@ -1,4 +1,4 @@
-use Rattle.apd_run.specs.Asking.{agreement_cmp}
+use Rattle.apd_driver.specs.Asking.{agreement_cmp}
 use Rattle.apd_run.specs.Listing.{agreement_row}
 use Rattle.apd_run.proofs.Rising.{if_rising}
 use Rattle.apd_run.proofs.access.operator.LiveOperator.agreements_in_force.Goals as goal

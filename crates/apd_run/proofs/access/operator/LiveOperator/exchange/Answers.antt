@@ -2,8 +2,8 @@ use Rattle.std.proofs.Common.{◌≡◌, ap, sym, subst, ◌∙◌}
 use Rattle.ap_books.specs.Holdings.{HasParts, sum_of}
 use Rattle.ap_books.specs.Reading.{Reads}
 use Rattle.ap_live.specs.Counting.{counted_by}
-use Rattle.apd_run.specs.Crews.{Crew, gains}
-use Rattle.apd_run.specs.Hands.{RunOperator, RunWorker, crew_of}
+use Rattle.apd_driver.specs.Crews.{Crew, gains}
+use Rattle.apd_run.specs.Hands.{RunOperator, crew_of}
 use Rattle.apd_run.proofs.Keeping.{other_parts}
 use Rattle.apd_run.proofs.Sums.{exchanged_parts, exchanged_sum, fresh, more_than_one}
 use Rattle.apd_run.proofs.access.operator.LiveOperator.exchange.Goals as goal
@@ -22,7 +22,7 @@ invariant_of-self g c =
     let i = c.self.invariant in
     let shards = c.worker.inside.token.shards in
     let counted = exchanged_sum c.self.inside.hoard c.split_off-fresh.new.self c.renew-counted.result c.merge.new.self (counted_by shards) c.split_off-fresh.ensures.counts c.merge.ensures (ap sum_of c.renew-counted.ensures.given) in
-    let numbers : Reads c.args.numbers (counted_by shards) = subst (λ (w : RunWorker). Reads c.args.numbers (counted_by w.token.shards)) (sym c.worker.view_is) c.requires.numbers in
+    let numbers : Reads c.counted_in-numbers.result (counted_by shards) = subst (Reads c.counted_in-numbers.result) (sym c.worker.invariant.counts) c.counted_in-numbers.ensures.reads in
     let given : HasParts 1 c.renew-counted.result = subst (HasParts 1) (sym c.renew-counted.ensures.given) c.worker.invariant.parts in
     record {
       own = i.own;
@@ -40,7 +40,7 @@ invariant_of-self g c =
 
 pub invariant_of-worker : goal.invariant_of-worker
 invariant_of-worker g c =
-    other_parts _ _ _ c.split_off-fresh.result c.renew-counted.ensures.same c.renew-counted.ensures.taken c.split_off-fresh.ensures.parts c.worker.invariant
+    other_parts _ _ _ c.split_off-fresh.result _ c.renew-counted.ensures.same c.renew-counted.ensures.taken c.split_off-fresh.ensures.parts c.split_off-fresh.ensures.none c.new.ensures.items c.worker.invariant
 
 pub returns-clause-crew : goal.returns-clause-crew
 returns-clause-crew g c =
@@ -50,4 +50,4 @@ returns-clause-crew g c =
     let before : Crew = record { workers = c.self.inside.workers; counted = sum_of hoard } in
     let after : Crew = record { workers = c.self.inside.workers; counted = sum_of c.merge.new.self } in
     let crew : after ≡ gains before (counted_by shards) = λ i. record { workers = c.self.inside.workers; counted = counted i } in
-    crew ∙ (ap (λ (o : RunOperator). gains (crew_of o) (counted_by shards)) c.self.view_is ∙ ap (λ (w : RunWorker). gains (crew_of c.args.self.now) (counted_by w.token.shards)) c.worker.view_is)
+    crew ∙ (ap (λ (o : RunOperator). gains (crew_of o) (counted_by shards)) c.self.view_is ∙ ap (gains (crew_of c.args.self.now)) c.worker.invariant.counts)

@@ -1,7 +1,7 @@
 use Rattle.std.proofs.Common.{length, subst, ◌∙◌}
 use Rattle.versions.specs.Lists.{Beginning}
-use Rattle.apd_text.specs.declared.reports.report.Told.{Told}
-use Rattle.apd_text.specs.declared.reports.report.Told.TheVariants.{Loaded}
+use Rattle.apd_driver.specs.declared.reports.report.Told.{Told}
+use Rattle.apd_driver.specs.declared.reports.report.Told.TheVariants.{Loaded}
 use Rattle.apd_run.specs.Adopting.{AdoptsProgram, NoRoomToAdopt}
 use Rattle.apd_run.proofs.Putting.{adopted, not_adopted}
 use Rattle.apd_run.proofs.loads.loading.Loads.adopt_program.Goals as goal

@@ -1,6 +1,6 @@
 use Rattle.std.proofs.Common.{◌≡◌, rules, refl, sym, subst, ap, ◌∙◌, length}
 use Rattle.bpf_decode.specs.Program.{Code}
-use Rattle.apd_text.specs.declared.reports.report.Told.TheVariants.{Loaded}
+use Rattle.apd_driver.specs.declared.reports.report.Told.TheVariants.{Loaded}
 use Rattle.apd_run.specs.Loading.{PutsInForce, InForce, NoRoomToPut}
 use Rattle.apd_run.proofs.loads.loading.Loads.put_in_force.Goals as goal
 

@@ -1,0 +1,110 @@
+-- Counting reports in consecutive lists.
+use Rattle.std.proofs.Common.{◌≡◌, ℕ, ◌+◌, List, [], ◌∷◌, ◌++◌, refl, sym, ap, ◌∙◌, append_assoc, append-nil, add_assoc, add-zero, zero-add}
+use Rattle.std.specs.List.{sum_by}
+use Rattle.std.proofs.lemmas.List.Sums.{sum_by-append}
+use Rattle.ap_books.specs.Counts.{Counts, none, plus}
+use Rattle.apd_driver.specs.declared.reports.report.Report.{Report}
+use Rattle.apd_driver.specs.Tallies.{told_counts, report_counts, tallied}
+use Rattle.apd_driver.specs.Crews.{Crew, gains, Collects}
+use Rattle.apd_driver.specs.Tells.{Tells}
+
+both : (f : Report → ℕ) (n : ℕ) (xs ys : List Report) → n + sum_by f xs + sum_by f ys ≡ n + sum_by f (xs ++ ys)
+both f n xs ys = add_assoc n (sum_by f xs) (sum_by f ys) ∙ ap (λ m. n + m) (sym (sum_by-append f xs ys))
+
+counts_append : (c : Counts) (xs ys : List Report) → plus (plus c (tallied xs)) (tallied ys) ≡ plus c (tallied (xs ++ ys))
+counts_append c xs ys i =
+    record {
+      events = both (λ r. (report_counts r).events) c.events xs ys i;
+      sent = both (λ r. (report_counts r).sent) c.sent xs ys i;
+      up = both (λ r. (report_counts r).up) c.up xs ys i;
+      dropped = both (λ r. (report_counts r).dropped) c.dropped xs ys i;
+      notes = both (λ r. (report_counts r).notes) c.notes xs ys i;
+    }
+
+plus_none : (c : Counts) → plus c none ≡ c
+plus_none c i =
+    record {
+      events = add-zero c.events i;
+      sent = add-zero c.sent i;
+      up = add-zero c.up i;
+      dropped = add-zero c.dropped i;
+      notes = add-zero c.notes i;
+    }
+
+with_counts : Crew → Counts → Crew
+with_counts crew counts = record { workers = crew.workers; counted = counts }
+
+-- nothing was collected yet
+pub collects_none : (c : Crew) (xs : List Report) → Collects c c xs xs
+collects_none c xs =
+    record {
+      reports = [];
+      listed = sym (append-nil xs);
+      counted = λ i. record { workers = c.workers; counted = sym (plus_none c.counted) i };
+    }
+
+-- and then more was
+pub collects_more : (c d e : Crew) (xs ys zs : List Report) → Collects c d xs ys → Collects d e ys zs → Collects c e xs zs
+collects_more c d e xs ys zs h k =
+    record {
+      reports = h.reports ++ k.reports;
+      listed = k.listed ∙ ap (λ l. l ++ k.reports) h.listed ∙ append_assoc xs h.reports k.reports;
+      counted = k.counted ∙ ap (λ x. gains x (tallied k.reports)) h.counted
+          ∙ (λ i. record { workers = c.workers; counted = counts_append c.counted h.reports k.reports i });
+    }
+
+-- the operator's reports count nothing, so all reports count what was collected
+pub counted_all : (c d : Crew) (xs ys : List Report) → Tells [] xs → Collects c d xs ys → d.counted ≡ plus c.counted (tallied ys)
+counted_all c d xs ys t h =
+    let told : tallied xs ≡ none = ap tallied t.listed ∙ t.nothing in
+    ap (λ x. x.counted) h.counted
+    ∙ ap (λ x. plus x (tallied h.reports)) (sym (plus_none c.counted) ∙ ap (plus c.counted) (sym told))
+    ∙ counts_append c.counted xs h.reports
+    ∙ ap (λ l. plus c.counted (tallied l)) (sym h.listed)
+
+-- nothing was collected, and the reports count nothing
+pub counted_nothing : (c : Counts) (xs : List Report) → Tells [] xs → c ≡ plus c (tallied xs)
+counted_nothing c xs t =
+    let crew : Crew = record { workers = 0; counted = c } in
+    counted_all crew crew xs xs t (collects_none crew xs)
+
+-- the operator has reported nothing
+pub tells_none : (xs : List Report) → Tells xs xs
+tells_none xs = record { reports = []; listed = sym (append-nil xs); nothing = refl }
+
+tallied_two : (xs ys : List Report) → tallied xs ≡ none → tallied ys ≡ none → tallied (xs ++ ys) ≡ none
+tallied_two xs ys h k = tallied_joined xs ys ∙ ap (λ c. plus c (tallied ys)) h ∙ ap (plus none) k ∙ plus_none none
+  where
+    tallied_joined : (xs ys : List Report) → tallied (xs ++ ys) ≡ plus (tallied xs) (tallied ys)
+    tallied_joined xs ys i =
+        record {
+          events = sum_by-append (λ r. (report_counts r).events) xs ys i;
+          sent = sum_by-append (λ r. (report_counts r).sent) xs ys i;
+          up = sum_by-append (λ r. (report_counts r).up) xs ys i;
+          dropped = sum_by-append (λ r. (report_counts r).dropped) xs ys i;
+          notes = sum_by-append (λ r. (report_counts r).notes) xs ys i;
+        }
+
+-- and then reports more
+pub tells_more : (xs ys zs : List Report) → Tells xs ys → Tells ys zs → Tells xs zs
+tells_more xs ys zs h k =
+    record {
+      reports = h.reports ++ k.reports;
+      listed = k.listed ∙ ap (λ l. l ++ k.reports) h.listed ∙ append_assoc xs h.reports k.reports;
+      nothing = tallied_two h.reports k.reports h.nothing k.nothing;
+    }
+
+counts_one : (r : Report) → told_counts r.told ≡ none → tallied (r ∷ []) ≡ none
+unfolding report_counts
+counts_one r h i =
+    record {
+      events = (zero-add (told_counts r.told).events ∙ ap (λ c. c.events) h) i;
+      sent = (zero-add (told_counts r.told).sent ∙ ap (λ c. c.sent) h) i;
+      up = (zero-add (told_counts r.told).up ∙ ap (λ c. c.up) h) i;
+      dropped = (zero-add (told_counts r.told).dropped ∙ ap (λ c. c.dropped) h) i;
+      notes = (zero-add (told_counts r.told).notes ∙ ap (λ c. c.notes) h) i;
+    }
+
+-- the operator appends one report that counts nothing
+pub tells_one : (xs mid ys : List Report) (r : Report) → told_counts r.told ≡ none → mid ≡ xs → ys ≡ mid ++ r ∷ [] → Tells xs ys
+tells_one xs mid ys r h d e = record { reports = r ∷ []; listed = e ∙ ap (λ l. l ++ r ∷ []) d; nothing = counts_one r h }

@@ -1,0 +1,26 @@
+-- What reports count.
+use Rattle.std.specs.Prelude.{List, is_some, sum_by}
+use Rattle.ap_books.specs.Counts.{Counts, none, counts_of}
+use Rattle.apd_driver.specs.declared.reports.report.Report.{Report}
+use Rattle.apd_driver.specs.declared.reports.report.Told.{Told}
+use Rattle.apd_driver.specs.declared.reports.report.Told.TheVariants.{Handled}
+
+-- a handled event counts by its outputs; any other report counts nothing
+abbrev pub told_counts : Told → Counts
+told_counts (Handled outs dropped) = counts_of outs.items (is_some dropped)
+told_counts _ = none
+
+-- what a report counts
+unfoldable pub report_counts : Report → Counts
+report_counts r = told_counts r.told
+
+-- the sum of what reports count
+abbrev pub tallied : List Report → Counts
+tallied rs =
+    record {
+      events = sum_by (λ r. (report_counts r).events) rs;
+      sent = sum_by (λ r. (report_counts r).sent) rs;
+      up = sum_by (λ r. (report_counts r).up) rs;
+      dropped = sum_by (λ r. (report_counts r).dropped) rs;
+      notes = sum_by (λ r. (report_counts r).notes) rs;
+    }

@@ -1,0 +1,82 @@
+//! Sending workers out, and collecting them with their reports.
+
+ghost use Rattle.std.specs.Prelude.{◌≡◌, ◌+◌, length, OnOk, vec_len};
+ghost use Rattle.apd_driver.specs.Crews.{Collects};
+
+use crate::Report;
+use crate::crew::{Desk, Done, Order, Ready, Serving};
+use crate::operating::Operating;
+use crate::setting::{Setting, Staff};
+use std::alloc::AllocError;
+use std::sync::Wait;
+
+/// Sends a worker out to each desk.
+pub(crate) fn send_out<W: Serving + Drop, R: Wait>(
+    setting: &Setting<'_, W, R>,
+    workers: &mut Vec<Ready<W>>,
+    interval: u64,
+)
+    requires all { vec_len workers.old ≡ length setting.now.desks.now }
+    ensures none { vec_len workers.new ≡ 0 }
+{
+    for desk in setting.desks {
+        let Some(ready) = workers.pop() else {
+            unreachable!()
+        };
+        desk.orders.put(setting.rt, Some(Order { ready, interval }));
+    }
+}
+
+/// Takes over what a worker has counted, and returns it at rest. The reports on its events are appended to the others.
+fn settled<W: Serving + Drop, O: Operating<W>>(
+    operator: &mut O,
+    worker: W,
+    all: &mut Vec<Report>,
+) -> Result<Ready<W>, AllocError>
+    requires alike { (worker : _) → O.taken worker ≡ W.counted worker }
+    ensures collects { OnOk result (Collects (O.crew operator.old) (O.crew operator.new)
+        all.old.items all.new.items) }
+{
+    let mut worker = worker;
+    operator.settle(&mut worker, all)?;
+    Ok(Ready { worker })
+}
+
+/// Waits for a worker and takes it back. The reports on its events are appended to the others.
+fn collect_one<W: Serving + Drop, O: Operating<W> + Drop, R: Wait>(
+    rt: &R,
+    desk: &Desk<W>,
+    staff: &mut Staff<W, O>,
+    all: &mut Vec<Report>,
+) -> Result<(), AllocError>
+    ensures home { OnOk result (vec_len staff.new.workers ≡ vec_len staff.old.workers + 1) }
+    ensures collects { OnOk result (Collects (O.crew staff.old.operator) (O.crew staff.new.operator)
+        all.old.items all.new.items) }
+{
+    let Staff { operator, workers } = staff;
+    workers.reserve(1)?;
+    let Done { worker, refused } = desk.reports.take(rt);
+    if refused {
+        return Err(AllocError);
+    }
+    let ready = settled(operator, worker, all)?;
+    workers.push_reserved(ready);
+    Ok(())
+}
+
+/// Waits for all workers and takes them back. The reports on their events are appended to the operator's.
+pub(crate) fn collect<W: Serving + Drop, O: Operating<W> + Drop, R: Wait>(
+    setting: &Setting<'_, W, R>,
+    staff: &mut Staff<W, O>,
+    all: &mut Vec<Report>,
+) -> Result<(), AllocError>
+    ensures home { OnOk result
+        (vec_len staff.new.workers ≡ vec_len staff.old.workers + length setting.now.desks.now) }
+    ensures collects { OnOk result (Collects (O.crew staff.old.operator) (O.crew staff.new.operator)
+        all.old.items all.new.items) }
+{
+    for desk in setting.desks {
+        collect_one(setting.rt, desk, staff, all)?;
+    }
+    Ok(())
+}

@@ -1,0 +1,59 @@
+//! A worker's thread.
+
+use crate::crew::desk::{Desk, Order, Signs};
+use crate::crew::hand::{Done, Ready};
+use crate::crew::serving::Serving;
+use std::sync::Wait;
+use std::sync::atomic::Ordering;
+use std::thread;
+
+/// Serves the events in the queue. True if the interval is over: it was closed beforehand, or an allocation failed.
+fn turn<W: Serving + Drop, R: Wait>(
+    rt: &R,
+    signs: &Signs,
+    done: &mut Done<W>,
+    interval: u64,
+) -> bool {
+    let closed = signs.closed.load(Ordering::SeqCst) >= interval;
+    match done.worker.serve(rt) {
+        Ok(handled) => {
+            if !closed && !handled {
+                thread::yield_now();
+            }
+            return closed;
+        }
+        Err(_) => {
+            done.refused = true;
+            signs.trouble.store(1, Ordering::SeqCst);
+            return true;
+        }
+    }
+}
+
+/// Serves for one interval: until it is closed and the queue is then found empty, or an allocation fails.
+fn serve_interval<W: Serving + Drop, R: Wait>(rt: &R, signs: &Signs, order: Order<W>) -> Done<W> {
+    let Order { ready, interval } = order;
+    let Ready { worker } = ready;
+    let mut done = Done {
+        worker,
+        refused: false,
+    };
+    for _ in rt.forever() {
+        if turn(rt, signs, &mut done, interval) {
+            return done;
+        }
+    }
+    unreachable!()
+}
+
+/// A worker's thread: an interval for each order, until the last.
+pub fn work<W: Serving + Drop, R: Wait>(rt: &R, desk: &Desk<W>, signs: &Signs) {
+    for _ in rt.forever() {
+        let Some(order) = desk.orders.take(rt) else {
+            return;
+        };
+        let done = serve_interval(rt, signs, order);
+        desk.reports.put(rt, done);
+    }
+    unreachable!()
+}

@@ -1,0 +1,190 @@
+//! Following the script's lines up to a wait.
+
+ghost use Rattle.std.specs.Prelude.{◌≡◌, ◌<◌, ◌≤◌, length, drop, IfOk, OnOk};
+ghost use Rattle.apd_driver.specs.Tells.{Tells};
+ghost use Rattle.apd_driver.specs.Intervals.{is_wait, after_wait};
+
+use crate::actions::{Action, Publication, WordUse, action_of};
+use crate::crew::{Serving, Signs};
+use crate::operating::Operating;
+use crate::setting::Setting;
+use crate::{Report, Told};
+use ap_model::Event;
+use apd_script::{MalformedLine, Numbered};
+use std::alloc::{AllocError, Global};
+use std::sync::Wait;
+use std::sync::atomic::Ordering;
+use std::thread;
+
+/// Submits an event, again if a queue is full, until a worker is in trouble.
+fn put<W: Serving + Drop, O: Operating<W>, R: Wait>(
+    rt: &R,
+    operator: &mut O,
+    signs: &Signs,
+    line: u64,
+    event: Event,
+) -> Result<(), AllocError>
+    ensures same { O.crew operator.new ≡ O.crew operator.old }
+{
+    let mut waiting = match operator.submit(rt, line, event) {
+        Ok(()) => return Ok(()),
+        Err(waiting) => waiting,
+    };
+    for _ in rt.forever() {
+        if signs.trouble.load(Ordering::SeqCst) != 0 {
+            return Err(AllocError);
+        }
+        thread::yield_now();
+        waiting = match operator.go_on(rt, line, waiting) {
+            Ok(()) => return Ok(()),
+            Err(waiting) => waiting,
+        };
+    }
+    unreachable!()
+}
+
+/// Changes the program of a hook, and lists its report.
+fn publish<W: Serving + Drop, O: Operating<W>, R: Wait>(
+    rt: &R,
+    operator: &mut O,
+    line: u64,
+    publication: Publication<'_>,
+    told: &mut Vec<Report>,
+) -> Result<(), AllocError>
+    ensures same { O.crew operator.new ≡ O.crew operator.old }
+    ensures told { OnOk result (Tells told.old.items told.new.items) }
+{
+    told.reserve(1)?;
+    if let Some(answer) = operator.publish(rt, publication) {
+        told.push_reserved(of_line(line, answer));
+    }
+    Ok(())
+}
+
+/// Uses a word of a map, and lists its report.
+fn use_word<W: Serving + Drop, O: Operating<W>>(
+    operator: &mut O,
+    line: u64,
+    wanted: WordUse,
+    told: &mut Vec<Report>,
+) -> Result<(), AllocError>
+    ensures same { O.crew operator.new ≡ O.crew operator.old }
+    ensures told { OnOk result (Tells told.old.items told.new.items) }
+{
+    told.reserve(1)?;
+    if let Some(answer) = operator.use_word(wanted) {
+        told.push_reserved(of_line(line, answer));
+    }
+    Ok(())
+}
+
+/// The report on a line that concerns no shard.
+fn of_line(line: u64, told: Told) -> Report
+    ensures { result ≡ record { line = line; shard = 0; told = told } }
+{
+    Report {
+        line,
+        shard: 0,
+        told,
+    }
+}
+
+/// Lists a report that an allocation failed for a line.
+fn tell_memory(told: &mut Vec<Report>, line: u64) -> Result<(), AllocError>
+    ensures told { OnOk result (Tells told.old.items told.new.items) }
+{
+    told.reserve(1)?;
+    told.push_reserved(of_line(line, Told::Memory));
+    Ok(())
+}
+
+/// Lists a report that a line is malformed.
+fn tell_malformed_line(
+    alloc: Global,
+    malformed: &MalformedLine<'_>,
+    told: &mut Vec<Report>,
+) -> Result<(), AllocError>
+    ensures told { OnOk result (Tells told.old.items told.new.items) }
+{
+    let MalformedLine { line, fault } = *malformed;
+    let why = format!(in alloc; "{fault}")?;
+    told.reserve(1)?;
+    told.push_reserved(of_line(line, Told::Malformed { why }));
+    Ok(())
+}
+
+/// Lists a report on each malformed line.
+pub(crate) fn tell_malformed(
+    alloc: Global,
+    malformed: &[MalformedLine<'_>],
+    told: &mut Vec<Report>,
+) -> Result<(), AllocError>
+    ensures told { OnOk result (Tells told.old.items told.new.items) }
+{
+    for line in malformed {
+        tell_malformed_line(alloc, line, told)?;
+    }
+    Ok(())
+}
+
+/// Does what a line asks for, and returns whether the line is a `wait`.
+fn follow<W: Serving + Drop, O: Operating<W>, R: Wait>(
+    setting: &Setting<'_, W, R>,
+    operator: &mut O,
+    numbered: &Numbered<'_>,
+    told: &mut Vec<Report>,
+) -> Result<bool, AllocError>
+    ensures same { O.crew operator.new ≡ O.crew operator.old }
+    ensures told { OnOk result (Tells told.old.items told.new.items) }
+    ensures waits { IfOk result (λ waits. waits ≡ is_wait numbered.now.command) }
+{
+    let line = numbered.line;
+    match action_of(setting.alloc, &numbered.command) {
+        Ok(Action::Submit(event)) => {
+            put(setting.rt, operator, setting.signs, line, event)?;
+            return Ok(false);
+        }
+        Ok(Action::Publish(publication)) => {
+            publish(setting.rt, operator, line, publication, told)?;
+            return Ok(false);
+        }
+        Ok(Action::UseWord(wanted)) => {
+            use_word(operator, line, wanted, told)?;
+            return Ok(false);
+        }
+        Ok(Action::Wait) => return Ok(true),
+        Err(_) => {
+            tell_memory(told, line)?;
+            return Ok(false);
+        }
+    }
+}
+
+/// Follows the lines from an index on, up to and including the next `wait`, or to the end. It lists the reports on
+/// them, and returns the index after them.
+pub(crate) fn feed<W: Serving + Drop, O: Operating<W>, R: Wait>(
+    setting: &Setting<'_, W, R>,
+    operator: &mut O,
+    commands: &[Numbered<'_>],
+    start: usize,
+    told: &mut Vec<Report>,
+) -> Result<usize, AllocError>
+    requires more { start < length commands.now }
+    ensures same { O.crew operator.new ≡ O.crew operator.old }
+    ensures told { OnOk result (Tells told.old.items told.new.items) }
+    ensures on { IfOk result (λ next. start < next) }
+    ensures within { IfOk result (λ next. next ≤ length commands.now) }
+    ensures rest { IfOk result
+        (λ next. drop next commands.now ≡ after_wait (drop start commands.now)) }
+{
+    let mut next = start;
+    'lines: while next < commands.len() {
+        let numbered = &commands[next];
+        next += 1;
+        let waits = follow(setting, operator, numbered, told)?;
+        if waits {
+            return Ok(next);
+        }
+    }
+    Ok(next)
+}

@@ -1,0 +1,43 @@
+//! The driver of a run, generic over the access point, the source of its lines and the writer.
+//!
+//! Main call: `run_lines`, which runs the lines of a `Script` or of an `Input` on what `Operating` and `Serving` promise of
+//! an access point. It writes, for each interval (up to a `wait` or 4096 lines), reports ordered by line and shard, with an
+//! input then the answer to a question, and at the end a line of totals, which are what the reports count; or a prefix of
+//! that. Inputs come from a `Source`, with the time that passes. It depends on `apd_script`, `apd_files`, `ap_model` and
+//! `ap_books`, and on no access point.
+#![tactic(auto)]
+
+mod actions;
+mod answers;
+mod asking;
+mod collecting;
+mod console;
+mod crew;
+mod feeding;
+mod found;
+mod input;
+mod interval;
+mod lines;
+mod manner;
+mod operating;
+mod reports;
+mod running;
+mod script;
+mod setting;
+mod source;
+
+pub use actions::{Publication, WordUse};
+pub use answers::{AgreementRow, Answer, EntryRow, ProgramRow, StationRow, print_answer};
+pub use console::{Console, Notes, Terminal};
+pub use crew::{Ready, Serving};
+pub use input::Input;
+pub use lines::{Lines, Script};
+pub use manner::Manner;
+pub use operating::{Operating, Waiting};
+pub use reports::{
+    Dropped, Form, Meaning, Notice, PrintFault, Report, Style, Told, Unread, print_reports,
+    print_totals, put_in_order,
+};
+pub use script::run_lines;
+pub use setting::Staff;
+pub use source::{Arrival, Direct, Passing, Post, Source, Timed};

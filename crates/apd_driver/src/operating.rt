@@ -1,0 +1,88 @@
+//! What the operator of a run can do.
+
+ghost use Rattle.std.specs.Prelude.{◌≡◌, ◌<◌, IfOk, IfSome, OnOk};
+ghost use Rattle.ap_books.specs.Counts.{Counts, none};
+ghost use Rattle.ap_books.specs.Reading.{Reads};
+ghost use Rattle.apd_driver.specs.Asking.{AreAgreementsInOrder, AreStationsInOrder};
+ghost use Rattle.apd_driver.specs.Tallies.{told_counts};
+ghost use Rattle.apd_driver.specs.Crews.{Collects, Crew, with_one_more};
+
+use crate::actions::{Publication, WordUse};
+use crate::{AgreementRow, ProgramRow, Report, StationRow, Told};
+use ap_books::Totals;
+use ap_model::Event;
+use std::alloc::{AllocError, Global};
+use std::sync::Wait;
+
+/// The queue of a shard was full: the event, and the first shard whose worker didn't get it.
+#[derive(Drop)]
+pub struct Waiting {
+    pub event: Event,
+    pub shard: u16,
+}
+
+/// The operator's interface to an access point whose events such workers handle.
+pub trait Operating<W> {
+    // How many workers have its rights, and what those that came back have counted.
+    ghost crew: { Self → Crew };
+
+    // What a worker has counted since the operator last took over its counts.
+    ghost taken: { W → Counts };
+
+    /// Submits an event of the line to its shard's worker; a tick, to each shard's.
+    fn submit<R: Wait>(&mut self, rt: &R, line: u64, event: Event) -> Result<(), Waiting>
+        ensures same { crew self.new ≡ crew self.old };
+
+    /// Continues after a queue was full.
+    fn go_on<R: Wait>(&mut self, rt: &R, line: u64, waiting: Waiting) -> Result<(), Waiting>
+        ensures same { crew self.new ≡ crew self.old };
+
+    /// Changes the program of a hook, and returns what is printed of it.
+    fn publish<R: Wait>(&mut self, rt: &R, publication: Publication<'_>) -> Option<Told>
+        ensures same { crew self.new ≡ crew self.old }
+        ensures nothing { IfSome result (λ told. told_counts told ≡ none) };
+
+    /// Uses a word of a map, and returns what is printed of it.
+    fn use_word(&mut self, wanted: WordUse) -> Option<Told>
+        ensures same { crew self.new ≡ crew self.old }
+        ensures nothing { IfSome result (λ told. told_counts told ≡ none) };
+
+    /// The known stations, by address.
+    fn stations<R: Wait>(&mut self, rt: &R, alloc: Global) -> Result<Vec<StationRow>, AllocError>
+        ensures same { crew self.new ≡ crew self.old }
+        ensures ordered { IfOk result (λ rows. AreStationsInOrder rows.items) };
+
+    /// The agreements in force, by address and TID.
+    fn agreements<R: Wait>(
+        &mut self,
+        rt: &R,
+        alloc: Global,
+    ) -> Result<Vec<AgreementRow>, AllocError>
+        ensures same { crew self.new ≡ crew self.old }
+        ensures ordered { IfOk result (λ rows. AreAgreementsInOrder rows.items) };
+
+    /// The programs in force, in the order of their hooks' numbers.
+    fn programs(&self, alloc: Global) -> Result<Vec<ProgramRow>, AllocError>;
+
+    /// What the workers that came back have counted.
+    fn counted(&self) -> Totals
+        ensures reads { Reads result (crew self.now).counted };
+
+    /// Takes over what a worker has counted, and appends the reports on its events, in their order. It tells the worker of
+    /// the loads so far. Err: an allocation failed for the reports.
+    fn settle(&mut self, worker: &mut W, reports: &mut Vec<Report>) -> Result<(), AllocError>
+        ensures collects { OnOk result (Collects (crew self.old) (crew self.new)
+            reports.old.items reports.new.items) }
+        ensures worker { OnOk result (taken worker.new ≡ none) };
+
+    /// Takes a worker's rights back.
+    fn dismiss(&mut self, worker: W)
+        requires some { 0 < (crew self.old).workers }
+        requires nothing { taken worker ≡ none }
+        ensures crew { crew self.old ≡ with_one_more (crew self.new) };
+
+    /// Returns what has been counted. No worker has rights any more.
+    fn gather<R: Wait>(self, rt: &R) -> Totals
+        requires all { (crew self).workers ≡ 0 }
+        ensures reads { Reads result (crew self).counted };
+}

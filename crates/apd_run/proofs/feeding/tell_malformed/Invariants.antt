@@ -1,5 +1,0 @@
-use Rattle.apd_run.specs.Tells.{Tells}
-use Rattle.apd_run.proofs.feeding.tell_malformed.Given as goal
-
-abbrev pub invariant-loop-line : goal.invariant-loop-line
-invariant-loop-line l = record { told : Tells l.fn.told.items l.told.items }

@@ -1,6 +1,0 @@
-use Rattle.apd_run.specs.Shows.{Within}
-use Rattle.apd_run.proofs.interval.print_interval.Goals as goal
-
-pub returns-in-Err-clause-breaks : goal.returns-in-Err-clause-breaks
-returns-in-Err-clause-breaks g c =
-    Within c.args.handed.items c.put_in_order.new.reports.items c.in_ok-put_in_order.ensures.ordered (rw c.as_slice.ensures.value at c.in-Err.ensures.beginning)
