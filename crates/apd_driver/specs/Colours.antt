@@ -1,5 +1,5 @@
 -- Reports in colours.
-use Rattle.std.specs.Prelude.{ℕ, Bool, true, false, List, ◌∷◌, ◌++◌, codes, decimal, Option, Some, None}
+use Rattle.std.specs.Prelude.{ℕ, Bool, true, false, List, [], ◌∷◌, ◌++◌, codes, decimal, Option, Some, None}
 use Rattle.apd_driver.specs.declared.reports.report.Told.{Told}
 use Rattle.apd_driver.specs.declared.reports.report.Told.TheVariants as told
 
@@ -24,7 +24,16 @@ colour_in false told = None
 abbrev pub rendition : ℕ → List ℕ
 rendition number = 27 ∷ (codes "[" ++ (decimal number ++ codes "m"))
 
--- text in a colour
+-- what begins a text in a colour
+abbrev pub beginning : Option ℕ → List ℕ
+beginning None = []
+beginning (Some colour) = rendition colour
+
+-- what ends it
+abbrev pub ending : Option ℕ → List ℕ
+ending None = []
+ending (Some colour) = rendition 0
+
+-- text in a colour, if there is one
 abbrev pub painted : Option ℕ → List ℕ → List ℕ
-painted None text = text
-painted (Some colour) text = rendition colour ++ (text ++ rendition 0)
+painted colour text = beginning colour ++ (text ++ ending colour)

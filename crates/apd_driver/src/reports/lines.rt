@@ -2,7 +2,7 @@
 
 ghost use Rattle.std.specs.Prelude.{◌≡◌, ◌++◌, IfOk, string_bytes};
 ghost use Rattle.apd_driver.specs.Words.{out_words};
-ghost use Rattle.apd_driver.specs.Colours.{colour_of};
+ghost use Rattle.apd_driver.specs.Colours.{beginning, colour_in, ending};
 ghost use Rattle.apd_driver.specs.Lines.{drop_text, json_text, line_of, notice_line, notice_text, noticed_out, noticed_outs, noticed_text, outs_text, report_text, styled_text, told_text, totals_text};
 
 use crate::reports::json::{append_drop_json, append_loaded_json, append_outs_json};
@@ -226,10 +226,13 @@ fn append_styled(
     }
 }
 
-/// The colour of what became of a line, if it has one.
-fn colour_of(told: &Told) -> Option<u8>
-    ensures is { result ≡ colour_of told.now }
+/// The colour of what became of a line, if it has one and colours are asked for.
+fn colour_in(colours: bool, told: &Told) -> Option<u8>
+    ensures is { result ≡ colour_in colours told.now }
 {
+    if !colours {
+        return None;
+    }
     match told {
         Told::Handled { .. } | Told::Word { .. } => None,
         Told::Loaded { .. } => Some(32),
@@ -242,6 +245,28 @@ fn colour_of(told: &Told) -> Option<u8>
     }
 }
 
+/// Appends what begins a text in a colour.
+fn append_beginning(text: &mut String, colour: Option<u8>) -> Result<(), AllocError>
+    ensures ok { IfOk result (λ _. string_bytes text.new ≡ string_bytes text.old
+        ++ beginning colour) }
+{
+    if let Some(colour) = colour {
+        write!(text, "\x1b[{colour}m")?;
+    }
+    Ok(())
+}
+
+/// Appends what ends it.
+fn append_ending(text: &mut String, colour: Option<u8>) -> Result<(), AllocError>
+    ensures ok { IfOk result (λ _. string_bytes text.new ≡ string_bytes text.old
+        ++ ending colour) }
+{
+    if colour.is_some() {
+        write!(text, "\x1b[{}m", 0)?;
+    }
+    Ok(())
+}
+
 /// Appends the lines of a report.
 pub(crate) fn append_report(
     alloc: Global,
@@ -252,19 +277,10 @@ pub(crate) fn append_report(
     ensures ok { IfOk result (λ _. string_bytes text.new ≡ string_bytes text.old
         ++ report_text form report.now) }
 {
-    let Form { style, colours } = form;
-    if !colours {
-        return append_styled(alloc, text, style, report);
-    }
-    match colour_of(&report.told) {
-        None => return append_styled(alloc, text, style, report),
-        Some(colour) => {
-            write!(text, "\x1b[{colour}m")?;
-            append_styled(alloc, text, style, report)?;
-            text.push_str("\x1b[0m")?;
-            return Ok(());
-        }
-    }
+    let colour = colour_in(form.colours, &report.told);
+    append_beginning(text, colour)?;
+    append_styled(alloc, text, form.style, report)?;
+    append_ending(text, colour)
 }
 
 /// The last line of a run.
