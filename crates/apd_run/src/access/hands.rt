@@ -16,14 +16,21 @@ use ap_locked::Journals;
 use ap_shards::AllPages;
 use std::alloc::{AllocError, Global};
 
-/// The tokens of the operator and of the workers, and the other parts of the ledgers and pages of the journals: `parts`
-/// of each.
+/// What an operator has of an access point: its token, and the parts of the ledgers and the pages of the journals that it
+/// keeps.
+#[derive(Drop)]
+pub(crate) struct Kept<B: Ledgers + Journals> {
+    pub token: Box<OperatorToken<B>>,
+    pub hoard: Box<Portions<B>>,
+    pub pages: Box<AllPages<B>>,
+}
+
+/// The tokens of the workers, and the operator's with all other parts of the ledgers and pages of the journals: `parts` of
+/// each.
 #[derive(Drop)]
 pub(crate) struct Hands<B: Ledgers + Journals> {
-    pub operator: OperatorToken<B>,
+    pub kept: Kept<B>,
     pub workers: Vec<WorkerToken<B>>,
-    pub hoard: Portions<B>,
-    pub pages: AllPages<B>,
     pub parts: u64,
 }
 
@@ -60,6 +67,26 @@ fn give_rights<B: Ledgers + Journals>(
     Ok(Rights { operator, workers })
 }
 
+fn kept<B: Ledgers + Journals>(
+    alloc: Global,
+    token: OperatorToken<B>,
+    hoard: Portions<B>,
+    pages: AllPages<B>,
+) -> Result<Kept<B>, AllocError>
+    ensures token { IfOk result (λ k. k.token.value ≡ token) }
+    ensures hoard { IfOk result (λ k. k.hoard.value ≡ hoard) }
+    ensures pages { IfOk result (λ k. k.pages.value ≡ pages) }
+{
+    let token = Box::new(alloc, token)?;
+    let hoard = Box::new(alloc, hoard)?;
+    let pages = Box::new(alloc, pages)?;
+    Ok(Kept {
+        token,
+        hoard,
+        pages,
+    })
+}
+
 /// A token for the operator and one for each of `count` workers, which are all. No token was given out earlier.
 pub(crate) fn deal<B: Ledgers + Journals>(
     ap: &mut LiveAp<B>,
@@ -72,8 +99,9 @@ pub(crate) fn deal<B: Ledgers + Journals>(
     requires few { count ≤ 8 }
     requires nothing { counted_by left.shards ≡ none }
     requires parts { left.parts ≡ parts_in_all }
-    ensures hands { IfOk result (λ h. AreHands ap.new h.operator h.workers.items h.hoard h.parts) }
-    ensures pages { IfOk result (λ h. HasPages h.parts h.pages) }
+    ensures hands { IfOk result (λ h. AreHands ap.new
+        h.kept.token.value h.workers.items h.kept.hoard.value h.parts) }
+    ensures pages { IfOk result (λ h. HasPages h.parts h.kept.pages.value) }
     ensures list { ap.new.list ≡ ap.old.list }
 {
     let mut left = left;
@@ -88,11 +116,10 @@ pub(crate) fn deal<B: Ledgers + Journals>(
     let Rights { operator, workers } = rights;
     let parts = 16 - workers.len() as u64;
     let (hoard, pages) = left.into_parts();
+    let kept = kept(alloc, operator, hoard, pages)?;
     Ok(Hands {
-        operator,
+        kept,
         workers,
-        hoard,
-        pages,
         parts,
     })
 }

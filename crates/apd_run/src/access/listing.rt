@@ -79,7 +79,7 @@ impl<'a, B: Ledgers + Journals, L: Publications, F> LiveOperator<'a, B, L, F> {
         ensures lists { IfOk result (λ rows. ListsStations B.config
             self.old.token.shards self.new.token.shards rows.items) }
     {
-        let known = self.ap.known_stations(rt, alloc, &mut self.token)?;
+        let known = self.ap.known_stations(rt, alloc, &mut *self.token)?;
         station_rows(alloc, known.as_slice())
     }
 
@@ -94,7 +94,7 @@ impl<'a, B: Ledgers + Journals, L: Publications, F> LiveOperator<'a, B, L, F> {
         ensures lists { IfOk result (λ rows. ListsAgreements B.config
             self.old.token.shards self.new.token.shards rows.items) }
     {
-        let agreements = self.ap.agreements(rt, alloc, &mut self.token)?;
+        let agreements = self.ap.agreements(rt, alloc, &mut *self.token)?;
         agreement_rows(alloc, agreements.as_slice())
     }
 }

@@ -45,9 +45,9 @@ pub(crate) struct Sources<'a, F> {
 #[derive(Drop)]
 pub struct LiveOperator<'a, B: Ledgers + Journals, L: Publications, F> {
     pub(crate) ap: &'a LiveAp<B>,
-    pub(crate) token: OperatorToken<B>,
-    pub(crate) hoard: Portions<B>,
-    pub(crate) pages: AllPages<B>,
+    pub(crate) token: Box<OperatorToken<B>>,
+    pub(crate) hoard: Box<Portions<B>>,
+    pub(crate) pages: Box<AllPages<B>>,
     pub(crate) parts: u64,
     pub(crate) totals: Totals,
     pub(crate) workers: u64,
@@ -64,9 +64,9 @@ impl<'a, B: Ledgers + Journals, L: Publications, F> Model for LiveOperator<'a, B
 
     ghost view = { λ o. record {
       ap = o.ap.now;
-      token = o.token;
-      hoard = o.hoard;
-      pages = o.pages;
+      token = o.token.value;
+      hoard = o.hoard.value;
+      pages = o.pages.value;
       parts = o.parts;
       totals = o.totals;
       workers = o.workers;
@@ -76,9 +76,9 @@ impl<'a, B: Ledgers + Journals, L: Publications, F> Model for LiveOperator<'a, B
 
     ghost invariant = { λ o. IsRunOperator B.shares L.list (record {
       ap = o.ap.now;
-      token = o.token;
-      hoard = o.hoard;
-      pages = o.pages;
+      token = o.token.value;
+      hoard = o.hoard.value;
+      pages = o.pages.value;
       parts = o.parts;
       totals = o.totals;
       workers = o.workers;
@@ -141,7 +141,7 @@ impl<'a, B: Ledgers + Journals, L: Publications, F: Files> LiveOperator<'a, B, L
     {
         let map = at.map as usize;
         if self.ap.has_word(Scope::Shared, map, at.word) {
-            self.ap.store(&mut self.token, map, at.word, value);
+            self.ap.store(&mut *self.token, map, at.word, value);
         }
     }
 
@@ -154,7 +154,7 @@ impl<'a, B: Ledgers + Journals, L: Publications, F: Files> LiveOperator<'a, B, L
         if !self.ap.has_word(Scope::Shared, map, at.word) {
             return None;
         }
-        let value = self.ap.read(&mut self.token, map, at.word);
+        let value = self.ap.read(&mut *self.token, map, at.word);
         Some(Told::Word { value })
     }
 
@@ -167,7 +167,7 @@ impl<'a, B: Ledgers + Journals, L: Publications, F: Files> LiveOperator<'a, B, L
         if !self.ap.has_word(Scope::Worker, map, at.word) {
             return None;
         }
-        let value = self.ap.sum(&mut self.token, map, at.word);
+        let value = self.ap.sum(&mut *self.token, map, at.word);
         Some(Told::Word { value })
     }
 }
@@ -223,12 +223,12 @@ impl<'a, B: Ledgers + Journals, L: Publications, F> LiveOperator<'a, B, L, F> {
             mut pages,
             ..
         } = self;
-        let (shares, mine) = token.into_parts();
+        let (shares, mine) = Box::into_inner(token).into_parts();
         hoard.merge(shares);
         pages.merge(mine);
-        match ap.close(rt, &mut hoard, &mut pages) {
+        match ap.close(rt, &mut *hoard, &mut *pages) {
             Ok(totals) => totals,
-            Err(_) => ap.gather(rt, &mut hoard),
+            Err(_) => ap.gather(rt, &mut *hoard),
         }
     }
 }
@@ -250,7 +250,7 @@ impl<'a, B: Ledgers + Journals, L: Publications, F: Files, G: Drop> Operating<
     ghost taken = { λ w. counted_by w.token.shards };
 
     fn submit<R: Wait>(&mut self, rt: &R, line: u64, event: Event) -> Result<(), Waiting> {
-        match self.ap.submit(rt, &mut self.token, line, event) {
+        match self.ap.submit(rt, &mut *self.token, line, event) {
             Ok(()) => return Ok(()),
             Err(unserved) => return Err(waiting_for(unserved)),
         }
@@ -261,12 +261,12 @@ impl<'a, B: Ledgers + Journals, L: Publications, F: Files, G: Drop> Operating<
         match event {
             Event::Tick(units) if shard < 8 => {
                 let event = Event::Tick(units);
-                match self.ap.submit_at(rt, &mut self.token, line, event, shard) {
+                match self.ap.submit_at(rt, &mut *self.token, line, event, shard) {
                     Ok(()) => return Ok(()),
                     Err(unserved) => return Err(waiting_for(unserved)),
                 }
             }
-            event => match self.ap.submit(rt, &mut self.token, line, event) {
+            event => match self.ap.submit(rt, &mut *self.token, line, event) {
                 Ok(()) => return Ok(()),
                 Err(unserved) => return Err(waiting_for(unserved)),
             },

@@ -13,15 +13,15 @@ ghost use Rattle.apd_run.specs.Hands.{crew_of};
 ghost use Rattle.apd_driver.specs.Shows.{Runs};
 
 use crate::access::budgets::Budgets;
-use crate::access::hands::{Hands, deal};
+use crate::access::hands::{Hands, Kept, deal};
 use crate::access::naming::Publications;
 use crate::access::operator::{LiveOperator, Sources};
 use crate::access::worker::LiveWorker;
 use crate::loads::{Limits, Loads};
-use ap_books::{Ledgers, Portions, Totals};
-use ap_live::{Gate, LiveAp, Opened, OperatorToken, Settings, WorkerToken};
+use ap_books::{Ledgers, Totals};
+use ap_live::{Gate, LiveAp, Opened, Settings, WorkerToken};
 use ap_locked::Journals;
-use ap_shards::{AllPages, NewShards};
+use ap_shards::NewShards;
 use apd_driver::{Console, Lines, Ready, Staff, run_lines};
 use apd_files::Files;
 use bpf_regions::Shapes;
@@ -99,8 +99,8 @@ where
 /// An operator that keeps these parts of the ledgers, beside `workers` workers.
 fn new_operator<'a, B, L, F>(
     ap: &'a LiveAp<B>,
-    token: OperatorToken<B>,
-    kept: ((Portions<B>, AllPages<B>), u64),
+    kept: Kept<B>,
+    parts: u64,
     workers: u64,
     loads: &'a mut Loads,
     sources: Sources<'a, F>,
@@ -108,19 +108,23 @@ fn new_operator<'a, B, L, F>(
 where
     B: Ledgers + Journals,
     L: Publications,
-    requires new { IsNewOperator ap.now token }
-    requires kept { HasParts kept.1 kept.0.0 }
-    requires pages { HasPages kept.1 kept.0.1 }
-    requires some { 1 < kept.1 }
-    requires nothing { sum_of kept.0.0 ≡ none }
-    requires all { kept.1 + workers + 1 ≡ parts_in_all }
+    requires new { IsNewOperator ap.now kept.token.value }
+    requires kept { HasParts parts kept.hoard.value }
+    requires pages { HasPages parts kept.pages.value }
+    requires some { 1 < parts }
+    requires nothing { sum_of kept.hoard.value ≡ none }
+    requires all { parts + workers + 1 ≡ parts_in_all }
     requires shares { B.shares ≡ parts_in_all }
     requires list { loads.old.list ≡ L.list }
     requires no_loads { loads.old.loads ≡ [] }
     ensures workers { (crew_of result).workers ≡ workers }
-    ensures counted { (crew_of result).counted ≡ sum_of kept.0.0 }
+    ensures counted { (crew_of result).counted ≡ sum_of kept.hoard.value }
 {
-    let ((hoard, pages), parts) = kept;
+    let Kept {
+        token,
+        hoard,
+        pages,
+    } = kept;
     LiveOperator {
         ap,
         token,
@@ -155,8 +159,8 @@ where
     S: Lines + Drop,
     P: Console + Drop,
     requires hands { let hands = equipment.hands in
-        AreHands ap.now hands.operator hands.workers.items hands.hoard hands.parts }
-    requires pages { HasPages equipment.hands.parts equipment.hands.pages }
+        AreHands ap.now hands.kept.token.value hands.workers.items hands.kept.hoard.value hands.parts }
+    requires pages { HasPages equipment.hands.parts equipment.hands.kept.pages.value }
     requires shares { B.shares ≡ parts_in_all }
     requires list { ap.now.list.list ≡ L.list }
     requires loads { equipment.loads.list ≡ L.list }
@@ -170,31 +174,20 @@ where
     } = supplies;
     let Equipment { hands, loads } = equipment;
     let Hands {
-        operator,
+        kept,
         workers,
-        hoard,
-        pages,
         parts,
     } = hands;
     let mut loads = loads;
     let Ok(ready) = ready_workers::<B, L, G>(alloc, ap, gate, workers) else {
-        // Dropped by calls, since they have many parts.
-        drop(operator);
-        drop(hoard);
-        drop(pages);
+        // Dropped by a call, since it has many parts.
+        drop(kept);
         loads.close(rt);
         return without_memory(writer);
     };
     let many = ready.len() as u64;
     let sources = Sources { files, limits };
-    let operator = new_operator::<B, L, F>(
-        ap,
-        operator,
-        ((hoard, pages), parts),
-        many,
-        &mut loads,
-        sources,
-    );
+    let operator = new_operator::<B, L, F>(ap, kept, parts, many, &mut loads, sources);
     let staff = Staff {
         operator,
         workers: ready,

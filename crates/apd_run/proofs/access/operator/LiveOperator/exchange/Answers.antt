@@ -9,7 +9,7 @@ use Rattle.apd_run.proofs.Sums.{exchanged_parts, exchanged_sum, fresh, more_than
 use Rattle.apd_run.proofs.access.operator.LiveOperator.exchange.Goals as goal
 
 pub split_off-fresh-requires-clause-more : goal.split_off-fresh-requires-clause-more
-split_off-fresh-requires-clause-more g c = more_than_one c.self.inside.parts c.self.inside.hoard c.self.invariant.some c.self.invariant.parts
+split_off-fresh-requires-clause-more g c = more_than_one c.self.inside.parts c.self.inside.hoard.value c.self.invariant.some c.self.invariant.parts
 
 pub renew-counted-requires : goal.renew-counted-requires
 renew-counted-requires g c = fresh c.split_off-fresh.result c.split_off-fresh.ensures.parts c.split_off-fresh.ensures.none
@@ -21,14 +21,14 @@ pub invariant_of-self : goal.invariant_of-self
 invariant_of-self g c =
     let i = c.self.invariant in
     let shards = c.worker.inside.token.shards in
-    let counted = exchanged_sum c.self.inside.hoard c.split_off-fresh.new.self c.renew-counted.result c.merge.new.self (counted_by shards) c.split_off-fresh.ensures.counts c.merge.ensures (ap sum_of c.renew-counted.ensures.given) in
+    let counted = exchanged_sum c.self.inside.hoard.value c.split_off-fresh.new.self c.renew-counted.result c.merge.new.self (counted_by shards) c.split_off-fresh.ensures.counts c.merge.ensures (ap sum_of c.renew-counted.ensures.given) in
     let numbers : Reads c.counted_in-numbers.result (counted_by shards) = subst (Reads c.counted_in-numbers.result) (sym c.worker.invariant.counts) c.counted_in-numbers.ensures.reads in
     let given : HasParts 1 c.renew-counted.result = subst (HasParts 1) (sym c.renew-counted.ensures.given) c.worker.invariant.parts in
     record {
       own = i.own;
       mine = i.mine;
       nothing = i.nothing;
-      parts = exchanged_parts c.self.inside.parts c.self.inside.hoard c.split_off-fresh.new.self c.renew-counted.result c.merge.new.self i.parts c.split_off-fresh.ensures.left given c.merge.ensures;
+      parts = exchanged_parts c.self.inside.parts c.self.inside.hoard.value c.split_off-fresh.new.self c.renew-counted.result c.merge.new.self i.parts c.split_off-fresh.ensures.left given c.merge.ensures;
       pages = i.pages;
       all = i.all;
       shares_are = i.shares_are;
@@ -44,7 +44,7 @@ invariant_of-worker g c =
 
 pub returns-clause-crew : goal.returns-clause-crew
 returns-clause-crew g c =
-    let hoard = c.self.inside.hoard in
+    let hoard = c.self.inside.hoard.value in
     let shards = c.worker.inside.token.shards in
     let counted = exchanged_sum hoard c.split_off-fresh.new.self c.renew-counted.result c.merge.new.self (counted_by shards) c.split_off-fresh.ensures.counts c.merge.ensures (ap sum_of c.renew-counted.ensures.given) in
     let before : Crew = record { workers = c.self.inside.workers; counted = sum_of hoard } in

@@ -13,13 +13,13 @@ invariant_of-self g c =
     let given : HasParts 1 c.into_parts-shares.result.0 = subst (HasParts 1) (sym c.into_parts-shares.ensures.shares) c.worker.invariant.parts in
     let some : 0 < c.self.inside.workers = subst (λ (o : RunOperator). 0 < o.workers) (sym c.self.view_is) c.requires.some in
     let none_more : counted_by c.worker.inside.token.shards ≡ none = subst (λ (w : RunWorker). counted_by w.token.shards ≡ none) (sym c.worker.view_is) c.requires.nothing in
-    let counted : sum_of c.merge.new.self ≡ sum_of c.self.inside.hoard = merged_sum c.self.inside.hoard c.into_parts-shares.result.0 c.merge.new.self c.merge.ensures
-    ∙ (ap (λ (h : Holding). plus (sum_of c.self.inside.hoard) (sum_of h)) c.into_parts-shares.ensures.shares ∙ (ap (plus (sum_of c.self.inside.hoard)) none_more ∙ plus_none (sum_of c.self.inside.hoard))) in
+    let counted : sum_of c.merge.new.self ≡ sum_of c.self.inside.hoard.value = merged_sum c.self.inside.hoard.value c.into_parts-shares.result.0 c.merge.new.self c.merge.ensures
+    ∙ (ap (λ (h : Holding). plus (sum_of c.self.inside.hoard.value) (sum_of h)) c.into_parts-shares.ensures.shares ∙ (ap (plus (sum_of c.self.inside.hoard.value)) none_more ∙ plus_none (sum_of c.self.inside.hoard.value))) in
     record {
       own = i.own;
       mine = i.mine;
       nothing = i.nothing;
-      parts = one_more_part c.self.inside.parts c.self.inside.hoard c.into_parts-shares.result.0 c.merge.new.self i.parts given c.merge.ensures;
+      parts = one_more_part c.self.inside.parts c.self.inside.hoard.value c.into_parts-shares.result.0 c.merge.new.self i.parts given c.merge.ensures;
       pages = c.merge-2.ensures.count _ _ i.pages c.into_parts-shares.ensures.count;
       all = omega (arith, i.all, some);
       shares_are = i.shares_are;
