@@ -248,8 +248,8 @@ impl Trial<'_> {
     }
 }
 
-/// Finished states as claims, each without what its checks don't need; the checks count as work. A state that such a claim includes, with a
-/// budget that serves, is left out.
+/// Finished states as claims, each without what its checks don't need; the checks count as work. A state that such a
+/// claim includes, with a budget that serves, is left out.
 pub(crate) fn widened(
     alloc: Global,
     program: &Program,

@@ -104,6 +104,24 @@ impl Work {
         Ok(())
     }
 
+    /// Counts any number of units. Refused if that passes the limit; then as many are counted as it allows.
+    pub fn spend_many(&mut self, units: u64) -> Result<(), TooMuchWork>
+        ensures most { self.new.most ≡ self.old.most }
+        ensures examined { self.new.examined ≡ self.old.examined }
+        ensures compared { self.new.compared ≡ self.old.compared }
+        ensures done { OnOk result (self.new.units ≡ self.old.units + units) }
+        ensures few { self.new.units ≤ self.old.units + units }
+        ensures passed { OnErr result (HasPassed self.new) }
+    {
+        if self.most - self.units < units {
+            self.units = self.most;
+            self.refused = 1;
+            return Err(TooMuchWork);
+        }
+        self.units += units;
+        Ok(())
+    }
+
     /// Counts a state before it is examined: each of its parts is a unit. Refused if that passes the limit.
     pub fn examine(&mut self, state: &AbsState) -> Result<(), TooMuchWork>
         ensures most { self.new.most ≡ self.old.most }

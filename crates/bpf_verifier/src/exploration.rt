@@ -236,8 +236,15 @@ impl Exploration {
     }
 }
 
-/// Counts a state before it is examined, and looks for a finished one that includes it. Its budget, if there is one.
-fn look(finished: &Finished, state: &AbsState, work: &mut Work) -> Result<Option<u32>, TooMuchWork>
+/// Counts states that were rebuilt, and a state before it is examined, and looks for a finished one that includes it. Its
+/// budget, if there is one.
+fn look(
+    finished: &Finished,
+    state: &AbsState,
+    rebuilt: u64,
+    work: &mut Work,
+) -> Result<Option<u32>, TooMuchWork>
+    requires small { rebuilt ≤ 134217728 }
     ensures covers { IfOk result
         (λ budget. IfSome budget (Covers (kept_at finished.now state.now.pc) state.now)) }
     ensures most { work.new.most ≡ work.old.most }
@@ -247,9 +254,10 @@ fn look(finished: &Finished, state: &AbsState, work: &mut Work) -> Result<Option
         ≡ work.old.compared + comparisons (kept_at finished.now state.now.pc) state.now) }
     ensures least { work.old.examined ≤ work.new.examined }
     ensures greatest { work.new.examined ≤ work.old.examined + 1 }
-    ensures few { work.new.units ≤ work.old.units + 36979 }
+    ensures few { work.new.units ≤ work.old.units + 134254707 }
     ensures passed { OnErr result (HasPassed work.new) }
 {
+    work.spend_many(rebuilt)?;
     work.examine(state)?;
     let covering = finished.covering(state, work)?;
     Ok(covering)
@@ -285,7 +293,8 @@ pub(crate) fn observed_budget(
     let mut current = AbsState::entry(alloc)?;
     'visit: while exploration.visits < most {
         let pc = current.pc();
-        let Ok(covering) = look(&exploration.finished, &current, work) else {
+        let rebuilt = exploration.path.take_rebuilt();
+        let Ok(covering) = look(&exploration.finished, &current, rebuilt, work) else {
             return Err(Refusal::past_limits(pc));
         };
         match exploration.visit(alloc, program, current, covering) {

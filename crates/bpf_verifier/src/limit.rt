@@ -68,7 +68,7 @@ impl StateLimit {
 pub struct Limits {
     /// The most states that it examines.
     pub states: StateLimit,
-    /// The most units of work, as [`bpf_prune::work`] counts them, if they are limited. No exploration needs 2^38.
+    /// The most units of work, as [`bpf_prune::work`] counts them, if they are limited. No exploration needs 2^50.
     pub work: Option<u64>,
 }
 

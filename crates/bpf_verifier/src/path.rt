@@ -1,6 +1,6 @@
 //! The path to the state to examine next.
 
-ghost use Rattle.std.specs.Prelude.{◌≡◌, ◌∷◌, ◌++◌, [], ℕ, List, OnOk, IfOk, IfSome, IfNone};
+ghost use Rattle.std.specs.Prelude.{◌≡◌, ◌≤◌, ◌∷◌, ◌++◌, [], ℕ, List, OnOk, IfOk, IfSome, IfNone};
 ghost use Rattle.bpf_absstate.specs.View.{View};
 ghost use Rattle.bpf_verifier.specs.Traced.{IsTraced};
 
@@ -8,12 +8,16 @@ use crate::fold::Fold;
 use crate::frame::Frame;
 use bpf_decode::Program;
 use std::alloc::{AllocError, Global};
+use std::cell::Cell;
 use std::marker::Model;
 use std::mem::replace;
 
-/// The weight of the frames that are pushed before older ones are folded. A state adds at most 32. So more states are
-/// pushed than a program has slots, and frames are folded and rebuilt at most once for as many examined states.
+/// The weight of the frames that are pushed before older ones are folded. A state adds at most 32, so more states are
+/// pushed than a program has slots.
 const WINDOW: u32 = 1048576;
+
+/// The most units of work of rebuilt frames that are counted with one state. One fold has fewer.
+const MOST_REBUILT: u64 = 134217728;
 
 /// The frames of an exploration, the oldest first. Deep ones are folded.
 #[derive(Drop)]
@@ -31,6 +35,8 @@ pub(crate) struct Path {
     newer: Vec<Frame>,
     /// The weight of the frames pushed since frames were folded.
     window: u32,
+    /// The units of work of the frames that were rebuilt, and aren't counted yet.
+    rebuilt: Cell<u64>,
 }
 
 impl Model for Path {
@@ -57,6 +63,7 @@ impl Path {
             older: Vec::new(alloc),
             newer: Vec::new(alloc),
             window: 0,
+            rebuilt: Cell::new(0),
         }
     }
 
@@ -67,6 +74,25 @@ impl Path {
             .saturating_add(self.folded)
             .saturating_add(self.older.len())
             .saturating_add(self.newer.len())
+    }
+
+    /// Notes that these frames were rebuilt.
+    fn note_rebuilt(&self, frames: &[Frame]) {
+        let mut units = self.rebuilt.get();
+        for frame in frames {
+            units = units.saturating_add(frame.units());
+        }
+        self.rebuilt.set(units);
+    }
+
+    /// Units of work of rebuilt frames, each of which is returned once.
+    pub(crate) fn take_rebuilt(&self) -> u64
+        ensures few { result ≤ 134217728 }
+    {
+        let units = self.rebuilt.get();
+        let taken = units.min(MOST_REBUILT);
+        self.rebuilt.set(units - taken);
+        taken
     }
 
     pub(crate) fn push(&mut self, frame: Frame) -> Result<(), AllocError>
@@ -137,6 +163,7 @@ impl Path {
         };
         self.folded = self.folded.saturating_sub(fold.len());
         self.older = fold.unfold(self.alloc, program)?;
+        self.note_rebuilt(self.older.as_slice());
         if let Some(frame) = self.older.pop() {
             return Ok(Some(frame));
         }

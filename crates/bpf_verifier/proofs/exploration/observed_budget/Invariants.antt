@@ -28,7 +28,7 @@ invariant-visit l = record {
   states : l.exploration.visits ≤ l.fn.limit;
   most : l.work.most ≡ l.initial.work.most;
   examined : l.work.examined ≡ l.initial.work.examined + l.exploration.visits;
-  units : l.work.units ≤ l.initial.work.units + 36979 * l.exploration.visits;
+  units : l.work.units ≤ l.initial.work.units + 134254707 * l.exploration.visits;
 }
 
 abbrev pub decreases-visit : goal.decreases-visit
