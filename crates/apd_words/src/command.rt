@@ -257,7 +257,8 @@ fn live<'a>(alloc: Global, numbers: &'a [&'a str]) -> Made<'a>
     let command = with_arg(command, flag(alloc, "verbose", verbose));
     let clock = "Let time pass by the clock, too";
     let command = with_arg(command, flag(alloc, "clock", clock));
-    let command = with_arg(with_arg(command, events(alloc)), color(alloc));
+    let command = with_arg(command, events(alloc));
+    let command = with_arg(command, color(alloc));
     with_arg(command, work(alloc))
 }
 
