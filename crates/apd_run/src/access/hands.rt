@@ -67,7 +67,7 @@ fn give_rights<B: Ledgers + Journals>(
     Ok(Rights { operator, workers })
 }
 
-fn kept<B: Ledgers + Journals>(
+fn in_boxes<B: Ledgers + Journals>(
     alloc: Global,
     token: OperatorToken<B>,
     hoard: Portions<B>,
@@ -116,7 +116,7 @@ pub(crate) fn deal<B: Ledgers + Journals>(
     let Rights { operator, workers } = rights;
     let parts = 16 - workers.len() as u64;
     let (hoard, pages) = left.into_parts();
-    let kept = kept(alloc, operator, hoard, pages)?;
+    let kept = in_boxes(alloc, operator, hoard, pages)?;
     Ok(Hands {
         kept,
         workers,
