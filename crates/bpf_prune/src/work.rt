@@ -113,12 +113,12 @@ impl Work {
         ensures few { self.new.units ≤ self.old.units + units }
         ensures passed { OnErr result (HasPassed self.new) }
     {
-        if self.most - self.units < units {
-            self.units = self.most;
+        let allowed = self.most - self.units;
+        self.units += units.min(allowed);
+        if allowed < units {
             self.refused = 1;
             return Err(TooMuchWork);
         }
-        self.units += units;
         Ok(())
     }
 
