@@ -13,7 +13,7 @@ fn octets_of(event: &Event) -> &[u8]
     ensures is { result.now ≡ octets_of event.now }
 {
     match event {
-        Event::Frame(octets) => octets.as_slice(),
+        Event::Frame(octets) => octets.bytes(),
         Event::Tick(_) | Event::Kick { .. } | Event::Close { .. } => &[],
     }
 }
