@@ -67,24 +67,21 @@ fn give_rights<B: Ledgers + Journals>(
     Ok(Rights { operator, workers })
 }
 
-fn in_boxes<B: Ledgers + Journals>(
+/// Puts each value into a box.
+fn in_boxes<T: Drop, H: Drop, P: Drop>(
     alloc: Global,
-    token: OperatorToken<B>,
-    hoard: Portions<B>,
-    pages: AllPages<B>,
-) -> Result<Kept<B>, AllocError>
-    ensures token { IfOk result (λ k. k.token.value ≡ token) }
-    ensures hoard { IfOk result (λ k. k.hoard.value ≡ hoard) }
-    ensures pages { IfOk result (λ k. k.pages.value ≡ pages) }
+    token: T,
+    hoard: H,
+    pages: P,
+) -> Result<(Box<T>, Box<H>, Box<P>), AllocError>
+    ensures token { IfOk result (λ boxes. boxes.0.value ≡ token) }
+    ensures hoard { IfOk result (λ boxes. boxes.1.value ≡ hoard) }
+    ensures pages { IfOk result (λ boxes. boxes.2.value ≡ pages) }
 {
     let token = Box::new(alloc, token)?;
     let hoard = Box::new(alloc, hoard)?;
     let pages = Box::new(alloc, pages)?;
-    Ok(Kept {
-        token,
-        hoard,
-        pages,
-    })
+    Ok((token, hoard, pages))
 }
 
 /// A token for the operator and one for each of `count` workers, which are all. No token was given out earlier.
@@ -116,7 +113,12 @@ pub(crate) fn deal<B: Ledgers + Journals>(
     let Rights { operator, workers } = rights;
     let parts = 16 - workers.len() as u64;
     let (hoard, pages) = left.into_parts();
-    let kept = in_boxes(alloc, operator, hoard, pages)?;
+    let (token, hoard, pages) = in_boxes(alloc, operator, hoard, pages)?;
+    let kept = Kept {
+        token,
+        hoard,
+        pages,
+    };
     Ok(Hands {
         kept,
         workers,
