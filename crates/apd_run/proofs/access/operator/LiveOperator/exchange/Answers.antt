@@ -1,7 +1,9 @@
 use Rattle.std.proofs.Common.{◌≡◌, ap, sym, subst, ◌∙◌}
-use Rattle.ap_books.specs.Holdings.{HasParts, sum_of}
+use Rattle.std.specs.Global.{Vec}
+use Rattle.ap_books.specs.Holdings.{HasMerged, HasMoreThan, HasParts, HasSplit, Holding, sum_of}
 use Rattle.ap_books.specs.Reading.{Reads}
-use Rattle.ap_live.specs.Counting.{counted_by}
+use Rattle.ap_live.specs.Counting.{counted_by, tally}
+use Rattle.ap_live.specs.declared.tagged.Tagged.{Tagged}
 use Rattle.apd_driver.specs.Crews.{Crew, gains}
 use Rattle.apd_run.specs.Hands.{RunOperator, crew_of}
 use Rattle.apd_run.proofs.Keeping.{other_parts}
@@ -9,7 +11,8 @@ use Rattle.apd_run.proofs.Sums.{exchanged_parts, exchanged_sum, fresh, more_than
 use Rattle.apd_run.proofs.access.operator.LiveOperator.exchange.Goals as goal
 
 pub split_off-fresh-requires-clause-more : goal.split_off-fresh-requires-clause-more
-split_off-fresh-requires-clause-more g c = more_than_one c.self.inside.parts c.self.inside.hoard.value c.self.invariant.some c.self.invariant.parts
+split_off-fresh-requires-clause-more g c =
+    subst (HasMoreThan 1) (sym c.deref_mut.ensures.value) (more_than_one c.self.inside.parts c.self.inside.hoard.value c.self.invariant.some c.self.invariant.parts)
 
 pub renew-counted-requires : goal.renew-counted-requires
 renew-counted-requires g c = fresh c.split_off-fresh.result c.split_off-fresh.ensures.parts c.split_off-fresh.ensures.none
@@ -20,15 +23,21 @@ returns-clause-worker g c = ap sum_of c.renew-counted.ensures.taken ∙ c.split_
 pub invariant_of-self : goal.invariant_of-self
 invariant_of-self g c =
     let i = c.self.invariant in
+    let hoard = c.self.inside.hoard.value in
+    let left = c.split_off-fresh.new.self in
     let shards = c.worker.inside.token.shards in
-    let counted = exchanged_sum c.self.inside.hoard.value c.split_off-fresh.new.self c.renew-counted.result c.merge.new.self (counted_by shards) c.split_off-fresh.ensures.counts c.merge.ensures (ap sum_of c.renew-counted.ensures.given) in
-    let numbers : Reads c.counted_in-numbers.result (counted_by shards) = subst (Reads c.counted_in-numbers.result) (sym c.worker.invariant.counts) c.counted_in-numbers.ensures.reads in
+    let stayed : sum_of left ≡ sum_of hoard = c.split_off-fresh.ensures.counts ∙ ap sum_of c.deref_mut.ensures.value in
+    let split : HasSplit 1 hoard left = subst (λ (h : Holding). HasSplit 1 h left) c.deref_mut.ensures.value c.split_off-fresh.ensures.left in
+    let merged : HasMerged left c.renew-counted.result c.merge.new.self = subst (λ (h : Holding). HasMerged h c.renew-counted.result c.merge.new.self) c.deref_mut-2.ensures.value c.merge.ensures in
+    let counted = exchanged_sum hoard left c.renew-counted.result c.merge.new.self (counted_by shards) stayed merged (ap sum_of c.renew-counted.ensures.given) in
+    let handled = ap (λ (v : Vec Tagged). tally v.items) c.replace-handled.ensures.value in
+    let numbers : Reads c.counted_in-numbers.result (counted_by shards) = subst (Reads c.counted_in-numbers.result) (ap tally c.as_slice.ensures.value ∙ (handled ∙ sym c.worker.invariant.counts)) c.counted_in-numbers.ensures.reads in
     let given : HasParts 1 c.renew-counted.result = subst (HasParts 1) (sym c.renew-counted.ensures.given) c.worker.invariant.parts in
     record {
       own = i.own;
       mine = i.mine;
       nothing = i.nothing;
-      parts = exchanged_parts c.self.inside.parts c.self.inside.hoard.value c.split_off-fresh.new.self c.renew-counted.result c.merge.new.self i.parts c.split_off-fresh.ensures.left given c.merge.ensures;
+      parts = exchanged_parts c.self.inside.parts hoard left c.renew-counted.result c.merge.new.self i.parts split given merged;
       pages = i.pages;
       all = i.all;
       shares_are = i.shares_are;
@@ -40,14 +49,19 @@ invariant_of-self g c =
 
 pub invariant_of-worker : goal.invariant_of-worker
 invariant_of-worker g c =
-    other_parts _ _ _ c.split_off-fresh.result _ c.renew-counted.ensures.same c.renew-counted.ensures.taken c.split_off-fresh.ensures.parts c.split_off-fresh.ensures.none c.new.ensures.items c.worker.invariant
+    let empty = ap (λ (v : Vec Tagged). v.items) c.replace-handled.ensures.after ∙ c.new.ensures.items in
+    other_parts _ _ _ c.split_off-fresh.result _ c.renew-counted.ensures.same c.renew-counted.ensures.taken c.split_off-fresh.ensures.parts c.split_off-fresh.ensures.none empty c.worker.invariant
 
 pub returns-clause-crew : goal.returns-clause-crew
 returns-clause-crew g c =
     let hoard = c.self.inside.hoard.value in
+    let left = c.split_off-fresh.new.self in
     let shards = c.worker.inside.token.shards in
-    let counted = exchanged_sum hoard c.split_off-fresh.new.self c.renew-counted.result c.merge.new.self (counted_by shards) c.split_off-fresh.ensures.counts c.merge.ensures (ap sum_of c.renew-counted.ensures.given) in
+    let stayed : sum_of left ≡ sum_of hoard = c.split_off-fresh.ensures.counts ∙ ap sum_of c.deref_mut.ensures.value in
+    let merged : HasMerged left c.renew-counted.result c.merge.new.self = subst (λ (h : Holding). HasMerged h c.renew-counted.result c.merge.new.self) c.deref_mut-2.ensures.value c.merge.ensures in
+    let counted = exchanged_sum hoard left c.renew-counted.result c.merge.new.self (counted_by shards) stayed merged (ap sum_of c.renew-counted.ensures.given) in
     let before : Crew = record { workers = c.self.inside.workers; counted = sum_of hoard } in
     let after : Crew = record { workers = c.self.inside.workers; counted = sum_of c.merge.new.self } in
     let crew : after ≡ gains before (counted_by shards) = λ i. record { workers = c.self.inside.workers; counted = counted i } in
-    crew ∙ (ap (λ (o : RunOperator). gains (crew_of o) (counted_by shards)) c.self.view_is ∙ ap (gains (crew_of c.args.self.now)) c.worker.invariant.counts)
+    let handled = c.worker.invariant.counts ∙ sym (ap (λ (v : Vec Tagged). tally v.items) c.replace-handled.ensures.value) in
+    crew ∙ (ap (λ (o : RunOperator). gains (crew_of o) (counted_by shards)) c.self.view_is ∙ ap (gains (crew_of c.args.self.now)) handled)
