@@ -129,13 +129,13 @@ static void hostile_certificate(void)
     WANT(apd_check(&again, APD_DATA, seven, 16, NULL, 0, bytes, length).number, APD_OK);
     WANT(apd_budget(&again), 2);
     apd_free(&again);
-    /* (two states are examined, and no comparison is made) */
+    /* (two states of 80 parts are examined, and no comparison is made) */
     WANT(apd_check_within(NULL, APD_DATA, seven, 16, NULL, 0, bytes, length, 1).number, APD_NULL);
     WANT(apd_check_within(&again, APD_DATA, seven, 16, NULL, 0, NULL, length, 1).number, APD_NULL);
-    WANT(apd_check_within(&again, APD_DATA, seven, 16, NULL, 0, bytes, length, 1).number, APD_TOO_MUCH);
+    WANT(apd_check_within(&again, APD_DATA, seven, 16, NULL, 0, bytes, length, 159).number, APD_TOO_MUCH);
     WANT(again.full, 0);
     WANT(apd_check_within(&again, APD_DATA, seven, 16, NULL, 0, bytes, length - 1, 1).number, APD_MALFORMED);
-    WANT(apd_check_within(&again, APD_DATA, seven, 16, NULL, 0, bytes, length, 2).number, APD_OK);
+    WANT(apd_check_within(&again, APD_DATA, seven, 16, NULL, 0, bytes, length, 160).number, APD_OK);
     WANT(apd_check_within(&again, APD_DATA, seven, 16, NULL, 0, bytes, length, 1).number, APD_NOT_EMPTY);
     apd_free(&again);
     WANT(apd_check_within(&again, APD_DATA, seven, 16, NULL, 0, bytes, length, UINT64_MAX).number, APD_OK);

@@ -215,8 +215,8 @@ def why(hook, code, shapes=(), states=0):
 
 
 def check(hook, code, certificate, shapes=(), work=0):
-    """Admits a program by a certificate, or raises Refused. `work` is the most work that the check does: states that are
-    examined, and comparisons of a state with one of the certificate; 0 for no limit."""
+    """Admits a program by a certificate, or raises Refused. `work` is the most work that the check does: parts of states
+    that are examined, and of those that are compared with one of the certificate; 0 for no limit."""
     program = Program(hook, shapes)
     answer = _apd.apd_check_within(byref(program._handle), hook, code, len(code), *_shapes_of(shapes), certificate,
                                    len(certificate), work)

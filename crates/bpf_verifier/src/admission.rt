@@ -75,7 +75,7 @@ pub fn verify_limited(
 /// before stays. The states that are examined and the comparisons of a state with a finished one are together at most
 /// the units that are allowed.
 ///
-/// Not counted are the states of the path that are made again, at most as many as are examined.
+/// States of the path that are made again are counted after that, with the next state that is examined.
 pub fn verify_counted(
     alloc: Global,
     program: Program,
