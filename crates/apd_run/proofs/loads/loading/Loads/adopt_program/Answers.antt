@@ -18,7 +18,7 @@ pub returns-in-Err-Certificate : goal.returns-in-Err-Certificate
 returns-in-Err-Certificate g c =
     let fault = c.in-Err-Certificate.fault in
     rw c.not_certified.ensures
-    (not_adopted _ _ _ _ _ fault (rw c.in-Err-Certificate.field-0-is at c.in-Err-Certificate.ensures.why) (c.in-Err-Certificate.ensures.refused ∙ c.self.view_is))
+    (not_adopted _ c.self.inside.publisher (record { program = c.args.program; hook = c.args.hook; certificate = c.args.certificate }) _ _ fault (rw c.in-Err-Certificate.field-0-is at c.in-Err-Certificate.ensures.why) (c.in-Err-Certificate.ensures.refused ∙ c.self.view_is))
 
 pub returns-in-NoMemory : goal.returns-in-NoMemory
 returns-in-NoMemory g c = NoRoomToAdopt (c.in-Err-Publication.ensures.refused ∙ c.self.view_is)
