@@ -6,7 +6,7 @@ _apd() {
     [ "$before" = = ] && before=${COMP_WORDS[COMP_CWORD - 2]}
     for ((at = 2; at < COMP_CWORD; at++)); do
         case ${COMP_WORDS[at]} in
-            --config | --states | --output | --context | --against | --workers | --events)
+            --config | --states | --work | --output | --context | --against | --workers | --events | --color)
                 at=$((at + 1))
                 [ "${COMP_WORDS[at]}" = = ] && at=$((at + 1))
                 ;;
@@ -15,15 +15,15 @@ _apd() {
         esac
     done
     case ${COMP_WORDS[1]} in
-        verify) options='--config --states --explain --help' kinds=('assoc addba data/' '/hex') ;;
+        verify) options='--config --states --explain --work --help' kinds=('assoc addba data/' '/hex') ;;
         asm) options='--output --help' kinds=('/s') ;;
         disasm) options='--config --slots --raw --dot --output --help' kinds=('/hex') ;;
-        trace) options='--config --states --context --from-frame --explain --help' kinds=('assoc addba data/' '/hex' '/') ;;
-        eval) options='--config --against --states --json --output --help' kinds=('assoc addba data/' '/hex' '/pcap pcapng') ;;
-        run) options='--workers --states --quiet --strict --verbose --help' kinds=('/toml' '/script') ;;
-        live) options='--workers --states --strict --verbose --clock --events --help' kinds=('/toml') ;;
-        cert) options='--config --states --output --help' kinds=('assoc addba data/' '/hex') ;;
-        check) options='--config --help' kinds=('assoc addba data/' '/hex' '/cert') ;;
+        trace) options='--config --states --context --from-frame --explain --work --help' kinds=('assoc addba data/' '/hex' '/') ;;
+        eval) options='--config --against --states --json --output --work --help' kinds=('assoc addba data/' '/hex' '/pcap pcapng') ;;
+        run) options='--workers --states --quiet --strict --verbose --work --help' kinds=('/toml' '/script') ;;
+        live) options='--workers --states --strict --verbose --clock --events --color --work --help' kinds=('/toml') ;;
+        cert) options='--config --states --output --work --help' kinds=('assoc addba data/' '/hex') ;;
+        check) options='--config --work --help' kinds=('assoc addba data/' '/hex' '/cert') ;;
         explain) options='--help' kinds=('NUMBERS/') ;;
         frames) options='--no-ticks --output --help' kinds=('/pcap pcapng') ;;
         test) options='--help' kinds=('/hex') ;;
@@ -33,11 +33,13 @@ _apd() {
     case $before in
         --config) kind='/toml' ;;
         --states) kind='/' ;;
+        --work) kind='/' ;;
         --output) kind='/hex' ;;
         --context) kind='/' ;;
         --against) kind='/' ;;
         --workers) kind='1 2 3 4 5 6 7 8/' ;;
         --events) kind='/' ;;
+        --color) kind='/' ;;
     esac
     if [ "$COMP_CWORD" -eq 1 ]; then
         kind='COMMANDS/' options='--help --version'
