@@ -1,11 +1,12 @@
-use Rattle.std.proofs.Common.{sym, ap}
+use Rattle.std.proofs.Common.{ap, refl, sym}
 use Rattle.ap_books.specs.Counts.{none}
 use Rattle.apd_driver.specs.Crews.{gains}
 use Rattle.uses_commands.proofs.echo.PlacesOperatingEcho.settle.Goals as goal
 
 pub returns : goal.returns
-returns g c =
+returns c =
     let told = c.in_ok-report_refused.ensures.told in
     record {
       collects = record { reports = told.reports; listed = told.listed; counted = ap (gains (record { workers = c.args.self.now.workers; counted = none })) (sym told.nothing) };
+      worker = refl;
     }
