@@ -50,7 +50,7 @@ invariant_of-self g c =
 pub invariant_of-worker : goal.invariant_of-worker
 invariant_of-worker g c =
     let empty = ap (λ (v : Vec Tagged). v.items) c.replace-handled.ensures.after ∙ c.new.ensures.items in
-    other_parts _ _ _ c.split_off-fresh.result _ c.renew-counted.ensures.same c.renew-counted.ensures.taken c.split_off-fresh.ensures.parts c.split_off-fresh.ensures.none empty c.worker.invariant
+    other_parts _ _ _ c.split_off-fresh.result c.replace-handled.new.dest.items c.renew-counted.ensures.same c.renew-counted.ensures.taken c.split_off-fresh.ensures.parts c.split_off-fresh.ensures.none empty c.worker.invariant
 
 pub returns-clause-crew : goal.returns-clause-crew
 returns-clause-crew g c =
