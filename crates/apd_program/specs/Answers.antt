@@ -17,7 +17,7 @@ use Rattle.apd_program.specs.Verifying.{IsVerdict, IsBudget, IsRun}
 use Rattle.apd_program.specs.Texts.{IsAssembly, IsListingWith, IsRawListing}
 use Rattle.apd_program.specs.Drawings.{IsDrawing}
 use Rattle.apd_program.specs.Evaluating.{IsEvaluatedFile, HasNoEvaluation}
-use Rattle.apd_program.specs.Testing.{IsTested, HasNoTest}
+use Rattle.apd_program.specs.Testing.{AreTested, HaveNoTest}
 use Rattle.apd_program.specs.Certifying.{IsCertificate, IsChecked}
 
 -- what is said of the program in the file, with the configuration
@@ -69,7 +69,7 @@ IsAnswer files (Evaluate hook file capture config against states json) a =
     IsEvaluatedFile files (nearest states) hook file capture against json config a
 IsAnswer files (Explain number) a = IsPageFor number a
 IsAnswer files (Frames capture ticks) a = IsOfText (IsScript ticks) files capture a
-IsAnswer files (Test file) a = IsTested files file a
+IsAnswer files (Test paths) a = AreTested files paths a
 IsAnswer files (Help command) a = IsHelpText (help_words command) a
 IsAnswer files (Certify hook file config states) a = IsOfCode (λ setup. IsCertificate (nearest states) hook) files file config a
 IsAnswer files (Check hook file certificate config) a = IsCheckedFile files hook file certificate config a
@@ -87,7 +87,7 @@ HasNoAnswer files (Evaluate hook file capture config against states json) =
     HasNoEvaluation files file capture against config
 HasNoAnswer files (Explain number) = HasNoPage number
 HasNoAnswer files (Frames capture ticks) = HasBadCapture files capture
-HasNoAnswer files (Test file) = HasNoTest files file
+HasNoAnswer files (Test paths) = HaveNoTest files paths
 HasNoAnswer files (Help command) = HasNoHelp (help_words command)
 HasNoAnswer files (Certify hook file config states) = IsAtFault files file config
 HasNoAnswer files (Check hook file certificate config) = HasNoCertificate files file certificate config

@@ -45,7 +45,6 @@ fn has_config(question: &Question<'_>) -> bool {
         Question::Assemble { .. }
         | Question::Explain { .. }
         | Question::Frames { .. }
-        | Question::Test { .. }
         | Question::Help { .. } => true,
     }
 }

@@ -3,7 +3,7 @@ use Rattle.std.specs.Prelude.{◌≡◌, ℕ, true, List, [], ◌∷◌, map, co
 use Rattle.std.specs.Borrow.{Bor}
 use Rattle.clap.specs.Words.{App, Rule, Shape, Text, new_rule, with_subcommand}
 use Rattle.clap.specs.Simple.{new_shape}
-use Rattle.clap.specs.declared.builder.action.ArgAction.TheVariants.{Set, SetTrue}
+use Rattle.clap.specs.declared.builder.action.ArgAction.TheVariants.{Append, Set, SetTrue}
 use Rattle.clap.specs.declared.builder.value_parser.ValueParser.{ValueParser}
 use Rattle.clap.specs.declared.builder.value_parser.ValueParser.TheVariants.{Names, Unsigned}
 
@@ -46,6 +46,10 @@ option name = record (new_rule name) { long = Some name; value_names = 1; action
 -- the argument FILE
 abbrev pub file : Rule
 file = required (codes "FILE")
+
+-- the argument FILE, once or more
+abbrev pub files : Rule
+files = record file { action = Some Append }
 
 -- `--config C`
 abbrev pub config : Rule
@@ -154,9 +158,9 @@ frames =
     command (codes "frames") (required (codes "CAPTURE") ∷ flag (codes "no-ticks")
     ∷ output ∷ [])
 
--- `test FILE`
+-- `test FILE..`
 abbrev pub test : Shape
-test = command (codes "test") (file ∷ [])
+test = command (codes "test") (files ∷ [])
 
 -- `help [COMMAND]`
 abbrev pub help : Shape

@@ -5,7 +5,7 @@ ghost use Rattle.clap.specs.Words.{App, Rule, Shape, app_of, rule_of, with_subco
 ghost use Rattle.clap.specs.Simple.{new_shape};
 ghost use Rattle.clap.specs.declared.builder.value_parser.ValueParser.TheVariants.{Names};
 ghost use Rattle.apd_words.specs.Built.{IsProgram, IsCommand, with_argument};
-ghost use Rattle.apd_words.specs.CommandLine.{command_line, program, with_code_commands, with_trial_commands, with_run_commands, with_certificate_commands, with_reading_commands, hook_command, required, optional, flag, hook, file, config, against, json, output, context, events, workers, states, verify, assemble, disassemble, trace, evaluate, run, live, certify, check, explain, frames, test, help};
+ghost use Rattle.apd_words.specs.CommandLine.{command_line, program, with_code_commands, with_trial_commands, with_run_commands, with_certificate_commands, with_reading_commands, hook_command, required, optional, flag, hook, file, files, config, against, json, output, context, events, workers, states, verify, assemble, disassemble, trace, evaluate, run, live, certify, check, explain, frames, test, help};
 
 use clap::builder::ValueParser;
 use clap::{Arg, ArgAction, Command};
@@ -304,9 +304,9 @@ fn frames<'a>(alloc: Global) -> Made<'a>
 fn test<'a>(alloc: Global) -> Made<'a>
     ensures is { IfOk result (IsCommand test) }
 {
-    let about = "Judge policies by a file of cases, and print what failed";
+    let about = "Judge policies by files of cases, and print what failed";
     let command = named(alloc, "test", about);
-    with_arg(command, required(alloc, "FILE", "The file of cases"))
+    with_arg(command, files(alloc))
 }
 
 fn help<'a>(alloc: Global) -> Made<'a>
@@ -359,6 +359,17 @@ fn code<'a>(alloc: Global) -> Arg<'a>
     Arg::new(alloc, "FILE")
         .required(true)
         .help("Code, as hex digits with white space between")
+}
+
+/// FILE, once or more.
+fn files<'a>(alloc: Global) -> Arg<'a>
+    ensures is { rule_of result ≡ files }
+    ensures local { result.global ≡ false }
+{
+    Arg::new(alloc, "FILE")
+        .required(true)
+        .action(ArgAction::Append)
+        .help("A file of cases")
 }
 
 fn config<'a>(alloc: Global) -> Arg<'a>

@@ -118,8 +118,6 @@ pub enum Question<'a> {
     /// Without a number, it lists all.
     Explain { number: Option<&'a str> },
     Frames { capture: &'a str, ticks: bool },
-    /// Judges a file of cases for policies.
-    Test { file: &'a str },
     /// Without a command, it is the program's help.
     Help { command: Option<&'a str> },
 }
@@ -132,11 +130,13 @@ pub struct Query<'a> {
 }
 
 /// What the words ask for.
-#[derive(Clone, Copy)]
+#[derive(Drop)]
 pub enum Request<'a> {
     Run(ScriptRun<'a>),
     Live(LiveRun<'a>),
     Answer(Query<'a>),
+    /// Judges these files of cases for policies.
+    Test(Vec<&'a str>),
 }
 
 /// What `apd` prints for words that make no request.
