@@ -9,9 +9,9 @@ use Rattle.apd_program.specs.declared.reading.Setup.{Setup}
 use Rattle.apd_files.specs.declared.inputs.files.FileKind.TheVariants as kind
 use Rattle.apd_files.specs.Held.{Held, Holds, Lacks, HoldsCode, HoldsKept}
 use Rattle.apd_program.specs.Setups.{IsFrame, IsContext, Configures}
-use Rattle.apd_program.specs.Faults.{IsAtFault, HasNoTrial, HasBadCapture, HasNoCertificate}
+use Rattle.apd_program.specs.Faults.{IsAtFault, HasNoTrial, HasNoCertificate}
 use Rattle.apd_program.specs.Pages.{IsPageFor, HasNoPage, IsHelpText, HasNoHelp, help_words}
-use Rattle.apd_program.specs.Scripts.{IsScript}
+use Rattle.apd_program.specs.Scripts.{IsScript, HasNoScript}
 use Rattle.apd_program.specs.Programs.{IsOfProgram}
 use Rattle.apd_program.specs.Verifying.{IsVerdict, IsBudget, IsRun}
 use Rattle.apd_program.specs.Texts.{IsAssembly, IsListingWith, IsRawListing}
@@ -68,7 +68,7 @@ IsAnswer files (Trace hook file word config states words from_frame) a =
 IsAnswer files (Evaluate hook file capture config against states json) a =
     IsEvaluatedFile files (nearest states) hook file capture against json config a
 IsAnswer files (Explain number) a = IsPageFor number a
-IsAnswer files (Frames capture ticks) a = IsOfText (IsScript ticks) files capture a
+IsAnswer files (Frames capture ticks bssid all) a = IsOfText (IsScript ticks bssid all) files capture a
 IsAnswer files (Test paths) a = AreTested files paths a
 IsAnswer files (Help command) a = IsHelpText (help_words command) a
 IsAnswer files (Certify hook file config states) a = IsOfCode (λ setup. IsCertificate (nearest states) hook) files file config a
@@ -86,7 +86,7 @@ HasNoAnswer files (Trace hook file word config states words from_frame) =
 HasNoAnswer files (Evaluate hook file capture config against states json) =
     HasNoEvaluation files file capture against config
 HasNoAnswer files (Explain number) = HasNoPage number
-HasNoAnswer files (Frames capture ticks) = HasBadCapture files capture
+HasNoAnswer files (Frames capture ticks bssid all) = HasNoScript files capture bssid all
 HasNoAnswer files (Test paths) = HaveNoTest files paths
 HasNoAnswer files (Help command) = HasNoHelp (help_words command)
 HasNoAnswer files (Certify hook file config states) = IsAtFault files file config

@@ -117,7 +117,7 @@ fn answer<F: Files>(
         Question::Trace(trial) => trace(alloc, trial, files, reason),
         Question::Evaluate(evaluation) => evaluating::evaluate(alloc, evaluation, files, reason),
         Question::Explain { number } => explaining::page(alloc, number),
-        Question::Frames { capture, ticks } => framing::frames(alloc, capture, ticks, files),
+        Question::Frames(conversion) => framing::frames(alloc, conversion, files),
         Question::Help { command } => helping::help(alloc, command),
         Question::Certify { subject } => certify(alloc, subject, files, reason),
         Question::Check(claim) => check(alloc, claim, files, reason),

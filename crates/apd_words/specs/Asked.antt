@@ -10,6 +10,7 @@ use Rattle.bpf_regions.specs.declared.hooks.Hook.{Hook}
 use Rattle.bpf_regions.specs.declared.hooks.Hook.TheVariants.{Association, Addba, Data}
 use Rattle.apd_words.specs.CommandLine.{most_states}
 use Rattle.apd_words.specs.declared.Claim.{Claim}
+use Rattle.apd_words.specs.declared.Conversion.{Conversion}
 use Rattle.apd_words.specs.declared.Evaluation.{Evaluation}
 use Rattle.apd_words.specs.declared.LiveRun.{LiveRun}
 use Rattle.apd_words.specs.declared.Query.{Query}
@@ -34,7 +35,7 @@ pub data Asked : Type 0 where
   Certify : Hook → Text → Option Text → ℕ → Asked
   Check : Hook → Text → Text → Option Text → Asked
   Explain : Option Text → Asked
-  Frames : Text → Bool → Asked
+  Frames : Text → Bool → Option Text → Bool → Asked
   Test : List Text → Asked
   Help : Option Text → Asked
 
@@ -92,6 +93,11 @@ abbrev pub asked_certificate : Subject → Asked
 asked_certificate subject =
     Certify subject.terms.hook subject.source.file.now (config_of subject.source) subject.terms.states
 
+-- the question of `frames`
+abbrev pub asked_script : Conversion → Asked
+asked_script conversion =
+    Frames conversion.capture.now conversion.ticks (text_of conversion.bssid) conversion.all
+
 -- the question of `check`
 abbrev pub asked_check : Claim → Asked
 asked_check claim =
@@ -109,7 +115,7 @@ asked_of (question.Evaluate evaluation) = asked_evaluation evaluation
 asked_of (question.Certify subject) = asked_certificate subject
 asked_of (question.Check claim) = asked_check claim
 asked_of (question.Explain number) = Explain (text_of number)
-asked_of (question.Frames capture ticks) = Frames capture.now ticks
+asked_of (question.Frames conversion) = asked_script conversion
 asked_of (question.Help command) = Help (text_of command)
 
 -- the run of a script
@@ -259,11 +265,12 @@ check_of rows = do
 abbrev pub explain_of : List Row → Option Asked
 explain_of rows = Some (Explain (first_of (codes "NUMBER") rows))
 
--- `frames CAPTURE [--no-ticks]`
+-- `frames CAPTURE [--no-ticks] [--bssid ADDR] [--all]`
 abbrev pub frames_of : List Row → Option Asked
 frames_of rows = do
   capture ← first_of (codes "CAPTURE") rows
-  Some (Frames capture (not (is_set (codes "no-ticks") rows)))
+  Some (Frames capture (not (is_set (codes "no-ticks") rows)) (first_of (codes "bssid") rows)
+      (is_set (codes "all") rows))
 
 -- `test FILE..`
 abbrev pub test_of : List Row → Option Wanted

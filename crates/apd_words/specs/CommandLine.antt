@@ -67,6 +67,10 @@ against = option (codes "against")
 abbrev pub json : Rule
 json = record (flag (codes "json")) { short = Some 106 }
 
+-- `--bssid ADDR`
+abbrev pub bssid : Rule
+bssid = option (codes "bssid")
+
 -- `--context KEY=VALUE,..`
 abbrev pub context : Rule
 context = option (codes "context")
@@ -152,11 +156,11 @@ check hooks = hook_command (codes "check") hooks (required (codes "CERT") ∷ co
 abbrev pub explain : Shape
 explain = command (codes "explain") (optional (codes "NUMBER") ∷ [])
 
--- `frames CAPTURE [--no-ticks] [-o FILE]`
+-- `frames CAPTURE [--no-ticks] [--bssid ADDR] [--all] [-o FILE]`
 abbrev pub frames : Shape
 frames =
-    command (codes "frames") (required (codes "CAPTURE") ∷ flag (codes "no-ticks")
-    ∷ output ∷ [])
+    command (codes "frames") (required (codes "CAPTURE") ∷ flag (codes "no-ticks") ∷ bssid
+    ∷ flag (codes "all") ∷ output ∷ [])
 
 -- `test FILE..`
 abbrev pub test : Shape

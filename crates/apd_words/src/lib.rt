@@ -72,6 +72,17 @@ pub struct Claim<'a> {
     pub certificate: &'a str,
 }
 
+/// A capture to turn into a script, with the time between frames if `ticks` is set. Of its frames it has those for the
+/// access point, or all.
+#[derive(Clone, Copy)]
+pub struct Conversion<'a> {
+    pub capture: &'a str,
+    pub ticks: bool,
+    /// The access point's address, if it is given.
+    pub bssid: Option<&'a str>,
+    pub all: bool,
+}
+
 /// A script to run by 1 to 8 workers. `quiet` suppresses progress on standard error, `strict` ends the run after the
 /// first interval in which a line was refused, and `verbose` reports each load on standard error.
 #[derive(Clone, Copy)]
@@ -117,7 +128,7 @@ pub enum Question<'a> {
     Check(Claim<'a>),
     /// Without a number, it lists all.
     Explain { number: Option<&'a str> },
-    Frames { capture: &'a str, ticks: bool },
+    Frames(Conversion<'a>),
     /// Without a command, it is the program's help.
     Help { command: Option<&'a str> },
 }

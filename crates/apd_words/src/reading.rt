@@ -8,8 +8,8 @@ ghost use Rattle.apd_words.specs.Asked.{asked_of, command_asks, answers_to, want
 
 use crate::command::MOST_STATES;
 use crate::{
-    Claim, Evaluation, Given, LiveRun, Query, Question, Request, ScriptRun, Source, Subject, Terms,
-    Trial,
+    Claim, Conversion, Evaluation, Given, LiveRun, Query, Question, Request, ScriptRun, Source,
+    Subject, Terms, Trial,
 };
 use bpf_regions::Hook;
 use clap::ArgMatches;
@@ -209,7 +209,14 @@ fn frames<'a>(matches: &ArgMatches<'a>) -> Option<Question<'a>>
 {
     let capture = value(matches, "CAPTURE")?;
     let ticks = !flag(matches, "no-ticks");
-    Some(Question::Frames { capture, ticks })
+    let bssid = value(matches, "bssid");
+    let all = flag(matches, "all");
+    Some(Question::Frames(Conversion {
+        capture,
+        ticks,
+        bssid,
+        all,
+    }))
 }
 
 fn test<'a>(alloc: Global, matches: &ArgMatches<'a>) -> Result<Option<Request<'a>>, AllocError>
