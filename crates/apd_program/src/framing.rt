@@ -53,7 +53,7 @@ fn address(alloc: Global, word: &str) -> Result<Bssid, ProgramFault>
 }
 
 /// The frames that the words ask for.
-fn choice(alloc: Global, asked: Conversion<'_>) -> Result<Choice, ProgramFault>
+fn chosen(alloc: Global, asked: Conversion<'_>) -> Result<Choice, ProgramFault>
     ensures choice { IfOk result (IsChoice (text_of asked.entry.bssid) asked.entry.all) }
     ensures fault { (files : Held) → IfErr result (IsMemoryOr (HasNoScript files
         asked.entry.capture.now (text_of asked.entry.bssid) asked.entry.all)) }
@@ -172,7 +172,7 @@ pub(crate) fn frames<F: Files>(
     ensures fault { IfErr result (IsMemoryOr (HasNoScript (F.held files.old)
         asked.entry.capture.now (text_of asked.entry.bssid) asked.entry.all)) }
 {
-    let choice = choice(alloc, asked)?;
+    let choice = chosen(alloc, asked)?;
     let plan = Plan {
         ticks: asked.ticks,
         choice,
