@@ -87,17 +87,6 @@ pub struct Conversion<'a> {
     pub all: bool,
 }
 
-/// A capture to turn into a script, with the time between frames if `ticks` is set. Of its frames it has those for the
-/// access point, or all.
-#[derive(Clone, Copy)]
-pub struct Conversion<'a> {
-    pub capture: &'a str,
-    pub ticks: bool,
-    /// The access point's address, if it is given.
-    pub bssid: Option<&'a str>,
-    pub all: bool,
-}
-
 /// A script to run by 1 to 8 workers. `quiet` suppresses progress on standard error, `strict` ends the run after the
 /// first interval in which a line was refused, and `verbose` reports each load on standard error.
 #[derive(Clone, Copy)]
