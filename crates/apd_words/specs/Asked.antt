@@ -100,11 +100,6 @@ abbrev pub asked_script : Conversion → Asked
 asked_script conversion =
     Frames conversion.capture.now conversion.ticks (text_of conversion.bssid) conversion.all
 
--- the question of `frames`
-abbrev pub asked_script : Conversion → Asked
-asked_script conversion =
-    Frames conversion.capture.now conversion.ticks (text_of conversion.bssid) conversion.all
-
 -- the question of `check`
 abbrev pub asked_check : Claim → Asked
 asked_check claim =
