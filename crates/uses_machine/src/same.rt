@@ -19,5 +19,14 @@ pub fn holds(rt: &impl Abort, is_so: bool, what: &str) {
 pub fn counts(rt: &impl Abort, found: usize, wanted: usize, what: &str)
     ensures { found ≡ wanted }
 {
-    assert_eq!(rt; found, wanted, "{what}");
+    if found != wanted {
+        panic!(rt; "{what}: {found}, not {wanted}");
+    }
+}
+
+/// Fails at the first row whose items differ.
+pub fn all_same<T: PartialEq + Debug + Copy>(rt: &impl Abort, rows: &[(T, T)], what: &str) {
+    for (found, wanted) in rows {
+        same(rt, *found, *wanted, what);
+    }
 }
