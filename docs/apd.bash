@@ -6,7 +6,7 @@ _apd() {
     [ "$before" = = ] && before=${COMP_WORDS[COMP_CWORD - 2]}
     for ((at = 2; at < COMP_CWORD; at++)); do
         case ${COMP_WORDS[at]} in
-            --config | --states | --output | --context | --workers)
+            --config | --states | --output | --context | --against | --workers | --events)
                 at=$((at + 1))
                 [ "${COMP_WORDS[at]}" = = ] && at=$((at + 1))
                 ;;
@@ -19,9 +19,9 @@ _apd() {
         asm) options='--output --help' kinds=('/s') ;;
         disasm) options='--config --slots --raw --dot --output --help' kinds=('/hex') ;;
         trace) options='--config --states --context --from-frame --explain --help' kinds=('assoc addba data/' '/hex' '/') ;;
-        eval) options='--config --states --json --output --help' kinds=('assoc addba data/' '/hex' '/pcap pcapng') ;;
+        eval) options='--config --against --states --json --output --help' kinds=('assoc addba data/' '/hex' '/pcap pcapng') ;;
         run) options='--workers --states --quiet --strict --verbose --help' kinds=('/toml' '/script') ;;
-        live) options='--workers --states --strict --verbose --help' kinds=('/toml') ;;
+        live) options='--workers --states --strict --verbose --clock --events --help' kinds=('/toml') ;;
         cert) options='--config --states --output --help' kinds=('assoc addba data/' '/hex') ;;
         check) options='--config --help' kinds=('assoc addba data/' '/hex' '/cert') ;;
         explain) options='--help' kinds=('NUMBERS/') ;;
@@ -35,7 +35,9 @@ _apd() {
         --states) kind='/' ;;
         --output) kind='/hex' ;;
         --context) kind='/' ;;
+        --against) kind='/' ;;
         --workers) kind='1 2 3 4 5 6 7 8/' ;;
+        --events) kind='/' ;;
     esac
     if [ "$COMP_CWORD" -eq 1 ]; then
         kind='COMMANDS/' options='--help --version'

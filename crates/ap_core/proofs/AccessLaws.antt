@@ -1,6 +1,6 @@
 -- Runs of eight shards.
-use Rattle.std.proofs.Common.{◌≡◌, ◌≢◌, ℕ, ◌<◌, ◌≤◌, zero, suc, Bool, true, false, cond, Option, Some, None, List, [], ◌∷◌, ◌++◌, map, length, slice_index_or, refl, sym, ap, subst, ◌∙◌, arith, append_assoc, get_or-set_same, get_or-set_other}
-use Rattle.std.proofs.lemmas.List.{append-nil, get_or-map, get_or_default, length-map, set-get_or}
+use Rattle.std.proofs.Common.{◌≡◌, ◌≢◌, ℕ, ◌<◌, ◌≤◌, zero, suc, Bool, true, false, cond, Option, Some, None, List, [], ◌∷◌, ◌++◌, map, length, slice_index_or, get_or, replicate, refl, sym, ap, subst, ◌∙◌, arith, append_assoc, get_or-set_same, get_or-set_other}
+use Rattle.std.proofs.lemmas.List.{append-nil, get_or-map, get_or-replicate, get_or_default, length-map, set-get_or}
 use Rattle.std.proofs.Math.ListN.{length-set, get_or-eq_default}
 use Rattle.std.proofs.lemmas.Bool.Decides.{nat_tests}
 use Rattle.std.specs.Prelude.{slice_set, ◌==◌, nat_lt, MatchOption}
@@ -260,6 +260,11 @@ module _ (config : Config) where
       at (suc (suc (suc (suc (suc (suc zero)))))) lt = (p6.rules, p6.readings)
       at (suc (suc (suc (suc (suc (suc (suc zero))))))) lt = (p7.rules, p7.readings)
       at (suc (suc (suc (suc (suc (suc (suc (suc n)))))))) lt = absurd (omega (arith, lt))
+
+-- a shard that is fresh by one of eight copies of a configuration is fresh by that
+pub fresh_copy : (config : Config) (configs : List Config) (x : Config) (n : ℕ) (s : Shard) → configs ≡ replicate 8 config → n < 8 → x ≡ get_or configs n x → IsFresh x n s → IsFresh config n s
+fresh_copy config configs x n s same lt at fresh =
+    subst (λ y. IsFresh y n s) (at ∙ (ap (λ l. get_or l n x) same ∙ get_or-replicate 8 n config x lt)) fresh
 
 pub fresh_in_place : (config : Config) (shards : List Shard) → AreFresh config shards → InPlace (rules_of shards)
 fresh_in_place config shards fresh s lt = ap (λ (c : Rules). c.shard) (fresh.rules s lt)

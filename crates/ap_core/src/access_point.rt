@@ -1,12 +1,11 @@
 //! Eight shards.
 
-ghost use Rattle.std.specs.Prelude.{◌≡◌, ℕ, ◌+◌, ◌≤◌, ◌<◌, [], ◌∷◌, Some, IfSome, IfOk, IfErr, MatchOption, vec_len, vec_capacity};
+ghost use Rattle.std.specs.Prelude.{◌≡◌, ℕ, ◌+◌, ◌≤◌, ◌<◌, [], ◌∷◌, Some, IfSome, IfOk, IfErr, MatchOption, replicate, vec_len, vec_capacity};
 ghost use Rattle.std.specs.Option.{option_map};
 ghost use Rattle.ap_model.specs.Runs.{History};
 ghost use Rattle.ap_model.specs.AccessPoint.{shard_of, shard_of_address, shard_of_bytes, InPlace};
 ghost use Rattle.ap_core.specs.AccessPoints.{rules_of, readings_of, outs_in, AreFresh, RunsAll, RunsOne, TickedBelow};
 
-use crate::fresh::new_four;
 use crate::shard::Shard;
 use ap_model::{Event, Judge, LinkConfig, Out};
 use mac_frame::Address;
@@ -45,22 +44,28 @@ pub fn shard_of(event: &Event) -> Option<usize>
     }
 }
 
+/// Eight copies of a configuration.
+fn eight_copies(config: &LinkConfig) -> Result<[LinkConfig; 8], AllocError>
+    ensures { IfOk result (λ r. r ≡ replicate 8 config.now) }
+{
+    [config; 8].try_map(|one| one.clone())
+}
+
 /// Eight shards of an access point that have handled nothing, each at the index of its number.
 pub fn new_shards(alloc: Global, config: &LinkConfig) -> Result<[Shard; 8], AllocError>
     ensures fresh { IfOk result (AreFresh config.now) }
     ensures place { IfOk result (λ shards. InPlace (rules_of shards)) }
 {
-    let low = new_four(alloc, 0, config)?;
-    let high = new_four(alloc, 4, config)?;
+    let [first, second, third, fourth, fifth, sixth, seventh, eighth] = eight_copies(config)?;
     Ok([
-        low.low.first,
-        low.low.second,
-        low.high.first,
-        low.high.second,
-        high.low.first,
-        high.low.second,
-        high.high.first,
-        high.high.second,
+        Shard::with_config(alloc, 0, first),
+        Shard::with_config(alloc, 1, second),
+        Shard::with_config(alloc, 2, third),
+        Shard::with_config(alloc, 3, fourth),
+        Shard::with_config(alloc, 4, fifth),
+        Shard::with_config(alloc, 5, sixth),
+        Shard::with_config(alloc, 6, seventh),
+        Shard::with_config(alloc, 7, eighth),
     ])
 }
 

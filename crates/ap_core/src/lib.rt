@@ -9,7 +9,6 @@
 
 mod access_point;
 mod ends;
-mod fresh;
 mod management;
 mod moves;
 mod outcome;

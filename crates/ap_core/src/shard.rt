@@ -46,6 +46,7 @@ impl Shard {
     ghost use Rattle.ap_model.specs.Stations.{AreAssociated};
     ghost use Rattle.ap_model.specs.Steps.{Step};
     ghost use Rattle.ap_core.specs.Handles.{rules};
+    ghost use Rattle.ap_core.specs.AccessPoints.{IsFresh};
     ghost use Rattle.ap_core.specs.Listing.{ListsAgreements, ListsStations};
     ghost use Rattle.ap_core.specs.Shards.{reads, ruled, Handles, Decides};
     ghost use Rattle.ap_core.specs.Ticking.{late_outs, HasRoom, TickStep};
@@ -56,9 +57,17 @@ impl Shard {
         ensures rules { IfOk result (λ s. ruled s ≡ rules shard config.now) }
         ensures opening { IfOk result (λ s. reads s ≡ opening) }
     {
-        let state = opened(alloc, shard);
         let config = config.clone()?;
-        Ok(Shard { state, config })
+        Ok(Shard::with_config(alloc, shard, config))
+    }
+
+    /// A shard that has handled nothing.
+    pub(crate) fn with_config(alloc: Global, shard: u16, config: LinkConfig) -> Self
+        requires { shard < 8 }
+        ensures fresh { IsFresh config shard result }
+    {
+        let state = opened(alloc, shard);
+        Shard { state, config }
     }
 
     /// Proves that the shard has a history, and that its number is below 8; does nothing at run time.

@@ -10,7 +10,7 @@ use Rattle.ap_core.specs.Handles.{rules}
 use Rattle.ap_locked.specs.Tokens.{Token}
 use Rattle.ap_shards.specs.Fates.{ChangesAt, ChangesIf, Comes, ComesAt}
 use Rattle.ap_shards.specs.Tokens.{Eight}
-use Rattle.ap_tagged.specs.declared.tagged.Fate.TheVariants.{Refused, NotHandled}
+use Rattle.ap_shards.specs.declared.fate.Fate.TheVariants.{Refused, NotHandled}
 use Rattle.ap_live.specs.Upholding.{token_at}
 use Rattle.ap_live.proofs.Growing.{by_shard}
 

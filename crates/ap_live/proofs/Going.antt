@@ -13,10 +13,10 @@ use Rattle.ap_queues.specs.Passes.{taken_by}
 use Rattle.ap_shards.specs.Fates.{ChangesIf, Comes, ComesAt}
 use Rattle.ap_shards.specs.Judged.{JudgedBy}
 use Rattle.ap_shards.specs.Tokens.{Eight, holding_of}
-use Rattle.ap_tagged.specs.Growth.{grown_at, grown_by}
-use Rattle.ap_tagged.specs.declared.tagged.Fate.{Fate}
-use Rattle.ap_tagged.specs.declared.tagged.Fate.TheVariants.{Decided, Refused, NotHandled}
-use Rattle.ap_tagged.specs.declared.tagged.Tagged.{Tagged}
+use Rattle.ap_live.specs.Growth.{grown_at, grown_by}
+use Rattle.ap_shards.specs.declared.fate.Fate.{Fate}
+use Rattle.ap_shards.specs.declared.fate.Fate.TheVariants.{Decided, Refused, NotHandled}
+use Rattle.ap_live.specs.declared.tagged.Tagged.{Tagged}
 use Rattle.versions.specs.Lists.{Beginning, Begins}
 use Rattle.versions.specs.Sets.{set_of}
 use Rattle.ap_live.specs.Counting.{KeepParts, counted_by, fate_counts, tally}
@@ -26,10 +26,10 @@ use Rattle.ap_live.specs.Tokens.{Worker}
 use Rattle.ap_live.proofs.Growing.{counted_at, grown_tokens, keep_parts, still_parts}
 use Rattle.ap_live.proofs.Sums.{none_plus, plus_none, plus_three}
 
-grown_one : (h : Holding) (ts : List Tagged) (t : Tagged) → grown_by h (ts ++ t ∷ []) ≡ grown_at (grown_by h ts) t.shard t.fate
+grown_one : (h : Holding) (ts : List Tagged) (t : Tagged) → grown_by h (ts ++ t ∷ []) ≡ grown_at (grown_by h ts) t.item.shard t.fate
 unfolding grown_by
 grown_one h [] t = refl
-grown_one h (x ∷ ts) t = grown_one (grown_at h x.shard x.fate) ts t
+grown_one h (x ∷ ts) t = grown_one (grown_at h x.item.shard x.fate) ts t
 
 grown_none : (h : Holding) → grown_by h [] ≡ h
 unfolding grown_by
@@ -90,13 +90,13 @@ left_alone config a n p e s =
 pub served_item : (config : Config) (a : Live) (w w2 : Worker) (x : Queued) (t : Tagged) → Serves config a w.number (progress_of w) x t (progress_of w2) → ServedOne config a w t w2
 served_item config a w w2 x t s =
     let b = s.became in
-    let grown = grown_tokens (JudgedBy a.stock.maps w.number (set_of w2.seen.loads) w.held w2.held) config t.shard x.item.event t.fate w.shards w2.shards b.came in
+    let grown = grown_tokens (JudgedBy a.stock.maps w.number (set_of w2.seen.loads) w.held w2.held) config t.item.shard t.item.event t.fate w.shards w2.shards b.came in
     record {
       item = x;
       served = s;
       grown = grown;
-      counted = ap sum_of grown ∙ counted_at (holding_of w.shards) t.shard t.fate b.inside;
-      parts = keep_parts t.shard t.fate w.shards w2.shards grown;
+      counted = ap sum_of grown ∙ counted_at (holding_of w.shards) t.item.shard t.fate b.inside;
+      parts = keep_parts t.item.shard t.fate w.shards w2.shards grown;
     }
 
 same_eight : (a : Eight) → KeepParts a a
@@ -141,7 +141,7 @@ served_more config a w w1 w2 list list1 list2 t s number one listed =
       took = one.served.took ∙ (ap (λ (l : List Queued). l ++ x ∷ []) s.took ∙ append_assoc (taken_by w.pass) s.items (x ∷ []));
       listed = listed ∙ (ap (λ (l : List Tagged). l ++ t ∷ []) s.listed ∙ append_assoc list s.tags (t ∷ []));
       served = serves_one config a w.number (progress_of w) (progress_of w1) (progress_of w2) s.items s.tags x t s.served serves;
-      grown = one.grown ∙ (ap (λ (h : Holding). grown_at h t.shard t.fate) s.grown ∙ sym (grown_one (holding_of w.shards) s.tags t));
+      grown = one.grown ∙ (ap (λ (h : Holding). grown_at h t.item.shard t.fate) s.grown ∙ sym (grown_one (holding_of w.shards) s.tags t));
       counted = one.counted ∙ (ap (λ (c : Counts). plus c (fate_counts t.fate)) s.counted
           ∙ (plus_three (counted_by w.shards) (tally s.tags) (fate_counts t.fate) ∙ ap (λ (c : Counts). plus (counted_by w.shards) c) (sym (tally_one s.tags t))));
       parts = still_parts w.shards w1.shards w2.shards s.parts one.parts;

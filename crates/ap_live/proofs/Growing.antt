@@ -13,9 +13,9 @@ use Rattle.ap_core.specs.Handles.{rules}
 use Rattle.ap_locked.specs.Tokens.{Token}
 use Rattle.ap_shards.specs.Fates.{Acts, ActsAt, ChangesIf, Comes, ComesAt}
 use Rattle.ap_shards.specs.Tokens.{Eight, holding_of}
-use Rattle.ap_tagged.specs.Growth.{grown_at, grown_if}
-use Rattle.ap_tagged.specs.declared.tagged.Fate.{Fate}
-use Rattle.ap_tagged.specs.declared.tagged.Fate.TheVariants.{Decided, Refused, NotHandled}
+use Rattle.ap_live.specs.Growth.{grown_at, grown_if}
+use Rattle.ap_shards.specs.declared.fate.Fate.{Fate}
+use Rattle.ap_shards.specs.declared.fate.Fate.TheVariants.{Decided, Refused, NotHandled}
 use Rattle.ap_live.specs.Counting.{KeepParts, fate_counts}
 use Rattle.ap_live.specs.Serving.{Acted, IsInside, is_command}
 use Rattle.ap_live.specs.Tokens.{Operator}

@@ -17,9 +17,9 @@ use Rattle.ap_locked.specs.Tokens.{Token}
 use Rattle.ap_queues.specs.declared.item.Queued.{Queued}
 use Rattle.ap_shards.specs.Fates.{Acts, Adds, ChangesIf, Comes}
 use Rattle.ap_shards.specs.Judged.{JudgedBy, AnyVerdicts}
-use Rattle.ap_tagged.specs.declared.tagged.Fate.{Fate}
-use Rattle.ap_tagged.specs.declared.tagged.Fate.TheVariants.{Decided, Refused, NotHandled}
-use Rattle.ap_tagged.specs.declared.tagged.Tagged.{Tagged}
+use Rattle.ap_shards.specs.declared.fate.Fate.{Fate}
+use Rattle.ap_shards.specs.declared.fate.Fate.TheVariants.{Decided, Refused, NotHandled}
+use Rattle.ap_live.specs.declared.tagged.Tagged.{Tagged}
 use Rattle.bpf_helpers.specs.Hooked.{Given, Held}
 use Rattle.bpf_machine.specs.Verified.{Verified}
 use Rattle.hook_judge.specs.Verdicts.{GivesVerdict, VerdictOf}
@@ -118,7 +118,7 @@ module _ (law : RunsHold) (config : Config) (a : Live) (worker : ℕ) where
   holds_each : (p : Progress) (items : List Queued) (tags : List Tagged) (q : Progress) → ServesAll config a worker p items tags q → HoldsOfEach config a worker p items tags q
   holds_each p [] [] q is = is
   holds_each p (x ∷ xs) (t ∷ ts) q r =
-      (r.0, r.1, fate_holds p x.item.event t.shard t.fate r.0 r.1.became, holds_each r.0 xs ts q r.2)
+      (r.0, r.1, fate_holds p t.item.event t.item.shard t.fate r.0 r.1.became, holds_each r.0 xs ts q r.2)
   holds_each p [] (t ∷ ts) q r = absurd r
   holds_each p (x ∷ xs) [] q r = absurd r
 
@@ -161,16 +161,16 @@ module _ (config : Config) (a : Live) (worker : ℕ) where
       let m : Progress = r.0 in
       let b = r.1.became in
       let V : Readings → List (Ask × ℕ) → Type 0 = JudgedBy a.stock.maps worker (set_of m.seen.loads) p.held m.held in
-      let e : Event = x.item.event in
+      let e : Event = t.item.event in
       by_shard (λ s. HandsOn (token_at s m.shards) (outs_at s ts) (token_at s q.shards) → HandsOn (token_at s p.shards) (outs_at s (t ∷ ts)) (token_at s q.shards))
-      (hands_one V (rules t.shard config) e t.fate (t.shard == 0) p.shards.of0 m.shards.of0 q.shards.of0 (outs_at 0 ts) b.came.of0)
-      (hands_one V (rules t.shard config) e t.fate (t.shard == 1) p.shards.of1 m.shards.of1 q.shards.of1 (outs_at 1 ts) b.came.of1)
-      (hands_one V (rules t.shard config) e t.fate (t.shard == 2) p.shards.of2 m.shards.of2 q.shards.of2 (outs_at 2 ts) b.came.of2)
-      (hands_one V (rules t.shard config) e t.fate (t.shard == 3) p.shards.of3 m.shards.of3 q.shards.of3 (outs_at 3 ts) b.came.of3)
-      (hands_one V (rules t.shard config) e t.fate (t.shard == 4) p.shards.of4 m.shards.of4 q.shards.of4 (outs_at 4 ts) b.came.of4)
-      (hands_one V (rules t.shard config) e t.fate (t.shard == 5) p.shards.of5 m.shards.of5 q.shards.of5 (outs_at 5 ts) b.came.of5)
-      (hands_one V (rules t.shard config) e t.fate (t.shard == 6) p.shards.of6 m.shards.of6 q.shards.of6 (outs_at 6 ts) b.came.of6)
-      (hands_one V (rules t.shard config) e t.fate (t.shard == 7) p.shards.of7 m.shards.of7 q.shards.of7 (outs_at 7 ts) b.came.of7)
+      (hands_one V (rules t.item.shard config) e t.fate (t.item.shard == 0) p.shards.of0 m.shards.of0 q.shards.of0 (outs_at 0 ts) b.came.of0)
+      (hands_one V (rules t.item.shard config) e t.fate (t.item.shard == 1) p.shards.of1 m.shards.of1 q.shards.of1 (outs_at 1 ts) b.came.of1)
+      (hands_one V (rules t.item.shard config) e t.fate (t.item.shard == 2) p.shards.of2 m.shards.of2 q.shards.of2 (outs_at 2 ts) b.came.of2)
+      (hands_one V (rules t.item.shard config) e t.fate (t.item.shard == 3) p.shards.of3 m.shards.of3 q.shards.of3 (outs_at 3 ts) b.came.of3)
+      (hands_one V (rules t.item.shard config) e t.fate (t.item.shard == 4) p.shards.of4 m.shards.of4 q.shards.of4 (outs_at 4 ts) b.came.of4)
+      (hands_one V (rules t.item.shard config) e t.fate (t.item.shard == 5) p.shards.of5 m.shards.of5 q.shards.of5 (outs_at 5 ts) b.came.of5)
+      (hands_one V (rules t.item.shard config) e t.fate (t.item.shard == 6) p.shards.of6 m.shards.of6 q.shards.of6 (outs_at 6 ts) b.came.of6)
+      (hands_one V (rules t.item.shard config) e t.fate (t.item.shard == 7) p.shards.of7 m.shards.of7 q.shards.of7 (outs_at 7 ts) b.came.of7)
       s low (hands_all s low m xs ts q r.2)
   hands_all s low p [] (t ∷ ts) q r = absurd r
   hands_all s low p (x ∷ xs) [] q r = absurd r

@@ -3,9 +3,9 @@ use Rattle.std.specs.Prelude.{◌≡◌, List, [], ◌∷◌}
 use Rattle.ap_books.specs.Counts.{Counts, none, plus, counts_of}
 use Rattle.ap_books.specs.Holdings.{sum_of}
 use Rattle.ap_shards.specs.Tokens.{Eight, EachOf, holding_of}
-use Rattle.ap_tagged.specs.declared.tagged.Fate.{Fate}
-use Rattle.ap_tagged.specs.declared.tagged.Fate.TheVariants.{Decided, Refused, NotHandled}
-use Rattle.ap_tagged.specs.declared.tagged.Tagged.{Tagged}
+use Rattle.ap_shards.specs.declared.fate.Fate.{Fate}
+use Rattle.ap_shards.specs.declared.fate.Fate.TheVariants.{Decided, Refused, NotHandled}
+use Rattle.ap_live.specs.declared.tagged.Tagged.{Tagged}
 
 -- what the fate of one event counts: nothing, unless it was decided
 abbrev pub fate_counts : Fate → Counts

@@ -14,8 +14,8 @@ use Rattle.ap_locked.specs.Kept.{entry_of}
 use Rattle.ap_locked.specs.Pages.{on_page}
 use Rattle.ap_locked.specs.Tokens.{Token}
 use Rattle.ap_shards.specs.Judged.{JudgedBy}
-use Rattle.ap_tagged.specs.declared.tagged.Fate.{Fate}
-use Rattle.ap_tagged.specs.declared.tagged.Fate.TheVariants.{Decided, Refused, NotHandled}
+use Rattle.ap_shards.specs.declared.fate.Fate.{Fate}
+use Rattle.ap_shards.specs.declared.fate.Fate.TheVariants.{Decided, Refused, NotHandled}
 use Rattle.versions.specs.Sets.{set_of}
 use Rattle.ap_live.specs.Lives.{Live}
 use Rattle.ap_live.specs.Serving.{Progress}

@@ -12,9 +12,9 @@ use Rattle.ap_locked.specs.Pages.{with_entries}
 use Rattle.ap_locked.specs.Tokens.{Token}
 use Rattle.ap_queues.specs.declared.item.Queued.{Queued}
 use Rattle.ap_queues.specs.Passes.{taken_by}
-use Rattle.ap_tagged.specs.declared.tagged.Fate.{Fate}
-use Rattle.ap_tagged.specs.declared.tagged.Fate.TheVariants.{Decided, Refused, NotHandled}
-use Rattle.ap_tagged.specs.declared.tagged.Tagged.{Tagged}
+use Rattle.ap_shards.specs.declared.fate.Fate.{Fate}
+use Rattle.ap_shards.specs.declared.fate.Fate.TheVariants.{Decided, Refused, NotHandled}
+use Rattle.ap_live.specs.declared.tagged.Tagged.{Tagged}
 use Rattle.ap_live.specs.Counting.{counted_by, tally}
 use Rattle.ap_live.specs.Lives.{Live}
 use Rattle.ap_live.specs.Serving.{Progress, Serves, progress_of}
@@ -27,7 +27,7 @@ abbrev pub HoldsOfEach : Config → Live → ℕ → Progress → List Queued �
 HoldsOfEach config a worker p [] [] q = q ≡ p
 HoldsOfEach config a worker p (x ∷ xs) (t ∷ ts) q =
     (mid : Progress) × Serves config a worker p x t mid
-    × FateHolds config a worker p x.item.event t.shard t.fate mid
+    × FateHolds config a worker p t.item.event t.item.shard t.fate mid
     × HoldsOfEach config a worker mid xs ts q
 HoldsOfEach config a worker p [] (t ∷ ts) q = ⊥
 HoldsOfEach config a worker p (x ∷ xs) [] q = ⊥
@@ -42,7 +42,7 @@ with_outs false f later = later
 -- the outputs of the events that were reported as decided at this shard, event by event
 abbrev pub outs_at : ℕ → List Tagged → List (List Out)
 outs_at s [] = []
-outs_at s (t ∷ ts) = with_outs (t.shard == s) t.fate (outs_at s ts)
+outs_at s (t ∷ ts) = with_outs (t.item.shard == s) t.fate (outs_at s ts)
 
 -- What was reported at one shard is, event by event, the outputs of the token's own new entries, which are all that came
 -- onto its page. What it has seen extends what it had seen.

@@ -1,6 +1,7 @@
 pub mod Lives
 pub mod Tokens
 pub mod Counting
+pub mod Growth
 pub mod Opening
 pub mod Serving
 pub mod Upholding

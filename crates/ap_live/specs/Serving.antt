@@ -15,10 +15,10 @@ use Rattle.ap_queues.specs.Passes.{taken_by}
 use Rattle.ap_shards.specs.Fates.{ActsAt, ComesAt}
 use Rattle.ap_shards.specs.Judged.{HoldsOn, JudgedBy}
 use Rattle.ap_shards.specs.Tokens.{Eight, holding_of}
-use Rattle.ap_tagged.specs.Growth.{grown_at, grown_by}
-use Rattle.ap_tagged.specs.declared.tagged.Fate.{Fate}
-use Rattle.ap_tagged.specs.declared.tagged.Fate.TheVariants.{Decided, Refused, NotHandled}
-use Rattle.ap_tagged.specs.declared.tagged.Tagged.{Tagged}
+use Rattle.ap_live.specs.Growth.{grown_at, grown_by}
+use Rattle.ap_shards.specs.declared.fate.Fate.{Fate}
+use Rattle.ap_shards.specs.declared.fate.Fate.TheVariants.{Decided, Refused, NotHandled}
+use Rattle.ap_live.specs.declared.tagged.Tagged.{Tagged}
 use Rattle.ap_live.specs.Counting.{KeepParts, counted_by, fate_counts, tally}
 use Rattle.ap_live.specs.Lives.{Live}
 use Rattle.ap_live.specs.Tokens.{Operator, Worker}
@@ -49,13 +49,12 @@ pub record Becomes (config : Config) (a : Live) (worker : ℕ) (p : Progress) (e
   pub held : HoldsOn f p.held q.held
   pub inside : IsInside f shard
 
--- the worker took this item, and reported the fate of its event at its shard, which the event concerns
+-- the worker took this item, and reported it, with the fate of its event at its shard, which the event concerns
 pub record Serves (config : Config) (a : Live) (worker : ℕ) (p : Progress) (x : Queued) (t : Tagged) (q : Progress) : Type 0 where
   pub took : q.taken ≡ p.taken ++ x ∷ []
-  pub call : t.call ≡ x.item.call
-  pub shard : t.shard ≡ x.item.shard
-  pub told : IsTold x.item.event t.shard
-  pub became : Becomes config a worker p x.item.event t.shard t.fate q
+  pub item : t.item ≡ x.item
+  pub told : IsTold t.item.event t.item.shard
+  pub became : Becomes config a worker p t.item.event t.item.shard t.fate q
 
 -- there is one report for each item, in order
 abbrev pub ServesAll : Config → Live → ℕ → Progress → List Queued → List Tagged → Progress → Type 0
@@ -69,7 +68,7 @@ ServesAll config a worker p (x ∷ xs) [] q = ⊥
 pub record ServedOne (config : Config) (a : Live) (w : Worker) (t : Tagged) (w2 : Worker) : Type 0 where
   pub item : Queued
   pub served : Serves config a w.number (progress_of w) item t (progress_of w2)
-  pub grown : holding_of w2.shards ≡ grown_at (holding_of w.shards) t.shard t.fate
+  pub grown : holding_of w2.shards ≡ grown_at (holding_of w.shards) t.item.shard t.fate
   pub counted : counted_by w2.shards ≡ plus (counted_by w.shards) (fate_counts t.fate)
   pub parts : KeepParts w.shards w2.shards
 

@@ -6,8 +6,9 @@
 //! the programs of one whole published set; `act`, by which an operator decides a command at once;
 //! `gather`, which reads the totals; `close`, which does so with the pages of all tokens. It
 //! depends on `ap_shards`, `ap_queues`, `ap_tables`, `versions` and `ap_laws`. Promised: `serve`
-//! reports one `Tagged` for each event that it took, in order, and the worker's shares grow by
-//! exactly what these count; given all shares, the totals are the sum of the books; given the pages
+//! reports one `Tagged` for each item that it took, in order, with the item itself, so that the
+//! memory of an event returns to the thread that submitted it; the worker's shares grow by exactly
+//! what the reports count; given all shares, the totals are the sum of the books; given the pages
 //! of all tokens, their entries together are the shards' journals, each at its own place, and the
 //! totals count exactly these. The main theorem, for a worker's reports and a command's outputs:
 //! each verdict is that of an accepted program, within its budget, or of a hook without a program;
@@ -18,6 +19,7 @@
 #![tactic(auto)]
 
 mod acting;
+mod gate;
 mod laws;
 mod listing;
 mod live;
@@ -25,11 +27,16 @@ mod maps;
 mod opening;
 mod serving;
 mod submitting;
+mod tagged;
 mod tokens;
 mod upholding;
 
 pub use ap_core::{AgreementInForce, Known, KnownStation};
+pub use ap_queues::Item;
+pub use ap_shards::Fate;
+pub use gate::{Gate, OpenGate};
 pub use laws::{newcomers_law, tokens_law};
 pub use live::{LiveAp, Settings};
 pub use opening::Opened;
+pub use tagged::Tagged;
 pub use tokens::{LeftTokens, OperatorToken, WorkerToken};

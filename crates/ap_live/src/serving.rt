@@ -5,14 +5,15 @@ ghost use Rattle.ap_live.specs.Headline.{WorkerHeadline};
 ghost use Rattle.ap_live.specs.Serving.{Becomes, Served, ServedOne, progress_of};
 ghost use Rattle.ap_live.specs.Tokens.{IsWorker};
 
+use crate::gate::Gate;
 use crate::live::LiveAp;
+use crate::tagged::Tagged;
 use crate::tokens::WorkerToken;
 use ap_books::Ledgers;
 use ap_laws::run_law;
 use ap_locked::Journals;
 use ap_queues::Item;
-use ap_shards::Desk;
-use ap_tagged::{Fate, Gate, Tagged};
+use ap_shards::{Desk, Fate};
 use core::mem::replace_with;
 use std::alloc::{AllocError, Global};
 use std::sync::Wait;
@@ -25,8 +26,9 @@ struct Taken<'a, G: Gate> {
 
 impl<B: Ledgers + Journals> LiveAp<B> {
     /// Serves the worker's queue until it is found empty, the gate says stop, or an allocation fails;
-    /// no clause says how many events that are. Each event that was taken is reported in `list`, in
-    /// order. The main theorem holds of the reports, whatever other workers and operators do meanwhile.
+    /// no clause says how many events that are. Each item that was taken is reported in `list`, in
+    /// order, with the fate of its event. The main theorem holds of the reports, whatever other workers
+    /// and operators do meanwhile.
     pub fn serve<R: Wait, G: Gate>(
         &self,
         rt: &R,
@@ -60,9 +62,9 @@ impl<B: Ledgers + Journals> LiveAp<B> {
         unreachable!()
     }
 
-    /// Serves the oldest event of the worker's queue, and reports it; `None` if there is none. The
-    /// event is decided under its shard's lock, by the programs of one whole published set, unless the
-    /// gate says stop: then it is reported as not handled.
+    /// Serves the oldest event of the worker's queue, and reports it with its fate; `None` if there is
+    /// none. The event is decided under its shard's lock, by the programs of one whole published set,
+    /// unless the gate says stop: then it is reported as not handled.
     fn serve_one<R: Wait, G: Gate>(
         &self,
         rt: &R,
@@ -79,13 +81,11 @@ impl<B: Ledgers + Journals> LiveAp<B> {
         let queue = self.lines.queue(worker.number);
         let queued = queue.take(rt, &mut worker.pass)?;
         let item = queued.item;
+        // Proofs have from it that the event concerns the shard.
+        let _shard = item.shard;
         let taken = Taken { item: &item, gate };
         let fate = self.handle(rt, alloc, worker, taken);
-        Some(Tagged {
-            call: item.call,
-            shard: item.shard,
-            fate,
-        })
+        Some(Tagged { item, fate })
     }
 
     /// The fate of an event that was taken.

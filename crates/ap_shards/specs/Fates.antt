@@ -11,8 +11,8 @@ use Rattle.ap_books.specs.Counts.{counts_of, drops, gains}
 use Rattle.ap_locked.specs.Kept.{entry_of}
 use Rattle.ap_locked.specs.Pages.{on_page}
 use Rattle.ap_locked.specs.Tokens.{Token, rules}
-use Rattle.ap_tagged.specs.declared.tagged.Fate.{Fate}
-use Rattle.ap_tagged.specs.declared.tagged.Fate.TheVariants.{Decided, Refused, NotHandled}
+use Rattle.ap_shards.specs.declared.fate.Fate.{Fate}
+use Rattle.ap_shards.specs.declared.fate.Fate.TheVariants.{Decided, Refused, NotHandled}
 use Rattle.ap_shards.specs.Judged.{AnyVerdicts}
 use Rattle.ap_shards.specs.Tokens.{Eight}
 

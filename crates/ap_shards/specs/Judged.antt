@@ -7,8 +7,8 @@ use Rattle.bpf_helpers.specs.Tables.{Tables}
 use Rattle.bpf_helpers.specs.Hooked.{Held}
 use Rattle.versions.specs.Sets.{Programs}
 use Rattle.hook_judge.specs.Verdicts.{GivesVerdict}
-use Rattle.ap_tagged.specs.declared.tagged.Fate.{Fate}
-use Rattle.ap_tagged.specs.declared.tagged.Fate.TheVariants.{Decided, Refused, NotHandled}
+use Rattle.ap_shards.specs.declared.fate.Fate.{Fate}
+use Rattle.ap_shards.specs.declared.fate.Fate.TheVariants.{Decided, Refused, NotHandled}
 
 -- These programs gave the verdicts over this worker's tables, whose state went from h to h2, with the shard's clock
 -- before the entry and the number of stations associated there.

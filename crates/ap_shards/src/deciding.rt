@@ -8,12 +8,12 @@ ghost use Rattle.ap_shards.specs.Fates.{Comes, ComesAt};
 ghost use Rattle.ap_shards.specs.Judged.{HoldsOn, WasTaken};
 
 use crate::desk::Desk;
+use crate::fate::Fate;
 use crate::shards::Shards;
 use crate::tokens::ShardTokens;
 use ap_books::Ledgers;
 use ap_locked::{Journals, Locked, ShardToken};
 use ap_model::Event;
-use ap_tagged::Fate;
 use bpf_helpers::{WorkerState, WorkerView};
 use hook_judge::{SetJudge, judging_law};
 use std::sync::{Mutex, Wait};

@@ -12,6 +12,7 @@
 mod acting;
 mod deciding;
 mod desk;
+mod fate;
 mod gathering;
 mod listing;
 mod opening;
@@ -21,6 +22,7 @@ mod shards;
 mod tokens;
 
 pub use desk::Desk;
+pub use fate::Fate;
 pub use opening::NewShards;
 pub use pages::AllPages;
 pub use shards::Shards;

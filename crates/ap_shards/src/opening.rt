@@ -10,6 +10,7 @@ use crate::tokens::ShardTokens;
 use ap_books::Ledgers;
 use ap_locked::{Journals, Locked, NewShard, Pages, ShardToken};
 use ap_model::LinkConfig;
+use crossbeam_utils::CachePadded;
 use std::alloc::{AllocError, Global};
 use std::sync::Mutex;
 
@@ -49,7 +50,7 @@ impl NewShards {
 /// A shard under its lock, a token with all parts of its ledgers and the first page, and the others.
 #[derive(Drop)]
 struct Opened<B: Ledgers + Journals, const SHARD: usize> {
-    lock: Mutex<Locked<B, SHARD>>,
+    lock: CachePadded<Mutex<Locked<B, SHARD>>>,
     mine: ShardToken<B, SHARD>,
     others: Pages<B, SHARD>,
 }
@@ -98,7 +99,7 @@ fn open_one<B: Ledgers + Journals, const SHARD: usize>(
 {
     let (locked, mine, others) = Locked::new(alloc, config, new)?;
     Ok(Opened {
-        lock: Mutex::new(locked),
+        lock: CachePadded::new(Mutex::new(locked)),
         mine,
         others,
     })

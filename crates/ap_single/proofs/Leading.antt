@@ -35,7 +35,7 @@ as_many (refused e es rs ts t) = ap suc (as_many t)
 as_many (at_its_shard e s es rs ts f t) = ap suc (as_many t)
 as_many (ticked n outs es rs ts t) = ap suc (as_many t)
 
-no_turns : {es : List Event} {rs : List (Option (List Out))} {ts : List Turn} → AreTurns es rs ts → es ≡ [] → ts ≡ []
+pub no_turns : {es : List Event} {rs : List (Option (List Out))} {ts : List Turn} → AreTurns es rs ts → es ≡ [] → ts ≡ []
 no_turns no_event q = refl
 no_turns (refused e es rs ts t) q = absurd (not_nil e es q)
 no_turns (at_its_shard e s es rs ts f t) q = absurd (not_nil e.event es q)

@@ -1,2 +1,2 @@
-mod Leading
+pub mod Leading
 mod Listing

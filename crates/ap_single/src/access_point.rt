@@ -1,20 +1,19 @@
 //! Eight shards and programs.
 
-ghost use Rattle.std.specs.Prelude.{◌≡◌, ℕ, length, map, None, Some, ◌∷◌, [], IfOk, IfSome};
+ghost use Rattle.std.specs.Prelude.{◌≡◌, map, None, IfOk, IfSome};
 ghost use Rattle.std.specs.Option.{option_map};
 ghost use Rattle.bpf_helpers.specs.Hooked.{IsFitting, shapes_of};
-ghost use Rattle.bpf_helpers.specs.HookPorts.{given_by};
-ghost use Rattle.ap_model.specs.AccessPoint.{shard_of};
 ghost use Rattle.ap_core.specs.Shards.{reads};
-ghost use Rattle.ap_core.specs.AccessPoints.{readings_of, outs_in, AreFresh};
+ghost use Rattle.ap_core.specs.AccessPoints.{AreFresh};
 ghost use Rattle.ap_core.specs.Listing.{Joins, ListsAgreements, ListsStations, MergesAgreements, MergesStations};
 ghost use Rattle.program_judge.specs.Programs.{IsFor, no_programs, replaced};
-ghost use Rattle.ap_single.specs.Leading.{IsGiven, IsLike, Leads};
+ghost use Rattle.ap_single.specs.Leading.{IsLike, Leads};
 
+use crate::handling::{only_result, view_at};
 use ap_core::{
-    AgreementInForce, Event, KnownStation, LinkConfig, Out, Shard, handle_all, new_shards, shard_of,
+    AgreementInForce, Event, KnownStation, LinkConfig, Out, Shard, handle_all, new_shards,
 };
-use bpf_helpers::{MapTables, WorkerState, WorkerView};
+use bpf_helpers::{MapTables, WorkerState};
 use bpf_machine::Accepted;
 use bpf_regions::{Hook, Shapes};
 use mac_types::{Address, Tid};
@@ -39,44 +38,6 @@ impl Model for AccessPoint {
     ghost view = { λ a. record { shards = a.shards; programs = a.programs } };
 
     ghost invariant = { λ a. InPlace (rules_of a.shards) };
-}
-
-/// What programs read of this shard.
-fn view_of<'t>(shard: &Shard, maps: &'t [MapTables]) -> WorkerView<'t>
-    ensures maps { result.maps ≡ maps.entry }
-    ensures given { IsGiven maps.now (reads shard.now) (given_by result) }
-{
-    WorkerView {
-        maps,
-        worker: 0,
-        clock: shard.clock(),
-        stations: shard.stations(),
-    }
-}
-
-/// What programs read of the shard that an event concerns.
-fn view_at<'t>(shards: &[Shard; 8], event: &Event, maps: &'t [MapTables]) -> WorkerView<'t>
-    ensures maps { result.maps ≡ maps.entry }
-    ensures worker { result.worker ≡ 0 }
-    ensures given { (s : ℕ) → shard_of event.now ≡ Some s →
-        IsGiven maps.now (readings_of shards.now s) (given_by result) }
-{
-    match shard_of(event) {
-        Some(at) => view_of(&shards[at], maps),
-        None => view_of(&shards[0], maps),
-    }
-}
-
-/// The only result of a list.
-fn only(results: Vec<Option<Vec<Out>>>) -> Option<Vec<Out>>
-    requires { length (outs_in results.items) ≡ 1 }
-    ensures { outs_in results.items ≡ option_map (λ outs. outs.items) result ∷ [] }
-{
-    let mut results = results;
-    match results.pop() {
-        Some(result) => result,
-        None => None,
-    }
 }
 
 /// The known stations of each shard, one shard after another.
@@ -172,7 +133,7 @@ impl AccessPoint {
         match handle_all(alloc, &mut self.shards, &events, &mut judge) {
             Err(_) => return None,
             Ok(results) => {
-                let result = only(results);
+                let result = only_result(results);
                 return result;
             }
         }

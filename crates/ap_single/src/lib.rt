@@ -6,5 +6,7 @@
 #![tactic(auto)]
 
 mod access_point;
+mod handling;
 
 pub use access_point::AccessPoint;
+pub use handling::{only_result, view_at};

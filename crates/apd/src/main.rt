@@ -2,10 +2,10 @@
 #![tactic(auto)]
 
 use apd_files::RealFiles;
-use apd_program::Messages;
+use apd_program::{Messages, Standard, Streams};
 use std::alloc::{AllocError, Global};
 use std::env::FillError;
-use std::io::{ErrorKind, Input, IsTerminal, Write};
+use std::io::{ErrorKind, Input, IsTerminal, Read, Write};
 use std::process::ExitCode;
 use std::rt::Env;
 use std::sync::Wait;
@@ -20,7 +20,11 @@ fn main(rt: HostRuntime) -> ExitCode {
         err: &mut err,
         watched,
     };
-    match run(&rt, rt.alloc(), rt.stdout(), messages) {
+    let streams = Streams {
+        input: Standard { rt },
+        out: rt.stdout(),
+    };
+    match run(&rt, rt.alloc(), streams, messages) {
         Ok(status) => ExitCode::from(status),
         Err(error) => ExitCode::from(failed(&rt, &mut err, &error)),
     }
@@ -55,9 +59,16 @@ fn touch_lower(rt: &impl Env) {
 }
 
 /// Runs the program on its words, and returns its exit status.
-fn run<R, O, E>(rt: &R, alloc: Global, out: O, messages: Messages<'_, E>) -> io::Result<u8>
+fn run<R, I, O, E>(
+    rt: &R,
+    alloc: Global,
+    streams: Streams<I, O>,
+    messages: Messages<'_, E>,
+) -> io::Result<u8>
 where
-    R: Threads + Wait + Sync + Clock + Input + Eprint + Env + rt::Files + AllocGlobal,
+    R: Threads + Wait + Clock + Input + Eprint + Env + rt::Files + AllocGlobal,
+    R: Copy + Send + Sync + 'static,
+    I: Read + Drop + Send + 'static,
     O: Write + Drop,
     E: Write,
 {
@@ -68,7 +79,14 @@ where
         words.push(word.as_str()).map_err(AllocError::from)?;
     }
     let mut files = RealFiles::new(rt);
-    let (_, status) = apd_program::perform(rt, alloc, words.as_slice(), &mut files, out, messages);
+    let (_, status) = apd_program::perform(
+        rt,
+        alloc,
+        words.as_slice(),
+        &mut files,
+        streams,
+        messages,
+    );
     Ok(status)
 }
 

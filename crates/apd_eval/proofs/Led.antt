@@ -1,5 +1,5 @@
 -- What one event leads to, by the verdicts of programs.
-use Rattle.std.proofs.Common.{◌≡◌, ℕ, Option, Some, None, List, [], ◌∷◌, suc, length, refl, ap, subst, Bor, Result, Ok, Err, IfOk}
+use Rattle.std.proofs.Common.{◌≡◌, ℕ, Option, Some, None, List, [], ◌∷◌, subst, Bor, Result, Ok, Err, IfOk}
 use Rattle.std.specs.Option.{option_map}
 use Rattle.std.specs.declared.alloc.AllocError.{AllocError}
 use Rattle.bpf_helpers.specs.declared.worker.WorkerView.{WorkerView}
@@ -7,24 +7,19 @@ use Rattle.bpf_helpers.specs.HookPorts.{given_by}
 use Rattle.ap_model.specs.declared.event.Event.{Event}
 use Rattle.ap_model.specs.declared.event.Out.{Out}
 use Rattle.ap_model.specs.Asks.{Answered}
-use Rattle.ap_model.specs.AccessPoint.{Turn, AreTurns, no_event, refused, at_its_shard, ticked, shard_of, asked_of}
+use Rattle.ap_model.specs.AccessPoint.{shard_of, asked_of}
 use Rattle.ap_core.specs.declared.shard.Shard.{Shard}
 use Rattle.ap_core.specs.AccessPoints.{readings_of, RunsAll}
 use Rattle.program_judge.specs.Programs.{Programs}
 use Rattle.apd_eval.specs.Rulings.{GivesRuling}
 use Rattle.apd_eval.specs.Witnesses.{Witnesses, heard_by}
-use Rattle.apd_eval.specs.Leading.{IsGiven, Leads}
+use Rattle.ap_single.specs.Leading.{IsGiven}
+use Rattle.apd_eval.specs.Leading.{Leads}
 use Rattle.apd_eval.specs.declared.handling.Handled.{Handled}
 use Rattle.apd_eval.specs.declared.ruling.Ruling.{Ruling}
 use Rattle.apd_eval.specs.declared.tried.Policy.{Policy}
 use Rattle.apd_eval.specs.declared.witness.Witness.{Witness}
 use Rattle.apd_eval.proofs.Kept.{given}
-
-pub as_many : {es : List Event} {rs : List (Option (List Out))} {ts : List Turn} → AreTurns es rs ts → length rs ≡ length es
-as_many no_event = refl
-as_many (refused e es rs ts t) = ap suc (as_many t)
-as_many (at_its_shard e s es rs ts f t) = ap suc (as_many t)
-as_many (ticked n outs es rs ts t) = ap suc (as_many t)
 
 module _ (p : Policy) (e : Event) (shards shards' : List Shard) (j k : Witness) (v : WorkerView) where
   pub led : (result : Option (List Out)) (last : Option Ruling) → RunsAll Witnesses shards (e ∷ []) j (result ∷ []) shards' k → last ≡ k.last

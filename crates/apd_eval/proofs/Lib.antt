@@ -1,5 +1,10 @@
+mod Asking
+mod Changing
 mod Following
+mod Judging
 mod Kept
+mod Lines
 mod Led
 mod Rows
+mod Splitting
 mod Tabled

@@ -5,8 +5,9 @@ use Rattle.bpf_machine.specs.Verified.{Verified}
 use Rattle.capture.specs.Packets.{Seen}
 use Rattle.ap_model.specs.Readings.{Config}
 use Rattle.program_judge.specs.Programs.{no_programs, replaced}
-use Rattle.apd_eval.specs.Follows.{IsFollowed}
-use Rattle.apd_eval.specs.Table.{IsTable}
+use Rattle.apd_eval.specs.Asked.{IsFollowed}
+use Rattle.apd_eval.specs.Sums.{Judged, sums_text}
+use Rattle.apd_eval.specs.Table.{table_text}
 use Rattle.apd_eval.specs.declared.follow.Row.{Row}
 use Rattle.apd_eval.specs.declared.tried.Policy.{Policy}
 
@@ -19,8 +20,12 @@ pub record IsEvaluated (v : Verified) (draw : ℕ) (config : Config) (packets : 
   pub drawn : held.draw ≡ draw
   pub followed : IsFollowed policy config packets held rows
 
+-- what was judged
+abbrev pub judged_by : Verified → Config → List Seen → Judged
+judged_by v config packets = record { hook = v.hook; budget = v.budget; address = config.bssid; packets = packets }
+
 -- the text of such rows
 pub record IsEvaluation (v : Verified) (draw : ℕ) (config : Config) (packets : List Seen) (json : Bool) (text : List ℕ) : Type 0 where
   pub rows : List Row
   pub evaluated : IsEvaluated v draw config packets rows
-  pub is : IsTable rows json text
+  pub is : text ≡ table_text rows (sums_text (judged_by v config packets) rows) json

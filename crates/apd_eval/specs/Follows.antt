@@ -6,10 +6,8 @@ use Rattle.bpf_helpers.specs.Hooked.{Held}
 use Rattle.capture.specs.Packets.{Seen}
 use Rattle.capture.specs.declared.fault.LeftOut.{LeftOut}
 use Rattle.ap_model.specs.declared.event.Event.TheVariants as event
-use Rattle.ap_model.specs.Readings.{Config}
 use Rattle.ap_core.specs.declared.shard.Shard.{Shard}
-use Rattle.ap_core.specs.AccessPoints.{AreFresh}
-use Rattle.apd_policies.specs.Script.{start_of, unit_of}
+use Rattle.apd_policies.specs.Script.{unit_of}
 use Rattle.apd_eval.specs.Leading.{Happens}
 use Rattle.apd_eval.specs.declared.ruling.Ruling.{Ruling}
 use Rattle.apd_eval.specs.declared.follow.Row.{Row}
@@ -65,11 +63,3 @@ Follows p start number clock shards h (packet ∷ packets) rows shards' h' =
     × PacketComes p clock (unit_of start packet.time) packet.frame last shards h between held
     × (rows ≡ rows_of p.hook number last ++ more)
     × Follows p start (number + 1) (max clock (unit_of start packet.time)) between held packets more shards' h'
-
--- the rows of a whole capture at a new access point
-pub record IsFollowed (p : Policy) (config : Config) (packets : List Seen) (h : Held) (rows : List Row) : Type 0 where
-  pub shards : List Shard
-  pub fresh : AreFresh config shards
-  pub shards' : List Shard
-  pub h' : Held
-  pub follows : Follows p (start_of packets) 1 0 shards h packets rows shards' h'

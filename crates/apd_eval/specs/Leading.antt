@@ -1,25 +1,15 @@
 -- What an event leads to at an access point whose programs are tried.
 use Rattle.std.specs.Prelude.{◌≡◌, ℕ, List, [], ◌∷◌, Option, Some, None}
-use Rattle.bpf_helpers.specs.Tables.{Tables}
 use Rattle.bpf_helpers.specs.Hooked.{Given, Held}
 use Rattle.ap_model.specs.declared.event.Event.{Event}
 use Rattle.ap_model.specs.declared.event.Out.{Out}
-use Rattle.ap_model.specs.Readings.{Readings}
-use Rattle.ap_model.specs.Stations.{AreAssociated}
 use Rattle.ap_model.specs.AccessPoint.{EventsLead, shard_of}
 use Rattle.ap_core.specs.declared.shard.Shard.{Shard}
 use Rattle.ap_core.specs.AccessPoints.{rules_of, readings_of}
+use Rattle.ap_single.specs.Leading.{IsGiven}
 use Rattle.apd_eval.specs.Rulings.{GivesRuling}
 use Rattle.apd_eval.specs.declared.ruling.Ruling.{Ruling}
 use Rattle.apd_eval.specs.declared.tried.Policy.{Policy}
-
--- What programs read: the tables of the maps, and, of a shard before the event, the clock and the number of associated
--- stations.
-pub record IsGiven (maps : List Tables) (r : Readings) (g : Given) : Type 0 where
-  pub tables : g.maps ≡ maps
-  pub worker : g.worker ≡ 0
-  pub clock : g.clock ≡ r.clock
-  pub stations : AreAssociated r.standing g.stations
 
 -- An event leads from these shards and seats to those, with this result, by the link's relation, whose verdicts are
 -- those of the programs; `last` is the last query, if there was one.

@@ -5,3 +5,9 @@ pub mod Follows
 pub mod Evaluated
 pub mod Words
 pub mod Table
+pub mod Sums
+pub mod Unjudged
+pub mod Again
+pub mod Asked
+pub mod Changes
+pub mod Compared

@@ -33,12 +33,16 @@ json_line row =
     ++ (words_of (verdict_of row.ruling) ++ (codes "\",\"steps\":"
     ++ (decimal row.ruling.steps ++ codes "}\n")))))))
 
--- the lines of the rows
-abbrev pub lines_of : (Row → List ℕ) → List Row → List ℕ
+-- the lines of some items, one after another
+abbrev pub lines_of : {X : Type 0} → (X → List ℕ) → List X → List ℕ
 lines_of line [] = []
-lines_of line (row ∷ rows) = line row ++ lines_of line rows
+lines_of line (x ∷ xs) = line x ++ lines_of line xs
 
--- lines of JSON, or the heads of the columns, the lines of the rows, and a line of sums, which tests show
-pub data IsTable (rows : List Row) : Bool → List ℕ → Type 0 where
-  Plain : (sums : List ℕ) → IsTable rows false (codes "packet  station            verdict       steps\n" ++ (lines_of row_line rows ++ sums))
-  Json : IsTable rows true (lines_of json_line rows)
+-- the heads of the columns
+abbrev pub heads : List ℕ
+heads = codes "packet  station            verdict       steps\n"
+
+-- lines of JSON, or the heads of the columns, the lines of the rows, and a line of sums
+abbrev pub table_text : List Row → List ℕ → Bool → List ℕ
+table_text rows sums true = lines_of json_line rows
+table_text rows sums false = heads ++ (lines_of row_line rows ++ sums)

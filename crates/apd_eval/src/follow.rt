@@ -1,18 +1,21 @@
 //! A capture at an access point whose programs are tried.
 
-ghost use Rattle.std.specs.Prelude.{◌≡◌, ◌++◌, IfOk, IfSome, map};
+ghost use Rattle.std.specs.Prelude.{◌≡◌, ◌≤◌, ◌++◌, IfOk, IfSome, length, map, true};
 ghost use Rattle.bpf_helpers.specs.Hooked.{IsFitting};
 ghost use Rattle.ap_model.specs.AccessPoint.{InPlace};
 ghost use Rattle.ap_core.specs.AccessPoints.{rules_of};
 ghost use Rattle.capture.specs.Packets.{seen_of};
 ghost use Rattle.capture.specs.Radiotap.{bytes_in};
 ghost use Rattle.apd_policies.specs.Script.{start_of};
-ghost use Rattle.apd_eval.specs.Follows.{TimePasses, FrameComes, PacketComes, Follows, IsFollowed, rows_of};
+ghost use Rattle.apd_eval.specs.Asked.{IsFollowed};
+ghost use Rattle.apd_eval.specs.Follows.{TimePasses, is_received, FrameComes, PacketComes, Follows, rows_of};
 
 use crate::handling::handle;
 use crate::ruling::Ruling;
 use crate::tried::Policy;
+use crate::witness::Witness;
 use ap_core::{Event, LinkConfig, Shard, new_shards};
+use ap_laws::asks_law;
 use ap_model::Octets;
 use apd_policies::{start, unit};
 use bpf_helpers::WorkerState;
@@ -43,6 +46,15 @@ pub struct Replay<'a> {
     pub packets: &'a [Packet<'a>],
 }
 
+impl Replay<'_> {
+    /// How many packets there are.
+    pub(crate) fn count(self) -> usize
+        ensures is { result ≡ length (map seen_of self.entry.packets.now) }
+    {
+        self.packets.len()
+    }
+}
+
 /// Lets the time from a unit to a later one pass, at most 4294967295 units.
 fn pass(
     alloc: Global,
@@ -65,6 +77,14 @@ fn pass(
     Ok(None)
 }
 
+/// Whether a frame with these bytes is received: it has 1 to 2400.
+pub(crate) fn is_received(bytes: &[u8]) -> bool
+    ensures is { result ≡ is_received bytes.now }
+    ensures short { result ≡ true → length bytes.now ≤ 2400 }
+{
+    1 <= bytes.len() && bytes.len() <= 2400
+}
+
 /// Receives a frame, if it has 1 to 2400 bytes.
 fn receive(
     alloc: Global,
@@ -82,7 +102,7 @@ fn receive(
 {
     match frame {
         Ok(bytes) => {
-            if 1 <= bytes.len() && bytes.len() <= 2400 {
+            if is_received(bytes) {
                 let octets = Octets::copy(alloc, bytes)?;
                 return handle(alloc, shards, policy, state, Event::Frame(octets));
             }
@@ -158,7 +178,7 @@ fn rows(
     Ok(rows)
 }
 
-/// The rows of a capture's packets, one after another, at a new access point.
+/// The rows of a capture's packets, one after another, at a new access point. Each is about the frame of its packet.
 pub(crate) fn follow(
     alloc: Global,
     policy: Policy<'_>,
@@ -169,6 +189,7 @@ pub(crate) fn follow(
     ensures rows { IfOk result (λ rows. IsFollowed policy.entry replay.entry.link.now
         (map seen_of replay.entry.packets.now) state.old rows.items) }
 {
+    asks_law::<Witness>();
     let mut shards = new_shards(alloc, replay.link)?;
     rows(alloc, &mut shards, policy, state, replay.packets)
 }

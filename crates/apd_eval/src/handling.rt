@@ -1,62 +1,24 @@
 //! One event at an access point whose programs are tried.
 
-ghost use Rattle.std.specs.Prelude.{◌≡◌, ℕ, List, length, Some, ◌∷◌, [], IfOk};
+ghost use Rattle.std.specs.Prelude.{◌≡◌, ℕ, List, Some, ◌∷◌, [], IfOk};
 ghost use Rattle.std.specs.Option.{option_map};
 ghost use Rattle.bpf_helpers.specs.Hooked.{IsFitting};
 ghost use Rattle.bpf_helpers.specs.HookPorts.{given_by};
-ghost use Rattle.ap_model.specs.AccessPoint.{shard_of, InPlace};
+ghost use Rattle.ap_model.specs.AccessPoint.{InPlace};
 ghost use Rattle.ap_model.specs.Asks.{Ask, Answered};
-ghost use Rattle.ap_core.specs.Shards.{reads};
-ghost use Rattle.ap_core.specs.AccessPoints.{readings_of, rules_of, outs_in, RunsAll};
+ghost use Rattle.ap_core.specs.AccessPoints.{rules_of, RunsAll};
 ghost use Rattle.apd_eval.specs.declared.witness.Witness.{Witness};
 ghost use Rattle.apd_eval.specs.Rulings.{GivesRuling};
 ghost use Rattle.apd_eval.specs.Witnesses.{Keeps, Witnesses, heard_by};
-ghost use Rattle.apd_eval.specs.Leading.{IsGiven, Leads, Happens};
+ghost use Rattle.apd_eval.specs.Leading.{Leads, Happens};
 
 use crate::ruling::Ruling;
 use crate::tried::Policy;
 use crate::witness::Witness;
-use ap_core::{Event, Out, Shard, handle_all, shard_of};
-use bpf_helpers::{MapTables, WorkerState, WorkerView};
+use ap_core::{Event, Out, Shard, handle_all};
+use ap_single::{only_result, view_at};
+use bpf_helpers::WorkerState;
 use std::alloc::{AllocError, Global};
-
-/// What programs read of this shard.
-fn view_of<'t>(shard: &Shard, maps: &'t [MapTables]) -> WorkerView<'t>
-    ensures maps { result.maps ≡ maps.entry }
-    ensures given { IsGiven maps.now (reads shard.now) (given_by result) }
-{
-    WorkerView {
-        maps,
-        worker: 0,
-        clock: shard.clock(),
-        stations: shard.stations(),
-    }
-}
-
-/// What programs read of the shard that an event concerns.
-fn view_at<'t>(shards: &[Shard; 8], event: &Event, maps: &'t [MapTables]) -> WorkerView<'t>
-    ensures maps { result.maps ≡ maps.entry }
-    ensures worker { result.worker ≡ 0 }
-    ensures given { (s : ℕ) → shard_of event.now ≡ Some s →
-        IsGiven maps.now (readings_of shards.now s) (given_by result) }
-{
-    match shard_of(event) {
-        Some(at) => view_of(&shards[at], maps),
-        None => view_of(&shards[0], maps),
-    }
-}
-
-/// The only result of a list.
-fn only(results: Vec<Option<Vec<Out>>>) -> Option<Vec<Out>>
-    requires { length (outs_in results.items) ≡ 1 }
-    ensures { outs_in results.items ≡ option_map (λ outs. outs.items) result ∷ [] }
-{
-    let mut results = results;
-    match results.pop() {
-        Some(result) => result,
-        None => None,
-    }
-}
 
 /// For any queries, one after another, a judge keeps what it borrowed, and each verdict is that of its programs on the
 /// query's frame and context, over the seats and the draw word that the previous verdict left.
@@ -94,7 +56,7 @@ fn ask(
         Err(error) => return Err(error),
         Ok(results) => {
             let last = judge.last;
-            let outs = only(results);
+            let outs = only_result(results);
             return Ok(Handled { outs, last });
         }
     }

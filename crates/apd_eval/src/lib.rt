@@ -1,10 +1,14 @@
 //! Policies on captures: what a program says of each frame that comes to it.
 //!
-//! Main call: `evaluation_text`. It depends on `ap_core`, `program_judge` and `capture`. The frames of a capture come to
-//! a new access point of which the program is the only one; each query of its hook is a row, with the verdict and the
-//! steps of the program's run on that query.
+//! Main calls: `evaluation_text` and `compare`. It depends on `ap_core`, `program_judge` and `capture`. The frames of a
+//! capture come to a new access point of which the program is the only one; each query of its hook is a row, with the
+//! verdict and the steps of the program's run on that query. A second program may judge the same queries, with maps of
+//! its own; then the rows are the queries on which both differ.
 #![tactic(auto)]
 
+mod again;
+mod changes;
+mod comparing;
 mod evaluating;
 mod follow;
 mod handling;
@@ -16,6 +20,9 @@ mod unjudged;
 mod witness;
 mod words;
 
+pub use again::Contrast;
+pub use comparing::{Comparison, compare};
 pub use evaluating::{evaluate, evaluation_text};
 pub use follow::{Replay, Row};
 pub use ruling::Ruling;
+pub use tried::copied_shapes;

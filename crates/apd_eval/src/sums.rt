@@ -1,5 +1,8 @@
 //! The line of sums below a table.
 
+ghost use Rattle.std.specs.Prelude.{◌≡◌, not, IfOk, count_by, string_bytes};
+ghost use Rattle.apd_eval.specs.Sums.{grants, marks, counts_text, most_steps, steps_text, judged_line, judged_of, judged_text, sums_text};
+
 use crate::follow::{Replay, Row};
 use crate::unjudged::unjudged_text;
 use crate::words::Verdict;
@@ -14,47 +17,117 @@ pub(crate) struct Course<'a> {
     pub replay: Replay<'a>,
 }
 
-/// Whether the verdict grants what is asked for.
-fn grants(row: &Row) -> bool {
-    !matches!(
-        row.ruling.meaning(),
-        Verdict::Refuse(_) | Verdict::Decline | Verdict::Discard
-    )
-}
+impl Row {
+    /// Whether the verdict grants what is asked for.
+    fn grants(&self) -> bool
+        ensures is { result ≡ grants self.now }
+    {
+        !matches!(
+            self.ruling.meaning(),
+            Verdict::Refuse(_) | Verdict::Decline | Verdict::Discard
+        )
+    }
 
-/// Whether the verdict has a mark.
-fn marks(row: &Row) -> bool {
-    matches!(row.ruling.meaning(), Verdict::Mark(_))
-}
-
-/// How many verdicts grant and refuse, in words of the hook.
-fn counts_text(alloc: Global, rows: &[Row], hook: Hook) -> Result<String, AllocError> {
-    let granted = rows.iter().filter(|row| grants(row)).count();
-    let refused = rows.iter().filter(|row| !grants(row)).count();
-    let marked = rows.iter().filter(|row| marks(row)).count();
-    match hook {
-        Hook::Association => format!(in alloc; "admit {granted}, refuse {refused}"),
-        Hook::Addba => format!(in alloc; "grant {granted}, decline {refused}"),
-        Hook::Data => format!(in alloc; "pass {granted} ({marked} marked), drop {refused}"),
+    /// Whether the verdict has a mark.
+    fn marks(&self) -> bool
+        ensures is { result ≡ marks self.now }
+    {
+        matches!(self.ruling.meaning(), Verdict::Mark(_))
     }
 }
 
-/// How many of the packets were judged, how, and in how many steps; or why none was.
+fn granted(rows: &[Row]) -> usize
+    ensures is { result ≡ count_by grants rows.now }
+{
+    rows.iter().filter(|row| row.grants()).count()
+}
+
+fn refused(rows: &[Row]) -> usize
+    ensures is { result ≡ count_by (λ row. not (grants row)) rows.now }
+{
+    rows.iter().filter(|row| !row.grants()).count()
+}
+
+fn marked(rows: &[Row]) -> usize
+    ensures is { result ≡ count_by marks rows.now }
+{
+    rows.iter().filter(|row| row.marks()).count()
+}
+
+/// How many verdicts grant and refuse, in words of the hook.
+fn counts_text(alloc: Global, rows: &[Row], hook: Hook) -> Result<String, AllocError>
+    ensures is { IfOk result (λ text. string_bytes text ≡ counts_text hook rows.now) }
+{
+    let granted = granted(rows);
+    let refused = refused(rows);
+    match hook {
+        Hook::Association => format!(in alloc; "admit {granted}, refuse {refused}"),
+        Hook::Addba => format!(in alloc; "grant {granted}, decline {refused}"),
+        Hook::Data => {
+            let marked = marked(rows);
+            format!(in alloc; "pass {granted} ({marked} marked), drop {refused}")
+        }
+    }
+}
+
+/// The most steps of a row.
+fn most_steps(rows: &[Row]) -> u32
+    ensures is { result ≡ most_steps rows.now }
+{
+    let mut most = 0;
+    for row in rows {
+        most = row.ruling.steps.max(most);
+    }
+    most
+}
+
+/// In how many steps, at most.
+fn steps_text(alloc: Global, most: u32, budget: u32) -> Result<String, AllocError>
+    ensures is { IfOk result (λ text. string_bytes text ≡ steps_text most budget) }
+{
+    format!(in alloc; "; steps at most {most} of budget {budget}\n")
+}
+
+/// How many packets were judged, how, and in how many steps.
+fn judged_line(
+    alloc: Global,
+    judged: usize,
+    packets: usize,
+    counts: &str,
+    steps: &str,
+) -> Result<String, AllocError>
+    ensures is { IfOk result
+        (λ text. string_bytes text ≡ judged_line judged packets counts.now steps.now) }
+{
+    format!(in alloc; "judged {judged} of {packets} packets: {counts}{steps}")
+}
+
+/// The same of rows.
+fn judged_text(alloc: Global, rows: &[Row], course: Course<'_>) -> Result<String, AllocError>
+    ensures is { IfOk result
+        (λ text. string_bytes text ≡ judged_text (judged_of course.entry) rows.now) }
+{
+    let judged = rows.len();
+    let packets = course.replay.count();
+    let counts = counts_text(alloc, rows, course.hook)?;
+    let most = most_steps(rows);
+    let steps = steps_text(alloc, most, course.budget)?;
+    let counts = counts.as_str();
+    let steps = steps.as_str();
+    judged_line(alloc, judged, packets, counts, steps)
+}
+
+/// The same, or why none was.
 pub(crate) fn sums_text(
     alloc: Global,
     rows: &[Row],
     course: Course<'_>,
-) -> Result<String, AllocError> {
+) -> Result<String, AllocError>
+    ensures is { IfOk result
+        (λ text. string_bytes text ≡ sums_text (judged_of course.entry) rows.now) }
+{
     if rows.is_empty() {
         return unjudged_text(alloc, course.hook, course.replay);
     }
-    let counts = counts_text(alloc, rows, course.hook)?;
-    let counts = counts.as_str();
-    let judged = rows.len();
-    let packets = course.replay.packets.len();
-    let budget = course.budget;
-    let most = rows.iter().map(|row| row.ruling.steps).max().unwrap_or(0);
-    format!(in alloc;
-        "judged {judged} of {packets} packets: {counts}; steps at most {most} of budget {budget}\n"
-    )
+    judged_text(alloc, rows, course)
 }

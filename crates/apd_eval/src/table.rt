@@ -2,7 +2,8 @@
 
 ghost use Rattle.std.specs.Prelude.{◌≡◌, ◌++◌, IfOk};
 ghost use Rattle.std.specs.String.{string_bytes};
-ghost use Rattle.apd_eval.specs.Table.{station_text, row_line, json_line, lines_of, IsTable};
+ghost use Rattle.apd_eval.specs.Sums.{judged_of, sums_text};
+ghost use Rattle.apd_eval.specs.Table.{station_text, row_line, json_line, lines_of, table_text};
 
 use crate::follow::Row;
 use crate::sums::{Course, sums_text};
@@ -79,7 +80,8 @@ pub(crate) fn table_text(
     course: Course<'_>,
     json: bool,
 ) -> Result<String, AllocError>
-    ensures is { IfOk result (λ text. IsTable rows.now json (string_bytes text)) }
+    ensures is { IfOk result (λ text. string_bytes text
+        ≡ table_text rows.now (sums_text (judged_of course.entry) rows.now) json) }
 {
     if json {
         let mut text = String::new(alloc);

@@ -31,7 +31,7 @@ pub(crate) struct Tried {
 }
 
 /// A copy of these shapes.
-fn copied(alloc: Global, shapes: &Shapes) -> Result<Shapes, AllocError>
+pub fn copied_shapes(alloc: Global, shapes: &Shapes) -> Result<Shapes, AllocError>
     ensures is { IfOk result (λ copy. copy ≡ shapes.now) }
 {
     shapes.whole();
@@ -47,7 +47,7 @@ fn alone(alloc: Global, accepted: Accepted) -> Result<Programs, AllocError>
         programs ≡ replaced accepted.hook (no_programs accepted.code.shapes) (Some accepted)) }
 {
     let hook = accepted.hook();
-    let shapes = copied(alloc, accepted.program().shapes())?;
+    let shapes = copied_shapes(alloc, accepted.program().shapes())?;
     let mut programs = Programs::none(shapes);
     programs.put(hook, Some(accepted));
     Ok(programs)

@@ -52,7 +52,7 @@ impl<'p, 't, 's> Witness<'p, 't, 's> {
     }
 
     /// Runs the hook's program, if there is one.
-    fn rule(&mut self, hook: Hook, frame: &Frame<'_>, context: &Context) -> Ruling
+    pub(crate) fn rule(&mut self, hook: Hook, frame: &Frame<'_>, context: &Context) -> Ruling
         ensures ruling { IsRuling (given_by self.old.view) self.old.programs.now self.old.state.now
             (record { hook = hook; frame = frame.now; context = context.now })
             result self.new.state.now }

@@ -1,5 +1,5 @@
 -- Where an answer goes, by the file named for it and by its status.
-use Rattle.std.proofs.Common.{◌≡◌, ◌≢◌, ◌==◌, ℕ, zero, suc, List, Option, Some, None, if◌then◌else◌, refl}
+use Rattle.std.proofs.Common.{◌≡◌, ◌==◌, ℕ, zero, suc, List, Option, Some, None, if◌then◌else◌, refl}
 use Rattle.std.proofs.Math.Dec.{eqb-suc-zero}
 use Rattle.apd_program.specs.Delivered.{GoesOut, IsForFile}
 

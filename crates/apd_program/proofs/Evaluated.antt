@@ -1,75 +1,90 @@
 -- Verdicts on captures, from their parts.
-use Rattle.std.proofs.Common.{◌≡◌, ℕ, Bool, List, Option, Some, None, Result, IfOk, inl, inr, subst}
+use Rattle.std.proofs.Common.{◌≡◌, ◌^◌, ℕ, Bool, List, Option, Some, None, Result, Vec, IfOk, option_map, inl, inr, refl, subst}
 use Rattle.std.proofs.lemmas.Result.{IfOk-weaker}
 use Rattle.std.specs.Borrow.{Bor}
+use Rattle.std.specs.declared.alloc.Global.{Global}
 use Rattle.bpf_regions.specs.declared.hooks.Hook.{Hook}
-use Rattle.bpf_decode.specs.Program.{Code}
-use Rattle.bpf_machine.specs.Verified.{Verified}
 use Rattle.bpf_regions.specs.declared.maps.Shape.{Shape}
 use Rattle.capture.specs.Packets.{Seen}
 use Rattle.capture.specs.Captures.{Holds as HoldsPackets}
 use Rattle.ap_model.specs.Readings.{Config}
-use Rattle.apd_eval.specs.Evaluated.{IsEvaluation}
 use Rattle.apd_files.specs.declared.inputs.files.FileKind.TheVariants.{Capture}
-use Rattle.apd_files.specs.Held.{Held, Lacks}
+use Rattle.apd_files.specs.Held.{Held, Keeps, Lacks}
 use Rattle.apd_words.specs.Asked.{text_of}
-use Rattle.apd_program.specs.Evaluating.{AreVerdicts, IsMaterial, IsEvaluatedWith, HasNoEvaluation, NoConfig, OfConfiguration, OfCode, OfCapture, link_of}
+use Rattle.apd_program.specs.Admitting.{IsOfAdmitted}
+use Rattle.apd_program.specs.Evaluating.{Replayed, AreVerdicts, AreDifferences, AreJudged, IsKept, HoldsIfAny, HasBadCodeInForce, IsMaterial, IsEvaluatedWith, HasNoEvaluation, NoConfig, OfConfiguration, OfCode, OfCapture, OfCodeInForce, link_of}
 use Rattle.apd_program.specs.Faults.{IsMemoryOr, HasBadConfiguration, HasBadCode, HasBadCapture, NoFile}
-use Rattle.apd_program.specs.Programs.{IsOfProgram}
-use Rattle.apd_program.specs.Verifying.{IsVerdict}
 use Rattle.apd_program.specs.declared.answer.Answer.{Answer}
 use Rattle.apd_program.specs.declared.evaluating.Material.{Material}
 use Rattle.apd_program.specs.declared.fault.ProgramFault.{ProgramFault}
 use Rattle.apd_program.specs.declared.fault.ProgramFault.TheVariants as fault
-use Rattle.apd_program.proofs.KeptCode.{IsOfProgram-kept}
-
-pub IsEvaluation-of : (accepted : Verified) (p : Code) (hook : Hook) (draw : ℕ) (config : Config) (packets : List Seen) (json : Bool) (text : List ℕ) → accepted.code ≡ p → accepted.hook ≡ hook
-    → IsEvaluation accepted draw config packets json text → IsEvaluation (record { code = p; hook = hook; budget = accepted.budget }) draw config packets json text
-IsEvaluation-of accepted p hook draw config packets json text code served is =
-    let OfCode' : Code → Type 0 = λ c. IsEvaluation (record { code = c; hook = accepted.hook; budget = accepted.budget }) draw config packets json text in
-    let OfHook : Hook → Type 0 = λ h. IsEvaluation (record { code = p; hook = h; budget = accepted.budget }) draw config packets json text in
-    subst OfHook served (subst OfCode' code is)
+use Rattle.apd_program.proofs.Admits.{IsOfAdmitted-weaker, IsOfAdmitted-kept}
 
 unnamed : (path : Bor (List ℕ)) → Some path ≡ None → ⊥
 unnamed path h = cc
 
-pub no_configuration : (files : Held) (file capture : List ℕ) (config : Option (Bor (List ℕ))) → config ≡ None → IsMemoryOr (HasNoEvaluation files file capture (text_of config)) fault.NoConfig
-no_configuration files file capture None h = inr NoConfig
-no_configuration files file capture (Some path) h = absurd (unnamed path h)
+pub no_configuration : (files : Held) (file capture : List ℕ) (against : Option (List ℕ)) (config : Option (Bor (List ℕ))) → config ≡ None → IsMemoryOr (HasNoEvaluation files file capture against (text_of config)) fault.NoConfig
+no_configuration files file capture against None h = inr NoConfig
+no_configuration files file capture against (Some path) h = absurd (unnamed path h)
 
-module _ (files : Held) (file capture config : List ℕ) (e : ProgramFault) where
-  pub bad_configuration : IsMemoryOr (HasBadConfiguration files config) e → IsMemoryOr (HasNoEvaluation files file capture (Some config)) e
+module _ (files : Held) (file capture : List ℕ) (against : Option (List ℕ)) (config : List ℕ) (e : ProgramFault) where
+  pub bad_configuration : IsMemoryOr (HasBadConfiguration files config) e → IsMemoryOr (HasNoEvaluation files file capture against (Some config)) e
   bad_configuration (inl memory) = inl memory
   bad_configuration (inr bad) = inr (OfConfiguration config bad)
 
-  pub bad_code : (later : Held) → later ≡ files → IsMemoryOr (HasBadCode later file) e → IsMemoryOr (HasNoEvaluation files file capture (Some config)) e
+  pub bad_code : (later : Held) → later ≡ files → IsMemoryOr (HasBadCode later file) e → IsMemoryOr (HasNoEvaluation files file capture against (Some config)) e
   bad_code later same (inl memory) = inl memory
   bad_code later same (inr bad) = inr (OfCode (Some config) (let P : Held → Type 0 = λ f. HasBadCode f file in subst P same bad))
 
-  pub no_capture : (later : Held) → later ≡ files → IsMemoryOr (Lacks Capture later capture) e → IsMemoryOr (HasNoEvaluation files file capture (Some config)) e
+  pub no_capture : (later : Held) → later ≡ files → IsMemoryOr (Lacks Capture later capture) e → IsMemoryOr (HasNoEvaluation files file capture against (Some config)) e
   no_capture later same (inl memory) = inl memory
   no_capture later same (inr lacks) = inr (OfCapture (Some config) (let P : Held → Type 0 = λ f. HasBadCapture f capture in subst P same (NoFile lacks)))
 
-  pub bad_capture : (later : Held) → later ≡ files → IsMemoryOr (HasBadCapture later capture) e → IsMemoryOr (HasNoEvaluation files file capture (Some config)) e
+  pub bad_code_in_force : (later : Held) → later ≡ files → IsMemoryOr (HasBadCodeInForce later against) e → IsMemoryOr (HasNoEvaluation files file capture against (Some config)) e
+  bad_code_in_force later same (inl memory) = inl memory
+  bad_code_in_force later same (inr bad) = inr (OfCodeInForce (Some config) (let P : Held → Type 0 = λ f. HasBadCodeInForce f against in subst P same bad))
+
+  pub bad_capture : (later : Held) → later ≡ files → IsMemoryOr (HasBadCapture later capture) e → IsMemoryOr (HasNoEvaluation files file capture against (Some config)) e
   bad_capture later same (inl memory) = inl memory
   bad_capture later same (inr bad) = inr (OfCapture (Some config) (let P : Held → Type 0 = λ f. HasBadCapture f capture in subst P same bad))
 
-pub IsEvaluatedWith-of : (files : Held) (limit : ℕ) (hook : Hook) (file capture config : List ℕ) (json : Bool) (m : Material) (packets : List Seen) (r : Result Answer ProgramFault) → IsMaterial files config file capture m → HoldsPackets m.capture.items packets
-    → IfOk r (IsOfProgram (IsVerdict limit (AreVerdicts hook m.setting.draw m.setting.link packets json)) m.code.items m.setting.shapes) → IfOk r (IsEvaluatedWith files limit hook file capture config json)
-IsEvaluatedWith-of files limit hook file capture config json m packets r is held said =
+unkept : (code : Vec ℕ Global) → Some code ≡ None → ⊥
+unkept code h = cc
+
+module _ (files : Held) (limit : ℕ) (g : Replayed) (code kept : List ℕ) (shapes : List Shape) (a : Answer) where
+  -- what is said of kept codes is said of the whole ones
+  judged_whole : (against : Option (List ℕ)) (old : Option (Vec ℕ Global)) → Keeps (2 ^ 17) 8 code kept → IsKept files against old → AreJudged limit g (option_map (λ o. o.items) old) kept shapes a
+      → (whole : Option (List ℕ)) × HoldsIfAny files against whole × AreJudged limit g whole code shapes a
+  judged_whole None None keeps is h = (None, refl, IsOfAdmitted-kept limit g.hook shapes (AreVerdicts g) code kept a keeps h)
+  judged_whole None (Some old) keeps is h = absurd (unkept old is)
+  judged_whole (Some path) None keeps is h = absurd is
+  judged_whole (Some path) (Some old) keeps is h = (
+    Some is.code,
+    is.held,
+    IsOfAdmitted-kept limit g.hook shapes (λ v. IsOfAdmitted limit g.hook (AreDifferences g v) code shapes) is.code old.items a is.keeps
+        (IsOfAdmitted-weaker limit g.hook shapes (λ v. IsOfAdmitted limit g.hook (AreDifferences g v) kept shapes) (λ v. IsOfAdmitted limit g.hook (AreDifferences g v) code shapes) old.items a
+        (λ v said. IsOfAdmitted-kept limit g.hook shapes (AreDifferences g v) code kept a keeps said) h),
+  )
+
+pub IsEvaluatedWith-of : (files : Held) (limit : ℕ) (hook : Hook) (file capture config : List ℕ) (against : Option (List ℕ)) (json : Bool) (m : Material) (packets : List Seen) (r : Result Answer ProgramFault) → IsMaterial files config file capture against m → HoldsPackets m.capture.items packets
+    → IfOk r (AreJudged limit (record { hook = hook; draw = m.setting.draw; config = m.setting.link; packets = packets; json = json }) (option_map (λ o. o.items) m.in_force) m.code.items m.setting.shapes)
+    → IfOk r (IsEvaluatedWith files limit hook file capture against json config)
+IsEvaluatedWith-of files limit hook file capture config against json m packets r is held said =
     let s = is.setting in
     let c = s.configuration in
-    let says : ℕ → Config → Code → Answer → Type 0 = λ d l. IsVerdict limit (AreVerdicts hook d l packets json) in
-    IfOk-weaker r (IsOfProgram (says m.setting.draw m.setting.link) m.code.items m.setting.shapes) (IsEvaluatedWith files limit hook file capture config json) (λ a h.
-    let whole = IsOfProgram-kept (says m.setting.draw m.setting.link) m.setting.shapes is.kept.code m.code.items a is.kept.keeps h in
-    let drawn = subst (λ d. IsOfProgram (says d m.setting.link) is.kept.code m.setting.shapes a) s.draw whole in
-    let linked = subst (λ l. IsOfProgram (says c.draw l) is.kept.code m.setting.shapes a) s.link drawn in
+    let on : ℕ → Config → Replayed = λ d l. record { hook = hook; draw = d; config = l; packets = packets; json = json } in
+    IfOk-weaker r (AreJudged limit (on m.setting.draw m.setting.link) (option_map (λ o. o.items) m.in_force) m.code.items m.setting.shapes) (IsEvaluatedWith files limit hook file capture against json config) (λ a h.
+    let whole = judged_whole files limit (on m.setting.draw m.setting.link) is.kept.code m.code.items m.setting.shapes a against m.in_force is.kept.keeps is.in_force h in
+    let drawn = subst (λ d. AreJudged limit (on d m.setting.link) whole.0 is.kept.code m.setting.shapes a) s.draw whole.2 in
+    let linked = subst (λ l. AreJudged limit (on c.draw l) whole.0 is.kept.code m.setting.shapes a) s.link drawn in
     record {
       configuration = c;
       configured = s.configured;
       code = is.kept.code;
       held = is.kept.held;
+      in_force = whole.0;
+      held_in_force = whole.1;
       packets = packets;
       captured = record { bytes = m.capture.items; there = is.there; held = held };
-      said = subst (λ (maps : List Shape). IsOfProgram (says c.draw (link_of c)) is.kept.code maps a) s.maps linked;
+      said = subst (λ (maps : List Shape). AreJudged limit (on c.draw (link_of c)) whole.0 is.kept.code maps a) s.maps linked;
     }) said

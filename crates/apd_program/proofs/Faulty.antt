@@ -1,6 +1,6 @@
 -- Faults of files.
 use Rattle.std.proofs.Math.Nat.{lt_of_not-le}
-use Rattle.std.proofs.Common.{◌≡◌, ◌≢◌, ◌⊎◌, ◌<◌, ◌≤◌, ◌^◌, Bool, true, false, length, List, ℕ, Err, Option, None, Some, inl, inr, refl, subst}
+use Rattle.std.proofs.Common.{◌≡◌, ◌≢◌, ◌⊎◌, ◌<◌, ◌≤◌, Bool, true, false, length, List, ℕ, Err, Option, None, Some, inl, inr, refl, subst}
 use Rattle.std.specs.Prelude.{IfSome, slice_index}
 use Rattle.std.specs.Borrow.{Bor}
 use Rattle.bpf_regions.specs.declared.hooks.Hook.{Hook}

@@ -5,5 +5,7 @@ pub mod Slots
 pub mod Said
 pub mod Performing
 pub mod Delivering
+pub mod Admits
 pub mod Evaluated
 pub mod Tested
+pub mod Formed

@@ -1,27 +1,27 @@
 -- From what was printed to what the program did.
-use Rattle.std.proofs.Common.{◌≡◌, ◌≢◌, ◌∙◌, ◌⊎◌, ◌≤◌, ℕ, true, false, List, Option, Result, Ok, Err, inl, inr, refl, sym, subst, arith}
+use Rattle.std.proofs.Common.{◌≡◌, ◌≢◌, ◌∙◌, ◌⊎◌, ◌≤◌, ℕ, Bool, true, false, List, Option, Some, None, Result, Ok, Err, inl, inr, refl, sym, subst, arith}
 use Rattle.std.specs.Io.KnownBytes.{Keeps}
 use Rattle.clap.specs.declared.builder.value_parser.ValueParser.{ValueParser}
 use Rattle.apd_words.specs.Asked.{Asked, Wanted, Run as RunWanted, Live as LiveWanted, Answer as AnswerWanted}
-use Rattle.apd_words.specs.Reads.{AsksFor, IsHelp, TellsOf}
-use Rattle.apd_words.specs.Spells.{IsReadAs}
+use Rattle.apd_words.specs.Reads.{TellsOf}
 use Rattle.apd_words.specs.declared.Told.{Told}
 use Rattle.apd_words.specs.declared.Told.TheVariants as told
 use Rattle.apd_run.specs.Counts.{none}
-use Rattle.apd_run.specs.Shows as shows
 use Rattle.apd_run.proofs.Ending.{runs_nothing}
+use Rattle.apd_text.specs.declared.reports.report.Form.{Form}
+use Rattle.apd_program.specs.Forms.{RunsFormed, form_of, in_lines}
 use Rattle.apd_program.specs.declared.answer.Answer.{Answer}
-use Rattle.apd_program.specs.declared.answer.Answer.TheVariants.{Accepted, Code, Instructions, Run, Verdicts, Page, Script, CutScript, Tested, Help, Fault, Refused, LineFault, Certificate, Unaccepted}
+use Rattle.apd_program.specs.declared.answer.Answer.TheVariants.{Accepted, Code, Instructions, Run, Verdicts, Differences, Page, Script, CutScript, Tested, Help, Fault, Refused, LineFault, Certificate, Unaccepted}
 use Rattle.apd_program.specs.declared.fault.ProgramFault.{ProgramFault}
 use Rattle.apd_program.specs.declared.fault.ProgramFault.TheVariants as fault
 use Rattle.apd_program.specs.Lines.{status_of}
 use Rattle.apd_files.specs.Held.{Held}
 use Rattle.apd_program.specs.Answers.{IsAnswer, HasNoAnswer}
-use Rattle.apd_program.specs.Printed.{PrintsText, WholeText, BeginningOfText, fault_status}
+use Rattle.apd_program.specs.Printed.{WholeText, BeginningOfText, fault_status}
 use Rattle.apd_program.specs.Delivered.{Delivers, Printed, Stored, Begun, Unstored, Nothing, status_after}
 use Rattle.apd_program.specs.declared.output.Undelivered.{Undelivered}
 use Rattle.apd_program.specs.declared.output.Undelivered.TheVariants as undelivered
-use Rattle.apd_program.specs.Program.{Performs, Wrote, Saved, Stopped, Unsaved, Refrained, Exhausted, Responds, Fulfils, Tells, Does, Performed, Complained, Helped, StoppedHelp}
+use Rattle.apd_program.specs.Program.{Performs, Wrote, Saved, Stopped, Unsaved, Refrained, Exhausted, Responds, Fulfils, Tells, Does, Complained, Helped, StoppedHelp}
 use Rattle.apd_program.proofs.Kept.{Keeps-same}
 
 -- a failed write has status 2
@@ -46,6 +46,7 @@ complained files a output o (fault.Capture path f) (inl memory) = cc
 complained files a output o (fault.NoPage word ranges) (inl memory) = cc
 complained files a output o (fault.Context why) (inl memory) = cc
 complained files a output o fault.NoThreads (inl memory) = cc
+complained files a output o fault.NoForm (inl memory) = cc
 complained files a output o (fault.NoCommand name) (inl memory) = cc
 complained files a output o (fault.NoDigits path) (inl memory) = cc
 complained files a output o (fault.OddDigits path) (inl memory) = cc
@@ -59,6 +60,7 @@ complained files a output o (fault.Capture path f) (inr h) = Refrained h (Keeps-
 complained files a output o (fault.NoPage word ranges) (inr h) = Refrained h (Keeps-same o)
 complained files a output o (fault.Context why) (inr h) = Refrained h (Keeps-same o)
 complained files a output o fault.NoThreads (inr h) = Refrained h (Keeps-same o)
+complained files a output o fault.NoForm (inr h) = Refrained h (Keeps-same o)
 complained files a output o (fault.NoCommand name) (inr h) = Refrained h (Keeps-same o)
 complained files a output o (fault.NoDigits path) (inr h) = Refrained h (Keeps-same o)
 complained files a output o (fault.OddDigits path) (inr h) = Refrained h (Keeps-same o)
@@ -76,6 +78,8 @@ status_within (Code code) = omega arith
 status_within (Instructions text) = omega arith
 status_within (Run text) = omega arith
 status_within (Verdicts text) = omega arith
+status_within (Differences text true) = omega arith
+status_within (Differences text false) = omega arith
 status_within (Page text) = omega arith
 status_within (Script text) = omega arith
 status_within (CutScript text f) = omega arith
@@ -115,23 +119,27 @@ two_or_three status (inr e) = omega (arith, e)
 pub Responds-status : (files : Held) (w : Wanted) (old new : Option (List ℕ)) (status : ℕ) → Responds files w old new status → status ≤ 3
 Responds-status files (AnswerWanted a output) old new status h = Performs-status files a output old new status h
 Responds-status files (RunWanted config script workers states quiet strict verbose) old new status h = two_or_three status h.1
-Responds-status files (LiveWanted config workers states strict verbose) old new status h = two_or_three status h.1
+Responds-status files (LiveWanted config workers states strict verbose clock events) old new status h = two_or_three status h.1
 
 pub Responds-memory : (files : Held) (w : Wanted) (old new : Option (List ℕ)) (status : ℕ) → Responds files w old new status → status ≡ 3 → Keeps old new
 Responds-memory files (AnswerWanted a output) old new status h e = Performs-memory files a output old new status h e
 Responds-memory files (RunWanted config script workers states quiet strict verbose) old new status h e = kept_same old new h.0
-Responds-memory files (LiveWanted config workers states strict verbose) old new status h e = kept_same old new h.0
+Responds-memory files (LiveWanted config workers states strict verbose clock events) old new status h e = kept_same old new h.0
 
 -- unchanged output with status 3 is a response to any request
 pub Responds-nothing : (files : Held) (w : Wanted) (o : Option (List ℕ)) → Responds files w o o 3
 Responds-nothing files (AnswerWanted a output) o = Exhausted (Keeps-same o)
 Responds-nothing files (RunWanted config script workers states quiet strict verbose) o = (refl, inr refl)
-Responds-nothing files (LiveWanted config workers states strict verbose) o = (refl, inr refl)
+Responds-nothing files (LiveWanted config workers states strict verbose clock events) o = (refl, inr refl)
+
+formed_nothing : (strict : Bool) (form : Option Form) (o : Option (List ℕ)) → RunsFormed strict form o o 3
+formed_nothing strict None o = (refl, inr refl)
+formed_nothing strict (Some form) o = runs_nothing (record { strict = strict; form = form }) o none 3 (inr refl)
 
 Fulfils-nothing : (files : Held) (w : Wanted) (o : Option (List ℕ)) → Fulfils files w o o 3
 Fulfils-nothing files (AnswerWanted a output) o = Exhausted (Keeps-same o)
-Fulfils-nothing files (RunWanted config script workers states quiet strict verbose) o = runs_nothing strict o none 3 (inr refl)
-Fulfils-nothing files (LiveWanted config workers states strict verbose) o = runs_nothing strict o none 3 (inr refl)
+Fulfils-nothing files (RunWanted config script workers states quiet strict verbose) o = runs_nothing (in_lines strict) o none 3 (inr refl)
+Fulfils-nothing files (LiveWanted config workers states strict verbose clock events) o = formed_nothing strict (form_of events) o
 
 -- words that always make a request are reported only for lack of memory
 pub Responds-told : (files : Held) (w : Wanted) (t : Told) (old new : Option (List ℕ)) (status : ℕ) → t ≡ told.NoMemory → Tells t old new status → Responds files w old new status

@@ -1,5 +1,5 @@
 -- From parts of an answer to the answer.
-use Rattle.std.proofs.Common.{◌≡◌, ◌≢◌, ℕ, List, Result, IfOk, IsUtf8, take, sym, subst}
+use Rattle.std.proofs.Common.{◌≡◌, ℕ, List, Result, IfOk, IsUtf8, take, sym, subst}
 use Rattle.std.specs.Str.Lossy.{utf8_valid_len}
 use Rattle.std.proofs.lemmas.Result.{IfOk-weaker}
 use Rattle.bpf_regions.specs.declared.hooks.Hook.{Hook}
@@ -14,10 +14,9 @@ use Rattle.bpf_verifier.specs.declared.refusal.Refusal.{Refusal}
 use Rattle.bpf_cert.specs.Certified as shown
 use Rattle.bpf_cert.specs.Certified.{IsUncertified}
 use Rattle.bpf_cert.specs.declared.fault.CertFault.{CertFault}
-use Rattle.bpf_rules.specs.declared.fault.Fault.TheVariants as verify_fault
 use Rattle.apd_text.specs.Trace.{IsTrace}
 use Rattle.apd_program.specs.declared.answer.Answer.{Answer}
-use Rattle.apd_program.specs.declared.answer.Answer.TheVariants.{Accepted, Code, Instructions, Run, Verdicts, Page, Script, CutScript, Tested, Help, Fault, Refused, LineFault, Certificate, Unaccepted}
+use Rattle.apd_program.specs.declared.answer.Answer.TheVariants.{Accepted, Code, Instructions, Run, Verdicts, Differences, Page, Script, CutScript, Tested, Help, Fault, Refused, LineFault, Certificate, Unaccepted}
 use Rattle.apd_program.specs.declared.fault.ProgramFault.{ProgramFault}
 use Rattle.apd_program.specs.Programs.{IsOfProgram, Undecoded, Decoded}
 use Rattle.apd_program.specs.Refusing.{IsUndecoded, IsRefused, IsUnaccepted}
@@ -69,6 +68,7 @@ IsAssembly-broken text front (Code code) bad same breaks = absurd breaks
 IsAssembly-broken text front (Instructions listing) bad same breaks = absurd breaks
 IsAssembly-broken text front (Run lines) bad same breaks = absurd breaks
 IsAssembly-broken text front (Verdicts lines) bad same breaks = absurd breaks
+IsAssembly-broken text front (Differences lines differs) bad same breaks = absurd breaks
 IsAssembly-broken text front (Page lines) bad same breaks = absurd breaks
 IsAssembly-broken text front (Script lines) bad same breaks = absurd breaks
 IsAssembly-broken text front (CutScript lines f) bad same breaks = absurd breaks

@@ -65,7 +65,8 @@ IsAnswer files (ListRaw file config slots) a = IsOfSlots (IsRawListing slots) fi
 IsAnswer files (Graph file config) a = IsOfCode (λ setup. IsDrawing) files file config a
 IsAnswer files (Trace hook file word config states words from_frame) a =
     IsTraced files (nearest states) hook file word config words from_frame a
-IsAnswer files (Evaluate hook file capture config states json) a = IsEvaluatedFile files (nearest states) hook file capture config json a
+IsAnswer files (Evaluate hook file capture config against states json) a =
+    IsEvaluatedFile files (nearest states) hook file capture against json config a
 IsAnswer files (Explain number) a = IsPageFor number a
 IsAnswer files (Frames capture ticks) a = IsOfText (IsScript ticks) files capture a
 IsAnswer files (Test file) a = IsTested files file a
@@ -82,7 +83,8 @@ HasNoAnswer files (ListRaw file config slots) = IsAtFault files file config
 HasNoAnswer files (Graph file config) = IsAtFault files file config
 HasNoAnswer files (Trace hook file word config states words from_frame) =
     HasNoTrial files file word config words from_frame
-HasNoAnswer files (Evaluate hook file capture config states json) = HasNoEvaluation files file capture config
+HasNoAnswer files (Evaluate hook file capture config against states json) =
+    HasNoEvaluation files file capture against config
 HasNoAnswer files (Explain number) = HasNoPage number
 HasNoAnswer files (Frames capture ticks) = HasBadCapture files capture
 HasNoAnswer files (Test file) = HasNoTest files file

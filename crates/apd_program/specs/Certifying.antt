@@ -1,5 +1,5 @@
 -- The answers of `cert` and `check` for a program.
-use Rattle.std.specs.Prelude.{◌≡◌, ◌≢◌, ℕ, List, Vec}
+use Rattle.std.specs.Prelude.{◌≢◌, ℕ, List, Vec}
 use Rattle.std.specs.declared.alloc.Global.{Global}
 use Rattle.bpf_regions.specs.declared.hooks.Hook.{Hook}
 use Rattle.bpf_decode.specs.Program.{Code}

@@ -1,19 +1,22 @@
--- The answer of `eval` for a program and a capture.
-use Rattle.std.specs.Prelude.{◌≡◌, ◌^◌, ℕ, Bool, List, Option, Some, None, string_bytes}
+-- The answer of `eval` for a program and a capture, or for two programs.
+use Rattle.std.specs.Prelude.{◌≡◌, ◌^◌, ℕ, Bool, List, map, Option, Some, None, Vec, string_bytes}
+use Rattle.std.specs.declared.alloc.Global.{Global}
 use Rattle.bpf_regions.specs.declared.hooks.Hook.{Hook}
-use Rattle.bpf_decode.specs.Program.{Code}
-use Rattle.capture.specs.Packets.{Seen}
+use Rattle.bpf_regions.specs.declared.maps.Shape.{Shape}
+use Rattle.bpf_machine.specs.Verified.{Verified}
+use Rattle.capture.specs.Packets.{Seen, seen_of}
 use Rattle.capture.specs.Captures.{Holds as HoldsPackets}
 use Rattle.ap_model.specs.Readings.{Config}
 use Rattle.apd_config.specs.Text.{IsTextOf}
 use Rattle.apd_config.specs.declared.configuration.Configuration.{Configuration}
+use Rattle.apd_eval.specs.Compared.{IsComparison}
 use Rattle.apd_eval.specs.Evaluated.{IsEvaluation}
 use Rattle.apd_files.specs.Held.{Held, Holds, HoldsCode, HoldsKept}
 use Rattle.apd_program.specs.Faults.{HasBadConfiguration, HasBadCode, HasBadCapture}
-use Rattle.apd_program.specs.Programs.{IsOfProgram}
-use Rattle.apd_program.specs.Verifying.{IsVerdict}
+use Rattle.apd_program.specs.Admitting.{IsOfAdmitted}
 use Rattle.apd_program.specs.declared.answer.Answer.{Answer}
-use Rattle.apd_program.specs.declared.answer.Answer.TheVariants.{Verdicts}
+use Rattle.apd_program.specs.declared.answer.Answer.TheVariants.{Verdicts, Differences}
+use Rattle.apd_program.specs.declared.evaluating.Exam.{Exam}
 use Rattle.apd_program.specs.declared.evaluating.Material.{Material}
 use Rattle.apd_program.specs.declared.evaluating.Setting.{Setting}
 
@@ -35,11 +38,18 @@ pub record HoldsSetting (files : Held) (path : List ℕ) (s : Setting) : Type 0 
   pub maps : s.shapes ≡ configuration.maps
   pub draw : s.draw ≡ configuration.draw
 
--- what is read: a setting, what is kept of the code, and the capture's bytes
-pub record IsMaterial (files : Held) (config file capture : List ℕ) (m : Material) : Type 0 where
+-- what is kept of the code in a file, if one is named
+abbrev pub IsKept : Held → Option (List ℕ) → Option (Vec ℕ Global) → Type 0
+IsKept files None code = code ≡ None
+IsKept files (Some path) None = ⊥
+IsKept files (Some path) (Some code) = HoldsKept (2 ^ 17) files path code.items
+
+-- what is read: a setting, what is kept of the code, the capture's bytes, and what is kept of the code in force
+pub record IsMaterial (files : Held) (config file capture : List ℕ) (against : Option (List ℕ)) (m : Material) : Type 0 where
   pub setting : HoldsSetting files config m.setting
   pub kept : HoldsKept (2 ^ 17) files file m.code.items
   pub there : Holds files capture m.capture.items
+  pub in_force : IsKept files against m.in_force
 
 -- the file is a capture of these packets
 pub record HoldsCapture (files : Held) (path : List ℕ) (packets : List Seen) : Type 0 where
@@ -47,31 +57,74 @@ pub record HoldsCapture (files : Held) (path : List ℕ) (packets : List Seen) :
   pub there : Holds files path bytes
   pub held : HoldsPackets bytes packets
 
--- the program's verdicts on the packets at an access point, and the numbers drawn from `draw` on
-abbrev pub AreVerdicts : Hook → ℕ → Config → List Seen → Bool → Code → ℕ → Answer → Type 0
-AreVerdicts hook draw config packets json p budget (Verdicts text) =
-    IsEvaluation (record { code = p; hook = hook; budget = budget }) draw config packets json (string_bytes text)
-AreVerdicts hook draw config packets json p budget _ = ⊥
+-- on what programs are judged, and in which form that is told
+pub record Replayed : Type 0 where
+  pub hook : Hook
+  pub draw : ℕ
+  pub config : Config
+  pub packets : List Seen
+  pub json : Bool
 
--- the verdicts of the program in a file on the capture in another, at an access point of the configuration in a third
-pub record IsEvaluatedWith (files : Held) (limit : ℕ) (hook : Hook) (file capture config : List ℕ) (json : Bool) (a : Answer) : Type 0 where
+abbrev pub replayed_by : Exam → Replayed
+replayed_by e = record {
+  hook = e.terms.hook;
+  draw = e.replay.draw;
+  config = e.replay.link.now;
+  packets = map seen_of e.replay.packets.now;
+  json = e.json;
+}
+
+-- the verdicts of a program
+abbrev pub AreVerdicts : Replayed → Verified → Answer → Type 0
+AreVerdicts g v (Verdicts text) = IsEvaluation v g.draw g.config g.packets g.json (string_bytes text)
+AreVerdicts g v _ = ⊥
+
+-- the verdicts of a program that differ from those of the one in force, which the link follows
+abbrev pub AreDifferences : Replayed → Verified → Verified → Answer → Type 0
+AreDifferences g in_force v (Differences text differs) =
+    IsComparison in_force v g.draw g.config g.packets g.json (string_bytes text) differs
+AreDifferences g in_force v _ = ⊥
+
+-- the verdicts of the program that code spells; or, with the code in force, those that differ. That is verified first.
+abbrev pub AreJudged : ℕ → Replayed → Option (List ℕ) → List ℕ → List Shape → Answer → Type 0
+AreJudged limit g None code shapes a = IsOfAdmitted limit g.hook (AreVerdicts g) code shapes a
+AreJudged limit g (Some in_force) code shapes a =
+    IsOfAdmitted limit g.hook (λ v. IsOfAdmitted limit g.hook (AreDifferences g v) code shapes) in_force shapes a
+
+-- the code in the file, if one is named
+abbrev pub HoldsIfAny : Held → Option (List ℕ) → Option (List ℕ) → Type 0
+HoldsIfAny files None code = code ≡ None
+HoldsIfAny files (Some path) None = ⊥
+HoldsIfAny files (Some path) (Some code) = HoldsCode files path code
+
+-- the program in a file is judged on the capture in another, at an access point of the configuration in a third,
+-- against that in a fourth, if one is named
+pub record IsEvaluatedWith (files : Held) (limit : ℕ) (hook : Hook) (file capture : List ℕ) (against : Option (List ℕ)) (json : Bool) (config : List ℕ) (a : Answer) : Type 0 where
   pub configuration : Configuration
   pub configured : HoldsConfiguration files config configuration
   pub code : List ℕ
   pub held : HoldsCode files file code
+  pub in_force : Option (List ℕ)
+  pub held_in_force : HoldsIfAny files against in_force
   pub packets : List Seen
   pub captured : HoldsCapture files capture packets
-  pub said : IsOfProgram (IsVerdict limit (AreVerdicts hook configuration.draw (link_of configuration) packets json)) code configuration.maps a
+  pub said : AreJudged limit (record { hook = hook; draw = configuration.draw; config = link_of configuration; packets = packets; json = json }) in_force code configuration.maps a
 
 -- the same; there has to be a configuration
-abbrev pub IsEvaluatedFile : Held → ℕ → Hook → List ℕ → List ℕ → Option (List ℕ) → Bool → Answer → Type 0
-IsEvaluatedFile files limit hook file capture None json a = ⊥
-IsEvaluatedFile files limit hook file capture (Some config) json a =
-    IsEvaluatedWith files limit hook file capture config json a
+abbrev pub IsEvaluatedFile : Held → ℕ → Hook → List ℕ → List ℕ → Option (List ℕ) → Bool → Option (List ℕ) → Answer → Type 0
+IsEvaluatedFile files limit hook file capture against json None a = ⊥
+IsEvaluatedFile files limit hook file capture against json (Some config) a =
+    IsEvaluatedWith files limit hook file capture against json config a
+
+-- the code in a named file is faulty
+abbrev pub HasBadCodeInForce : Held → Option (List ℕ) → Type 0
+HasBadCodeInForce files None = ⊥
+HasBadCodeInForce files (Some path) = HasBadCode files path
 
 -- there is no configuration, or a file is faulty
-pub data HasNoEvaluation (files : Held) (file capture : List ℕ) : Option (List ℕ) → Type 0 where
-  NoConfig : HasNoEvaluation files file capture None
-  OfConfiguration : (config : List ℕ) → HasBadConfiguration files config → HasNoEvaluation files file capture (Some config)
-  OfCode : (config : Option (List ℕ)) → HasBadCode files file → HasNoEvaluation files file capture config
-  OfCapture : (config : Option (List ℕ)) → HasBadCapture files capture → HasNoEvaluation files file capture config
+pub data HasNoEvaluation (files : Held) (file capture : List ℕ) (against : Option (List ℕ)) : Option (List ℕ) → Type 0 where
+  NoConfig : HasNoEvaluation files file capture against None
+  OfConfiguration : (config : List ℕ) → HasBadConfiguration files config → HasNoEvaluation files file capture against (Some config)
+  OfCode : (config : Option (List ℕ)) → HasBadCode files file → HasNoEvaluation files file capture against config
+  OfCapture : (config : Option (List ℕ)) → HasBadCapture files capture → HasNoEvaluation files file capture against config
+  OfCodeInForce : (config : Option (List ℕ)) → HasBadCodeInForce files against → HasNoEvaluation files file capture against config

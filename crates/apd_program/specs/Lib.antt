@@ -6,6 +6,7 @@ pub mod Programs
 pub mod Refusing
 pub mod Verifying
 pub mod Certifying
+pub mod Admitting
 pub mod Texts
 pub mod Drawings
 pub mod Pages
@@ -15,4 +16,5 @@ pub mod Testing
 pub mod Answers
 pub mod Printed
 pub mod Delivered
+pub mod Forms
 pub mod Program

@@ -7,7 +7,7 @@ use Rattle.bpf_cert.specs.Faults as certificate
 use Rattle.hex.specs.Hex.{encode_lower}
 use Rattle.apd_program.specs.Slots.{line_of, slot_lines}
 use Rattle.apd_program.specs.declared.answer.Answer.{Answer}
-use Rattle.apd_program.specs.declared.answer.Answer.TheVariants.{Accepted, Code, Instructions, Run, Verdicts, Page, Script, CutScript, Tested, Help, Fault, Refused, LineFault, Certificate, Unaccepted}
+use Rattle.apd_program.specs.declared.answer.Answer.TheVariants.{Accepted, Code, Instructions, Run, Verdicts, Differences, Page, Script, CutScript, Tested, Help, Fault, Refused, LineFault, Certificate, Unaccepted}
 
 -- the printed text of an answer
 abbrev pub printed : Answer → List ℕ
@@ -16,6 +16,7 @@ printed (Code code) = slot_lines (length code.items / 8) code.items
 printed (Instructions text) = string_bytes text
 printed (Run text) = string_bytes text
 printed (Verdicts text) = string_bytes text
+printed (Differences text differs) = string_bytes text
 printed (Page text) = string_bytes text
 printed (Script text) = string_bytes text
 printed (CutScript text fault) = string_bytes text
@@ -27,13 +28,14 @@ printed (LineFault e) = line_of (line.text_of e)
 printed (Certificate bytes) = line_of (encode_lower bytes.items)
 printed (Unaccepted e) = line_of (codes "certificate " ++ decimal (certificate.number_of e))
 
--- 0 for a success, 1 for a refusal, a failed case or a cut capture
+-- 0 for a success, 1 for a refusal, a failed case, verdicts that differ or a cut capture
 abbrev pub status_of : Answer → ℕ
 status_of (Accepted budget) = 0
 status_of (Code code) = 0
 status_of (Instructions text) = 0
 status_of (Run text) = 0
 status_of (Verdicts text) = 0
+status_of (Differences text differs) = (if differs then 1 else 0)
 status_of (Page text) = 0
 status_of (Script text) = 0
 status_of (CutScript text fault) = 1

@@ -15,6 +15,7 @@ use Rattle.apd_files.specs.Held.{Held}
 use Rattle.apd_program.specs.Lines.{printed, status_of}
 use Rattle.apd_program.specs.Answers.{IsAnswer, HasNoAnswer}
 use Rattle.apd_program.specs.Delivered.{GoesOut, IsForFile}
+use Rattle.apd_program.specs.Forms.{in_lines, RunsLive}
 use Rattle.apd_program.specs.Printed.{PrintsText}
 
 -- What is written to standard output for a question, with a file for the answer or without, and the status. Lack of
@@ -35,15 +36,15 @@ Refuses old new status = (new ≡ old) × ((status ≡ 2) ⊎ (status ≡ 3))
 abbrev pub Responds : Held → Wanted → Option (List ℕ) → Option (List ℕ) → ℕ → Type 0
 Responds files (Answer a output) old new status = Performs files a output old new status
 Responds files (Run config script workers states quiet strict verbose) old new status = Refuses old new status
-Responds files (Live config workers states strict verbose) old new status = Refuses old new status
+Responds files (Live config workers states strict verbose clock events) old new status = Refuses old new status
 
 -- what is wanted is done: a script runs from its first line, or lines as they come
 abbrev pub Fulfils : Held → Wanted → Option (List ℕ) → Option (List ℕ) → ℕ → Type 0
 Fulfils files (Answer a output) old new status = Performs files a output old new status
 Fulfils files (Run config script workers states quiet strict verbose) old new status =
-    shows.Runs strict old new none status
-Fulfils files (Live config workers states strict verbose) old new status =
-    shows.Runs strict old new none status
+    shows.Runs (in_lines strict) old new none status
+Fulfils files (Live config workers states strict verbose clock events) old new status =
+    RunsLive strict events old new status
 
 -- what is written for words that make no request, and the status
 abbrev pub Tells : Told → Option (List ℕ) → Option (List ℕ) → ℕ → Type 0

@@ -25,6 +25,8 @@ pub enum Answer {
     Run(String),
     /// The verdicts on a capture's packets: a table, or lines of JSON.
     Verdicts(String),
+    /// The verdicts that differ between two programs; `differs` if there are any.
+    Differences { text: String, differs: bool },
     /// The page on a refusal's number, or the list of all numbers.
     Page(String),
     /// The frames of a capture as a script.
@@ -50,7 +52,8 @@ pub enum Answer {
 impl Answer {
     ghost use Rattle.apd_program.specs.Lines.{status_of, printed};
 
-    /// The exit status for the answer: 0 for a success, 1 for a refusal or a cut capture.
+    /// The exit status for the answer: 0 for a success; 1 for a refusal, a failed case, verdicts that differ or a cut
+    /// capture.
     pub fn status(&self) -> u8
         ensures is { result ≡ status_of self.now }
     {
@@ -65,6 +68,7 @@ impl Answer {
                 1,
             Answer::CutScript { .. } => 1,
             Answer::Tested { is_good, .. } => { if *is_good { 0 } else { 1 } }
+            Answer::Differences { differs, .. } => { if *differs { 1 } else { 0 } }
         }
     }
 
@@ -79,7 +83,7 @@ impl Answer {
             Answer::Page(text) | Answer::Script(text) | Answer::Help(text) => Ok(text),
             Answer::Verdicts(text) => Ok(text),
             Answer::CutScript { text, .. } => Ok(text),
-            Answer::Tested { text, .. } => Ok(text),
+            Answer::Tested { text, .. } | Answer::Differences { text, .. } => Ok(text),
             Answer::Fault(fault) => format!(in alloc; "{fault}\n"),
             Answer::Refused(refusal) => format!(in alloc; "{refusal}\n"),
             Answer::LineFault(fault) => format!(in alloc; "{fault}\n"),

@@ -6,13 +6,15 @@ ghost use Rattle.apd_run.specs.Shows.{Runs};
 ghost use Rattle.apd_words.specs.Asked.{Wanted};
 ghost use Rattle.apd_words.specs.Spells.{Spells};
 ghost use Rattle.apd_program.specs.Program.{Fulfils};
+ghost use Rattle.apd_program.specs.Forms.{in_lines};
 
+use crate::lines::run_live;
 use crate::program::{respond, tell};
 use apd_files::Files;
-use apd_run::{OpenGate, Progress, RunWords, StateLimit, Streams, Supplies, live, run};
-use apd_words::{LiveRun, Request, ScriptRun, read_words};
+use apd_run::{Form, Manner, OpenGate, Progress, RunWords, StateLimit, Streams, Supplies, run};
+use apd_words::{Request, ScriptRun, read_words};
 use std::alloc::Global;
-use std::io::{Input, Read, Write};
+use std::io::{Read, Write};
 use std::sync::Wait;
 use std::thread::Threads;
 use std::time::Clock;
@@ -39,14 +41,18 @@ where
     F: Files,
     O: Write + Drop,
     E: Write,
-    ensures runs { Runs asked.entry.strict (O.contents out) (O.contents result.0) none result.1 }
+    ensures runs { Runs (in_lines asked.entry.strict)
+        (O.contents out) (O.contents result.0) none result.1 }
 {
     let Messages { err, watched } = messages;
     let words = RunWords {
         config: asked.config,
         script: asked.script,
         workers: asked.workers,
-        strict: asked.strict,
+        manner: Manner {
+            strict: asked.strict,
+            form: Form::Lines,
+        },
         verbose: asked.verbose,
     };
     let limit = StateLimit::nearest(asked.states);
@@ -59,65 +65,35 @@ where
     return run(rt, alloc, words, Supplies { files, limit, gate }, out, err);
 }
 
-/// Runs lines as they come on an input.
-fn run_live<R, F, I, O, E>(
-    rt: &R,
-    alloc: Global,
-    asked: LiveRun<'_>,
-    files: &mut F,
-    streams: Streams<I, O>,
-    err: &mut E,
-) -> (O, u8)
-where
-    R: Threads + Wait + Sync,
-    F: Files,
-    I: Read + Drop,
-    O: Write + Drop,
-    E: Write,
-    ensures runs { Runs asked.entry.strict
-        (O.contents streams.out) (O.contents result.0) none result.1 }
-{
-    let words = RunWords {
-        config: asked.config,
-        script: "-",
-        workers: asked.workers,
-        strict: asked.strict,
-        verbose: asked.verbose,
-    };
-    let limit = StateLimit::nearest(asked.states);
-    let gate = OpenGate;
-    let supplies = Supplies { files, limit, gate };
-    return live(rt, alloc, words, supplies, streams, err);
-}
-
 /// Does what the words ask for; the first is the program's own name. An answer goes to `out`, or, if it is a
 /// success, to the file named for it. Returns `out` and the exit status: 0 for success; 1 if something was refused
 /// (in a script's run, only if it is strict), a line of `live` is malformed or a capture is cut; 2 for a fault of the
 /// words, a configuration, a script, a file, a read or a write; 3 for lack of memory.
-pub fn perform<'a, R, F, O, E>(
+pub fn perform<'a, R, F, I, O, E>(
     rt: &R,
     alloc: Global,
     words: &'a [&'a str],
     files: &mut F,
-    out: O,
+    streams: Streams<I, O>,
     messages: Messages<'_, E>,
 ) -> (O, u8)
 where
-    R: Threads + Wait + Sync + Clock + Eprint + Input,
+    R: Threads + Wait + Clock + Eprint + Copy + Send + Sync + 'static,
     F: Files,
+    I: Read + Drop + Send + 'static,
     O: Write + Drop,
     E: Write,
     ensures fulfils { (w : Wanted) → Spells (map (λ word. word.now) words.entry.now) w
-        → Fulfils (F.held files.old) w (O.contents out) (O.contents result.0) result.1 }
+        → Fulfils (F.held files.old) w (O.contents streams.out) (O.contents result.0) result.1 }
 {
     let Messages { err, watched } = messages;
+    let Streams { input, out } = streams;
     let mut out = out;
     match read_words(alloc, words) {
         Ok(Request::Run(asked)) => {
             return run_watched(rt, alloc, asked, files, out, Messages { err, watched });
         }
         Ok(Request::Live(asked)) => {
-            let input = rt.reader();
             return run_live(rt, alloc, asked, files, Streams { input, out }, err);
         }
         Ok(Request::Answer(query)) => {

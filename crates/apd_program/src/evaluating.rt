@@ -1,26 +1,24 @@
-//! Verdicts on a capture: the command `eval`.
+//! Verdicts on a capture, of one program or of two: the command `eval`.
 
-ghost use Rattle.std.specs.Prelude.{◌≡◌, IfOk, IfErr, Some, map};
+ghost use Rattle.std.specs.Prelude.{◌≡◌, IfOk, IfErr, Some, option_map};
 ghost use Rattle.bpf_verifier.specs.Limits.{nearest};
-ghost use Rattle.capture.specs.Packets.{seen_of};
-ghost use Rattle.apd_words.specs.Asked.{asked_evaluation};
+ghost use Rattle.apd_words.specs.Asked.{asked_evaluation, text_of};
+ghost use Rattle.apd_program.specs.Admitting.{IsOfAdmitted};
 ghost use Rattle.apd_program.specs.Answers.{IsAnswer, HasNoAnswer};
-ghost use Rattle.apd_program.specs.Evaluating.{HoldsSetting, AreVerdicts, IsMaterial, IsEvaluatedWith, HasNoEvaluation, link_of};
+ghost use Rattle.apd_program.specs.Evaluating.{HoldsSetting, AreVerdicts, AreDifferences, AreJudged, replayed_by, IsKept, IsMaterial, IsEvaluatedWith, HasBadCodeInForce, HasNoEvaluation, link_of};
 ghost use Rattle.apd_program.specs.Faults.{IsMemoryOr, HasBadConfiguration};
-ghost use Rattle.apd_program.specs.Programs.{IsOfProgram};
-ghost use Rattle.apd_program.specs.Verifying.{IsVerdict};
 
-use crate::answer::{Answer, refused, undecoded};
+use crate::admission::{Admission, admit_code};
+use crate::answer::Answer;
 use crate::explaining::Reason;
 use crate::fault::{ProgramFault, of_capture, of_configuration};
 use crate::reading::{code, read};
-use crate::verifying::admit;
 use ap_model::{LinkConfig, Octets};
 use apd_config::{Configuration, read_configuration};
-use apd_eval::{Replay, evaluation_text};
+use apd_eval::{Replay, compare, evaluation_text};
 use apd_files::{FileKind, Files};
 use apd_words::{Evaluation, Terms};
-use bpf_decode::{Program, decode};
+use bpf_machine::Accepted;
 use bpf_regions::Shapes;
 use capture::read_capture;
 use mac_types::Address;
@@ -43,14 +41,17 @@ pub(crate) struct Material {
     /// What is kept of the code: as much as decides its verdict.
     pub code: Vec<u8>,
     pub capture: Vec<u8>,
+    /// The same of the code in force, if one is named.
+    pub in_force: Option<Vec<u8>>,
 }
 
-/// How a program is verified, and the capture on which it is tried.
+/// How programs are verified, and the capture on which they are tried.
 #[derive(Clone, Copy)]
-struct Exam<'a> {
-    terms: Terms,
-    replay: Replay<'a>,
-    json: bool,
+pub(crate) struct Exam<'a> {
+    pub terms: Terms,
+    pub shapes: &'a Shapes,
+    pub replay: Replay<'a>,
+    pub json: bool,
 }
 
 fn setting_of(configuration: Configuration) -> Setting
@@ -89,56 +90,118 @@ fn configured<F: Files>(alloc: Global, path: &str, files: &mut F) -> Result<Sett
     }
 }
 
-/// The verdicts of a program on a capture, or the verifier's refusal.
-fn examined(
-    alloc: Global,
-    program: Program,
-    exam: Exam<'_>,
-    reason: &mut Reason,
-) -> Result<Answer, ProgramFault>
-    ensures verdicts { IfOk result (IsVerdict (nearest exam.entry.terms.states)
-        (AreVerdicts exam.entry.terms.hook exam.entry.replay.draw exam.entry.replay.link.now
-        (map seen_of exam.entry.replay.packets.now) exam.entry.json) program) }
-    ensures memory { IfErr result (λ e. e ≡ ProgramFault.NoMemory) }
-{
-    let Exam {
-        terms,
-        replay,
-        json,
-    } = exam;
-    match admit(alloc, program, terms, reason) {
-        Ok(accepted) => {
-            let text = evaluation_text(alloc, accepted, replay, json)?;
-            Ok(Answer::Verdicts(text))
-        }
-        Err(refusal) => refused(refusal),
-    }
-}
-
-/// The verdicts of the program that the code spells, if it is admitted.
+/// The verdicts of the program that the code spells, if it is accepted.
 fn examine(
     alloc: Global,
     code: &[u8],
-    shapes: Shapes,
     exam: Exam<'_>,
     reason: &mut Reason,
 ) -> Result<Answer, ProgramFault>
-    ensures verdicts { IfOk result (IsOfProgram (IsVerdict (nearest exam.entry.terms.states)
-        (AreVerdicts exam.entry.terms.hook exam.entry.replay.draw exam.entry.replay.link.now
-        (map seen_of exam.entry.replay.packets.now) exam.entry.json)) code.now shapes) }
+    ensures verdicts { IfOk result (IsOfAdmitted (nearest exam.entry.terms.states)
+        exam.entry.terms.hook (AreVerdicts (replayed_by exam.entry))
+        code.now exam.entry.shapes.now) }
     ensures memory { IfErr result (λ e. e ≡ ProgramFault.NoMemory) }
 {
-    match decode(alloc, code, shapes) {
-        Ok(program) => {
-            let answer = examined(alloc, program, exam, reason);
-            reason.points_at(alloc, code, &answer);
-            return answer;
+    let admission = admit_code(alloc, code, exam.shapes, exam.terms, reason)?;
+    match admission {
+        Admission::Admitted(accepted) => {
+            let text = evaluation_text(alloc, accepted, exam.replay, exam.json)?;
+            return Ok(Answer::Verdicts(text));
         }
-        Err(fault) => return undecoded(fault),
+        Admission::Answered(answer) => return Ok(answer),
     }
 }
 
-/// Reads the three files.
+/// The verdicts of the program that the code spells, if it is accepted, that differ from those of the one in force.
+fn contrast(
+    alloc: Global,
+    in_force: Accepted,
+    code: &[u8],
+    exam: Exam<'_>,
+    reason: &mut Reason,
+) -> Result<Answer, ProgramFault>
+    ensures verdicts { IfOk result (IsOfAdmitted (nearest exam.entry.terms.states)
+        exam.entry.terms.hook (AreDifferences (replayed_by exam.entry) in_force)
+        code.now exam.entry.shapes.now) }
+    ensures memory { IfErr result (λ e. e ≡ ProgramFault.NoMemory) }
+{
+    let admission = admit_code(alloc, code, exam.shapes, exam.terms, reason)?;
+    match admission {
+        Admission::Admitted(tried) => {
+            let found = compare(alloc, in_force, tried, exam.replay, exam.json)?;
+            return Ok(Answer::Differences {
+                text: found.text,
+                differs: found.differs,
+            });
+        }
+        Admission::Answered(answer) => return Ok(answer),
+    }
+}
+
+/// The same, if the program in force is accepted, too.
+fn examine_against(
+    alloc: Global,
+    in_force: &[u8],
+    code: &[u8],
+    exam: Exam<'_>,
+    reason: &mut Reason,
+) -> Result<Answer, ProgramFault>
+    ensures verdicts { IfOk result (IsOfAdmitted (nearest exam.entry.terms.states)
+        exam.entry.terms.hook (λ v. IsOfAdmitted (nearest exam.entry.terms.states)
+        exam.entry.terms.hook (AreDifferences (replayed_by exam.entry) v)
+        code.now exam.entry.shapes.now) in_force.now exam.entry.shapes.now) }
+    ensures memory { IfErr result (λ e. e ≡ ProgramFault.NoMemory) }
+{
+    let admission = admit_code(alloc, in_force, exam.shapes, exam.terms, reason)?;
+    match admission {
+        Admission::Admitted(in_force) => return contrast(alloc, in_force, code, exam, reason),
+        Admission::Answered(answer) => {
+            reason.blames_code_in_force(alloc);
+            return Ok(answer);
+        }
+    }
+}
+
+/// The verdicts of the program that the code spells; or, with the code in force, those that differ.
+fn judge(
+    alloc: Global,
+    in_force: &Option<Vec<u8>>,
+    code: &[u8],
+    exam: Exam<'_>,
+    reason: &mut Reason,
+) -> Result<Answer, ProgramFault>
+    ensures verdicts { IfOk result (AreJudged (nearest exam.entry.terms.states)
+        (replayed_by exam.entry) (option_map (λ code. code.items) in_force.now)
+        code.now exam.entry.shapes.now) }
+    ensures memory { IfErr result (λ e. e ≡ ProgramFault.NoMemory) }
+{
+    match in_force {
+        Some(in_force) => return examine_against(alloc, in_force.as_slice(), code, exam, reason),
+        None => return examine(alloc, code, exam, reason),
+    }
+}
+
+/// Reads the code in a file, if one is named.
+fn code_if_any<F: Files>(
+    alloc: Global,
+    path: Option<&str>,
+    files: &mut F,
+) -> Result<Option<Vec<u8>>, ProgramFault>
+    ensures code { IfOk result (IsKept (F.held files.old) (text_of path.entry)) }
+    ensures fault { IfErr result
+        (IsMemoryOr (HasBadCodeInForce (F.held files.old) (text_of path.entry))) }
+    ensures same { F.held files.new ≡ F.held files.old }
+{
+    match path {
+        Some(path) => {
+            let code = code(alloc, path, files)?;
+            return Ok(Some(code));
+        }
+        None => return Ok(None),
+    }
+}
+
+/// Reads the files.
 fn gather<F: Files>(
     alloc: Global,
     config: &str,
@@ -146,21 +209,25 @@ fn gather<F: Files>(
     files: &mut F,
 ) -> Result<Material, ProgramFault>
     ensures material { IfOk result (IsMaterial (F.held files.old) config.now
-        evaluation.entry.subject.source.file.now evaluation.entry.capture.now) }
+        evaluation.entry.subject.source.file.now evaluation.entry.capture.now
+        (text_of evaluation.entry.against)) }
     ensures fault { IfErr result (IsMemoryOr (HasNoEvaluation (F.held files.old)
-        evaluation.entry.subject.source.file.now evaluation.entry.capture.now (Some config.now))) }
+        evaluation.entry.subject.source.file.now evaluation.entry.capture.now
+        (text_of evaluation.entry.against) (Some config.now))) }
 {
     let setting = configured(alloc, config, files)?;
     let code = code(alloc, evaluation.subject.source.file, files)?;
     let capture = read(alloc, evaluation.capture, FileKind::Capture, files)?;
+    let in_force = code_if_any(alloc, evaluation.against, files)?;
     Ok(Material {
         setting,
         code,
         capture,
+        in_force,
     })
 }
 
-/// The verdicts of the program in a file on the capture in another, at an access point of this configuration.
+/// The program in a file is judged on the capture in another, at an access point of this configuration.
 fn evaluated<F: Files>(
     alloc: Global,
     config: &str,
@@ -170,15 +237,17 @@ fn evaluated<F: Files>(
 ) -> Result<Answer, ProgramFault>
     ensures verdicts { IfOk result (IsEvaluatedWith (F.held files.old)
         (nearest evaluation.entry.subject.terms.states) evaluation.entry.subject.terms.hook
-        evaluation.entry.subject.source.file.now evaluation.entry.capture.now config.now
-        evaluation.entry.json) }
+        evaluation.entry.subject.source.file.now evaluation.entry.capture.now
+        (text_of evaluation.entry.against) evaluation.entry.json config.now) }
     ensures fault { IfErr result (IsMemoryOr (HasNoEvaluation (F.held files.old)
-        evaluation.entry.subject.source.file.now evaluation.entry.capture.now (Some config.now))) }
+        evaluation.entry.subject.source.file.now evaluation.entry.capture.now
+        (text_of evaluation.entry.against) (Some config.now))) }
 {
     let Material {
         setting,
         code,
         capture,
+        in_force,
     } = gather(alloc, config, evaluation, files)?;
     match read_capture(alloc, capture.as_slice()) {
         Ok(packets) => {
@@ -190,10 +259,11 @@ fn evaluated<F: Files>(
             };
             let exam = Exam {
                 terms: evaluation.subject.terms,
+                shapes: &shapes,
                 replay,
                 json: evaluation.json,
             };
-            return examine(alloc, code.as_slice(), shapes, exam, reason);
+            return judge(alloc, &in_force, code.as_slice(), exam, reason);
         }
         Err(fault) => return Err(of_capture(alloc, evaluation.capture, fault)),
     }

@@ -104,6 +104,9 @@ const CERTIFICATE: &[u8] = b"APC2";
 /// The message if code begins so.
 const EXCHANGED: &str = "apd: the code file begins like a certificate: are the two exchanged?\n";
 
+/// The message if the program in force isn't admitted.
+const OF_CODE_IN_FORCE: &str = "apd: this is said of the program after --against\n";
+
 /// Why code isn't a program with maps of these shapes: each slot that isn't an instruction, or else its first fault.
 fn faults_of(alloc: Global, code: &[u8], shapes: Shapes) -> Result<String, AllocError> {
     let mut text = raw_faults(alloc, code)?;
@@ -174,6 +177,11 @@ impl Reason {
         if code.starts_with(CERTIFICATE) {
             self.text = String::from_str(alloc, EXCHANGED).map(Some);
         }
+    }
+
+    /// Says that the answer is about the program in force.
+    pub(crate) fn blames_code_in_force(&mut self, alloc: Global) {
+        self.text = String::from_str(alloc, OF_CODE_IN_FORCE).map(Some);
     }
 
     /// Keeps the refused instruction of the code, as text.

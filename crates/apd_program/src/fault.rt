@@ -47,6 +47,7 @@ pub(crate) enum ProgramFault {
     LongFrame,
     Context(String),
     NoThreads,
+    NoForm,
     NoMemory,
 }
 
@@ -76,6 +77,7 @@ impl fmt::Display for ProgramFault {
             ProgramFault::LongFrame => f.write_str("apd: FRAME: more than 2400 bytes"),
             ProgramFault::Context(why) => write!(f, "apd: {why}"),
             ProgramFault::NoThreads => f.write_str("apd: a script is run by threads alone"),
+            ProgramFault::NoForm => f.write_str("apd: `--events` takes `text` or `json`"),
             ProgramFault::NoMemory => f.write_str("apd: out of memory"),
         }
     }

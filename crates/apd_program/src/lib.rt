@@ -4,6 +4,7 @@
 //! the words once; what they ask for determines the rest.
 #![tactic(auto)]
 
+mod admission;
 mod answer;
 mod certifying;
 mod drawing;
@@ -14,6 +15,7 @@ mod fault;
 mod framing;
 mod helping;
 mod hints;
+mod lines;
 mod output;
 mod printing;
 mod program;
@@ -23,5 +25,7 @@ mod texts;
 mod verifying;
 
 pub use answer::Answer;
+pub use apd_run::Streams;
 pub use entry::{Messages, perform};
+pub use lines::Standard;
 pub use program::apd_main;

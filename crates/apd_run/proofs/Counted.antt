@@ -5,7 +5,7 @@ use Rattle.ap_books.specs.Counts.{Counts, plus}
 use Rattle.ap_books.specs.Reading.{Reads}
 use Rattle.ap_books.specs.declared.totals.Totals.{Totals}
 use Rattle.ap_live.specs.Counting.{fate_counts, tally}
-use Rattle.ap_tagged.specs.declared.tagged.Tagged.{Tagged}
+use Rattle.ap_live.specs.declared.tagged.Tagged.{Tagged}
 use Rattle.apd_run.proofs.Served.{tally_two}
 use Rattle.apd_run.proofs.Sums.{plus_none}
 

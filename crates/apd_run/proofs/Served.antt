@@ -7,9 +7,9 @@ use Rattle.ap_live.specs.Counting.{counted_by, fate_counts, tally}
 use Rattle.ap_live.specs.Lives.{Live}
 use Rattle.ap_live.specs.Serving.{Served}
 use Rattle.ap_live.specs.Tokens.{Worker}
-use Rattle.ap_tagged.specs.declared.tagged.Fate.{Fate}
-use Rattle.ap_tagged.specs.declared.tagged.Fate.TheVariants.{Decided, Refused, NotHandled}
-use Rattle.ap_tagged.specs.declared.tagged.Tagged.{Tagged}
+use Rattle.ap_shards.specs.declared.fate.Fate.{Fate}
+use Rattle.ap_shards.specs.declared.fate.Fate.TheVariants.{Decided, Refused, NotHandled}
+use Rattle.ap_live.specs.declared.tagged.Tagged.{Tagged}
 use Rattle.apd_run.specs.Crews.{Collects, Crew, gains}
 use Rattle.apd_run.specs.Reports.{Handled, Memory, Report}
 use Rattle.apd_run.specs.Tallies.{Serves, report_counts, tallied, told_counts}
@@ -51,7 +51,7 @@ unfolding tally
 told_counted [] = refl
 told_counted (t ∷ ts) =
     tallied_two (reports_of t) (reports_in ts)
-    ∙ (ap (λ (c : Counts). plus c (tallied (reports_in ts))) (report_counted t.call t.shard t.fate) ∙ ap (λ (c : Counts). plus (fate_counts t.fate) c) (told_counted ts))
+    ∙ (ap (λ (c : Counts). plus c (tallied (reports_in ts))) (report_counted t.item.call t.item.shard t.fate) ∙ ap (λ (c : Counts). plus (fate_counts t.fate) c) (told_counted ts))
 
 -- a worker came back, and the reports on its list were appended
 pub collects_told : (crew crew2 : Crew) (list list2 : List Report) (tags : List Tagged) → list2 ≡ list ++ reports_in tags → crew2 ≡ gains crew (tally tags) → Collects crew crew2 list list2

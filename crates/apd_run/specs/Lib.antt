@@ -1,5 +1,6 @@
 pub mod Actions
 pub mod Intervals
+pub mod Ticks
 pub mod Crews
 pub mod Asking
 pub mod Shows

@@ -11,8 +11,10 @@ use Rattle.apd_text.specs.Order.{IsOrdered}
 use Rattle.apd_text.specs.declared.reports.report.Report.{Report}
 use Rattle.apd_text.specs.declared.reports.report.Told.{Told}
 use Rattle.apd_text.specs.declared.reports.report.Told.TheVariants.{Memory, Fault, Refused, Certificate, Unreadable, Malformed}
+use Rattle.apd_text.specs.declared.reports.report.Form.{Form}
 use Rattle.apd_run.specs.Asking.{TellsAnswer, BreaksAnswer}
 use Rattle.apd_run.specs.Tallies.{tallied}
+use Rattle.apd_run.specs.declared.manner.Manner.{Manner}
 
 -- the report says `memory`
 abbrev pub is_memory : Told → Bool
@@ -53,52 +55,52 @@ abbrev pub is_over : Bool → Bool → Bool
 is_over strict refused = strict && refused
 
 -- the reports are printed in order; the flags say whether a line says `memory`, and whether one is at fault
-pub record Prints (strict : Bool) (old new : Option (List ℕ)) (handed : List Report) (memory refused : Bool) : Type 0 where
+pub record Prints (manner : Manner) (old new : Option (List ℕ)) (handed : List Report) (memory refused : Bool) : Type 0 where
   pub printed : List Report
   pub ordered : IsOrdered handed printed
-  pub text : Appends old new (reports_text printed)
+  pub text : Appends old new (reports_text manner.form printed)
   pub memory_is : memory ≡ any_memory printed
-  pub refused_is : refused ≡ any_fault strict printed
+  pub refused_is : refused ≡ any_fault manner.strict printed
 
 -- printing an interval breaks off: before it begins, or within the reports
-pub data BreaksOff (old new : Option (List ℕ)) : Type 0 where
-  Before : new ≡ old → BreaksOff old new
-  Within : (handed printed : List Report) → IsOrdered handed printed → AppendsBeginning old new (reports_text printed) → BreaksOff old new
+pub data BreaksOff (form : Form) (old new : Option (List ℕ)) : Type 0 where
+  Before : new ≡ old → BreaksOff form old new
+  Within : (handed printed : List Report) → IsOrdered handed printed → AppendsBeginning old new (reports_text form printed) → BreaksOff form old new
 
 -- one interval: the reports are printed, and are what was counted
-pub record ShowsOne (strict : Bool) (old new : Option (List ℕ)) (counted counted2 : Counts) (memory refused : Bool) : Type 0 where
+pub record ShowsOne (manner : Manner) (old new : Option (List ℕ)) (counted counted2 : Counts) (memory refused : Bool) : Type 0 where
   pub handed : List Report
-  pub prints : Prints strict old new handed memory refused
+  pub prints : Prints manner old new handed memory refused
   pub counts : counted2 ≡ plus counted (tallied handed)
 
 -- one interval and then the answer to a question, if there is one, by what was counted until then
-pub record ShowsBatch (strict : Bool) (old new : Option (List ℕ)) (counted counted2 : Counts) (memory refused : Bool) : Type 0 where
+pub record ShowsBatch (manner : Manner) (old new : Option (List ℕ)) (counted counted2 : Counts) (memory refused : Bool) : Type 0 where
   pub mid : Option (List ℕ)
-  pub shows : ShowsOne strict old mid counted counted2 memory refused
+  pub shows : ShowsOne manner old mid counted counted2 memory refused
   pub tells : TellsAnswer counted2 mid new
 
 -- it breaks off: in its interval, or in its answer
-pub data BreaksBatch (strict : Bool) (old new : Option (List ℕ)) (counted : Counts) : Type 0 where
-  InReports : BreaksOff old new → BreaksBatch strict old new counted
-  InAnswer : (mid : Option (List ℕ)) (counted2 : Counts) (memory refused : Bool) → ShowsOne strict old mid counted counted2 memory refused
-      → BreaksAnswer counted2 mid new → BreaksBatch strict old new counted
+pub data BreaksBatch (manner : Manner) (old new : Option (List ℕ)) (counted : Counts) : Type 0 where
+  InReports : BreaksOff manner.form old new → BreaksBatch manner old new counted
+  InAnswer : (mid : Option (List ℕ)) (counted2 : Counts) (memory refused : Bool) → ShowsOne manner old mid counted counted2 memory refused
+      → BreaksAnswer counted2 mid new → BreaksBatch manner old new counted
 
 -- consecutive intervals, each with the answer that follows it; in a strict run, no interval follows a line at fault
-pub data Shows (strict : Bool) (old : Option (List ℕ)) (counted : Counts) : Option (List ℕ) → Counts → Bool → Bool → Type 0 where
-  Nothing : Shows strict old counted old counted false false
-  Then : (mid new : Option (List ℕ)) (before after : Counts) (memory more refused again : Bool) → Shows strict old counted mid before memory refused
-      → is_over strict refused ≡ false → ShowsOne strict mid new before after more again → Shows strict old counted new after (memory || more) (refused || again)
-  ThenAnswers : (mid new : Option (List ℕ)) (before : Counts) (memory refused : Bool) → Shows strict old counted mid before memory refused
-      → TellsAnswer before mid new → Shows strict old counted new before memory refused
-  ThenFlushes : (mid new : Option (List ℕ)) (before : Counts) (memory refused : Bool) → Shows strict old counted mid before memory refused
-      → Keeps mid new → Shows strict old counted new before memory refused
+pub data Shows (manner : Manner) (old : Option (List ℕ)) (counted : Counts) : Option (List ℕ) → Counts → Bool → Bool → Type 0 where
+  Nothing : Shows manner old counted old counted false false
+  Then : (mid new : Option (List ℕ)) (before after : Counts) (memory more refused again : Bool) → Shows manner old counted mid before memory refused
+      → is_over manner.strict refused ≡ false → ShowsOne manner mid new before after more again → Shows manner old counted new after (memory || more) (refused || again)
+  ThenAnswers : (mid new : Option (List ℕ)) (before : Counts) (memory refused : Bool) → Shows manner old counted mid before memory refused
+      → TellsAnswer before mid new → Shows manner old counted new before memory refused
+  ThenFlushes : (mid new : Option (List ℕ)) (before : Counts) (memory refused : Bool) → Shows manner old counted mid before memory refused
+      → Keeps mid new → Shows manner old counted new before memory refused
 
 -- consecutive intervals, the last of which, or its answer, breaks off
-pub data Breaks (strict : Bool) (old new : Option (List ℕ)) (counted : Counts) : Type 0 where
-  InInterval : (mid : Option (List ℕ)) (before : Counts) (memory refused : Bool) → Shows strict old counted mid before memory refused
-      → is_over strict refused ≡ false → BreaksOff mid new → Breaks strict old new counted
-  BehindInterval : (mid : Option (List ℕ)) (before : Counts) (memory refused : Bool) → Shows strict old counted mid before memory refused
-      → BreaksAnswer before mid new → Breaks strict old new counted
+pub data Breaks (manner : Manner) (old new : Option (List ℕ)) (counted : Counts) : Type 0 where
+  InInterval : (mid : Option (List ℕ)) (before : Counts) (memory refused : Bool) → Shows manner old counted mid before memory refused
+      → is_over manner.strict refused ≡ false → BreaksOff manner.form mid new → Breaks manner old new counted
+  BehindInterval : (mid : Option (List ℕ)) (before : Counts) (memory refused : Bool) → Shows manner old counted mid before memory refused
+      → BreaksAnswer before mid new → Breaks manner old new counted
 
 -- 3 if a line says `memory`; otherwise 1 if a line is at fault; otherwise 0
 abbrev pub status_of : Bool → Bool → ℕ
@@ -115,7 +117,7 @@ pub data Finishes (old new : Option (List ℕ)) (counted : Counts) (own : ℕ) :
       → Finishes old new counted own status
 
 -- a whole run and its status: its intervals and then the last line, or it breaks off in its intervals
-pub data Runs (strict : Bool) (old new : Option (List ℕ)) (counted : Counts) : ℕ → Type 0 where
-  Ends : (mid : Option (List ℕ)) (all : Counts) (memory refused : Bool) (status : ℕ) → Shows strict old counted mid all memory refused
-      → Finishes mid new all (status_of memory refused) status → Runs strict old new counted status
-  Fails : (status : ℕ) → Breaks strict old new counted → IsBroken status → Runs strict old new counted status
+pub data Runs (manner : Manner) (old new : Option (List ℕ)) (counted : Counts) : ℕ → Type 0 where
+  Ends : (mid : Option (List ℕ)) (all : Counts) (memory refused : Bool) (status : ℕ) → Shows manner old counted mid all memory refused
+      → Finishes mid new all (status_of memory refused) status → Runs manner old new counted status
+  Fails : (status : ℕ) → Breaks manner old new counted → IsBroken status → Runs manner old new counted status

@@ -2,7 +2,7 @@
 use Rattle.std.specs.Prelude.{◌≡◌, List, ◌++◌, sum_by}
 use Rattle.ap_books.specs.Counts.{Counts, none, plus, counts_of}
 use Rattle.ap_live.specs.Counting.{tally}
-use Rattle.ap_tagged.specs.declared.tagged.Tagged.{Tagged}
+use Rattle.ap_live.specs.declared.tagged.Tagged.{Tagged}
 use Rattle.apd_text.specs.declared.reports.report.Report.{Report}
 use Rattle.apd_text.specs.declared.reports.report.Told.{Told}
 use Rattle.apd_text.specs.declared.reports.report.Told.TheVariants.{Handled}

@@ -1,8 +1,8 @@
 -- Reports on the events that a worker served.
 use Rattle.std.specs.Prelude.{ℕ, List, [], ◌∷◌, ◌++◌, Option, Some, None}
-use Rattle.ap_tagged.specs.declared.tagged.Fate.{Fate}
-use Rattle.ap_tagged.specs.declared.tagged.Fate.TheVariants.{Decided, Refused, NotHandled}
-use Rattle.ap_tagged.specs.declared.tagged.Tagged.{Tagged}
+use Rattle.ap_shards.specs.declared.fate.Fate.{Fate}
+use Rattle.ap_shards.specs.declared.fate.Fate.TheVariants.{Decided, Refused, NotHandled}
+use Rattle.ap_live.specs.declared.tagged.Tagged.{Tagged}
 use Rattle.apd_run.specs.Reports.{Report, Told, Handled, Memory}
 
 -- no report on an event that was not handled
@@ -18,7 +18,7 @@ report_if line shard (Some told) = record { line = line; shard = shard; told = t
 
 -- the report on an event, whose call is its line's number
 abbrev pub reports_of : Tagged → List Report
-reports_of t = report_if t.call t.shard (told_of t.fate)
+reports_of t = report_if t.item.call t.item.shard (told_of t.fate)
 
 -- the reports on all of these, in order
 abbrev pub reports_in : List Tagged → List Report

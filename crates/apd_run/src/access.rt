@@ -14,9 +14,8 @@ mod running;
 mod worker;
 
 pub use crate::loads::StateLimit;
-pub use ap_live::Settings;
+pub use ap_live::{Gate, OpenGate, Settings};
 pub use ap_shards::NewShards;
-pub use ap_tagged::{Gate, OpenGate};
 pub use naming::Publications;
 pub use operator::LiveOperator;
 pub(crate) use running::run_live;

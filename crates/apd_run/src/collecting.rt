@@ -8,7 +8,7 @@ ghost use Rattle.apd_run.specs.Telling.{told_of, reports_of, reports_in};
 use crate::crew::{Desk, Done, Order, Ready, Serving};
 use crate::operating::Operating;
 use crate::setting::{Setting, Staff};
-use ap_tagged::{Fate, Tagged};
+use ap_live::{Fate, Tagged};
 use apd_text::{Report, Told};
 use std::alloc::AllocError;
 use std::sync::Wait;
@@ -58,16 +58,17 @@ fn told_of(fate: Fate) -> Option<Told>
     }
 }
 
-/// Appends the report on an event, whose call is its line's number.
+/// Appends the report on an event, whose call is its line's number. The event, which the operator's thread allocated,
+/// is freed here.
 fn report(all: &mut Vec<Report>, tagged: Tagged) -> Result<(), AllocError>
     ensures { OnOk result (all.new.items ≡ all.old.items ++ reports_of tagged) }
 {
-    let Tagged { call, shard, fate } = tagged;
+    let Tagged { item, fate } = tagged;
     match told_of(fate) {
         Some(told) => {
             all.push(Report {
-                line: call,
-                shard,
+                line: item.call,
+                shard: item.shard,
                 told,
             })?;
             return Ok(());

@@ -6,8 +6,8 @@ ghost use Rattle.ap_books.specs.Reading.{Reads};
 ghost use Rattle.ap_live.specs.Counting.{fate_counts, tally};
 
 use ap_books::Totals;
+use ap_live::{Fate, Tagged};
 use ap_model::Out;
-use ap_tagged::{Fate, Tagged};
 
 fn sent_in(outs: &[Out]) -> usize
     ensures is { result ≡ count_by is_send outs.now }

@@ -5,14 +5,12 @@
 //! by its desk: no worker is lost, and none is out twice. No contract says that a worker runs, or comes back.
 mod desk;
 mod hand;
-mod post;
 mod serving;
 mod starting;
 mod working;
 
 pub use desk::{Desk, Order, Signs};
 pub use hand::{Done, Ready};
-pub use post::Post;
 pub use serving::Serving;
 pub use starting::{Task, start_all};
 pub use working::work;

@@ -3,7 +3,8 @@
 ghost use Rattle.std.specs.Prelude.{◌≡◌, [], true, length, vec_len, IfOk, OnOk, OnErr};
 ghost use Rattle.std.specs.Io.KnownBytes.{Keeps};
 ghost use Rattle.apd_script.specs.Batches.{after_wait};
-ghost use Rattle.apd_run.specs.Shows.{BreaksBatch, ShowsBatch};
+ghost use Rattle.apd_run.specs.Shows.{Breaks, BreaksBatch, Shows, ShowsBatch};
+ghost use Rattle.apd_run.specs.Ticks.{with_tick};
 
 use crate::asking::tell;
 use crate::console::Console;
@@ -13,12 +14,12 @@ use crate::interval::{Given, whole_interval};
 use crate::lines::Lines;
 use crate::operating::Operating;
 use crate::setting::{Setting, Staff};
-use apd_files::{FileFault, block_of};
-use apd_script::{Batch, MOST_BYTES, begins_with_quit, read_batch};
+use apd_files::FileFault;
+use apd_script::{Batch, Command, MOST_BYTES, Numbered, begins_with_quit, read_batch};
+use apd_source::{Arrival, Source};
 use apd_text::PrintFault;
 use bpf_regions::Shapes;
 use std::alloc::{AllocError, Global};
-use std::io::Read;
 use std::sync::Wait;
 
 /// The greatest number with which a batch begins.
@@ -27,8 +28,8 @@ const MOST_NUMBER: u64 = 1 << 63;
 /// An input whose lines are done as they come: what was read of it and isn't done, from an index on, and the number of
 /// the next line. At most 8193 bytes of an unfinished line are kept. A last line without its end gets one.
 #[derive(Drop)]
-pub(crate) struct Input<I: Drop> {
-    reader: I,
+pub(crate) struct Input<S: Drop> {
+    source: S,
     shapes: Shapes,
     text: Vec<u8>,
     done: usize,
@@ -55,11 +56,31 @@ fn continued(alloc: Global, line: &[u8], block: &[u8]) -> Result<Vec<u8>, AllocE
     Ok(text)
 }
 
-impl<I: Read + Drop> Input<I> {
+/// Commands after a tick of these units, which has the number 0; unchanged if they are none.
+fn with_tick<'a>(commands: Vec<Numbered<'a>>, units: u32) -> Result<Vec<Numbered<'a>>, AllocError>
+    ensures is { IfOk result (λ ticked. ticked.items ≡ with_tick units commands.entry.items) }
+    ensures whole { IfOk result (λ ticked. after_wait ticked.items
+        ≡ after_wait commands.entry.items) }
+{
+    let mut commands = commands;
+    if units == 0 {
+        return Ok(commands);
+    }
+    let tick = Numbered {
+        line: 0,
+        command: Command::Tick(units),
+    };
+    match commands.insert(0, tick) {
+        Ok(()) => return Ok(commands),
+        Err(_) => return Err(AllocError),
+    }
+}
+
+impl<S: Source + Drop> Input<S> {
     /// An input of which nothing was read. `shapes` are the shapes of the configured maps.
-    pub(crate) fn new(alloc: Global, reader: I, shapes: Shapes) -> Input<I> {
+    pub(crate) fn new(alloc: Global, source: S, shapes: Shapes) -> Input<S> {
         Input {
-            reader,
+            source,
             shapes,
             text: Vec::new(alloc),
             done: 0,
@@ -79,7 +100,8 @@ impl<I: Read + Drop> Input<I> {
         rest.get(..MOST_BYTES + 1).unwrap_or(rest)
     }
 
-    /// Flushes the console and reads, until a whole line is there; false at the end of the input.
+    /// Flushes the console and reads, until a whole line is there or nothing comes for a while; false at the end of the
+    /// input.
     fn advance<P: Console>(&mut self, alloc: Global, console: &mut P) -> Result<bool, PrintFault>
         ensures keeps { Keeps (P.contents console.old) (P.contents console.new) }
     {
@@ -90,21 +112,25 @@ impl<I: Read + Drop> Input<I> {
             if self.has_ended {
                 return Ok(false);
             }
-            match console.flush_all() {
+            let came = match console.flush_all() {
                 Ok(()) => self.fill(alloc, console)?,
                 Err(_) => return Err(PrintFault::Unwritten),
+            };
+            if !came {
+                return Ok(true);
             }
         }
         Ok(false)
     }
 
     /// Reads the next bytes, behind the beginning of a line, while nothing that was written waits to be flushed. At the end
-    /// of the input, it ends that line.
-    fn fill<P: Console>(&mut self, alloc: Global, console: &P) -> Result<(), PrintFault>
+    /// of the input, it ends that line. False if nothing comes for a while.
+    fn fill<P: Console>(&mut self, alloc: Global, console: &P) -> Result<bool, PrintFault>
         requires flushed { P.is_flushed console.now ≡ true }
     {
-        let block = match block_of(alloc, &mut self.reader) {
-            Ok(block) => block,
+        let block = match self.source.next(alloc) {
+            Ok(Arrival::Bytes(block)) => block,
+            Ok(Arrival::Nothing) => return Ok(false),
             Err(FileFault::NoMemory) => return Err(PrintFault::NoMemory),
             Err(_) => return Err(PrintFault::Unread),
         };
@@ -112,7 +138,33 @@ impl<I: Read + Drop> Input<I> {
         self.text = text;
         self.done = 0;
         self.has_ended = block.is_empty();
-        Ok(())
+        Ok(true)
+    }
+
+    /// The whole lines that are there, up to a `wait` or a `quit`, after a tick of these units.
+    fn batch(&self, alloc: Global, units: u32) -> Result<Batch<'_>, AllocError>
+        ensures whole { IfOk result (λ batch. after_wait batch.commands.items ≡ []) }
+    {
+        let first = self.number.min(MOST_NUMBER);
+        let Batch {
+            commands,
+            malformed,
+            question,
+            lines,
+            rest,
+        } = read_batch(alloc, self.rest(), &self.shapes, first)?;
+        match with_tick(commands, units) {
+            Ok(commands) => {
+                return Ok(Batch {
+                    commands,
+                    malformed,
+                    question,
+                    lines,
+                    rest,
+                });
+            }
+            Err(error) => return Err(error),
+        }
     }
 
     /// Goes on behind a batch; to the end if a line `quit` follows.
@@ -139,11 +191,11 @@ fn do_batch<W: Serving + Drop, O: Operating<W> + Drop, R: Wait, P: Console>(
     ensures home { OnOk result (vec_len staff.new.workers ≡ length setting.now.desks.now) }
     ensures workers { OnOk result
         ((O.crew staff.new.operator).workers ≡ (O.crew staff.old.operator).workers) }
-    ensures shows { IfOk result (λ found. ShowsBatch setting.now.strict
+    ensures shows { IfOk result (λ found. ShowsBatch setting.now.manner
         (P.contents writer.old) (P.contents writer.new)
         (O.crew staff.old.operator).counted (O.crew staff.new.operator).counted
         found.memory found.refused) }
-    ensures breaks { OnErr result (BreaksBatch setting.now.strict
+    ensures breaks { OnErr result (BreaksBatch setting.now.manner
         (P.contents writer.old) (P.contents writer.new) (O.crew staff.old.operator).counted) }
 {
     let given = Given {
@@ -167,10 +219,11 @@ struct Passed {
     step: Step,
 }
 
-impl<I: Read + Drop> Input<I> {
-    /// Does the whole lines that are there, up to a `wait` or a `quit`, in the interval with this number.
+impl<S: Source + Drop> Input<S> {
+    /// Does a tick of the units that have passed, if they are any, and the whole lines that are there, up to a `wait` or a
+    /// `quit`, in the interval with this number.
     fn do_lines<W: Serving + Drop, O: Operating<W> + Drop, R: Wait, P: Console>(
-        &self,
+        &mut self,
         setting: &Setting<'_, W, R>,
         staff: &mut Staff<W, O>,
         number: u64,
@@ -180,15 +233,15 @@ impl<I: Read + Drop> Input<I> {
         ensures home { OnOk result (vec_len staff.new.workers ≡ length setting.now.desks.now) }
         ensures workers { OnOk result
             ((O.crew staff.new.operator).workers ≡ (O.crew staff.old.operator).workers) }
-        ensures shows { IfOk result (λ passed. ShowsBatch setting.now.strict
+        ensures shows { IfOk result (λ passed. ShowsBatch setting.now.manner
             (P.contents writer.old) (P.contents writer.new)
             (O.crew staff.old.operator).counted (O.crew staff.new.operator).counted
             passed.found.memory passed.found.refused) }
-        ensures breaks { OnErr result (BreaksBatch setting.now.strict
+        ensures breaks { OnErr result (BreaksBatch setting.now.manner
             (P.contents writer.old) (P.contents writer.new) (O.crew staff.old.operator).counted) }
     {
-        let first = self.number.min(MOST_NUMBER);
-        let batch = read_batch(setting.alloc, self.rest(), &self.shapes, first)?;
+        let units = self.source.passed();
+        let batch = self.batch(setting.alloc, units)?;
         let step = Step {
             lines: batch.lines,
             left: batch.rest.len(),
@@ -201,7 +254,49 @@ impl<I: Read + Drop> Input<I> {
     }
 }
 
-impl<I: Read + Drop> Lines for Input<I> {
+impl<S: Source + Drop> Input<S> {
+    /// Does all lines, or those up to a line at fault if the run is strict, and returns what the printed lines say.
+    fn do_all<W: Serving + Drop, O: Operating<W> + Drop, R: Wait, P: Console>(
+        &mut self,
+        setting: &Setting<'_, W, R>,
+        staff: &mut Staff<W, O>,
+        writer: &mut P,
+    ) -> Result<Found, PrintFault>
+        requires home { vec_len staff.old.workers ≡ length setting.now.desks.now }
+        ensures home { OnOk result (vec_len staff.new.workers ≡ length setting.now.desks.now) }
+        ensures workers { OnOk result
+            ((O.crew staff.new.operator).workers ≡ (O.crew staff.old.operator).workers) }
+        ensures shows { IfOk result (λ found. Shows setting.now.manner
+            (P.contents writer.old) (O.crew staff.old.operator).counted
+            (P.contents writer.new) (O.crew staff.new.operator).counted
+            found.memory found.refused) }
+        ensures breaks { OnErr result (Breaks setting.now.manner
+            (P.contents writer.old) (P.contents writer.new) (O.crew staff.old.operator).counted) }
+    {
+        let mut found = Found::nothing();
+        let mut number = 1u64;
+        'intervals: while number < u64::MAX {
+            if is_over(setting.manner.strict, found.refused) {
+                return Ok(found);
+            }
+            match self.advance(setting.alloc, writer) {
+                Ok(true) => {}
+                Ok(false) => return Ok(found),
+                Err(fault) => return Err(fault),
+            }
+            let passed = match self.do_lines(setting, staff, number, writer) {
+                Ok(passed) => passed,
+                Err(fault) => return Err(fault),
+            };
+            self.pass(passed.step);
+            found = found.and(passed.found);
+            number += 1;
+        }
+        Ok(found)
+    }
+}
+
+impl<S: Source + Drop> Lines for Input<S> {
     fn run<W: Serving + Drop, O: Operating<W> + Drop, R: Wait, P: Console>(
         self,
         setting: &Setting<'_, W, R>,
@@ -209,25 +304,9 @@ impl<I: Read + Drop> Lines for Input<I> {
         writer: &mut P,
     ) -> Result<Found, PrintFault> {
         let mut input = self;
-        let mut found = Found::nothing();
-        let mut number = 1u64;
-        'intervals: while number < u64::MAX {
-            if is_over(setting.strict, found.refused) {
-                return Ok(found);
-            }
-            match input.advance(setting.alloc, writer) {
-                Ok(true) => {}
-                Ok(false) => return Ok(found),
-                Err(fault) => return Err(fault),
-            }
-            let passed = match input.do_lines(setting, staff, number, writer) {
-                Ok(passed) => passed,
-                Err(fault) => return Err(fault),
-            };
-            input.pass(passed.step);
-            found = found.and(passed.found);
-            number += 1;
-        }
-        Ok(found)
+        let found = input.do_all(setting, staff, writer);
+        let Input { source, .. } = input;
+        source.end();
+        found
     }
 }

@@ -10,6 +10,7 @@ use crate::console::Console;
 use crate::crew::Serving;
 use crate::feeding::{feed, tell_malformed};
 use crate::found::{Found, any_fault, is_over};
+use crate::manner::Manner;
 use crate::operating::Operating;
 use crate::setting::{Setting, Staff};
 use apd_script::{MalformedLine, Numbered};
@@ -58,20 +59,21 @@ fn any_memory(reports: &[Report]) -> bool
 /// Prints reports in order, and returns what their lines say.
 fn print_interval<P: Write>(
     alloc: Global,
-    strict: bool,
+    manner: Manner,
     handed: Vec<Report>,
     writer: &mut P,
 ) -> Result<Found, PrintFault>
-    ensures prints { IfOk result (λ found. Prints strict (P.contents writer.old)
+    ensures prints { IfOk result (λ found. Prints manner (P.contents writer.old)
         (P.contents writer.new) handed.items found.memory found.refused) }
-    ensures breaks { OnErr result (BreaksOff (P.contents writer.old) (P.contents writer.new)) }
+    ensures breaks { OnErr result (BreaksOff manner.form
+        (P.contents writer.old) (P.contents writer.new)) }
 {
     let mut reports = handed;
     put_in_order(&mut reports)?;
-    match print_reports(alloc, writer, reports.as_slice()) {
+    match print_reports(alloc, writer, manner.form, reports.as_slice()) {
         Ok(()) => {
             let memory = any_memory(reports.as_slice());
-            let refused = any_fault(strict, reports.as_slice());
+            let refused = any_fault(manner.strict, reports.as_slice());
             return Ok(Found { memory, refused });
         }
         Err(fault) => return Err(fault),
@@ -96,11 +98,12 @@ fn interval<W: Serving + Drop, O: Operating<W> + Drop, R: Wait, P: Console>(
     ensures rest { IfOk result (λ passed.
         drop passed.next given.entry.commands.now
         ≡ after_wait (drop from.line given.entry.commands.now)) }
-    ensures shows { IfOk result (λ passed. ShowsOne setting.now.strict
+    ensures shows { IfOk result (λ passed. ShowsOne setting.now.manner
         (P.contents writer.old) (P.contents writer.new)
         (O.crew staff.old.operator).counted (O.crew staff.new.operator).counted
         passed.found.memory passed.found.refused) }
-    ensures breaks { OnErr result (BreaksOff (P.contents writer.old) (P.contents writer.new)) }
+    ensures breaks { OnErr result (BreaksOff setting.now.manner.form
+        (P.contents writer.old) (P.contents writer.new)) }
 {
     send_out(setting, &mut staff.workers, from.interval);
     let mut told = Vec::new(setting.alloc);
@@ -112,25 +115,26 @@ fn interval<W: Serving + Drop, O: Operating<W> + Drop, R: Wait, P: Console>(
     writer.tell(followed, told.as_slice());
     tell_malformed(setting.alloc, given.malformed, &mut told)?;
     collect(setting, staff, &mut told)?;
-    let found = print_interval(setting.alloc, setting.strict, told, writer)?;
+    let found = print_interval(setting.alloc, setting.manner, told, writer)?;
     Ok(Passed { next, found })
 }
 
 /// Answers malformed lines without commands, for which no worker goes out.
 fn answer<P: Write>(
     alloc: Global,
-    strict: bool,
+    manner: Manner,
     malformed: &[MalformedLine<'_>],
     writer: &mut P,
 ) -> Result<Found, PrintFault>
-    ensures shows { (counted : Counts) → IfOk result (λ found. ShowsOne strict
+    ensures shows { (counted : Counts) → IfOk result (λ found. ShowsOne manner
         (P.contents writer.old) (P.contents writer.new)
         counted counted found.memory found.refused) }
-    ensures breaks { OnErr result (BreaksOff (P.contents writer.old) (P.contents writer.new)) }
+    ensures breaks { OnErr result (BreaksOff manner.form
+        (P.contents writer.old) (P.contents writer.new)) }
 {
     let mut told = Vec::new(alloc);
     tell_malformed(alloc, malformed, &mut told)?;
-    match print_interval(alloc, strict, told, writer) {
+    match print_interval(alloc, manner, told, writer) {
         Ok(found) => return Ok(found),
         Err(fault) => return Err(fault),
     }
@@ -149,14 +153,15 @@ pub(crate) fn whole_interval<W: Serving + Drop, O: Operating<W> + Drop, R: Wait,
     ensures home { OnOk result (vec_len staff.new.workers ≡ length setting.now.desks.now) }
     ensures workers { OnOk result
         ((O.crew staff.new.operator).workers ≡ (O.crew staff.old.operator).workers) }
-    ensures shows { IfOk result (λ found. ShowsOne setting.now.strict
+    ensures shows { IfOk result (λ found. ShowsOne setting.now.manner
         (P.contents writer.old) (P.contents writer.new)
         (O.crew staff.old.operator).counted (O.crew staff.new.operator).counted
         found.memory found.refused) }
-    ensures breaks { OnErr result (BreaksOff (P.contents writer.old) (P.contents writer.new)) }
+    ensures breaks { OnErr result (BreaksOff setting.now.manner.form
+        (P.contents writer.old) (P.contents writer.new)) }
 {
     if given.commands.is_empty() {
-        return answer(setting.alloc, setting.strict, given.malformed, writer);
+        return answer(setting.alloc, setting.manner, given.malformed, writer);
     }
     let from = Place {
         line: 0,
@@ -180,17 +185,17 @@ pub(crate) fn intervals<W: Serving + Drop, O: Operating<W> + Drop, R: Wait, P: C
     ensures home { OnOk result (vec_len staff.new.workers ≡ length setting.now.desks.now) }
     ensures workers { OnOk result
         ((O.crew staff.new.operator).workers ≡ (O.crew staff.old.operator).workers) }
-    ensures shows { IfOk result (λ found. Shows setting.now.strict
+    ensures shows { IfOk result (λ found. Shows setting.now.manner
         (P.contents writer.old) (O.crew staff.old.operator).counted
         (P.contents writer.new) (O.crew staff.new.operator).counted found.memory found.refused) }
-    ensures breaks { OnErr result (Breaks setting.now.strict
+    ensures breaks { OnErr result (Breaks setting.now.manner
         (P.contents writer.old) (P.contents writer.new) (O.crew staff.old.operator).counted) }
 {
     let mut line = 0;
     let mut found = Found::nothing();
     let mut interval_number = 1u64;
     'intervals: while line < commands.len() {
-        if is_over(setting.strict, found.refused) {
+        if is_over(setting.manner.strict, found.refused) {
             return Ok(found);
         }
         let from = Place {

@@ -19,6 +19,7 @@ mod input;
 mod interval;
 mod lines;
 mod loads;
+mod manner;
 mod operating;
 mod progress;
 mod runner;
@@ -28,8 +29,9 @@ mod setting;
 
 pub use crate::crew::{Ready, Serving};
 pub use actions::{Publication, WordUse};
-pub use apd_text::{Report, Told, Unread};
+pub use apd_text::{Form, Report, Told, Unread};
 pub use console::Console;
+pub use manner::Manner;
 pub use operating::{Operating, Waiting};
 pub use progress::{Progress, Watcher};
 pub use runner::{Gate, OpenGate, RunWords, StateLimit, Streams, Supplies, live, run};

@@ -27,11 +27,11 @@ pub(crate) trait Lines {
         ensures home { OnOk result (vec_len staff.new.workers ≡ length setting.now.desks.now) }
         ensures workers { OnOk result
             ((O.crew staff.new.operator).workers ≡ (O.crew staff.old.operator).workers) }
-        ensures shows { IfOk result (λ found. Shows setting.now.strict
+        ensures shows { IfOk result (λ found. Shows setting.now.manner
             (P.contents writer.old) (O.crew staff.old.operator).counted
             (P.contents writer.new) (O.crew staff.new.operator).counted
             found.memory found.refused) }
-        ensures breaks { OnErr result (Breaks setting.now.strict
+        ensures breaks { OnErr result (Breaks setting.now.manner
             (P.contents writer.old) (P.contents writer.new) (O.crew staff.old.operator).counted) };
 }
 

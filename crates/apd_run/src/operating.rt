@@ -10,8 +10,8 @@ ghost use Rattle.apd_run.specs.Crews.{Crew, gains, with_one_more};
 
 use crate::actions::{Publication, WordUse};
 use ap_books::Totals;
+use ap_live::Tagged;
 use ap_model::Event;
-use ap_tagged::Tagged;
 use apd_text::{AgreementRow, ProgramRow, StationRow, Told};
 use std::alloc::{AllocError, Global};
 use std::sync::Wait;

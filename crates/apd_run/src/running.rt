@@ -59,11 +59,11 @@ fn beside<W: Serving + Drop, O: Operating<W> + Drop, R: Wait, L: Lines + Drop, P
         ≡ length setting.now.desks.now) }
     ensures workers { OnOk result.found
         ((O.crew result.staff.operator).workers ≡ (O.crew staff.operator).workers) }
-    ensures shows { IfOk result.found (λ found. Shows setting.now.strict
+    ensures shows { IfOk result.found (λ found. Shows setting.now.manner
         (P.contents writer) (O.crew staff.operator).counted
         (P.contents result.writer) (O.crew result.staff.operator).counted
         found.memory found.refused) }
-    ensures breaks { OnErr result.found (Breaks setting.now.strict
+    ensures breaks { OnErr result.found (Breaks setting.now.manner
         (P.contents writer) (P.contents result.writer) (O.crew staff.operator).counted) }
 {
     let mut staff = staff;
@@ -95,11 +95,11 @@ pub(crate) fn run_threads<
         ≡ length setting.now.desks.now) }
     ensures workers { OnOk result.found
         ((O.crew result.staff.operator).workers ≡ (O.crew staff.operator).workers) }
-    ensures shows { IfOk result.found (λ found. Shows setting.now.strict
+    ensures shows { IfOk result.found (λ found. Shows setting.now.manner
         (P.contents writer) (O.crew staff.operator).counted
         (P.contents result.writer) (O.crew result.staff.operator).counted
         found.memory found.refused) }
-    ensures breaks { OnErr result.found (Breaks setting.now.strict
+    ensures breaks { OnErr result.found (Breaks setting.now.manner
         (P.contents writer) (P.contents result.writer) (O.crew staff.operator).counted) }
 {
     let rt = setting.rt;

@@ -104,11 +104,11 @@ where
     ensures home { OnOk result.found (vec_len result.staff.workers ≡ vec_len staff.workers) }
     ensures workers { OnOk result.found
         ((O.crew result.staff.operator).workers ≡ (O.crew staff.operator).workers) }
-    ensures shows { IfOk result.found (λ found. Shows (P.strict writer)
+    ensures shows { IfOk result.found (λ found. Shows (P.manner writer)
         (P.contents writer) (O.crew staff.operator).counted
         (P.contents result.writer) (O.crew result.staff.operator).counted
         found.memory found.refused) }
-    ensures breaks { OnErr result.found (Breaks (P.strict writer)
+    ensures breaks { OnErr result.found (Breaks (P.manner writer)
         (P.contents writer) (P.contents result.writer) (O.crew staff.operator).counted) }
 {
     let Ok(desks) = new_desks(alloc, staff.workers.len()) else {
@@ -124,7 +124,7 @@ where
         alloc,
         desks: desks.as_slice(),
         signs: &signs,
-        strict: writer.is_strict(),
+        manner: writer.how(),
     };
     let task = Work {
         alloc,
@@ -151,7 +151,7 @@ where
     R: Threads + Wait + Sync,
     P: Console + Drop,
     requires all { vec_len staff.workers ≡ (O.crew staff.operator).workers }
-    ensures runs { Runs (P.strict writer) (P.contents writer) (P.contents result.0)
+    ensures runs { Runs (P.manner writer) (P.contents writer) (P.contents result.0)
         (O.crew staff.operator).counted result.1 }
 {
     run_lines(rt, alloc, staff, Script { commands }, writer)
@@ -173,7 +173,7 @@ where
     L: Lines + Drop,
     P: Console + Drop,
     requires all { vec_len staff.workers ≡ (O.crew staff.operator).workers }
-    ensures runs { Runs (P.strict writer) (P.contents writer) (P.contents result.0)
+    ensures runs { Runs (P.manner writer) (P.contents writer) (P.contents result.0)
         (O.crew staff.operator).counted result.1 }
 {
     let Ran {

@@ -3,6 +3,7 @@
 ghost use Rattle.std.specs.Prelude.{◌≡◌};
 
 use crate::crew::{Desk, Ready, Serving, Signs};
+use crate::manner::Manner;
 use crate::operating::Operating;
 use std::alloc::Global;
 
@@ -13,8 +14,7 @@ pub(crate) struct Setting<'a, W: Serving + Drop, R> {
     pub alloc: Global,
     pub desks: &'a [Desk<W>],
     pub signs: &'a Signs,
-    /// Whether a refused line ends the run after its interval.
-    pub strict: bool,
+    pub manner: Manner,
 }
 
 /// An operator and the workers at rest. Both agree on what a worker has counted.

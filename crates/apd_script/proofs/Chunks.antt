@@ -6,7 +6,7 @@ use Rattle.std.proofs.lemmas.Bool.{cases_Bool}
 use Rattle.std.proofs.lemmas.List.Splits.{slice_split-cons_yes, slice_split-cons_no}
 use Rattle.bpf_regions.specs.declared.maps.Shape.{Shape}
 use Rattle.apd_script.specs.Asked.{Asked}
-use Rattle.apd_script.specs.Batches.{Adds, Taken, Questions, Malformed, Takes, NoLine, OneMore}
+use Rattle.apd_script.specs.Batches.{Adds, Taken, Questions, Malformed, Takes, NoLine, OneMore, Earlier, Continues}
 use Rattle.apd_script.specs.declared.question.Question.{Question}
 use Rattle.apd_script.specs.Lines.{line_asks}
 use Rattle.apd_script.specs.Script.{lines_of, numbered}
@@ -101,7 +101,7 @@ takes_then maps first text {asked} {bad} {questions} {lines} {mid} h (OneMore as
     (ap (λ l. questions ++ l) joined ∙ sym (append_assoc questions questions2 own)))
 
 -- lines are taken, then the text goes on, and others are taken
-pub takes_chunks : (maps : List Shape) (first lines later : ℕ) (text mid more rest : List ℕ) (asked asked2 : List (ℕ × Asked)) (bad bad2 : List ℕ) (questions questions2 : List (ℕ × Question))
-    → Takes maps first text asked bad questions lines mid → Takes maps (first + lines) (mid ++ more) asked2 bad2 questions2 later rest
-    → Takes maps first (text ++ more) (asked ++ asked2) (bad ++ bad2) (questions ++ questions2) (lines + later) rest
-takes_chunks maps first lines later text mid more rest asked asked2 bad bad2 questions questions2 h k = takes_then maps first (text ++ more) (takes_longer maps first text more h) k
+pub continues : (maps : List Shape) (next lines : ℕ) (text rest : List ℕ) (asked : List (ℕ × Asked)) (bad : List ℕ) (questions : List (ℕ × Question)) → Takes maps next text asked bad questions lines rest
+    → (e : Earlier maps next text) → Continues e asked bad questions lines rest
+continues maps next lines text rest asked bad questions takes e =
+    takes_then maps e.first (e.whole ++ e.more) (takes_longer maps e.first e.whole e.more e.takes) (rw (e.next_is, e.text_is) at takes)

@@ -71,6 +71,26 @@ pub data Takes (maps : List Shape) (first : ℕ) (text : List ℕ) : List (ℕ �
       → Takes maps first text asked bad questions lines mid → lines_of mid ≡ line ∷ lines_of rest → (IsQuit line → ⊥)
       → Adds maps (first + lines) line asked bad asked2 bad2 own → questions2 ≡ questions ++ own → Takes maps first text asked2 bad2 questions2 (lines + 1) rest
 
+-- Lines were taken before: a text, of which this is left; what they ask for, how many they are, and more of the text,
+-- which came later. The next line has this number.
+pub record Earlier (maps : List Shape) (next : ℕ) (text : List ℕ) : Type 0 where
+  pub first : ℕ
+  pub whole : List ℕ
+  pub left : List ℕ
+  pub more : List ℕ
+  pub asked : List (ℕ × Asked)
+  pub bad : List ℕ
+  pub questions : List (ℕ × Question)
+  pub lines : ℕ
+  pub takes : Takes maps first whole asked bad questions lines left
+  pub next_is : next ≡ first + lines
+  pub text_is : text ≡ left ++ more
+
+-- with these lines behind the earlier ones, all are taken from all of the text, however it came
+abbrev pub Continues : {maps : List Shape} {next : ℕ} {text : List ℕ} → Earlier maps next text → List (ℕ × Asked) → List ℕ → List (ℕ × Question) → ℕ → List ℕ → Type 0
+Continues {maps} e asked bad questions lines rest =
+    Takes maps e.first (e.whole ++ e.more) (e.asked ++ asked) (e.bad ++ bad) (e.questions ++ questions) (e.lines + lines) rest
+
 -- whether a command is `wait`
 abbrev pub is_wait : Command → Bool
 is_wait command.Wait = true

@@ -2,7 +2,7 @@
 
 ghost use Rattle.std.specs.Prelude.{◌≡◌, ◌≤◌, ◌^◌, ◌↔◌, [], Some, IsTrue, IfOk, OnErr, IfSome, IfNone, ◌⊎◌};
 ghost use Rattle.apd_script.specs.Asked.{commands_of};
-ghost use Rattle.apd_script.specs.Batches.{numbers_of, questions_of, own_questions, IsMalformed, IsQuit, BeginsWithQuit, HasNoLine, Says, Adds, Leaves, Takes, Stops, after_wait};
+ghost use Rattle.apd_script.specs.Batches.{numbers_of, questions_of, own_questions, IsMalformed, IsQuit, BeginsWithQuit, HasNoLine, Says, Adds, Leaves, Takes, Earlier, Continues, Stops, after_wait};
 ghost use Rattle.apd_script.specs.Script.{Cuts};
 
 use crate::command::{Command, Numbered};
@@ -160,7 +160,9 @@ pub fn begins_with_quit(text: &[u8]) -> bool
 
 /// Takes whole lines from the beginning of a text, the first of which has this number: up to and including the first
 /// `wait` or question, up to a line `quit`, or 4096 lines. A malformed line, or one of more than 8192 bytes, asks for
-/// nothing and is listed beside the commands. `shapes` are the shapes of the configured maps.
+/// nothing and is listed beside the commands. `shapes` are the shapes of the configured maps. If the text is what earlier
+/// lines left, and what came later, then all lines together are those of the whole text: lines don't depend on how a text
+/// is divided.
 pub fn read_batch<'a>(
     alloc: Global,
     text: &'a [u8],
@@ -170,6 +172,9 @@ pub fn read_batch<'a>(
     requires countable { first ≤ 2 ^ 63 }
     ensures takes { IfOk result (λ batch. Takes shapes.now first text.entry.now
         (commands_of batch.commands.items) (numbers_of batch.malformed.items)
+        (questions_of batch.question) batch.lines batch.rest.now) }
+    ensures continues { IfOk result (λ batch. (e : Earlier shapes.now first text.entry.now)
+        → Continues e (commands_of batch.commands.items) (numbers_of batch.malformed.items)
         (questions_of batch.question) batch.lines batch.rest.now) }
     ensures few { IfOk result (λ batch. batch.lines ≤ 4096) }
     ensures waits { IfOk result (λ batch. after_wait batch.commands.items ≡ []) }

@@ -3,14 +3,13 @@
 //! Main calls: `read_script` and `read_batch`. It depends on `bpf_regions` and `mac_types`. `read_script` returns exactly
 //! the commands of the text, each with its line number, or the number of the first malformed line. `line_fault` says in
 //! words why that line is malformed. `read_batch` takes whole lines from the beginning of a text, and returns the
-//! malformed ones and a question beside the commands; [`laws`] shows that lines do not depend on how a text is divided.
+//! malformed ones and a question beside the commands; lines don't depend on how a text is divided.
 #![tactic(auto)]
 
 mod batch;
 mod command;
 mod fault;
 mod hex_text;
-pub mod laws;
 mod line;
 mod operands;
 mod question;

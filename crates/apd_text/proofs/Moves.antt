@@ -2,17 +2,18 @@
 use Rattle.std.proofs.Common.{◌≡◌, ℕ, suc, ◌+◌, ◌<◌, List, ◌++◌, Option, length, drop, get_or, sym, ap, ◌∙◌, append_assoc, drop-cons, add-one}
 use Rattle.std.proofs.KnownBytes.{Appends-trans}
 use Rattle.apd_files.specs.Beginning.{AppendsBeginning}
+use Rattle.apd_text.specs.declared.reports.report.Form.{Form}
 use Rattle.apd_text.specs.declared.reports.report.Report.{Report}
 use Rattle.apd_text.specs.Lines.{report_text, reports_text}
 use Rattle.apd_text.specs.Moving.{MovesOn}
 
 -- the text of what is left begins with that of the next report
-pub next_text : (rs : List Report) (i : ℕ) (r : Report) → i < length rs → r ≡ get_or rs i r
-    → reports_text (drop i rs) ≡ report_text r ++ reports_text (drop (i + 1) rs)
-next_text rs i r h e =
-    ap reports_text (drop-cons rs i r h)
-    ∙ ap (λ x. report_text x ++ reports_text (drop (suc i) rs)) (sym e)
-    ∙ ap (λ k. report_text r ++ reports_text (drop k rs)) (sym (add-one i))
+pub next_text : (form : Form) (rs : List Report) (i : ℕ) (r : Report) → i < length rs → r ≡ get_or rs i r
+    → reports_text form (drop i rs) ≡ report_text form r ++ reports_text form (drop (i + 1) rs)
+next_text form rs i r h e =
+    ap (reports_text form) (drop-cons rs i r h)
+    ∙ ap (λ x. report_text form x ++ reports_text form (drop (suc i) rs)) (sym e)
+    ∙ ap (λ k. report_text form r ++ reports_text form (drop k rs)) (sym (add-one i))
 
 parts : (taken text mine taken2 left rest : List ℕ) → text ++ mine ≡ taken2 ++ left
     → taken ++ (text ++ (mine ++ rest)) ≡ (taken ++ taken2) ++ (left ++ rest)

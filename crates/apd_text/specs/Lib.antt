@@ -1,4 +1,7 @@
 pub mod Words
+pub mod Notices
+pub mod NoticeTexts
+pub mod Json
 pub mod Lines
 pub mod Order
 pub mod Answers

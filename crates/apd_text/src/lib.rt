@@ -19,5 +19,8 @@ pub use numbers::{list_text, ranges_text};
 pub use raw::{raw_faults, raw_text};
 pub use reasons::{fault_text, insn_text, reason_text};
 pub use refusals::{Example, Explanation, explain, page_text};
-pub use reports::{PrintFault, Report, Told, Unread, print_reports, print_totals, put_in_order};
+pub use reports::{
+    Form, Meaning, Notice, PrintFault, Report, Told, Unread, print_reports, print_totals,
+    put_in_order,
+};
 pub use trace::trace_text;

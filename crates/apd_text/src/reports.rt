@@ -3,12 +3,15 @@
 //! Main calls: `put_in_order` sorts reports, by line and then by shard, and keeps the order within one shard and line.
 //! `print_reports` and `print_totals` write their lines to a writer, or a prefix if a write or an allocation fails. It
 //! depends on `ap_model`, `ap_books`, `bpf_decode`, `bpf_verifier`, `hex` and `apd_files`.
+mod json;
 mod lines;
+mod notice;
 mod order;
 mod printing;
 mod report;
 mod words;
 
+pub use notice::{Meaning, Notice};
 pub use order::put_in_order;
 pub use printing::{PrintFault, print_reports, print_totals};
-pub use report::{Report, Told, Unread};
+pub use report::{Form, Report, Told, Unread};

@@ -30,7 +30,7 @@ pub data Asked : Type 0 where
   ListRaw : Text → Option Text → Bool → Asked
   Graph : Text → Option Text → Asked
   Trace : Hook → Text → Text → Option Text → ℕ → Option Text → Bool → Asked
-  Evaluate : Hook → Text → Text → Option Text → ℕ → Bool → Asked
+  Evaluate : Hook → Text → Text → Option Text → Option Text → ℕ → Bool → Asked
   Certify : Hook → Text → Option Text → ℕ → Asked
   Check : Hook → Text → Text → Option Text → Asked
   Explain : Option Text → Asked
@@ -41,7 +41,7 @@ pub data Asked : Type 0 where
 -- the run of a script, or of lines as they come, or a question and the file for its answer, if there is one
 pub data Wanted : Type 0 where
   Run : Text → Text → ℕ → ℕ → Bool → Bool → Bool → Wanted
-  Live : Text → ℕ → ℕ → Bool → Bool → Wanted
+  Live : Text → ℕ → ℕ → Bool → Bool → Bool → Option Text → Wanted
   Answer : Asked → Option Text → Wanted
 
 -- the text of a word, if there is one
@@ -77,7 +77,8 @@ asked_graph source = Graph source.file.now (config_of source)
 abbrev pub asked_evaluation : Evaluation → Asked
 asked_evaluation evaluation =
     Evaluate evaluation.subject.terms.hook evaluation.subject.source.file.now evaluation.capture.now
-    (config_of evaluation.subject.source) evaluation.subject.terms.states evaluation.json
+    (config_of evaluation.subject.source) (text_of evaluation.against)
+    evaluation.subject.terms.states evaluation.json
 
 -- the question of `trace`
 abbrev pub asked_run : Trial → Asked
@@ -119,7 +120,8 @@ wanted_run run =
 
 -- the run of lines as they come
 abbrev pub wanted_live : LiveRun → Wanted
-wanted_live run = Live run.config.now run.workers run.states run.strict run.verbose
+wanted_live run =
+    Live run.config.now run.workers run.states run.strict run.verbose run.clock (text_of run.events)
 
 -- what a query wants
 abbrev pub wanted_answer : Query → Wanted
@@ -203,15 +205,15 @@ trace_of rows = do
   Some (Trace hook file frame (first_of (codes "config") rows) states
       (first_of (codes "context") rows) (is_set (codes "from-frame") rows))
 
--- `eval HOOK FILE CAPTURE [--config C] [--states N] [-j]`
+-- `eval HOOK FILE CAPTURE [--config C] [--against OLD] [--states N] [-j]`
 abbrev pub evaluate_of : List Row → Option Asked
 evaluate_of rows = do
   hook ← hook_at rows
   file ← first_of (codes "FILE") rows
   capture ← first_of (codes "CAPTURE") rows
   states ← states_at rows
-  Some (Evaluate hook file capture (first_of (codes "config") rows) states
-      (is_set (codes "json") rows))
+  Some (Evaluate hook file capture (first_of (codes "config") rows)
+      (first_of (codes "against") rows) states (is_set (codes "json") rows))
 
 -- `run C SCRIPT [--workers N] [--states N] [--quiet] [--strict] [--verbose]`
 abbrev pub run_of : List Row → Option Wanted
@@ -223,13 +225,15 @@ run_of rows = do
   Some (Run config script workers states (is_set (codes "quiet") rows)
       (is_set (codes "strict") rows) (is_set (codes "verbose") rows))
 
--- `live C [--workers N] [--states N] [--strict] [--verbose]`
+-- `live C [--workers N] [--states N] [--strict] [--verbose] [--clock] [--events FORM]`
 abbrev pub live_of : List Row → Option Wanted
 live_of rows = do
   config ← first_of (codes "C") rows
   workers ← option_and_then workers_named (first_of (codes "workers") rows)
   states ← states_at rows
-  Some (Live config workers states (is_set (codes "strict") rows) (is_set (codes "verbose") rows))
+  Some (Live config workers states (is_set (codes "strict") rows)
+      (is_set (codes "verbose") rows) (is_set (codes "clock") rows)
+      (first_of (codes "events") rows))
 
 -- `cert HOOK FILE [--config C] [--states N]`
 abbrev pub certify_of : List Row → Option Asked

@@ -55,6 +55,10 @@ config = option (codes "config")
 abbrev pub output : Rule
 output = record (option (codes "output")) { short = Some 111 }
 
+-- `--against OLD`
+abbrev pub against : Rule
+against = option (codes "against")
+
 -- `-j`, or `--json`; the letter is 106
 abbrev pub json : Rule
 json = record (flag (codes "json")) { short = Some 106 }
@@ -62,6 +66,10 @@ json = record (flag (codes "json")) { short = Some 106 }
 -- `--context KEY=VALUE,..`
 abbrev pub context : Rule
 context = option (codes "context")
+
+-- `--events FORM`
+abbrev pub events : Rule
+events = option (codes "events")
 
 -- the argument HOOK, which must be the name of one
 abbrev pub hook : ValueParser → Rule
@@ -109,11 +117,11 @@ trace hooks =
     hook_command (codes "trace") hooks (required (codes "FRAME") ∷ config ∷ states ∷ context
     ∷ flag (codes "from-frame") ∷ flag (codes "explain") ∷ [])
 
--- `eval HOOK FILE CAPTURE [--config C] [--states N] [-j] [-o FILE]`
+-- `eval HOOK FILE CAPTURE [--config C] [--against OLD] [--states N] [-j] [-o FILE]`
 abbrev pub evaluate : ValueParser → Shape
 evaluate hooks =
-    hook_command (codes "eval") hooks (required (codes "CAPTURE") ∷ config ∷ states ∷ json
-    ∷ output ∷ [])
+    hook_command (codes "eval") hooks (required (codes "CAPTURE") ∷ config ∷ against ∷ states
+    ∷ json ∷ output ∷ [])
 
 -- `run C SCRIPT [--workers N] [--states N] [--quiet] [--strict] [--verbose]`
 abbrev pub run : ValueParser → Shape
@@ -122,11 +130,11 @@ run numbers =
     ∷ workers numbers ∷ states ∷ flag (codes "quiet") ∷ flag (codes "strict")
     ∷ flag (codes "verbose") ∷ [])
 
--- `live C [--workers N] [--states N] [--strict] [--verbose]`
+-- `live C [--workers N] [--states N] [--strict] [--verbose] [--clock] [--events FORM]`
 abbrev pub live : ValueParser → Shape
 live numbers =
     command (codes "live") (required (codes "C") ∷ workers numbers ∷ states
-    ∷ flag (codes "strict") ∷ flag (codes "verbose") ∷ [])
+    ∷ flag (codes "strict") ∷ flag (codes "verbose") ∷ flag (codes "clock") ∷ events ∷ [])
 
 -- `cert HOOK FILE [--config C] [--states N] [-o FILE]`
 abbrev pub certify : ValueParser → Shape

@@ -5,7 +5,7 @@ ghost use Rattle.clap.specs.Words.{App, Rule, Shape, app_of, rule_of, with_subco
 ghost use Rattle.clap.specs.Simple.{new_shape};
 ghost use Rattle.clap.specs.declared.builder.value_parser.ValueParser.TheVariants.{Names};
 ghost use Rattle.apd_words.specs.Built.{IsProgram, IsCommand, with_argument};
-ghost use Rattle.apd_words.specs.CommandLine.{command_line, program, with_code_commands, with_trial_commands, with_run_commands, with_certificate_commands, with_reading_commands, hook_command, required, optional, flag, hook, file, config, json, output, context, workers, states, verify, assemble, disassemble, trace, evaluate, run, live, certify, check, explain, frames, test, help};
+ghost use Rattle.apd_words.specs.CommandLine.{command_line, program, with_code_commands, with_trial_commands, with_run_commands, with_certificate_commands, with_reading_commands, hook_command, required, optional, flag, hook, file, config, against, json, output, context, events, workers, states, verify, assemble, disassemble, trace, evaluate, run, live, certify, check, explain, frames, test, help};
 
 use clap::builder::ValueParser;
 use clap::{Arg, ArgAction, Command};
@@ -211,8 +211,9 @@ fn evaluate<'a>(alloc: Global, hooks: &'a [&'a str]) -> Made<'a>
         hook_command(alloc, "eval", about, hooks),
         required(alloc, "CAPTURE", capture),
     );
-    let command = with_arg(with_arg(command, config(alloc)), states(alloc));
-    with_arg(with_arg(command, json(alloc)), output(alloc))
+    let command = with_arg(with_arg(command, config(alloc)), against(alloc));
+    let command = with_arg(with_arg(command, states(alloc)), json(alloc));
+    with_arg(command, output(alloc))
 }
 
 fn run<'a>(alloc: Global, numbers: &'a [&'a str]) -> Made<'a>
@@ -247,7 +248,10 @@ fn live<'a>(alloc: Global, numbers: &'a [&'a str]) -> Made<'a>
     let strict = "End after the interval of the first malformed line or refused load";
     let command = with_arg(command, flag(alloc, "strict", strict));
     let verbose = "Tell on standard error what becomes of each load";
-    with_arg(command, flag(alloc, "verbose", verbose))
+    let command = with_arg(command, flag(alloc, "verbose", verbose));
+    let clock = "Let time pass by the clock, too";
+    let command = with_arg(command, flag(alloc, "clock", clock));
+    with_arg(command, events(alloc))
 }
 
 fn certify<'a>(alloc: Global, hooks: &'a [&'a str]) -> Made<'a>
@@ -368,6 +372,17 @@ fn config<'a>(alloc: Global) -> Arg<'a>
         .help("The configuration: shapes of maps, first draw word")
 }
 
+fn against<'a>(alloc: Global) -> Arg<'a>
+    ensures is { rule_of result ≡ against }
+    ensures local { result.global ≡ false }
+{
+    Arg::new(alloc, "against")
+        .long("against")
+        .value_name("OLD")
+        .action(ArgAction::Set)
+        .help("The code in force, whose verdicts the link follows: print only those that differ")
+}
+
 fn json<'a>(alloc: Global) -> Arg<'a>
     ensures is { rule_of result ≡ json }
     ensures local { result.global ≡ false }
@@ -400,6 +415,17 @@ fn context<'a>(alloc: Global) -> Arg<'a>
         .value_name("KEYS")
         .action(ArgAction::Set)
         .help("What the program is told, as KEY=VALUE,.. (see the manual)")
+}
+
+fn events<'a>(alloc: Global) -> Arg<'a>
+    ensures is { rule_of result ≡ events }
+    ensures local { result.global ≡ false }
+{
+    Arg::new(alloc, "events")
+        .long("events")
+        .value_name("FORM")
+        .action(ArgAction::Set)
+        .help("Tell what frames mean: `text` beside the frames, `json` in their place")
 }
 
 fn workers<'a>(alloc: Global, numbers: &'a [&'a str]) -> Arg<'a>

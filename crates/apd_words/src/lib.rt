@@ -54,11 +54,13 @@ pub struct Trial<'a> {
     pub explain: bool,
 }
 
-/// A program to judge the frames of a capture. `json` asks for lines of JSON.
+/// A program to judge the frames of a capture. With `against` the link follows that file's program, and only the
+/// verdicts that differ are printed. `json` asks for lines of JSON.
 #[derive(Clone, Copy)]
 pub struct Evaluation<'a> {
     pub subject: Subject<'a>,
     pub capture: &'a str,
+    pub against: Option<&'a str>,
     pub json: bool,
 }
 
@@ -84,7 +86,8 @@ pub struct ScriptRun<'a> {
 }
 
 /// An access point of 1 to 8 workers that answers lines as they come on standard input. `strict` ends it after the first
-/// interval in which a line was malformed or refused, and `verbose` reports each load on standard error.
+/// interval in which a line was malformed or refused, and `verbose` reports each load on standard error. By `clock` time
+/// passes also by the clock, and `events` says how events are told, as it was written.
 #[derive(Clone, Copy)]
 pub struct LiveRun<'a> {
     pub config: &'a str,
@@ -92,6 +95,8 @@ pub struct LiveRun<'a> {
     pub states: u32,
     pub strict: bool,
     pub verbose: bool,
+    pub clock: bool,
+    pub events: Option<&'a str>,
 }
 
 /// A request that runs no script. Paths, frames and numbers are as they were written. The verifier may examine 1 to

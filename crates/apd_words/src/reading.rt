@@ -113,6 +113,7 @@ fn evaluate<'a>(matches: &ArgMatches<'a>) -> Option<Question<'a>>
     let file = value(matches, "FILE")?;
     let capture = value(matches, "CAPTURE")?;
     let config = value(matches, "config");
+    let against = value(matches, "against");
     let states = states(matches)?;
     let json = flag(matches, "json");
     let source = Source { file, config };
@@ -120,6 +121,7 @@ fn evaluate<'a>(matches: &ArgMatches<'a>) -> Option<Question<'a>>
     Some(Question::Evaluate(Evaluation {
         subject: Subject { source, terms },
         capture,
+        against,
         json,
     }))
 }
@@ -153,12 +155,16 @@ fn live<'a>(matches: &ArgMatches<'a>) -> Option<Request<'a>>
     let states = states(matches)?;
     let strict = flag(matches, "strict");
     let verbose = flag(matches, "verbose");
+    let clock = flag(matches, "clock");
+    let events = value(matches, "events");
     Some(Request::Live(LiveRun {
         config,
         workers,
         states,
         strict,
         verbose,
+        clock,
+        events,
     }))
 }
 

@@ -1,10 +1,11 @@
 //! Queues that are filled, and then served by all workers at once, repeatedly.
 
 use crate::loads::{Load, nanos_of};
+use crate::returned::Returned;
 use crate::stations::{event, join_all};
 use ap_books::Ledgers;
+use ap_live::OpenGate;
 use ap_locked::Journals;
-use ap_tagged::OpenGate;
 use bpf_regions::WordWidth;
 use live_scenes::{Chief, Hand, Scene, Story, play, settings};
 use std::alloc::Global;
@@ -34,6 +35,7 @@ struct Filled {
     ended: AtomicU64,
     served: AtomicU64,
     nanos: AtomicU64,
+    returned: Returned,
 }
 
 /// Waits until a counter has reached `far`.
@@ -57,7 +59,7 @@ fn await_asleep<R: Wait + Clock>(rt: &R, sign: &AtomicU64, far: u64) {
 }
 
 impl Filled {
-    fn new(load: Load, workers: u32) -> Filled {
+    fn new(alloc: Global, load: Load, workers: u32) -> Filled {
         Filled {
             load,
             workers: u64::from(workers),
@@ -66,6 +68,7 @@ impl Filled {
             ended: AtomicU64::new(0),
             served: AtomicU64::new(0),
             nanos: AtomicU64::new(0),
+            returned: Returned::new(alloc),
         }
     }
 
@@ -109,11 +112,13 @@ impl Filled {
         }
     }
 
-    /// Reports that all queues are filled for another round, and waits until all workers have served it.
-    fn end_round<R: Wait + Clock>(&self, rt: &R) {
+    /// Reports that all queues are filled for another round, and waits until all workers have served it. Frees what
+    /// they have handed back.
+    fn end_round<R: Wait + Clock>(&self, rt: &R, alloc: Global) {
         let filled = self.filled.fetch_add(1, SeqCst);
         let all = self.workers.wrapping_mul(filled.wrapping_add(1));
         await_asleep(rt, &self.ended, all);
+        self.returned.free(rt, alloc);
     }
 }
 
@@ -130,16 +135,15 @@ impl<R: Wait + Clock> Story<R> for Filled {
         }
     }
 
-    /// Serves the worker's queue in each round. The outputs are freed after the time is taken, as a reader of them
-    /// would free them.
+    /// Serves the worker's queue in each round. The reports are handed back after the time is taken.
     fn work<B: Ledgers + Journals>(&self, rt: &R, alloc: Global, hand: &mut Hand<'_, B>) {
-        let mut list = Vec::new(alloc);
         for round in 1..self.load.size.saturating_add(1) {
+            let mut list = Vec::new(alloc);
             self.meet(rt, round);
             let start = Instant::now(rt).ok();
             let _ = hand.serve(rt, alloc, &OpenGate, &mut list);
             self.note(rt, hand.number, list.len(), round, start);
-            list.clear();
+            self.returned.put(rt, list);
         }
     }
 
@@ -152,7 +156,7 @@ impl<R: Wait + Clock> Story<R> for Filled {
                 let _ = chief.submit(rt, place, event);
             }
             if place.wrapping_add(1) == many {
-                self.end_round(rt);
+                self.end_round(rt, alloc);
             }
         }
     }
@@ -166,7 +170,7 @@ pub fn measured<R: Threads + Wait + Clock + Sync>(
     load: Load,
 ) -> Option<Load> {
     let settings = settings(alloc, workers, WordWidth::Eight)?;
-    let mut filled = Filled::new(load, workers);
+    let mut filled = Filled::new(alloc, load, workers);
     play(rt, alloc, settings, 1, &mut filled)?;
     Some(filled.measured())
 }

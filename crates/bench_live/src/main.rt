@@ -17,6 +17,7 @@ mod filled;
 mod loads;
 mod programs;
 mod rates;
+mod returned;
 mod soak;
 mod stations;
 mod submitted;

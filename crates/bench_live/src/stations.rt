@@ -1,9 +1,9 @@
 //! Stations with agreements, one of each shard, and their data.
 
 use ap_books::Ledgers;
+use ap_live::OpenGate;
 use ap_locked::Journals;
 use ap_model::Event;
-use ap_tagged::OpenGate;
 use live_scenes::{Scene, address, data};
 use std::alloc::Global;
 use std::sync::Wait;

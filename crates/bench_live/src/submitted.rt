@@ -1,11 +1,12 @@
 //! One submitter beside the workers.
 
 use crate::loads::{Load, nanos_of};
+use crate::returned::Returned;
 use crate::stations::{event, join_all};
 use ap_books::Ledgers;
+use ap_live::{OpenGate, Tagged};
 use ap_locked::Journals;
 use ap_model::Event;
-use ap_tagged::OpenGate;
 use bpf_regions::WordWidth;
 use live_scenes::{Chief, Hand, Scene, Story, play, settings};
 use std::alloc::Global;
@@ -17,6 +18,9 @@ use std::thread::Threads;
 use std::time::Instant;
 use std::{mem, thread};
 use versions::Publisher;
+
+/// How many events a worker serves before it hands their reports back.
+const MANY: usize = 1024;
 
 /// A load that is measured with a submitter.
 #[derive(Drop)]
@@ -31,6 +35,7 @@ struct Submitted {
     served: AtomicU64,
     /// The time from the submitter's start until the last worker had served all.
     nanos: Mutex<u64>,
+    returned: Returned,
 }
 
 /// `count` data frames of all stations alternating, the last first.
@@ -52,6 +57,7 @@ impl Submitted {
             submitting: AtomicU64::new(1),
             served: AtomicU64::new(0),
             nanos: Mutex::new(0),
+            returned: Returned::new(alloc),
         }
     }
 
@@ -68,6 +74,14 @@ impl Submitted {
         self.served.fetch_add(events as u64, SeqCst);
         if events == 0 && !over {
             thread::yield_now();
+        }
+    }
+
+    /// Hands a list back if it is long, and begins another.
+    fn hand_back<R: Wait>(&self, rt: &R, alloc: Global, list: &mut Vec<Tagged>) {
+        if list.len() >= MANY {
+            let full = mem::replace(list, Vec::new(alloc));
+            self.returned.put(rt, full);
         }
     }
 
@@ -112,25 +126,30 @@ impl<R: Wait + Clock> Story<R> for Submitted {
         let mut list = Vec::new(alloc);
         for _ in rt.forever() {
             let over = self.submitting.load(SeqCst) == 0;
+            let before = list.len();
             let refused = hand.serve(rt, alloc, &OpenGate, &mut list).is_err();
-            let events = list.len();
+            let events = list.len().saturating_sub(before);
             self.note(events, over);
-            list.clear();
             if refused || (over && events == 0) {
                 break;
             }
+            self.hand_back(rt, alloc, &mut list);
         }
         self.note_end(rt);
+        self.returned.put(rt, list);
     }
 
     /// Submits all events.
     fn operate<B: Ledgers + Journals>(&self, rt: &R, alloc: Global, chief: &mut Chief<'_, B>) {
         let mut events = self.begin(rt, alloc);
-        for _ in 0..u32::MAX {
+        for number in 1..u32::MAX {
             let Some(event) = events.pop() else {
                 break;
             };
             chief.put(rt, 1, event);
+            if number as usize % MANY == 0 {
+                self.returned.free(rt, alloc);
+            }
         }
         self.submitting.store(0, SeqCst);
     }

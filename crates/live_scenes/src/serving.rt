@@ -3,8 +3,8 @@
 use crate::hands::Hand;
 use crate::tallying::Tally;
 use ap_books::Ledgers;
+use ap_live::{OpenGate, Tagged};
 use ap_locked::Journals;
-use ap_tagged::{OpenGate, Tagged};
 use std::alloc::Global;
 use std::sync::Wait;
 use std::sync::atomic::AtomicU64;

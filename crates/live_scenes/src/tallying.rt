@@ -4,8 +4,8 @@ ghost use Rattle.std.specs.Prelude.{◌<◌};
 
 use crate::frames::address;
 use ap_books::Totals;
+use ap_live::{Fate, Tagged};
 use ap_model::{Out, Up};
-use ap_tagged::{Fate, Tagged};
 
 /// How many pairs of an operator and a shard a soak has.
 const WAYS: usize = 32;
@@ -102,7 +102,11 @@ impl Tally {
 
     fn take_one(&mut self, tagged: &Tagged) {
         match &tagged.fate {
-            Fate::Decided { outs, dropped } => self.count(tagged.call, outs.as_slice(), *dropped),
+            Fate::Decided { outs, dropped } => self.count(
+                tagged.item.call,
+                outs.as_slice(),
+                *dropped,
+            ),
             _ => self.wrong = self.wrong.wrapping_add(1),
         }
     }

@@ -6,10 +6,10 @@
 #![tactic(auto)]
 
 use apd_files::RealFiles;
-use apd_program::Messages;
+use apd_program::{Messages, Standard, Streams};
 use std::alloc::{AllocError, Global};
 use std::io;
-use std::io::{Input, Write};
+use std::io::{Input, Read, Write};
 use std::rt::Files;
 use std::sync::Wait;
 use std::thread::Threads;
@@ -23,16 +23,22 @@ fn main(rt: HostRuntime) -> io::Result<()> {
             println!(rt; "{line}")?;
         } else {
             println!(rt; "$ apd {line}")?;
-            answer(&rt, alloc, &line, rt.stdout())?;
+            let streams = Streams {
+                input: Standard { rt },
+                out: rt.stdout(),
+            };
+            answer(&rt, alloc, &line, streams)?;
         }
     }
     Ok(())
 }
 
 /// Runs a line, and prints the answer, the messages and the status.
-fn answer<R, O>(rt: &R, alloc: Global, line: &str, out: O) -> io::Result<()>
+fn answer<R, I, O>(rt: &R, alloc: Global, line: &str, streams: Streams<I, O>) -> io::Result<()>
 where
-    R: Threads + Wait + Sync + Clock + Input + Print + Eprint + Files + AllocGlobal,
+    R: Threads + Wait + Clock + Input + Print + Eprint + Files + AllocGlobal,
+    R: Copy + Send + Sync + 'static,
+    I: Read + Drop + Send + 'static,
     O: Write + Drop,
 {
     let mut told = Vec::new(alloc);
@@ -40,7 +46,7 @@ where
         err: &mut told,
         watched: false,
     };
-    let status = perform(rt, alloc, line, out, messages)?;
+    let status = perform(rt, alloc, line, streams, messages)?;
     for text in String::from_utf8_lossy(alloc, told.as_slice())?.lines() {
         println!(rt; "! {text}")?;
     }
@@ -51,21 +57,30 @@ where
 }
 
 /// Runs `apd` on the words of a line, and returns its status.
-fn perform<R, O, E>(
+fn perform<R, I, O, E>(
     rt: &R,
     alloc: Global,
     line: &str,
-    out: O,
+    streams: Streams<I, O>,
     messages: Messages<'_, E>,
 ) -> io::Result<u8>
 where
-    R: Threads + Wait + Sync + Clock + Input + Eprint + Files + AllocGlobal,
+    R: Threads + Wait + Clock + Input + Eprint + Files + AllocGlobal,
+    R: Copy + Send + Sync + 'static,
+    I: Read + Drop + Send + 'static,
     O: Write + Drop,
     E: Write,
 {
     let words = words_of(alloc, line)?;
     let mut files = RealFiles::new(rt);
-    let (_, status) = apd_program::perform(rt, alloc, words.as_slice(), &mut files, out, messages);
+    let (_, status) = apd_program::perform(
+        rt,
+        alloc,
+        words.as_slice(),
+        &mut files,
+        streams,
+        messages,
+    );
     Ok(status)
 }
 

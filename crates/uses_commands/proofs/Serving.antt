@@ -2,7 +2,7 @@
 use Rattle.std.proofs.Common.{◌≡◌, List, [], ◌∷◌, ◌++◌, refl, sym, ap, ◌∙◌, append_assoc, append-nil}
 use Rattle.ap_books.specs.Counts.{Counts, none, plus}
 use Rattle.ap_live.specs.Counting.{fate_counts, tally}
-use Rattle.ap_tagged.specs.declared.tagged.Tagged.{Tagged}
+use Rattle.ap_live.specs.declared.tagged.Tagged.{Tagged}
 use Rattle.apd_run.specs.Tallies.{Serves}
 use Rattle.apd_run.proofs.Served.{tally_two}
 use Rattle.apd_run.proofs.Sums.{plus_three}

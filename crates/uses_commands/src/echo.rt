@@ -7,8 +7,8 @@ ghost use Rattle.ap_live.specs.Counting.{fate_counts};
 ghost use Rattle.apd_run.specs.Tallies.{Serves};
 
 use ap_books::Totals;
+use ap_live::{Fate, Item, Tagged};
 use ap_model::Event;
-use ap_tagged::{Fate, Tagged};
 use apd_files::{CodeFault, FileFault};
 use apd_run::{Operating, Publication, Serving, Waiting, WordUse};
 use apd_text::{AgreementRow, ProgramRow, StationRow, Told, Unread};
@@ -56,9 +56,13 @@ fn list_tick<R: Wait>(rt: &R, place: &Place, list: &mut Vec<Tagged>) -> Result<b
     match taken(rt, place) {
         None => Ok(true),
         Some(Tick { line, units }) => {
-            list.push_reserved(Tagged {
+            let item = Item {
                 call: line,
                 shard: 0,
+                event: Event::Tick(units),
+            };
+            list.push_reserved(Tagged {
+                item,
                 fate: fate_of(units),
             });
             Ok(false)

@@ -10,9 +10,13 @@ mod answers;
 #[cfg(test)]
 mod captures;
 #[cfg(test)]
+mod clocks;
+#[cfg(test)]
 mod configuration;
 #[cfg(test)]
 mod echo;
+#[cfg(test)]
+mod events;
 #[cfg(test)]
 mod faults;
 #[cfg(test)]

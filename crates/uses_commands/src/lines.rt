@@ -4,7 +4,7 @@ use crate::same::{holds, same};
 use ap_books::Totals;
 use ap_model::{Octets, Out, Up};
 use apd_files::{CodeFault, DigitFault};
-use apd_text::{Report, Told, Unread, print_reports, print_totals, put_in_order};
+use apd_text::{Form, Report, Told, Unread, print_reports, print_totals, put_in_order};
 use bpf_decode::DecodeFault;
 use bpf_rules::Fault;
 use bpf_verifier::Refusal;
@@ -60,7 +60,7 @@ fn prints(rt: &impl Abort, alloc: Global, reports: Vec<Report>, lines: &str) {
     let mut reports = reports;
     put_in_order(&mut reports).expect(rt, "memory");
     let mut out = Vec::new(alloc);
-    let printed = print_reports(alloc, &mut out, reports.as_slice());
+    let printed = print_reports(alloc, &mut out, Form::Lines, reports.as_slice());
     holds(rt, printed.is_ok(), "printed");
     same(rt, out.as_slice(), lines.as_bytes(), "lines");
 }

@@ -1,9 +1,10 @@
 //! Lines that are done as they come, in chunks of any length.
 
 use crate::lab::{ANSWERS, ASSOCIATION, AUTHENTICATION, LAB, file, joined};
-use crate::memory::{Memory, Outcome, ran, words};
+use crate::memory::{Memory, Outcome, STRICT, ran, words};
 use crate::same::same;
 use apd_run::{OpenGate, RunWords, StateLimit, Streams, Supplies, live};
+use apd_source::Direct;
 use std::alloc::Global;
 use std::io::{self, Error, ErrorKind, Read, Write};
 use std::process::Abort;
@@ -79,7 +80,7 @@ fn lived_with<R: Threads + Wait + Sync, I: Read + Drop>(
         gate: OpenGate,
     };
     let streams = Streams {
-        input,
+        input: Direct { input },
         out: Vec::new(alloc),
     };
     let mut err = Vec::new(alloc);
@@ -177,7 +178,7 @@ fn a_malformed_line_ends_a_strict_run_alone(rt: HostRuntime) {
     let text = b"frme\nwait\nfrme\n";
     answers(&rt, alloc, text, words(2), (TWO, 1));
     let asked = RunWords {
-        strict: true,
+        manner: STRICT,
         ..words(2)
     };
     answers(&rt, alloc, text, asked, (ONE, 1));
@@ -333,9 +334,11 @@ fn answers_are_flushed_before_the_next_read(rt: HostRuntime) {
         gate: OpenGate,
     };
     let streams = Streams {
-        input: Patient {
-            reads: 0,
-            flushed: &flushed,
+        input: Direct {
+            input: Patient {
+                reads: 0,
+                flushed: &flushed,
+            },
         },
         out: Flushed {
             taken: 0,
@@ -442,7 +445,9 @@ fn a_reader_that_goes_away_ends_a_run_quietly(rt: HostRuntime) {
             gate: OpenGate,
         };
         let streams = Streams {
-            input: Chunks::of(b"frame 00\n", 7),
+            input: Direct {
+                input: Chunks::of(b"frame 00\n", 7),
+            },
             out: Failing { why },
         };
         let mut err = Vec::new(alloc);

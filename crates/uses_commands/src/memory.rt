@@ -1,7 +1,7 @@
 //! Files in memory, and runs with them.
 
 use apd_files::{FileFault, Files};
-use apd_run::{OpenGate, RunWords, StateLimit, Supplies, Watcher, run};
+use apd_run::{Form, Manner, OpenGate, RunWords, StateLimit, Supplies, Watcher, run};
 use std::alloc::Global;
 use std::sync::Wait;
 use std::thread::Threads;
@@ -60,13 +60,25 @@ pub struct Outcome {
     pub status: u8,
 }
 
+/// A run that isn't strict, and prints lines.
+pub const MANNER: Manner = Manner {
+    strict: false,
+    form: Form::Lines,
+};
+
+/// A strict run that prints lines.
+pub const STRICT: Manner = Manner {
+    strict: true,
+    form: Form::Lines,
+};
+
 /// The arguments to run the file `script` with the configuration `config` by `workers` workers.
 pub fn words(workers: u8) -> RunWords<'static> {
     RunWords {
         config: "config",
         script: "script",
         workers,
-        strict: false,
+        manner: MANNER,
         verbose: false,
     }
 }

@@ -4,7 +4,7 @@ ghost use Rattle.std.specs.Prelude.{◌≡◌, vec_len};
 
 use crate::echo::{Echo, Place, Places};
 use crate::same::same;
-use apd_run::{Console, Ready, Staff, run_script};
+use apd_run::{Console, Form, Manner, Ready, Staff, run_script};
 use apd_script::{Numbered, read_script};
 use apd_text::Report;
 use bpf_regions::Shapes;
@@ -19,7 +19,7 @@ use std::thread::Threads;
 #[derive(Drop)]
 struct Page {
     text: Vec<u8>,
-    strict: bool,
+    manner: Manner,
 }
 
 impl Write for Page {
@@ -35,12 +35,12 @@ impl Write for Page {
 impl Console for Page {
     ghost use Rattle.std.specs.Prelude.{true};
 
-    ghost strict = { λ page. page.strict };
+    ghost manner = { λ page. page.manner };
 
     ghost is_flushed = { λ page. true };
 
-    fn is_strict(&self) -> bool {
-        self.strict
+    fn how(&self) -> Manner {
+        self.manner
     }
 
     fn flush_all(&mut self) -> io::Result<()> {
@@ -87,7 +87,10 @@ fn ran<R: Threads + Wait + Abort + Sync>(
     let staff = staff(rt, alloc, workers);
     let page = Page {
         text: Vec::new(alloc),
-        strict,
+        manner: Manner {
+            strict,
+            form: Form::Lines,
+        },
     };
     run_script(rt, alloc, staff, commands.as_slice(), page)
 }

@@ -1,7 +1,7 @@
 //! What runs, also strict ones, tell on standard error of loads and stores.
 
 use crate::lab::{LAB, file};
-use crate::memory::{File, ran_as, words};
+use crate::memory::{File, STRICT, ran_as, words};
 use crate::same::same;
 use apd_run::RunWords;
 use std::alloc::Global;
@@ -57,7 +57,7 @@ fn a_strict_run_says_why_it_ends(rt: HostRuntime) {
         "apd: script:1: exit.hex is not loaded; addba has no program: each agreement is granted\n\
         apd: a line was refused, and the run ended with it (--strict)\n";
     let asked = RunWords {
-        strict: true,
+        manner: STRICT,
         ..words(1)
     };
     let files = files_of(script);

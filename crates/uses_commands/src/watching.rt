@@ -1,7 +1,7 @@
 //! What is told of a run, by a clock that a test sets.
 
 use crate::same::same;
-use ap_tagged::Gate;
+use ap_live::Gate;
 use apd_run::{Progress, Watcher};
 use std::fmt::Display;
 use std::io;

@@ -1,6 +1,6 @@
 //! Gates that hold and stop workers, and the signals between threads.
 
-use ap_tagged::Gate;
+use ap_live::Gate;
 use std::sync::atomic::AtomicU64;
 use std::sync::atomic::Ordering::SeqCst;
 use std::thread;

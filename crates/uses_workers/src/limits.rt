@@ -3,10 +3,10 @@
 use crate::same::same;
 use crate::scene::{serve, tell};
 use ap_books::Ledgers;
+use ap_live::OpenGate;
 use ap_locked::Journals;
 use ap_model::Event;
 use ap_queues::Unserved;
-use ap_tagged::OpenGate;
 use bpf_regions::WordWidth;
 use live_scenes::{Chief, Scene, Story, address, joining};
 use std::alloc::Global;

@@ -3,8 +3,8 @@
 use crate::same::same;
 use crate::scene::{puts, serve};
 use ap_books::{Ledgers, Totals};
+use ap_live::OpenGate;
 use ap_locked::Journals;
-use ap_tagged::OpenGate;
 use bpf_regions::WordWidth;
 use live_scenes::{Scene, Story, address, play, settings};
 use std::alloc::Global;

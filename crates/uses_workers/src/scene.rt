@@ -1,8 +1,8 @@
 //! What several tests do with an access point.
 
 use ap_books::{Ledgers, Totals};
+use ap_live::{Fate, Gate, Tagged};
 use ap_locked::Journals;
-use ap_tagged::{Fate, Gate, Tagged};
 use bpf_regions::WordWidth;
 use live_scenes::{Scene, Story, data, joining, play, settings};
 use std::alloc::Global;

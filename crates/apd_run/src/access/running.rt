@@ -23,10 +23,9 @@ use crate::loads::{Loads, StateLimit};
 use crate::script::run_lines;
 use crate::{Ready, Staff};
 use ap_books::{Ledgers, Portions, Totals};
-use ap_live::{LiveAp, Opened, OperatorToken, Settings, WorkerToken};
+use ap_live::{Gate, LiveAp, Opened, OperatorToken, Settings, WorkerToken};
 use ap_locked::Journals;
 use ap_shards::{AllPages, NewShards};
-use ap_tagged::Gate;
 use apd_files::Files;
 use bpf_regions::Shapes;
 use std::alloc::{AllocError, Global};
@@ -62,7 +61,7 @@ struct Equipment<B: Ledgers + Journals> {
 
 /// The end of a run for which an allocation failed before it began.
 fn without_memory<P: Console>(writer: P) -> (P, u8)
-    ensures runs { Runs (P.strict writer) (P.contents writer) (P.contents result.0) none result.1 }
+    ensures runs { Runs (P.manner writer) (P.contents writer) (P.contents result.0) none result.1 }
 {
     (writer, NO_MEMORY)
 }
@@ -164,7 +163,7 @@ where
     requires list { ap.now.list.list ≡ L.list }
     requires loads { equipment.loads.list ≡ L.list }
     requires no_loads { equipment.loads.loads ≡ [] }
-    ensures runs { Runs (P.strict writer) (P.contents writer) (P.contents result.0) none result.1 }
+    ensures runs { Runs (P.manner writer) (P.contents writer) (P.contents result.0) none result.1 }
 {
     let Supplies { files, limit, gate } = supplies;
     let Equipment { hands, loads } = equipment;
@@ -225,7 +224,7 @@ where
     requires named { AreNamed B.name_of B.shares B.journal_of opening.new }
     requires config { opening.settings.link ≡ B.config }
     requires shares { B.shares ≡ parts_in_all }
-    ensures runs { Runs (P.strict writer) (P.contents writer) (P.contents result.0) none result.1 }
+    ensures runs { Runs (P.manner writer) (P.contents writer) (P.contents result.0) none result.1 }
 {
     let Opening {
         settings,

@@ -3,9 +3,8 @@
 use crate::Serving;
 use crate::access::naming::Publications;
 use ap_books::Ledgers;
-use ap_live::{LiveAp, WorkerToken};
+use ap_live::{Gate, LiveAp, Tagged, WorkerToken};
 use ap_locked::Journals;
-use ap_tagged::{Gate, Tagged};
 use std::alloc::{AllocError, Global};
 use std::marker::{Model, PhantomData};
 use std::sync::Wait;

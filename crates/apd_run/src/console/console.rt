@@ -2,7 +2,9 @@
 
 ghost use Rattle.std.specs.Prelude.{◌≡◌, true, Bool, OnOk};
 ghost use Rattle.std.specs.Io.KnownBytes.{Keeps};
+ghost use Rattle.apd_run.specs.declared.manner.Manner.{Manner};
 
+use crate::manner::Manner;
 use apd_script::Numbered;
 use apd_text::Report;
 use std::io;
@@ -10,15 +12,15 @@ use std::io::Write;
 
 /// A run writes its lines to it, and tells it what became of them.
 pub trait Console: Write {
-    // Whether a refused line ends the run.
-    ghost strict: { Self → Bool };
+    // How the run goes on and prints.
+    ghost manner: { Self → Manner };
 
     // Whether all that was written is flushed.
     ghost is_flushed: { Self → Bool };
 
-    /// Whether a refused line ends the run after its interval.
-    fn is_strict(&self) -> bool
-        ensures is { result ≡ strict self.now };
+    /// How the run goes on and prints.
+    fn how(&self) -> Manner
+        ensures is { result ≡ manner self.now };
 
     /// Flushes all that was written.
     fn flush_all(&mut self) -> io::Result<()>

@@ -1,7 +1,5 @@
 //! Messages about a script, line by line.
 
-ghost use Rattle.std.specs.Prelude.{◌≡◌, IfOk};
-
 use crate::console::message::{Loading, Message, message_of};
 use crate::console::programs::Programs;
 use apd_files::{shown, write_whole};
@@ -18,7 +16,6 @@ pub(crate) struct Notes {
     alloc: Global,
     script: String,
     maps: Vec<Shape>,
-    pub(crate) strict: bool,
     verbose: bool,
     programs: Programs,
 }
@@ -39,18 +36,14 @@ impl Notes {
         alloc: Global,
         script: &str,
         maps: &Shapes,
-        strict: bool,
         verbose: bool,
-    ) -> Result<Notes, AllocError>
-        ensures strict { IfOk result (λ notes. notes.strict ≡ strict) }
-    {
+    ) -> Result<Notes, AllocError> {
         let script = shown(alloc, script)?;
         let maps = Vec::from_slice(alloc, maps.as_slice())?;
         Ok(Notes {
             alloc,
             script,
             maps,
-            strict,
             verbose,
             programs: Programs::none(),
         })

@@ -4,6 +4,7 @@ ghost use Rattle.std.specs.Prelude.{◌≡◌};
 
 use crate::console::console::Console;
 use crate::console::notes::Notes;
+use crate::manner::Manner;
 use apd_script::Numbered;
 use apd_text::Report;
 use std::io;
@@ -15,6 +16,7 @@ pub(crate) struct Terminal<'a, O: Drop, E> {
     pub out: O,
     pub err: &'a mut E,
     pub notes: Notes,
+    pub manner: Manner,
     /// Whether all that was written is flushed.
     pub is_flushed: bool,
     /// Whether a write failed since nobody reads standard output any more.
@@ -25,7 +27,7 @@ impl<'a, O: Drop, E> Terminal<'a, O, E> {
     /// Remembers why a write failed.
     fn failed(&mut self, error: &Error)
         ensures out { self.new.out ≡ self.old.out }
-        ensures notes { self.new.notes ≡ self.old.notes }
+        ensures manner { self.new.manner ≡ self.old.manner }
     {
         self.is_flushed = false;
         self.reader_left = error.kind() == ErrorKind::BrokenPipe;
@@ -54,12 +56,12 @@ impl<'a, O: Write + Drop, E: Write> Write for Terminal<'a, O, E> {
 }
 
 impl<'a, O: Write + Drop, E: Write> Console for Terminal<'a, O, E> {
-    ghost strict = { λ t. t.notes.strict };
+    ghost manner = { λ t. t.manner };
 
     ghost is_flushed = { λ t. t.is_flushed };
 
-    fn is_strict(&self) -> bool {
-        self.notes.strict
+    fn how(&self) -> Manner {
+        self.manner
     }
 
     fn flush_all(&mut self) -> io::Result<()> {

@@ -1,8 +1,8 @@
 //! What the operator and the workers share.
 
 use crate::crew::hand::{Done, Ready};
-use crate::crew::post::Post;
 use crate::crew::serving::Serving;
+use apd_source::Post;
 use std::sync::atomic::AtomicU64;
 
 /// An order for a worker: to serve in the interval with this number.

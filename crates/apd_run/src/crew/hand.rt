@@ -5,7 +5,7 @@ ghost use Rattle.ap_books.specs.Counts.{none};
 ghost use Rattle.ap_live.specs.Counting.{tally};
 
 use crate::crew::serving::Serving;
-use ap_tagged::Tagged;
+use ap_live::Tagged;
 use std::alloc::Global;
 use std::sync::Wait;
 

@@ -3,7 +3,7 @@
 ghost use Rattle.ap_books.specs.Counts.{Counts};
 ghost use Rattle.apd_run.specs.Tallies.{Serves};
 
-use ap_tagged::Tagged;
+use ap_live::Tagged;
 use std::alloc::AllocError;
 use std::sync::Wait;
 

@@ -1,7 +1,7 @@
 //! The progress of a run.
 
 use crate::progress::watching::Watcher;
-use ap_tagged::Gate;
+use ap_live::Gate;
 use std::sync::atomic::{AtomicU64, Ordering};
 use std::time::{Clock, Instant};
 

@@ -1,6 +1,6 @@
 //! Watching a run.
 
-use ap_tagged::{Gate, OpenGate};
+use ap_live::{Gate, OpenGate};
 
 /// Is told of a run, and of each of its events.
 pub trait Watcher: Gate {

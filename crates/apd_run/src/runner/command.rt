@@ -8,6 +8,7 @@ use crate::access::{NewShards, Opening, Supplies, run_live};
 use crate::console::{Console, Notes, Terminal};
 use crate::input::Input;
 use crate::lines::{Lines, Script};
+use crate::manner::Manner;
 use crate::progress::Watcher;
 use crate::runner::fault::{
     RunFault, complain, of_script, say_if_group, say_why, say_why_live, unreadable,
@@ -16,8 +17,9 @@ use crate::runner::setup::{configuration, read, settings};
 use apd_config::Configuration;
 use apd_files::{FileKind, Files};
 use apd_script::{Numbered, read_script};
+use apd_source::Source;
 use std::alloc::Global;
-use std::io::{Read, Write};
+use std::io::Write;
 use std::marker::Brand;
 use std::sync::Wait;
 use std::thread::Threads;
@@ -29,16 +31,15 @@ pub struct RunWords<'a> {
     pub config: &'a str,
     pub script: &'a str,
     pub workers: u8,
-    /// Whether a refused line ends the run after its interval.
-    pub strict: bool,
+    pub manner: Manner,
     /// Whether messages tell of each load, and of each hook without a program at the end.
     pub verbose: bool,
 }
 
-/// Standard input and standard output of `apd live`.
+/// Where the lines of `apd live` come from, with the time that passes, and where its answers go.
 #[derive(Drop)]
-pub struct Streams<I: Drop, P: Drop> {
-    pub input: I,
+pub struct Streams<S: Drop, P: Drop> {
+    pub input: S,
     pub out: P,
 }
 
@@ -88,7 +89,7 @@ where
     P: Console + Drop,
     requires some { 1 ≤ workers }
     requires few { workers ≤ 8 }
-    ensures runs { Runs (P.strict writer) (P.contents writer) (P.contents result.0) none result.1 }
+    ensures runs { Runs (P.manner writer) (P.contents writer) (P.contents result.0) none result.1 }
 {
     let Task {
         configuration,
@@ -122,17 +123,17 @@ where
     L: Lines + Drop,
     P: Write + Drop,
     E: Write,
-    ensures runs { Runs words.entry.strict
+    ensures runs { Runs words.entry.manner
         (P.contents out) (P.contents result.out) none result.status }
 {
     let RunWords {
         script,
         workers,
-        strict,
+        manner,
         verbose,
         ..
     } = words;
-    let Ok(notes) = Notes::new(alloc, script, &task.configuration.maps, strict, verbose) else {
+    let Ok(notes) = Notes::new(alloc, script, &task.configuration.maps, verbose) else {
         return Ended {
             out,
             status: 3,
@@ -143,6 +144,7 @@ where
         out,
         err: &mut *err,
         notes,
+        manner,
         is_flushed: false,
         reader_left: false,
     };
@@ -176,7 +178,7 @@ where
     G: Watcher + Copy + Send,
     P: Write + Drop,
     E: Write,
-    ensures runs { Runs words.entry.strict (P.contents out) (P.contents result.0) none result.1 }
+    ensures runs { Runs words.entry.manner (P.contents out) (P.contents result.0) none result.1 }
 {
     let Supplies { files, limit, gate } = supplies;
     let configuration = match configuration(alloc, words.config, files) {
@@ -217,36 +219,42 @@ where
 }
 
 /// Runs the lines of an input as they come, and returns `out` and the exit status. Whenever what was read of the input
-/// holds whole lines, they are done, and their answers written and flushed, before more is read. The run ends with the
-/// input, or before a line `quit`. The status is 3 if a line says `memory`, or an allocation failed for the run itself; 2
-/// for a fault of the configuration, of a read or of a write; otherwise 1 if a line was malformed, or the run is strict
-/// and a line was refused; otherwise 0. A strict run ends after the interval of such a line. If the run breaks off, the
-/// contract doesn't say whether the status is 2 or 3. Messages on `err` are those of `run`.
-pub fn live<R, F, G, I, P, E>(
+/// holds whole lines, they are done, and their answers written and flushed, before more is read. Before them a tick with
+/// the number 0 lets the time pass that the input says has passed, if that is a unit or more; the same while no line
+/// comes. The run ends with the input, or before a line `quit`. The status is 3 if a line says `memory`, or an allocation
+/// failed for the run itself; 2 for a fault of the configuration, of a read or of a write; otherwise 1 if a line was
+/// malformed, or the run is strict and a line was refused; otherwise 0. A strict run ends after the interval of such a
+/// line. If the run breaks off, the contract doesn't say whether the status is 2 or 3. Messages on `err` are those of
+/// `run`.
+pub fn live<R, F, G, S, P, E>(
     rt: &R,
     alloc: Global,
     words: RunWords<'_>,
     supplies: Supplies<'_, F, G>,
-    streams: Streams<I, P>,
+    streams: Streams<S, P>,
     err: &mut E,
 ) -> (P, u8)
 where
     R: Threads + Wait + Sync,
     F: Files,
     G: Watcher + Copy + Send,
-    I: Read + Drop,
+    S: Source + Drop,
     P: Write + Drop,
     E: Write,
-    ensures runs { Runs words.entry.strict
+    ensures runs { Runs words.entry.manner
         (P.contents streams.out) (P.contents result.0) none result.1 }
 {
     let Streams { input, out } = streams;
     let Supplies { files, limit, gate } = supplies;
     let configuration = match live_configuration(alloc, words.config, files, err) {
         Ok(configuration) => configuration,
-        Err(fault) => return (out, complain(alloc, &fault, err)),
+        Err(fault) => {
+            input.end();
+            return (out, complain(alloc, &fault, err));
+        }
     };
     let Ok(shapes) = configuration.maps.clone() else {
+        input.end();
         return (out, complain(alloc, &RunFault::NoMemory, err));
     };
     let lines = Input::new(alloc, input, shapes);

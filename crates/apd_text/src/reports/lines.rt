@@ -2,9 +2,11 @@
 
 ghost use Rattle.std.specs.Prelude.{◌≡◌, ◌++◌, IfOk, string_bytes};
 ghost use Rattle.apd_text.specs.Words.{out_words};
-ghost use Rattle.apd_text.specs.Lines.{line_of, outs_text, report_text, totals_text};
+ghost use Rattle.apd_text.specs.Lines.{drop_text, json_text, line_of, notice_line, notice_text, noticed_out, noticed_outs, noticed_text, outs_text, report_text, told_text, totals_text};
 
-use crate::reports::report::{Report, Told};
+use crate::reports::json::{append_drop_json, append_loaded_json, append_outs_json};
+use crate::reports::notice::{Notice, notice_of};
+use crate::reports::report::{Form, Report, Told};
 use crate::reports::words::{TidWord, bytes_word};
 use ap_books::Totals;
 use ap_model::{Out, Up};
@@ -66,16 +68,74 @@ fn append_outs(alloc: Global, text: &mut String, line: u64, outs: &[Out]) -> Res
     Ok(())
 }
 
-pub(crate) fn append_report(
+/// Appends a notice, if there is one.
+fn append_notice(text: &mut String, line: u64, notice: Option<Notice>) -> Result<(), AllocError>
+    ensures ok { IfOk result (λ _. string_bytes text.new ≡ string_bytes text.old
+        ++ notice_line line notice) }
+{
+    match notice {
+        Some(notice) => {
+            writeln!(text, "{line} {notice}")?;
+            return Ok(());
+        }
+        None => return Ok(()),
+    }
+}
+
+/// Appends what an output means to a station, if it means something.
+fn append_meaning(text: &mut String, line: u64, out: &Out) -> Result<(), AllocError>
+    ensures ok { IfOk result (λ _. string_bytes text.new ≡ string_bytes text.old
+        ++ notice_text line out.now) }
+{
+    match out {
+        Out::Send(frame) => return append_notice(text, line, notice_of(frame.bytes())),
+        Out::Up(_) => return Ok(()),
+        Out::Note(_) => return Ok(()),
+    }
+}
+
+/// Appends the line of an output, and what it means.
+fn append_noticed(alloc: Global, text: &mut String, line: u64, out: &Out) -> Result<(), AllocError>
+    ensures ok { IfOk result (λ _. string_bytes text.new ≡ string_bytes text.old
+        ++ noticed_out line out.now) }
+{
+    append_out(alloc, text, line, out)?;
+    append_meaning(text, line, out)?;
+    Ok(())
+}
+
+fn append_noticed_outs(
     alloc: Global,
     text: &mut String,
-    report: &Report,
+    line: u64,
+    outs: &[Out],
 ) -> Result<(), AllocError>
     ensures ok { IfOk result (λ _. string_bytes text.new ≡ string_bytes text.old
-        ++ report_text report.now) }
+        ++ noticed_outs line outs.now) }
 {
-    let line = report.line;
-    match &report.told {
+    for out in outs {
+        append_noticed(alloc, text, line, out)?;
+    }
+    Ok(())
+}
+
+/// Appends a line if data was dropped.
+fn append_drop(text: &mut String, line: u64, dropped: bool) -> Result<(), AllocError>
+    ensures ok { IfOk result (λ _. string_bytes text.new ≡ string_bytes text.old
+        ++ drop_text line dropped) }
+{
+    if dropped {
+        writeln!(text, "{line} drop")?;
+    }
+    Ok(())
+}
+
+/// Appends what became of a line, as lines.
+fn append_told(alloc: Global, text: &mut String, line: u64, told: &Told) -> Result<(), AllocError>
+    ensures ok { IfOk result (λ _. string_bytes text.new ≡ string_bytes text.old
+        ++ told_text line told.now) }
+{
+    match told {
         Told::Handled { outs, .. } => append_outs(alloc, text, line, outs.as_slice())?,
         Told::Memory => writeln!(text, "{line} memory")?,
         Told::Loaded { budget, .. } => writeln!(text, "{line} loaded {budget}")?,
@@ -87,6 +147,82 @@ pub(crate) fn append_report(
         Told::Malformed { why } => writeln!(text, "{line} error {why}")?,
     }
     Ok(())
+}
+
+/// Appends what became of a line, with what its frames mean.
+fn append_told_noticed(
+    alloc: Global,
+    text: &mut String,
+    line: u64,
+    told: &Told,
+) -> Result<(), AllocError>
+    ensures ok { IfOk result (λ _. string_bytes text.new ≡ string_bytes text.old
+        ++ noticed_text line told.now) }
+{
+    match told {
+        Told::Handled { outs, dropped } => {
+            append_noticed_outs(alloc, text, line, outs.as_slice())?;
+            append_drop(text, line, *dropped)?;
+            return Ok(());
+        }
+        Told::Memory
+        | Told::Loaded { .. }
+        | Told::Fault(_)
+        | Told::Refused(_)
+        | Told::Certificate { .. }
+        | Told::Unreadable(_)
+        | Told::Word { .. }
+        | Told::Malformed { .. } => return append_told(alloc, text, line, told),
+    }
+}
+
+/// Appends what became of a line, as JSON if it has outputs or a program is in force.
+fn append_told_json(
+    alloc: Global,
+    text: &mut String,
+    line: u64,
+    told: &Told,
+) -> Result<(), AllocError>
+    ensures ok { IfOk result (λ _. string_bytes text.new ≡ string_bytes text.old
+        ++ json_text line told.now) }
+{
+    match told {
+        Told::Handled { outs, dropped } => {
+            append_outs_json(alloc, text, line, outs.as_slice())?;
+            append_drop_json(text, line, *dropped)?;
+            return Ok(());
+        }
+        Told::Loaded { budget, .. } => {
+            append_loaded_json(text, line, *budget)?;
+            return Ok(());
+        }
+        Told::Memory
+        | Told::Fault(_)
+        | Told::Refused(_)
+        | Told::Certificate { .. }
+        | Told::Unreadable(_)
+        | Told::Word { .. }
+        | Told::Malformed { .. } => return append_told(alloc, text, line, told),
+    }
+}
+
+/// Appends the lines of a report.
+pub(crate) fn append_report(
+    alloc: Global,
+    text: &mut String,
+    form: Form,
+    report: &Report,
+) -> Result<(), AllocError>
+    ensures ok { IfOk result (λ _. string_bytes text.new ≡ string_bytes text.old
+        ++ report_text form report.now) }
+{
+    let line = report.line;
+    let told = &report.told;
+    match form {
+        Form::Lines => return append_told(alloc, text, line, told),
+        Form::Notices => return append_told_noticed(alloc, text, line, told),
+        Form::Json => return append_told_json(alloc, text, line, told),
+    }
 }
 
 /// The last line of a run.

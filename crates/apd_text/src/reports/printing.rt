@@ -7,7 +7,7 @@ ghost use Rattle.apd_text.specs.Lines.{report_text, reports_text, totals_text};
 ghost use Rattle.apd_text.specs.Moving.{MovesOn};
 
 use crate::reports::lines::{append_report, totals_line};
-use crate::reports::report::Report;
+use crate::reports::report::{Form, Report};
 use ap_books::Totals;
 use apd_files::{Unwritten, write_whole};
 use std::alloc::{AllocError, Global};
@@ -67,14 +67,15 @@ fn print_report<W: Write>(
     alloc: Global,
     text: &mut String,
     writer: &mut W,
+    form: Form,
     report: &Report,
 ) -> Result<(), PrintFault>
     ensures moved { OnOk result (MovesOn (W.contents writer.old) (W.contents writer.new)
-        (string_bytes text.old ++ report_text report.now) (string_bytes text.new)) }
+        (string_bytes text.old ++ report_text form report.now) (string_bytes text.new)) }
     ensures beginning { AppendsBeginning (W.contents writer.old) (W.contents writer.new)
-        (string_bytes text.old ++ report_text report.now) }
+        (string_bytes text.old ++ report_text form report.now) }
 {
-    append_report(alloc, text, report)?;
+    append_report(alloc, text, form, report)?;
     if text.len() >= ENOUGH {
         flush(text, writer)?;
     }
@@ -85,16 +86,17 @@ fn print_report<W: Write>(
 pub fn print_reports<W: Write>(
     alloc: Global,
     writer: &mut W,
+    form: Form,
     reports: &[Report],
 ) -> Result<(), PrintFault>
     ensures whole { OnOk result
-        (Appends (W.contents writer.old) (W.contents writer.new) (reports_text reports.now)) }
+        (Appends (W.contents writer.old) (W.contents writer.new) (reports_text form reports.now)) }
     ensures beginning { AppendsBeginning
-        (W.contents writer.old) (W.contents writer.new) (reports_text reports.now) }
+        (W.contents writer.old) (W.contents writer.new) (reports_text form reports.now) }
 {
     let mut text = String::new(alloc);
     for report in reports {
-        print_report(alloc, &mut text, writer, report)?;
+        print_report(alloc, &mut text, writer, form, report)?;
     }
     flush(&mut text, writer)?;
     Ok(())

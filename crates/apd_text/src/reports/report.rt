@@ -44,3 +44,14 @@ pub struct Report {
     pub shard: u16,
     pub told: Told,
 }
+
+/// How reports are printed.
+#[derive(Clone, Copy, Debug, PartialEq, Eq)]
+pub enum Form {
+    /// A line for each output: frames to send as hex digits.
+    Lines,
+    /// The same, each frame followed by what it means to its station; and a line for data that a verdict dropped.
+    Notices,
+    /// A JSON object for each output, for dropped data, and for a program that is in force; all else as lines.
+    Json,
+}

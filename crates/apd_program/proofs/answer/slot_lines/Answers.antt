@@ -1,4 +1,4 @@
-use Rattle.std.proofs.Common.{ℕ, ◌≤◌, ◌<◌, length, arith}
+use Rattle.std.proofs.Common.{◌≤◌, ◌<◌, length, arith}
 use Rattle.std.proofs.lemmas.List.{append-nil}
 use Rattle.apd_program.proofs.Slots.{slot_lines-none, lines_go_on}
 use Rattle.apd_program.proofs.answer.slot_lines.Goals as goal

@@ -7,21 +7,21 @@ use Rattle.apd_program.proofs.entry.perform.Goals as goal
 pub returns-in-Ok-Run : goal.returns-in-Ok-Run
 returns-in-Ok-Run g c = record {
   fulfils = λ w spelled.
-      let P : Wanted → Type 0 = λ v. Fulfils (g.F.Files.held c.args.files.now) v (g.O.Write.contents c.args.out) (g.O.Write.contents c.run_watched.result.0) c.run_watched.result.1 in
+      let P : Wanted → Type 0 = λ v. Fulfils (g.F.Files.held c.args.files.now) v (g.O.Write.contents c.args.streams.out) (g.O.Write.contents c.run_watched.result.0) c.run_watched.result.1 in
       subst P ((rw c.in-Ok-Run.field-0-is at c.in-Ok-Run.ensures.spelled) w spelled) c.run_watched.ensures.runs;
 }
 
 pub returns-in-Ok-Live : goal.returns-in-Ok-Live
 returns-in-Ok-Live g c = record {
   fulfils = λ w spelled.
-      let P : Wanted → Type 0 = λ v. Fulfils (g.F.Files.held c.args.files.now) v (g.O.Write.contents c.args.out) (g.O.Write.contents c.run_live.result.0) c.run_live.result.1 in
+      let P : Wanted → Type 0 = λ v. Fulfils (g.F.Files.held c.args.files.now) v (g.O.Write.contents c.args.streams.out) (g.O.Write.contents c.run_live.result.0) c.run_live.result.1 in
       subst P ((rw c.in-Ok-Live.field-0-is at c.in-Ok-Live.ensures.spelled) w spelled) c.run_live.ensures.runs;
 }
 
 pub returns-in-Ok-Answer : goal.returns-in-Ok-Answer
 returns-in-Ok-Answer g c = record {
   fulfils = λ w spelled.
-      let P : Wanted → Type 0 = λ v. Fulfils (g.F.Files.held c.args.files.now) v (g.O.Write.contents c.args.out) (g.O.Write.contents c.respond-status.new.out) c.respond-status.result in
+      let P : Wanted → Type 0 = λ v. Fulfils (g.F.Files.held c.args.files.now) v (g.O.Write.contents c.args.streams.out) (g.O.Write.contents c.respond-status.new.out) c.respond-status.result in
       subst P ((rw c.in-Ok-Answer.field-0-is at c.in-Ok-Answer.ensures.spelled) w spelled) c.respond-status.ensures.is;
 }
 

@@ -1,7 +1,7 @@
 use Rattle.std.proofs.Common.{inl, refl, subst}
 use Rattle.apd_words.specs.Asked.{Wanted, wanted_answer, wanted_run, wanted_live}
 use Rattle.apd_program.specs.Program.{Responds, Performed}
-use Rattle.apd_program.proofs.Performing.{Responds-status, Responds-memory, Responds-told, Tells-status, Tells-memory, Does-told}
+use Rattle.apd_program.proofs.Performing.{Responds-status, Responds-memory, Responds-told, Does-told}
 use Rattle.apd_program.proofs.program.apd_main.Goals as goal
 
 pub returns-in-Ok-Answer-clause-status : goal.returns-in-Ok-Answer-clause-status

@@ -4,8 +4,8 @@ use Rattle.std.proofs.lemmas.Result.{IfErr-weaker, IfOk-weaker}
 use Rattle.apd_files.specs.declared.inputs.files.FileKind.TheVariants.{Certificate}
 use Rattle.apd_files.specs.Held.{Held, HoldsCode}
 use Rattle.apd_program.specs.Certifying.{IsChecked}
-use Rattle.apd_program.specs.Faults.{IsMemoryOr, IsBadSource, HasBadDigits}
-use Rattle.apd_program.proofs.Faulty.{HasNoCertificate-others, HasNoCertificate-file}
+use Rattle.apd_program.specs.Faults.{IsMemoryOr, HasBadDigits}
+use Rattle.apd_program.proofs.Faulty.{HasNoCertificate-file}
 use Rattle.apd_program.proofs.KeptCode.{IsOfCode-loaded}
 use Rattle.apd_program.proofs.program.check.Goals as goal
 

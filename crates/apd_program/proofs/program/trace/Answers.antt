@@ -2,11 +2,11 @@ use Rattle.std.proofs.Common.{rules, inr}
 use Rattle.std.specs.Result.{IfErr}
 use Rattle.std.proofs.lemmas.Result.{IfErr-weaker, IfOk-weaker}
 use Rattle.apd_program.specs.declared.fault.ProgramFault.TheVariants.{LongFrame}
-use Rattle.apd_program.specs.Faults.{IsMemoryOr, IsBadSource, IsGiven, IsNoFrame, TooLong}
+use Rattle.apd_program.specs.Faults.{IsMemoryOr, IsGiven, IsNoFrame, TooLong}
 use Rattle.apd_program.specs.Setups.{IsFrame}
 use Rattle.apd_program.specs.Verifying.{IsRunWithin}
 use Rattle.apd_words.specs.Asked.{text_of}
-use Rattle.apd_program.proofs.Faulty.{HasNoTrial-files, HasNoTrial-word, HasNoTrial-given, too_long}
+use Rattle.apd_program.proofs.Faulty.{HasNoTrial-word, HasNoTrial-given, too_long}
 use Rattle.apd_program.proofs.KeptCode.{IsOfCode-loaded}
 use Rattle.apd_program.proofs.program.trace.Goals as goal
 

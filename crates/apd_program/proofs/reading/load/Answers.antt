@@ -1,4 +1,4 @@
-use Rattle.std.proofs.Common.{rules, ◌^◌, ◌∙◌, subst}
+use Rattle.std.proofs.Common.{rules, ◌^◌, subst}
 use Rattle.std.specs.Result.{IfErr}
 use Rattle.std.proofs.lemmas.Result.{IfErr-weaker}
 use Rattle.apd_files.specs.Held.{Held, HoldsKept}

@@ -1,6 +1,6 @@
 use Rattle.std.proofs.Common.{◌≡◌, List, [], ◌∷◌, ◌++◌, length, arith, refl, sym, ap, ◌∙◌, append_assoc, append-nil}
 use Rattle.std.specs.Vec.Iter.{into_iter_items}
-use Rattle.ap_tagged.specs.declared.tagged.Tagged.{Tagged}
+use Rattle.ap_live.specs.declared.tagged.Tagged.{Tagged}
 use Rattle.apd_run.specs.Reports.{Report}
 use Rattle.apd_run.specs.Telling.{reports_in, reports_of}
 use Rattle.apd_run.proofs.collecting.report_all.Goals as goal

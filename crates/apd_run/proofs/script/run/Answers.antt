@@ -11,4 +11,4 @@ returns-clause-home g c =
     rw many at c.run_threads.ensures.home
 
 pub returns-clause-shows : goal.returns-clause-shows
-returns-clause-shows g c = rw c.is_strict.ensures.is at c.run_threads.ensures.shows
+returns-clause-shows g c = rw c.how.ensures.is at c.run_threads.ensures.shows

@@ -1,5 +1,5 @@
 use Rattle.std.proofs.Common.{◌≡◌, ◌++◌, ◌∷◌, [], List, ap, refl, ◌∙◌}
-use Rattle.ap_tagged.specs.declared.tagged.Tagged.{Tagged}
+use Rattle.ap_live.specs.declared.tagged.Tagged.{Tagged}
 use Rattle.ap_live.proofs.Going.{served_more, served_none, served_still}
 use Rattle.ap_live.proofs.Handing.{served_holds}
 use Rattle.ap_live.proofs.live.LiveAp.serve.Goals as goal

@@ -1,5 +1,5 @@
 use Rattle.std.proofs.Common.{◌≡◌, ◌+◌, ◌-◌, ◌∙◌, ℕ, ap, arith, refl, subst, sym}
-use Rattle.ap_shards.specs.Pages.{EightPages, HasPages}
+use Rattle.ap_shards.specs.Pages.{HasPages}
 use Rattle.ap_live.specs.Tokens.{Left}
 use Rattle.ap_live.proofs.Rest.{new_count}
 use Rattle.ap_live.proofs.tokens.LeftTokens.into_parts.Goals as goal

@@ -26,15 +26,15 @@ returns-in-Err-clause-led c =
     })
     (ap (λ (j : ProgramJudge). j.state.now) stayed.1 ∙ c.new-judge.ensures.state)))
 
-pub only-result-requires : goal.only-result-requires
-only-result-requires c = as_many c.in-Ok.ensures.run.leads.are
+pub only_result-result-requires : goal.only_result-result-requires
+only_result-result-requires c = as_many c.in-Ok.ensures.run.leads.are
 
 pub returns-in-Ok-clause-refused : goal.returns-in-Ok-clause-refused
 returns-in-Ok-clause-refused c =
     let a : Parts = record { shards = c.self.inside.shards; programs = c.self.inside.programs } in
     let a' : Parts = record { shards = c.handle_all.new.shards; programs = c.self.inside.programs } in
     λ none.
-    let like = like_by a a' c.args.event _ _ (outs_in c.in-Ok.results.items) c.in-Ok.ensures.run (c.only-result.ensures ∙ ap (λ o. option_map (λ outs. outs.items) o ∷ []) none) refl in
+    let like = like_by a a' c.args.event _ _ (outs_in c.in-Ok.results.items) c.in-Ok.ensures.run (c.only_result-result.ensures ∙ ap (λ o. option_map (λ outs. outs.items) o ∷ []) none) refl in
     let name = ap (λ (j : ProgramJudge). j.state.ghost_name) like.1 ∙ c.new-judge.ensures.same_state in (
       subst (λ (b : Parts). IsLike b a') c.self.view_is like.0,
       subst (λ (h : Held). h ≡ c.args.state.now) (search rules) (ap (λ (j : ProgramJudge). j.state.now) like.1 ∙ c.new-judge.ensures.state),

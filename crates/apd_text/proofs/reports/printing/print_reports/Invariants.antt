@@ -6,5 +6,5 @@ use Rattle.apd_text.proofs.reports.printing.print_reports.Given as goal
 -- what was written, and what is left to write: the text, and the remaining reports
 abbrev pub invariant-loop-report : goal.invariant-loop-report
 invariant-loop-report g l =
-    MovesOn (g.W.Write.contents l.initial.writer) (g.W.Write.contents l.writer) (reports_text l.reports)
-    (string_bytes l.text ++ reports_text (drop l.report-index l.reports))
+    MovesOn (g.W.Write.contents l.initial.writer) (g.W.Write.contents l.writer) (reports_text l.form l.reports)
+    (string_bytes l.text ++ reports_text l.form (drop l.report-index l.reports))

@@ -1,5 +1,0 @@
-use Rattle.ap_core.proofs.Pasts.{begun}
-use Rattle.ap_core.proofs.shard.Shard.new.Goals as goal
-
-pub invariant_of-result : goal.invariant_of-result
-invariant_of-result c = record { history = begun _ _ c.opened-state.ensures.opening }

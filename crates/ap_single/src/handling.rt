@@ -1,0 +1,50 @@
+//! One event at eight shards: what programs read, and its result.
+
+ghost use Rattle.std.specs.Prelude.{◌≡◌, ℕ, length, Some, ◌∷◌, []};
+ghost use Rattle.std.specs.Option.{option_map};
+ghost use Rattle.bpf_helpers.specs.HookPorts.{given_by};
+ghost use Rattle.ap_model.specs.AccessPoint.{shard_of};
+ghost use Rattle.ap_core.specs.Shards.{reads};
+ghost use Rattle.ap_core.specs.AccessPoints.{readings_of, outs_in};
+ghost use Rattle.ap_single.specs.Leading.{IsGiven};
+
+use ap_core::{Event, Out, Shard, shard_of};
+use bpf_helpers::{MapTables, WorkerView};
+
+/// What programs read of this shard.
+fn view_of<'t>(shard: &Shard, maps: &'t [MapTables]) -> WorkerView<'t>
+    ensures maps { result.maps ≡ maps.entry }
+    ensures given { IsGiven maps.now (reads shard.now) (given_by result) }
+{
+    WorkerView {
+        maps,
+        worker: 0,
+        clock: shard.clock(),
+        stations: shard.stations(),
+    }
+}
+
+/// What programs read of the shard that an event concerns.
+pub fn view_at<'t>(shards: &[Shard; 8], event: &Event, maps: &'t [MapTables]) -> WorkerView<'t>
+    ensures maps { result.maps ≡ maps.entry }
+    ensures worker { result.worker ≡ 0 }
+    ensures given { (s : ℕ) → shard_of event.now ≡ Some s →
+        IsGiven maps.now (readings_of shards.now s) (given_by result) }
+{
+    match shard_of(event) {
+        Some(at) => view_of(&shards[at], maps),
+        None => view_of(&shards[0], maps),
+    }
+}
+
+/// The only result of a list.
+pub fn only_result(results: Vec<Option<Vec<Out>>>) -> Option<Vec<Out>>
+    requires { length (outs_in results.items) ≡ 1 }
+    ensures { outs_in results.items ≡ option_map (λ outs. outs.items) result ∷ [] }
+{
+    let mut results = results;
+    match results.pop() {
+        Some(result) => result,
+        None => None,
+    }
+}

@@ -1,0 +1,29 @@
+use Rattle.std.proofs.Common.{refl, sym, ◌∙◌}
+use Rattle.apd_run.specs.Asking.{Unanswered}
+use Rattle.apd_run.specs.Shows.{Nothing, ThenFlushes, BehindInterval}
+use Rattle.apd_run.proofs.Batches.{shows_more, breaks_more}
+use Rattle.apd_run.proofs.input.Input.do_all.Goals as goal
+
+pub intervals-init : goal.intervals-init
+intervals-init g c =
+    record { home = c.requires.home; workers = refl; shown = rw c.nothing-found.ensures.memory (rw c.nothing-found.ensures.refused Nothing) }
+
+pub intervals-preserved : goal.intervals-preserved
+intervals-preserved g c =
+    let goes_on = sym c.is_over.ensures.is ∙ c.if-is_over.false in
+    let flushed = ThenFlushes _ _ _ _ _ c.intervals.invariant.shown c.advance.ensures.keeps in
+    record {
+      home = c.in-Ok.ensures.home;
+      workers = c.in-Ok.ensures.workers ∙ c.intervals.invariant.workers;
+      shown = rw c.and-found.ensures.memory (rw c.and-found.ensures.refused (shows_more _ _ _ _ _ _ _ _ _ _ _ flushed goes_on c.in-Ok.ensures.shows));
+    }
+
+pub returns-in-Ok-false-clause-shows : goal.returns-in-Ok-false-clause-shows
+returns-in-Ok-false-clause-shows g c = ThenFlushes _ _ _ _ _ c.intervals.invariant.shown c.advance.ensures.keeps
+
+pub returns-in-Err-clause-breaks : goal.returns-in-Err-clause-breaks
+returns-in-Err-clause-breaks g c = BehindInterval _ _ _ _ (ThenFlushes _ _ _ _ _ c.intervals.invariant.shown c.advance.ensures.keeps) (Unanswered refl)
+
+pub returns-in-Err-do_lines-clause-breaks : goal.returns-in-Err-do_lines-clause-breaks
+returns-in-Err-do_lines-clause-breaks g c =
+    breaks_more _ _ _ _ _ _ _ _ (ThenFlushes _ _ _ _ _ c.intervals.invariant.shown c.advance.ensures.keeps) (sym c.is_over.ensures.is ∙ c.if-is_over.false) c.in-Err-do_lines.ensures.breaks

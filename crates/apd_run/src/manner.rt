@@ -1,0 +1,12 @@
+//! How a run goes on, and how it prints.
+
+use apd_text::Form;
+
+/// How a run goes on, and how it prints.
+#[derive(Clone, Copy, Debug, PartialEq, Eq)]
+pub struct Manner {
+    /// Whether a line at fault ends the run after its interval.
+    pub strict: bool,
+    /// How reports are printed.
+    pub form: Form,
+}
