@@ -250,38 +250,53 @@ fn a_script_is_run_by_threads_alone(rt: HostRuntime) {
     says(&rt, rt.alloc(), &words, 2, "", why);
 }
 
-/// Commands, how many units of work they take, and what they say with one unit less.
-const WORK: &[(&[&str], u64, &str)] = &[
+/// A command, how many units of work it takes, one unit less, and what it says within that.
+struct Limited {
+    words: &'static [&'static str],
+    enough: &'static str,
+    scarce: &'static str,
+    refusal: &'static str,
+}
+
+const WORK: &[Limited] = &[
     // two states of 80 parts
-    (
-        &["apd", "verify", "data", "one.hex"],
-        160,
-        "refused 36 at 1\n",
-    ),
-    (
-        &["apd", "trace", "data", "one.hex", ""],
-        160,
-        "refused 36 at 1\n",
-    ),
+    Limited {
+        words: &["apd", "verify", "data", "one.hex"],
+        enough: "160",
+        scarce: "159",
+        refusal: "refused 36 at 1\n",
+    },
+    Limited {
+        words: &["apd", "trace", "data", "one.hex", ""],
+        enough: "160",
+        scarce: "159",
+        refusal: "refused 36 at 1\n",
+    },
     // they are explored twice, then without the frame's length and three registers, and then checked
-    (
-        &["apd", "cert", "data", "one.hex"],
-        1120,
-        "refused 36 at 0\n",
-    ),
-    (
-        &["apd", "check", "data", "one.hex", "own.cert"],
-        160,
-        "certificate 36\n",
-    ),
+    Limited {
+        words: &["apd", "cert", "data", "one.hex"],
+        enough: "1120",
+        scarce: "1119",
+        refusal: "refused 36 at 0\n",
+    },
+    Limited {
+        words: &["apd", "check", "data", "one.hex", "own.cert"],
+        enough: "160",
+        scarce: "159",
+        refusal: "certificate 36\n",
+    },
 ];
 
 /// The result of a command within a limit of work.
-fn worked(rt: &impl Abort, alloc: Global, words: &[&str], units: u64) -> Told {
-    let limit = format!(in alloc; "{units}").expect(rt, "memory");
+fn worked(
+    rt: &impl Abort,
+    alloc: Global,
+    words: &'static [&'static str],
+    limit: &'static str,
+) -> Told {
     let mut all = Vec::from_slice(alloc, words).expect(rt, "memory");
     all.push("--work").expect(rt, "memory");
-    all.push(limit.as_str()).expect(rt, "memory");
+    all.push(limit).expect(rt, "memory");
     let (told, _) = answer(alloc, all.as_slice());
     told
 }
@@ -289,11 +304,16 @@ fn worked(rt: &impl Abort, alloc: Global, words: &[&str], units: u64) -> Told {
 #[test]
 fn more_work_than_is_allowed_is_refused(rt: HostRuntime) {
     let alloc = rt.alloc();
-    for (words, units, refusal) in WORK {
-        let told = worked(&rt, alloc, words, *units);
+    for row in WORK {
+        let told = worked(&rt, alloc, row.words, row.enough);
         same(&rt, told.status, 0, "the status");
-        let told = worked(&rt, alloc, words, units.saturating_sub(1));
+        let told = worked(&rt, alloc, row.words, row.scarce);
         same(&rt, told.status, 1, "the status");
-        same(&rt, told.out.as_slice(), refusal.as_bytes(), "the refusal");
+        same(
+            &rt,
+            told.out.as_slice(),
+            row.refusal.as_bytes(),
+            "the refusal",
+        );
     }
 }
