@@ -2,7 +2,7 @@
 #![tactic(auto)]
 
 use apd_files::RealFiles;
-use apd_program::{Messages, Standard, Streams};
+use apd_entry::{Messages, Standard, Streams};
 use std::alloc::{AllocError, Global};
 use std::env::FillError;
 use std::io::{ErrorKind, Input, IsTerminal, Read, Write};
@@ -93,7 +93,7 @@ where
         words.push(word.as_str()).map_err(AllocError::from)?;
     }
     let mut files = RealFiles::new(rt);
-    let (_, status) = apd_program::perform(
+    let (_, status) = apd_entry::perform(
         rt,
         alloc,
         words.as_slice(),

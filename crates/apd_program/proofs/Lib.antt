@@ -8,4 +8,3 @@ pub mod Delivering
 pub mod Admits
 pub mod Evaluated
 pub mod Tested
-pub mod Formed

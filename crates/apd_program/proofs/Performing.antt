@@ -6,10 +6,6 @@ use Rattle.apd_words.specs.Asked.{Asked, Wanted, Run as RunWanted, Live as LiveW
 use Rattle.apd_words.specs.Reads.{TellsOf}
 use Rattle.apd_words.specs.declared.Told.{Told}
 use Rattle.apd_words.specs.declared.Told.TheVariants as told
-use Rattle.apd_driver.specs.Counts.{none}
-use Rattle.apd_driver.proofs.Ending.{runs_nothing}
-use Rattle.apd_driver.specs.declared.reports.report.Form.{Form}
-use Rattle.apd_program.specs.Forms.{RunsFormed, colours_of, form_of, in_lines, style_of}
 use Rattle.apd_program.specs.declared.answer.Answer.{Answer}
 use Rattle.apd_program.specs.declared.answer.Answer.TheVariants.{Accepted, Code, Instructions, Run, Verdicts, Differences, Page, Script, CutScript, Tested, Help, Fault, Refused, LineFault, Certificate, Unaccepted}
 use Rattle.apd_program.specs.declared.fault.ProgramFault.{ProgramFault}
@@ -21,7 +17,7 @@ use Rattle.apd_program.specs.Printed.{WholeText, BeginningOfText, fault_status}
 use Rattle.apd_program.specs.Delivered.{Delivers, Printed, Stored, Begun, Unstored, Nothing, status_after}
 use Rattle.apd_program.specs.declared.output.Undelivered.{Undelivered}
 use Rattle.apd_program.specs.declared.output.Undelivered.TheVariants as undelivered
-use Rattle.apd_program.specs.Program.{Performs, Wrote, Saved, Stopped, Unsaved, Refrained, Exhausted, Responds, Fulfils, Tells, Does, Complained, Helped, StoppedHelp}
+use Rattle.apd_program.specs.Program.{Performs, Wrote, Saved, Stopped, Unsaved, Refrained, Exhausted, Responds, Tells, Does, Complained, Helped, StoppedHelp}
 use Rattle.apd_program.proofs.Kept.{Keeps-same}
 
 -- a failed write has status 2
@@ -134,25 +130,11 @@ Responds-nothing files (AnswerWanted a output) o = Exhausted (Keeps-same o)
 Responds-nothing files (RunWanted config script workers states work quiet strict verbose) o = (refl, inr refl)
 Responds-nothing files (LiveWanted config workers states work strict verbose clock events color) o = (refl, inr refl)
 
-formed_nothing : (strict : Bool) (form : Option Form) (o : Option (List ℕ)) → RunsFormed strict form o o 3
-formed_nothing strict None o = (refl, inr refl)
-formed_nothing strict (Some form) o = runs_nothing (record { strict = strict; form = form }) o none 3 (inr refl)
-
-Fulfils-nothing : (shown : Bool) (files : Held) (w : Wanted) (o : Option (List ℕ)) → Fulfils shown files w o o 3
-Fulfils-nothing shown files (AnswerWanted a output) o = Exhausted (Keeps-same o)
-Fulfils-nothing shown files (RunWanted config script workers states work quiet strict verbose) o = runs_nothing (in_lines strict) o none 3 (inr refl)
-Fulfils-nothing shown files (LiveWanted config workers states work strict verbose clock events color) o = formed_nothing strict (form_of (style_of events) (colours_of shown color)) o
-
 -- words that always make a request are reported only for lack of memory
 pub Responds-told : (files : Held) (w : Wanted) (t : Told) (old new : Option (List ℕ)) (status : ℕ) → t ≡ told.NoMemory → Tells t old new status → Responds files w old new status
 Responds-told files w (told.Help text) old new status e tells = cc
 Responds-told files w (told.Fault text) old new status e tells = cc
 Responds-told files w told.NoMemory old new status e tells = rw (tells.0, tells.1) (Responds-nothing files w old)
-
-pub Fulfils-told : (shown : Bool) (files : Held) (w : Wanted) (t : Told) (old new : Option (List ℕ)) (status : ℕ) → t ≡ told.NoMemory → Tells t old new status → Fulfils shown files w old new status
-Fulfils-told shown files w (told.Help text) old new status e tells = cc
-Fulfils-told shown files w (told.Fault text) old new status e tells = cc
-Fulfils-told shown files w told.NoMemory old new status e tells = rw (tells.0, tells.1) (Fulfils-nothing shown files w old)
 
 pub Tells-status : (t : Told) (old new : Option (List ℕ)) (status : ℕ) → Tells t old new status → status ≤ 3
 Tells-status (told.Help text) old new status (WholeText written) = omega arith

@@ -16,5 +16,4 @@ pub mod Testing
 pub mod Answers
 pub mod Printed
 pub mod Delivered
-pub mod Forms
 pub mod Program

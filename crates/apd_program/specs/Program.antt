@@ -3,8 +3,6 @@ use Rattle.std.specs.Prelude.{◌≡◌, ◌⊎◌, ℕ, Bool, List, Option, str
 use Rattle.std.specs.Io.KnownBytes.{Appends, Keeps}
 use Rattle.clap.specs.declared.builder.value_parser.ValueParser.{ValueParser}
 use Rattle.apd_files.specs.Beginning.{AppendsBeginning}
-use Rattle.apd_driver.specs.Counts.{none}
-use Rattle.apd_driver.specs.Shows as shows
 use Rattle.apd_words.specs.Asked.{Asked, Wanted, Run, Live, Answer}
 use Rattle.apd_words.specs.CommandLine.{TakesNames, hook_names, worker_names}
 use Rattle.apd_words.specs.Reads.{AsksFor, IsHelp}
@@ -15,7 +13,6 @@ use Rattle.apd_files.specs.Held.{Held}
 use Rattle.apd_program.specs.Lines.{printed, status_of}
 use Rattle.apd_program.specs.Answers.{IsAnswer, HasNoAnswer}
 use Rattle.apd_program.specs.Delivered.{GoesOut, IsForFile}
-use Rattle.apd_program.specs.Forms.{in_lines, RunsLive}
 use Rattle.apd_program.specs.Printed.{PrintsText}
 
 -- What is written to standard output for a question, with a file for the answer or without, and the status. Lack of
@@ -37,15 +34,6 @@ abbrev pub Responds : Held → Wanted → Option (List ℕ) → Option (List ℕ
 Responds files (Answer a output) old new status = Performs files a output old new status
 Responds files (Run config script workers states work quiet strict verbose) old new status = Refuses old new status
 Responds files (Live config workers states work strict verbose clock events color) old new status = Refuses old new status
-
--- what is wanted is done: a script runs from its first line, or lines as they come, whose answers a terminal shows or
--- doesn't
-abbrev pub Fulfils : Bool → Held → Wanted → Option (List ℕ) → Option (List ℕ) → ℕ → Type 0
-Fulfils shown files (Answer a output) old new status = Performs files a output old new status
-Fulfils shown files (Run config script workers states work quiet strict verbose) old new status =
-    shows.Runs (in_lines strict) old new none status
-Fulfils shown files (Live config workers states work strict verbose clock events color) old new status =
-    RunsLive shown strict events color old new status
 
 -- what is written for words that make no request, and the status
 abbrev pub Tells : Told → Option (List ℕ) → Option (List ℕ) → ℕ → Type 0

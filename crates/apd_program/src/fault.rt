@@ -13,7 +13,7 @@ use std::fmt;
 
 /// Why a command has no answer. Its text goes to standard error.
 #[derive(Drop)]
-pub(crate) enum ProgramFault {
+pub enum ProgramFault {
     Unreadable {
         path: String,
         why: FileFault,

@@ -1,21 +1,19 @@
-//! The commands of `apd`: what it does with its command line.
+//! The commands of `apd` that answer a question: all but `run` and `live`, which take threads.
 //!
-//! Main calls: `perform` for all commands, and `apd_main` for all but `run` and `live`, which take threads. Each reads
-//! the words once; what they ask for determines the rest.
+//! Main call: `apd_main`, which reads the words once; what they ask for determines the rest. `respond` answers a question
+//! that was read.
 #![tactic(auto)]
 
 mod admission;
 mod answer;
 mod certifying;
 mod drawing;
-mod entry;
 mod evaluating;
 mod explaining;
 mod fault;
 mod framing;
 mod helping;
 mod hints;
-mod lines;
 mod output;
 mod printing;
 mod program;
@@ -25,7 +23,6 @@ mod texts;
 mod verifying;
 
 pub use answer::Answer;
-pub use apd_run::Streams;
-pub use entry::{Messages, perform};
-pub use lines::Standard;
-pub use program::apd_main;
+pub use fault::ProgramFault;
+pub use printing::complain;
+pub use program::{apd_main, respond, tell};

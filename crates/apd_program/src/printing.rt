@@ -72,7 +72,7 @@ pub(crate) fn say_if_any<W: Write>(text: &Result<Option<String>, AllocError>, wr
 }
 
 /// Reports a fault, and returns its status, even if the write fails: 3 if memory ran out, otherwise 2.
-pub(crate) fn complain<W: Write>(alloc: Global, fault: &ProgramFault, err: &mut W) -> u8
+pub fn complain<W: Write>(alloc: Global, fault: &ProgramFault, err: &mut W) -> u8
     ensures is { result ≡ fault_status fault.now }
 {
     match fault {

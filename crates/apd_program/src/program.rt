@@ -56,7 +56,7 @@ pub fn apd_main<'a, F: Files, O: Write, E: Write>(
 }
 
 /// Prints help, or reports a fault of the words or lack of memory, and returns the exit status.
-pub(crate) fn tell<O: Write, E: Write>(alloc: Global, told: &Told, out: &mut O, err: &mut E) -> u8
+pub fn tell<O: Write, E: Write>(alloc: Global, told: &Told, out: &mut O, err: &mut E) -> u8
     ensures is { Tells told.now (O.contents out.old) (O.contents out.new) result }
 {
     match told {
@@ -70,7 +70,7 @@ pub(crate) fn tell<O: Write, E: Write>(alloc: Global, told: &Told, out: &mut O, 
 }
 
 /// Writes the answer to a question to standard output, or to the file named for it; returns the exit status.
-pub(crate) fn respond<F: Files, O: Write, E: Write>(
+pub fn respond<F: Files, O: Write, E: Write>(
     alloc: Global,
     query: Query<'_>,
     files: &mut F,

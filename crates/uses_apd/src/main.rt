@@ -6,7 +6,7 @@
 #![tactic(auto)]
 
 use apd_files::RealFiles;
-use apd_program::{Messages, Standard, Streams};
+use apd_entry::{Messages, Standard, Streams};
 use std::alloc::{AllocError, Global};
 use std::io;
 use std::io::{Input, Read, Write};
@@ -75,7 +75,7 @@ where
 {
     let words = words_of(alloc, line)?;
     let mut files = RealFiles::new(rt);
-    let (_, status) = apd_program::perform(
+    let (_, status) = apd_entry::perform(
         rt,
         alloc,
         words.as_slice(),

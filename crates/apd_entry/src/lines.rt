@@ -2,12 +2,11 @@
 
 ghost use Rattle.std.specs.Prelude.{◌≡◌};
 ghost use Rattle.apd_words.specs.Asked.{text_of};
-ghost use Rattle.apd_program.specs.Forms.{colours_named, colours_of, style_named, style_of, RunsLive};
+ghost use Rattle.apd_entry.specs.Forms.{colours_named, colours_of, style_named, style_of, RunsLive};
 
-use crate::fault::ProgramFault;
-use crate::printing::complain;
 use apd_driver::{Direct, Form, Manner, Style, Timed};
 use apd_files::Files;
+use apd_program::{ProgramFault, complain};
 use apd_run::{Limits, OpenGate, RunWords, StateLimit, Streams, Supplies, live};
 use apd_words::LiveRun;
 use std::alloc::Global;

@@ -1,8 +1,8 @@
 use Rattle.std.proofs.Common.{subst}
 use Rattle.apd_words.specs.Asked.{Wanted}
-use Rattle.apd_program.specs.Program.{Fulfils}
-use Rattle.apd_program.proofs.Performing.{Fulfils-told}
-use Rattle.apd_program.proofs.entry.perform.Goals as goal
+use Rattle.apd_entry.specs.Fulfilled.{Fulfils}
+use Rattle.apd_entry.proofs.Fulfilling.{Fulfils-told}
+use Rattle.apd_entry.proofs.entry.perform.Goals as goal
 
 pub returns-in-Ok-Run : goal.returns-in-Ok-Run
 returns-in-Ok-Run g c = record {

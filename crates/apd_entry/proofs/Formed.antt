@@ -4,7 +4,7 @@ use Rattle.apd_driver.specs.declared.reports.report.Form.{Form}
 use Rattle.apd_driver.specs.declared.reports.report.Style.{Style}
 use Rattle.apd_driver.specs.Counts.{none}
 use Rattle.apd_driver.specs.Shows.{IsBroken, Runs}
-use Rattle.apd_program.specs.Forms.{RunsFormed, RunsLive, colours_of, form_of, style_of}
+use Rattle.apd_entry.specs.Forms.{RunsFormed, RunsLive, colours_of, form_of, style_of}
 
 form_named : (style : Style) (colours : Bool) (s : Option Style) (b : Option Bool) → Some style ≡ s → Some colours ≡ b
     → Some (record { style = style; colours = colours }) ≡ form_of s b

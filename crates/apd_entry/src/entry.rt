@@ -5,13 +5,13 @@ ghost use Rattle.apd_driver.specs.Counts.{none};
 ghost use Rattle.apd_driver.specs.Shows.{Runs};
 ghost use Rattle.apd_words.specs.Asked.{Wanted};
 ghost use Rattle.apd_words.specs.Spells.{Spells};
-ghost use Rattle.apd_program.specs.Program.{Fulfils};
-ghost use Rattle.apd_program.specs.Forms.{in_lines};
+ghost use Rattle.apd_entry.specs.Fulfilled.{Fulfils};
+ghost use Rattle.apd_entry.specs.Forms.{in_lines};
 
 use crate::lines::run_live;
-use crate::program::{respond, tell};
 use apd_driver::{Form, Manner};
 use apd_files::Files;
+use apd_program::{respond, tell};
 use apd_run::{Limits, OpenGate, Progress, RunWords, StateLimit, Streams, Supplies, run};
 use apd_words::{Request, ScriptRun, read_words};
 use std::alloc::Global;

@@ -1,0 +1,17 @@
+-- What the program does with its words.
+use Rattle.std.specs.Prelude.{◌≡◌, ℕ, Bool, List, Option}
+use Rattle.apd_driver.specs.Counts.{none}
+use Rattle.apd_driver.specs.Shows.{Runs as runs}
+use Rattle.apd_files.specs.Held.{Held}
+use Rattle.apd_words.specs.Asked.{Wanted, Run, Live, Answer}
+use Rattle.apd_program.specs.Program.{Performs}
+use Rattle.apd_entry.specs.Forms.{in_lines, RunsLive}
+
+-- what is wanted is done: a script runs from its first line, or lines as they come, whose answers a terminal shows or
+-- doesn't
+abbrev pub Fulfils : Bool → Held → Wanted → Option (List ℕ) → Option (List ℕ) → ℕ → Type 0
+Fulfils shown files (Answer a output) old new status = Performs files a output old new status
+Fulfils shown files (Run config script workers states work quiet strict verbose) old new status =
+    runs (in_lines strict) old new none status
+Fulfils shown files (Live config workers states work strict verbose clock events color) old new status =
+    RunsLive shown strict events color old new status

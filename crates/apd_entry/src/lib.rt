@@ -1,0 +1,11 @@
+//! The program as a function of its words, files and streams, with the threads that `run` and `live` take.
+//!
+//! Main call: `perform`, which reads the words once; what they ask for determines the rest.
+#![tactic(auto)]
+
+mod entry;
+mod lines;
+
+pub use apd_run::Streams;
+pub use entry::{Messages, perform};
+pub use lines::Standard;
