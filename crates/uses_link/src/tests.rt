@@ -9,12 +9,11 @@ mod asking;
 mod listing;
 mod policies;
 mod refusals;
-mod same;
 mod setting;
 
+use crate::same::{holds, same};
 use ap_core::{Event, LinkConfig, ListJudge, Octets, Out, Shard, handle_all, new_shards};
 use mac_frame::{Address, Reason, Tid};
-use same::{holds, same};
 use std::alloc::Global;
 use std::process::Abort;
 

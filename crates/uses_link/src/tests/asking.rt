@@ -2,7 +2,7 @@
 
 ghost use Rattle.std.specs.Prelude.{◌≡◌};
 
-use crate::tests::same::{holds, same};
+use crate::same::{holds, same};
 use crate::tests::{ASSOCIATION, AUTHENTICATION, DATA, SETUP, frame, shard, spelled};
 use ap_core::{AskLog, Event, Judge, Octets, Shard, shard_of};
 use bpf_regions::{Context, Frame, Hook};

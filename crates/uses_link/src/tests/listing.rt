@@ -1,7 +1,7 @@
 //! What the shard of `02000000000a` lists: the stations that it knows, and their agreements.
 
-use super::same::{holds, same};
 use super::{AUTHENTICATION, SETUP, enter, frame, from, qos, shards};
+use crate::same::{holds, same};
 use ap_core::{AgreementInForce, Event, Known, KnownStation, ListJudge, handle_all};
 use mac_frame::{Address, SequenceNumber, Tid};
 use std::alloc::Global;

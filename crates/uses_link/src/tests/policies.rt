@@ -3,7 +3,7 @@
 ghost use Rattle.std.specs.Prelude.{◌≡◌};
 ghost use Rattle.bpf_helpers.specs.Hooked.{IsFitting};
 
-use crate::tests::same::{holds, same};
+use crate::same::{holds, same};
 use crate::tests::setting::{NO_TEXTS, Seated, Texts, admitted, end, entered, two_seats};
 use crate::tests::{ASSOCIATION, AUTHENTICATION, DATA, SETUP, config, field_at, frame, shard};
 use ap_core::{Event, ListJudge, Out, Shard, Up};

@@ -3,8 +3,8 @@
 ghost use Rattle.ap_model.specs.AccessPoint.{InPlace};
 ghost use Rattle.ap_core.specs.AccessPoints.{rules_of};
 
+use crate::same::holds;
 use crate::tests::Line::{self, Close, Frame, Kick, Notes, PassesUp, Qos, Request, Sends, Tick};
-use crate::tests::same::holds;
 use crate::tests::{
     ASSOCIATED, ASSOCIATION, AUTHENTICATED, AUTHENTICATION, DATA, DEAUTHENTICATED_6,
     DEAUTHENTICATED_7, DISASSOCIATED_7, ENDS_OWN, SET_UP, SETUP, events, is_told, shard, shards,

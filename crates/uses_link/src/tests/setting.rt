@@ -3,7 +3,7 @@
 ghost use Rattle.std.specs.Prelude.{◌≡◌};
 ghost use Rattle.bpf_helpers.specs.Hooked.{HaveTables, IsFitting, shapes_of};
 
-use crate::tests::same::holds;
+use crate::same::holds;
 use bpf_decode::decode;
 use bpf_helpers::{MapTables, WorkerState, tables_law};
 use bpf_machine::Accepted;

@@ -1,5 +1,0 @@
-use Rattle.bpf_helpers.specs.Hooked.{IsFitting}
-use Rattle.bench_link.proofs.judged.handle_round.Given as goal
-
-abbrev pub invariant-loop : goal.invariant-loop
-invariant-loop l = IsFitting l.policies.maps.now 0 l.state.seats
