@@ -8,7 +8,7 @@ ghost use Rattle.apd_driver.specs.Lines.{drop_text, json_text, line_of, notice_l
 use crate::reports::json::{append_drop_json, append_loaded_json, append_outs_json};
 use crate::reports::notice::{Dropped, Notice, notice_of};
 use crate::reports::report::{Form, Report, Style, Told};
-use crate::reports::words::{TidWord, bytes_word};
+use crate::reports::words::{TidWord, bytes_word, octets_word};
 use ap_books::Totals;
 use ap_model::{Out, Up};
 use std::alloc::{AllocError, Global};
@@ -27,12 +27,12 @@ fn append_up(alloc: Global, text: &mut String, line: u64, up: &Up) -> Result<(),
     ensures ok { IfOk result (λ _. string_bytes text.new ≡ string_bytes text.old
         ++ line_of line (out_words (Out.Up up.now))) }
 {
+    let source = octets_word(alloc, up.source.octets().as_slice())?;
+    let destination = octets_word(alloc, up.destination.octets().as_slice())?;
     let body = bytes_word(alloc, up.body.bytes())?;
     writeln!(
         text,
-        "{line} up {} {} {} {} {} {body}",
-        up.source,
-        up.destination,
+        "{line} up {source} {destination} {} {} {} {body}",
         TidWord(up.tid),
         up.number,
         up.mark

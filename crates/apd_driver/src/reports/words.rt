@@ -1,6 +1,7 @@
 //! Words of a line.
 
 ghost use Rattle.std.specs.Prelude.{◌≡◌, IfOk, Some, string_bytes};
+ghost use Rattle.mac_types.specs.Texts.{address_text};
 ghost use Rattle.apd_driver.specs.Words.{tid_word, bytes_word};
 
 use mac_types::Tid;
@@ -20,6 +21,13 @@ impl fmt::Display for TidWord {
             Some(tid) => write!(f, "{tid}"),
         }
     }
+}
+
+/// The octets of an address as hex digits, made in one piece: a run prints two addresses for each frame passed up.
+pub(crate) fn octets_word(alloc: Global, octets: &[u8]) -> Result<String, AllocError>
+    ensures is { IfOk result (λ text. string_bytes text ≡ address_text octets.now) }
+{
+    hex::encode(alloc, octets)
 }
 
 /// Bytes as hex digits, or a dash.
