@@ -55,6 +55,10 @@ impl<'a, R, C> Timed<'a, R, C> {
 }
 
 impl<'a, R: Threads + Wait + Clock, C: Clock> Source for Timed<'a, R, C> {
+    ghost use Rattle.apd_driver.specs.Clocks.{since_if};
+
+    ghost clock = { λ t. since_if t.passing };
+
     fn next(&mut self, _alloc: Global) -> Result<Arrival, FileFault> {
         let long = Duration::from_millis(PATIENCE);
         match self.reader.next(self.rt, long)? {
