@@ -170,9 +170,9 @@ shown_budgets p =
     map-append pair (row_if Association p.association) (row_if Addba p.addba ++ row_if Data p.frames)
     ∙ (ap (λ l. l ++ map pair (row_if Addba p.addba ++ row_if Data p.frames)) (budget_if Association p.association)
     ∙ ap (λ l. with_budget Association (budget_in p.association) ++ l)
-      (map-append pair (row_if Addba p.addba) (row_if Data p.frames)
-      ∙ (ap (λ l. l ++ map pair (row_if Data p.frames)) (budget_if Addba p.addba)
-      ∙ ap (λ l. with_budget Addba (budget_in p.addba) ++ l) (budget_if Data p.frames))))
+    (map-append pair (row_if Addba p.addba) (row_if Data p.frames)
+    ∙ (ap (λ l. l ++ map pair (row_if Data p.frames)) (budget_if Addba p.addba)
+    ∙ ap (λ l. with_budget Addba (budget_in p.addba) ++ l) (budget_if Data p.frames))))
 
 -- the rows are those of the set's programs
 pub rows_of_set : (p : ProgramCounts) (loads : List Load) (rows : List ProgramRow) → AreInForce p loads → map row_shown rows ≡ rows_of p

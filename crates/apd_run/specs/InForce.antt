@@ -82,6 +82,7 @@ pub record Row : Type 0 where
   pub denied : ℕ
   pub says : List ℕ
 
+-- the same of a row
 abbrev pub row_shown : ProgramRow → Row
 row_shown r =
     record {

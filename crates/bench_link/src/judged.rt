@@ -136,7 +136,9 @@ fn ran(
     ensures seats { IsFitting policies.now.maps.now 0 state.new.seats }
 {
     let view = view_of(policies, 0, 1);
-    state.run(accepted, 0, view, frame, &Context::new([0; 32])).r0
+    state
+        .run(accepted, 0, view, frame, &Context::new([0; 32]))
+        .r0
 }
 
 /// A round of frames in the shard. Returns how many were passed up.

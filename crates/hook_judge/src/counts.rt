@@ -1,6 +1,6 @@
 //! What is counted of the runs of one program.
 
-ghost use Rattle.std.specs.Prelude.{◌≡◌, ◌++◌};
+ghost use Rattle.std.specs.Prelude.{◌≡◌, ◌≤◌, ◌++◌, length};
 ghost use Rattle.hook_judge.specs.Counts.{denies, for_load, newest, no_runs, sum_of, with_all, with_run};
 ghost use Rattle.hook_judge.specs.Made.{AreFigures, made_of};
 
@@ -56,14 +56,26 @@ fn denies(hook: Hook, verdict: u64) -> bool
 }
 
 /// The last 16 of both lists.
-fn newest(notes: &ArrayVec<u64, 16>, later: &ArrayVec<u64, 16>) -> ArrayVec<u64, 16>
-    ensures are { result.items ≡ newest (notes.now.items ++ later.now.items) }
+fn newest(notes: &[u64], later: &[u64]) -> ArrayVec<u64, 16>
+    requires some { length notes.now ≤ 16 }
+    requires few { length later.now ≤ 16 }
+    ensures are { result.items ≡ newest (notes.now ++ later.now) }
 {
     let surplus = (notes.len() + later.len()).saturating_sub(16);
     let mut newest = ArrayVec::new();
-    let _all_fit = newest.try_extend_from_slice(&notes.as_slice()[surplus..]);
-    let _all_fit = newest.try_extend_from_slice(later.as_slice());
+    let _all_fit = newest.try_extend_from_slice(&notes[surplus..]);
+    let _all_fit = newest.try_extend_from_slice(later);
     newest
+}
+
+/// Appends notes, and gives up the oldest of more than 16.
+fn add_notes(notes: &mut ArrayVec<u64, 16>, later: &ArrayVec<u64, 16>)
+    ensures are { notes.new.items ≡ newest (notes.old.items ++ later.now.items) }
+{
+    if later.is_empty() {
+        return;
+    }
+    *notes = newest(notes.as_slice(), later.as_slice());
 }
 
 impl RunCounts {
@@ -88,10 +100,19 @@ impl RunCounts {
         ensures is { self.new ≡ with_run hook (made_of run.entry)
             (for_load run.entry.load run.entry.budget self.old) }
     {
-        if self.load != run.load || self.budget != run.budget {
-            *self = RunCounts::none(run.load, run.budget);
-        }
+        self.count_for(run.load, run.budget);
         self.add_run(hook, run);
+    }
+
+    /// Counts the runs of that load from here on, anew if they are others.
+    fn count_for(&mut self, load: u64, budget: u32)
+        ensures is { self.new ≡ for_load load budget self.old }
+        ensures budget { self.new.budget ≡ budget }
+    {
+        if self.load == load && self.budget == budget {
+            return;
+        }
+        *self = RunCounts::none(load, budget);
     }
 
     /// Counts a run of the same load.
@@ -105,9 +126,7 @@ impl RunCounts {
         self.steps = self.steps.wrapping_add(u64::from(run.steps));
         self.granted = self.granted.wrapping_add(u64::from(!denied));
         self.denied = self.denied.wrapping_add(u64::from(denied));
-        if !run.notes.is_empty() {
-            self.notes = newest(&self.notes, run.notes);
-        }
+        add_notes(&mut self.notes, run.notes);
     }
 
     /// Adds what another counted, if it counted runs of the same load.
@@ -129,7 +148,7 @@ impl RunCounts {
         self.steps = self.steps.wrapping_add(other.steps);
         self.granted = self.granted.wrapping_add(other.granted);
         self.denied = self.denied.wrapping_add(other.denied);
-        self.notes = newest(&self.notes, &other.notes);
+        add_notes(&mut self.notes, &other.notes);
     }
 
     /// The numbers.
