@@ -72,6 +72,8 @@ fn newest(notes: &[u64], later: &[u64]) -> ArrayVec<u64, 16>
 fn add_notes(notes: &mut ArrayVec<u64, 16>, later: &ArrayVec<u64, 16>)
     ensures are { notes.new.items ≡ newest (notes.old.items ++ later.now.items) }
 {
+    // Proofs have from it that at most 16 are there.
+    let _before = notes.as_slice();
     if later.is_empty() {
         return;
     }

@@ -127,8 +127,8 @@ impl Source for Steps<'_> {
             return 0;
         };
         match Instant::now(&self.hand) {
-            Ok(now) => passing.tell(now),
-            Err(_) => 0,
+            Ok(now) => return passing.tell(now),
+            Err(_) => return 0,
         }
     }
 

@@ -1,7 +1,7 @@
 //! What was counted of the runs of the programs in force.
 
 ghost use Rattle.std.specs.Prelude.{◌≡◌, ◌++◌, map, IfOk, OnOk};
-ghost use Rattle.apd_run.specs.InForce.{noted, nothing, put_program, row_if, row_of, row_shown, rows_of, with_counts, with_more};
+ghost use Rattle.apd_run.specs.InForce.{none_since, noted, nothing, put_program, row_if, row_of, row_shown, rows_of, with_counts, with_more};
 
 use apd_driver::{ProgramRow, Told};
 use bpf_regions::Hook;
@@ -17,6 +17,16 @@ pub struct ProgramCounts {
     pub addba: Option<RunCounts>,
     pub frames: Option<RunCounts>,
     pub numbers: LoadNumbers,
+}
+
+/// No run of a new program, which the load with this number put in force, if it is there.
+fn none_since(load: u64, budget: Option<u32>) -> Option<RunCounts>
+    ensures is { result ≡ none_since load budget }
+{
+    match budget {
+        Some(budget) => Some(RunCounts::none(load, budget)),
+        None => None,
+    }
 }
 
 /// Adds what a worker counted, if it counted runs of the same load.
@@ -86,7 +96,7 @@ impl ProgramCounts {
     {
         self.numbers = self.numbers.next(hook);
         let load = self.numbers.at(hook);
-        let counts = budget.map(|budget| RunCounts::none(load, budget));
+        let counts = none_since(load, budget);
         match hook {
             Hook::Association => self.association = counts,
             Hook::Addba => self.addba = counts,
