@@ -109,6 +109,13 @@ def identifier_of(answers):
     return int.from_bytes(response[28:30], "little") & 0x3FFF
 
 
+def counts_of(row):
+    """A row of `programs`: the numbers by their names, and what the program noted."""
+    counts, _, says = row.partition(" says ")
+    words = counts.split()[2:]  # behind `program HOOK`
+    return dict(zip(words[::2], map(int, words[1::2]))), [int(note) for note in says.split()]
+
+
 class Link:
     """An access point that runs as a process: lines go into one pipe, and answers come out of another."""
 
@@ -207,13 +214,24 @@ class Station:
         tell = header(BLOCK_ACK, STATION, ACCESS_POINT) + block_ack(0, 104) + bitmap(104, [104, 105])
         self.frame("BlockAckReq 104", ask, passes_up(104, 5, b"fifth"), sends(tell))
 
+    def programs(self, **due):
+        """What was counted of the data program's runs since its load: these among others, and all of them agree."""
+        row, end = self.ask("programs")
+        counts, says = counts_of(row)
+        agree = counts["runs"] == counts["pass"] + counts["drop"] and counts["most"] <= counts["budget"] and not says
+        right = agree and all(counts[name] == number for name, number in due.items())
+        self.compare("programs", [row if right else f"a row with {due}", "end 1"], [row, end])
+
     def replace(self):
         """Another program judges what comes from now on; what waits was judged when it came."""
         self.data(107, b"judged before")
         self.line("store", "store 0 0 0 9")
+        self.programs(drop=1)
         self.line("load", "load data examples/mark_and_count.hex", "loaded 9")
+        self.programs(runs=0, most=0, steps=0)
         self.data(106, b"judged after", passes_up(106, 9, b"judged after"), passes_up(107, 5, b"judged before"))
         self.line("sum", "sum 1 0 0", "word 1")
+        self.programs(runs=1, drop=0)
 
     def leave(self):
         """A number beyond the window moves it; the end of the agreement passes up what waits."""

@@ -18,7 +18,6 @@ use Rattle.ap_shards.specs.declared.fate.Fate.{Fate}
 use Rattle.ap_shards.specs.declared.fate.Fate.TheVariants.{Decided, Refused, NotHandled}
 use Rattle.ap_live.specs.declared.tagged.Tagged.{Tagged}
 use Rattle.versions.specs.Lists.{Beginning, Begins}
-use Rattle.versions.specs.Sets.{set_of}
 use Rattle.ap_live.specs.Counting.{KeepParts, counted_by, fate_counts, tally}
 use Rattle.ap_live.specs.Lives.{Live}
 use Rattle.ap_live.specs.Serving.{Becomes, IsInside, Progress, Served, ServedOne, Serves, ServesAll, progress_of}
@@ -82,7 +81,7 @@ pub left_alone : (config : Config) (a : Live) (n : ℕ) (p : Progress) (e : Even
 left_alone config a n p e s =
     record {
       begins = begins_same p.seen;
-      came = not_handled_stays (JudgedBy a.stock.maps n (set_of p.seen.loads) p.held p.held) config s e p.shards;
+      came = not_handled_stays (JudgedBy a.stock.maps n p.seen.loads p.held p.held) config s e p.shards;
       held = refl;
       inside = tt;
     }
@@ -90,7 +89,7 @@ left_alone config a n p e s =
 pub served_item : (config : Config) (a : Live) (w w2 : Worker) (x : Queued) (t : Tagged) → Serves config a w.number (progress_of w) x t (progress_of w2) → ServedOne config a w t w2
 served_item config a w w2 x t s =
     let b = s.became in
-    let grown = grown_tokens (JudgedBy a.stock.maps w.number (set_of w2.seen.loads) w.held w2.held) config t.item.shard t.item.event t.fate w.shards w2.shards b.came in
+    let grown = grown_tokens (JudgedBy a.stock.maps w.number w2.seen.loads w.held w2.held) config t.item.shard t.item.event t.fate w.shards w2.shards b.came in
     record {
       item = x;
       served = s;

@@ -20,9 +20,12 @@ use Rattle.ap_shards.specs.Judged.{JudgedBy, AnyVerdicts}
 use Rattle.ap_shards.specs.declared.fate.Fate.{Fate}
 use Rattle.ap_shards.specs.declared.fate.Fate.TheVariants.{Decided, Refused, NotHandled}
 use Rattle.ap_live.specs.declared.tagged.Tagged.{Tagged}
-use Rattle.bpf_helpers.specs.Hooked.{Given, Held}
+use Rattle.bpf_helpers.specs.Hooked.{Given}
+use Rattle.hook_judge.specs.Counted.{Counted}
 use Rattle.bpf_machine.specs.Verified.{Verified}
 use Rattle.hook_judge.specs.Verdicts.{GivesVerdict, VerdictOf}
+use Rattle.versions.specs.declared.list.Load.{Load}
+use Rattle.versions.specs.Numbers.{number_at, numbers_of}
 use Rattle.versions.specs.Sets.{Programs, program_at, set_of}
 use Rattle.ap_live.specs.Lives.{Live}
 use Rattle.ap_live.specs.Serving.{Acted, Becomes, Progress, Served, ServesAll, is_command, progress_of}
@@ -36,28 +39,28 @@ use Rattle.ap_live.proofs.Growing.{by_shard, command_silent}
 
 -- ---- verdicts
 
-judged_one : (g : Given) (programs : Programs) (h h' : Held) (ask : Ask) (verdict steps : ℕ) (p : Option Verified) → program_at ask.hook programs ≡ p
-    → VerdictOf g p h ask verdict steps h' → IsJudged programs ask verdict
-judged_one g programs h h' ask verdict steps None is v = inl (record { none = is; number = v.0 })
-judged_one g programs h h' ask verdict steps (Some p) is v =
+judged_one : (g : Given) (programs : Programs) (load : ℕ) (h h' : Counted) (ask : Ask) (verdict steps : ℕ) (p : Option Verified) → program_at ask.hook programs ≡ p
+    → VerdictOf g load p h ask verdict steps h' → IsJudged programs ask verdict
+judged_one g programs load h h' ask verdict steps None is v = inl (record { none = is; number = v.0 })
+judged_one g programs load h h' ask verdict steps (Some p) is v =
     inr (record {
       accepted = p;
       in_force = is;
-      for_hook = v.for_hook;
-      safe = v.safe;
-      asked = v.asked;
+      for_hook = v.run.for_hook;
+      safe = v.run.safe;
+      asked = v.run.asked;
       steps = steps;
-      notes = v.notes;
-      ends = v.ends;
-      within = v.within;
+      notes = v.run.notes;
+      ends = v.run.ends;
+      within = v.run.within;
     })
 
-are_judged : (g : Given) (programs : Programs) (h h' : Held) (asked : List (Ask × ℕ)) → Answered (GivesVerdict g programs) h asked h' → AreJudged programs asked
-are_judged g programs h h' [] is = All-nil (λ (x : Ask × ℕ). IsJudged programs x.0 x.1)
-are_judged g programs h h' (x ∷ asked) v =
-    All-cons (λ (x : Ask × ℕ). IsJudged programs x.0 x.1) x asked
-    (judged_one g programs h v.0 x.0 x.1 v.1.0 (program_at x.0.hook programs) refl v.1.1)
-    (are_judged g programs v.0 h' asked v.2)
+are_judged : (g : Given) (loads : List Load) (h h' : Counted) (asked : List (Ask × ℕ)) → Answered (GivesVerdict g loads) h asked h' → AreJudged (set_of loads) asked
+are_judged g loads h h' [] is = All-nil (λ (x : Ask × ℕ). IsJudged (set_of loads) x.0 x.1)
+are_judged g loads h h' (x ∷ asked) v =
+    All-cons (λ (x : Ask × ℕ). IsJudged (set_of loads) x.0 x.1) x asked
+    (judged_one g (set_of loads) (number_at x.0.hook (numbers_of loads)) h v.0 x.0 x.1 v.1.0 (program_at x.0.hook (set_of loads)) refl v.1.1)
+    (are_judged g loads v.0 h' asked v.2)
 
 -- ---- one event
 
@@ -89,7 +92,7 @@ module _ (law : RunsHold) (V : Readings → List (Ask × ℕ) → Type 0) where
 module _ (law : RunsHold) (config : Config) (a : Live) (worker : ℕ) where
   fate_holds : (p : Progress) (e : Event) (s : ℕ) (f : Fate) (q : Progress) → Becomes config a worker p e s f q → FateHolds config a worker p e s f q
   fate_holds p e s (Decided outs dropped) q b =
-      let V : Readings → List (Ask × ℕ) → Type 0 = JudgedBy a.stock.maps worker (set_of q.seen.loads) p.held q.held in
+      let V : Readings → List (Ask × ℕ) → Type 0 = JudgedBy a.stock.maps worker q.seen.loads p.held q.held in
       let x = at_shard (λ t u. Comes V (rules s config) t e (Decided outs dropped) u) p.shards q.shards s b.inside b.came in
       record {
         entry = record {
@@ -107,11 +110,11 @@ module _ (law : RunsHold) (config : Config) (a : Live) (worker : ℕ) where
           holds = link_after law V (rules s config) (token_at s p.shards) e outs.items dropped (token_at s q.shards) x;
         };
         over = x.verdicts;
-        judged = are_judged _ (set_of q.seen.loads) p.held q.held x.asked x.verdicts.verdicts;
+        judged = are_judged _ q.seen.loads p.held q.held x.asked x.verdicts.verdicts;
         flag = x.flag;
       }
-  fate_holds p e s Refused q b = refused_still (JudgedBy a.stock.maps worker (set_of q.seen.loads) p.held q.held) config s e p.shards q.shards b.came
-  fate_holds p e s NotHandled q b = left_still (JudgedBy a.stock.maps worker (set_of q.seen.loads) p.held q.held) config s e p.shards q.shards b.came
+  fate_holds p e s Refused q b = refused_still (JudgedBy a.stock.maps worker q.seen.loads p.held q.held) config s e p.shards q.shards b.came
+  fate_holds p e s NotHandled q b = left_still (JudgedBy a.stock.maps worker q.seen.loads p.held q.held) config s e p.shards q.shards b.came
 
   -- ---- one after the other
 
@@ -160,7 +163,7 @@ module _ (config : Config) (a : Live) (worker : ℕ) where
   hands_all s low p (x ∷ xs) (t ∷ ts) q r =
       let m : Progress = r.0 in
       let b = r.1.became in
-      let V : Readings → List (Ask × ℕ) → Type 0 = JudgedBy a.stock.maps worker (set_of m.seen.loads) p.held m.held in
+      let V : Readings → List (Ask × ℕ) → Type 0 = JudgedBy a.stock.maps worker m.seen.loads p.held m.held in
       let e : Event = t.item.event in
       by_shard (λ s. HandsOn (token_at s m.shards) (outs_at s ts) (token_at s q.shards) → HandsOn (token_at s p.shards) (outs_at s (t ∷ ts)) (token_at s q.shards))
       (hands_one V (rules t.item.shard config) e t.fate (t.item.shard == 0) p.shards.of0 m.shards.of0 q.shards.of0 (outs_at 0 ts) b.came.of0)

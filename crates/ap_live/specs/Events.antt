@@ -45,7 +45,7 @@ pub record EntryHolds (c : Rules) (t : Token) (event : Event) (outs : List Out) 
 -- entry. The flag says whether one of them dropped data.
 pub record EventHolds (config : Config) (a : Live) (worker : ℕ) (p : Progress) (event : Event) (shard : ℕ) (outs : List Out) (dropped : Bool) (q : Progress) : Type 0 where
   pub entry : EntryHolds (rules shard config) (token_at shard p.shards) event outs (token_at shard q.shards)
-  pub over : JudgedBy a.stock.maps worker (set_of q.seen.loads) p.held q.held entry.readings entry.asked
+  pub over : JudgedBy a.stock.maps worker q.seen.loads p.held q.held entry.readings entry.asked
   pub judged : AreJudged (set_of q.seen.loads) entry.asked
   pub flag : dropped ≡ drops entry.asked
 

@@ -1,8 +1,7 @@
 -- What workers and operators report, and what their tokens then are.
 use Rattle.std.specs.Prelude.{◌≡◌, ◌<◌, ℕ, Bool, true, false, List, [], ◌∷◌, ◌++◌, Some}
-use Rattle.bpf_helpers.specs.Hooked.{Held}
 use Rattle.versions.specs.Lists.{Beginning, Begins}
-use Rattle.versions.specs.Sets.{set_of}
+use Rattle.hook_judge.specs.Counted.{Counted}
 use Rattle.ap_model.specs.AccessPoint.{shard_of}
 use Rattle.ap_model.specs.Readings.{Config}
 use Rattle.ap_model.specs.declared.event.Event.{Event}
@@ -23,11 +22,12 @@ use Rattle.ap_live.specs.Counting.{KeepParts, counted_by, fate_counts, tally}
 use Rattle.ap_live.specs.Lives.{Live}
 use Rattle.ap_live.specs.Tokens.{Operator, Worker}
 
--- the progress of a worker: what it took, the loads that it has seen, the state of its programs, its tokens
+-- the progress of a worker: what it took, the loads that it has seen, the state of its programs with what was counted
+-- of their runs, its tokens
 pub record Progress : Type 0 where
   pub taken : List Queued
   pub seen : Beginning
-  pub held : Held
+  pub held : Counted
   pub shards : Eight
 
 -- the progress that a worker's token shows
@@ -45,7 +45,7 @@ IsInside NotHandled shard = Unit {0}
 -- before; and over its own tables.
 pub record Becomes (config : Config) (a : Live) (worker : ℕ) (p : Progress) (e : Event) (shard : ℕ) (f : Fate) (q : Progress) : Type 0 where
   pub begins : Begins p.seen q.seen
-  pub came : ComesAt (JudgedBy a.stock.maps worker (set_of q.seen.loads) p.held q.held) config shard p.shards e f q.shards
+  pub came : ComesAt (JudgedBy a.stock.maps worker q.seen.loads p.held q.held) config shard p.shards e f q.shards
   pub held : HoldsOn f p.held q.held
   pub inside : IsInside f shard
 

@@ -1,7 +1,8 @@
 -- The tokens of an access point's users.
 use Rattle.std.specs.Prelude.{◌≡◌, ◌<◌, ℕ, List, length, slice_get, Some}
 use Rattle.shared_maps.specs.Tables.{Place}
-use Rattle.bpf_helpers.specs.Hooked.{Held, IsFitting}
+use Rattle.bpf_helpers.specs.Hooked.{IsFitting}
+use Rattle.hook_judge.specs.Counted.{Counted}
 use Rattle.versions.specs.Lists.{Beginning, Readers}
 use Rattle.ap_queues.specs.declared.queue.EventQueue.{EventQueue}
 use Rattle.ap_queues.specs.declared.queue.WorkerPass.{WorkerPass}
@@ -21,12 +22,12 @@ pub record Operator : Type 0 where
   pub shards : Eight
 
 -- what a worker has: its number, the handle on its queue, the loads that it has seen or been told of, the state of its
--- programs, a token of each shard
+-- programs with what was counted of their runs, a token of each shard
 pub record Worker : Type 0 where
   pub number : ℕ
   pub pass : WorkerPass
   pub seen : Beginning
-  pub held : Held
+  pub held : Counted
   pub shards : Eight
 
 -- what was not given yet; `parts` says how many parts of each ledger, and pages with that of its own tokens, are left

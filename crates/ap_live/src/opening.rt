@@ -1,6 +1,7 @@
 //! A new access point, and the tokens of its users.
 
 ghost use Rattle.std.specs.Prelude.{◌≡◌, ◌-◌, ◌<◌, ◌≤◌, [], IfOk, OnErr, OnOk};
+ghost use Rattle.bpf_helpers.specs.Hooked.{IsFitting, KeepTables};
 ghost use Rattle.versions.specs.Lists.{readers_of};
 ghost use Rattle.ap_queues.specs.Lines.{HasPutNothing};
 ghost use Rattle.ap_queues.specs.Passes.{taken_by};
@@ -8,6 +9,7 @@ ghost use Rattle.ap_shards.specs.Opening.{AreNamed, whole};
 ghost use Rattle.ap_shards.specs.Pages.{AreNewPages};
 ghost use Rattle.ap_shards.specs.Tokens.{IsNewcomer};
 ghost use Rattle.ap_live.specs.Lives.{KeepsLive};
+ghost use Rattle.hook_judge.specs.Sums.{no_counts};
 ghost use Rattle.ap_live.specs.Opening.{ArePlaces, GaveNothing, GaveToken, IsOpened, parts_in_all};
 ghost use Rattle.ap_live.specs.Tokens.{AreLeft, IsOperator, IsWorker};
 
@@ -19,6 +21,8 @@ use ap_queues::{EventLines, LineFault, LinePasses};
 use ap_shards::{AllPages, NewShards, ShardTokens, Shards};
 use ap_tables::ApTables;
 use bpf_regions::Shapes;
+use hook_judge::CountedState;
+use shared_maps::MapFault;
 use std::alloc::{AllocError, Global};
 use std::sync::Wait;
 use versions::opening::published;
@@ -102,6 +106,25 @@ fn assembled<B: Ledgers + Journals>(
     }
 }
 
+/// The state of a worker's programs, of which nothing was counted.
+fn state_of(
+    tables: &mut ApTables,
+    alloc: Global,
+    worker: usize,
+    draw: u64,
+) -> Result<CountedState, MapFault>
+    requires there { worker < tables.old.workers }
+    ensures tables { KeepTables tables.old.maps tables.new.maps }
+    ensures workers { tables.new.workers ≡ tables.old.workers }
+    ensures fitting { IfOk result (λ s. IsFitting tables.new.maps worker s.seats) }
+    ensures draw { IfOk result (λ s. s.draw ≡ draw) }
+    ensures uncounted { IfOk result (λ s. s.counts ≡ no_counts) }
+{
+    let state = tables.worker(alloc, worker, draw)?;
+    let state = CountedState::new(alloc, state)?;
+    Ok(state)
+}
+
 impl<B: Ledgers + Journals> LiveAp<B> {
     /// An access point before any event, with no program, and tables of zeros. Its ledgers, each
     /// divided into `PARTS` parts, and its journals are those of the new shards. Its type names these,
@@ -179,9 +202,9 @@ impl<B: Ledgers + Journals> LiveAp<B> {
         })
     }
 
-    /// The token of a worker, which has taken nothing, and whose programs first draw the configured
-    /// word; given once, after that fault 62. Only tests show that it is given. If it fails, no part of
-    /// a ledger is given.
+    /// The token of a worker, which has taken and counted nothing, and whose programs first draw the
+    /// configured word; given once, after that fault 62. Only tests show that it is given. If it fails,
+    /// no part of a ledger is given.
     pub fn worker(
         &mut self,
         alloc: Global,
@@ -196,6 +219,7 @@ impl<B: Ledgers + Journals> LiveAp<B> {
         ensures number { IfOk result (λ w. w.number ≡ number) }
         ensures untaken { IfOk result (λ w. taken_by w.pass ≡ []) }
         ensures draw { IfOk result (λ w. w.held.draw ≡ self.old.draw) }
+        ensures uncounted { IfOk result (λ w. w.held.counts ≡ no_counts) }
         ensures new { IfOk result (λ w. IsNewcomer left.old.shards w.shards) }
         ensures given { OnOk result (GaveToken left.old left.new) }
         ensures refused { OnErr result (GaveNothing left.old left.new) }
@@ -204,7 +228,7 @@ impl<B: Ledgers + Journals> LiveAp<B> {
         let Ok(reader) = left.readers.reader() else {
             return Err(LineFault::NoPass);
         };
-        let Ok(state) = self.tables.worker(alloc, number, self.draw) else {
+        let Ok(state) = state_of(&mut self.tables, alloc, number, self.draw) else {
             return Err(LineFault::NoMemory);
         };
         if left.parts <= 1 {

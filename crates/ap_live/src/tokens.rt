@@ -5,7 +5,7 @@ use ap_locked::Journals;
 use ap_queues::{LinePasses, OperatorLines, WorkerPass};
 use ap_shards::{AllPages, ShardTokens};
 use ap_tables::OperatorSeats;
-use bpf_helpers::WorkerState;
+use hook_judge::{CountedState, HookCounts};
 use std::marker::Model;
 use versions::{Published, Reader};
 
@@ -26,13 +26,13 @@ impl<B: Ledgers + Journals> Model for OperatorToken<B> {
 }
 
 /// The right of a worker: the handle on its queue, a reader of the published sets, the state of its
-/// programs, a part of each ledger. It may move to another thread.
+/// programs with what was counted of their runs, a part of each ledger. It may move to another thread.
 #[derive(Drop)]
 pub struct WorkerToken<B: Ledgers + Journals> {
     pub(crate) number: usize,
     pub(crate) pass: WorkerPass,
     pub(crate) reader: Reader,
-    pub(crate) state: WorkerState,
+    pub(crate) state: CountedState,
     pub(crate) shards: ShardTokens<B>,
 }
 
@@ -99,6 +99,16 @@ impl<B: Ledgers + Journals> WorkerToken<B> {
     ghost use Rattle.ap_shards.specs.Renewal.{AreFresh, AreRenewed};
     ghost use Rattle.ap_live.specs.Lives.{Live};
     ghost use Rattle.ap_live.specs.Tokens.{IsWorker};
+    ghost use Rattle.hook_judge.specs.Sums.{no_counts};
+
+    /// What was counted of the runs of its programs since the last call. From here on it counts anew.
+    pub fn take_counts(&mut self) -> HookCounts
+        ensures taken { result ≡ self.old.held.counts }
+        ensures anew { self.new
+            ≡ record self.old { held = record self.old.held { counts = no_counts } } }
+    {
+        self.state.take_counts()
+    }
 
     /// Exchanges its parts of the ledgers, with what they have counted, for others that have counted
     /// nothing. Then no entry of its own has come since; its pages are unchanged.

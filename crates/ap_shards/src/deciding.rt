@@ -14,8 +14,8 @@ use crate::tokens::ShardTokens;
 use ap_books::Ledgers;
 use ap_locked::{Journals, Locked, ShardToken};
 use ap_model::Event;
-use bpf_helpers::{WorkerState, WorkerView};
-use hook_judge::{SetJudge, judging_law};
+use bpf_helpers::WorkerView;
+use hook_judge::{CountedState, SetJudge, judging_law};
 use std::sync::{Mutex, Wait};
 
 /// Decides the event with the shard's clock and number of stations.
@@ -23,7 +23,7 @@ fn decide_at<B: Ledgers + Journals, const SHARD: usize>(
     locked: &mut Locked<B, SHARD>,
     mine: &mut ShardToken<B, SHARD>,
     desk: Desk<'_, '_>,
-    state: &mut WorkerState,
+    state: &mut CountedState,
     event: &Event,
 ) -> Fate
     requires { IsFitting desk.maps.now desk.worker state.old.seats }
@@ -54,7 +54,7 @@ fn decide_under<B: Ledgers + Journals, const SHARD: usize, R: Wait>(
     lock: &Mutex<Locked<B, SHARD>>,
     mine: &mut ShardToken<B, SHARD>,
     desk: Desk<'_, '_>,
-    state: &mut WorkerState,
+    state: &mut CountedState,
     event: &Event,
 ) -> Fate
     requires { IsFitting desk.maps.now desk.worker state.old.seats }
@@ -70,14 +70,14 @@ fn decide_under<B: Ledgers + Journals, const SHARD: usize, R: Wait>(
 
 impl<B: Ledgers + Journals> Shards<B> {
     /// Decides an event under the lock of this shard, by the programs of a published set over a
-    /// worker's tables. `mine` then has its entry, and counts it. An event that is refused for lack of
+    /// worker's tables, and counts their runs. `mine` then has its entry, and counts it. An event that is refused for lack of
     /// memory changes neither the tokens nor the worker's state.
     pub fn decide<R: Wait>(
         &self,
         rt: &R,
         mine: &mut ShardTokens<B>,
         desk: Desk<'_, '_>,
-        state: &mut WorkerState,
+        state: &mut CountedState,
         at: (u16, &Event),
     ) -> Fate
         requires shard { at.0 < 8 }

@@ -7,3 +7,4 @@ pub mod Ending
 pub mod Batches
 pub mod Entries
 pub mod Digits
+pub mod Looking

@@ -1,7 +1,9 @@
 -- The answers to the questions of `apd live`.
-use Rattle.std.specs.Prelude.{ℕ, List, [], ◌∷◌, ◌++◌, length, codes, decimal, string_bytes, Option, Some, None}
+use Rattle.std.specs.Prelude.{ℕ, ◌==◌, if◌then◌else◌, List, [], ◌∷◌, ◌++◌, length, codes, decimal, string_bytes, Option, Some, None}
 use Rattle.std.specs.List.{flat_map}
 use Rattle.bpf_regions.specs.Hooks.{name_of}
+use Rattle.bpf_regions.specs.declared.hooks.Hook.{Hook}
+use Rattle.bpf_regions.specs.declared.hooks.Hook.TheVariants.{Association, Addba, Data}
 use Rattle.bpf_regions.specs.Maps.{bytes_of}
 use Rattle.bpf_regions.specs.declared.maps.Scope.{Scope}
 use Rattle.bpf_regions.specs.declared.maps.Scope.TheVariants.{Shared, Worker}
@@ -33,9 +35,25 @@ agreement_words r =
     (then (codes "start") (then (decimal r.start) (then (codes "size") (then (decimal r.size)
     (then (codes "held") (then (decimal r.held) (then (codes "timeout") (decimal r.timeout))))))))))
 
--- `program HOOK budget N`
+-- what a verdict of a hook's program does that grants what was asked
+abbrev pub granted_name : Hook → List ℕ
+granted_name Association = codes "admit"
+granted_name Addba = codes "size"
+granted_name Data = codes "pass"
+
+-- what one does that denies it
+abbrev pub denied_name : Hook → List ℕ
+denied_name Association = codes "refuse"
+denied_name Addba = codes "decline"
+denied_name Data = codes "drop"
+
+-- `program HOOK budget N runs N most N steps N GRANTED N DENIED N`
 abbrev pub program_words : ProgramRow → List ℕ
-program_words r = then (codes "program") (then (name_of r.hook) (then (codes "budget") (decimal r.budget)))
+program_words r =
+    then (codes "program") (then (name_of r.hook) (then (codes "budget") (then (decimal r.budget)
+    (then (codes "runs") (then (decimal r.runs) (then (codes "most") (then (decimal r.most)
+    (then (codes "steps") (then (decimal r.steps) (then (granted_name r.hook) (then (decimal r.granted)
+    (then (denied_name r.hook) (decimal r.denied)))))))))))))
 
 -- how a configuration names a scope
 abbrev pub scope_name : Scope → List ℕ
@@ -51,6 +69,14 @@ shape_words s =
 -- numbers in decimal, each after a space (32)
 abbrev pub numbers_text : List ℕ → List ℕ
 numbers_text numbers = flat_map (λ n. 32 ∷ decimal n) numbers
+
+-- ` says`, and the notes, each after a space; nothing, if there is none
+abbrev pub says_text : List ℕ → List ℕ
+says_text notes = if length notes == 0 then [] else codes " says" ++ numbers_text notes
+
+-- a program's words, and what it noted
+abbrev pub program_text : ProgramRow → List ℕ
+program_text r = program_words r ++ says_text r.says.items
 
 -- an entry's index and its words
 abbrev pub entry_words : EntryRow → List ℕ
@@ -73,7 +99,7 @@ abbrev pub answer_text : ℕ → Answer → List ℕ
 answer_text number (Usages usages) = list_text (λ usage. then (codes "help") (string_bytes usage)) number usages.items
 answer_text number (Stations rows) = list_text station_words number rows.items
 answer_text number (Agreements rows) = list_text agreement_words number rows.items
-answer_text number (Programs rows) = list_text program_words number rows.items
+answer_text number (Programs rows) = list_text program_text number rows.items
 answer_text number (Counters totals) = line_of number (counter_words totals)
 answer_text number (Dump map shape entries) =
     line_of number (then (codes "map") (then (decimal map) (shape_words shape)))

@@ -1,5 +1,5 @@
 -- What questions are answered.
-use Rattle.std.specs.Prelude.{◌≡◌, ℕ, ◌+◌, ◌==◌, List, [], ◌∷◌, ◌++◌, length, map, Option, vec_len, if◌then◌else◌}
+use Rattle.std.specs.Prelude.{◌≡◌, ◌≤◌, ℕ, ◌+◌, ◌==◌, List, [], ◌∷◌, ◌++◌, length, map, Option, vec_len, if◌then◌else◌}
 use Rattle.std.specs.List.{All, list_all}
 use Rattle.std.specs.Io.KnownBytes.{Appends}
 use Rattle.std.specs.Cmp.Lexicographic.{slice_cmp}
@@ -17,6 +17,7 @@ use Rattle.apd_driver.specs.declared.answers.answer.Answer.{Answer}
 use Rattle.apd_driver.specs.declared.answers.answer.Answer.TheVariants as answer
 use Rattle.apd_driver.specs.declared.answers.answer.AgreementRow.{AgreementRow}
 use Rattle.apd_driver.specs.declared.answers.answer.EntryRow.{EntryRow}
+use Rattle.apd_driver.specs.declared.answers.answer.ProgramRow.{ProgramRow}
 use Rattle.apd_driver.specs.declared.answers.answer.StationRow.{StationRow}
 
 -- stations by address: one comes before another by the first octet in which they differ
@@ -30,6 +31,10 @@ agreement_cmp a b = ordering_then (slice_cmp nat_cmp a.0 b.0) (nat_cmp a.1 b.1)
 -- agreements in that order
 abbrev pub AreAgreementsInOrder : List AgreementRow → Type 0
 AreAgreementsInOrder rows = IsSortedByKey (λ (r : AgreementRow). (r.station, r.tid)) agreement_cmp rows
+
+-- no run of a program made more steps than its budget
+abbrev pub AreWithinBudget : List ProgramRow → Type 0
+AreWithinBudget rows = All (λ (r : ProgramRow). r.most ≤ r.budget) rows
 
 -- an entry with this index, unless all its words are 0
 abbrev pub entry_if : ℕ → List ℕ → List (ℕ × List ℕ)
@@ -56,7 +61,7 @@ abbrev pub Answers : Counts → Question → Answer → Type 0
 Answers counted question.Help (answer.Usages usages) = vec_len usages ≡ 18
 Answers counted question.Stations (answer.Stations rows) = AreStationsInOrder rows.items
 Answers counted question.Agreements (answer.Agreements rows) = AreAgreementsInOrder rows.items
-Answers counted question.Programs (answer.Programs rows) = Unit {0}
+Answers counted question.Programs (answer.Programs rows) = AreWithinBudget rows.items
 Answers counted question.Counters (answer.Counters totals) = Reads totals counted
 Answers counted (question.Dump map shape) (answer.Dump map2 shape2 entries) =
     (map2 ≡ map) × (shape2 ≡ shape) × ListsEntries shape entries.items

@@ -2,6 +2,7 @@ pub mod Actions
 pub mod Intervals
 pub mod Ticks
 pub mod Units
+pub mod Clocks
 pub mod Words
 pub mod Notices
 pub mod NoticeTexts

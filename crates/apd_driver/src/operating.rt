@@ -3,7 +3,7 @@
 ghost use Rattle.std.specs.Prelude.{◌≡◌, ◌<◌, IfOk, IfSome, OnOk};
 ghost use Rattle.ap_books.specs.Counts.{Counts, none};
 ghost use Rattle.ap_books.specs.Reading.{Reads};
-ghost use Rattle.apd_driver.specs.Asking.{AreAgreementsInOrder, AreStationsInOrder};
+ghost use Rattle.apd_driver.specs.Asking.{AreAgreementsInOrder, AreStationsInOrder, AreWithinBudget};
 ghost use Rattle.apd_driver.specs.Tallies.{told_counts};
 ghost use Rattle.apd_driver.specs.Crews.{Collects, Crew, with_one_more};
 
@@ -61,8 +61,10 @@ pub trait Operating<W> {
         ensures same { crew self.new ≡ crew self.old }
         ensures ordered { IfOk result (λ rows. AreAgreementsInOrder rows.items) };
 
-    /// The programs in force, in the order of their hooks' numbers.
-    fn programs(&self, alloc: Global) -> Result<Vec<ProgramRow>, AllocError>;
+    /// The programs in force, in the order of their hooks' numbers, with what the workers that came back have counted of
+    /// their runs.
+    fn programs(&self, alloc: Global) -> Result<Vec<ProgramRow>, AllocError>
+        ensures within { IfOk result (λ rows. AreWithinBudget rows.items) };
 
     /// What the workers that came back have counted.
     fn counted(&self) -> Totals

@@ -10,9 +10,10 @@ use Rattle.ap_live.specs.Tokens.{Operator, IsOperator, Worker, IsWorker}
 use Rattle.ap_live.specs.declared.tagged.Tagged.{Tagged}
 use Rattle.logbook.specs.Pages.{Book}
 use Rattle.versions.specs.Lists.{Beginning}
-use Rattle.versions.specs.Sets.{set_of}
-use Rattle.apd_run.specs.Budgets.{AreBudgets}
-use Rattle.apd_run.specs.declared.access.budgets.Budgets.{Budgets}
+use Rattle.hook_judge.specs.Counted.{Counted}
+use Rattle.hook_judge.specs.Sums.{no_counts}
+use Rattle.apd_run.specs.InForce.{AreInForce}
+use Rattle.apd_run.specs.declared.access.program_counts.ProgramCounts.{ProgramCounts}
 use Rattle.apd_run.specs.Hands.{RunOperator, IsRunOperator, RunWorker, IsRunWorker}
 use Rattle.apd_run.proofs.Served.{more_counted, nothing_counted}
 use Rattle.apd_run.proofs.Sums.{keeps_parts}
@@ -35,10 +36,10 @@ other_token shares list o t own same h =
       in_force = h.in_force;
     }
 
--- an operator whose loads are of the same list, with the budgets of their programs
-pub other_loads : (shares : ℕ) (list : Book) (o : RunOperator) (b : Beginning) (budgets : Budgets) → b.list ≡ o.loads.list → AreBudgets budgets (set_of b.loads)
-    → IsRunOperator shares list o → IsRunOperator shares list (record o { loads = b; budgets = budgets })
-other_loads shares list o b budgets same in_force h =
+-- an operator whose loads are of the same list, with the counts of their programs
+pub other_loads : (shares : ℕ) (list : Book) (o : RunOperator) (b : Beginning) (programs : ProgramCounts) → b.list ≡ o.loads.list → AreInForce programs b.loads
+    → IsRunOperator shares list o → IsRunOperator shares list (record o { loads = b; programs = programs })
+other_loads shares list o b programs same in_force h =
     record {
       own = h.own;
       mine = h.mine;
@@ -53,8 +54,13 @@ other_loads shares list o b budgets same in_force h =
       in_force = in_force;
     }
 
--- a worker whose token has other parts of the ledgers, one of each, which have counted nothing
-pub other_parts : (list : Book) (w : RunWorker) (t : Worker) (fresh : Holding) (handled : List Tagged) → t ≡ record w.token { shards = t.shards } → holding_of t.shards ≡ fresh
+-- the token of a worker whose counts of its programs' runs were taken
+abbrev pub uncounted : Worker → Worker
+uncounted w = record w { held = record w.held { counts = no_counts } }
+
+-- a worker whose token has other parts of the ledgers, one of each, which have counted nothing, and no counts of its
+-- programs' runs
+pub other_parts : (list : Book) (w : RunWorker) (t : Worker) (fresh : Holding) (handled : List Tagged) → t ≡ record (uncounted w.token) { shards = t.shards } → holding_of t.shards ≡ fresh
     → HasParts 1 fresh → sum_of fresh ≡ none → handled ≡ [] → IsRunWorker list w → IsRunWorker list (record w { token = t; handled = handled })
 other_parts list w t fresh handled same taken one nothing empty h =
     record {

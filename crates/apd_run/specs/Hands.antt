@@ -13,10 +13,9 @@ use Rattle.ap_live.specs.Tokens.{Operator, IsOperator, Worker, IsWorker}
 use Rattle.ap_live.specs.declared.tagged.Tagged.{Tagged}
 use Rattle.logbook.specs.Pages.{Book}
 use Rattle.versions.specs.Lists.{Beginning}
-use Rattle.versions.specs.Sets.{set_of}
-use Rattle.apd_run.specs.Budgets.{AreBudgets}
+use Rattle.apd_run.specs.InForce.{AreInForce}
 use Rattle.apd_driver.specs.Crews.{Crew}
-use Rattle.apd_run.specs.declared.access.budgets.Budgets.{Budgets}
+use Rattle.apd_run.specs.declared.access.program_counts.ProgramCounts.{ProgramCounts}
 
 -- a worker's access point and token, and what became of its events since the operator last took over its counts
 pub record RunWorker : Type 0 where
@@ -33,7 +32,8 @@ pub record IsRunWorker (list : Book) (w : RunWorker) : Type 0 where
   pub counts : counted_by w.token.shards ≡ tally w.handled
 
 -- An operator's access point and token, the parts of the ledgers and the pages that it keeps and how many of each they
--- are, what these have counted, how many workers have one, what was published, and the budgets of the programs in force.
+-- are, what these have counted, how many workers have one, what was published, and what the workers that came
+-- back have counted of the runs of the programs in force.
 pub record RunOperator : Type 0 where
   pub ap : Live
   pub token : Operator
@@ -43,7 +43,7 @@ pub record RunOperator : Type 0 where
   pub totals : Totals
   pub workers : ℕ
   pub loads : Beginning
-  pub budgets : Budgets
+  pub programs : ProgramCounts
 
 -- Its token belongs to the access point, whose published loads are this list, and has one part of each ledger, which
 -- has counted nothing. The operator keeps, or the workers have, all other parts.
@@ -58,7 +58,7 @@ pub record IsRunOperator (shares : ℕ) (list : Book) (o : RunOperator) : Type 0
   pub some : 1 < o.parts
   pub list_is : o.loads.list ≡ list
   pub reads : Reads o.totals (sum_of o.hoard)
-  pub in_force : AreBudgets o.budgets (set_of o.loads.loads)
+  pub in_force : AreInForce o.programs o.loads.loads
 
 -- how many workers have rights, and what those that came back have counted
 abbrev pub crew_of : RunOperator → Crew

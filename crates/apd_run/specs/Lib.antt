@@ -2,7 +2,7 @@ pub mod Loading
 pub mod Adopting
 pub mod Reports
 pub mod Telling
-pub mod Budgets
+pub mod InForce
 pub mod Listing
 pub mod Hands
 pub mod Dealing

@@ -4,13 +4,13 @@
 //! worker of the access point by `LiveAp::serve`, and keeps what became of each event. The operator submits events, loads
 //! and unloads programs and reads maps. The last line says what all shares of the ledgers have counted, which is what the
 //! reports count.
-mod budgets;
 mod counting;
 mod hands;
 mod hiring;
 mod listing;
 mod naming;
 mod operator;
+mod program_counts;
 mod running;
 mod telling;
 mod worker;

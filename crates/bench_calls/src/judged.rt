@@ -1,6 +1,6 @@
 //! How long a shard takes for a QoS data frame of 100 bytes of one associated station that programs judge: without a
 //! program, under a port filter, and under a program that counts in a map. Beside these, the verdict by itself and the
-//! run of the program by itself, which show what the judge adds to the run. Each is the least of all rounds.
+//! counted run of the program by itself, which show what the judge adds to the run. Each is the least of all rounds.
 
 ghost use Rattle.std.specs.Prelude.{◌≡◌, ◌≤◌};
 ghost use Rattle.bpf_helpers.specs.Hooked.{IsFitting, shapes_of};
@@ -10,10 +10,10 @@ use crate::link::{Sent, association, authentication, config, datagram, ups};
 use crate::policies::{COUNTER, FILTER, Policies, Seated, entered, one_seat};
 use crate::watch::Watch;
 use ap_core::{Event, Judge, ListJudge, Shard};
-use bpf_helpers::{WorkerState, WorkerView, run_hook};
+use bpf_helpers::WorkerView;
 use bpf_machine::Accepted;
 use bpf_regions::{Context, Frame, Hook};
-use hook_judge::{SetJudge, judging_law};
+use hook_judge::{CountedState, SetJudge, judging_law};
 use std::alloc::{AllocError, Global};
 use std::rt::Clock;
 use std::sync::Wait;
@@ -100,7 +100,7 @@ fn handled(
     alloc: Global,
     served: &mut Served,
     policies: &Policies<'_, '_>,
-    state: &mut WorkerState,
+    state: &mut CountedState,
 ) -> Result<u64, AllocError>
     requires seats { IsFitting policies.now.maps.now 0 state.old.seats }
     ensures seats { IsFitting policies.now.maps.now 0 state.new.seats }
@@ -113,7 +113,7 @@ fn handled(
 }
 
 #[inline(never)]
-fn verdict(frame: &Frame<'_>, policies: &Policies<'_, '_>, state: &mut WorkerState) -> u64
+fn verdict(frame: &Frame<'_>, policies: &Policies<'_, '_>, state: &mut CountedState) -> u64
     requires seats { IsFitting policies.now.maps.now 0 state.old.seats }
     ensures seats { IsFitting policies.now.maps.now 0 state.new.seats }
 {
@@ -122,20 +122,22 @@ fn verdict(frame: &Frame<'_>, policies: &Policies<'_, '_>, state: &mut WorkerSta
     judge.judge(Hook::Data, frame, &Context::new([0; 32]))
 }
 
-/// R0 of a run on a frame.
+/// R0 of a counted run on a frame.
 #[inline(never)]
 fn ran(
     accepted: &Accepted,
     frame: &Frame<'_>,
     policies: &Policies<'_, '_>,
-    state: &mut WorkerState,
+    state: &mut CountedState,
 ) -> u64
     requires shapes { shapes_of policies.now.maps.now ≡ accepted.now.code.shapes }
     requires seats { IsFitting policies.now.maps.now 0 state.old.seats }
     ensures seats { IsFitting policies.now.maps.now 0 state.new.seats }
 {
     let view = view_of(policies, 0, 1);
-    run_hook(accepted, frame, &Context::new([0; 32]), view, state).r0
+    state
+        .run(accepted, 0, view, frame, &Context::new([0; 32]))
+        .r0
 }
 
 /// How many frames of a round in the shard are passed up, and how long it takes.
@@ -144,7 +146,7 @@ fn time_frames<R: Clock>(
     alloc: Global,
     served: &mut Served,
     policies: &Policies<'_, '_>,
-    state: &mut WorkerState,
+    state: &mut CountedState,
 ) -> Result<(u64, u128), AllocError>
     requires seats { IsFitting policies.now.maps.now 0 state.old.seats }
     ensures seats { IsFitting policies.now.maps.now 0 state.new.seats }
@@ -162,7 +164,7 @@ fn time_verdicts<R: Clock>(
     rt: &R,
     frame: &Frame<'_>,
     policies: &Policies<'_, '_>,
-    state: &mut WorkerState,
+    state: &mut CountedState,
 ) -> (u64, u128)
     requires seats { IsFitting policies.now.maps.now 0 state.old.seats }
     ensures seats { IsFitting policies.now.maps.now 0 state.new.seats }
@@ -181,7 +183,7 @@ fn time_runs<R: Clock>(
     accepted: &Accepted,
     frame: &Frame<'_>,
     policies: &Policies<'_, '_>,
-    state: &mut WorkerState,
+    state: &mut CountedState,
 ) -> (u64, u128)
     requires shapes { shapes_of policies.now.maps.now ≡ accepted.now.code.shapes }
     requires seats { IsFitting policies.now.maps.now 0 state.old.seats }
@@ -201,7 +203,7 @@ fn spent_by_itself<R: Clock>(
     rt: &R,
     frame: &Frame<'_>,
     policies: &Policies<'_, '_>,
-    state: &mut WorkerState,
+    state: &mut CountedState,
 ) -> io::Result<(u128, u128)>
     requires seats { IsFitting policies.now.maps.now 0 state.old.seats }
     ensures seats { IsFitting policies.now.maps.now 0 state.new.seats }
@@ -223,7 +225,7 @@ fn round<R: Clock>(
     alloc: Global,
     served: &mut Served,
     policies: &Policies<'_, '_>,
-    state: &mut WorkerState,
+    state: &mut CountedState,
 ) -> io::Result<Spent>
     requires seats { IsFitting policies.now.maps.now 0 state.old.seats }
     ensures seats { IsFitting policies.now.maps.now 0 state.new.seats }
@@ -248,7 +250,7 @@ fn least<R: Clock>(
     further: u64,
     served: &mut Served,
     policies: &Policies<'_, '_>,
-    state: &mut WorkerState,
+    state: &mut CountedState,
 ) -> io::Result<Spent>
     requires seats { IsFitting policies.now.maps.now 0 state.old.seats }
 {

@@ -11,6 +11,7 @@ use bpf_machine::Accepted;
 use bpf_regions::{Hook, Scope, Shape, Shapes, WordWidth};
 use bpf_text::assemble;
 use bpf_verifier::verify;
+use hook_judge::CountedState;
 use std::alloc::Global;
 use std::io;
 use std::sync::{Arc, Wait};
@@ -54,7 +55,7 @@ pub const COUNTER: &str = "lddw r1, value 0 0\nmov r2, 1\natomic_add [r1+0], r2\
 #[derive(Drop)]
 pub struct Seated {
     pub maps: Vec<MapTables>,
-    pub state: WorkerState,
+    pub state: CountedState,
     pub ghost fits: { IsFitting maps.items 0 state.seats },
 }
 
@@ -75,12 +76,12 @@ fn one_map(alloc: Global) -> io::Result<Vec<MapTables>>
 }
 
 /// The next seat of worker 0 at each table of these maps.
-fn seat_at(alloc: Global, maps: &mut [MapTables]) -> io::Result<WorkerState>
+fn seat_at(alloc: Global, maps: &mut [MapTables]) -> io::Result<CountedState>
     requires there { HaveTables maps.old 0 }
     ensures fits { IfOk result (λ state. IsFitting maps.new 0 state.seats) }
 {
     match WorkerState::seated(alloc, maps, 0, 0) {
-        Ok(state) => Ok(state),
+        Ok(state) => Ok(CountedState::new(alloc, state)?),
         Err(_) => return Err(io::Error::other("no seat")),
     }
 }

@@ -3,14 +3,13 @@ use Rattle.std.proofs.Common.{ℕ, List, [], ◌∷◌, ap, ◌∙◌, subst, Bo
 use Rattle.bpf_helpers.specs.declared.worker.WorkerView.{WorkerView}
 use Rattle.bpf_helpers.specs.HookPorts.{given_by}
 use Rattle.versions.specs.declared.set.ProgramSet.{ProgramSet}
-use Rattle.versions.specs.Sets.{set_of}
 use Rattle.ap_model.specs.Asks.{Ask, Answered}
 use Rattle.hook_judge.specs.declared.judge.SetJudge.{SetJudge}
 use Rattle.hook_judge.specs.Verdicts.{GivesVerdict}
-use Rattle.hook_judge.specs.Judges.{Keeps, Judges, programs_of}
+use Rattle.hook_judge.specs.Judges.{Keeps, Judges, loads_of}
 
 pub judged : (j k : SetJudge) (asked : List (Ask × ℕ)) → Answered Judges j asked k →
-    Keeps j k × Answered (GivesVerdict (given_by j.view) (programs_of j)) j.state.now asked k.state.now
+    Keeps j k × Answered (GivesVerdict (given_by j.view) (loads_of j)) j.state.now asked k.state.now
 judged j k [] same = (
   record {
     set = ap (λ (x : SetJudge). x.set) same;
@@ -31,7 +30,7 @@ judged j k (a ∷ asked) answered =
       (
         mid.state.now,
         (one.steps, one.given),
-        subst (λ (v : WorkerView). Answered (GivesVerdict (given_by v) (programs_of j)) mid.state.now asked k.state.now) one.keeps.view
-            (subst (λ (s : Bor ProgramSet). Answered (GivesVerdict (given_by mid.view) (set_of s.now.loads)) mid.state.now asked k.state.now) one.keeps.set rest.1),
+        subst (λ (v : WorkerView). Answered (GivesVerdict (given_by v) (loads_of j)) mid.state.now asked k.state.now) one.keeps.view
+            (subst (λ (s : Bor ProgramSet). Answered (GivesVerdict (given_by mid.view) s.now.loads) mid.state.now asked k.state.now) one.keeps.set rest.1),
       ),
     )

@@ -1,5 +1,5 @@
 -- The verdicts that a set of programs gives.
-use Rattle.std.specs.Prelude.{◌≡◌, ◌≤◌, ℕ, List, Option, Some, None}
+use Rattle.std.specs.Prelude.{◌≡◌, ◌≤◌, ℕ, List, Option, Some, None, take}
 use Rattle.bpf_regions.specs.declared.asks.Ask as program
 use Rattle.bpf_model.specs.Run.{Safe, Ends}
 use Rattle.bpf_tagged.specs.Took.{Answered}
@@ -7,8 +7,12 @@ use Rattle.bpf_machine.specs.Verified.{Verified}
 use Rattle.bpf_machine.specs.Runs.{setting_of}
 use Rattle.bpf_helpers.specs.Hooked.{Given, Held, Gives, shapes_of}
 use Rattle.hooks.specs.Verdicts.{no_program}
-use Rattle.versions.specs.Sets.{Programs, program_at}
+use Rattle.versions.specs.declared.list.Load.{Load}
+use Rattle.versions.specs.Numbers.{number_at, numbers_of}
+use Rattle.versions.specs.Sets.{program_at, set_of}
 use Rattle.ap_model.specs.Asks.{Ask}
+use Rattle.hook_judge.specs.Counted.{Counted, held_of, made_by}
+use Rattle.hook_judge.specs.Sums.{counted}
 
 -- A program's run on the frame and context of a query. The program was accepted for the hook, so no run of it faults
 -- or exceeds its budget. What it asked was answered from its worker's tables, the clock, the stations and the draws;
@@ -23,15 +27,22 @@ pub record RunOf (g : Given) (v : Verified) (h : Held) (ask : Ask) (r0 steps : �
   pub ends : Ends (setting_of v.code ask.frame ask.context) asked steps r0 notes
   pub within : steps ≤ v.budget
 
--- the run of the hook's program; without one, the number of the verdict tables, and nothing runs
-abbrev pub VerdictOf : Given → Option Verified → Held → Ask → ℕ → ℕ → Held → Type 0
-VerdictOf g None h ask verdict steps h' = (verdict ≡ no_program ask.hook) × (steps ≡ 0) × (h' ≡ h)
-VerdictOf g (Some v) h ask verdict steps h' = RunOf g v h ask verdict steps h'
+-- the same run, counted once under the number of the load that put the program in force, with the first 16 notes
+pub record CountedRun (g : Given) (load : ℕ) (v : Verified) (c : Counted) (ask : Ask) (r0 steps : ℕ) (c' : Counted) : Type 0 where
+  pub run : RunOf g v (held_of c) ask r0 steps (held_of c')
+  pub counts : c'.counts ≡ counted ask.hook (made_by load v r0 steps (take 16 run.notes)) c.counts
 
--- the verdict of these programs on a query, after `steps` steps
-abbrev pub GivesIn : Given → Programs → Held → Ask → ℕ → ℕ → Held → Type 0
-GivesIn g programs h ask verdict steps h' = VerdictOf g (program_at ask.hook programs) h ask verdict steps h'
+-- the run of the hook's program, which the load with this number put in force; without one, the number of the verdict
+-- tables, and nothing runs or is counted
+abbrev pub VerdictOf : Given → ℕ → Option Verified → Counted → Ask → ℕ → ℕ → Counted → Type 0
+VerdictOf g load None c ask verdict steps c' = (verdict ≡ no_program ask.hook) × (steps ≡ 0) × (c' ≡ c)
+VerdictOf g load (Some v) c ask verdict steps c' = CountedRun g load v c ask verdict steps c'
+
+-- the verdict of the programs that these loads result in on a query, after `steps` steps
+abbrev pub GivesIn : Given → List Load → Counted → Ask → ℕ → ℕ → Counted → Type 0
+GivesIn g loads c ask verdict steps c' =
+    VerdictOf g (number_at ask.hook (numbers_of loads)) (program_at ask.hook (set_of loads)) c ask verdict steps c'
 
 -- the verdict of these programs on a query
-abbrev pub GivesVerdict : Given → Programs → Held → Ask → ℕ → Held → Type 0
-GivesVerdict g programs h ask verdict h' = (steps : ℕ) × GivesIn g programs h ask verdict steps h'
+abbrev pub GivesVerdict : Given → List Load → Counted → Ask → ℕ → Counted → Type 0
+GivesVerdict g loads c ask verdict c' = (steps : ℕ) × GivesIn g loads c ask verdict steps c'

@@ -3,20 +3,21 @@
 ghost use Rattle.std.specs.Prelude.{◌≡◌, []};
 ghost use Rattle.bpf_helpers.specs.Hooked.{IsFitting, shapes_of};
 
+use crate::state::CountedState;
 use ap_model::{AskLog, Judge};
-use bpf_helpers::{WorkerState, WorkerView, run_hook};
+use bpf_helpers::WorkerView;
 use bpf_regions::{Context, Frame, Hook};
 use hooks::no_program;
 use versions::ProgramSet;
 
 /// Judges by one set of programs, over one worker's tables: a hook's verdict is R0 of a run of the set's program for
 /// that hook, or, if it has none, the number of the verdict tables. It is made anew for each event, only of borrowed
-/// values, and allocates nothing. What programs note is dropped.
+/// values, and allocates nothing. What programs note is counted with their runs.
 #[derive(Drop)]
 pub struct SetJudge<'p, 't, 's> {
     pub set: &'p ProgramSet,
     pub view: WorkerView<'t>,
-    pub state: &'s mut WorkerState,
+    pub state: &'s mut CountedState,
     /// How many steps its runs executed, mod 2^64.
     pub steps: u64,
     pub asked: AskLog,
@@ -26,7 +27,7 @@ pub struct SetJudge<'p, 't, 's> {
 
 impl<'p, 't, 's> SetJudge<'p, 't, 's> {
     /// A judge by this set, which must be one for the maps in use. Nothing has been asked of it.
-    pub fn new(set: &'p ProgramSet, view: WorkerView<'t>, state: &'s mut WorkerState) -> Self
+    pub fn new(set: &'p ProgramSet, view: WorkerView<'t>, state: &'s mut CountedState) -> Self
         requires for_maps { set.now.shapes ≡ shapes_of view.maps.now }
         requires fitting { IsFitting view.maps.now view.worker state.old.seats }
         ensures set { result.set ≡ set.entry }
@@ -60,7 +61,8 @@ impl Judge for SetJudge<'_, '_, '_> {
             None => (no_program(hook), 0),
             Some(accepted) => {
                 let _safe = accepted.program();
-                let outcome = run_hook(accepted, frame, context, self.view, self.state);
+                let load = self.set.load_number(hook);
+                let outcome = self.state.run(accepted, load, self.view, frame, context);
                 (outcome.r0, outcome.steps)
             }
         };

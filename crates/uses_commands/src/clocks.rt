@@ -68,14 +68,45 @@ fn a_tick_is_what_was_not_told_before(rt: HostRuntime) {
     }
 }
 
-/// Gives texts, or nothing for a while, each when these units have passed.
+/// Gives texts, or nothing for a while, each when these units have passed by a clock.
 #[derive(Drop)]
 pub struct Steps<'a> {
-    pub steps: &'a [(&'a str, u32)],
-    pub done: usize,
+    steps: &'a [(&'a str, u32)],
+    done: usize,
+    hand: Hand,
+    passing: Option<Passing>,
+}
+
+impl<'a> Steps<'a> {
+    /// Steps of which none was done, by a clock that shows 0.
+    pub fn new(steps: &'a [(&'a str, u32)]) -> Steps<'a> {
+        let hand = Hand::at(0);
+        let passing = match Instant::now(&hand) {
+            Ok(begun) => Some(Passing::since(begun)),
+            Err(_) => None,
+        };
+        Steps {
+            steps,
+            done: 0,
+            hand,
+            passing,
+        }
+    }
+
+    /// Moves the clock on by the units of the step that was done last.
+    fn pass(&self) {
+        if let Some((_, units)) = self.steps.get(self.done.saturating_sub(1)) {
+            let micros = u64::from(*units).saturating_mul(1024);
+            self.hand.micros.fetch_add(micros, Ordering::SeqCst);
+        }
+    }
 }
 
 impl Source for Steps<'_> {
+    ghost use Rattle.apd_driver.specs.Clocks.{since_if};
+
+    ghost clock = { λ s. since_if s.passing };
+
     fn next(&mut self, alloc: Global) -> Result<Arrival, FileFault> {
         let Some((text, _)) = self.steps.get(self.done) else {
             return Ok(Arrival::Bytes(Vec::new(alloc)));
@@ -91,9 +122,13 @@ impl Source for Steps<'_> {
     }
 
     fn passed(&mut self) -> u32 {
-        match self.steps.get(self.done.saturating_sub(1)) {
-            Some((_, units)) => *units,
-            None => 0,
+        self.pass();
+        let Some(passing) = &mut self.passing else {
+            return 0;
+        };
+        match Instant::now(&self.hand) {
+            Ok(now) => return passing.tell(now),
+            Err(_) => return 0,
         }
     }
 
@@ -160,10 +195,7 @@ fn an_agreement_ends_while_nothing_comes(rt: HostRuntime) {
         total events 36 sent 4 up 1 dropped 0 notes 0\n";
     let printed = joined(&rt, alloc, &[ANSWERS, ENDED, told]);
     for workers in [1u8, 2, 8] {
-        let input = Steps {
-            steps: &steps,
-            done: 0,
-        };
+        let input = Steps::new(&steps);
         let outcome = lived(&rt, alloc, input, words(workers));
         same(&rt, outcome.out.as_slice(), printed.as_bytes(), "the text");
         same(&rt, outcome.status, 0, "the status");

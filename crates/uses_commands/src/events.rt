@@ -54,10 +54,7 @@ fn prints<R: Threads + Wait + Abort + Sync>(rt: &R, alloc: Global, style: Style,
         ("kick 02000000000a 3\n", 0),
     ];
     for workers in [1u8, 2, 8] {
-        let input = Steps {
-            steps: &steps,
-            done: 0,
-        };
+        let input = Steps::new(&steps);
         let manner = Manner {
             strict: false,
             form: Form {

@@ -14,6 +14,8 @@ mod clocks;
 #[cfg(test)]
 mod configuration;
 #[cfg(test)]
+mod counted;
+#[cfg(test)]
 mod echo;
 #[cfg(test)]
 mod events;

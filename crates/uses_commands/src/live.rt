@@ -355,7 +355,7 @@ fn answers_are_flushed_before_the_next_read(rt: HostRuntime) {
 }
 
 const TOLD: &str = "3 station 02000000000a associated 2\n3 end 1\n\
-    5 loaded 2\n6 program data budget 2\n6 end 1\n\
+    5 loaded 2\n6 program data budget 2 runs 0 most 0 steps 0 pass 0 drop 0\n6 end 1\n\
     8 up 02000000000a 0200000000ff - 3 5 68656c6c6f\n\
     9 events 3 sent 2 up 1 dropped 0 notes 0\n\
     total events 3 sent 2 up 1 dropped 0 notes 0\n";

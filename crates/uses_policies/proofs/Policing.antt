@@ -4,7 +4,7 @@ use Rattle.std.proofs.lemmas.List.{append-nil}
 use Rattle.std.proofs.lemmas.List.Elements.{All-nil, All-cons}
 use Rattle.std.proofs.lemmas.Bool.Decides.{nat_tests}
 use Rattle.std.specs.Prelude.{◌==◌}
-use Rattle.bpf_helpers.specs.Hooked.{Given, Held}
+use Rattle.bpf_helpers.specs.Hooked.{Given}
 use Rattle.ap_model.specs.declared.event.Event.{Event}
 use Rattle.ap_model.specs.declared.event.Event.TheVariants as event
 use Rattle.ap_model.specs.declared.event.Out.{Out}
@@ -18,13 +18,14 @@ use Rattle.ap_laws.specs.Identifiers.{NoTwoHold}
 use Rattle.ap_core.specs.declared.shard.Shard.{Shard}
 use Rattle.ap_core.specs.AccessPoints.{rules_of, readings_of, AreFresh, RunsAll}
 use Rattle.bpf_helpers.specs.HookPorts.{given_by}
-use Rattle.versions.specs.Sets.{Programs}
+use Rattle.versions.specs.declared.list.Load.{Load}
+use Rattle.hook_judge.specs.Counted.{Counted}
 use Rattle.hook_judge.specs.declared.judge.SetJudge.{SetJudge}
 use Rattle.hook_judge.specs.Verdicts.{GivesVerdict}
 use Rattle.hook_judge.specs.Judges.{Judges}
 use Rattle.hook_judge.specs.Judges as judges
 use Rattle.uses_policies.specs.declared.policies.Policies.{Policies}
-use Rattle.uses_policies.specs.Policed.{programs_of, IsGiven, IsVerdict, AreVerdicts, PolicedRun, no_entry, policed}
+use Rattle.uses_policies.specs.Policed.{loads_of, IsGiven, IsVerdict, AreVerdicts, PolicedRun, no_entry, policed}
 use Rattle.uses_policies.specs.Eight.{EventsPoliced, rules_by, HeadlineHolds}
 use Rattle.uses_policies.proofs.Conclusions.{JudgesSo}
 
@@ -50,7 +51,7 @@ no_turns (ticked n outs es rs ts t) q = absurd (not_nil (event.Tick n) es q)
 
 module _ (p : Policies) (g : Given) where
   -- the verdicts of the programs on these readings
-  pub verdicts : (r : Readings) → IsGiven p r g → (h h' : Held) (asked : List (Ask × ℕ)) → Answered (GivesVerdict g (programs_of p)) h asked h' → AreVerdicts p r asked
+  pub verdicts : (r : Readings) → IsGiven p r g → (h h' : Counted) (asked : List (Ask × ℕ)) → Answered (GivesVerdict g (loads_of p)) h asked h' → AreVerdicts p r asked
   verdicts r given h h' [] same = All-nil (λ (x : Ask × ℕ). IsVerdict p r x.0 x.1)
   verdicts r given h h' (a ∷ asked) answered =
       All-cons (λ (x : Ask × ℕ). IsVerdict p r x.0 x.1) a asked
@@ -79,7 +80,7 @@ module _ (p : Policies) (g : Given) where
     by_shard at s false t e later none all run = quiet (c s) none run
 
     pub one_event : {es : List Event} {rs : List (Option (List Out))} {ts : List Turn} → (e : Event) → es ≡ e ∷ [] → AreTurns es rs ts →
-        ((s : ℕ) → shard_of e ≡ Some s → IsGiven p (r s) g) → (h h' : Held) → Answered (GivesVerdict g (programs_of p)) h (asked_of ts) h' →
+        ((s : ℕ) → shard_of e ≡ Some s → IsGiven p (r s) g) → (h h' : Counted) → Answered (GivesVerdict g (loads_of p)) h (asked_of ts) h' →
         (s : ℕ) → Run (c s) (r s) (entries_of s ts) (r2 s) → PolicedRun p (c s) (r s) (entries_of s ts) (r2 s)
     one_event e q no_event given h h' answered s run = absurd (not_cons e [] q)
     one_event e q (refused e2 es rs ts t) given h h' answered s run =
@@ -90,7 +91,7 @@ module _ (p : Policies) (g : Given) where
         let concerned : shard_of e ≡ Some at = ap (λ (x : Event). shard_of x) (sym (head_is e2.event e es [] q)) ∙ f in
         by_shard at s (at == s) refl e2 (entries_of s ts) (ap (λ (x : List Turn). entries_of s x) none)
         (verdicts (r at) (given at concerned) h h' e2.asked
-        (subst (λ (l : List (Ask × ℕ)). Answered (GivesVerdict g (programs_of p)) h l h') alone answered))
+        (subst (λ (l : List (Ask × ℕ)). Answered (GivesVerdict g (loads_of p)) h l h') alone answered))
         run
     one_event e q (ticked n outs es rs ts t) given h h' answered s run =
         single (c s) (record { event = event.Tick n; asked = []; outs = outs s }) (entries_of s ts) refl
@@ -133,13 +134,13 @@ one_of (x ∷ y ∷ xs) d one = absurd (omega (arith, one))
 
 -- what one event leads to
 pub one_policed : JudgesSo → (p : Policies) (old new : List Shard) (events : List Event) (e : Event) (j k : SetJudge) (results : List (Option (List Out))) →
-    length events ≡ 1 → e ≡ get_or events 0 e → RunsAll Judges old events j results new k → judges.programs_of j ≡ programs_of p →
+    length events ≡ 1 → e ≡ get_or events 0 e → RunsAll Judges old events j results new k → judges.loads_of j ≡ loads_of p →
     ((s : ℕ) → shard_of e ≡ Some s → IsGiven p (readings_of old s) (given_by j.view)) → EventsPoliced p old events results new
 one_policed judged p old new events e j k results one is ran same given =
     let led = ran.leads in
     let alone : events ≡ e ∷ [] = one_of events e one ∙ ap (λ (x : Event). x ∷ []) (sym is) in
-    let answered : Answered (GivesVerdict (given_by j.view) (programs_of p)) j.state.now (asked_of led.turns) k.state.now =
-    subst (λ (q : Programs). Answered (GivesVerdict (given_by j.view) q) j.state.now (asked_of led.turns) k.state.now) same
+    let answered : Answered (GivesVerdict (given_by j.view) (loads_of p)) j.state.now (asked_of led.turns) k.state.now =
+    subst (λ (q : List Load). Answered (GivesVerdict (given_by j.view) q) j.state.now (asked_of led.turns) k.state.now) same
     (judged j k (asked_of led.turns) led.listed).1 in
     record {
       turns = led.turns;

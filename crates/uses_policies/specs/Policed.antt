@@ -1,18 +1,19 @@
 -- Verdicts by a worker's policies, and the link runs under them.
 use Rattle.std.specs.Prelude.{◌≡◌, ℕ, List, [], ◌∷◌}
 use Rattle.std.specs.List.{All}
-use Rattle.bpf_helpers.specs.Hooked.{Given, Held}
-use Rattle.versions.specs.Sets.{Programs, set_of}
+use Rattle.bpf_helpers.specs.Hooked.{Given}
+use Rattle.versions.specs.declared.list.Load.{Load}
 use Rattle.ap_model.specs.Asks.{Ask}
 use Rattle.ap_model.specs.Readings.{Readings, Rules}
 use Rattle.ap_model.specs.Stations.{AreAssociated}
 use Rattle.ap_model.specs.Runs.{Entry, Handles}
+use Rattle.hook_judge.specs.Counted.{Counted}
 use Rattle.hook_judge.specs.Verdicts.{GivesVerdict}
 use Rattle.uses_policies.specs.declared.policies.Policies.{Policies}
 
--- the programs of the set
-abbrev pub programs_of : Policies → Programs
-programs_of p = set_of p.set.now.loads
+-- the loads that result in the set
+abbrev pub loads_of : Policies → List Load
+loads_of p = p.set.now.loads
 
 -- What the programs read: the worker's tables, and the clock and number of associated stations of the shard before the
 -- event.
@@ -27,9 +28,9 @@ pub record IsGiven (p : Policies) (r : Readings) (g : Given) : Type 0 where
 pub record IsVerdict (p : Policies) (r : Readings) (ask : Ask) (verdict : ℕ) : Type 0 where
   pub given : Given
   pub is : IsGiven p r given
-  pub before : Held
-  pub after : Held
-  pub gives : GivesVerdict given (programs_of p) before ask verdict after
+  pub before : Counted
+  pub after : Counted
+  pub gives : GivesVerdict given (loads_of p) before ask verdict after
 
 -- each of these is such a verdict
 abbrev pub AreVerdicts : Policies → Readings → List (Ask × ℕ) → Type 0

@@ -12,8 +12,8 @@ use crate::one::view_of;
 use crate::policies::Policies;
 use ap_core::{Event, LinkConfig, ListJudge, Out, Shard, handle_all, new_shards, shard_of};
 use ap_laws::link_law;
-use bpf_helpers::{WorkerState, WorkerView};
-use hook_judge::{SetJudge, judging_law};
+use bpf_helpers::WorkerView;
+use hook_judge::{CountedState, SetJudge, judging_law};
 use std::alloc::{AllocError, Global};
 
 /// What a worker's programs read of the shard that an event concerns.
@@ -35,7 +35,7 @@ fn decide_at(
     shards: &mut [Shard; 8],
     event: &[Event],
     policies: Policies<'_, '_>,
-    state: &mut WorkerState,
+    state: &mut CountedState,
 ) -> Result<Vec<Option<Vec<Out>>>, AllocError>
     requires one { length event.now ≡ 1 }
     requires place { InPlace (rules_of shards.old) }
@@ -61,7 +61,7 @@ pub fn go_on(
     shards: &mut [Shard; 8],
     events: &[Event],
     policies: Policies<'_, '_>,
-    state: &mut WorkerState,
+    state: &mut CountedState,
 ) -> Result<Vec<Option<Vec<Out>>>, AllocError>
     requires place { InPlace (rules_of shards.old) }
     requires seats { IsFitting policies.maps.now policies.worker state.old.seats }
@@ -90,7 +90,7 @@ pub fn serve(
     config: &LinkConfig,
     events: &[Event],
     policies: Policies<'_, '_>,
-    state: &mut WorkerState,
+    state: &mut CountedState,
 ) -> Result<Vec<Option<Vec<Out>>>, AllocError>
     requires seats { IsFitting policies.maps.now policies.worker state.old.seats }
     ensures headline { IfOk result

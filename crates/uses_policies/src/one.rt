@@ -9,8 +9,8 @@ ghost use Rattle.uses_policies.specs.Headline.{EventHolds};
 use crate::policies::Policies;
 use ap_core::{Event, Out, Shard};
 use ap_laws::link_law;
-use bpf_helpers::{WorkerState, WorkerView};
-use hook_judge::{SetJudge, judging_law};
+use bpf_helpers::WorkerView;
+use hook_judge::{CountedState, SetJudge, judging_law};
 use std::alloc::{AllocError, Global};
 
 /// What a worker's programs read of this shard.
@@ -37,7 +37,7 @@ pub fn decide(
     shard: &mut Shard,
     event: &Event,
     policies: Policies<'_, '_>,
-    state: &mut WorkerState,
+    state: &mut CountedState,
 ) -> Result<Vec<Out>, AllocError>
     requires seats { IsFitting policies.maps.now policies.worker state.old.seats }
     ensures headline { IfOk result

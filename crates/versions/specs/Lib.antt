@@ -5,4 +5,5 @@ pub mod Ties
 pub mod Desks
 pub mod Wishes
 pub mod Owned
+pub mod Numbers
 pub mod Faults

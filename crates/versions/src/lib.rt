@@ -8,6 +8,7 @@
 
 mod fault;
 mod list;
+mod numbers;
 pub mod opening;
 mod pool;
 mod publisher;
@@ -17,6 +18,7 @@ mod set;
 
 pub use fault::{NoReader, PublishFault};
 pub use list::Load;
+pub use numbers::LoadNumbers;
 pub use pool::{Entrance, Published};
 pub use publisher::{News, Publisher};
 pub use reader::{Entered, Reader};

@@ -2,10 +2,12 @@
 
 ghost use Rattle.std.specs.Prelude.{◌≡◌, [], IfOk, IfSome};
 ghost use Rattle.std.specs.Option.{option_copied};
+ghost use Rattle.versions.specs.Numbers.{next_at, number_at, numbers_of};
 ghost use Rattle.versions.specs.Sets.{IsFor, after, kept, load, program_at, set_of};
 ghost use Rattle.versions.specs.Owned.{programs_of};
 
 use crate::list::Known;
+use crate::numbers::LoadNumbers;
 use bpf_machine::Accepted;
 use bpf_regions::Hook;
 use left_right::Absorb;
@@ -19,27 +21,31 @@ pub struct ProgramSet {
     association: Option<Arc<Accepted>>,
     addba: Option<Arc<Accepted>>,
     frames: Option<Arc<Accepted>>,
+    numbers: LoadNumbers,
     known: Known,
 }
 
 impl Model for ProgramSet {
     ghost use Rattle.std.specs.Prelude.{◌≡◌};
     ghost use Rattle.versions.specs.Lists.{Beginning};
+    ghost use Rattle.versions.specs.Numbers.{numbers_of};
     ghost use Rattle.versions.specs.Sets.{kept_by_hook, set_of};
 
     ghost Value = { Beginning };
 
     ghost view = { λ s. s.known };
 
-    ghost invariant = { λ s. kept_by_hook s.association s.addba s.frames ≡ set_of s.known.loads };
+    ghost invariant = { λ s. (kept_by_hook s.association s.addba s.frames ≡ set_of s.known.loads)
+        × (s.numbers ≡ numbers_of s.known.loads) };
 }
 
-/// The programs of a set to be made.
+/// The programs of a set to be made, and the numbers of their loads.
 #[derive(Drop)]
 pub struct Owners {
     pub association: Option<Arc<Accepted>>,
     pub addba: Option<Arc<Accepted>>,
     pub frames: Option<Arc<Accepted>>,
+    pub numbers: LoadNumbers,
 }
 
 /// One more owner of a program.
@@ -62,24 +68,28 @@ impl ProgramSet {
             association: None,
             addba: None,
             frames: None,
+            numbers: LoadNumbers::none(),
             known,
         }
     }
 
     /// The set that those loads result in.
     pub fn of(owners: Owners, known: Known) -> ProgramSet
-        requires { programs_of owners ≡ set_of known.loads }
+        requires programs { programs_of owners ≡ set_of known.loads }
+        requires numbers { owners.numbers ≡ numbers_of known.loads }
         ensures { result ≡ known }
     {
         let Owners {
             association,
             addba,
             frames,
+            numbers,
         } = owners;
         ProgramSet {
             association,
             addba,
             frames,
+            numbers,
             known,
         }
     }
@@ -92,14 +102,17 @@ impl ProgramSet {
             association: another(&self.association)?,
             addba: another(&self.addba)?,
             frames: another(&self.frames)?,
+            numbers: self.numbers,
             known: self.known.again(),
         })
     }
 
     /// The programs after one more load.
     pub fn loaded(&self, hook: Hook, program: &Option<Arc<Accepted>>) -> Result<Owners, AllocError>
-        ensures { IfOk result (λ o. programs_of o ≡ after (set_of self.now.loads)
+        ensures programs { IfOk result (λ o. programs_of o ≡ after (set_of self.now.loads)
             (load hook (kept program.now))) }
+        ensures numbers { IfOk result
+            (λ o. o.numbers ≡ next_at hook (numbers_of self.now.loads)) }
     {
         let new = another(program)?;
         let mut association = another(&self.association)?;
@@ -114,6 +127,7 @@ impl ProgramSet {
             association,
             addba,
             frames,
+            numbers: self.numbers.next(hook),
         })
     }
 
@@ -122,6 +136,13 @@ impl ProgramSet {
         ensures { result.now ≡ self.now }
     {
         &self.known
+    }
+
+    /// The number of a hook's last load: how many it had, removals too, mod 2^64.
+    pub fn load_number(&self, hook: Hook) -> u64
+        ensures is { result ≡ number_at hook (numbers_of self.now.loads) }
+    {
+        self.numbers.at(hook)
     }
 
     /// A hook's program, which was accepted for that hook and for the map shapes in use; None if it has none.

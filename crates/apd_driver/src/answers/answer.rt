@@ -1,5 +1,7 @@
 //! What a question of `apd live` is answered.
 
+ghost use Rattle.std.specs.Prelude.{◌≤◌};
+
 use ap_books::Totals;
 use bpf_regions::{Hook, Shape};
 use mac_types::{Address, SequenceNumber, Tid};
@@ -26,11 +28,24 @@ pub struct AgreementRow {
     pub timeout: u16,
 }
 
-/// A program in force, which executes at most `budget` instructions.
-#[derive(Clone, Copy, PartialEq, Eq)]
+/// A program in force, which executes at most `budget` instructions, and what was counted of its runs since its load. All
+/// but the most are mod 2^64.
+#[derive(Drop)]
 pub struct ProgramRow {
     pub hook: Hook,
     pub budget: u32,
+    pub runs: u64,
+    /// The most steps of a run.
+    pub most: u32,
+    /// The steps of all runs.
+    pub steps: u64,
+    /// How many runs admitted an association, granted an agreement, or passed data.
+    pub granted: u64,
+    /// How many refused an association, declined an agreement, or dropped data.
+    pub denied: u64,
+    /// The newest of its notes, the oldest first.
+    pub says: Vec<u64>,
+    pub ghost within: { most ≤ budget },
 }
 
 /// An entry of a map.

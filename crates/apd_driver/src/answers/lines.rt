@@ -4,7 +4,7 @@ ghost use Rattle.std.specs.Prelude.{◌≡◌, ◌++◌, IfOk, OnOk, codes, deci
 ghost use Rattle.std.specs.Io.KnownBytes.{Appends};
 ghost use Rattle.std.specs.List.{flat_map};
 ghost use Rattle.apd_files.specs.Beginning.{AppendsBeginning};
-ghost use Rattle.apd_driver.specs.Answers.{answer_text, agreement_words, counter_words, entry_words, numbers_text, program_words, shape_words, station_words};
+ghost use Rattle.apd_driver.specs.Answers.{answer_text, agreement_words, counter_words, entry_words, numbers_text, program_text, says_text, shape_words, station_words};
 ghost use Rattle.apd_driver.specs.Lines.{line_of};
 ghost use Rattle.apd_driver.specs.Words.{then};
 
@@ -65,12 +65,35 @@ fn append_agreements(text: &mut String, line: u64, rows: &[AgreementRow]) -> Res
     Ok(())
 }
 
+/// Appends what a program noted, if it noted anything.
+fn append_says(text: &mut String, notes: &[u64]) -> Result<(), AllocError>
+    ensures ok { IfOk result (λ _.
+        string_bytes text.new ≡ string_bytes text.old ++ says_text notes.now) }
+{
+    if notes.is_empty() {
+        return Ok(());
+    }
+    text.push_str(" says")?;
+    append_numbers(text, notes)?;
+    Ok(())
+}
+
+fn append_program(text: &mut String, line: u64, row: &ProgramRow) -> Result<(), AllocError>
+    ensures ok { IfOk result (λ _. string_bytes text.new ≡ string_bytes text.old
+        ++ line_of line (program_text row.now)) }
+{
+    write!(text, "{line} {row}")?;
+    append_says(text, row.says.as_slice())?;
+    writeln!(text, "")?;
+    Ok(())
+}
+
 fn append_programs(text: &mut String, line: u64, rows: &[ProgramRow]) -> Result<(), AllocError>
     ensures ok { IfOk result (λ _. string_bytes text.new ≡ string_bytes text.old
-        ++ flat_map (λ row. line_of line (program_words row)) rows.now) }
+        ++ flat_map (λ row. line_of line (program_text row)) rows.now) }
 {
     for row in rows {
-        writeln!(text, "{line} {row}")?;
+        append_program(text, line, row)?;
     }
     Ok(())
 }

@@ -1,10 +1,10 @@
 //! The words of a row.
 
 ghost use Rattle.std.specs.Prelude.{Some};
-ghost use Rattle.apd_driver.specs.Answers.{station_words, agreement_words, program_words, shape_words, scope_name};
+ghost use Rattle.apd_driver.specs.Answers.{station_words, agreement_words, program_words, shape_words, scope_name, granted_name, denied_name};
 
 use crate::answers::answer::{AgreementRow, ProgramRow, StationRow};
-use bpf_regions::{Scope, Shape};
+use bpf_regions::{Hook, Scope, Shape};
 use std::fmt;
 
 impl fmt::Display for StationRow {
@@ -34,7 +34,51 @@ impl fmt::Display for ProgramRow {
     ghost output = { λ row. Some (program_words row) };
 
     fn fmt<W: fmt::Write>(&self, f: &mut fmt::Formatter<W>) -> fmt::Result {
-        write!(f, "program {} budget {}", self.hook, self.budget)
+        write!(
+            f,
+            "program {} budget {} runs {} most {} steps {} {} {} {} {}",
+            self.hook,
+            self.budget,
+            self.runs,
+            self.most,
+            self.steps,
+            GrantedName(self.hook),
+            self.granted,
+            DeniedName(self.hook),
+            self.denied
+        )
+    }
+}
+
+/// What a verdict of a hook's program does that grants what was asked.
+#[derive(Clone, Copy)]
+pub(crate) struct GrantedName(pub Hook);
+
+impl fmt::Display for GrantedName {
+    ghost output = { λ name. Some (granted_name name.0) };
+
+    fn fmt<W: fmt::Write>(&self, f: &mut fmt::Formatter<W>) -> fmt::Result {
+        f.write_str(match self.0 {
+            Hook::Association => "admit",
+            Hook::Addba => "size",
+            Hook::Data => "pass",
+        })
+    }
+}
+
+/// What a verdict of a hook's program does that denies what was asked.
+#[derive(Clone, Copy)]
+pub(crate) struct DeniedName(pub Hook);
+
+impl fmt::Display for DeniedName {
+    ghost output = { λ name. Some (denied_name name.0) };
+
+    fn fmt<W: fmt::Write>(&self, f: &mut fmt::Formatter<W>) -> fmt::Result {
+        f.write_str(match self.0 {
+            Hook::Association => "refuse",
+            Hook::Addba => "decline",
+            Hook::Data => "drop",
+        })
     }
 }
 

@@ -12,6 +12,10 @@ pub struct Direct<I: Drop> {
 }
 
 impl<I: Read + Drop> Source for Direct<I> {
+    ghost use Rattle.std.specs.Prelude.{None};
+
+    ghost clock = { λ d. None };
+
     fn next(&mut self, alloc: Global) -> Result<Arrival, FileFault> {
         let block = block_of(alloc, &mut self.input)?;
         Ok(Arrival::Bytes(block))

@@ -1,5 +1,7 @@
 //! An input with a clock beside it.
 
+ghost use Rattle.std.specs.Prelude.{◌≡◌, IfSome};
+
 use crate::source::passing::Passing;
 use crate::source::reader::Reader;
 use crate::source::source::{Arrival, Source};
@@ -24,7 +26,9 @@ pub struct Timed<'a, R, C> {
 }
 
 /// Time that begins now, if the clock can be read.
-fn begun<C: Clock>(clock: &C) -> Option<Passing> {
+fn begun<C: Clock>(clock: &C) -> Option<Passing>
+    ensures nothing { IfSome result (λ passing. passing.told ≡ 0) }
+{
     match Instant::now(clock) {
         Ok(now) => Some(Passing::since(now)),
         Err(_) => None,
@@ -55,6 +59,10 @@ impl<'a, R, C> Timed<'a, R, C> {
 }
 
 impl<'a, R: Threads + Wait + Clock, C: Clock> Source for Timed<'a, R, C> {
+    ghost use Rattle.apd_driver.specs.Clocks.{since_if};
+
+    ghost clock = { λ t. since_if t.passing };
+
     fn next(&mut self, _alloc: Global) -> Result<Arrival, FileFault> {
         let long = Duration::from_millis(PATIENCE);
         match self.reader.next(self.rt, long)? {
@@ -66,12 +74,12 @@ impl<'a, R: Threads + Wait + Clock, C: Clock> Source for Timed<'a, R, C> {
     fn passed(&mut self) -> u32 {
         match &mut self.passing {
             Some(passing) => match Instant::now(self.clock) {
-                Ok(now) => passing.tell(now),
-                Err(_) => 0,
+                Ok(now) => return passing.tell(now),
+                Err(_) => return 0,
             },
             None => {
                 self.passing = begun(self.clock);
-                0
+                return 0;
             }
         }
     }

@@ -1,18 +1,19 @@
 //! The operator of a run.
 
-ghost use Rattle.std.specs.Prelude.{◌≡◌, ◌<◌, IfOk, IfSome};
+ghost use Rattle.std.specs.Prelude.{◌≡◌, ◌<◌, map, IfOk, IfSome};
 ghost use Rattle.ap_books.specs.Counts.{none};
 ghost use Rattle.ap_books.specs.Reading.{Reads};
 ghost use Rattle.ap_live.specs.Counting.{counted_by, tally};
 ghost use Rattle.versions.specs.Sets.{set_of};
-ghost use Rattle.apd_run.specs.Budgets.{program_rows};
+ghost use Rattle.hook_judge.specs.Sums.{no_counts};
+ghost use Rattle.apd_run.specs.InForce.{budget_shown, budgets_of, row_shown, rows_of, with_counts};
 ghost use Rattle.apd_run.specs.Hands.{crew_of};
 ghost use Rattle.apd_driver.specs.Tallies.{told_counts};
 ghost use Rattle.apd_driver.specs.Crews.{gains, with_one_more};
 
-use crate::access::budgets::Budgets;
 use crate::access::counting::counted_in;
 use crate::access::naming::Publications;
+use crate::access::program_counts::ProgramCounts;
 use crate::access::telling::report_all;
 use crate::access::worker::LiveWorker;
 use crate::loads::{Adoption, Limits, Loads};
@@ -41,7 +42,7 @@ pub(crate) struct Sources<'a, F> {
 }
 
 /// The operator of a run: its token, the parts of the ledgers and the pages that no worker has, what these parts have
-/// counted, the programs in force, and their sources. Contracts see everything but the sources.
+/// counted, what was counted of the programs in force, and their sources. Contracts see everything but the sources.
 #[derive(Drop)]
 pub struct LiveOperator<'a, B: Ledgers + Journals, L: Publications, F> {
     pub(crate) ap: &'a LiveAp<B>,
@@ -52,7 +53,7 @@ pub struct LiveOperator<'a, B: Ledgers + Journals, L: Publications, F> {
     pub(crate) totals: Totals,
     pub(crate) workers: u64,
     pub(crate) loads: &'a mut Loads,
-    pub(crate) budgets: Budgets,
+    pub(crate) programs: ProgramCounts,
     pub(crate) sources: Sources<'a, F>,
     pub(crate) list: PhantomData<L>,
 }
@@ -71,7 +72,7 @@ impl<'a, B: Ledgers + Journals, L: Publications, F> Model for LiveOperator<'a, B
       totals = o.totals;
       workers = o.workers;
       loads = o.loads.now;
-      budgets = o.budgets;
+      programs = o.programs;
     } };
 
     ghost invariant = { λ o. IsRunOperator B.shares L.list (record {
@@ -83,7 +84,7 @@ impl<'a, B: Ledgers + Journals, L: Publications, F> Model for LiveOperator<'a, B
       totals = o.totals;
       workers = o.workers;
       loads = o.loads.now;
-      budgets = o.budgets;
+      programs = o.programs;
     }) };
 }
 
@@ -95,7 +96,7 @@ impl<'a, B: Ledgers + Journals, L: Publications, F: Files> LiveOperator<'a, B, L
         let limits = self.sources.limits;
         let files = &mut *self.sources.files;
         let told = self.loads.load(rt, files, hook, path_of_word(path), limits);
-        self.budgets.note(hook, &told);
+        self.programs.note(hook, &told);
         told
     }
 
@@ -110,7 +111,7 @@ impl<'a, B: Ledgers + Journals, L: Publications, F: Files> LiveOperator<'a, B, L
             certificate: path_of_word(certificate),
         };
         let told = self.loads.adopt(rt, files, hook, adoption, work);
-        self.budgets.note(hook, &told);
+        self.programs.note(hook, &told);
         told
     }
 
@@ -120,19 +121,21 @@ impl<'a, B: Ledgers + Journals, L: Publications, F: Files> LiveOperator<'a, B, L
     {
         match self.loads.unload(rt, hook) {
             Ok(()) => {
-                self.budgets.put(hook, None);
+                self.programs.put(hook, None);
                 return None;
             }
             Err(_) => return Some(Told::Memory),
         }
     }
 
-    /// The programs in force, each with its budget.
+    /// The programs in force, each with its budget and what was counted of its runs since its load.
     fn in_force(&self, alloc: Global) -> Result<Vec<ProgramRow>, AllocError>
-        ensures are { IfOk result
-            (λ rows. rows.items ≡ program_rows (set_of self.now.loads.loads)) }
+        ensures are { IfOk result (λ rows.
+            map budget_shown rows.items ≡ budgets_of (set_of self.now.loads.loads)) }
+        ensures show { IfOk result
+            (λ rows. map row_shown rows.items ≡ rows_of self.now.programs) }
     {
-        self.budgets.rows(alloc)
+        self.programs.rows(alloc)
     }
 
     /// Stores a number in a word of a shared map, if there is such a word.
@@ -173,11 +176,17 @@ impl<'a, B: Ledgers + Journals, L: Publications, F: Files> LiveOperator<'a, B, L
 }
 
 impl<'a, B: Ledgers + Journals, L: Publications, F> LiveOperator<'a, B, L, F> {
-    /// Takes over a worker's counts, gives it fresh parts of the ledgers, and returns what became of its events.
+    /// Takes over a worker's counts, also those of the runs of its programs, gives it fresh parts of the ledgers, and
+    /// returns what became of its events.
     fn exchange<G: Drop>(&mut self, worker: &mut LiveWorker<'a, B, L, G>) -> Vec<Tagged>
         ensures crew { crew_of self.new ≡ gains (crew_of self.old) (tally result.items) }
+        ensures programs { self.new.programs
+            ≡ with_counts self.old.programs worker.old.token.held.counts }
         ensures worker { counted_by worker.new.token.shards ≡ none }
+        ensures anew { worker.new.token.held.counts ≡ no_counts }
     {
+        let runs = worker.token.take_counts();
+        self.programs.add(&runs);
         let handled = mem::replace(&mut worker.handled, Vec::new(worker.alloc));
         let numbers = counted_in(handled.as_slice());
         let fresh = self.hoard.split_off(1);

@@ -12,10 +12,10 @@ ghost use Rattle.apd_run.specs.Dealing.{AreHands, IsNewOperator, IsNewWorker};
 ghost use Rattle.apd_run.specs.Hands.{crew_of};
 ghost use Rattle.apd_driver.specs.Shows.{Runs};
 
-use crate::access::budgets::Budgets;
 use crate::access::hands::{Hands, Kept, deal};
 use crate::access::naming::Publications;
 use crate::access::operator::{LiveOperator, Sources};
+use crate::access::program_counts::ProgramCounts;
 use crate::access::worker::LiveWorker;
 use crate::loads::{Limits, Loads};
 use ap_books::{Ledgers, Totals};
@@ -134,7 +134,7 @@ where
         totals: Totals::new(),
         workers,
         loads,
-        budgets: Budgets::none(),
+        programs: ProgramCounts::none(),
         sources,
         list: PhantomData,
     }

@@ -9,6 +9,7 @@ use crate::tests::{ASSOCIATION, AUTHENTICATION, DATA, SETUP, config, field_at, f
 use ap_core::{Event, ListJudge, Out, Shard, Up};
 use bpf_helpers::{MapTables, WorkerState, WorkerView, run_hook};
 use bpf_regions::{Context, Frame, Hook};
+use hook_judge::CountedState;
 use mac_frame::Address;
 use std::alloc::Global;
 use std::process::Abort;
@@ -33,7 +34,7 @@ fn served(
     rt: &impl Abort,
     alloc: Global,
     policies: Policies<'_, '_>,
-    state: &mut WorkerState,
+    state: &mut CountedState,
 ) -> Results
     requires seats { IsFitting policies.maps.now policies.worker state.old.seats }
 {
@@ -225,7 +226,7 @@ fn mark_by(
     alloc: Global,
     shard: &mut Shard,
     policies: Policies<'_, '_>,
-    state: &mut WorkerState,
+    state: &mut CountedState,
 ) -> Option<u8>
     requires seats { IsFitting policies.maps.now policies.worker state.old.seats }
     ensures seats { IsFitting policies.entry.maps.now policies.entry.worker state.new.seats }

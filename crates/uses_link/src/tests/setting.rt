@@ -10,6 +10,7 @@ use bpf_machine::Accepted;
 use bpf_regions::{Hook, Scope, Shape, Shapes, WordWidth};
 use bpf_text::assemble;
 use bpf_verifier::verify;
+use hook_judge::CountedState;
 use std::alloc::Global;
 use std::process::Abort;
 use std::sync::{Arc, Wait};
@@ -20,7 +21,7 @@ use versions::{Entered, Publisher};
 #[derive(Drop)]
 pub struct Seated {
     pub maps: Vec<MapTables>,
-    pub state: WorkerState,
+    pub state: CountedState,
     pub other: WorkerState,
     pub ghost fits: { IsFitting maps.items 0 state.seats },
     pub ghost other_fits: { IsFitting maps.items 0 other.seats },
@@ -41,13 +42,14 @@ fn one_map(rt: &impl Abort, alloc: Global) -> Vec<MapTables>
 }
 
 /// The next two seats of worker 0 at each table of these maps.
-fn seats_at(rt: &impl Abort, alloc: Global, maps: &mut [MapTables]) -> (WorkerState, WorkerState)
+fn seats_at(rt: &impl Abort, alloc: Global, maps: &mut [MapTables]) -> (CountedState, WorkerState)
     requires there { HaveTables maps.old 0 }
     ensures one { IsFitting maps.new 0 result.0.seats }
     ensures other { IsFitting maps.new 0 result.1.seats }
 {
     tables_law();
     let one = WorkerState::seated(alloc, maps, 0, 0).expect(rt, "seats");
+    let one = CountedState::new(alloc, one).expect(rt, "counts");
     let other = WorkerState::seated(alloc, maps, 0, 0).expect(rt, "seats");
     (one, other)
 }

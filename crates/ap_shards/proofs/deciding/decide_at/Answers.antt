@@ -1,8 +1,9 @@
 use Rattle.std.proofs.Common.{rules, ◌≡◌, List, ◌∙◌, ap, sym, subst}
 use Rattle.bpf_helpers.specs.declared.worker.WorkerView.{WorkerView}
 use Rattle.shared_maps.specs.Tables.{Place}
-use Rattle.bpf_helpers.specs.Hooked.{Held, IsFitting}
+use Rattle.bpf_helpers.specs.Hooked.{IsFitting}
 use Rattle.bpf_helpers.specs.HookPorts.{given_by}
+use Rattle.hook_judge.specs.Counted.{Counted}
 use Rattle.hook_judge.specs.declared.judge.SetJudge.{SetJudge}
 use Rattle.ap_model.specs.Readings.{Rules}
 use Rattle.ap_locked.specs.Kept.{readings_of}
@@ -25,7 +26,7 @@ returns-in-Ok-clause-fate g c =
     let added : Adds (ByDesk c.args.desk c.args.state.now k.state.now) rs c.args.mine.now c.args.event.now c.in-Ok.outs.items c.in-Ok.dropped c.decide.new.mine =
     adds (ByDesk c.args.desk c.args.state.now k.state.now) rs {k2 = c.decide.new.self} {t2 = c.decide.new.mine} {j2 = k} c.known.ensures d
     (λ asked listed. by_desk c.args.desk c.args.state.now k.state.now r c.stations.result j asked c.stations.ensures.are view c.new-judge.ensures.set c.new-judge.ensures.state (c.judging_law.ensures.judged j k asked listed).1) in
-    subst (λ (h : Held). Adds (ByDesk c.args.desk c.args.state.now h) rs c.args.mine.now c.args.event.now c.in-Ok.outs.items c.in-Ok.dropped c.decide.new.mine) (search rules) added
+    subst (λ (h : Counted). Adds (ByDesk c.args.desk c.args.state.now h) rs c.args.mine.now c.args.event.now c.in-Ok.outs.items c.in-Ok.dropped c.decide.new.mine) (search rules) added
 
 pub returns-in-Ok-clause-fitting : goal.returns-in-Ok-clause-fitting
 returns-in-Ok-clause-fitting g c =
@@ -42,12 +43,12 @@ pub returns-in-Err-clause-holds : goal.returns-in-Err-clause-holds
 returns-in-Err-clause-holds g c =
     let same = c.in-Err.ensures.refused.2 in
     let name = ap (λ (j : SetJudge). j.state.ghost_name) same ∙ c.new-judge.ensures.same_state in
-    subst (λ (h : Held). h ≡ c.args.state.now) (search rules) (ap (λ (j : SetJudge). j.state.now) same ∙ c.new-judge.ensures.state)
+    subst (λ (h : Counted). h ≡ c.args.state.now) (search rules) (ap (λ (j : SetJudge). j.state.now) same ∙ c.new-judge.ensures.state)
 
 pub returns-in-Err-clause-fitting : goal.returns-in-Err-clause-fitting
 returns-in-Err-clause-fitting g c =
     let same = c.in-Err.ensures.refused.2 in
     let name = ap (λ (j : SetJudge). j.state.ghost_name) same ∙ c.new-judge.ensures.same_state in
     let was : IsFitting c.args.desk.maps.now c.args.desk.worker c.decide.new.judge.state.now.seats =
-    subst (λ (h : Held). IsFitting c.args.desk.maps.now c.args.desk.worker h.seats) (sym (ap (λ (j : SetJudge). j.state.now) same ∙ c.new-judge.ensures.state)) c.requires in
+    subst (λ (h : Counted). IsFitting c.args.desk.maps.now c.args.desk.worker h.seats) (sym (ap (λ (j : SetJudge). j.state.now) same ∙ c.new-judge.ensures.state)) c.requires in
     subst (λ (s : List Place). IsFitting c.args.desk.maps.now c.args.desk.worker s) (search rules) was

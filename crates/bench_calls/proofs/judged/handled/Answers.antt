@@ -1,5 +1,6 @@
 use Rattle.std.proofs.Common.{rules, ◌≡◌, refl, sym, ◌∙◌}
-use Rattle.bpf_helpers.specs.Hooked.{Held, IsFitting}
+use Rattle.bpf_helpers.specs.Hooked.{IsFitting}
+use Rattle.hook_judge.specs.Counted.{Counted}
 use Rattle.bench_calls.proofs.Fitting.{fits_after}
 use Rattle.bench_calls.proofs.judged.handled.Goals as goal
 
@@ -10,6 +11,6 @@ returns c =
     let maps = c.args.policies.now.maps.now in
     let step = c.in_ok-outs.ensures.step in
     let keeps = (c.judging_law.ensures.judged j k step.asked step.listed).0 in
-    let made : (h' : Held) → (_ ≡ k.state.ghost_name → h' ≡ k.state.now) → IsFitting maps 0 h'.seats =
+    let made : (h' : Counted) → (_ ≡ k.state.ghost_name → h' ≡ k.state.now) → IsFitting maps 0 h'.seats =
     λ h' written. fits_after maps j k (rw (c.new-judge.ensures.view, c.view_of-view.ensures.maps) refl) (rw c.new-judge.ensures.view c.view_of-view.ensures.worker) keeps h' (λ name. written (sym c.new-judge.ensures.same_state ∙ name)) in
     search (rules, made)

@@ -4,7 +4,6 @@ use Rattle.bpf_helpers.specs.Tables.{Tables}
 use Rattle.ap_model.specs.Readings.{Config}
 use Rattle.ap_queues.specs.Items.{Item}
 use Rattle.versions.specs.Lists.{Beginning, Begins}
-use Rattle.versions.specs.Sets.{set_of}
 use Rattle.ap_shards.specs.Fates.{ComesAt}
 use Rattle.ap_shards.specs.Judged.{JudgedBy}
 use Rattle.ap_live.specs.Lives.{Live}
@@ -36,11 +35,11 @@ returns-clause-became g c =
     let maps_are = c.maps.ensures.is ∙ ap (λ (a : Live). a.stock.maps) c.self.view_is in
     let old : Worker = record { number = before.number; pass = before.pass; seen = before.reader; held = before.state; shards = before.shards } in
     let new : Worker = record { number = before.number; pass = before.pass; seen = seen; held = held; shards = shards } in
-    let by_set = subst (λ (b : Beginning). ComesAt (JudgedBy c.maps.result.now before.number (set_of b.loads) before.state held) config item.shard before.shards item.event fate shards)
+    let by_set = subst (λ (b : Beginning). ComesAt (JudgedBy c.maps.result.now before.number b.loads before.state held) config item.shard before.shards item.event fate shards)
     (c.set.ensures.is ∙ sym c.leave.ensures.seen) c.decide-fate.ensures.fate in
     let became : Becomes config c.args.self.now old.number (progress_of old) item.event item.shard fate (progress_of new) = record {
       begins = subst (λ (b : Beginning). Begins before.reader b) (sym c.leave.ensures.seen) c.enter-entered.ensures.seen;
-      came = subst (λ (ms : List Tables). ComesAt (JudgedBy ms before.number (set_of seen.loads) before.state held) config item.shard before.shards item.event fate shards) maps_are by_set;
+      came = subst (λ (ms : List Tables). ComesAt (JudgedBy ms before.number seen.loads before.state held) config item.shard before.shards item.event fate shards) maps_are by_set;
       held = c.decide-fate.ensures.holds;
       inside = is_inside fate item.shard c.item.invariant.below;
     } in

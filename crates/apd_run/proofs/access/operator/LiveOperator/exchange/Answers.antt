@@ -5,7 +5,11 @@ use Rattle.ap_books.specs.Reading.{Reads}
 use Rattle.ap_live.specs.Counting.{counted_by, tally}
 use Rattle.ap_live.specs.declared.tagged.Tagged.{Tagged}
 use Rattle.apd_driver.specs.Crews.{Crew, gains}
+use Rattle.ap_live.specs.Tokens.{Worker}
 use Rattle.apd_run.specs.Hands.{RunOperator, crew_of}
+use Rattle.apd_run.specs.InForce.{AreInForce, with_counts}
+use Rattle.apd_run.specs.declared.access.program_counts.ProgramCounts.{ProgramCounts}
+use Rattle.apd_run.proofs.Budgeting.{counted_in_force}
 use Rattle.apd_run.proofs.Keeping.{other_parts}
 use Rattle.apd_run.proofs.Sums.{exchanged_parts, exchanged_sum, fresh, more_than_one}
 use Rattle.apd_run.proofs.access.operator.LiveOperator.exchange.Goals as goal
@@ -30,6 +34,7 @@ invariant_of-self g c =
     let split : HasSplit 1 hoard left = subst (λ (h : Holding). HasSplit 1 h left) c.deref_mut.ensures.value c.split_off-fresh.ensures.left in
     let merged : HasMerged left c.renew-counted.result c.merge.new.self = subst (λ (h : Holding). HasMerged h c.renew-counted.result c.merge.new.self) c.deref_mut-2.ensures.value c.merge.ensures in
     let counted = exchanged_sum hoard left c.renew-counted.result c.merge.new.self (counted_by shards) stayed merged (ap sum_of c.renew-counted.ensures.given) in
+    let programs : c.add.new.self ≡ with_counts c.self.inside.programs c.take_counts-runs.result = c.add.ensures.sums in
     let handled = ap (λ (v : Vec Tagged). tally v.items) c.replace-handled.ensures.value in
     let numbers : Reads c.counted_in-numbers.result (counted_by shards) = subst (Reads c.counted_in-numbers.result) (ap tally c.as_slice.ensures.value ∙ (handled ∙ sym c.worker.invariant.counts)) c.counted_in-numbers.ensures.reads in
     let given : HasParts 1 c.renew-counted.result = subst (HasParts 1) (sym c.renew-counted.ensures.given) c.worker.invariant.parts in
@@ -43,14 +48,14 @@ invariant_of-self g c =
       shares_are = i.shares_are;
       some = i.some;
       list_is = i.list_is;
-      in_force = i.in_force;
+      in_force = subst (λ (p : ProgramCounts). AreInForce p c.self.inside.loads.loads) (sym programs) (counted_in_force c.self.inside.programs c.take_counts-runs.result c.self.inside.loads.loads i.in_force);
       reads = subst (Reads c.and-self-inside.result) (sym counted) (c.and-self-inside.ensures _ _ i.reads numbers);
     }
 
 pub invariant_of-worker : goal.invariant_of-worker
 invariant_of-worker g c =
     let empty = ap (λ (v : Vec Tagged). v.items) c.replace-handled.ensures.after ∙ c.new.ensures.items in
-    other_parts _ _ _ c.split_off-fresh.result c.replace-handled.new.dest.items c.renew-counted.ensures.same c.renew-counted.ensures.taken c.split_off-fresh.ensures.parts c.split_off-fresh.ensures.none empty c.worker.invariant
+    other_parts _ _ _ c.split_off-fresh.result c.replace-handled.new.dest.items (c.renew-counted.ensures.same ∙ ap (λ (w : Worker). record w { shards = c.renew-counted.new.self.shards }) c.take_counts-runs.ensures.anew) c.renew-counted.ensures.taken c.split_off-fresh.ensures.parts c.split_off-fresh.ensures.none empty c.worker.invariant
 
 pub returns-clause-crew : goal.returns-clause-crew
 returns-clause-crew g c =
