@@ -15,9 +15,9 @@ overlay_of told.Plain = Nothing
 overlay_of (told.Steps counts most) = Steps counts.now most
 overlay_of (told.States visits) = States visits.now
 
--- how dark a block is, by its share of the most steps: 1 to 7, or 0 without a step; 6 times a count is at most 2^64 - 1
+-- how dark a block is, by its share of the most steps: 1 to 5, or 0 without a step; 4 times a count is at most 2^64 - 1
 abbrev pub level_of : ℕ → ℕ → ℕ
-level_of count most = (if count == 0 then 0 else 1 + min (min (count * 6) (2 ^ 64 - 1) / max most 1) 6)
+level_of count most = (if count == 0 then 0 else 1 + min (min (count * 4) (2 ^ 64 - 1) / max most 1) 4)
 
 -- the colour of a level
 abbrev pub fill : ℕ → List ℕ

@@ -19,14 +19,14 @@ pub enum Overlay<'a> {
     States { visits: &'a [u32] },
 }
 
-/// A level of darkness, 1 to 7; or 0 for a block at which no step was made.
+/// A level of darkness, 1 to 5; or 0 for a block at which no step was made.
 fn level(count: u64, most: u64) -> u64
     ensures is { result ≡ level_of count most }
 {
     if count == 0 {
         return 0;
     }
-    1 + (count.saturating_mul(6) / most.max(1)).min(6)
+    1 + (count.saturating_mul(4) / most.max(1)).min(4)
 }
 
 /// The number at a slot; 0 past the end.
