@@ -17,9 +17,9 @@ _apd() {
     case ${COMP_WORDS[1]} in
         verify) options='--config --states --explain --work --help' kinds=('assoc addba data/' '/hex') ;;
         asm) options='--output --help' kinds=('/s') ;;
-        disasm) options='--config --slots --raw --dot --output --help' kinds=('/hex') ;;
+        disasm) options='--config --slots --raw --dot --output --explain --help' kinds=('/hex') ;;
         trace) options='--config --states --context --from-frame --explain --work --help' kinds=('assoc addba data/' '/hex' '/') ;;
-        eval) options='--config --against --states --json --output --work --help' kinds=('assoc addba data/' '/hex' '/pcap pcapng') ;;
+        eval) options='--config --against --states --json --output --work --profile --dot --help' kinds=('assoc addba data/' '/hex' '/pcap pcapng') ;;
         run) options='--workers --states --quiet --strict --verbose --work --help' kinds=('/toml' '/script') ;;
         live) options='--workers --states --strict --verbose --clock --events --color --work --help' kinds=('/toml') ;;
         cert) options='--config --states --output --work --help' kinds=('assoc addba data/' '/hex') ;;

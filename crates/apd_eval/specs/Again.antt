@@ -1,6 +1,7 @@
 -- The queries of rows, judged by another program.
 use Rattle.std.specs.Prelude.{◌≡◌, ℕ, ◌-◌, List, [], ◌∷◌, Option, Some, None, Result, Ok, Err, slice_get, if◌then◌else◌}
-use Rattle.bpf_helpers.specs.Hooked.{Given, Held}
+use Rattle.bpf_helpers.specs.Hooked.{Given}
+use Rattle.apd_eval.specs.Metered.{Metered}
 use Rattle.capture.specs.Packets.{Seen}
 use Rattle.capture.specs.declared.fault.LeftOut.{LeftOut}
 use Rattle.ap_model.specs.Asks.{Ask}
@@ -34,14 +35,14 @@ abbrev pub read_at : Policy → Row → Given
 read_at p row = record { maps = p.maps.now; worker = 0; clock = row.ruling.clock; stations = row.ruling.stations }
 
 -- the rulings of these programs on the queries of rows, one after another, each beside the row's own
-abbrev pub JudgesAgain : Policy → List Seen → Held → List Row → List Contrast → Held → Type 0
+abbrev pub JudgesAgain : Policy → List Seen → Metered → List Row → List Contrast → Metered → Type 0
 JudgesAgain p packets h [] contrasts h' = (contrasts ≡ []) × (h' ≡ h)
 JudgesAgain p packets h (row ∷ rows) contrasts h' =
-    (ruling : Ruling) × (held : Held) × (more : List Contrast)
+    (ruling : Ruling) × (held : Metered) × (more : List Contrast)
     × IsRuling (read_at p row) p.programs.now h (query_of packets row) ruling held
     × (contrasts ≡ record { packet = row.packet; in_force = row.ruling; tried = ruling } ∷ more)
     × JudgesAgain p packets held rows more h'
 
 -- these contrasts, from what is held at first to what is held then
-pub record AreContrasts (p : Policy) (packets : List Seen) (h : Held) (rows : List Row) (contrasts : List Contrast) (h' : Held) : Type 0 where
+pub record AreContrasts (p : Policy) (packets : List Seen) (h : Metered) (rows : List Row) (contrasts : List Contrast) (h' : Metered) : Type 0 where
   pub again : JudgesAgain p packets h rows contrasts h'

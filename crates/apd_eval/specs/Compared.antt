@@ -1,6 +1,6 @@
 -- Two programs on a capture.
 use Rattle.std.specs.Prelude.{◌≡◌, ◌↔◌, ℕ, Bool, nat_lt, List, [], Some, length}
-use Rattle.bpf_helpers.specs.Hooked.{Held}
+use Rattle.apd_eval.specs.Metered.{Metered}
 use Rattle.bpf_machine.specs.Verified.{Verified}
 use Rattle.capture.specs.Packets.{Seen}
 use Rattle.ap_model.specs.Readings.{Config}
@@ -16,9 +16,9 @@ use Rattle.apd_eval.specs.declared.tried.Policy.{Policy}
 pub record AreJudgedAgain (v : Verified) (draw : ℕ) (packets : List Seen) (rows : List Row) (contrasts : List Contrast) : Type 0 where
   pub policy : Policy
   pub programs : policy.programs.now ≡ replaced v.hook (no_programs v.code.shapes) (Some v)
-  pub held : Held
-  pub drawn : held.draw ≡ draw
-  pub held' : Held
+  pub held : Metered
+  pub drawn : held.held.draw ≡ draw
+  pub held' : Metered
   pub again : AreContrasts policy packets held rows contrasts held'
 
 -- The link follows the program in force. The text has the verdicts of the tried one that differ, and there is none

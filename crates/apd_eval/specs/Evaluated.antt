@@ -1,6 +1,6 @@
 -- The rows of a capture, judged by a program.
-use Rattle.std.specs.Prelude.{◌≡◌, ℕ, Bool, List, Some}
-use Rattle.bpf_helpers.specs.Hooked.{Held}
+use Rattle.std.specs.Prelude.{◌≡◌, ℕ, Bool, List, [], Some}
+use Rattle.apd_eval.specs.Metered.{Metered}
 use Rattle.bpf_machine.specs.Verified.{Verified}
 use Rattle.capture.specs.Packets.{Seen}
 use Rattle.ap_model.specs.Readings.{Config}
@@ -12,13 +12,21 @@ use Rattle.apd_eval.specs.declared.follow.Row.{Row}
 use Rattle.apd_eval.specs.declared.tried.Policy.{Policy}
 
 -- The program is the only one of a new access point, and `draw` is the first number drawn. The rows are its verdicts.
-pub record IsEvaluated (v : Verified) (draw : ℕ) (config : Config) (packets : List Seen) (rows : List Row) : Type 0 where
+-- The steps of their runs take the counts from one list to another.
+pub record IsJudged (v : Verified) (draw : ℕ) (config : Config) (packets : List Seen) (counts : List ℕ) (rows : List Row) (counts' : List ℕ) : Type 0 where
   pub policy : Policy
   pub hook : policy.hook ≡ v.hook
   pub programs : policy.programs.now ≡ replaced v.hook (no_programs v.code.shapes) (Some v)
-  pub held : Held
-  pub drawn : held.draw ≡ draw
-  pub followed : IsFollowed policy config packets held rows
+  pub first : Metered
+  pub drawn : first.held.draw ≡ draw
+  pub from : first.counts ≡ counts
+  pub last : Metered
+  pub to : last.counts ≡ counts'
+  pub followed : IsFollowed policy config packets first rows last
+
+-- the same without counts
+abbrev pub IsEvaluated : Verified → ℕ → Config → List Seen → List Row → Type 0
+IsEvaluated v draw config packets rows = (counts' : List ℕ) × IsJudged v draw config packets [] rows counts'
 
 -- what was judged
 abbrev pub judged_by : Verified → Config → List Seen → Judged

@@ -1,3 +1,5 @@
+pub mod Metered
+pub mod Visits
 pub mod Witnesses
 pub mod Rulings
 pub mod Leading
@@ -11,3 +13,4 @@ pub mod Again
 pub mod Asked
 pub mod Changes
 pub mod Compared
+pub mod Profile

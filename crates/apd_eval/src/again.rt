@@ -8,10 +8,11 @@ ghost use Rattle.apd_eval.specs.Changes.{Agrees};
 ghost use Rattle.apd_eval.specs.Rulings.{IsRuling};
 
 use crate::follow::{Row, is_received};
+use crate::meter::Meter;
 use crate::ruling::Ruling;
 use crate::tried::Policy;
 use crate::witness::Witness;
-use bpf_helpers::{WorkerState, WorkerView};
+use bpf_helpers::WorkerView;
 use bpf_regions::Frame;
 use capture::Packet;
 use std::alloc::{AllocError, Global};
@@ -55,11 +56,11 @@ fn bytes_at<'a>(packets: &'a [Packet<'a>], number: usize) -> &'a [u8]
 }
 
 /// Judges the query of a row by these programs.
-fn rule(policy: Policy<'_>, state: &mut WorkerState, row: &Row, packets: &[Packet<'_>]) -> Ruling
-    requires fitting { IsFitting policy.maps.now 0 state.old.seats }
+fn rule(policy: Policy<'_>, state: &mut Meter, row: &Row, packets: &[Packet<'_>]) -> Ruling
+    requires fitting { IsFitting policy.maps.now 0 state.old.held.seats }
     ensures ruling { IsRuling (read_at policy.entry row.now) policy.entry.programs.now state.old
         (query_of (map seen_of packets.now) row.now) result state.new }
-    ensures fitting { IsFitting policy.entry.maps.now 0 state.new.seats }
+    ensures fitting { IsFitting policy.entry.maps.now 0 state.new.held.seats }
 {
     let ruling = row.ruling;
     let view = WorkerView {
@@ -79,11 +80,11 @@ fn rule(policy: Policy<'_>, state: &mut WorkerState, row: &Row, packets: &[Packe
 pub(crate) fn judge_again(
     alloc: Global,
     policy: Policy<'_>,
-    state: &mut WorkerState,
+    state: &mut Meter,
     rows: &[Row],
     packets: &[Packet<'_>],
 ) -> Result<Vec<Contrast>, AllocError>
-    requires fitting { IsFitting policy.maps.now 0 state.old.seats }
+    requires fitting { IsFitting policy.maps.now 0 state.old.held.seats }
     ensures contrasts { IfOk result (λ contrasts. AreContrasts policy.entry
         (map seen_of packets.now) state.old rows.now contrasts.items state.new) }
 {

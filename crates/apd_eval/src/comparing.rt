@@ -8,6 +8,7 @@ use crate::again::{Contrast, judge_again};
 use crate::changes::{change_sums, changes_of, changes_text};
 use crate::evaluating::evaluate;
 use crate::follow::{Replay, Row};
+use crate::meter::Meter;
 use crate::tried::{Policy, Tried};
 use bpf_machine::Accepted;
 use std::alloc::{AllocError, Global};
@@ -33,14 +34,15 @@ fn judged_again(
     let Tried {
         programs,
         tables,
-        mut state,
+        state,
     } = Tried::new(alloc, accepted, replay.draw)?;
+    let mut meter = Meter::new(state, Vec::new(alloc));
     let policy = Policy {
         hook,
         programs: &programs,
         maps: tables.maps(),
     };
-    judge_again(alloc, policy, &mut state, rows, replay.packets)
+    judge_again(alloc, policy, &mut meter, rows, replay.packets)
 }
 
 /// The verdicts of a program that differ from those of the program in force, on the queries of its hook as a capture's

@@ -6,6 +6,7 @@ ghost use Rattle.capture.specs.Packets.{seen_of};
 ghost use Rattle.apd_eval.specs.Evaluated.{IsEvaluated, IsEvaluation};
 
 use crate::follow::{Replay, Row, follow};
+use crate::meter::Meter;
 use crate::sums::Course;
 use crate::table::table_text;
 use crate::tried::{Policy, Tried};
@@ -26,14 +27,15 @@ pub fn evaluate(
     let Tried {
         programs,
         tables,
-        mut state,
+        state,
     } = Tried::new(alloc, accepted, replay.draw)?;
+    let mut meter = Meter::new(state, Vec::new(alloc));
     let policy = Policy {
         hook,
         programs: &programs,
         maps: tables.maps(),
     };
-    follow(alloc, policy, &mut state, replay)
+    follow(alloc, policy, &mut meter, replay)
 }
 
 /// The table of these verdicts, or lines of JSON.

@@ -7,10 +7,11 @@ ghost use Rattle.ap_core.specs.AccessPoints.{rules_of};
 ghost use Rattle.capture.specs.Packets.{seen_of};
 ghost use Rattle.capture.specs.Radiotap.{bytes_in};
 ghost use Rattle.apd_policies.specs.Script.{start_of};
-ghost use Rattle.apd_eval.specs.Asked.{IsFollowed};
+ghost use Rattle.apd_eval.specs.Asked.{IsAlone, IsFollowed};
 ghost use Rattle.apd_eval.specs.Follows.{TimePasses, is_received, FrameComes, PacketComes, Follows, rows_of};
 
 use crate::handling::handle;
+use crate::meter::Meter;
 use crate::ruling::Ruling;
 use crate::tried::Policy;
 use crate::witness::Witness;
@@ -18,7 +19,6 @@ use ap_core::{Event, LinkConfig, Shard, new_shards};
 use ap_laws::asks_law;
 use ap_model::Octets;
 use apd_policies::{start, unit};
-use bpf_helpers::WorkerState;
 use bpf_regions::Hook;
 use capture::{LeftOut, Packet};
 use std::alloc::{AllocError, Global};
@@ -60,15 +60,15 @@ fn pass(
     alloc: Global,
     shards: &mut [Shard; 8],
     policy: Policy<'_>,
-    state: &mut WorkerState,
+    state: &mut Meter,
     arrival: Arrival<'_>,
 ) -> Result<Option<Ruling>, AllocError>
     requires place { InPlace (rules_of shards.old) }
-    requires fitting { IsFitting policy.maps.now 0 state.old.seats }
+    requires fitting { IsFitting policy.maps.now 0 state.old.held.seats }
     ensures time { IfOk result (λ last. TimePasses policy.entry arrival.entry.clock arrival.entry.now last
         shards.old state.old shards.new state.new) }
     ensures place { InPlace (rules_of shards.new) }
-    ensures fitting { IsFitting policy.entry.maps.now 0 state.new.seats }
+    ensures fitting { IsFitting policy.entry.maps.now 0 state.new.held.seats }
 {
     if arrival.clock < arrival.now {
         let units = (arrival.now - arrival.clock).min(4_294_967_295);
@@ -90,15 +90,15 @@ fn receive(
     alloc: Global,
     shards: &mut [Shard; 8],
     policy: Policy<'_>,
-    state: &mut WorkerState,
+    state: &mut Meter,
     frame: Result<&[u8], LeftOut>,
 ) -> Result<Option<Ruling>, AllocError>
     requires place { InPlace (rules_of shards.old) }
-    requires fitting { IsFitting policy.maps.now 0 state.old.seats }
+    requires fitting { IsFitting policy.maps.now 0 state.old.held.seats }
     ensures comes { IfOk result (λ last. FrameComes policy.entry (bytes_in frame.entry) last
         shards.old state.old shards.new state.new) }
     ensures place { InPlace (rules_of shards.new) }
-    ensures fitting { IsFitting policy.entry.maps.now 0 state.new.seats }
+    ensures fitting { IsFitting policy.entry.maps.now 0 state.new.held.seats }
 {
     match frame {
         Ok(bytes) => {
@@ -117,16 +117,16 @@ fn arrive(
     alloc: Global,
     shards: &mut [Shard; 8],
     policy: Policy<'_>,
-    state: &mut WorkerState,
+    state: &mut Meter,
     arrival: Arrival<'_>,
 ) -> Result<Option<Ruling>, AllocError>
     requires place { InPlace (rules_of shards.old) }
-    requires fitting { IsFitting policy.maps.now 0 state.old.seats }
+    requires fitting { IsFitting policy.maps.now 0 state.old.held.seats }
     ensures comes { IfOk result (λ last. PacketComes policy.entry
         arrival.entry.clock arrival.entry.now (bytes_in arrival.entry.frame) last
         shards.old state.old shards.new state.new) }
     ensures place { InPlace (rules_of shards.new) }
-    ensures fitting { IsFitting policy.entry.maps.now 0 state.new.seats }
+    ensures fitting { IsFitting policy.entry.maps.now 0 state.new.held.seats }
 {
     pass(alloc, shards, policy, state, arrival)?;
     receive(alloc, shards, policy, state, arrival.frame)
@@ -154,11 +154,11 @@ fn rows(
     alloc: Global,
     shards: &mut [Shard; 8],
     policy: Policy<'_>,
-    state: &mut WorkerState,
+    state: &mut Meter,
     packets: &[Packet<'_>],
 ) -> Result<Vec<Row>, AllocError>
     requires place { InPlace (rules_of shards.old) }
-    requires fitting { IsFitting policy.maps.now 0 state.old.seats }
+    requires fitting { IsFitting policy.maps.now 0 state.old.held.seats }
     ensures rows { IfOk result (λ rows. Follows policy.entry (start_of (map seen_of packets.now)) 1 0
         shards.old state.old (map seen_of packets.now) rows.items shards.new state.new) }
 {
@@ -178,16 +178,18 @@ fn rows(
     Ok(rows)
 }
 
-/// The rows of a capture's packets, one after another, at a new access point. Each is about the frame of its packet.
+/// The rows of a capture's packets, one after another, at a new access point at which only this hook has a program. Each
+/// is about the frame of its packet.
 pub(crate) fn follow(
     alloc: Global,
     policy: Policy<'_>,
-    state: &mut WorkerState,
+    state: &mut Meter,
     replay: Replay<'_>,
 ) -> Result<Vec<Row>, AllocError>
-    requires fitting { IsFitting policy.maps.now 0 state.old.seats }
+    requires alone { IsAlone policy }
+    requires fitting { IsFitting policy.maps.now 0 state.old.held.seats }
     ensures rows { IfOk result (λ rows. IsFollowed policy.entry replay.entry.link.now
-        (map seen_of replay.entry.packets.now) state.old rows.items) }
+        (map seen_of replay.entry.packets.now) state.old rows.items state.new) }
 {
     asks_law::<Witness>();
     let mut shards = new_shards(alloc, replay.link)?;

@@ -12,12 +12,12 @@ ghost use Rattle.apd_eval.specs.Rulings.{GivesRuling};
 ghost use Rattle.apd_eval.specs.Witnesses.{Keeps, Witnesses, heard_by};
 ghost use Rattle.apd_eval.specs.Leading.{Leads, Happens};
 
+use crate::meter::Meter;
 use crate::ruling::Ruling;
 use crate::tried::Policy;
 use crate::witness::Witness;
 use ap_core::{Event, Out, Shard, handle_all};
 use ap_single::{only_result, view_at};
-use bpf_helpers::WorkerState;
 use std::alloc::{AllocError, Global};
 
 /// For any queries, one after another, a judge keeps what it borrowed, and each verdict is that of its programs on the
@@ -67,16 +67,16 @@ fn judged(
     alloc: Global,
     shards: &mut [Shard; 8],
     policy: Policy<'_>,
-    state: &mut WorkerState,
+    state: &mut Meter,
     event: Event,
 ) -> Result<Handled, AllocError>
     requires place { InPlace (rules_of shards.old) }
-    requires fitting { IsFitting policy.maps.now 0 state.old.seats }
+    requires fitting { IsFitting policy.maps.now 0 state.old.held.seats }
     ensures led { IfOk result (λ h. Leads policy.entry event
         (option_map (λ outs. outs.items) h.outs) h.last
         shards.old state.old shards.new state.new) }
     ensures place { InPlace (rules_of shards.new) }
-    ensures fitting { IsFitting policy.entry.maps.now 0 state.new.seats }
+    ensures fitting { IsFitting policy.entry.maps.now 0 state.new.held.seats }
 {
     let view = view_at(shards, &event, policy.maps);
     let mut judge = Witness::new(policy.programs, view, state);
@@ -89,15 +89,15 @@ pub(crate) fn handle(
     alloc: Global,
     shards: &mut [Shard; 8],
     policy: Policy<'_>,
-    state: &mut WorkerState,
+    state: &mut Meter,
     event: Event,
 ) -> Result<Option<Ruling>, AllocError>
     requires place { InPlace (rules_of shards.old) }
-    requires fitting { IsFitting policy.maps.now 0 state.old.seats }
+    requires fitting { IsFitting policy.maps.now 0 state.old.held.seats }
     ensures happens { IfOk result (λ last.
         Happens policy.entry event last shards.old state.old shards.new state.new) }
     ensures place { InPlace (rules_of shards.new) }
-    ensures fitting { IsFitting policy.entry.maps.now 0 state.new.seats }
+    ensures fitting { IsFitting policy.entry.maps.now 0 state.new.held.seats }
 {
     let Handled { outs, last } = judged(alloc, shards, policy, state, event)?;
     match outs {

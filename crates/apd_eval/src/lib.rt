@@ -1,9 +1,10 @@
 //! Policies on captures: what a program says of each frame that comes to it.
 //!
-//! Main calls: `evaluation_text` and `compare`. It depends on `ap_core`, `program_judge` and `capture`. The frames of a
+//! Main calls: `evaluation_text`, `compare` and `profile_text`. It depends on `ap_core`, `program_judge` and `capture`. The frames of a
 //! capture come to a new access point of which the program is the only one; each query of its hook is a row, with the
 //! verdict and the steps of the program's run on that query. A second program may judge the same queries, with maps of
-//! its own; then the rows are the queries on which both differ.
+//! its own; then the rows are the queries on which both differ. `profile_text` tells at which instructions the runs on
+//! these queries make their steps.
 #![tactic(auto)]
 
 mod again;
@@ -12,6 +13,8 @@ mod comparing;
 mod evaluating;
 mod follow;
 mod handling;
+mod meter;
+mod profiling;
 mod ruling;
 mod sums;
 mod table;
@@ -24,5 +27,6 @@ pub use again::Contrast;
 pub use comparing::{Comparison, compare};
 pub use evaluating::{evaluate, evaluation_text};
 pub use follow::{Replay, Row};
+pub use profiling::{ProfileForm, profile_text};
 pub use ruling::Ruling;
 pub use tried::copied_shapes;

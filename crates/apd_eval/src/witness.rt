@@ -5,9 +5,10 @@ ghost use Rattle.bpf_helpers.specs.Hooked.{IsFitting, shapes_of};
 ghost use Rattle.bpf_helpers.specs.HookPorts.{given_by};
 ghost use Rattle.apd_eval.specs.Rulings.{IsRuling};
 
+use crate::meter::Meter;
 use crate::ruling::Ruling;
 use ap_model::{AskLog, Judge};
-use bpf_helpers::{WorkerState, WorkerView, run_hook};
+use bpf_helpers::WorkerView;
 use bpf_regions::{Context, Frame, Hook};
 use hooks::no_program;
 use program_judge::Programs;
@@ -17,25 +18,21 @@ use program_judge::Programs;
 pub(crate) struct Witness<'p, 't, 's> {
     pub programs: &'p Programs,
     pub view: WorkerView<'t>,
-    pub state: &'s mut WorkerState,
+    pub state: &'s mut Meter,
     /// The last query; `None` if nothing was asked.
     pub last: Option<Ruling>,
     pub asked: AskLog,
     pub ghost for_maps: { programs.now.shapes ≡ shapes_of view.maps.now },
-    pub ghost fitting: { IsFitting view.maps.now view.worker state.now.seats },
+    pub ghost fitting: { IsFitting view.maps.now view.worker state.now.held.seats },
 }
 
 impl<'p, 't, 's> Witness<'p, 't, 's> {
     ghost use Rattle.apd_eval.specs.Witnesses.{Keeps};
 
     /// A judge by these programs, which must be for the maps in use. Nothing has been asked of it.
-    pub(crate) fn new(
-        programs: &'p Programs,
-        view: WorkerView<'t>,
-        state: &'s mut WorkerState,
-    ) -> Self
+    pub(crate) fn new(programs: &'p Programs, view: WorkerView<'t>, state: &'s mut Meter) -> Self
         requires for_maps { programs.now.shapes ≡ shapes_of view.maps.now }
-        requires fitting { IsFitting view.maps.now view.worker state.old.seats }
+        requires fitting { IsFitting view.maps.now view.worker state.old.held.seats }
         ensures programs { result.programs ≡ programs.entry }
         ensures view { result.view ≡ view.entry }
         ensures same_state { result.state.ghost_name ≡ state.entry.ghost_name }
@@ -72,7 +69,7 @@ impl<'p, 't, 's> Witness<'p, 't, 's> {
             }
             Some(accepted) => {
                 let _safe = accepted.program();
-                let outcome = run_hook(accepted, frame, context, self.view, self.state);
+                let outcome = self.state.run(accepted, frame, context, self.view);
                 return Ruling {
                     hook,
                     context: *context,

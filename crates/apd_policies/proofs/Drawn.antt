@@ -3,6 +3,7 @@ use Rattle.std.proofs.Common.{◌≡◌, ◌∙◌, ◌↔◌, ◌+◌, ◌++◌
 use Rattle.bpf_insn.specs.declared.insn.Insn.{Insn}
 use Rattle.bpf_decode.specs.Flow.{IsJump}
 use Rattle.apd_policies.specs.Blocks.{IsFirst, IsLast}
+use Rattle.apd_policies.specs.Overlays.{Told}
 use Rattle.apd_policies.specs.Graph.{edge_line, opening, insn_line, beginning, Appends, IsJumpEdge, Leads, Astray, AreTwoEdges, AreEdges, IsEnding, IsDrawn, IsDrawnAt, AreDrawn, Nothing, More, IsGraph}
 use Rattle.apd_policies.specs.declared.graph.drawing.Way.{Way}
 
@@ -35,36 +36,36 @@ IsEnding-last head k i old mid new closed a = record {
   is = a.is ∙ (ap (λ t. t ++ a.text) closed ∙ append_assoc old (codes "\"];\n") a.text);
 }
 
-module _ (slots : List (Option Insn)) where
+module _ (told : Told) (slots : List (Option Insn)) where
   pub IsDrawn-of : (k before head : ℕ) (i : Insn) (first last : Bool) (old opened lined new : List ℕ) → IsTrue first ↔ IsFirst slots k → IsTrue last ↔ IsLast slots k i
-      → head ≡ (if first then k else before) → opened ≡ old ++ opening first k → lined ≡ opened ++ insn_line k i → Appends (IsEnding last head k i) lined new → Appends (IsDrawn slots k before head i) old new
+      → head ≡ (if first then k else before) → opened ≡ old ++ opening told first k → lined ≡ opened ++ insn_line k i → Appends (IsEnding last head k i) lined new → Appends (IsDrawn told slots k before head i) old new
   IsDrawn-of k before head i first last old opened lined new begins ends is opens lines a = record {
-    text = opening first k ++ (insn_line k i ++ a.text);
+    text = opening told first k ++ (insn_line k i ++ a.text);
     is_text = record { first = first; told_first = begins; head = is; last = last; told_last = ends; ending = a.text; ends = a.is_text; is = refl };
     is = a.is ∙ (ap (λ t. t ++ a.text) (lines ∙ ap (λ t. t ++ insn_line k i) opens)
-        ∙ (append_assoc (old ++ opening first k) (insn_line k i) a.text ∙ append_assoc old (opening first k) (insn_line k i ++ a.text)));
+        ∙ (append_assoc (old ++ opening told first k) (insn_line k i) a.text ∙ append_assoc old (opening told first k) (insn_line k i ++ a.text)));
   }
 
-  pub IsDrawnAt-insn : (k before head : ℕ) (i : Insn) (old new : List ℕ) → slice_get slots k ≡ Some (Some i) → Appends (IsDrawn slots k before head i) old new
-      → Appends (IsDrawnAt slots k before head (slice_get slots k)) old new
+  pub IsDrawnAt-insn : (k before head : ℕ) (i : Insn) (old new : List ℕ) → slice_get slots k ≡ Some (Some i) → Appends (IsDrawn told slots k before head i) old new
+      → Appends (IsDrawnAt told slots k before head (slice_get slots k)) old new
   IsDrawnAt-insn k before head i old new there a = rw there a
 
-  pub IsDrawnAt-second : (k before : ℕ) (old : List ℕ) → slice_get slots k ≡ Some None → Appends (IsDrawnAt slots k before before (slice_get slots k)) old old
+  pub IsDrawnAt-second : (k before : ℕ) (old : List ℕ) → slice_get slots k ≡ Some None → Appends (IsDrawnAt told slots k before before (slice_get slots k)) old old
   IsDrawnAt-second k before old there = Appends-nothing _ old (rw there (refl, refl))
 
-  pub IsDrawnAt-past : (k before : ℕ) (old : List ℕ) → slice_get slots k ≡ None → Appends (IsDrawnAt slots k before before (slice_get slots k)) old old
+  pub IsDrawnAt-past : (k before : ℕ) (old : List ℕ) → slice_get slots k ≡ None → Appends (IsDrawnAt told slots k before before (slice_get slots k)) old old
   IsDrawnAt-past k before old there = Appends-nothing _ old (rw there (refl, refl))
 
   -- so far, after the first line
   pub record IsBegun (n head : ℕ) (text : List ℕ) : Type 0 where
     pub drawn : List ℕ
-    pub are : AreDrawn slots n head drawn
+    pub are : AreDrawn told slots n head drawn
     pub is : text ≡ beginning ++ drawn
 
   pub IsBegun-start : (text : List ℕ) → text ≡ beginning → IsBegun 0 0 text
   IsBegun-start text is = record { drawn = []; are = Nothing; is = is ∙ sym (append-nil beginning) }
 
-  pub IsBegun-more : (n before head : ℕ) (old new : List ℕ) → IsBegun n before old → Appends (IsDrawnAt slots n before head (slice_get slots n)) old new → IsBegun (n + 1) head new
+  pub IsBegun-more : (n before head : ℕ) (old new : List ℕ) → IsBegun n before old → Appends (IsDrawnAt told slots n before head (slice_get slots n)) old new → IsBegun (n + 1) head new
   IsBegun-more n before head old new begun a =
       let next : n + 1 ≡ suc n = omega arith in
       rw next record {
@@ -73,10 +74,10 @@ module _ (slots : List (Option Insn)) where
         is = a.is ∙ (ap (λ t. t ++ a.text) begun.is ∙ append_assoc beginning begun.drawn a.text);
       }
 
-  pub IsGraph-whole : (n head : ℕ) (old new : List ℕ) → IsBegun n head old → n ≡ length slots → new ≡ old ++ codes "}\n" → IsGraph slots new
+  pub IsGraph-whole : (n head : ℕ) (old new : List ℕ) → IsBegun n head old → n ≡ length slots → new ≡ old ++ codes "}\n" → IsGraph told slots new
   IsGraph-whole n head old new begun all ended = record {
     head = head;
     drawn = begun.drawn;
-    are = let P : ℕ → Type 0 = λ m. AreDrawn slots m head begun.drawn in subst P all begun.are;
+    are = let P : ℕ → Type 0 = λ m. AreDrawn told slots m head begun.drawn in subst P all begun.are;
     is = ended ∙ (ap (λ t. t ++ codes "}\n") begun.is ∙ append_assoc beginning begun.drawn (codes "}\n"));
   }

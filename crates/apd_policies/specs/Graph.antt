@@ -6,6 +6,7 @@ use Rattle.bpf_insn.specs.declared.insn.Insn.TheVariants as insn
 use Rattle.bpf_line.specs.Spellings.{text_of}
 use Rattle.bpf_decode.specs.Flow.{IsJump, size_of}
 use Rattle.apd_policies.specs.Blocks.{IsFirst, IsLast}
+use Rattle.apd_policies.specs.Overlays.{Told, fill_of, note_of}
 use Rattle.apd_policies.specs.declared.graph.drawing.Way.{Way}
 use Rattle.apd_policies.specs.declared.graph.drawing.Way.TheVariants.{Next, Taken, NotTaken, Called}
 
@@ -45,10 +46,10 @@ AreEdges head k i text = text ≡ edge_line head (k + size_of i) Next
 
 -- ---- nodes
 
--- the beginning of a node, if a block begins: `  bSLOT [label="`
-abbrev pub opening : Bool → ℕ → List ℕ
-opening true slot = codes "  b" ++ (decimal slot ++ codes " [label=\"")
-opening false slot = []
+-- the beginning of a node, if a block begins: `  bSLOT [label="`, with its colour and its first line, if something is told of it
+abbrev pub opening : Told → Bool → ℕ → List ℕ
+opening told true slot = codes "  b" ++ (decimal slot ++ (codes " [" ++ (fill_of told slot ++ (codes "label=\"" ++ note_of told slot))))
+opening told false slot = []
 
 -- an instruction with its slot, as a line of a node
 abbrev pub insn_line : ℕ → Insn → List ℕ
@@ -60,7 +61,7 @@ IsEnding true head k i text = (edges : List ℕ) × AreEdges head k i edges × (
 IsEnding false head k i text = text ≡ []
 
 -- the text of an instruction at slot k. Its block begins at slot `new`: there, or where the preceding one's does.
-pub record IsDrawn (slots : List (Option Insn)) (k old new : ℕ) (i : Insn) (text : List ℕ) : Type 0 where
+pub record IsDrawn (told : Told) (slots : List (Option Insn)) (k old new : ℕ) (i : Insn) (text : List ℕ) : Type 0 where
   pub first : Bool
   pub told_first : IsTrue first ↔ IsFirst slots k
   pub head : new ≡ (if first then k else old)
@@ -68,29 +69,29 @@ pub record IsDrawn (slots : List (Option Insn)) (k old new : ℕ) (i : Insn) (te
   pub told_last : IsTrue last ↔ IsLast slots k i
   pub ending : List ℕ
   pub ends : IsEnding last new k i ending
-  pub is : text ≡ opening first k ++ (insn_line k i ++ ending)
+  pub is : text ≡ opening told first k ++ (insn_line k i ++ ending)
 
 -- the text of a slot; empty if no instruction starts there
-abbrev pub IsDrawnAt : List (Option Insn) → ℕ → ℕ → ℕ → Option (Option Insn) → List ℕ → Type 0
-IsDrawnAt slots k old new (Some (Some i)) text = IsDrawn slots k old new i text
-IsDrawnAt slots k old new (Some None) text = (text ≡ []) × (new ≡ old)
-IsDrawnAt slots k old new None text = (text ≡ []) × (new ≡ old)
+abbrev pub IsDrawnAt : Told → List (Option Insn) → ℕ → ℕ → ℕ → Option (Option Insn) → List ℕ → Type 0
+IsDrawnAt told slots k old new (Some (Some i)) text = IsDrawn told slots k old new i text
+IsDrawnAt told slots k old new (Some None) text = (text ≡ []) × (new ≡ old)
+IsDrawnAt told slots k old new None text = (text ≡ []) × (new ≡ old)
 
 -- the text of the first n slots; the block of the last instruction begins at `head`
-pub data AreDrawn (slots : List (Option Insn)) : ℕ → ℕ → List ℕ → Type 0 where
-  Nothing : AreDrawn slots 0 0 []
-  More : (n old new : ℕ) (text more : List ℕ) → AreDrawn slots n old text →
-      IsDrawnAt slots n old new (slice_get slots n) more → AreDrawn slots (suc n) new (text ++ more)
+pub data AreDrawn (told : Told) (slots : List (Option Insn)) : ℕ → ℕ → List ℕ → Type 0 where
+  Nothing : AreDrawn told slots 0 0 []
+  More : (n old new : ℕ) (text more : List ℕ) → AreDrawn told slots n old text →
+      IsDrawnAt told slots n old new (slice_get slots n) more → AreDrawn told slots (suc n) new (text ++ more)
 
 -- the first line
 abbrev pub beginning : List ℕ
 beginning = codes "digraph program {\n  node [shape=box, fontname=monospace];\n"
 
--- the text of the whole graph
-pub record IsGraph (slots : List (Option Insn)) (text : List ℕ) : Type 0 where
+-- the text of the whole graph, and what it tells of the blocks
+pub record IsGraph (told : Told) (slots : List (Option Insn)) (text : List ℕ) : Type 0 where
   pub head : ℕ
   pub drawn : List ℕ
-  pub are : AreDrawn slots (length slots) head drawn
+  pub are : AreDrawn told slots (length slots) head drawn
   pub is : text ≡ beginning ++ (drawn ++ codes "}\n")
 
 -- what is appended to a text

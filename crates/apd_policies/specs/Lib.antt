@@ -1,3 +1,4 @@
 pub mod Blocks
+pub mod Overlays
 pub mod Graph
 pub mod Script

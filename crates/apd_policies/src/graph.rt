@@ -1,9 +1,11 @@
 //! A program's control-flow graph, as graphviz reads it.
 //!
-//! Main call: `graph_text`. A block is a run of instructions that control enters only at the first, and leaves only
+//! Main call: `graph_text`, with an `Overlay` that tells more of each block. A block is a run of instructions that control enters only at the first, and leaves only
 //! after the last. Each instruction is in one block; the edges are where control may go after a block's last
 //! instruction. The text is exactly that of the definition in `specs/`.
 mod blocks;
 mod drawing;
+mod overlay;
 
 pub use drawing::graph_text;
+pub use overlay::Overlay;

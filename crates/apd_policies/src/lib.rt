@@ -8,4 +8,4 @@ mod frames;
 mod graph;
 
 pub use frames::{script_text, start, unit};
-pub use graph::graph_text;
+pub use graph::{Overlay, graph_text};

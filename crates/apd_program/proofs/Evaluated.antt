@@ -1,5 +1,5 @@
 -- Verdicts on captures, from their parts.
-use Rattle.std.proofs.Common.{◌≡◌, ◌^◌, ℕ, Bool, List, Option, Some, None, Result, Vec, IfOk, option_map, inl, inr, refl, subst}
+use Rattle.std.proofs.Common.{◌≡◌, ◌^◌, ℕ, List, Option, Some, None, Result, Vec, IfOk, option_map, inl, inr, refl, subst}
 use Rattle.std.proofs.lemmas.Result.{IfOk-weaker}
 use Rattle.std.specs.Borrow.{Bor}
 use Rattle.std.specs.declared.alloc.Global.{Global}
@@ -12,6 +12,7 @@ use Rattle.ap_model.specs.Readings.{Config}
 use Rattle.apd_files.specs.declared.inputs.files.FileKind.TheVariants.{Capture}
 use Rattle.apd_files.specs.Held.{Held, Keeps, Lacks}
 use Rattle.apd_words.specs.Asked.{text_of}
+use Rattle.apd_words.specs.declared.Report.{Report}
 use Rattle.apd_program.specs.Admitting.{IsOfAdmitted}
 use Rattle.apd_program.specs.Evaluating.{Replayed, AreVerdicts, AreDifferences, AreJudged, IsKept, HoldsIfAny, HasBadCodeInForce, IsMaterial, IsEvaluatedWith, HasNoEvaluation, NoConfig, OfConfiguration, OfCode, OfCapture, OfCodeInForce, link_of}
 use Rattle.apd_program.specs.Faults.{IsMemoryOr, HasBadConfiguration, HasBadCode, HasBadCapture, NoFile}
@@ -67,14 +68,14 @@ module _ (files : Held) (limits : Limits) (g : Replayed) (code kept : List ℕ) 
         (λ v said. IsOfAdmitted-kept limits g.hook shapes (AreDifferences g v) code kept a keeps said) h),
   )
 
-pub IsEvaluatedWith-of : (files : Held) (limits : Limits) (hook : Hook) (file capture config : List ℕ) (against : Option (List ℕ)) (json : Bool) (m : Material) (packets : List Seen) (r : Result Answer ProgramFault) → IsMaterial files config file capture against m → HoldsPackets m.capture.items packets
-    → IfOk r (AreJudged limits (record { hook = hook; draw = m.setting.draw; config = m.setting.link; packets = packets; json = json }) (option_map (λ o. o.items) m.in_force) m.code.items m.setting.shapes)
-    → IfOk r (IsEvaluatedWith files limits hook file capture against json config)
-IsEvaluatedWith-of files limits hook file capture config against json m packets r is held said =
+pub IsEvaluatedWith-of : (files : Held) (limits : Limits) (hook : Hook) (file capture config : List ℕ) (against : Option (List ℕ)) (report : Report) (m : Material) (packets : List Seen) (r : Result Answer ProgramFault) → IsMaterial files config file capture against m → HoldsPackets m.capture.items packets
+    → IfOk r (AreJudged limits (record { hook = hook; draw = m.setting.draw; config = m.setting.link; packets = packets; report = report }) (option_map (λ o. o.items) m.in_force) m.code.items m.setting.shapes)
+    → IfOk r (IsEvaluatedWith files limits hook file capture against report config)
+IsEvaluatedWith-of files limits hook file capture config against report m packets r is held said =
     let s = is.setting in
     let c = s.configuration in
-    let on : ℕ → Config → Replayed = λ d l. record { hook = hook; draw = d; config = l; packets = packets; json = json } in
-    IfOk-weaker r (AreJudged limits (on m.setting.draw m.setting.link) (option_map (λ o. o.items) m.in_force) m.code.items m.setting.shapes) (IsEvaluatedWith files limits hook file capture against json config) (λ a h.
+    let on : ℕ → Config → Replayed = λ d l. record { hook = hook; draw = d; config = l; packets = packets; report = report } in
+    IfOk-weaker r (AreJudged limits (on m.setting.draw m.setting.link) (option_map (λ o. o.items) m.in_force) m.code.items m.setting.shapes) (IsEvaluatedWith files limits hook file capture against report config) (λ a h.
     let whole = judged_whole files limits (on m.setting.draw m.setting.link) is.kept.code m.code.items m.setting.shapes a against m.in_force is.kept.keeps is.in_force h in
     let drawn = subst (λ d. AreJudged limits (on d m.setting.link) whole.0 is.kept.code m.setting.shapes a) s.draw whole.2 in
     let linked = subst (λ l. AreJudged limits (on c.draw l) whole.0 is.kept.code m.setting.shapes a) s.link drawn in

@@ -7,7 +7,7 @@ use Rattle.apd_words.specs.Reads.{TellsOf}
 use Rattle.apd_words.specs.declared.Told.{Told}
 use Rattle.apd_words.specs.declared.Told.TheVariants as told
 use Rattle.apd_program.specs.declared.answer.Answer.{Answer}
-use Rattle.apd_program.specs.declared.answer.Answer.TheVariants.{Accepted, Code, Instructions, Run, Verdicts, Differences, Page, Script, CutScript, Tested, Help, Fault, Refused, LineFault, Certificate, Unaccepted}
+use Rattle.apd_program.specs.declared.answer.Answer.TheVariants.{Accepted, Code, Instructions, RefusedGraph, Run, Verdicts, Differences, Page, Script, CutScript, Tested, Help, Fault, Refused, LineFault, Certificate, Unaccepted}
 use Rattle.apd_program.specs.declared.fault.ProgramFault.{ProgramFault}
 use Rattle.apd_program.specs.declared.fault.ProgramFault.TheVariants as fault
 use Rattle.apd_program.specs.Lines.{status_of}
@@ -74,6 +74,7 @@ status_within : (answer : Answer) → status_of answer ≤ 1
 status_within (Accepted budget) = omega arith
 status_within (Code code) = omega arith
 status_within (Instructions text) = omega arith
+status_within (RefusedGraph text e) = omega arith
 status_within (Run text) = omega arith
 status_within (Verdicts text) = omega arith
 status_within (Differences text true) = omega arith

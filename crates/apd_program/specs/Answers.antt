@@ -15,7 +15,7 @@ use Rattle.apd_program.specs.Scripts.{IsScript}
 use Rattle.apd_program.specs.Programs.{IsOfProgram}
 use Rattle.apd_program.specs.Verifying.{IsVerdict, IsBudget, IsRun, within}
 use Rattle.apd_program.specs.Texts.{IsAssembly, IsListingWith, IsRawListing}
-use Rattle.apd_program.specs.Drawings.{IsDrawing}
+use Rattle.apd_program.specs.Drawings.{IsDrawingWith}
 use Rattle.apd_program.specs.Evaluating.{IsEvaluatedFile, HasNoEvaluation}
 use Rattle.apd_program.specs.Testing.{IsTested, HasNoTest}
 use Rattle.apd_program.specs.Certifying.{IsCertificate, IsChecked}
@@ -62,11 +62,11 @@ IsAnswer files (Verify hook file config states work) a = IsOfCode (λ setup. IsV
 IsAnswer files (Assemble file) a = IsOfText IsAssembly files file a
 IsAnswer files (Disassemble file config slots) a = IsOfCode (λ setup. IsListingWith slots) files file config a
 IsAnswer files (ListRaw file config slots) a = IsOfSlots (IsRawListing slots) files file config a
-IsAnswer files (Graph file config) a = IsOfCode (λ setup. IsDrawing) files file config a
+IsAnswer files (Graph file config explain) a = IsOfCode (λ setup. IsDrawingWith explain) files file config a
 IsAnswer files (Trace hook file word config states work words from_frame) a =
     IsTraced files (within states work) hook file word config words from_frame a
-IsAnswer files (Evaluate hook file capture config against states work json) a =
-    IsEvaluatedFile files (within states work) hook file capture against json config a
+IsAnswer files (Evaluate hook file capture config against states work report) a =
+    IsEvaluatedFile files (within states work) hook file capture against report config a
 IsAnswer files (Explain number) a = IsPageFor number a
 IsAnswer files (Frames capture ticks) a = IsOfText (IsScript ticks) files capture a
 IsAnswer files (Test file) a = IsTested files file a
@@ -80,10 +80,10 @@ HasNoAnswer files (Verify hook file config states work) = IsAtFault files file c
 HasNoAnswer files (Assemble file) = Lacks kind.Text files file
 HasNoAnswer files (Disassemble file config slots) = IsAtFault files file config
 HasNoAnswer files (ListRaw file config slots) = IsAtFault files file config
-HasNoAnswer files (Graph file config) = IsAtFault files file config
+HasNoAnswer files (Graph file config explain) = IsAtFault files file config
 HasNoAnswer files (Trace hook file word config states work words from_frame) =
     HasNoTrial files file word config words from_frame
-HasNoAnswer files (Evaluate hook file capture config against states work json) =
+HasNoAnswer files (Evaluate hook file capture config against states work report) =
     HasNoEvaluation files file capture against config
 HasNoAnswer files (Explain number) = HasNoPage number
 HasNoAnswer files (Frames capture ticks) = HasBadCapture files capture

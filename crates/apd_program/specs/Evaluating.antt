@@ -1,5 +1,5 @@
 -- The answer of `eval` for a program and a capture, or for two programs.
-use Rattle.std.specs.Prelude.{◌≡◌, ◌^◌, ℕ, Bool, List, map, Option, Some, None, Vec, string_bytes}
+use Rattle.std.specs.Prelude.{◌≡◌, ◌^◌, ℕ, Bool, true, false, List, map, Option, Some, None, Vec, string_bytes}
 use Rattle.std.specs.declared.alloc.Global.{Global}
 use Rattle.bpf_regions.specs.declared.hooks.Hook.{Hook}
 use Rattle.bpf_regions.specs.declared.maps.Shape.{Shape}
@@ -12,6 +12,10 @@ use Rattle.apd_config.specs.Text.{IsTextOf}
 use Rattle.apd_config.specs.declared.configuration.Configuration.{Configuration}
 use Rattle.apd_eval.specs.Compared.{IsComparison}
 use Rattle.apd_eval.specs.Evaluated.{IsEvaluation}
+use Rattle.apd_eval.specs.Profile.{IsProfile}
+use Rattle.apd_eval.specs.declared.profiling.ProfileForm.TheVariants as form
+use Rattle.apd_words.specs.declared.Report.{Report}
+use Rattle.apd_words.specs.declared.Report.TheVariants as report
 use Rattle.apd_files.specs.Held.{Held, Holds, HoldsCode, HoldsKept}
 use Rattle.apd_program.specs.Faults.{HasBadConfiguration, HasBadCode, HasBadCapture}
 use Rattle.apd_program.specs.Admitting.{IsOfAdmitted}
@@ -58,13 +62,13 @@ pub record HoldsCapture (files : Held) (path : List ℕ) (packets : List Seen) :
   pub there : Holds files path bytes
   pub held : HoldsPackets bytes packets
 
--- on what programs are judged, and in which form that is told
+-- on what programs are judged, and what is printed of that
 pub record Replayed : Type 0 where
   pub hook : Hook
   pub draw : ℕ
   pub config : Config
   pub packets : List Seen
-  pub json : Bool
+  pub report : Report
 
 abbrev pub replayed_by : Exam → Replayed
 replayed_by e = record {
@@ -72,18 +76,34 @@ replayed_by e = record {
   draw = e.replay.draw;
   config = e.replay.link.now;
   packets = map seen_of e.replay.packets.now;
-  json = e.json;
+  report = e.report;
 }
 
--- the verdicts of a program
+-- verdicts, or how often each instruction was executed
+abbrev pub IsReport : Report → Verified → ℕ → Config → List Seen → List ℕ → Type 0
+IsReport report.Verdicts v draw config packets text = IsEvaluation v draw config packets false text
+IsReport report.VerdictsJson v draw config packets text = IsEvaluation v draw config packets true text
+IsReport report.Profile v draw config packets text = IsProfile v draw config packets form.Table text
+IsReport report.ProfileJson v draw config packets text = IsProfile v draw config packets form.Json text
+IsReport report.ProfileGraph v draw config packets text = IsProfile v draw config packets form.Graph text
+
+-- what is printed of a program
 abbrev pub AreVerdicts : Replayed → Verified → Answer → Type 0
-AreVerdicts g v (Verdicts text) = IsEvaluation v g.draw g.config g.packets g.json (string_bytes text)
+AreVerdicts g v (Verdicts text) = IsReport g.report v g.draw g.config g.packets (string_bytes text)
 AreVerdicts g v _ = ⊥
+
+-- whether lines of JSON are asked for
+abbrev pub is_json : Report → Bool
+is_json report.Verdicts = false
+is_json report.VerdictsJson = true
+is_json report.Profile = false
+is_json report.ProfileJson = true
+is_json report.ProfileGraph = false
 
 -- the verdicts of a program that differ from those of the one in force, which the link follows
 abbrev pub AreDifferences : Replayed → Verified → Verified → Answer → Type 0
 AreDifferences g in_force v (Differences text differs) =
-    IsComparison in_force v g.draw g.config g.packets g.json (string_bytes text) differs
+    IsComparison in_force v g.draw g.config g.packets (is_json g.report) (string_bytes text) differs
 AreDifferences g in_force v _ = ⊥
 
 -- the verdicts of the program that code spells; or, with the code in force, those that differ. That is verified first.
@@ -100,7 +120,7 @@ HoldsIfAny files (Some path) (Some code) = HoldsCode files path code
 
 -- the program in a file is judged on the capture in another, at an access point of the configuration in a third,
 -- against that in a fourth, if one is named
-pub record IsEvaluatedWith (files : Held) (limits : Limits) (hook : Hook) (file capture : List ℕ) (against : Option (List ℕ)) (json : Bool) (config : List ℕ) (a : Answer) : Type 0 where
+pub record IsEvaluatedWith (files : Held) (limits : Limits) (hook : Hook) (file capture : List ℕ) (against : Option (List ℕ)) (asked : Report) (config : List ℕ) (a : Answer) : Type 0 where
   pub configuration : Configuration
   pub configured : HoldsConfiguration files config configuration
   pub code : List ℕ
@@ -109,13 +129,13 @@ pub record IsEvaluatedWith (files : Held) (limits : Limits) (hook : Hook) (file 
   pub held_in_force : HoldsIfAny files against in_force
   pub packets : List Seen
   pub captured : HoldsCapture files capture packets
-  pub said : AreJudged limits (record { hook = hook; draw = configuration.draw; config = link_of configuration; packets = packets; json = json }) in_force code configuration.maps a
+  pub said : AreJudged limits (record { hook = hook; draw = configuration.draw; config = link_of configuration; packets = packets; report = asked }) in_force code configuration.maps a
 
 -- the same; there has to be a configuration
-abbrev pub IsEvaluatedFile : Held → Limits → Hook → List ℕ → List ℕ → Option (List ℕ) → Bool → Option (List ℕ) → Answer → Type 0
-IsEvaluatedFile files limits hook file capture against json None a = ⊥
-IsEvaluatedFile files limits hook file capture against json (Some config) a =
-    IsEvaluatedWith files limits hook file capture against json config a
+abbrev pub IsEvaluatedFile : Held → Limits → Hook → List ℕ → List ℕ → Option (List ℕ) → Report → Option (List ℕ) → Answer → Type 0
+IsEvaluatedFile files limits hook file capture against asked None a = ⊥
+IsEvaluatedFile files limits hook file capture against asked (Some config) a =
+    IsEvaluatedWith files limits hook file capture against asked config a
 
 -- the code in a named file is faulty
 abbrev pub HasBadCodeInForce : Held → Option (List ℕ) → Type 0

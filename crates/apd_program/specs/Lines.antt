@@ -7,13 +7,14 @@ use Rattle.bpf_cert.specs.Limits as certificate
 use Rattle.hex.specs.Hex.{encode_lower}
 use Rattle.apd_program.specs.Slots.{line_of, slot_lines}
 use Rattle.apd_program.specs.declared.answer.Answer.{Answer}
-use Rattle.apd_program.specs.declared.answer.Answer.TheVariants.{Accepted, Code, Instructions, Run, Verdicts, Differences, Page, Script, CutScript, Tested, Help, Fault, Refused, LineFault, Certificate, Unaccepted}
+use Rattle.apd_program.specs.declared.answer.Answer.TheVariants.{Accepted, Code, Instructions, RefusedGraph, Run, Verdicts, Differences, Page, Script, CutScript, Tested, Help, Fault, Refused, LineFault, Certificate, Unaccepted}
 
 -- the printed text of an answer
 abbrev pub printed : Answer → List ℕ
 printed (Accepted budget) = line_of (codes "accepted budget " ++ decimal budget)
 printed (Code code) = slot_lines (length code.items / 8) code.items
 printed (Instructions text) = string_bytes text
+printed (RefusedGraph text e) = string_bytes text
 printed (Run text) = string_bytes text
 printed (Verdicts text) = string_bytes text
 printed (Differences text differs) = string_bytes text
@@ -33,6 +34,7 @@ abbrev pub status_of : Answer → ℕ
 status_of (Accepted budget) = 0
 status_of (Code code) = 0
 status_of (Instructions text) = 0
+status_of (RefusedGraph text e) = 1
 status_of (Run text) = 0
 status_of (Verdicts text) = 0
 status_of (Differences text differs) = (if differs then 1 else 0)

@@ -21,6 +21,8 @@ pub enum Answer {
     Code(Vec<u8>),
     /// The text of code: a line for each instruction, or for each slot.
     Instructions(String),
+    /// The graph of a program that the verifier refuses, up to where it stopped.
+    RefusedGraph { text: String, refusal: Refusal },
     /// The text of a run: a line for each step and each note, and the result.
     Run(String),
     /// The verdicts on a capture's packets: a table, or lines of JSON.
@@ -67,6 +69,7 @@ impl Answer {
             Answer::Fault(_) | Answer::Refused(_) | Answer::LineFault(_) | Answer::Unaccepted(_) =>
                 1,
             Answer::CutScript { .. } => 1,
+            Answer::RefusedGraph { .. } => 1,
             Answer::Tested { is_good, .. } => { if *is_good { 0 } else { 1 } }
             Answer::Differences { differs, .. } => { if *differs { 1 } else { 0 } }
         }
@@ -82,7 +85,7 @@ impl Answer {
             Answer::Instructions(text) | Answer::Run(text) => Ok(text),
             Answer::Page(text) | Answer::Script(text) | Answer::Help(text) => Ok(text),
             Answer::Verdicts(text) => Ok(text),
-            Answer::CutScript { text, .. } => Ok(text),
+            Answer::CutScript { text, .. } | Answer::RefusedGraph { text, .. } => Ok(text),
             Answer::Tested { text, .. } | Answer::Differences { text, .. } => Ok(text),
             Answer::Fault(fault) => format!(in alloc; "{fault}\n"),
             Answer::Refused(refusal) => format!(in alloc; "{refusal}\n"),

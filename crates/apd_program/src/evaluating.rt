@@ -1,10 +1,11 @@
 //! Verdicts on a capture, of one program or of two: the command `eval`.
 
-ghost use Rattle.std.specs.Prelude.{◌≡◌, IfOk, IfErr, Some, option_map};
+ghost use Rattle.std.specs.Prelude.{◌≡◌, IfOk, IfErr, Some, map, option_map, string_bytes};
+ghost use Rattle.capture.specs.Packets.{seen_of};
 ghost use Rattle.apd_words.specs.Asked.{asked_evaluation, text_of};
 ghost use Rattle.apd_program.specs.Admitting.{IsOfAdmitted};
 ghost use Rattle.apd_program.specs.Answers.{IsAnswer, HasNoAnswer};
-ghost use Rattle.apd_program.specs.Evaluating.{HoldsSetting, AreVerdicts, AreDifferences, AreJudged, replayed_by, IsKept, IsMaterial, IsEvaluatedWith, HasBadCodeInForce, HasNoEvaluation, link_of};
+ghost use Rattle.apd_program.specs.Evaluating.{HoldsSetting, AreVerdicts, AreDifferences, AreJudged, IsReport, is_json, replayed_by, IsKept, IsMaterial, IsEvaluatedWith, HasBadCodeInForce, HasNoEvaluation, link_of};
 ghost use Rattle.apd_program.specs.Faults.{IsMemoryOr, HasBadConfiguration};
 ghost use Rattle.apd_program.specs.Verifying.{within};
 
@@ -15,14 +16,14 @@ use crate::fault::{ProgramFault, of_capture, of_configuration};
 use crate::reading::{code, read};
 use ap_model::{LinkConfig, Octets};
 use apd_config::{Configuration, read_configuration};
-use apd_eval::{Replay, compare, evaluation_text};
+use apd_eval::{ProfileForm, Replay, compare, evaluation_text, profile_text};
 use apd_files::{FileKind, Files};
-use apd_words::{Evaluation, Terms};
+use apd_words::{Evaluation, Report, Terms};
 use bpf_machine::Accepted;
 use bpf_regions::Shapes;
 use capture::read_capture;
 use mac_types::Address;
-use std::alloc::Global;
+use std::alloc::{AllocError, Global};
 
 /// The link and the maps of a configuration.
 #[derive(Drop)]
@@ -51,7 +52,7 @@ pub(crate) struct Exam<'a> {
     pub terms: Terms,
     pub shapes: &'a Shapes,
     pub replay: Replay<'a>,
-    pub json: bool,
+    pub report: Report,
 }
 
 fn setting_of(configuration: Configuration) -> Setting
@@ -90,7 +91,36 @@ fn configured<F: Files>(alloc: Global, path: &str, files: &mut F) -> Result<Sett
     }
 }
 
-/// The verdicts of the program that the code spells, if it is accepted.
+/// What is printed of a program's runs on a capture.
+fn report_text(
+    alloc: Global,
+    accepted: Accepted,
+    replay: Replay<'_>,
+    report: Report,
+) -> Result<String, AllocError>
+    ensures is { IfOk result (λ text. IsReport report accepted replay.entry.draw replay.entry.link.now
+        (map seen_of replay.entry.packets.now) (string_bytes text)) }
+{
+    match report {
+        Report::Verdicts => evaluation_text(alloc, accepted, replay, false),
+        Report::VerdictsJson => evaluation_text(alloc, accepted, replay, true),
+        Report::Profile => profile_text(alloc, accepted, replay, ProfileForm::Table),
+        Report::ProfileJson => profile_text(alloc, accepted, replay, ProfileForm::Json),
+        Report::ProfileGraph => profile_text(alloc, accepted, replay, ProfileForm::Graph),
+    }
+}
+
+/// Whether lines of JSON are asked for.
+fn is_json(report: Report) -> bool
+    ensures is { result ≡ is_json report }
+{
+    match report {
+        Report::VerdictsJson | Report::ProfileJson => true,
+        Report::Verdicts | Report::Profile | Report::ProfileGraph => false,
+    }
+}
+
+/// What is printed of the program that the code spells, if it is accepted.
 fn examine(
     alloc: Global,
     code: &[u8],
@@ -105,7 +135,7 @@ fn examine(
     let admission = admit_code(alloc, code, exam.shapes, exam.terms, reason)?;
     match admission {
         Admission::Admitted(accepted) => {
-            let text = evaluation_text(alloc, accepted, exam.replay, exam.json)?;
+            let text = report_text(alloc, accepted, exam.replay, exam.report)?;
             return Ok(Answer::Verdicts(text));
         }
         Admission::Answered(answer) => return Ok(answer),
@@ -128,7 +158,7 @@ fn contrast(
     let admission = admit_code(alloc, code, exam.shapes, exam.terms, reason)?;
     match admission {
         Admission::Admitted(tried) => {
-            let found = compare(alloc, in_force, tried, exam.replay, exam.json)?;
+            let found = compare(alloc, in_force, tried, exam.replay, is_json(exam.report))?;
             return Ok(Answer::Differences {
                 text: found.text,
                 differs: found.differs,
@@ -239,7 +269,7 @@ fn evaluated<F: Files>(
         (within evaluation.entry.subject.terms.states evaluation.entry.subject.terms.work)
         evaluation.entry.subject.terms.hook
         evaluation.entry.subject.source.file.now evaluation.entry.capture.now
-        (text_of evaluation.entry.against) evaluation.entry.json config.now) }
+        (text_of evaluation.entry.against) evaluation.entry.report config.now) }
     ensures fault { IfErr result (IsMemoryOr (HasNoEvaluation (F.held files.old)
         evaluation.entry.subject.source.file.now evaluation.entry.capture.now
         (text_of evaluation.entry.against) (Some config.now))) }
@@ -262,7 +292,7 @@ fn evaluated<F: Files>(
                 terms: evaluation.subject.terms,
                 shapes: &shapes,
                 replay,
-                json: evaluation.json,
+                report: evaluation.report,
             };
             return judge(alloc, &in_force, code.as_slice(), exam, reason);
         }

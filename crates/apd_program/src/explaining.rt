@@ -59,7 +59,9 @@ pub(crate) fn sentence(
 ) -> Result<Option<String>, AllocError> {
     match answer {
         Answer::Fault(fault) => at(alloc, "slot", fault.slot() as u64, fault.number()),
-        Answer::Refused(refusal) => at_insn(alloc, *refusal, insn),
+        Answer::Refused(refusal) | Answer::RefusedGraph { refusal, .. } => {
+            at_insn(alloc, *refusal, insn)
+        }
         Answer::LineFault(AsmFault::Line { line, number }) => at(alloc, "line", *line, *number),
         Answer::Unaccepted(fault) => told(alloc, "", fault.number()),
         _ => Ok(None),
@@ -191,7 +193,7 @@ impl Reason {
         code: &[u8],
         answer: &Result<Answer, ProgramFault>,
     ) {
-        if let Ok(Answer::Refused(refusal)) = answer {
+        if let Ok(Answer::Refused(refusal) | Answer::RefusedGraph { refusal, .. }) = answer {
             self.insn = insn_text(alloc, code, refusal.pc).unwrap_or(None);
         }
     }

@@ -41,7 +41,7 @@ fn has_config(question: &Question<'_>) -> bool {
         Question::Check(claim) => claim.source.config.is_some(),
         Question::Disassemble { source, .. }
         | Question::ListRaw { source, .. }
-        | Question::Graph { source } => source.config.is_some(),
+        | Question::Graph { source, .. } => source.config.is_some(),
         Question::Assemble { .. }
         | Question::Explain { .. }
         | Question::Frames { .. }

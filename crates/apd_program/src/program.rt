@@ -113,7 +113,9 @@ fn answer<F: Files>(
         Question::Assemble { file } => assemble(alloc, file, files),
         Question::Disassemble { source, slots } => disassemble(alloc, source, slots, files),
         Question::ListRaw { source, slots } => list_raw(alloc, source, slots, files, reason),
-        Question::Graph { source } => drawing::graph(alloc, source, files),
+        Question::Graph { source, explain } => {
+            drawing::graph(alloc, source, explain, files, reason)
+        }
         Question::Trace(trial) => trace(alloc, trial, files, reason),
         Question::Evaluate(evaluation) => evaluating::evaluate(alloc, evaluation, files, reason),
         Question::Explain { number } => explaining::page(alloc, number),

@@ -14,6 +14,8 @@ use Rattle.apd_words.specs.declared.Evaluation.{Evaluation}
 use Rattle.apd_words.specs.declared.LiveRun.{LiveRun}
 use Rattle.apd_words.specs.declared.Query.{Query}
 use Rattle.apd_words.specs.declared.Question.{Question}
+use Rattle.apd_words.specs.declared.Report.{Report}
+use Rattle.apd_words.specs.declared.Report.TheVariants as report
 use Rattle.apd_words.specs.declared.Request.{Request}
 use Rattle.apd_words.specs.declared.ScriptRun.{ScriptRun}
 use Rattle.apd_words.specs.declared.Source.{Source}
@@ -28,9 +30,9 @@ pub data Asked : Type 0 where
   Assemble : Text → Asked
   Disassemble : Text → Option Text → Bool → Asked
   ListRaw : Text → Option Text → Bool → Asked
-  Graph : Text → Option Text → Asked
+  Graph : Text → Option Text → Bool → Asked
   Trace : Hook → Text → Text → Option Text → ℕ → Option ℕ → Option Text → Bool → Asked
-  Evaluate : Hook → Text → Text → Option Text → Option Text → ℕ → Option ℕ → Bool → Asked
+  Evaluate : Hook → Text → Text → Option Text → Option Text → ℕ → Option ℕ → Report → Asked
   Certify : Hook → Text → Option Text → ℕ → Option ℕ → Asked
   Check : Hook → Text → Text → Option Text → Option ℕ → Asked
   Explain : Option Text → Asked
@@ -70,16 +72,16 @@ asked_listing source slots = Disassemble source.file.now (config_of source) slot
 abbrev pub asked_slots : Source → Bool → Asked
 asked_slots source slots = ListRaw source.file.now (config_of source) slots
 
--- the question of `disasm --dot`
-abbrev pub asked_graph : Source → Asked
-asked_graph source = Graph source.file.now (config_of source)
+-- the question of `disasm --dot`, with `--explain` or without
+abbrev pub asked_graph : Source → Bool → Asked
+asked_graph source explain = Graph source.file.now (config_of source) explain
 
 -- the question of `eval`
 abbrev pub asked_evaluation : Evaluation → Asked
 asked_evaluation evaluation =
     Evaluate evaluation.subject.terms.hook evaluation.subject.source.file.now evaluation.capture.now
     (config_of evaluation.subject.source) (text_of evaluation.against)
-    evaluation.subject.terms.states evaluation.subject.terms.work evaluation.json
+    evaluation.subject.terms.states evaluation.subject.terms.work evaluation.report
 
 -- the question of `trace`
 abbrev pub asked_run : Trial → Asked
@@ -99,13 +101,13 @@ abbrev pub asked_check : Claim → Asked
 asked_check claim =
     Check claim.hook claim.source.file.now claim.certificate.now (config_of claim.source) claim.work
 
--- what a question asks for, without `explain`, which only adds a text on standard error
+-- what a question asks for, without the `explain` of `verify` and `trace`, which only adds a text on standard error
 abbrev pub asked_of : Question → Asked
 asked_of (question.Verify subject explain) = asked_verdict subject
 asked_of (question.Assemble file) = Assemble file.now
 asked_of (question.Disassemble source slots) = asked_listing source slots
 asked_of (question.ListRaw source slots) = asked_slots source slots
-asked_of (question.Graph source) = asked_graph source
+asked_of (question.Graph source explain) = asked_graph source explain
 asked_of (question.Trace trial) = asked_run trial
 asked_of (question.Evaluate evaluation) = asked_evaluation evaluation
 asked_of (question.Certify subject) = asked_certificate subject
@@ -200,11 +202,11 @@ assemble_of rows = do
   file ← first_of (codes "FILE") rows
   Some (Assemble file)
 
--- `disasm FILE [--config C] [--slots] [--raw] [--dot]`
+-- `disasm FILE [--config C] [--slots] [--raw] [--dot] [--explain]`
 abbrev pub disassemble_of : List Row → Option Asked
 disassemble_of rows = do
   file ← first_of (codes "FILE") rows
-  (if is_set (codes "dot") rows then Some (Graph file (first_of (codes "config") rows))
+  (if is_set (codes "dot") rows then Some (Graph file (first_of (codes "config") rows) (is_set (codes "explain") rows))
       else (if is_set (codes "raw") rows
       then Some (ListRaw file (first_of (codes "config") rows) (is_set (codes "slots") rows))
       else Some (Disassemble file (first_of (codes "config") rows) (is_set (codes "slots") rows))))
@@ -220,7 +222,15 @@ trace_of rows = do
   Some (Trace hook file frame (first_of (codes "config") rows) states (work_at rows)
       (first_of (codes "context") rows) (is_set (codes "from-frame") rows))
 
--- `eval HOOK FILE CAPTURE [--config C] [--against OLD] [--states N] [-j] [--work N]`
+-- what `--dot`, `--profile` and `-j` ask for
+abbrev pub report_at : List Row → Report
+report_at rows =
+    (if is_set (codes "dot") rows then report.ProfileGraph
+    else (if is_set (codes "profile") rows
+    then (if is_set (codes "json") rows then report.ProfileJson else report.Profile)
+    else (if is_set (codes "json") rows then report.VerdictsJson else report.Verdicts)))
+
+-- `eval HOOK FILE CAPTURE [--config C] [--against OLD] [--states N] [-j] [--work N] [--profile] [--dot]`
 abbrev pub evaluate_of : List Row → Option Asked
 evaluate_of rows = do
   hook ← hook_at rows
@@ -228,7 +238,7 @@ evaluate_of rows = do
   capture ← first_of (codes "CAPTURE") rows
   states ← states_at rows
   Some (Evaluate hook file capture (first_of (codes "config") rows)
-      (first_of (codes "against") rows) states (work_at rows) (is_set (codes "json") rows))
+      (first_of (codes "against") rows) states (work_at rows) (report_at rows))
 
 -- `run C SCRIPT [--workers N] [--states N] [--quiet] [--strict] [--verbose] [--work N]`
 abbrev pub run_of : List Row → Option Wanted

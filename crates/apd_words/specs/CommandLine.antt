@@ -116,11 +116,11 @@ verify hooks =
 abbrev pub assemble : Shape
 assemble = command (codes "asm") (file ∷ output ∷ [])
 
--- `disasm FILE [--config C] [--slots] [--raw] [--dot] [-o FILE]`
+-- `disasm FILE [--config C] [--slots] [--raw] [--dot] [-o FILE] [--explain]`
 abbrev pub disassemble : Shape
 disassemble =
     command (codes "disasm") (file ∷ config ∷ flag (codes "slots") ∷ flag (codes "raw")
-    ∷ flag (codes "dot") ∷ output ∷ [])
+    ∷ flag (codes "dot") ∷ output ∷ flag (codes "explain") ∷ [])
 
 -- `trace HOOK FILE FRAME [--config C] [--states N] [--context KEY=VALUE,..] [--from-frame]
 -- [--explain] [--work N]`
@@ -129,11 +129,12 @@ trace hooks =
     hook_command (codes "trace") hooks (required (codes "FRAME") ∷ config ∷ states ∷ context
     ∷ flag (codes "from-frame") ∷ flag (codes "explain") ∷ work ∷ [])
 
--- `eval HOOK FILE CAPTURE [--config C] [--against OLD] [--states N] [-j] [-o FILE] [--work N]`
+-- `eval HOOK FILE CAPTURE [--config C] [--against OLD] [--states N] [-j] [-o FILE] [--work N]
+-- [--profile] [--dot]`
 abbrev pub evaluate : ValueParser → Shape
 evaluate hooks =
     hook_command (codes "eval") hooks (required (codes "CAPTURE") ∷ config ∷ against ∷ states
-    ∷ json ∷ output ∷ work ∷ [])
+    ∷ json ∷ output ∷ work ∷ flag (codes "profile") ∷ flag (codes "dot") ∷ [])
 
 -- `run C SCRIPT [--workers N] [--states N] [--quiet] [--strict] [--verbose] [--work N]`
 abbrev pub run : ValueParser → Shape

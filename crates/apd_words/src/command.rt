@@ -186,7 +186,9 @@ fn disassemble<'a>(alloc: Global) -> Made<'a>
     let raw = "Print slots that are no instructions, too, as digits";
     let command = with_arg(command, flag(alloc, "raw", raw));
     let dot = "Print the control-flow graph, for graphviz";
-    with_arg(with_arg(command, flag(alloc, "dot", dot)), output(alloc))
+    let command = with_arg(with_arg(command, flag(alloc, "dot", dot)), output(alloc));
+    let why = "With --dot, tell of each block how many states the verifier examined";
+    with_arg(command, flag(alloc, "explain", why))
 }
 
 fn trace<'a>(alloc: Global, hooks: &'a [&'a str]) -> Made<'a>
@@ -218,7 +220,11 @@ fn evaluate<'a>(alloc: Global, hooks: &'a [&'a str]) -> Made<'a>
     );
     let command = with_arg(with_arg(command, config(alloc)), against(alloc));
     let command = with_arg(with_arg(command, states(alloc)), json(alloc));
-    with_arg(with_arg(command, output(alloc)), work(alloc))
+    let command = with_arg(with_arg(command, output(alloc)), work(alloc));
+    let profile = "Print in place of verdicts how often each instruction was executed";
+    let command = with_arg(command, flag(alloc, "profile", profile));
+    let dot = "Print that as the control-flow graph, for graphviz";
+    with_arg(command, flag(alloc, "dot", dot))
 }
 
 fn run<'a>(alloc: Global, numbers: &'a [&'a str]) -> Made<'a>

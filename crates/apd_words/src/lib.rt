@@ -56,14 +56,29 @@ pub struct Trial<'a> {
     pub explain: bool,
 }
 
-/// A program to judge the frames of a capture. With `against` the link follows that file's program, and only the
-/// verdicts that differ are printed. `json` asks for lines of JSON.
+/// What is printed of a program's runs on a capture.
+#[derive(Clone, Copy)]
+pub enum Report {
+    /// The verdicts, as a table.
+    Verdicts,
+    /// The verdicts, as lines of JSON.
+    VerdictsJson,
+    /// How often each instruction was executed, as a table.
+    Profile,
+    /// The same as lines of JSON.
+    ProfileJson,
+    /// The same as the control-flow graph, for graphviz.
+    ProfileGraph,
+}
+
+/// A program to judge the frames of a capture, and what is printed of that. With `against` the link follows that file's
+/// program, and only the verdicts that differ are printed.
 #[derive(Clone, Copy)]
 pub struct Evaluation<'a> {
     pub subject: Subject<'a>,
     pub capture: &'a str,
     pub against: Option<&'a str>,
-    pub json: bool,
+    pub report: Report,
 }
 
 /// A program, the file of a certificate that should show it safe for a hook, and how many units of work the check may
@@ -117,8 +132,8 @@ pub enum Question<'a> {
     Disassemble { source: Source<'a>, slots: bool },
     /// Lists all slots, also those that aren't instructions.
     ListRaw { source: Source<'a>, slots: bool },
-    /// The control-flow graph, for graphviz.
-    Graph { source: Source<'a> },
+    /// The control-flow graph, for graphviz. `explain` asks for what the verifier finds at each block.
+    Graph { source: Source<'a>, explain: bool },
     Trace(Trial<'a>),
     Evaluate(Evaluation<'a>),
     Certify { subject: Subject<'a> },

@@ -4,12 +4,12 @@ ghost use Rattle.std.specs.Prelude.{◌≡◌, ◌≤◌, ◌^◌, IfSome, optio
 ghost use Rattle.clap.specs.Matches.{found_of};
 ghost use Rattle.clap.specs.Simple.{subcommand_rows_of};
 ghost use Rattle.clap.specs.Walk.{first_of, rows_of};
-ghost use Rattle.apd_words.specs.Asked.{asked_of, command_asks, answers_to, wanted_of, wanted_in, asked_verdict, asked_certificate, hook_named, hook_at, workers_named, states_named, states_at, work_named, work_at, verify_of, assemble_of, disassemble_of, trace_of, evaluate_of, run_of, live_of, certify_of, check_of, explain_of, frames_of, test_of, help_of, is_set};
+ghost use Rattle.apd_words.specs.Asked.{asked_of, command_asks, answers_to, wanted_of, wanted_in, asked_verdict, asked_certificate, hook_named, hook_at, report_at, workers_named, states_named, states_at, work_named, work_at, verify_of, assemble_of, disassemble_of, trace_of, evaluate_of, run_of, live_of, certify_of, check_of, explain_of, frames_of, test_of, help_of, is_set};
 
 use crate::command::{MOST_STATES, MOST_WORK};
 use crate::{
-    Claim, Evaluation, Given, LiveRun, Query, Question, Request, ScriptRun, Source, Subject, Terms,
-    Trial,
+    Claim, Evaluation, Given, LiveRun, Query, Question, Report, Request, ScriptRun, Source,
+    Subject, Terms, Trial,
 };
 use bpf_regions::Hook;
 use clap::ArgMatches;
@@ -79,7 +79,8 @@ fn disassemble<'a>(matches: &ArgMatches<'a>) -> Option<Question<'a>>
     let slots = flag(matches, "slots");
     let source = Source { file, config };
     if flag(matches, "dot") {
-        Some(Question::Graph { source })
+        let explain = flag(matches, "explain");
+        Some(Question::Graph { source, explain })
     } else if flag(matches, "raw") {
         Some(Question::ListRaw { source, slots })
     } else {
@@ -117,15 +118,31 @@ fn evaluate<'a>(matches: &ArgMatches<'a>) -> Option<Question<'a>>
     let against = value(matches, "against");
     let states = states(matches)?;
     let work = work(matches);
-    let json = flag(matches, "json");
+    let report = report(matches);
     let source = Source { file, config };
     let terms = Terms { hook, states, work };
     Some(Question::Evaluate(Evaluation {
         subject: Subject { source, terms },
         capture,
         against,
-        json,
+        report,
     }))
+}
+
+/// What `--dot`, `--profile` and `-j` ask for.
+fn report(matches: &ArgMatches<'_>) -> Report
+    ensures is { result ≡ report_at (rows_of (found_of matches.now)) }
+{
+    if flag(matches, "dot") {
+        return Report::ProfileGraph;
+    }
+    let json = flag(matches, "json");
+    match (flag(matches, "profile"), json) {
+        (true, true) => Report::ProfileJson,
+        (true, false) => Report::Profile,
+        (false, true) => Report::VerdictsJson,
+        (false, false) => Report::Verdicts,
+    }
 }
 
 fn run<'a>(matches: &ArgMatches<'a>) -> Option<Request<'a>>

@@ -1,10 +1,12 @@
 //! The text of a graph.
 
-ghost use Rattle.std.specs.Prelude.{◌≡◌, ◌++◌, ◌≤◌, IfOk, slice_get};
+ghost use Rattle.std.specs.Prelude.{◌≡◌, ◌++◌, ◌≤◌, IfOk, slice_get, true};
 ghost use Rattle.std.specs.String.{string_bytes};
+ghost use Rattle.apd_policies.specs.Overlays.{overlay_of};
 ghost use Rattle.apd_policies.specs.Graph.{label_of, edge_line, opening, insn_line, Appends, IsJumpEdge, AreTwoEdges, AreEdges, IsEnding, IsDrawn, IsDrawnAt, IsGraph};
 
 use crate::graph::blocks::{is_first, is_last, slot_after};
+use crate::graph::overlay::{Overlay, append_fill, append_note};
 use bpf_decode::{Program, jump_target};
 use bpf_insn::Insn;
 use bpf_line::InsnText;
@@ -96,13 +98,36 @@ fn append_edges(text: &mut String, from: Place, insn: &Insn) -> Result<(), Alloc
     }
 }
 
+/// A program, and what its graph tells of the blocks.
+#[derive(Clone, Copy)]
+struct Sketch<'a> {
+    program: &'a Program,
+    overlay: Overlay<'a>,
+}
+
+/// Appends the beginning of a node.
+fn append_node(text: &mut String, overlay: Overlay<'_>, slot: usize) -> Result<(), AllocError>
+    ensures ok { IfOk result (λ _. string_bytes text.new
+        ≡ string_bytes text.old ++ opening (overlay_of overlay.entry) true slot) }
+{
+    write!(text, "  b{slot} [")?;
+    append_fill(text, overlay, slot)?;
+    text.push_str("label=\"")?;
+    append_note(text, overlay, slot)
+}
+
 /// Appends the beginning of a node, if a block begins.
-fn append_opening(text: &mut String, first: bool, slot: usize) -> Result<(), AllocError>
-    ensures ok { IfOk result
-        (λ _. string_bytes text.new ≡ string_bytes text.old ++ opening first slot) }
+fn append_opening(
+    text: &mut String,
+    overlay: Overlay<'_>,
+    first: bool,
+    slot: usize,
+) -> Result<(), AllocError>
+    ensures ok { IfOk result (λ _. string_bytes text.new
+        ≡ string_bytes text.old ++ opening (overlay_of overlay.entry) first slot) }
 {
     if first {
-        write!(text, "  b{slot} [label=\"")?;
+        return append_node(text, overlay, slot);
     }
     Ok(())
 }
@@ -131,19 +156,20 @@ fn append_ending(text: &mut String, last: bool, from: Place, insn: &Insn) -> Res
 /// Appends an instruction; returns where its block begins, which is where the preceding one's does if not there.
 fn append_insn_at(
     text: &mut String,
-    program: &Program,
+    sketch: Sketch<'_>,
     before: usize,
     slot: usize,
     insn: Insn,
 ) -> Result<usize, AllocError>
     requires small { slot ≤ 16384 }
-    ensures ok { IfOk result (λ head. Appends (IsDrawn program.now.slots slot before head insn)
+    ensures ok { IfOk result (λ head. Appends
+        (IsDrawn (overlay_of sketch.entry.overlay) sketch.entry.program.now.slots slot before head insn)
         (string_bytes text.old) (string_bytes text.new)) }
 {
-    let first = is_first(program, slot);
-    let last = is_last(program, slot, &insn);
+    let first = is_first(sketch.program, slot);
+    let last = is_last(sketch.program, slot, &insn);
     let head = if first { slot } else { before };
-    append_opening(text, first, slot)?;
+    append_opening(text, sketch.overlay, first, slot)?;
     append_insn(text, slot, insn)?;
     append_ending(text, last, Place { head, slot }, &insn)?;
     Ok(head)
@@ -152,34 +178,41 @@ fn append_insn_at(
 /// Appends what a slot holds; returns where the block of the last instruction begins.
 fn append_slot(
     text: &mut String,
-    program: &Program,
+    sketch: Sketch<'_>,
     before: usize,
     slot: usize,
 ) -> Result<usize, AllocError>
     requires small { slot ≤ 16384 }
     ensures ok { IfOk result (λ head. Appends
-        (IsDrawnAt program.now.slots slot before head (slice_get program.now.slots slot))
+        (IsDrawnAt (overlay_of sketch.entry.overlay) sketch.entry.program.now.slots slot before head
+        (slice_get sketch.entry.program.now.slots slot))
         (string_bytes text.old) (string_bytes text.new)) }
 {
-    match program.insn_at(slot) {
-        Some(Some(insn)) => append_insn_at(text, program, before, slot, insn),
+    match sketch.program.insn_at(slot) {
+        Some(Some(insn)) => append_insn_at(text, sketch, before, slot, insn),
         Some(None) => Ok(before),
         None => Ok(before),
     }
 }
 
 /// A program's control-flow graph, as graphviz reads it: a node for each block, with the instructions and their slots,
-/// and the edges from its last instruction.
-pub fn graph_text(alloc: Global, program: &Program) -> Result<String, AllocError>
-    ensures is { IfOk result (λ text. IsGraph program.now.slots (string_bytes text)) }
+/// and the edges from its last instruction. An overlay tells more of each block.
+pub fn graph_text(
+    alloc: Global,
+    program: &Program,
+    overlay: Overlay<'_>,
+) -> Result<String, AllocError>
+    ensures is { IfOk result (λ text.
+        IsGraph (overlay_of overlay.entry) program.now.slots (string_bytes text)) }
 {
+    let sketch = Sketch { program, overlay };
     let mut text = String::from_str(
         alloc,
         "digraph program {\n  node [shape=box, fontname=monospace];\n",
     )?;
     let mut head = 0;
     for slot in 0..program.len() {
-        head = append_slot(&mut text, program, head, slot)?;
+        head = append_slot(&mut text, sketch, head, slot)?;
     }
     text.push_str("}\n")?;
     Ok(text)

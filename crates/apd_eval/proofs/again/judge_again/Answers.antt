@@ -1,6 +1,6 @@
 use Rattle.std.proofs.Common.{◌≡◌, ◌+◌, ◌++◌, ◌∷◌, [], List, map, drop, sym, subst}
 use Rattle.std.proofs.lemmas.List.{drop_all}
-use Rattle.bpf_helpers.specs.Hooked.{Held}
+use Rattle.apd_eval.specs.Metered.{Metered}
 use Rattle.capture.specs.Packets.{seen_of}
 use Rattle.apd_eval.specs.Again.{JudgesAgain}
 use Rattle.apd_eval.specs.declared.again.Contrast.{Contrast}
@@ -13,7 +13,7 @@ pub loop-row-preserved : goal.loop-row-preserved
 loop-row-preserved c =
     let l = c.loop-row in
     let packets = map seen_of c.args.packets.now in
-    let G : List Contrast → Held → Type 0 = λ contrasts h. JudgesAgain c.args.policy packets c.args.state.now c.args.rows.now contrasts h in
+    let G : List Contrast → Metered → Type 0 = λ contrasts h. JudgesAgain c.args.policy packets c.args.state.now c.args.rows.now contrasts h in
     let row : Row = c.row-item.result in
     let rest : List Row = drop (l.row-index + 1) c.args.rows.now in
     let one : Contrast = record { packet = row.packet; in_force = row.ruling; tried = c.rule-tried.result } in
@@ -28,5 +28,5 @@ loop-row-preserved c =
 pub returns : goal.returns
 returns c =
     let l = c.loop-row in
-    let G : List Contrast → Held → Type 0 = λ contrasts h. JudgesAgain c.args.policy (map seen_of c.args.packets.now) c.args.state.now c.args.rows.now contrasts h in
+    let G : List Contrast → Metered → Type 0 = λ contrasts h. JudgesAgain c.args.policy (map seen_of c.args.packets.now) c.args.state.now c.args.rows.now contrasts h in
     record { contrasts = record { again = Comes-end c.args.policy (map seen_of c.args.packets.now) G l.state _ l.contrasts.items l.invariant.comes (drop_all l.row-index c.args.rows.now c.loop-row-test.false) } }

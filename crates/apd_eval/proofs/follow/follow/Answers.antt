@@ -13,8 +13,7 @@ returns c =
         shards = c.in_ok-shards.shards;
         fresh = c.in_ok-shards.ensures.fresh;
         shards' = c.rows.new.shards;
-        h' = c.rows.new.state;
         follows = h;
-        asked = rows_asked c.asks_law.ensures.once c.args.policy packets (start_of packets) 1 0 [] packets _ _ _ _ _ refl (omega arith) h;
+        asked = rows_asked c.asks_law.ensures.once c.args.policy c.requires.alone packets (start_of packets) 1 0 [] packets _ _ _ _ _ refl (omega arith) h;
       }) c.rows.ensures.rows;
     }

@@ -12,7 +12,7 @@ abbrev pub invariant-loop-packet : goal.invariant-loop-packet
 invariant-loop-packet l = record {
   counted : l.number ≡ l.packet-index + 1;
   place : InPlace (rules_of l.shards);
-  fitting : IsFitting l.policy.maps.now 0 l.state.seats;
+  fitting : IsFitting l.policy.maps.now 0 l.state.held.seats;
   makes : Makes l.policy l.start (λ rows s h. Follows l.policy l.start 1 0 l.initial.shards l.initial.state (map seen_of l.packets) rows s h)
       l.number l.clock l.shards l.state (map seen_of (drop l.packet-index l.packets)) l.rows.items;
 }

@@ -7,7 +7,7 @@ use Rattle.apd_policies.proofs.graph.drawing.graph_text.Goals as goal
 pub loop-slot-init : goal.loop-slot-init
 loop-slot-init c =
     let first : string_bytes c.in_ok-text.text ≡ beginning = search rules in
-    IsBegun-start _ _ first
+    IsBegun-start _ _ _ first
 
 pub loop-slot-preserved : goal.loop-slot-preserved
-loop-slot-preserved c = IsBegun-more _ _ _ _ _ _ c.loop-slot.invariant c.in_ok-head.ensures.ok
+loop-slot-preserved c = IsBegun-more _ _ _ _ _ _ _ c.loop-slot.invariant c.in_ok-head.ensures.ok
