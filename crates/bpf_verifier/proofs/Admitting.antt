@@ -33,11 +33,11 @@ starved_after program limit w begins = record { begins = begins; plain = λ most
 
 -- no work is done
 pub spends_none : (limit : ℕ) (w : Tally) → IsSpent limit w w
-spends_none limit w = record { few = omega arith; units = omega arith; most = refl }
+spends_none limit w = record { few = omega arith; units = omega arith; again = omega arith; most = refl }
 
 -- ample work is never passed
 never_passed : (limits : Limits) (w : Tally) → IsAmple limits → IsSpent limits.states (unspent (units_of limits.work)) w → HasPassed w → ⊥
-never_passed limits w ample spent passed = omega (arith, ample, spent.few, spent.units, spent.most, passed.passes, passed.small)
+never_passed limits w ample spent passed = omega (arith, ample, spent.few, spent.units, spent.again, spent.most, passed.passes, passed.small)
 
 pub by_memory : (limits : Limits) (w : Tally) (fault : Fault) → IsAmple limits → IsSpent limits.states (unspent (units_of limits.work)) w → IsMemoryOrPassed fault w → fault ≡ NoMemory
 by_memory limits w fault ample spent (inl memory) = memory

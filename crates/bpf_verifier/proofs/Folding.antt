@@ -1,10 +1,13 @@
 -- Folded frames.
-use Rattle.std.proofs.Common.{◌≡◌, ℕ, zero, suc, ◌+◌, List, [], ◌∷◌, ◌++◌, take, drop, refl, sym, ap, ◌∙◌, Some, arith, append_assoc}
+use Rattle.std.proofs.Common.{◌≡◌, ◌<◌, ◌≤◌, ℕ, zero, suc, ◌+◌, ◌-◌, length, List, [], ◌∷◌, ◌++◌, take, drop, refl, sym, subst, ap, ◌∙◌, inl, inr, Option, Some, None, IfSome, arith, append_assoc}
 use Rattle.std.specs.Prelude.{map, slice_get}
-use Rattle.std.proofs.lemmas.List.{append-nil}
+use Rattle.std.proofs.lemmas.List.{append-nil, length-take, length-take-le, length-map, take_all, take-map, take-append-drop, length-append}
+use Rattle.bpf_absstate.specs.View.{View}
+use Rattle.bpf_verifier.specs.Counting.{weight, states_from}
+use Rattle.bpf_verifier.proofs.Counts.{weight_push}
 use Rattle.bpf_verifier.specs.declared.frame.Frame.{Frame}
 use Rattle.bpf_verifier.specs.declared.fold.Outline.{Outline}
-use Rattle.bpf_verifier.specs.Folded.{outline_of, unfolded}
+use Rattle.bpf_verifier.specs.Folded.{outline_of, unfolded, with_state, IsTaken, IsFolded, BeginsWith}
 
 pub unfolded_push : (rest : List (List Frame)) (fs : List Frame) → unfolded (rest ++ fs ∷ []) ≡ unfolded rest ++ fs
 unfolding unfolded
@@ -104,3 +107,105 @@ folded_more root older newer o fold folds more e same nothing =
     ap (λ x. root ++ (unfolded x ++ (o ++ newer))) e ∙ ap (λ x. root ++ (x ++ (o ++ newer))) (unfolded_push folds fold)
     ∙ ap (λ x. root ++ ((unfolded folds ++ x) ++ (o ++ newer))) same ∙ ap (λ x. root ++ ((unfolded folds ++ older) ++ (x ++ newer))) nothing
     ∙ ap (λ x. root ++ x) (append_assoc (unfolded folds) older newer)
+
+pub pushed_some : (fs : List Frame) (f : Frame) → 0 < length (fs ++ f ∷ [])
+pushed_some [] f = omega arith
+pushed_some (g ∷ fs) f = omega arith
+
+-- the number of states on parts of the path
+pub weight_from : (fs : List Frame) (after : ℕ) → weight fs after ≡ weight fs 0 + after
+unfolding weight
+weight_from [] after = refl
+weight_from (g ∷ fs) after = let k = weight_from fs after in omega (arith, k)
+
+weight_append : (fs gs : List Frame) → weight (fs ++ gs) 0 ≡ weight fs 0 + weight gs 0
+unfolding weight
+weight_append [] gs = refl
+weight_append (f ∷ fs) gs = let k = weight_append fs gs in omega (arith, k)
+
+pub states_push : (fs : List Frame) (f : Frame) → 0 < length fs → states_from (fs ++ f ∷ []) ≡ states_from fs + (f.before + 1)
+states_push [] f some = absurd (omega (arith, some))
+states_push (g ∷ fs) f some =
+    let k = weight_push fs f 0 in
+    let m = weight_from fs f.before in
+    omega (arith, k, m)
+
+pub states_few : (fs : List Frame) → states_from fs ≤ weight fs 0
+unfolding weight
+states_few [] = omega arith
+states_few (f ∷ fs) = omega arith
+
+-- a part has at most all states of the path
+pub states_part : (items fs gs : List Frame) → items ≡ fs ++ gs → states_from gs ≤ weight items 0
+states_part items fs gs e =
+    let k = weight_append fs gs in
+    let few = states_few gs in
+    let same : weight items 0 ≡ weight (fs ++ gs) 0 = ap (λ x. weight x 0) e in
+    omega (arith, k, few, same)
+
+states_front : (fs gs : List Frame) → states_from fs ≤ states_from (fs ++ gs)
+states_front [] gs = omega arith
+states_front (f ∷ fs) gs = let k = weight_append fs gs in omega (arith, k)
+
+pub states_taken : (all : List Frame) (k : ℕ) → states_from (take k all) ≤ states_from all
+states_taken all k = subst (λ x. states_from (take k all) ≤ states_from x) (take-append-drop k all) (states_front (take k all) (drop k all))
+
+-- the newest frame, taken as it is
+pub taken_whole : (old new : List Frame) (f : Frame) → old ≡ new ++ f ∷ [] → IsTaken old new f
+taken_whole old new f e = record { state = f.state; last = e; same = inl refl }
+
+-- a frame with a pending successor is taken with its state
+pub taken_state : (old new : List Frame) (f : Frame) (a : View) → f.pending ≡ Some a → (t : IsTaken old new f) → f.state ≡ t.state
+taken_state old new f a some t = elim t.same [ inl e ↦ e | inr none ↦ absurd (let e : Some a ≡ None = sym some ∙ none.1 in cc) ]
+
+-- what holds of the frame's state on the path holds of the state that is taken
+pub taken_own : (old new : List Frame) (f : Frame) (P : View → Type 0) (t : IsTaken old new f) → IfSome t.state P → IfSome f.state P
+taken_own old new f P t h =
+    elim t.same [ inl e ↦ subst (λ o. IfSome o P) (sym e) h | inr none ↦ subst (λ o. IfSome o P) (sym none.0) tt ]
+
+begins_front : (a : View) (fs gs : List Frame) → 0 < length fs → BeginsWith a (fs ++ gs) → BeginsWith a fs
+begins_front a [] gs some h = absurd (omega (arith, some))
+begins_front a (f ∷ fs) gs some h = h
+
+take_front : (n k : ℕ) (xs : List Frame) → k ≤ n → take k (take n xs) ≡ take k xs
+take_front n zero [] le = refl
+take_front n zero (x ∷ xs) le = refl
+take_front zero (suc k) xs le = absurd (omega (arith, le))
+take_front (suc n) (suc k) [] le = refl
+take_front (suc n) (suc k) (x ∷ xs) le = ap (λ ys. x ∷ ys) (take_front n k xs (omega (arith, le)))
+
+-- a fold without its newest frame
+pub record LeftOut (first : View) (fs : List Frame) (new : List Outline) (all : List Frame) (o : Outline) : Type 0 where
+  pub frame : Frame
+  pub same : o ≡ outline_of frame
+  pub last : all ≡ take (length new) fs ++ frame ∷ []
+  pub folded : IsFolded first new (take (length new) fs)
+
+pub left_out : (first : View) (fs : List Frame) (os new : List Outline) (o : Outline) → IsFolded first os (take (length os) fs) → slice_get os (length os - 1) ≡ Some o → new ≡ take (length os - 1) os → 1 < length os →
+    LeftOut first fs new (take (length os) fs) o
+left_out first fs os new o folded at e many =
+    let all : List Frame = take (length os) fs in
+    let k : ℕ = length os - 1 in
+    let r = peeled all k o (subst (λ x. slice_get x k ≡ Some o) folded.same at) in
+    let size : length os ≡ length all = ap length folded.same ∙ length-map all outline_of in
+    let few : length all ≤ k + 1 = omega (arith, size) in
+    let new_size : length new ≡ k = ap length e ∙ length-take-le k os (omega arith) in
+    let front : take k all ≡ take (length new) fs = take_front (length os) k fs (omega arith) ∙ ap (λ n. take n fs) (sym new_size) in
+    let split : all ≡ take (length new) fs ++ r.0 ∷ [] = sym (take_all (k + 1) all few) ∙ r.3 ∙ ap (λ x. x ++ r.0 ∷ []) front in
+    let some : 0 < length (take k all) = let n = length-take-le k all (omega (arith, size)) in omega (arith, n, many) in
+    record {
+      frame = r.0;
+      same = r.2;
+      last = split;
+      folded = record {
+        begins = begins_front first (take (length new) fs) (r.0 ∷ []) (subst (λ x. 0 < length x) front some) (subst (BeginsWith first) split folded.begins);
+        same = e ∙ ap (take k) folded.same ∙ take-map outline_of k all ∙ ap (map outline_of) front;
+      };
+    }
+
+pub pushed_length : (items fs : List Frame) (f : Frame) → items ≡ fs ++ f ∷ [] → length items ≡ length fs + 1
+pushed_length items fs f e = ap length e ∙ length-append fs (f ∷ [])
+
+-- the states on the path are at most the visits
+pub remade_few : (fs : List Frame) (after done visits : ℕ) → done + weight fs after ≤ visits → weight fs 0 ≤ visits
+remade_few fs after done visits paid = let k = weight_from fs after in omega (arith, k, paid)

@@ -1,10 +1,11 @@
-use Rattle.std.proofs.Common.{rules, ◌≡◌, ◌∷◌, ◌++◌, [], ◌+◌, List, length, take, drop, refl, sym, ap, subst, ◌∙◌, Some}
+use Rattle.std.proofs.Common.{rules, arith, ◌≡◌, ◌∷◌, ◌++◌, [], ◌+◌, List, length, take, drop, refl, sym, ap, subst, ◌∙◌, Some}
 use Rattle.std.specs.Prelude.{slice_get}
 use Rattle.std.proofs.lemmas.Option.{slice_get_read}
 use Rattle.bpf_verifier.specs.declared.fold.Outline.{Outline}
 use Rattle.bpf_verifier.specs.Folded.{IsFolded}
 use Rattle.bpf_verifier.specs.Path.{Linked}
 use Rattle.bpf_verifier.specs.Traced.{LeadsExactly, IsOpened}
+use Rattle.bpf_verifier.proofs.Folding.{pushed_some, states_push}
 use Rattle.bpf_verifier.proofs.Reopening.{first_of, next_of, some_outline}
 use Rattle.bpf_verifier.proofs.fold.Fold.unfold.Goals as goal
 
@@ -26,6 +27,11 @@ loop-k-init c =
     record {
       frames = c.in_ok-push.ensures.items ∙ ap (λ x. x ++ c.in_ok-frame.field-0.frame ∷ []) c.in_ok-frames.ensures.items ∙ ap (λ f. f ∷ []) is.0 ∙ sym r.taken;
       rest = (c.requires.traced.0, c.requires.traced.1, subst (λ x. Linked (LeadsExactly c.args.program.now) (IsOpened c.args.program.now) (drop 1 c.args.self) c.requires.traced.0 x c.requires.traced.1) (sym (c.child.view_is ∙ is.1)) r.above);
+      some = rw r.taken (omega arith);
+      most = c.in_ok-frame.ensures.most;
+      examined = c.in_ok-frame.ensures.examined;
+      remade = rw r.taken c.in_ok-frame.ensures.remade;
+      units = c.in_ok-frame.ensures.units;
     }
 
 pub led-requires : goal.led-requires
@@ -62,4 +68,12 @@ loop-k-preserved c =
     record {
       frames = c.in_ok-push-2.ensures.items ∙ ap (λ x. x ++ c.in_ok-frame-2.field-0.frame ∷ []) c.loop-k.invariant.frames ∙ ap (λ f. take c.loop-k.k c.args.self ++ f ∷ []) is.0 ∙ sym r.taken;
       rest = (t.0, t.1, subst (λ x. Linked (LeadsExactly c.args.program.now) (IsOpened c.args.program.now) (drop (c.loop-k.k + 1) c.args.self) t.0 x t.1) (sym is.1) r.above);
+      some = rw r.taken (pushed_some (take c.loop-k.k c.args.self) r.frame);
+      most = c.in_ok-frame-2.ensures.most ∙ c.in_ok-state.ensures.most ∙ c.loop-k.invariant.most;
+      examined = c.in_ok-frame-2.ensures.examined ∙ c.in_ok-state.ensures.examined ∙ c.loop-k.invariant.examined;
+      remade =
+          let before : o.before ≡ r.frame.before = ap (λ (x : Outline). x.before) r.same in
+          let more = states_push (take c.loop-k.k c.args.self) r.frame c.loop-k.invariant.some in
+          rw r.taken (omega (arith, before, more, c.in_ok-frame-2.ensures.remade, c.in_ok-state.ensures.remade, c.loop-k.invariant.remade));
+      units = omega (arith, c.in_ok-frame-2.ensures.units, c.in_ok-state.ensures.units, c.loop-k.invariant.units);
     }
