@@ -1,7 +1,7 @@
 -- Folded frames.
-use Rattle.std.proofs.Common.{◌≡◌, ◌<◌, ◌≤◌, ℕ, zero, suc, ◌+◌, ◌-◌, length, List, [], ◌∷◌, ◌++◌, take, drop, refl, sym, subst, ap, ◌∙◌, inl, inr, Option, Some, None, IfSome, arith, append_assoc}
+use Rattle.std.proofs.Common.{◌≡◌, ◌<◌, ◌≤◌, ℕ, zero, suc, ◌+◌, ◌-◌, length, get_or, set, List, [], ◌∷◌, ◌++◌, take, drop, refl, sym, subst, ap, ◌∙◌, inl, inr, Option, Some, None, IfSome, arith, append_assoc}
 use Rattle.std.specs.Prelude.{map, slice_get}
-use Rattle.std.proofs.lemmas.List.{append-nil, length-take, length-take-le, length-map, take_all, take-map, take-append-drop, length-append}
+use Rattle.std.proofs.lemmas.List.{append-nil, length-take, length-take-le, length-map, take_all, take-map, take-append-drop, length-append, take_more, set_split, drop_all}
 use Rattle.bpf_absstate.specs.View.{View}
 use Rattle.bpf_verifier.specs.Counting.{weight, states_from}
 use Rattle.bpf_verifier.proofs.Counts.{weight_push}
@@ -156,7 +156,7 @@ taken_whole old new f e = record { state = f.state; last = e; same = inl refl }
 
 -- a frame with a pending successor is taken with its state
 pub taken_state : (old new : List Frame) (f : Frame) (a : View) → f.pending ≡ Some a → (t : IsTaken old new f) → f.state ≡ t.state
-taken_state old new f a some t = elim t.same [ inl e ↦ e | inr none ↦ absurd (let e : Some a ≡ None = sym some ∙ none.1 in cc) ]
+taken_state old new f a some t = elim t.same [ inl e ↦ e | inr none ↦ let e : Some a ≡ None = sym some ∙ none.1 in cc ]
 
 -- what holds of the frame's state on the path holds of the state that is taken
 pub taken_own : (old new : List Frame) (f : Frame) (P : View → Type 0) (t : IsTaken old new f) → IfSome t.state P → IfSome f.state P
@@ -209,3 +209,38 @@ pushed_length items fs f e = ap length e ∙ length-append fs (f ∷ [])
 -- the states on the path are at most the visits
 pub remade_few : (fs : List Frame) (after done visits : ℕ) → done + weight fs after ≤ visits → weight fs 0 ≤ visits
 remade_few fs after done visits paid = let k = weight_from fs after in omega (arith, k, paid)
+
+-- the newest fold, and what is written over it
+pub folded_last : (folds : List (List Frame)) (n : ℕ) (fold new : List Frame) → length folds ≡ n + 1 → fold ≡ get_or folds n fold →
+    (folds ≡ take n folds ++ fold ∷ []) × (set folds n new ≡ take n folds ++ new ∷ [])
+folded_last folds n fold new size is =
+    let lt : n < length folds = omega (arith, size) in
+    let few : length folds ≤ n + 1 = omega (arith, size) in
+    let past : length folds ≤ suc n = omega (arith, size) in (
+      sym (take_all (n + 1) folds few) ∙ take_more folds n fold lt ∙ ap (λ x. take n folds ++ x ∷ []) (sym is),
+      set_split folds n new lt ∙ ap (λ x. take n folds ++ new ∷ x) (drop_all (suc n) folds past),
+    )
+
+-- the newest frame of the newest fold is taken
+pub taken_of_fold : (folds left rest : List (List Frame)) (fold new : List Frame) (f : Frame) → folds ≡ rest ++ fold ∷ [] → left ≡ rest ++ new ∷ [] → IsTaken fold new f → IsTaken (unfolded folds) (unfolded left) f
+taken_of_fold folds left rest fold new f e e2 t =
+    let g : Frame = with_state f t.state in
+    record {
+      state = t.state;
+      last = ap unfolded e ∙ unfolded_push rest fold ∙ ap (λ x. unfolded rest ++ x) t.last ∙ sym (append_assoc (unfolded rest) new (g ∷ []))
+          ∙ ap (λ x. x ++ g ∷ []) (sym (ap unfolded e2 ∙ unfolded_push rest new));
+      same = t.same;
+    }
+
+-- the newest frame of the folds is taken, where none is after them
+pub taken_of_folds : (root folds left older newer o n : List Frame) (f : Frame) → older ≡ [] → newer ≡ [] → o ≡ [] → n ≡ [] → IsTaken folds left f →
+    IsTaken (root ++ (folds ++ (older ++ newer))) (root ++ (left ++ (o ++ n))) f
+taken_of_folds root folds left older newer o n f none nothing g is t =
+    let x : Frame = with_state f t.state in
+    record {
+      state = t.state;
+      last = ap (λ y. root ++ (y ++ (older ++ newer))) t.last ∙ ap (λ y. root ++ ((left ++ x ∷ []) ++ (y ++ newer))) none
+          ∙ ap (λ y. root ++ ((left ++ x ∷ []) ++ ([] ++ y))) nothing ∙ two root left (x ∷ [])
+          ∙ ap (λ y. (root ++ (left ++ (y ++ []))) ++ x ∷ []) (sym g) ∙ ap (λ y. (root ++ (left ++ (o ++ y))) ++ x ∷ []) (sym is);
+      same = t.same;
+    }

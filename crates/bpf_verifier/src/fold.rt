@@ -87,8 +87,8 @@ fn outlines(alloc: Global, frames: &[Frame]) -> Result<Vec<Outline>, AllocError>
 /// The number of frames up to the newest with a pending successor.
 fn forked(frames: &[Frame]) -> usize {
     let mut end = 0;
-    for (place, frame) in frames.iter().enumerate() {
-        if frame.pending.is_some() {
+    for place in 0..frames.len() {
+        if frames[place].pending.is_some() {
             end = place + 1;
         }
     }
