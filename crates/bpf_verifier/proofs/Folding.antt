@@ -1,10 +1,11 @@
 -- Folded frames.
 use Rattle.std.proofs.Common.{◌≡◌, ◌<◌, ◌≤◌, ℕ, zero, suc, ◌+◌, ◌-◌, length, get_or, set, List, [], ◌∷◌, ◌++◌, take, drop, refl, sym, subst, ap, ◌∙◌, inl, inr, Option, Some, None, IfSome, arith, append_assoc}
-use Rattle.std.specs.Prelude.{map, slice_get}
+use Rattle.std.specs.Prelude.{map, slice_get, is_some, false}
 use Rattle.std.proofs.lemmas.List.{append-nil, length-take, length-take-le, length-map, take_all, take-map, take-append-drop, length-append, take_more, set_split, drop_all}
 use Rattle.bpf_absstate.specs.View.{View}
 use Rattle.bpf_verifier.specs.Counting.{weight, states_from}
 use Rattle.bpf_verifier.proofs.Counts.{weight_push}
+use Rattle.bpf_verifier.proofs.Tracing.{same_frame}
 use Rattle.bpf_verifier.specs.declared.frame.Frame.{Frame}
 use Rattle.bpf_verifier.specs.declared.fold.Outline.{Outline}
 use Rattle.bpf_verifier.specs.Folded.{outline_of, unfolded, with_state, IsTaken, IsFolded, BeginsWith}
@@ -115,12 +116,12 @@ pushed_some (g ∷ fs) f = omega arith
 -- the number of states on parts of the path
 pub weight_from : (fs : List Frame) (after : ℕ) → weight fs after ≡ weight fs 0 + after
 unfolding weight
-weight_from [] after = refl
+weight_from [] after = omega arith
 weight_from (g ∷ fs) after = let k = weight_from fs after in omega (arith, k)
 
 weight_append : (fs gs : List Frame) → weight (fs ++ gs) 0 ≡ weight fs 0 + weight gs 0
 unfolding weight
-weight_append [] gs = refl
+weight_append [] gs = omega arith
 weight_append (f ∷ fs) gs = let k = weight_append fs gs in omega (arith, k)
 
 pub states_push : (fs : List Frame) (f : Frame) → 0 < length fs → states_from (fs ++ f ∷ []) ≡ states_from fs + (f.before + 1)
@@ -244,3 +245,24 @@ taken_of_folds root folds left older newer o n f none nothing g is t =
           ∙ ap (λ y. (root ++ (left ++ (y ++ []))) ++ x ∷ []) (sym g) ∙ ap (λ y. (root ++ (left ++ (o ++ y))) ++ x ∷ []) (sym is);
       same = t.same;
     }
+
+pub taken_from : (a b new : List Frame) (f : Frame) → a ≡ b → IsTaken a new f → IsTaken b new f
+taken_from a b new f e t = subst (λ x. IsTaken x new f) e t
+
+-- the states of a part that is made again to one of its frames
+pub states_within : (all : List Frame) (k : ℕ) (f : Frame) → take (k + 1) all ≡ take k all ++ f ∷ [] → 0 < length (take k all) → states_from (take k all) + (f.before + 1) ≤ states_from all
+states_within all k f e some =
+    let more = states_push (take k all) f some in
+    let few = states_taken all (k + 1) in
+    let same : states_from (take (k + 1) all) ≡ states_from (take k all ++ f ∷ []) = ap states_from e in
+    omega (arith, more, few, same)
+
+none_of : (o : Option View) → is_some o ≡ false → o ≡ None
+none_of None h = refl
+none_of (Some a) h = cc
+
+-- the frame of an outline without a pending successor
+pub frame_of : (f : Frame) (o : Outline) → o ≡ outline_of f → o.forks ≡ false → f ≡ record { before = o.before; state = f.state; pending = None; best = o.best }
+frame_of f o e forks =
+    let g : Frame = record { before = o.before; state = f.state; pending = None; best = o.best } in
+    same_frame g f (sym (ap (λ (x : Outline). x.before) e)) refl (none_of f.pending (sym (ap (λ (x : Outline). x.forks) e) ∙ forks)) (sym (ap (λ (x : Outline). x.best) e))

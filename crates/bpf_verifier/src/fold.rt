@@ -1,6 +1,6 @@
 //! Frames of the path that are reduced to outlines, and rebuilt when they are needed.
 
-ghost use Rattle.std.specs.Prelude.{◌≡◌, ◌<◌, ◌≤◌, ◌+◌, ◌*◌, ◌∷◌, ◌++◌, ℕ, List, length, map, Option, is_some, IfOk, IfErr, IfSome, OnOk, OnNone};
+ghost use Rattle.std.specs.Prelude.{◌≡◌, ◌<◌, ◌≤◌, ◌+◌, ◌*◌, ◌∷◌, ◌++◌, [], ℕ, List, length, map, Option, is_some, IfOk, IfErr, IfSome, OnOk, IfNone};
 ghost use Rattle.bpf_absstate.specs.View.{View};
 ghost use Rattle.bpf_rules.specs.declared.ways.Ways.TheVariants.{One};
 ghost use Rattle.bpf_verifier.specs.declared.frame.Frame.{Frame};
@@ -239,6 +239,14 @@ fn reopened(
     })
 }
 
+/// One frame more.
+fn add(frames: &mut Vec<Frame>, frame: Frame) -> Result<(), AllocError>
+    ensures items { OnOk result (frames.new.items ≡ frames.old.items ++ frame ∷ []) }
+{
+    frames.push(frame)?;
+    Ok(())
+}
+
 impl Fold {
     /// Folds frames; None if the first has no state. If it is `whole`, all frames are made again later; otherwise only
     /// those whose states may stay kept, or which a pending successor follows.
@@ -279,7 +287,7 @@ impl Fold {
     /// Takes the newest frame off without making it again, if it needn't be.
     pub(crate) fn leave_out(&mut self) -> Option<Frame>
         ensures some { IfSome result (IsTaken self.old self.new) }
-        ensures none { OnNone result (self.new ≡ self.old) }
+        ensures none { IfNone result (self.new ≡ self.old) }
     {
         let count = self.outlines.len();
         if count <= 1 || count <= self.needed {
@@ -323,13 +331,13 @@ impl Fold {
         } = self;
         let mut frames = Vec::with_capacity(alloc, outlines.len())?;
         let Opened { frame, child } = reopened(alloc, program, first, outlines[0], work)?;
-        frames.push(frame)?;
+        add(&mut frames, frame)?;
         let mut current = child;
         for k in 1..outlines.len() {
             let outline = outlines[k];
             let state = led(alloc, program, current, outline.before, work)?;
             let Opened { frame, child } = reopened(alloc, program, state, outline, work)?;
-            frames.push(frame)?;
+            add(&mut frames, frame)?;
             current = child;
         }
         Ok(frames)
@@ -339,7 +347,7 @@ impl Fold {
 /// Takes the newest frame off without making it again, if it needn't be.
 pub(crate) fn left_out(folds: &mut Vec<Fold>) -> Option<Frame>
     ensures some { IfSome result (IsTaken (unfolded folds.old.items) (unfolded folds.new.items)) }
-    ensures none { OnNone result (folds.new.items ≡ folds.old.items) }
+    ensures none { IfNone result (folds.new.items ≡ folds.old.items) }
 {
     let count = folds.len();
     if count == 0 {

@@ -1,4 +1,4 @@
-use Rattle.std.proofs.Common.{rules, ◌≡◌, ◌≤◌, ◌+◌, ◌++◌, ◌∷◌, [], None, refl, ◌∙◌, arith}
+use Rattle.std.proofs.Common.{rules, ◌≡◌, ◌≤◌, ◌+◌, ◌++◌, ◌∷◌, [], None, length, refl, ap, ◌∙◌, arith}
 use Rattle.bpf_verifier.specs.Counting.{weight}
 use Rattle.bpf_verifier.specs.declared.frame.Frame.{Frame}
 use Rattle.bpf_verifier.specs.Path.{Linked}
@@ -190,3 +190,41 @@ returns-in-Some-pending-clause-remade c =
     let more = pushed_length c.push.new.self.path c.pop.new.self g c.in_ok-push-in-Some-pending.ensures.path in
     let few = remade_few c.loop-frame.self.path c.loop-frame.self.after c.loop-frame.done c.loop-frame.self.visits h.paid in
     omega (arith, size, more, few, c.in_ok-frame.ensures.greatest, h.remade, h.visits, c.requires.room)
+
+pub returns-in_err-frame-clause-greatest : goal.returns-in_err-frame-clause-greatest
+returns-in_err-frame-clause-greatest c =
+    let h = c.loop-frame.invariant in
+    let few = remade_few c.loop-frame.self.path c.loop-frame.self.after c.loop-frame.done c.loop-frame.self.visits h.paid in
+    omega (arith, few, c.pop.ensures.greatest, h.remade, h.visits, c.requires.room)
+
+pub returns-in_err-push-in-Some-pending-clause-greatest : goal.returns-in_err-push-in-Some-pending-clause-greatest
+returns-in_err-push-in-Some-pending-clause-greatest c =
+    let h = c.loop-frame.invariant in
+    let few = remade_few c.loop-frame.self.path c.loop-frame.self.after c.loop-frame.done c.loop-frame.self.visits h.paid in
+    omega (arith, few, c.pop.ensures.greatest, h.remade, h.visits, c.requires.room)
+
+pub returns-in-Some-pending-clause-greatest : goal.returns-in-Some-pending-clause-greatest
+returns-in-Some-pending-clause-greatest c =
+    let h = c.loop-frame.invariant in
+    let few = remade_few c.loop-frame.self.path c.loop-frame.self.after c.loop-frame.done c.loop-frame.self.visits h.paid in
+    omega (arith, few, c.pop.ensures.greatest, h.remade, h.visits, c.requires.room)
+
+pub returns-in_err-finish-in-None-clause-greatest : goal.returns-in_err-finish-in-None-clause-greatest
+returns-in_err-finish-in-None-clause-greatest c =
+    let h = c.loop-frame.invariant in
+    let few = remade_few c.loop-frame.self.path c.loop-frame.self.after c.loop-frame.done c.loop-frame.self.visits h.paid in
+    omega (arith, few, c.pop.ensures.greatest, h.remade, h.visits, c.requires.room)
+
+pub returns-clause-greatest : goal.returns-clause-greatest
+returns-clause-greatest c =
+    let h = c.loop-frame.invariant in
+    let few = remade_few c.loop-frame.self.path c.loop-frame.self.after c.loop-frame.done c.loop-frame.self.visits h.paid in
+    omega (arith, few, c.pop.ensures.greatest, h.remade, h.visits, c.requires.room)
+
+pub returns-clause-remade : goal.returns-clause-remade
+returns-clause-remade c =
+    let h = c.loop-frame.invariant in
+    let few = remade_few c.loop-frame.self.path c.loop-frame.self.after c.loop-frame.done c.loop-frame.self.visits h.paid in
+    let empty : c.pop.new.self ≡ [] = search rules in
+    let none : length c.pop.new.self ≡ 0 = ap length empty in
+    omega (arith, few, none, c.pop.ensures.greatest, h.remade, h.visits, c.requires.room)

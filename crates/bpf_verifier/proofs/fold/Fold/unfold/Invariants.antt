@@ -10,8 +10,8 @@ invariant-loop-k l = record {
   frames : l.frames.items ≡ take l.k l.fn.self;
   rest : (after : ℕ) × (a : View) × Linked (LeadsExactly l.program) (IsOpened l.program) (drop l.k l.fn.self) after l.current a;
   some : 0 < length (take l.k l.fn.self);
-  most : l.work.most ≡ l.initial.work.most;
-  examined : l.work.examined ≡ l.initial.work.examined;
-  remade : l.work.remade ≡ l.initial.work.remade + states_from (take l.k l.fn.self);
-  units : l.work.units + 563 * l.initial.work.remade ≤ l.initial.work.units + 563 * l.work.remade;
+  most : l.work.most ≡ l.fn.work.most;
+  examined : l.work.examined ≡ l.fn.work.examined;
+  remade : l.work.remade ≡ l.fn.work.remade + states_from (take l.k l.fn.self);
+  units : l.work.units + 563 * l.fn.work.remade ≤ l.fn.work.units + 563 * l.work.remade;
 }
