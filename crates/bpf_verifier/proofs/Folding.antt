@@ -1,7 +1,7 @@
 -- Folded frames.
 use Rattle.std.proofs.Common.{◌≡◌, ◌<◌, ◌≤◌, ℕ, zero, suc, ◌+◌, ◌-◌, length, get_or, set, List, [], ◌∷◌, ◌++◌, take, drop, refl, sym, subst, ap, ◌∙◌, inl, inr, Option, Some, None, IfSome, arith, append_assoc}
 use Rattle.std.specs.Prelude.{map, slice_get, is_some, false}
-use Rattle.std.proofs.lemmas.List.{append-nil, length-take, length-take-le, length-map, take_all, take-map, take-append-drop, length-append, take_more, set_split, drop_all}
+use Rattle.std.proofs.lemmas.List.{append-nil, length-take-le, length-map, take_all, take-map, take-append-drop, length-append, take_more, set_split, drop_all}
 use Rattle.bpf_absstate.specs.View.{View}
 use Rattle.bpf_verifier.specs.Counting.{weight, states_from}
 use Rattle.bpf_verifier.proofs.Counts.{weight_push}

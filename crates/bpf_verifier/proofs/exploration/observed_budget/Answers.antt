@@ -8,7 +8,6 @@ use Rattle.bpf_decode.specs.Program.{Code}
 use Rattle.bpf_plain.specs.Clear.{IsClear}
 use Rattle.bpf_prune.specs.Spending.{Tally}
 use Rattle.bpf_rules.specs.declared.fault.Fault.{Fault}
-use Rattle.bpf_rules.specs.declared.fault.Fault.TheVariants.{NoMemory}
 use Rattle.bpf_verifier.specs.Causes.{IsFaulty, IsStopped, IsDue, ByMemory, ByRule, ByWork}
 use Rattle.bpf_verifier.specs.Spent.{IsMemoryOrPassed}
 use Rattle.bpf_verifier.specs.declared.refusal.Refusal.{Refusal}

@@ -1,7 +1,7 @@
-use Rattle.std.proofs.Common.{◌≡◌, ◌++◌, [], sym, subst, ◌∙◌, arith}
+use Rattle.std.proofs.Common.{◌≡◌, ◌++◌, [], sym, ◌∙◌, arith}
 use Rattle.std.proofs.lemmas.Grind.{common_steps}
 use Rattle.std.proofs.lemmas.List.{nil_from_length}
-use Rattle.bpf_verifier.specs.Folded.{unfolded, IsTaken}
+use Rattle.bpf_verifier.specs.Folded.{unfolded}
 use Rattle.bpf_verifier.proofs.Folding.{all_folded, nothing, popped, popped_older, popped_fold, popped_root, taken_whole, taken_of_folds, taken_from, states_part}
 use Rattle.bpf_verifier.proofs.Tracing as tracing
 use Rattle.bpf_verifier.proofs.path.Path.pop.Goals as goal
