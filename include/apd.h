@@ -51,7 +51,7 @@ enum apd_number {
     APD_UNKNOWN_MAP = 19,    /* no such map */
     /* 30 to 38: what the verifier refuses; docs/REFUSALS.md explains each. */
     APD_REFUSED_FIRST = 30,
-    APD_TOO_MUCH = 36, /* it would examine too many states, or a check takes more work than its limit */
+    APD_TOO_MUCH = 36, /* it would examine too many states, or take more work than its limit */
     APD_REFUSED_LAST = 38,
     APD_NO_MEMORY = 40,
     APD_NO_SEAT = 62,        /* no seat at a map is left */
@@ -165,6 +165,8 @@ apd_answer apd_c_verify(apd_handle *code, uint32_t hook, const uint8_t *bytes, s
                         size_t maps);
 apd_answer apd_c_verify_within(apd_handle *code, uint32_t hook, const uint8_t *bytes, size_t length,
                                const apd_shape *shapes, size_t maps, uint32_t states);
+apd_answer apd_c_verify_limited(apd_handle *code, uint32_t hook, const uint8_t *bytes, size_t length,
+                                const apd_shape *shapes, size_t maps, uint32_t states, uint64_t work);
 uint32_t apd_c_budget(apd_handle *code);
 apd_answer apd_c_certify(apd_handle *certificate, apd_handle *code);
 apd_answer apd_c_check(apd_handle *code, uint32_t hook, const uint8_t *bytes, size_t length, const apd_shape *shapes,
@@ -249,6 +251,17 @@ APD_INLINE apd_answer apd_verify_within(apd_handle *code, uint32_t hook, const u
     if (!code || (!bytes && length) || (!shapes && maps))
         return apd_answer_of(APD_NULL);
     return apd_c_verify_within(code, hook, apd_some_bytes(bytes), length, apd_some_shapes(shapes), maps, states);
+}
+
+/* The same within a limit of work, too, which bounds what a stranger's program costs more closely than states do. A unit is
+   a part of a state that is examined, made again, or compared with a finished one: a register or a slot of the stack. A
+   program that needs more is refused with 36. 0 is for no limit. */
+APD_INLINE apd_answer apd_verify_limited(apd_handle *code, uint32_t hook, const uint8_t *bytes, size_t length,
+                                         const apd_shape *shapes, size_t maps, uint32_t states, uint64_t work)
+{
+    if (!code || (!bytes && length) || (!shapes && maps))
+        return apd_answer_of(APD_NULL);
+    return apd_c_verify_limited(code, hook, apd_some_bytes(bytes), length, apd_some_shapes(shapes), maps, states, work);
 }
 
 /* The most instructions that a run of the program takes; 0 where the handle holds none. */

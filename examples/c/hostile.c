@@ -83,6 +83,26 @@ static void hostile_limits(void)
     apd_free(&code);
 }
 
+static void hostile_work(void)
+{
+    apd_handle code = APD_EMPTY;
+    apd_shape odd = {1, 1, 5};
+
+    WANT(apd_verify_limited(NULL, APD_DATA, seven, 16, NULL, 0, 2, 160).number, APD_NULL);
+    WANT(apd_verify_limited(&code, APD_DATA, NULL, 16, NULL, 0, 2, 160).number, APD_NULL);
+    WANT(apd_verify_limited(&code, APD_DATA, seven, 16, &odd, 1, 2, 160).number, APD_OUT_OF_LIMITS);
+    WANT(apd_verify_limited(&code, APD_DATA, bare, 8, NULL, 0, 2, 160).number, 30);
+    WANT(apd_verify_limited(&code, APD_DATA, seven, 16, NULL, 0, 2, 159).number, APD_TOO_MUCH);
+    WANT(apd_verify_limited(&code, APD_DATA, seven, 16, NULL, 0, 1, 160).number, APD_TOO_MUCH);
+    WANT(apd_verify_limited(&code, APD_DATA, seven, 16, NULL, 0, 2, 160).number, APD_OK);
+    WANT(apd_verify_limited(&code, APD_DATA, seven, 16, NULL, 0, 2, 160).number, APD_NOT_EMPTY);
+    apd_free(&code);
+    WANT(apd_verify_limited(&code, APD_DATA, seven, 16, NULL, 0, 0, UINT64_MAX).number, APD_OK);
+    apd_free(&code);
+    WANT(apd_verify_limited(&code, APD_DATA, seven, 16, NULL, 0, 0, 0).number, APD_OK);
+    apd_free(&code);
+}
+
 static void hostile_reasons(void)
 {
     apd_shape odd = {1, 1, 5};
@@ -450,6 +470,7 @@ int main(void)
 {
     hostile_code();
     hostile_limits();
+    hostile_work();
     hostile_texts();
     hostile_reasons();
     hostile_certificate();

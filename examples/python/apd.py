@@ -78,7 +78,7 @@ _HANDLE = POINTER(_Handle)
 _SHAPES = POINTER(_Shape)
 _EVENT = [_HANDLE, _HANDLE, _HANDLE]
 _CALLS = {
-    "verify_within": (_Answer, [_HANDLE, c_uint32, c_char_p, c_size_t, _SHAPES, c_size_t, c_uint32]),
+    "verify_limited": (_Answer, [_HANDLE, c_uint32, c_char_p, c_size_t, _SHAPES, c_size_t, c_uint32, c_uint64]),
     "check_within": (_Answer, [_HANDLE, c_uint32, c_char_p, c_size_t, _SHAPES, c_size_t, c_char_p, c_size_t, c_uint64]),
     "why": (c_size_t, [c_uint32, c_char_p, c_size_t, _SHAPES, c_size_t, c_uint32, c_char_p, c_size_t]),
     "certify": (_Answer, [_HANDLE, _HANDLE]),
@@ -196,11 +196,12 @@ class Program(_Owner):
             return room.raw
 
 
-def verify(hook, code, shapes=(), states=0):
+def verify(hook, code, shapes=(), states=0, work=0):
     """Admits a program for a hook and maps of these shapes, or raises Refused. `states` is the most states that are
-    examined; 0 for no limit but the verifier's own."""
+    examined; 0 for no limit but the verifier's own. `work` is the most work that the verifier does: parts of states that
+    are examined, made again, or compared with a finished one; 0 for no limit."""
     program = Program(hook, shapes)
-    answer = _apd.apd_verify_within(byref(program._handle), hook, code, len(code), *_shapes_of(shapes), states)
+    answer = _apd.apd_verify_limited(byref(program._handle), hook, code, len(code), *_shapes_of(shapes), states, work)
     _admit(answer.number, answer.slot)
     return program
 

@@ -134,6 +134,8 @@ class Calls(unittest.TestCase):
         self.assertEqual((program.budget, again.budget), (2, 2))
         self.refused(30, apd.verify, apd.DATA, SEVEN[8:])
         self.refused(36, apd.verify, apd.DATA, SEVEN, states=1)
+        self.refused(36, apd.verify, apd.DATA, SEVEN, work=159)
+        self.assertEqual(apd.verify(apd.DATA, SEVEN, work=160).budget, 2)
         self.refused(36, apd.check, apd.DATA, SEVEN, program.certificate(), work=159)
         self.assertEqual(apd.check(apd.DATA, SEVEN, program.certificate(), work=160).budget, 2)
         self.refused(71, apd.check, apd.ADDBA, SEVEN, program.certificate())

@@ -1,5 +1,5 @@
 -- Certificates, as C sees them.
-use Rattle.std.specs.Prelude.{◌≡◌, ◌⊎◌, ◌==◌, if◌then◌else◌, ℕ, List, [], map, Option, Some, None}
+use Rattle.std.specs.Prelude.{◌≡◌, ◌⊎◌, ℕ, List, [], map, Option, Some, None}
 use Rattle.bpf_regions.specs.declared.hooks.Hook.{Hook}
 use Rattle.bpf_regions.specs.declared.maps.Shape.{Shape}
 use Rattle.bpf_regions.specs.Hooks.{number_of}
@@ -55,10 +55,6 @@ pub record IsUnshown (hook : Hook) (bytes : List ℕ) (shapes : List Shape) (cer
   pub fault : CertFault
   pub refuses : Refuses program hook certificate fault
   pub number : answer.number ≡ faults.number_of fault
-
--- the limit of work that C passes; 0 stands for none
-abbrev pub work_limit : ℕ → Option ℕ
-work_limit work = if work == 0 then None else Some work
 
 -- there is a limit of work, the work has passed it, and the answer is 36
 abbrev pub IsTooMuchWork : Option ℕ → Answer → Type 0

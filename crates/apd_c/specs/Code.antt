@@ -17,6 +17,8 @@ use Rattle.bpf_rules.specs.Faults as rules
 use Rattle.bpf_rules.specs.declared.fault.Fault.{Fault}
 use Rattle.bpf_rules.specs.declared.fault.Fault.TheVariants as fault
 use Rattle.bpf_verifier.specs.Limits.{nearest}
+use Rattle.bpf_verifier.specs.declared.refusal.Refusal.{Refusal}
+use Rattle.bpf_cert.specs.Limits.{HasPassedLimit}
 use Rattle.apd_c.specs.declared.answer.Answer.{Answer}
 use Rattle.apd_c.specs.declared.handle.Content.{Content}
 use Rattle.apd_c.specs.declared.handle.Content.TheVariants as content
@@ -27,6 +29,10 @@ use Rattle.apd_c.specs.Given.{IsAskable, shape_of}
 -- the limit of states that C passes; 0 stands for the verifier's own
 abbrev pub limit_of : ℕ → ℕ
 limit_of states = if states == 0 then 2 ^ 22 else nearest states
+
+-- the limit of work that C passes; 0 stands for none
+abbrev pub work_limit : ℕ → Option ℕ
+work_limit work = if work == 0 then None else Some work
 
 -- The program that these bytes spell, for maps of these shapes and a hook, safe within its budget, which is at most the
 -- limit of states.
@@ -45,22 +51,31 @@ pub record IsUndecoded (bytes : List ℕ) (shapes : List Shape) (answer : Answer
   pub number : answer.number ≡ fault_number fault
   pub slot : answer.slot ≡ fault_slot fault
 
--- The verifier refuses the program that the bytes spell, at a slot that begins an instruction. A program that is clear
--- by the rules within the limit of states is refused only for lack of memory; so is a plain one, if the limit is the
--- greatest.
-pub record IsUnsafe (bytes : List ℕ) (shapes : List Shape) (limit : ℕ) (answer : Answer) : Type 0 where
+-- lack of memory; or there is a limit of work, and the work has passed it
+abbrev pub IsMemoryOrWork : Option ℕ → Fault → Type 0
+IsMemoryOrWork work why = (why ≡ fault.NoMemory) ⊎ HasPassedLimit work
+
+-- Why the verifier refuses a program, at a slot that begins an instruction. A program that is clear by the rules within
+-- the limit of states is refused only for lack of memory, or of work if that is limited; so is a plain one, if the limit
+-- is the greatest.
+pub record IsUnsafe (program : Code) (limit : ℕ) (work : Option ℕ) (refusal : Refusal) : Type 0 where
+  pub begins : Begins program.slots refusal.pc
+  pub plain : limit ≡ 2 ^ 22 → IsPlain program.slots → IsMemoryOrWork work refusal.fault
+  pub clear : IsClear program entry_view limit → IsMemoryOrWork work refusal.fault
+
+-- The verifier refuses the program that the bytes spell.
+pub record IsRefusedCode (bytes : List ℕ) (shapes : List Shape) (limit : ℕ) (work : Option ℕ) (answer : Answer) : Type 0 where
   pub program : Code
   pub spells : Spells bytes program
   pub shapes_are : program.shapes ≡ shapes
-  pub why : Fault
-  pub begins : Begins program.slots answer.slot
-  pub plain : limit ≡ 2 ^ 22 → IsPlain program.slots → why ≡ fault.NoMemory
-  pub clear : IsClear program entry_view limit → why ≡ fault.NoMemory
-  pub number : answer.number ≡ rules.number_of why
+  pub refusal : Refusal
+  pub why : IsUnsafe program limit work refusal
+  pub number : answer.number ≡ rules.number_of refusal.fault
+  pub slot : answer.slot ≡ refusal.pc
 
 -- why bytes aren't admitted
-abbrev pub IsRefused : List ℕ → List Shape → ℕ → Answer → Type 0
-IsRefused bytes shapes limit answer = IsUndecoded bytes shapes answer ⊎ IsUnsafe bytes shapes limit answer
+abbrev pub IsRefused : List ℕ → List Shape → ℕ → Option ℕ → Answer → Type 0
+IsRefused bytes shapes limit work answer = IsUndecoded bytes shapes answer ⊎ IsRefusedCode bytes shapes limit work answer
 
 -- the content is an admitted program
 abbrev pub HoldsAdmitted : ℕ → List ℕ → List MapShape → ℕ → Option Content → Type 0
@@ -78,12 +93,12 @@ budget_of (Some (content.Code a)) = a.budget
 budget_of _ = 0
 
 -- 0, or why the program isn't admitted
-abbrev pub IsAdmittedOr : List ℕ → List Shape → ℕ → Answer → Type 0
-IsAdmittedOr bytes shapes limit a = (a ≡ answer 0) ⊎ IsRefused bytes shapes limit a
+abbrev pub IsAdmittedOr : List ℕ → List Shape → ℕ → Option ℕ → Answer → Type 0
+IsAdmittedOr bytes shapes limit work a = (a ≡ answer 0) ⊎ IsRefused bytes shapes limit work a
 
 -- The answer of filling an empty handle with a program: 92 exactly if it isn't empty; otherwise perhaps 40; otherwise
 -- 90 exactly if there is no such hook or the shapes are out of their limits; otherwise 0, or why the program isn't
 -- admitted.
-abbrev pub IsVerdict : ℕ → List ℕ → List MapShape → ℕ → Option Content → Answer → Type 0
-IsVerdict hook bytes shapes limit o =
-    UnlessNone o (answer 92) (Perhaps (answer 40) (Unless (IsAskable hook shapes) (answer 90) (IsAdmittedOr bytes (map shape_of shapes) limit)))
+abbrev pub IsVerdict : ℕ → List ℕ → List MapShape → ℕ → Option ℕ → Option Content → Answer → Type 0
+IsVerdict hook bytes shapes limit work o =
+    UnlessNone o (answer 92) (Perhaps (answer 40) (Unless (IsAskable hook shapes) (answer 90) (IsAdmittedOr bytes (map shape_of shapes) limit work)))

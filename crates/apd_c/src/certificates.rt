@@ -6,11 +6,11 @@ ghost use Rattle.bpf_regions.specs.Hooks.{number_of};
 ghost use Rattle.apd_c.specs.Answers.{UnlessSome, answer};
 ghost use Rattle.apd_c.specs.Held.{held};
 ghost use Rattle.apd_c.specs.Given.{IsAskable, shape_of};
-ghost use Rattle.apd_c.specs.Certificates.{IsShown, Certifies, HoldsCertificate, HoldsShown, IsUnshown, IsCertifiedOr, IsCertifyAnswer, IsCheckVerdict, IsTooMuchWork, bytes_of, work_limit};
-ghost use Rattle.apd_c.specs.Code.{IsUndecoded, code_of};
+ghost use Rattle.apd_c.specs.Certificates.{IsShown, Certifies, HoldsCertificate, HoldsShown, IsUnshown, IsCertifiedOr, IsCertifyAnswer, IsCheckVerdict, IsTooMuchWork, bytes_of};
+ghost use Rattle.apd_c.specs.Code.{IsUndecoded, code_of, work_limit};
 
 use crate::answer::{Answer, NO_MEMORY, NOT_EMPTY, OTHER_VALUE, OUT_OF_LIMITS, TOO_MUCH_WORK};
-use crate::code::hook_of;
+use crate::code::{hook_of, work_limit};
 use crate::handle::{Content, Handle};
 use crate::shapes::{MapShape, shapes_from};
 use bpf_cert::{WithinFault, certificate, check_within};
@@ -90,13 +90,6 @@ pub extern "C" fn apd_c_certify(
 struct Certificate<'a> {
     bytes: &'a [u8],
     most: Option<u64>,
-}
-
-/// The limit of work that C passes; 0 stands for none.
-fn work_limit(work: u64) -> Option<u64>
-    ensures { result ≡ work_limit work }
-{
-    if work == 0 { None } else { Some(work) }
 }
 
 /// The program that the bytes spell, if a certificate shows it safe within a budget.

@@ -33,7 +33,7 @@ pub use atomics::{
     apd_c_fetch_xor,
 };
 pub use certificates::{apd_c_certify, apd_c_check, apd_c_check_within, apd_c_read};
-pub use code::{apd_c_budget, apd_c_verify, apd_c_verify_within};
+pub use code::{apd_c_budget, apd_c_verify, apd_c_verify_limited, apd_c_verify_within};
 pub use crossing::handles_law;
 pub use events::{Station, apd_c_link_close, apd_c_link_frame, apd_c_link_kick, apd_c_link_tick};
 pub use explained::apd_c_explain;

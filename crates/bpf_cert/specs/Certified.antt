@@ -7,9 +7,11 @@ use Rattle.bpf_decode.specs.Program.{Code, Holds, Begins, Spells as SpellsCode}
 use Rattle.bpf_machine.specs.Verified.{Verified}
 use Rattle.bpf_absstate.specs.View.{entry_view}
 use Rattle.bpf_plain.specs.Clear.{IsClear}
+use Rattle.bpf_rules.specs.declared.fault.Fault.{Fault}
 use Rattle.bpf_rules.specs.declared.fault.Fault.TheVariants as fault
-use Rattle.bpf_prune.specs.Spending.{Tally}
+use Rattle.bpf_prune.specs.Spending.{Tally, CountsAll, HasPassed}
 use Rattle.bpf_verifier.specs.Admission.{IsRefusalAfter}
+use Rattle.bpf_verifier.specs.Causes.{IsDue}
 use Rattle.bpf_verifier.specs.Spent.{IsSpent}
 use Rattle.bpf_verifier.specs.Limits.{units_of}
 use Rattle.bpf_verifier.specs.declared.limit.Limits.{Limits}
@@ -62,11 +64,19 @@ pub record IsUncertified (program : Code) (limit : ℕ) (refusal : Refusal) : Ty
   pub begins : Begins program.slots refusal.pc
   pub clear : IsClear program entry_view limit → (refusal.fault ≡ fault.NoMemory) ⊎ (refusal.pc ≡ 0)
 
--- Why no certificate was made, with the work before and after: the exploration refused the program, or it is at slot 0.
+-- Why the states that were found gave no certificate, with the work after: lack of memory; 36, since the work has passed
+-- the limit; or 36, since they don't fit a certificate, or it doesn't show the program safe.
+pub data IsUnmade (new : Tally) (fault : Fault) : Type 0 where
+  ByMemory : fault ≡ fault.NoMemory → IsUnmade new fault
+  ByWork : fault ≡ fault.TooManyVisits → HasPassed new → IsUnmade new fault
+  Unfit : fault ≡ fault.TooManyVisits → IsUnmade new fault
+
+-- Why no certificate was made, with the work before and after: the exploration refused the program, for one of the causes
+-- of `IsDue`; or its states gave no certificate, which is refused at slot 0.
 pub data IsUncertifiedAfter (program : Code) (limit : ℕ) (old new : Tally) (refusal : Refusal) : Type 0 where
-  Unexplored : IsSpent limit old new → IsRefusalAfter program limit new refusal →
+  Unexplored : IsSpent limit old new → IsRefusalAfter program limit new refusal → IsDue program limit old new refusal →
       IsUncertifiedAfter program limit old new refusal
-  Unwritten : Begins program.slots refusal.pc → refusal.pc ≡ 0 →
+  Unwritten : Begins program.slots refusal.pc → refusal.pc ≡ 0 → IsUnmade new refusal.fault →
       IsUncertifiedAfter program limit old new refusal
 
 -- The same within limits of states and of work; some of the work may have been done before.
@@ -74,6 +84,7 @@ pub record IsUncertifiedWithin (program : Code) (limits : Limits) (refusal : Ref
   pub before : Tally
   pub tally : Tally
   pub most : before.most ≡ units_of limits.work
+  pub counted : CountsAll tally
   pub after : IsUncertifiedAfter program limits.states before tally refusal
 
 -- why bytes are refused: the first of these that applies; lack of memory says nothing

@@ -8,6 +8,10 @@ use Rattle.bpf_cert.specs.declared.limit.Stop.TheVariants as stop
 use Rattle.bpf_cert.specs.declared.limit.WithinFault.{WithinFault}
 use Rattle.bpf_cert.specs.declared.limit.WithinFault.TheVariants as within
 use Rattle.bpf_cert.specs.Faults.{number_of}
+use Rattle.bpf_cert_format.specs.declared.fault.WriteFault.{WriteFault}
+use Rattle.bpf_cert_format.specs.declared.fault.WriteFault.TheVariants as write
+use Rattle.bpf_rules.specs.declared.fault.Fault.{Fault}
+use Rattle.bpf_rules.specs.declared.fault.Fault.TheVariants as rule
 
 -- lack of memory; or of work, if it has passed the limit
 abbrev pub IsStop : Type 0 → Stop → Type 0
@@ -23,6 +27,20 @@ stopped stop.TooMuchWork = within.TooMuchWork
 abbrev pub number_within : WithinFault → ℕ
 number_within (within.Refused f) = number_of f
 number_within within.TooMuchWork = 36
+
+-- what a certificate's maker is told, where its entries aren't found, written or believed
+abbrev pub fault_of : Stop → Fault
+fault_of stop.NoMemory = rule.NoMemory
+fault_of stop.TooMuchWork = rule.TooManyVisits
+
+abbrev pub fault_written : WriteFault → Fault
+fault_written write.Memory = rule.NoMemory
+fault_written write.TooLarge = rule.TooManyVisits
+
+abbrev pub fault_within : WithinFault → Fault
+fault_within (within.Refused fault.NoMemory) = rule.NoMemory
+fault_within (within.Refused _) = rule.TooManyVisits
+fault_within within.TooMuchWork = rule.TooManyVisits
 
 -- P of the result as it is without a limit, or the work has passed the limit
 abbrev pub Within : {X : Type 0} → Type 0 → (Result X CertFault → Type 0) → Result X WithinFault → Type 0

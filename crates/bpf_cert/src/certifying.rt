@@ -1,7 +1,9 @@
 //! Makes certificates: explores an admitted program again, and writes down what was found.
 
 ghost use Rattle.std.specs.Prelude.{◌≡◌, ◌^◌, ℕ, IfOk, IfErr};
-ghost use Rattle.bpf_cert.specs.Certified.{Covered, IsCertificate, IsUncertified, IsUncertifiedAfter};
+ghost use Rattle.bpf_prune.specs.Spending.{CountsAll, HasPassed};
+ghost use Rattle.bpf_cert.specs.Certified.{Covered, IsCertificate, IsUncertified, IsUncertifiedAfter, IsUnmade};
+ghost use Rattle.bpf_cert.specs.Limits.{IsStop, fault_of, fault_within, fault_written};
 
 use crate::checking::certified_budget;
 use crate::describing::described;
@@ -38,7 +40,9 @@ fn entries_of(
     program: &Program,
     finished: &[Finished],
     work: &mut Work,
-) -> Result<Vec<Leaf>, Stop> {
+) -> Result<Vec<Leaf>, Stop>
+    ensures stop { IfErr result (IsStop (HasPassed work.new)) }
+{
     let claims = widened(alloc, program, finished, work)?;
     let mut entries = Vec::new(alloc);
     for mut of_slot in sifted(alloc, program, &claims, work)? {
@@ -67,7 +71,7 @@ fn at_start(fault: Fault) -> Refusal
 
 /// A refusal at the start, for entries that weren't found.
 fn unfound(stop: Stop) -> Refusal
-    ensures start { result.pc ≡ 0 }
+    ensures is { result ≡ record { fault = fault_of stop; pc = 0 } }
 {
     match stop {
         Stop::NoMemory => at_start(Fault::NoMemory),
@@ -77,7 +81,7 @@ fn unfound(stop: Stop) -> Refusal
 
 /// A refusal at the start, for bytes that turned out to be no certificate.
 fn unmade(fault: WithinFault) -> Refusal
-    ensures start { result.pc ≡ 0 }
+    ensures is { result ≡ record { fault = fault_within fault; pc = 0 } }
 {
     match fault {
         WithinFault::Refused(CertFault::NoMemory) => at_start(Fault::NoMemory),
@@ -86,7 +90,7 @@ fn unmade(fault: WithinFault) -> Refusal
 }
 
 fn unwritten(fault: WriteFault) -> Refusal
-    ensures start { result.pc ≡ 0 }
+    ensures is { result ≡ record { fault = fault_written fault; pc = 0 } }
 {
     match fault {
         WriteFault::Memory => at_start(Fault::NoMemory),
@@ -104,6 +108,7 @@ fn proved(
 ) -> Result<Vec<u8>, Refusal>
     ensures covered { IfOk result (λ made. (b : ℕ) × Covered program.now hook made.items b) }
     ensures start { IfErr result (λ e. e.pc ≡ 0) }
+    ensures why { IfErr result (λ e. IsUnmade work.new e.fault) }
 {
     match certified_budget(alloc, program, hook, bytes.as_slice(), work) {
         Ok(_) => Ok(bytes),
@@ -140,8 +145,9 @@ pub fn certificate_within(
 
 /// Like `certificate_within`, but `work` has a limit of work, and counts each unit before it is done: of the
 /// exploration as `verify_counted` does, and of making and checking the certificate as `check_counted` does. What was
-/// counted before stays. The states that are examined and the comparisons are together at most the units that are
-/// allowed.
+/// counted before stays. The states that are examined or made again, 80 units each at least, and the comparisons are
+/// within the units that are allowed. 36 is for too many states, more work than is allowed, or, at slot 0, states that
+/// give no certificate.
 pub fn certificate_counted(
     alloc: Global,
     accepted: &Accepted,
@@ -151,17 +157,24 @@ pub fn certificate_counted(
     ensures certificate { IfOk result (λ bytes. IsCertificate accepted.now bytes.items) }
     ensures refused { IfErr result
         (IsUncertifiedAfter accepted.now.code limit work.old work.new) }
+    ensures counted { CountsAll work.new }
 {
     let program = accepted.program();
     let hook = accepted.hook();
     program.whole();
     standing_law();
     let finished = explore_counted(alloc, program, limit, work)?;
-    match entries_of(alloc, program, &finished, work) {
+    let found = entries_of(alloc, program, &finished, work);
+    work.known();
+    match found {
         Err(stop) => Err(unfound(stop)),
         Ok(entries) => match written(alloc, program, hook, entries) {
             Err(fault) => Err(unwritten(fault)),
-            Ok(bytes) => proved(alloc, program, hook, bytes, work),
+            Ok(bytes) => {
+                let made = proved(alloc, program, hook, bytes, work);
+                work.known();
+                made
+            }
         },
     }
 }

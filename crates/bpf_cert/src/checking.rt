@@ -5,7 +5,7 @@ ghost use Rattle.std.specs.List.{All};
 ghost use Rattle.bpf_insn.specs.declared.insn.Insn.TheVariants.{CallLocal};
 ghost use Rattle.bpf_decode.specs.Program.{Begins};
 ghost use Rattle.bpf_model.specs.Run.{Safe};
-ghost use Rattle.bpf_prune.specs.Spending.{HasPassed};
+ghost use Rattle.bpf_prune.specs.Spending.{CountsAll, HasPassed};
 ghost use Rattle.bpf_absstate.specs.WellFormed.{IsView};
 ghost use Rattle.bpf_cert_format.specs.Fits.{FitsEntry};
 ghost use Rattle.bpf_cert.specs.Limits.{IsStop, Within, HasPassedLimit};
@@ -347,8 +347,8 @@ pub fn check_within(
 
 /// Like `check`, but `work` has a limit of work, as for `bpf_verifier::verify_counted`, and counts each unit before it is
 /// done: each part of a state that is examined, and of one that is compared with a claim. What was counted before stays.
-/// The states that are examined and the comparisons are together at most the units that are allowed. Refused with 36
-/// only if the work has passed the limit.
+/// The states that are examined, 80 units each at least, and the comparisons are within the units that are allowed.
+/// Refused with 36 only if the work has passed the limit.
 ///
 /// Besides that work the bytes are read, and each entry is compared with the start, in time in proportion to the bytes.
 pub fn check_counted(
@@ -364,8 +364,7 @@ pub fn check_counted(
     ensures err { Within (HasPassed work.new)
         (λ r. IfErr r (Refuses program hook bytes.now)) result }
     ensures most { work.new.most ≡ work.old.most }
-    ensures allowed { work.new.units ≤ work.old.most }
-    ensures together { work.new.examined + work.new.compared ≤ work.old.most }
+    ensures counted { CountsAll work.new }
 {
     let checked = admitted(alloc, program, hook, bytes, work);
     work.known();

@@ -1,6 +1,8 @@
 //! Finished states, without needless ones.
 
-ghost use Rattle.std.specs.Prelude.{◌≤◌};
+ghost use Rattle.std.specs.Prelude.{◌≤◌, IfErr};
+ghost use Rattle.bpf_prune.specs.Spending.{HasPassed};
+ghost use Rattle.bpf_cert.specs.Limits.{IsStop};
 
 use crate::claims::Claims;
 use crate::limit::{Meter, Stop};
@@ -13,7 +15,9 @@ const NEWEST: usize = 64;
 
 /// Whether one finished state can replace the other: it includes it, and its budget isn't greater. The parts of the
 /// state that is compared count as work.
-fn serves(one: &Entry, other: &Entry, work: &mut Work) -> Result<bool, Stop> {
+fn serves(one: &Entry, other: &Entry, work: &mut Work) -> Result<bool, Stop>
+    ensures stop { IfErr result (IsStop (HasPassed work.new)) }
+{
     if one.budget > other.budget {
         return Ok(false);
     }
@@ -23,7 +27,9 @@ fn serves(one: &Entry, other: &Entry, work: &mut Work) -> Result<bool, Stop> {
 }
 
 /// Whether one of the newest of these states can replace a new one.
-fn is_served(kept: &[Entry], entry: &Entry, work: &mut Work) -> Result<bool, Stop> {
+fn is_served(kept: &[Entry], entry: &Entry, work: &mut Work) -> Result<bool, Stop>
+    ensures stop { IfErr result (IsStop (HasPassed work.new)) }
+{
     for one in kept.iter().rev().take(NEWEST) {
         if serves(one, entry, work)? {
             return Ok(true);
@@ -33,7 +39,9 @@ fn is_served(kept: &[Entry], entry: &Entry, work: &mut Work) -> Result<bool, Sto
 }
 
 /// Removes those of the newest states that a new one can replace.
-fn give_up(kept: &mut Vec<Entry>, entry: &Entry, work: &mut Work) -> Result<(), Stop> {
+fn give_up(kept: &mut Vec<Entry>, entry: &Entry, work: &mut Work) -> Result<(), Stop>
+    ensures stop { IfErr result (IsStop (HasPassed work.new)) }
+{
     let first = kept.len().saturating_sub(NEWEST);
     for at in (first..kept.len()).rev() {
         if at < kept.len() && serves(entry, &kept[at], work)? {
@@ -43,7 +51,9 @@ fn give_up(kept: &mut Vec<Entry>, entry: &Entry, work: &mut Work) -> Result<(), 
     Ok(())
 }
 
-fn add(kept: &mut Vec<Entry>, entry: Entry, work: &mut Work) -> Result<(), Stop> {
+fn add(kept: &mut Vec<Entry>, entry: Entry, work: &mut Work) -> Result<(), Stop>
+    ensures stop { IfErr result (IsStop (HasPassed work.new)) }
+{
     if is_served(kept.as_slice(), &entry, work)? {
         return Ok(());
     }
@@ -67,7 +77,9 @@ pub(crate) fn sifted(
     program: &Program,
     claims: &Claims,
     work: &mut Work,
-) -> Result<Vec<Vec<Entry>>, Stop> {
+) -> Result<Vec<Vec<Entry>>, Stop>
+    ensures stop { IfErr result (IsStop (HasPassed work.new)) }
+{
     let mut table = empty_table(alloc, program.len())?;
     for place in 0..claims.len() {
         let claim = claims.claim(place)?;

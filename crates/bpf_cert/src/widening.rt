@@ -1,6 +1,8 @@
 //! Finished states that say no more than their checks need.
 
-ghost use Rattle.std.specs.Prelude.{◌<◌};
+ghost use Rattle.std.specs.Prelude.{◌<◌, IfErr};
+ghost use Rattle.bpf_prune.specs.Spending.{HasPassed};
+ghost use Rattle.bpf_cert.specs.Limits.{IsStop};
 
 use crate::claim::Claim;
 use crate::claims::Claims;
@@ -165,7 +167,9 @@ struct Trial<'a> {
 
 impl Trial<'_> {
     /// Whether the state still leads to claims within its budget.
-    fn passes(self, cut: Cut, work: &mut Work) -> Result<bool, Stop> {
+    fn passes(self, cut: Cut, work: &mut Work) -> Result<bool, Stop>
+        ensures stop { IfErr result (IsStop (HasPassed work.new)) }
+    {
         let claim = Claim {
             state: without(self.alloc, self.state, cut)?,
             budget: self.budget,
@@ -177,6 +181,7 @@ impl Trial<'_> {
     /// Omits as much of one register as possible.
     fn cut_register(self, cut: Cut, number: u8, work: &mut Work) -> Result<Cut, Stop>
         requires { number < 10 }
+        ensures stop { IfErr result (IsStop (HasPassed work.new)) }
     {
         let unset = Cut {
             unset: cut.unset | 1 << number,
@@ -197,7 +202,9 @@ impl Trial<'_> {
     }
 
     /// Omits as much of the registers as possible.
-    fn cut_registers(self, cut: Cut, work: &mut Work) -> Result<Cut, Stop> {
+    fn cut_registers(self, cut: Cut, work: &mut Work) -> Result<Cut, Stop>
+        ensures stop { IfErr result (IsStop (HasPassed work.new)) }
+    {
         let mut cut = cut;
         for number in 0..10 {
             cut = self.cut_register(cut, number, work)?;
@@ -208,6 +215,7 @@ impl Trial<'_> {
     /// Omits a slot of the newest stack, if possible.
     fn cut_slot(self, cut: Cut, index: u8, work: &mut Work) -> Result<Cut, Stop>
         requires { index < 64 }
+        ensures stop { IfErr result (IsStop (HasPassed work.new)) }
     {
         let less = Cut {
             slots: cut.slots | 1 << index,
@@ -221,7 +229,9 @@ impl Trial<'_> {
     }
 
     /// Omits as many slots of the newest stack as possible.
-    fn cut_slots(self, cut: Cut, work: &mut Work) -> Result<Cut, Stop> {
+    fn cut_slots(self, cut: Cut, work: &mut Work) -> Result<Cut, Stop>
+        ensures stop { IfErr result (IsStop (HasPassed work.new)) }
+    {
         let mut cut = cut;
         for index in 0..64 {
             cut = self.cut_slot(cut, index, work)?;
@@ -230,7 +240,9 @@ impl Trial<'_> {
     }
 
     /// What can be omitted. What was last omitted at its slot, if anything, is tried first.
-    fn cut(self, before: Cut, work: &mut Work) -> Result<Cut, Stop> {
+    fn cut(self, before: Cut, work: &mut Work) -> Result<Cut, Stop>
+        ensures stop { IfErr result (IsStop (HasPassed work.new)) }
+    {
         if before != WHOLE && self.passes(before, work)? {
             return Ok(before);
         }
@@ -255,7 +267,9 @@ pub(crate) fn widened(
     program: &Program,
     finished: &[Entry],
     work: &mut Work,
-) -> Result<Claims, Stop> {
+) -> Result<Claims, Stop>
+    ensures stop { IfErr result (IsStop (HasPassed work.new)) }
+{
     let mut claims = Claims::new(alloc, program.len())?;
     let mut cuts = vec![in alloc; WHOLE; program.len()]?;
     for one in finished {

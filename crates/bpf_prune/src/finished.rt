@@ -76,6 +76,7 @@ impl Finished {
             (λ budget. IfSome budget (Covers (kept_at self.now state.now.pc) state.now)) }
         ensures most { work.new.most ≡ work.old.most }
         ensures examined { work.new.examined ≡ work.old.examined }
+        ensures remade { work.new.remade ≡ work.old.remade }
         ensures compared { OnOk result
             (work.new.compared
             ≡ work.old.compared + comparisons (kept_at self.now state.now.pc) state.now) }

@@ -102,6 +102,7 @@ fn whole_difference(
     ensures some { IfOk result (λ o. OnSome o (state_included state.now other.now ≡ false)) }
     ensures most { work.new.most ≡ work.old.most }
     ensures examined { work.new.examined ≡ work.old.examined }
+    ensures remade { work.new.remade ≡ work.old.remade }
     ensures compared { work.new.compared ≡ work.old.compared }
     ensures done { OnOk result (work.new.units ≡ work.old.units + parts state.now) }
     ensures few { work.new.units ≤ work.old.units + 563 }
@@ -141,6 +142,7 @@ impl Marked {
             (λ o. OnSome o (state_included state.now self.now.state ≡ false)) }
         ensures most { work.new.most ≡ work.old.most }
         ensures examined { work.new.examined ≡ work.old.examined }
+        ensures remade { work.new.remade ≡ work.old.remade }
         ensures compared { OnOk result (work.new.compared ≡ work.old.compared + 1) }
         ensures few { work.new.units ≤ work.old.units + 569 }
         ensures whole { IfOk result
@@ -178,6 +180,7 @@ impl Marked {
         ensures is { IfOk result (λ told. told ≡ state_included state.now self.now.state) }
         ensures most { work.new.most ≡ work.old.most }
         ensures examined { work.new.examined ≡ work.old.examined }
+        ensures remade { work.new.remade ≡ work.old.remade }
         ensures compared { OnOk result (work.new.compared ≡ work.old.compared + 1) }
         ensures few { work.new.units ≤ work.old.units + 569 }
         ensures passed { OnErr result (HasPassed work.new) }
@@ -271,6 +274,7 @@ impl Kept {
         ensures covers { IfOk result (λ budget. IfSome budget (Covers self.now state.now)) }
         ensures most { work.new.most ≡ work.old.most }
         ensures examined { work.new.examined ≡ work.old.examined }
+        ensures remade { work.new.remade ≡ work.old.remade }
         ensures compared { OnOk result
             (work.new.compared ≡ work.old.compared + comparisons self.now state.now) }
         ensures few { work.new.units ≤ work.old.units + 36416 }

@@ -1,9 +1,9 @@
 //! Work, counted in units before it is done, with a limit.
 //!
 //! One unit is one part of a state that is looked at: a register, or of a call frame its return slot, one of the
-//! caller's R6 to R9, or a slot of its stack. A state that is examined counts all its parts. So does a comparison of a
-//! state with a kept one, if none of six parts decides it; before, it counts those. A comparison with a claim of a
-//! certificate counts two parts before all.
+//! caller's R6 to R9, or a slot of its stack. A state that is examined, or made again, counts all its parts. So does a
+//! comparison of a state with a kept one, if none of six parts decides it; before, it counts those. A comparison with a
+//! claim of a certificate counts two parts before all.
 
 ghost use Rattle.std.specs.Prelude.{◌≡◌, ◌+◌, ◌*◌, ◌≤◌, OnOk, OnErr};
 ghost use Rattle.bpf_prune.specs.Spending.{HasPassed, parts, unspent};
@@ -24,6 +24,8 @@ pub struct Work {
     units: u64,
     /// The states that were examined.
     examined: u64,
+    /// How many times an examined state was made again.
+    remade: u64,
     /// The comparisons of a state with another one.
     compared: u64,
     /// The units of the piece that was refused last; 0 if none was.
@@ -40,11 +42,12 @@ impl Model for Work {
       most = a.most;
       units = a.units;
       examined = a.examined;
+      remade = a.remade;
       compared = a.compared;
       refused = a.refused;
     } };
 
-    ghost invariant = { λ a. (a.units ≤ a.most) × (80 * a.examined + a.compared ≤ a.units) };
+    ghost invariant = { λ a. (a.units ≤ a.most) × (80 * (a.examined + a.remade) + a.compared ≤ a.units) };
 }
 
 /// How many parts a state has, 80 to 563.
@@ -65,6 +68,7 @@ impl Work {
             most,
             units: 0,
             examined: 0,
+            remade: 0,
             compared: 0,
             refused: 0,
         }
@@ -81,7 +85,7 @@ impl Work {
     /// Does nothing; its contract gives a proof what holds of all work.
     pub fn known(&self)
         ensures allowed { self.now.units ≤ self.now.most }
-        ensures counted { 80 * self.now.examined + self.now.compared ≤ self.now.units }
+        ensures counted { 80 * (self.now.examined + self.now.remade) + self.now.compared ≤ self.now.units }
     {
         let _most = self.most;
     }
@@ -91,6 +95,7 @@ impl Work {
         requires small { units ≤ 563 }
         ensures most { self.new.most ≡ self.old.most }
         ensures examined { self.new.examined ≡ self.old.examined }
+        ensures remade { self.new.remade ≡ self.old.remade }
         ensures compared { self.new.compared ≡ self.old.compared }
         ensures done { OnOk result (self.new.units ≡ self.old.units + units) }
         ensures same { OnErr result (self.new.units ≡ self.old.units) }
@@ -104,28 +109,11 @@ impl Work {
         Ok(())
     }
 
-    /// Counts any number of units. Refused if that passes the limit; then as many are counted as it allows.
-    pub fn spend_many(&mut self, units: u64) -> Result<(), TooMuchWork>
-        ensures most { self.new.most ≡ self.old.most }
-        ensures examined { self.new.examined ≡ self.old.examined }
-        ensures compared { self.new.compared ≡ self.old.compared }
-        ensures done { OnOk result (self.new.units ≡ self.old.units + units) }
-        ensures few { self.new.units ≤ self.old.units + units }
-        ensures passed { OnErr result (HasPassed self.new) }
-    {
-        let allowed = self.most - self.units;
-        self.units += units.min(allowed);
-        if allowed < units {
-            self.refused = 1;
-            return Err(TooMuchWork);
-        }
-        Ok(())
-    }
-
     /// Counts a state before it is examined: each of its parts is a unit. Refused if that passes the limit.
     pub fn examine(&mut self, state: &AbsState) -> Result<(), TooMuchWork>
         ensures most { self.new.most ≡ self.old.most }
         ensures examined { OnOk result (self.new.examined ≡ self.old.examined + 1) }
+        ensures remade { self.new.remade ≡ self.old.remade }
         ensures compared { self.new.compared ≡ self.old.compared }
         ensures done { OnOk result (self.new.units ≡ self.old.units + parts state.now) }
         ensures few { self.new.units ≤ self.old.units + 563 }
@@ -138,11 +126,30 @@ impl Work {
         Ok(())
     }
 
+    /// Counts a state before it is made again: each of its parts is a unit. Refused if that passes the limit.
+    pub fn remake(&mut self, state: &AbsState) -> Result<(), TooMuchWork>
+        ensures most { self.new.most ≡ self.old.most }
+        ensures examined { self.new.examined ≡ self.old.examined }
+        ensures remade { OnOk result (self.new.remade ≡ self.old.remade + 1) }
+        ensures compared { self.new.compared ≡ self.old.compared }
+        ensures done { OnOk result (self.new.units ≡ self.old.units + parts state.now) }
+        ensures few { self.new.units ≤ self.old.units + 563 }
+        ensures same { OnErr result (self.new.units ≡ self.old.units) }
+        ensures none { OnErr result (self.new.remade ≡ self.old.remade) }
+        ensures passed { OnErr result (HasPassed self.new) }
+    {
+        self.known();
+        self.spend(parts_of(state))?;
+        self.remade += 1;
+        Ok(())
+    }
+
     /// Counts a comparison of a state with another one, and the part that is compared first. Refused if that passes the
     /// limit.
     pub fn compare(&mut self) -> Result<(), TooMuchWork>
         ensures most { self.new.most ≡ self.old.most }
         ensures examined { self.new.examined ≡ self.old.examined }
+        ensures remade { self.new.remade ≡ self.old.remade }
         ensures compared { OnOk result (self.new.compared ≡ self.old.compared + 1) }
         ensures done { OnOk result (self.new.units ≡ self.old.units + 1) }
         ensures same { OnErr result (self.new.units ≡ self.old.units) }

@@ -5,7 +5,7 @@ use Rattle.bpf_model.specs.Run.{Safe}
 use Rattle.bpf_absstate.specs.View.{entry_view}
 use Rattle.bpf_plain.specs.Clear.{IsClear}
 use Rattle.bpf_plain.specs.Walks.{IsPlain, HasWalk}
-use Rattle.bpf_prune.specs.Spending.{Tally, HasPassed, unspent}
+use Rattle.bpf_prune.specs.Spending.{Tally, CountsAll, HasPassed, unspent}
 use Rattle.bpf_rules.specs.declared.fault.Fault.TheVariants.{NoMemory}
 use Rattle.bpf_rules.specs.declared.fault.Fault.{Fault}
 use Rattle.bpf_verifier.specs.Admission.{IsSafeBudget, IsRefusal, IsRefusalAfter, IsRefusalWithin}
@@ -33,11 +33,11 @@ starved_after program limit w begins = record { begins = begins; plain = λ most
 
 -- no work is done
 pub spends_none : (limit : ℕ) (w : Tally) → IsSpent limit w w
-spends_none limit w = record { few = omega arith; units = omega arith; most = refl }
+spends_none limit w = record { few = omega arith; units = omega arith; again = omega arith; most = refl }
 
 -- ample work is never passed
 never_passed : (limits : Limits) (w : Tally) → IsAmple limits → IsSpent limits.states (unspent (units_of limits.work)) w → HasPassed w → ⊥
-never_passed limits w ample spent passed = omega (arith, ample, spent.few, spent.units, spent.most, passed.passes, passed.small)
+never_passed limits w ample spent passed = omega (arith, ample, spent.few, spent.units, spent.again, spent.most, passed.passes, passed.small)
 
 pub by_memory : (limits : Limits) (w : Tally) (fault : Fault) → IsAmple limits → IsSpent limits.states (unspent (units_of limits.work)) w → IsMemoryOrPassed fault w → fault ≡ NoMemory
 by_memory limits w fault ample spent (inl memory) = memory
@@ -63,21 +63,22 @@ explains program limits (Err e) ample h = h
 pub ample_most : (states : ℕ) → IsStateLimit states → IsAmple (record { states = states; work = None })
 ample_most states limit = omega (arith, limit.0, limit.1)
 
-pub withins : {X : Type 0} (program : Code) (limits : Limits) (w : Tally) (r : Result X Refusal) → IsSpent limits.states (unspent (units_of limits.work)) w → IfErr r (IsRefusalAfter program limits.states w) → IfErr r (IsDue program limits.states (unspent (units_of limits.work)) w)
+pub withins : {X : Type 0} (program : Code) (limits : Limits) (w : Tally) (r : Result X Refusal) → IsSpent limits.states (unspent (units_of limits.work)) w → CountsAll w → IfErr r (IsRefusalAfter program limits.states w) → IfErr r (IsDue program limits.states (unspent (units_of limits.work)) w)
     → IfErr r (IsRefusalWithin program limits)
-withins program limits w (Ok x) spent after due = after
-withins program limits w (Err e) spent after due = record { tally = w; spent = spent; after = after; due = due }
+withins program limits w (Ok x) spent counted after due = after
+withins program limits w (Err e) spent counted after due = record { tally = w; spent = spent; counted = counted; after = after; due = due }
 
 pub budgets : (program : Code) (limit : ℕ) (r : Result ℕ Refusal) → IfOk r (Safe program.slots program.shapes) → IfOk r (λ b. b ≤ limit)
     → IfOk r (λ b. IsPlain program.slots → HasWalk program.slots b) → IfOk r (IsSafeBudget program limit)
 budgets program limit (Ok budget) safe small walk = record { safe = safe; small = small; walk = walk }
 budgets program limit (Err e) safe small walk = safe
 
-pub refusal_within : (program : Code) (limits : Limits) (w : Tally) (e : Refusal) → PlainIsClear program → IsSpent limits.states (unspent (units_of limits.work)) w → Begins program.slots e.pc
+pub refusal_within : (program : Code) (limits : Limits) (w : Tally) (e : Refusal) → PlainIsClear program → IsSpent limits.states (unspent (units_of limits.work)) w → CountsAll w → Begins program.slots e.pc
     → (IsClear program entry_view limits.states → IsMemoryOrPassed e.fault w) → IsDue program limits.states (unspent (units_of limits.work)) w e → IsRefusalWithin program limits e
-refusal_within program limits w e law spent begins clear due = record {
+refusal_within program limits w e law spent counted begins clear due = record {
   tally = w;
   spent = spent;
+  counted = counted;
   after = refusal_after program limits.states w e law begins clear;
   due = due;
 }
@@ -86,11 +87,12 @@ pub starved_within : (program : Code) (limits : Limits) → Begins program.slots
 starved_within program limits begins = record {
   tally = unspent (units_of limits.work);
   spent = spends_none limits.states (unspent (units_of limits.work));
+  counted = record { allowed = omega arith; all = omega arith };
   after = starved_after program limits.states (unspent (units_of limits.work)) begins;
   due = ByMemory refl;
 }
 
-pub refusals : (program : Code) (limits : Limits) (w : Tally) (r : Result ℕ Refusal) → PlainIsClear program → IsSpent limits.states (unspent (units_of limits.work)) w → IfErr r (λ e. Begins program.slots e.pc)
+pub refusals : (program : Code) (limits : Limits) (w : Tally) (r : Result ℕ Refusal) → PlainIsClear program → IsSpent limits.states (unspent (units_of limits.work)) w → CountsAll w → IfErr r (λ e. Begins program.slots e.pc)
     → IfErr r (λ e. IsClear program entry_view limits.states → IsMemoryOrPassed e.fault w) → IfErr r (IsDue program limits.states (unspent (units_of limits.work)) w) → IfErr r (IsRefusalWithin program limits)
-refusals program limits w (Ok budget) law spent begins clear due = begins
-refusals program limits w (Err e) law spent begins clear due = refusal_within program limits w e law spent begins clear due
+refusals program limits w (Ok budget) law spent counted begins clear due = begins
+refusals program limits w (Err e) law spent counted begins clear due = refusal_within program limits w e law spent counted begins clear due

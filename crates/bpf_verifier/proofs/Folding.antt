@@ -1,10 +1,14 @@
 -- Folded frames.
-use Rattle.std.proofs.Common.{◌≡◌, ℕ, zero, suc, ◌+◌, List, [], ◌∷◌, ◌++◌, take, drop, refl, sym, ap, ◌∙◌, Some, arith, append_assoc}
-use Rattle.std.specs.Prelude.{map, slice_get}
-use Rattle.std.proofs.lemmas.List.{append-nil}
+use Rattle.std.proofs.Common.{◌≡◌, ◌<◌, ◌≤◌, ℕ, zero, suc, ◌+◌, ◌-◌, length, get_or, set, List, [], ◌∷◌, ◌++◌, take, drop, refl, sym, subst, ap, ◌∙◌, inl, inr, Option, Some, None, IfSome, arith, append_assoc}
+use Rattle.std.specs.Prelude.{map, slice_get, is_some, false}
+use Rattle.std.proofs.lemmas.List.{append-nil, length-take-le, length-map, take_all, take-map, take-append-drop, length-append, take_more, set_split, drop_all}
+use Rattle.bpf_absstate.specs.View.{View}
+use Rattle.bpf_verifier.specs.Counting.{weight, states_from}
+use Rattle.bpf_verifier.proofs.Counts.{weight_push}
+use Rattle.bpf_verifier.proofs.Tracing.{same_frame}
 use Rattle.bpf_verifier.specs.declared.frame.Frame.{Frame}
 use Rattle.bpf_verifier.specs.declared.fold.Outline.{Outline}
-use Rattle.bpf_verifier.specs.Folded.{outline_of, unfolded}
+use Rattle.bpf_verifier.specs.Folded.{outline_of, unfolded, with_state, IsTaken, IsFolded, BeginsWith}
 
 pub unfolded_push : (rest : List (List Frame)) (fs : List Frame) → unfolded (rest ++ fs ∷ []) ≡ unfolded rest ++ fs
 unfolding unfolded
@@ -104,3 +108,161 @@ folded_more root older newer o fold folds more e same nothing =
     ap (λ x. root ++ (unfolded x ++ (o ++ newer))) e ∙ ap (λ x. root ++ (x ++ (o ++ newer))) (unfolded_push folds fold)
     ∙ ap (λ x. root ++ ((unfolded folds ++ x) ++ (o ++ newer))) same ∙ ap (λ x. root ++ ((unfolded folds ++ older) ++ (x ++ newer))) nothing
     ∙ ap (λ x. root ++ x) (append_assoc (unfolded folds) older newer)
+
+pub pushed_some : (fs : List Frame) (f : Frame) → 0 < length (fs ++ f ∷ [])
+pushed_some [] f = omega arith
+pushed_some (g ∷ fs) f = omega arith
+
+-- the number of states on parts of the path
+pub weight_from : (fs : List Frame) (after : ℕ) → weight fs after ≡ weight fs 0 + after
+unfolding weight
+weight_from [] after = omega arith
+weight_from (g ∷ fs) after = let k = weight_from fs after in omega (arith, k)
+
+weight_append : (fs gs : List Frame) → weight (fs ++ gs) 0 ≡ weight fs 0 + weight gs 0
+unfolding weight
+weight_append [] gs = omega arith
+weight_append (f ∷ fs) gs = let k = weight_append fs gs in omega (arith, k)
+
+pub states_push : (fs : List Frame) (f : Frame) → 0 < length fs → states_from (fs ++ f ∷ []) ≡ states_from fs + (f.before + 1)
+states_push [] f some = absurd (omega (arith, some))
+states_push (g ∷ fs) f some =
+    let k = weight_push fs f 0 in
+    let m = weight_from fs f.before in
+    omega (arith, k, m)
+
+pub states_few : (fs : List Frame) → states_from fs ≤ weight fs 0
+unfolding weight
+states_few [] = omega arith
+states_few (f ∷ fs) = omega arith
+
+-- a part has at most all states of the path
+pub states_part : (items fs gs : List Frame) → items ≡ fs ++ gs → states_from gs ≤ weight items 0
+states_part items fs gs e =
+    let k = weight_append fs gs in
+    let few = states_few gs in
+    let same : weight items 0 ≡ weight (fs ++ gs) 0 = ap (λ x. weight x 0) e in
+    omega (arith, k, few, same)
+
+states_front : (fs gs : List Frame) → states_from fs ≤ states_from (fs ++ gs)
+states_front [] gs = omega arith
+states_front (f ∷ fs) gs = let k = weight_append fs gs in omega (arith, k)
+
+pub states_taken : (all : List Frame) (k : ℕ) → states_from (take k all) ≤ states_from all
+states_taken all k = subst (λ x. states_from (take k all) ≤ states_from x) (take-append-drop k all) (states_front (take k all) (drop k all))
+
+-- the newest frame, taken as it is
+pub taken_whole : (old new : List Frame) (f : Frame) → old ≡ new ++ f ∷ [] → IsTaken old new f
+taken_whole old new f e = record { state = f.state; last = e; same = inl refl }
+
+-- a frame with a pending successor is taken with its state
+pub taken_state : (old new : List Frame) (f : Frame) (a : View) → f.pending ≡ Some a → (t : IsTaken old new f) → f.state ≡ t.state
+taken_state old new f a some t = elim t.same [ inl e ↦ e | inr none ↦ let e : Some a ≡ None = sym some ∙ none.1 in cc ]
+
+-- what holds of the frame's state on the path holds of the state that is taken
+pub taken_own : (old new : List Frame) (f : Frame) (P : View → Type 0) (t : IsTaken old new f) → IfSome t.state P → IfSome f.state P
+taken_own old new f P t h =
+    elim t.same [ inl e ↦ subst (λ o. IfSome o P) (sym e) h | inr none ↦ subst (λ o. IfSome o P) (sym none.0) tt ]
+
+begins_front : (a : View) (fs gs : List Frame) → 0 < length fs → BeginsWith a (fs ++ gs) → BeginsWith a fs
+begins_front a [] gs some h = absurd (omega (arith, some))
+begins_front a (f ∷ fs) gs some h = h
+
+take_front : (n k : ℕ) (xs : List Frame) → k ≤ n → take k (take n xs) ≡ take k xs
+take_front n zero [] le = refl
+take_front n zero (x ∷ xs) le = refl
+take_front zero (suc k) xs le = absurd (omega (arith, le))
+take_front (suc n) (suc k) [] le = refl
+take_front (suc n) (suc k) (x ∷ xs) le = ap (λ ys. x ∷ ys) (take_front n k xs (omega (arith, le)))
+
+-- a fold without its newest frame
+pub record LeftOut (first : View) (fs : List Frame) (new : List Outline) (all : List Frame) (o : Outline) : Type 0 where
+  pub frame : Frame
+  pub same : o ≡ outline_of frame
+  pub last : all ≡ take (length new) fs ++ frame ∷ []
+  pub folded : IsFolded first new (take (length new) fs)
+
+pub left_out : (first : View) (fs : List Frame) (os new : List Outline) (o : Outline) → IsFolded first os (take (length os) fs) → slice_get os (length os - 1) ≡ Some o → new ≡ take (length os - 1) os → 1 < length os →
+    LeftOut first fs new (take (length os) fs) o
+left_out first fs os new o folded at e many =
+    let all : List Frame = take (length os) fs in
+    let k : ℕ = length os - 1 in
+    let r = peeled all k o (subst (λ x. slice_get x k ≡ Some o) folded.same at) in
+    let size : length os ≡ length all = ap length folded.same ∙ length-map all outline_of in
+    let few : length all ≤ k + 1 = omega (arith, size) in
+    let new_size : length new ≡ k = ap length e ∙ length-take-le k os (omega arith) in
+    let front : take k all ≡ take (length new) fs = take_front (length os) k fs (omega arith) ∙ ap (λ n. take n fs) (sym new_size) in
+    let split : all ≡ take (length new) fs ++ r.0 ∷ [] = sym (take_all (k + 1) all few) ∙ r.3 ∙ ap (λ x. x ++ r.0 ∷ []) front in
+    let some : 0 < length (take k all) = let n = length-take-le k all (omega (arith, size)) in omega (arith, n, many) in
+    record {
+      frame = r.0;
+      same = r.2;
+      last = split;
+      folded = record {
+        begins = begins_front first (take (length new) fs) (r.0 ∷ []) (subst (λ x. 0 < length x) front some) (subst (BeginsWith first) split folded.begins);
+        same = e ∙ ap (take k) folded.same ∙ take-map outline_of k all ∙ ap (map outline_of) front;
+      };
+    }
+
+pub pushed_length : (items fs : List Frame) (f : Frame) → items ≡ fs ++ f ∷ [] → length items ≡ length fs + 1
+pushed_length items fs f e = ap length e ∙ length-append fs (f ∷ [])
+
+-- the states on the path are at most the visits
+pub remade_few : (fs : List Frame) (after done visits : ℕ) → done + weight fs after ≤ visits → weight fs 0 ≤ visits
+remade_few fs after done visits paid = let k = weight_from fs after in omega (arith, k, paid)
+
+-- the newest fold, and what is written over it
+pub folded_last : (folds : List (List Frame)) (n : ℕ) (fold new : List Frame) → length folds ≡ n + 1 → fold ≡ get_or folds n fold →
+    (folds ≡ take n folds ++ fold ∷ []) × (set folds n new ≡ take n folds ++ new ∷ [])
+folded_last folds n fold new size is =
+    let lt : n < length folds = omega (arith, size) in
+    let few : length folds ≤ n + 1 = omega (arith, size) in
+    let past : length folds ≤ suc n = omega (arith, size) in (
+      sym (take_all (n + 1) folds few) ∙ take_more folds n fold lt ∙ ap (λ x. take n folds ++ x ∷ []) (sym is),
+      set_split folds n new lt ∙ ap (λ x. take n folds ++ new ∷ x) (drop_all (suc n) folds past),
+    )
+
+-- the newest frame of the newest fold is taken
+pub taken_of_fold : (folds left rest : List (List Frame)) (fold new : List Frame) (f : Frame) → folds ≡ rest ++ fold ∷ [] → left ≡ rest ++ new ∷ [] → IsTaken fold new f → IsTaken (unfolded folds) (unfolded left) f
+taken_of_fold folds left rest fold new f e e2 t =
+    let g : Frame = with_state f t.state in
+    record {
+      state = t.state;
+      last = ap unfolded e ∙ unfolded_push rest fold ∙ ap (λ x. unfolded rest ++ x) t.last ∙ sym (append_assoc (unfolded rest) new (g ∷ []))
+          ∙ ap (λ x. x ++ g ∷ []) (sym (ap unfolded e2 ∙ unfolded_push rest new));
+      same = t.same;
+    }
+
+-- the newest frame of the folds is taken, where none is after them
+pub taken_of_folds : (root folds left older newer o n : List Frame) (f : Frame) → older ≡ [] → newer ≡ [] → o ≡ [] → n ≡ [] → IsTaken folds left f →
+    IsTaken (root ++ (folds ++ (older ++ newer))) (root ++ (left ++ (o ++ n))) f
+taken_of_folds root folds left older newer o n f none nothing g is t =
+    let x : Frame = with_state f t.state in
+    record {
+      state = t.state;
+      last = ap (λ y. root ++ (y ++ (older ++ newer))) t.last ∙ ap (λ y. root ++ ((left ++ x ∷ []) ++ (y ++ newer))) none
+          ∙ ap (λ y. root ++ ((left ++ x ∷ []) ++ ([] ++ y))) nothing ∙ two root left (x ∷ [])
+          ∙ ap (λ y. (root ++ (left ++ (y ++ []))) ++ x ∷ []) (sym g) ∙ ap (λ y. (root ++ (left ++ (o ++ y))) ++ x ∷ []) (sym is);
+      same = t.same;
+    }
+
+pub taken_from : (a b new : List Frame) (f : Frame) → a ≡ b → IsTaken a new f → IsTaken b new f
+taken_from a b new f e t = subst (λ x. IsTaken x new f) e t
+
+-- the states of a part that is made again to one of its frames
+pub states_within : (all : List Frame) (k : ℕ) (f : Frame) → take (k + 1) all ≡ take k all ++ f ∷ [] → 0 < length (take k all) → states_from (take k all) + (f.before + 1) ≤ states_from all
+states_within all k f e some =
+    let more = states_push (take k all) f some in
+    let few = states_taken all (k + 1) in
+    let same : states_from (take (k + 1) all) ≡ states_from (take k all ++ f ∷ []) = ap states_from e in
+    omega (arith, more, few, same)
+
+none_of : (o : Option View) → is_some o ≡ false → o ≡ None
+none_of None h = refl
+none_of (Some a) h = cc
+
+-- the frame of an outline without a pending successor
+pub frame_of : (f : Frame) (o : Outline) → o ≡ outline_of f → o.forks ≡ false → f ≡ record { before = o.before; state = f.state; pending = None; best = o.best }
+frame_of f o e forks =
+    let g : Frame = record { before = o.before; state = f.state; pending = None; best = o.best } in
+    same_frame g f (sym (ap (λ (x : Outline). x.before) e)) refl (none_of f.pending (sym (ap (λ (x : Outline). x.forks) e) ∙ forks)) (sym (ap (λ (x : Outline). x.best) e))

@@ -1,6 +1,6 @@
 -- What an exploration within a limit of states says of a program.
 use Rattle.std.specs.Prelude.{◌≡◌, ◌≤◌, ◌^◌, ℕ}
-use Rattle.bpf_prune.specs.Spending.{Tally, unspent}
+use Rattle.bpf_prune.specs.Spending.{Tally, CountsAll, unspent}
 use Rattle.bpf_decode.specs.Program.{Code, Begins}
 use Rattle.bpf_model.specs.Run.{Safe}
 use Rattle.bpf_absstate.specs.View.{entry_view}
@@ -33,9 +33,10 @@ pub record IsRefusalAfter (program : Code) (limit : ℕ) (work : Tally) (refusal
   pub plain : limit ≡ 2 ^ 22 → IsPlain program.slots → IsMemoryOrPassed refusal.fault work
   pub clear : IsClear program entry_view limit → IsMemoryOrPassed refusal.fault work
 
--- A refusal within limits of states and of work, after the work that a tally counts.
+-- A refusal within limits of states and of work, after the work that a tally counts, all that was done.
 pub record IsRefusalWithin (program : Code) (limits : Limits) (refusal : Refusal) : Type 0 where
   pub tally : Tally
   pub spent : IsSpent limits.states (unspent (units_of limits.work)) tally
+  pub counted : CountsAll tally
   pub after : IsRefusalAfter program limits.states tally refusal
   pub due : IsDue program limits.states (unspent (units_of limits.work)) tally refusal

@@ -1,5 +1,5 @@
 -- Why an exploration ends without a budget.
-use Rattle.std.specs.Prelude.{◌≡◌, ℕ, ◌+◌, Err}
+use Rattle.std.specs.Prelude.{◌≡◌, ◌⊎◌, ℕ, ◌+◌, Err}
 use Rattle.bpf_insn.specs.declared.insn.Insn.{Insn}
 use Rattle.bpf_decode.specs.Program.{Code, Holds}
 use Rattle.bpf_absstate.specs.View.{View}
@@ -14,6 +14,10 @@ pub record IsFaulty (c : Code) (a : View) (fault : Fault) : Type 0 where
   pub insn : Insn
   pub at : Holds c.slots a.pc insn
   pub found : examined c.shapes insn a ≡ Err fault
+
+-- why states aren't made again: lack of memory, or more work than is allowed
+abbrev pub IsStopped : Fault → Tally → Type 0
+IsStopped e w = (e ≡ NoMemory) ⊎ ((e ≡ TooManyVisits) × HasPassed w)
 
 -- the cause of a refusal: lack of memory, a fault by the rules at its slot, as many states as are allowed, or more work
 -- than is allowed

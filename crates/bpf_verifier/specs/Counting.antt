@@ -11,6 +11,11 @@ unfoldable pub weight : List Frame → ℕ → ℕ
 weight [] after = after
 weight (f ∷ fs) after = f.before + 1 + weight fs after
 
+-- the number of states on the path from the first frame's own state on
+abbrev pub states_from : List Frame → ℕ
+states_from [] = 0
+states_from (f ∷ fs) = 1 + weight fs 0
+
 -- each budget so far, of a frame or a finished state, plus the states on the path is at most the visits
 pub record IsCounted (fs : List Frame) (after : ℕ) (table : List (List Entry)) (visits : ℕ) : Type 0 where
   pub frames : All (λ f. f.best + weight fs after ≤ visits) fs

@@ -1,6 +1,7 @@
 //! Admits programs.
 
-ghost use Rattle.std.specs.Prelude.{◌≡◌, ◌+◌, ◌≤◌, ◌^◌, IfOk, IfErr};
+ghost use Rattle.std.specs.Prelude.{◌≡◌, ◌^◌, IfOk, IfErr};
+ghost use Rattle.bpf_prune.specs.Spending.{CountsAll};
 ghost use Rattle.bpf_verifier.specs.Admission.{IsSafeBudget, IsRefusal, IsRefusalAfter, IsRefusalWithin};
 ghost use Rattle.bpf_verifier.specs.Causes.{IsDue};
 ghost use Rattle.bpf_verifier.specs.Spent.{IsSpent};
@@ -72,10 +73,8 @@ pub fn verify_limited(
 }
 
 /// Like `verify_limited`, but `work` has the limit on work, and counts each unit before it is done; what was counted
-/// before stays. The states that are examined and the comparisons of a state with a finished one are together at most
-/// the units that are allowed.
-///
-/// States of the path that are made again are counted after that, with the next state that is examined.
+/// before stays. The states that are examined or made again, 80 units each at least, and the comparisons of a state with
+/// a finished one are within the units that are allowed.
 pub fn verify_counted(
     alloc: Global,
     program: Program,
@@ -89,7 +88,7 @@ pub fn verify_counted(
     ensures refused { IfErr result (IsRefusalAfter program limit work.new) }
     ensures due { IfErr result (IsDue program limit work.old work.new) }
     ensures spent { IsSpent limit work.old work.new }
-    ensures together { work.new.examined + work.new.compared ≤ work.old.most }
+    ensures counted { CountsAll work.new }
 {
     program.whole();
     plain_law();

@@ -11,7 +11,7 @@ ghost use Rattle.bpf_plain.specs.Paths.{Reaches};
 ghost use Rattle.bpf_prune.specs.Covering.{Covers, kept_at};
 ghost use Rattle.bpf_prune.specs.Spending.{HasPassed, comparisons};
 ghost use Rattle.bpf_rules.specs.Covers.{IsSetting};
-ghost use Rattle.bpf_verifier.specs.Causes.{IsFaulty, IsDue};
+ghost use Rattle.bpf_verifier.specs.Causes.{IsFaulty, IsStopped, IsDue};
 ghost use Rattle.bpf_verifier.specs.Counting.{weight};
 ghost use Rattle.bpf_verifier.specs.Spent.{IsSpent, IsMemoryOrPassed};
 ghost use Rattle.bpf_verifier.specs.Found.{IsFresh, IsCountedSoFar, IsPaidSoFar, IsBegunSoFar, IsSafeSoFar, IsSafeAfter, IsTracedSoFar, IsTracedAfter, IsWalkedSoFar, IsWalkedAfter, IsClearSoFar, IsClearAfter};
@@ -67,7 +67,7 @@ impl Exploration {
     {
         let finished = Finished::new(alloc, program.len())?;
         Ok(Exploration {
-            path: Path::new(alloc),
+            path: Path::new(alloc, observer.is_listening()),
             after: 0,
             finished,
             visits: 0,
@@ -119,8 +119,10 @@ impl Exploration {
         Ok(())
     }
 
-    /// The state under exploration is finished with a budget: goes back to the newest pending successor.
-    fn unwind(&mut self, program: &Program, done: u32) -> Result<Unwound, AllocError>
+    /// The state under exploration is finished with a budget: goes back to the newest pending successor. States of the
+    /// path that are made again count as work before that.
+    fn unwind(&mut self, program: &Program, done: u32, work: &mut Work) -> Result<Unwound, Fault>
+        requires room { self.old.visits ≤ 2 ^ 22 }
         requires traced { (a : View) × IsTracedSoFar program.now a self.old }
         requires counted { IsCountedSoFar self.old }
         requires paid { done + weight self.old.path self.old.after ≤ self.old.visits }
@@ -140,9 +142,17 @@ impl Exploration {
             IsWalkedAfter slots start self.new u) }
         ensures clear { IfOk result
             (λ u. (c : Code) (n : ℕ) → IsClearSoFar c n self.old → IsClearAfter c n self.new u) }
+        ensures most { work.new.most ≡ work.old.most }
+        ensures examined { work.new.examined ≡ work.old.examined }
+        ensures remade { OnOk result
+            (work.new.remade + 4194304 * length self.new.path
+            ≤ work.old.remade + 4194304 * (length self.old.path + 1)) }
+        ensures greatest { work.new.remade ≤ work.old.remade + 4194304 * (length self.old.path + 1) }
+        ensures units { work.new.units + 563 * work.old.remade ≤ work.old.units + 563 * work.new.remade }
+        ensures refuses { IfErr result (λ e. IsStopped e work.new) }
     {
         let mut done = done;
-        while let Some(frame) = self.path.pop(program)? {
+        while let Some(frame) = self.path.pop(program, work)? {
             let Frame {
                 before,
                 state,
@@ -169,10 +179,10 @@ impl Exploration {
     /// next; without any it is finished.
     fn visit(
         &mut self,
-        alloc: Global,
         program: &Program,
         state: AbsState,
         covering: Option<u32>,
+        work: &mut Work,
     ) -> Result<Unwound, Fault>
         requires room { self.old.visits < 2 ^ 22 }
         requires covers { IfSome covering (Covers (kept_at self.old.finished state.pc) state) }
@@ -197,25 +207,33 @@ impl Exploration {
         ensures clear { IfOk result
             (λ u. (l m n : ℕ) → IsClear program.now state l → IsClearSoFar program.now m self.old →
             l + m ≤ n + 1 → IsClearAfter program.now n self.new u) }
+        ensures most { work.new.most ≡ work.old.most }
+        ensures examined { work.new.examined ≡ work.old.examined }
+        ensures remade { OnOk result
+            (work.new.remade + 4194304 * length self.new.path
+            ≤ work.old.remade + 4194304 * (length self.old.path + 1)) }
+        ensures greatest { work.new.remade ≤ work.old.remade + 4194304 * (length self.old.path + 1) }
+        ensures units { work.new.units + 563 * work.old.remade ≤ work.old.units + 563 * work.new.remade }
         ensures refuses { IfErr result
-            (λ e. (e ≡ Fault.NoMemory) ⊎ IsFaulty program.now state e) }
+            (λ e. IsStopped e work.new ⊎ IsFaulty program.now state e) }
     {
         program.whole();
         examination_law();
         inclusion_law();
         standing_law();
         walking_law();
+        let alloc = self.path.alloc();
         self.visits += 1;
         self.observer.examines(&state, self.path.len(), self.after)?;
         if let Some(budget) = covering {
-            let unwound = self.unwind(program, budget)?;
+            let unwound = self.unwind(program, budget, work)?;
             return Ok(unwound);
         }
         let Outcome { ways, kept } = examine_state(alloc, program, state)?;
         match ways {
             Ways::Nowhere => {
                 self.finish(kept, 1)?;
-                let unwound = self.unwind(program, 1)?;
+                let unwound = self.unwind(program, 1, work)?;
                 Ok(unwound)
             }
             Ways::One(next) => {
@@ -236,28 +254,21 @@ impl Exploration {
     }
 }
 
-/// Counts states that were rebuilt, and a state before it is examined, and looks for a finished one that includes it. Its
-/// budget, if there is one.
-fn look(
-    finished: &Finished,
-    state: &AbsState,
-    rebuilt: u64,
-    work: &mut Work,
-) -> Result<Option<u32>, TooMuchWork>
-    requires small { rebuilt ≤ 134217728 }
+/// Counts a state before it is examined, and looks for a finished one that includes it. Its budget, if there is one.
+fn look(finished: &Finished, state: &AbsState, work: &mut Work) -> Result<Option<u32>, TooMuchWork>
     ensures covers { IfOk result
         (λ budget. IfSome budget (Covers (kept_at finished.now state.now.pc) state.now)) }
     ensures most { work.new.most ≡ work.old.most }
     ensures examined { OnOk result (work.new.examined ≡ work.old.examined + 1) }
+    ensures remade { work.new.remade ≡ work.old.remade }
     ensures compared { OnOk result
         (work.new.compared
         ≡ work.old.compared + comparisons (kept_at finished.now state.now.pc) state.now) }
     ensures least { work.old.examined ≤ work.new.examined }
     ensures greatest { work.new.examined ≤ work.old.examined + 1 }
-    ensures few { work.new.units ≤ work.old.units + 134254707 }
+    ensures few { work.new.units ≤ work.old.units + 36979 }
     ensures passed { OnErr result (HasPassed work.new) }
 {
-    work.spend_many(rebuilt)?;
     work.examine(state)?;
     let covering = finished.covering(state, work)?;
     Ok(covering)
@@ -293,11 +304,10 @@ pub(crate) fn observed_budget(
     let mut current = AbsState::entry(alloc)?;
     'visit: while exploration.visits < most {
         let pc = current.pc();
-        let rebuilt = exploration.path.take_rebuilt();
-        let Ok(covering) = look(&exploration.finished, &current, rebuilt, work) else {
+        let Ok(covering) = look(&exploration.finished, &current, work) else {
             return Err(Refusal::past_limits(pc));
         };
-        match exploration.visit(alloc, program, current, covering) {
+        match exploration.visit(program, current, covering, work) {
             Ok(Unwound::Onward(next)) => current = next,
             Ok(Unwound::Over(budget)) => return Ok(budget),
             Err(fault) => return Err(Refusal { fault, pc }),

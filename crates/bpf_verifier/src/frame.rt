@@ -37,15 +37,6 @@ impl Frame {
         1
     }
 
-    /// The units of work of its states: a state of so many call frames has as many parts.
-    pub(crate) fn units(&self) -> u64 {
-        let states = u64::from(self.before).saturating_add(1);
-        let parts = u64::from(self.depth())
-            .saturating_mul(69)
-            .saturating_add(11);
-        states.saturating_mul(parts)
-    }
-
     /// A bound on the memory it adds to that of the frames below, in units that a state of one call frame may add:
     /// four, and one for each preceding state, times its call frames.
     pub(crate) fn weight(&self) -> u32 {

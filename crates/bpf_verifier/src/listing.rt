@@ -4,6 +4,7 @@ ghost use Rattle.std.specs.Prelude.{◌≡◌, ◌^◌, ℕ, IfOk, IfErr, OnOk};
 ghost use Rattle.bpf_verifier.specs.Admission.{IsSafeBudget, IsRefusal, IsRefusalAfter, IsRefusalWithin};
 ghost use Rattle.bpf_verifier.specs.Causes.{IsDue};
 ghost use Rattle.bpf_verifier.specs.Spent.{IsSpent};
+ghost use Rattle.bpf_prune.specs.Spending.{CountsAll};
 
 use crate::exploration::{Exploration, observed_budget};
 use crate::limit::{Limits, StateLimit};
@@ -69,12 +70,16 @@ pub fn explore_counted(
     ensures refused { IfErr result (IsRefusalAfter program.now limit work.new) }
     ensures due { IfErr result (IsDue program.now limit work.old work.new) }
     ensures spent { IsSpent limit work.old work.new }
+    ensures counted { CountsAll work.new }
 {
     program.whole();
     plain_law();
     standing_law();
+    work.known();
     let mut exploration = Exploration::new(alloc, program, Observer::listening(alloc))?;
-    let _budget = observed_budget(alloc, program, &mut exploration, limit, work)?;
+    let found = observed_budget(alloc, program, &mut exploration, limit, work);
+    work.known();
+    let _budget = found?;
     match exploration.into_observer().into_heard() {
         Some(heard) => Ok(heard.finished),
         None => Ok(Vec::new(alloc)),
@@ -127,6 +132,7 @@ pub fn explain_limited(
     let mut work = Work::within(limits.units());
     let mut exploration = Exploration::new(alloc, program, Observer::listening(alloc))?;
     let verdict = observed_budget(alloc, program, &mut exploration, states, &mut work);
+    work.known();
     Ok(explained(alloc, verdict, exploration.into_observer()))
 }
 

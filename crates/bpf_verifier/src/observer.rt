@@ -76,6 +76,11 @@ impl Observer {
         }
     }
 
+    /// Whether it records anything.
+    pub(crate) fn is_listening(&self) -> bool {
+        self.heard.is_some()
+    }
+
     /// This state is examined next. The path to it has `kept` kept states, and `after` after the newest.
     pub(crate) fn examines(
         &mut self,

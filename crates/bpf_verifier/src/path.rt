@@ -1,14 +1,18 @@
 //! The path to the state to examine next.
 
-ghost use Rattle.std.specs.Prelude.{◌≡◌, ◌≤◌, ◌∷◌, ◌++◌, [], ℕ, List, OnOk, IfOk, IfSome, IfNone};
+ghost use Rattle.std.specs.Prelude.{◌≡◌, ◌≤◌, ◌+◌, ◌*◌, ◌∷◌, ◌++◌, [], ℕ, List, OnOk, IfOk, IfErr, IfSome, IfNone};
 ghost use Rattle.bpf_absstate.specs.View.{View};
+ghost use Rattle.bpf_verifier.specs.Causes.{IsStopped};
+ghost use Rattle.bpf_verifier.specs.Counting.{weight};
+ghost use Rattle.bpf_verifier.specs.Folded.{IsTaken};
 ghost use Rattle.bpf_verifier.specs.Traced.{IsTraced};
 
-use crate::fold::Fold;
+use crate::fold::{Fold, left_out};
 use crate::frame::Frame;
 use bpf_decode::Program;
+use bpf_prune::Work;
+use bpf_rules::Fault;
 use std::alloc::{AllocError, Global};
-use std::cell::Cell;
 use std::marker::Model;
 use std::mem::replace;
 
@@ -16,13 +20,12 @@ use std::mem::replace;
 /// pushed than a program has slots.
 const WINDOW: u32 = 1048576;
 
-/// The most units of work of rebuilt frames that are counted with one state. One fold has fewer.
-const MOST_REBUILT: u64 = 134217728;
-
 /// The frames of an exploration, the oldest first. Deep ones are folded.
 #[derive(Drop)]
 pub(crate) struct Path {
     alloc: Global,
+    /// Whether all folded frames are made again. Otherwise those are left out whose states needn't be kept.
+    whole: bool,
     /// The oldest frames, before the first that has a state: at most as many as a program has slots.
     root: Vec<Frame>,
     /// The folded frames after the root.
@@ -35,8 +38,6 @@ pub(crate) struct Path {
     newer: Vec<Frame>,
     /// The weight of the frames pushed since frames were folded.
     window: u32,
-    /// The units of work of the frames that were rebuilt, and aren't counted yet.
-    rebuilt: Cell<u64>,
 }
 
 impl Model for Path {
@@ -51,19 +52,19 @@ impl Model for Path {
 }
 
 impl Path {
-    /// An empty path; allocates nothing.
-    pub(crate) fn new(alloc: Global) -> Path
+    /// An empty path; allocates nothing. If it is `whole`, each frame is taken off with its state.
+    pub(crate) fn new(alloc: Global, whole: bool) -> Path
         ensures is { result ≡ [] }
     {
         Path {
             alloc,
+            whole,
             root: Vec::new(alloc),
             folds: Vec::new(alloc),
             folded: 0,
             older: Vec::new(alloc),
             newer: Vec::new(alloc),
             window: 0,
-            rebuilt: Cell::new(0),
         }
     }
 
@@ -76,23 +77,9 @@ impl Path {
             .saturating_add(self.newer.len())
     }
 
-    /// Notes that these frames were rebuilt.
-    fn note_rebuilt(&self, frames: &[Frame]) {
-        let mut units = self.rebuilt.get();
-        for frame in frames {
-            units = units.saturating_add(frame.units());
-        }
-        self.rebuilt.set(units);
-    }
-
-    /// Units of work of rebuilt frames, each of which is returned once.
-    pub(crate) fn take_rebuilt(&self) -> u64
-        ensures few { result ≤ 134217728 }
-    {
-        let units = self.rebuilt.get();
-        let taken = units.min(MOST_REBUILT);
-        self.rebuilt.set(units - taken);
-        taken
+    /// The allocator.
+    pub(crate) fn alloc(&self) -> Global {
+        self.alloc
     }
 
     pub(crate) fn push(&mut self, frame: Frame) -> Result<(), AllocError>
@@ -119,7 +106,7 @@ impl Path {
     fn fold(&mut self) -> Result<(), AllocError>
         ensures ok { OnOk result (self.new ≡ self.old) }
     {
-        let Some(fold) = Fold::of(self.alloc, &self.older)? else {
+        let Some(fold) = Fold::of(self.alloc, &self.older, self.whole)? else {
             if self.folds.is_empty() {
                 self.root.append(&mut self.older)?;
             }
@@ -143,16 +130,25 @@ impl Path {
         }
     }
 
-    /// Takes the newest frame off the path.
-    pub(crate) fn pop(&mut self, program: &Program) -> Result<Option<Frame>, AllocError>
+    /// Takes the newest frame off the path. States that are made again count as work before that.
+    pub(crate) fn pop(&mut self, program: &Program, work: &mut Work) -> Result<Option<Frame>, Fault>
         requires traced { (after : ℕ) × (a : View) × IsTraced program.now self.old after a }
-        ensures some { IfOk result (λ o. IfSome o (λ frame. self.old ≡ self.new ++ frame ∷ [])) }
+        ensures some { IfOk result (λ o. IfSome o (IsTaken self.old self.new)) }
         ensures none { IfOk result (λ o. IfNone o ((self.old ≡ []) × (self.new ≡ []))) }
+        ensures most { work.new.most ≡ work.old.most }
+        ensures examined { work.new.examined ≡ work.old.examined }
+        ensures greatest { work.new.remade ≤ work.old.remade + weight self.old 0 }
+        ensures units { work.new.units + 563 * work.old.remade ≤ work.old.units + 563 * work.new.remade }
+        ensures refuses { IfErr result (λ e. IsStopped e work.new) }
     {
         if let Some(frame) = self.newer.pop() {
             return Ok(Some(frame));
         }
         if let Some(frame) = self.older.pop() {
+            return Ok(Some(frame));
+        }
+        if let Some(frame) = left_out(&mut self.folds) {
+            self.folded = self.folded.saturating_sub(1);
             return Ok(Some(frame));
         }
         let Some(fold) = self.folds.pop() else {
@@ -162,8 +158,7 @@ impl Path {
             return Ok(None);
         };
         self.folded = self.folded.saturating_sub(fold.len());
-        self.older = fold.unfold(self.alloc, program)?;
-        self.note_rebuilt(self.older.as_slice());
+        self.older = fold.unfold(self.alloc, program, work)?;
         if let Some(frame) = self.older.pop() {
             return Ok(Some(frame));
         }

@@ -20,7 +20,7 @@ returns-in-Ok-clause-certificate c =
     let e = c.in-Err-certificate_counted.refusal in
     let limits = c.limits_of-limits.result in
     let spent = rw (c.within-work.ensures.is, c.units.ensures.is) at c.verify_counted.ensures.spent in
-    let why : IsUncertifiedWithin c.in-Ok.accepted.code limits e = record { before = c.verify_counted.new.work; tally = c.certificate_counted.new.work; most = spent.most; after = c.in-Err-certificate_counted.ensures.refused } in
+    let why : IsUncertifiedWithin c.in-Ok.accepted.code limits e = record { before = c.verify_counted.new.work; tally = c.certificate_counted.new.work; most = spent.most; counted = c.certificate_counted.ensures.counted; after = c.in-Err-certificate_counted.ensures.refused } in
     subst (λ l. IfOk c.refused.result (IsCertificate l c.args.terms.hook c.args.program)) c.limits_of-limits.ensures.is
     (IsCertificate-unmade limits c.args.terms.hook c.args.program c.refused.result e
     (subst (λ (p : Code). IsUncertifiedWithin p limits e) c.in-Ok.ensures.code why) c.refused.ensures.refusal)
@@ -30,6 +30,6 @@ returns-clause-certificate c =
     let limits = c.limits_of-limits.result in
     let spent = rw (c.within-work.ensures.is, c.units.ensures.is) at c.verify_counted.ensures.spent in
     let due = rw (c.within-work.ensures.is, c.units.ensures.is) at c.in-Err.ensures.due in
-    let why : IsRefusalWithin c.args.program limits c.in-Err.refusal = record { tally = c.verify_counted.new.work; spent = spent; after = c.in-Err.ensures.refused; due = due } in
+    let why : IsRefusalWithin c.args.program limits c.in-Err.refusal = record { tally = c.verify_counted.new.work; spent = spent; counted = c.verify_counted.ensures.counted; after = c.in-Err.ensures.refused; due = due } in
     subst (λ l. IfOk c.refused-in-Err.result (IsCertificate l c.args.terms.hook c.args.program)) c.limits_of-limits.ensures.is
     (IsCertificate-refused limits c.args.terms.hook c.args.program c.refused-in-Err.result c.in-Err.refusal why c.refused-in-Err.ensures.refusal)

@@ -1,4 +1,4 @@
-use Rattle.std.proofs.Common.{IfSome, ◌≡◌, ◌≤◌, ◌-◌, ◌+◌, [], ℕ, List, ◌⊎◌, inl, inr, refl, sym, subst, arith}
+use Rattle.std.proofs.Common.{IfSome, ◌≡◌, ◌≤◌, ◌-◌, ◌+◌, [], ℕ, List, ◌⊎◌, inl, inr, length, refl, sym, ap, subst, arith}
 use Rattle.std.specs.List.{All}
 use Rattle.std.proofs.lemmas.List.Elements.{All-nil}
 use Rattle.bpf_model.specs.Run.{setting}
@@ -8,8 +8,8 @@ use Rattle.bpf_decode.specs.Program.{Code}
 use Rattle.bpf_plain.specs.Clear.{IsClear}
 use Rattle.bpf_prune.specs.Spending.{Tally}
 use Rattle.bpf_rules.specs.declared.fault.Fault.{Fault}
-use Rattle.bpf_rules.specs.declared.fault.Fault.TheVariants.{NoMemory}
-use Rattle.bpf_verifier.specs.Causes.{IsFaulty, IsDue, ByMemory, ByRule}
+use Rattle.bpf_verifier.specs.Causes.{IsFaulty, IsStopped, IsDue, ByMemory, ByRule, ByWork}
+use Rattle.bpf_verifier.specs.Spent.{IsMemoryOrPassed}
 use Rattle.bpf_verifier.specs.declared.refusal.Refusal.{Refusal}
 use Rattle.bpf_prune.specs.declared.kept.Entry.{Entry}
 use Rattle.bpf_verifier.specs.declared.frame.Frame.{Frame}
@@ -54,6 +54,7 @@ visit-init c =
       states = omega (arith, c.requires.fresh.visits);
       most = refl;
       examined = omega (arith, c.requires.fresh.visits);
+      remade = let none : length fs ≡ 0 = ap length empty in omega (arith, none, c.requires.fresh.visits);
       units = omega (arith, c.requires.fresh.visits);
     }
 
@@ -76,9 +77,10 @@ visit-preserved c =
           let r = rw c.in-Ok-Onward.field-0-is at c.in-Ok-Onward.ensures.clear k.0 k.1 left k.2 k.3 (omega (arith, k.4, c.visit-test.true, c.states-most.ensures.value)) in
           (r.0, r.1, r.2, r.3, omega (arith, r.4, c.in-Ok-Onward.ensures.visits, c.visit-test.true, c.states-most.ensures.value));
       states = omega (arith, c.visit-test.true, c.states-most.ensures.value, c.in-Ok-Onward.ensures.visits);
-      most = omega (arith, h.most, c.in-Ok.ensures.most);
-      examined = omega (arith, h.examined, c.in-Ok.ensures.examined, c.in-Ok-Onward.ensures.visits);
-      units = omega (arith, h.units, c.in-Ok.ensures.few, c.in-Ok-Onward.ensures.visits);
+      most = omega (arith, h.most, c.in-Ok.ensures.most, c.in-Ok-Onward.ensures.most);
+      examined = omega (arith, h.examined, c.in-Ok.ensures.examined, c.in-Ok-Onward.ensures.examined, c.in-Ok-Onward.ensures.visits);
+      remade = omega (arith, h.remade, c.in-Ok.ensures.remade, c.in-Ok-Onward.ensures.remade, c.in-Ok-Onward.ensures.visits);
+      units = omega (arith, h.units, c.in-Ok.ensures.remade, c.in-Ok.ensures.few, c.in-Ok-Onward.ensures.units, c.in-Ok-Onward.ensures.visits);
     }
 
 pub returns-in-Ok-Over-clause-safe : goal.returns-in-Ok-Over-clause-safe
@@ -102,20 +104,22 @@ returns-clause-clear c = λ clear.
     absurd (omega (arith, some, k.4, c.visit-test.false, c.states-most.ensures.value))
 
 -- a clear state has no fault
-only_memory : (c : Code) (a : View) (n : ℕ) (e : Fault) → IsClear c a n → (e ≡ NoMemory) ⊎ IsFaulty c a e → e ≡ NoMemory
-only_memory c a n e clear (inl memory) = memory
-only_memory c a n e clear (inr h) = absurd (not_refused c a n h.insn e h.at h.found clear)
+only_memory : (c : Code) (a : View) (n : ℕ) (e : Fault) (w : Tally) → IsClear c a n → IsStopped e w ⊎ IsFaulty c a e → IsMemoryOrPassed e w
+only_memory c a n e w clear (inl (inl memory)) = inl memory
+only_memory c a n e w clear (inl (inr passed)) = inr passed.1
+only_memory c a n e w clear (inr h) = absurd (not_refused c a n h.insn e h.at h.found clear)
 
-caused : (c : Code) (states : ℕ) (old new : Tally) (a : View) (e : Refusal) → a.pc ≡ e.pc → (e.fault ≡ NoMemory) ⊎ IsFaulty c a e.fault → IsDue c states old new e
-caused c states old new a e at (inl memory) = ByMemory memory
+caused : (c : Code) (states : ℕ) (old new : Tally) (a : View) (e : Refusal) → a.pc ≡ e.pc → IsStopped e.fault new ⊎ IsFaulty c a e.fault → IsDue c states old new e
+caused c states old new a e at (inl (inl memory)) = ByMemory memory
+caused c states old new a e at (inl (inr passed)) = ByWork passed.0 passed.1
 caused c states old new a e at (inr h) = ByRule a at h
 
 pub returns-in-Err-clause-clear : goal.returns-in-Err-clause-clear
 returns-in-Err-clause-clear c = λ clear.
     let k = c.visit.invariant.clear clear in
-    inl (only_memory c.args.program.now c.visit.current k.0 _ k.2 c.in-Err.ensures.refuses)
+    only_memory c.args.program.now c.visit.current k.0 _ _ k.2 c.in-Err.ensures.refuses
 
 pub returns-in-Err-clause-due : goal.returns-in-Err-clause-due
 returns-in-Err-clause-due c =
     let e : Refusal = record { fault = c.in-Err.fault; pc = c.pc-pc.result } in
-    caused c.args.program.now c.args.limit c.args.work.now c.look.new.work c.visit.current e (sym c.pc-pc.ensures.is) c.in-Err.ensures.refuses
+    caused c.args.program.now c.args.limit c.args.work.now _ c.visit.current e (sym c.pc-pc.ensures.is) c.in-Err.ensures.refuses

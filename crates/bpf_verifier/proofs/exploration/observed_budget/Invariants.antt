@@ -1,4 +1,4 @@
-use Rattle.std.proofs.Common.{◌≡◌, ◌≤◌, ◌-◌, ◌+◌, ◌*◌, ℕ}
+use Rattle.std.proofs.Common.{◌≡◌, ◌≤◌, ◌-◌, ◌+◌, ◌*◌, ℕ, length}
 use Rattle.bpf_model.specs.State.{Setting}
 use Rattle.bpf_absstate.specs.View.{entry_view}
 use Rattle.bpf_plain.specs.Clear.{IsClear}
@@ -28,7 +28,8 @@ invariant-visit l = record {
   states : l.exploration.visits ≤ l.fn.limit;
   most : l.work.most ≡ l.initial.work.most;
   examined : l.work.examined ≡ l.initial.work.examined + l.exploration.visits;
-  units : l.work.units ≤ l.initial.work.units + 134254707 * l.exploration.visits;
+  remade : l.work.remade + 4194304 * length l.exploration.path ≤ l.initial.work.remade + 4194304 * l.exploration.visits;
+  units : l.work.units + 563 * l.initial.work.remade ≤ l.initial.work.units + 36979 * l.exploration.visits + 563 * l.work.remade;
 }
 
 abbrev pub decreases-visit : goal.decreases-visit

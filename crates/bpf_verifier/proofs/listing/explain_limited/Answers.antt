@@ -10,5 +10,5 @@ pub returns-clause-refused : goal.returns-clause-refused
 returns-clause-refused c =
     let v = c.observed_budget-verdict in
     rw c.explained.ensures.verdict
-    (refusals c.args.program.now c.args.limits _ v.result (c.plain_law.ensures.clear c.args.program.now c.whole.ensures.is) (rw (c.within-work.ensures.is, c.units.ensures.is) at v.ensures.spent) v.ensures.begins v.ensures.clear
+    (refusals c.args.program.now c.args.limits _ v.result (c.plain_law.ensures.clear c.args.program.now c.whole.ensures.is) (rw (c.within-work.ensures.is, c.units.ensures.is) at v.ensures.spent) (record { allowed = c.known.ensures.allowed; all = c.known.ensures.counted }) v.ensures.begins v.ensures.clear
     (rw (c.within-work.ensures.is, c.units.ensures.is) at v.ensures.due))

@@ -4,4 +4,4 @@ use Rattle.bpf_verifier.proofs.listing.explore_limited.Goals as goal
 pub returns-clause-refused : goal.returns-clause-refused
 returns-clause-refused c =
     let v = c.explore_counted in
-    withins c.args.program.now c.args.limits _ v.result (rw (c.within-work.ensures.is, c.units.ensures.is) at v.ensures.spent) v.ensures.refused (rw (c.within-work.ensures.is, c.units.ensures.is) at v.ensures.due)
+    withins c.args.program.now c.args.limits _ v.result (rw (c.within-work.ensures.is, c.units.ensures.is) at v.ensures.spent) v.ensures.counted v.ensures.refused (rw (c.within-work.ensures.is, c.units.ensures.is) at v.ensures.due)

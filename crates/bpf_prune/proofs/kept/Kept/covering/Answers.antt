@@ -29,6 +29,7 @@ loop-k-preserved c =
       rest = passed _ c.loop-k.k _ _ c.index-marked.result.now c.loop-k-test.true c.loop-k.invariant.within c.index-marked.ensures differs c.loop-k.invariant.rest;
       most = c.in_ok-covers.ensures.most ∙ c.loop-k.invariant.most;
       examined = c.in_ok-covers.ensures.examined ∙ c.loop-k.invariant.examined;
+      remade = c.in_ok-covers.ensures.remade ∙ c.loop-k.invariant.remade;
       compared = omega (arith, more, c.in_ok-covers.ensures.compared, c.loop-k.invariant.compared);
       few = omega (arith, c.loop-k-test.true, c.in_ok-covers.ensures.few, c.loop-k.invariant.few);
     }

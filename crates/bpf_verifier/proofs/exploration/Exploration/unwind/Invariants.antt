@@ -1,4 +1,4 @@
-use Rattle.std.proofs.Common.{◌≡◌, ◌≤◌, ◌+◌, ℕ, List, Option, length}
+use Rattle.std.proofs.Common.{◌≡◌, ◌≤◌, ◌+◌, ◌*◌, ℕ, List, Option, length}
 use Rattle.bpf_insn.specs.declared.insn.Insn.{Insn}
 use Rattle.bpf_decode.specs.Program.{Code}
 use Rattle.bpf_model.specs.State.{Setting}
@@ -20,6 +20,10 @@ invariant-loop-frame l = record {
   walked : (slots : List (Option Insn)) (start a : View) → IsWalkedSoFar slots start a l.initial.self → Reaches slots a.pc l.initial.done →
       (now : View) × IsWalkedSoFar slots start now l.self × Reaches slots now.pc l.done;
   clear : (c : Code) (n : ℕ) → IsClearSoFar c n l.initial.self → IsClearSoFar c n l.self;
+  most : l.work.most ≡ l.initial.work.most;
+  examined : l.work.examined ≡ l.initial.work.examined;
+  remade : l.work.remade + 4194304 * length l.self.path ≤ l.initial.work.remade + 4194304 * length l.initial.self.path;
+  units : l.work.units + 563 * l.initial.work.remade ≤ l.initial.work.units + 563 * l.work.remade;
 }
 
 abbrev pub decreases-loop-frame : goal.decreases-loop-frame

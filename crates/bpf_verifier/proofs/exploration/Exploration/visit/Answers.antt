@@ -47,7 +47,7 @@ returns-in_err-ways-clause-refuses c =
     rw (p.1, p.2)
     (let b : Begins c.args.program.now.slots c.args.state.pc = c.requires.stands.0.begins in
     elim (c.in_err-ways.ensures.refuses b.0 b.1) [
-      | inl memory ↦ inl memory
+      | inl memory ↦ inl (inl memory)
       | inr fault ↦ inr (record { insn = b.0; at = b.1; found = fault })
     ])
 
