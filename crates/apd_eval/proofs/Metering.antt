@@ -1,5 +1,6 @@
 -- A run over tables that is counted, and the verdict that it gives.
-use Rattle.std.proofs.Common.{◌≡◌, ◌≤◌, ◌==◌, ◌∙◌, ℕ, true, false, List, [], ◌∷◌, length, refl, Option, Some, sym, ap, subst}
+use Rattle.std.proofs.Common.{◌≡◌, ◌≤◌, ◌==◌, ◌∙◌, ℕ, suc, true, List, [], ◌∷◌, length, refl, Option, Some, sym, ap, subst, arith}
+use Rattle.std.proofs.lemmas.Bool.Decides.{Decides-eqb}
 use Rattle.bpf_model.specs.State.{Setting}
 use Rattle.bpf_model.specs.Run.{Safe}
 use Rattle.bpf_machine.specs.declared.outcome.Outcome.{Outcome}
@@ -18,12 +19,12 @@ use Rattle.apd_eval.specs.Metered.{Metered}
 use Rattle.apd_eval.specs.Rulings.{GivesMetered}
 use Rattle.apd_eval.specs.Visits.{Tallied}
 
-not_true : false ≡ true → ⊥
-not_true = λ (same : false ≡ true). cc
-
+-- a list of no length is empty
 pub empty_is : (xs : List ℕ) → (length xs == 0) ≡ true → xs ≡ []
 empty_is [] e = refl
-empty_is (x ∷ xs) e = absurd (not_true e)
+empty_is (x ∷ xs) e =
+    let none : suc (length xs) ≡ 0 = (Decides-eqb (length (x ∷ xs)) 0).0 e in
+    absurd (omega (arith, none))
 
 -- What a run asked a port over a state, it asked the state; `after` is the state once the port is gone.
 pub tallied_by_state : (setting : Setting) (p q : HookPort) (counts counts' : List ℕ) (outcome : Outcome) → Tallied PortGives setting p q counts counts' outcome
