@@ -1,3 +1,4 @@
 pub mod Blocks
 pub mod Graph
+pub mod Chosen
 pub mod Script

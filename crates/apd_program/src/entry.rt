@@ -10,6 +10,7 @@ ghost use Rattle.apd_program.specs.Forms.{in_lines};
 
 use crate::lines::run_live;
 use crate::program::{respond, tell};
+use crate::testing;
 use apd_driver::{Form, Manner};
 use apd_files::Files;
 use apd_run::{Limits, OpenGate, Progress, RunWords, StateLimit, Streams, Supplies, run};
@@ -142,6 +143,10 @@ where
         }
         Ok(Request::Answer(query)) => {
             let status = respond(alloc, query, files, &mut out, err);
+            return (out, status);
+        }
+        Ok(Request::Test(paths)) => {
+            let status = testing::judge(alloc, paths.as_slice(), files, &mut out, err);
             return (out, status);
         }
         Err(told) => {

@@ -49,6 +49,7 @@ pub fn apd_main<'a, F: Files, O: Write, E: Write>(
 {
     match read_words(alloc, words) {
         Ok(Request::Answer(query)) => respond(alloc, query, files, out, err),
+        Ok(Request::Test(paths)) => testing::judge(alloc, paths.as_slice(), files, out, err),
         Ok(Request::Run(_)) => complain(alloc, &ProgramFault::NoThreads, err),
         Ok(Request::Live(_)) => complain(alloc, &ProgramFault::NoThreads, err),
         Err(told) => tell(alloc, &told, out, err),
@@ -117,8 +118,7 @@ fn answer<F: Files>(
         Question::Trace(trial) => trace(alloc, trial, files, reason),
         Question::Evaluate(evaluation) => evaluating::evaluate(alloc, evaluation, files, reason),
         Question::Explain { number } => explaining::page(alloc, number),
-        Question::Frames { capture, ticks } => framing::frames(alloc, capture, ticks, files),
-        Question::Test { file } => testing::test(alloc, file, files),
+        Question::Frames(conversion) => framing::frames(alloc, conversion, files),
         Question::Help { command } => helping::help(alloc, command),
         Question::Certify { subject } => certify(alloc, subject, files, reason),
         Question::Check(claim) => check(alloc, claim, files, reason),

@@ -5,11 +5,12 @@ use Rattle.std.specs.Option.{option_map_or}
 use Rattle.std.specs.Str.{bytes_eq}
 use Rattle.std.specs.Str.Parse.{digits_value, without_leading_plus}
 use Rattle.clap.specs.ValueTests.{is_unsigned_in}
-use Rattle.clap.specs.Words.{Row, Text, first_of}
+use Rattle.clap.specs.Words.{Row, Text, all_of, first_of}
 use Rattle.bpf_regions.specs.declared.hooks.Hook.{Hook}
 use Rattle.bpf_regions.specs.declared.hooks.Hook.TheVariants.{Association, Addba, Data}
 use Rattle.apd_words.specs.CommandLine.{most_states, most_work}
 use Rattle.apd_words.specs.declared.Claim.{Claim}
+use Rattle.apd_words.specs.declared.Conversion.{Conversion}
 use Rattle.apd_words.specs.declared.Evaluation.{Evaluation}
 use Rattle.apd_words.specs.declared.LiveRun.{LiveRun}
 use Rattle.apd_words.specs.declared.Query.{Query}
@@ -34,8 +35,8 @@ pub data Asked : Type 0 where
   Certify : Hook → Text → Option Text → ℕ → Option ℕ → Asked
   Check : Hook → Text → Text → Option Text → Option ℕ → Asked
   Explain : Option Text → Asked
-  Frames : Text → Bool → Asked
-  Test : Text → Asked
+  Frames : Text → Bool → Option Text → Bool → Asked
+  Test : List Text → Asked
   Help : Option Text → Asked
 
 -- the run of a script, or of lines as they come, or a question and the file for its answer, if there is one
@@ -94,6 +95,11 @@ asked_certificate subject =
     Certify subject.terms.hook subject.source.file.now (config_of subject.source) subject.terms.states
     subject.terms.work
 
+-- the question of `frames`
+abbrev pub asked_script : Conversion → Asked
+asked_script conversion =
+    Frames conversion.capture.now conversion.ticks (text_of conversion.bssid) conversion.all
+
 -- the question of `check`
 abbrev pub asked_check : Claim → Asked
 asked_check claim =
@@ -111,8 +117,7 @@ asked_of (question.Evaluate evaluation) = asked_evaluation evaluation
 asked_of (question.Certify subject) = asked_certificate subject
 asked_of (question.Check claim) = asked_check claim
 asked_of (question.Explain number) = Explain (text_of number)
-asked_of (question.Frames capture ticks) = Frames capture.now ticks
-asked_of (question.Test file) = Test file.now
+asked_of (question.Frames conversion) = asked_script conversion
 asked_of (question.Help command) = Help (text_of command)
 
 -- the run of a script
@@ -130,11 +135,16 @@ wanted_live run =
 abbrev pub wanted_answer : Query → Wanted
 wanted_answer query = Answer (asked_of query.question) (text_of query.output)
 
+-- the answer for files of cases, on standard output
+abbrev pub wanted_test : List Text → Wanted
+wanted_test files = Answer (Test files) None
+
 -- what a request wants
 abbrev pub wanted_of : Request → Wanted
 wanted_of (request.Run run) = wanted_run run
 wanted_of (request.Live run) = wanted_live run
 wanted_of (request.Answer query) = wanted_answer query
+wanted_of (request.Test files) = wanted_test (texts_of files.items)
 
 infixl 10 ◌>>=◌
 -- what follows from a part, if it is there
@@ -271,15 +281,16 @@ check_of rows = do
 abbrev pub explain_of : List Row → Option Asked
 explain_of rows = Some (Explain (first_of (codes "NUMBER") rows))
 
--- `frames CAPTURE [--no-ticks]`
+-- `frames CAPTURE [--no-ticks] [--bssid ADDR] [--all]`
 abbrev pub frames_of : List Row → Option Asked
 frames_of rows = do
   capture ← first_of (codes "CAPTURE") rows
-  Some (Frames capture (not (is_set (codes "no-ticks") rows)))
+  Some (Frames capture (not (is_set (codes "no-ticks") rows)) (first_of (codes "bssid") rows)
+      (is_set (codes "all") rows))
 
--- `test FILE`
-abbrev pub test_of : List Row → Option Asked
-test_of rows = option_map Test (first_of (codes "FILE") rows)
+-- `test FILE..`
+abbrev pub test_of : List Row → Option Wanted
+test_of rows = option_map wanted_test (all_of (codes "FILE") rows)
 
 -- `help [COMMAND]`
 abbrev pub help_of : List Row → Option Asked
@@ -297,8 +308,7 @@ command_asks name rows =
     else (if bytes_eq name (codes "check") then check_of rows
     else (if bytes_eq name (codes "explain") then explain_of rows
     else (if bytes_eq name (codes "frames") then frames_of rows
-    else (if bytes_eq name (codes "test") then test_of rows
-    else (if bytes_eq name (codes "help") then help_of rows else None)))))))))))
+    else (if bytes_eq name (codes "help") then help_of rows else None))))))))))
 
 -- what a command with these arguments asks for, and the file of `-o`
 abbrev pub answers_to : Text → List Row → Option Wanted
@@ -309,7 +319,8 @@ answers_to name rows =
 abbrev pub command_wants : Text → List Row → Option Wanted
 command_wants name rows =
     (if bytes_eq name (codes "run") then run_of rows
-    else (if bytes_eq name (codes "live") then live_of rows else answers_to name rows))
+    else (if bytes_eq name (codes "live") then live_of rows
+    else (if bytes_eq name (codes "test") then test_of rows else answers_to name rows)))
 
 -- what the words want, by the command that they name, and its arguments
 abbrev pub wanted_in : Option (Text × List Row) → Option Wanted

@@ -3,7 +3,7 @@ use Rattle.std.specs.Prelude.{◌≡◌, ℕ, true, List, [], ◌∷◌, map, co
 use Rattle.std.specs.Borrow.{Bor}
 use Rattle.clap.specs.Words.{App, Rule, Shape, Text, new_rule, with_subcommand}
 use Rattle.clap.specs.Simple.{new_shape}
-use Rattle.clap.specs.declared.builder.action.ArgAction.TheVariants.{Set, SetTrue}
+use Rattle.clap.specs.declared.builder.action.ArgAction.TheVariants.{Append, Set, SetTrue}
 use Rattle.clap.specs.declared.builder.value_parser.ValueParser.{ValueParser}
 use Rattle.clap.specs.declared.builder.value_parser.ValueParser.TheVariants.{Names, Unsigned}
 
@@ -51,6 +51,10 @@ option name = record (new_rule name) { long = Some name; value_names = 1; action
 abbrev pub file : Rule
 file = required (codes "FILE")
 
+-- the argument FILE, once or more
+abbrev pub files : Rule
+files = record file { action = Some Append }
+
 -- `--config C`
 abbrev pub config : Rule
 config = option (codes "config")
@@ -66,6 +70,10 @@ against = option (codes "against")
 -- `-j`, or `--json`; the letter is 106
 abbrev pub json : Rule
 json = record (flag (codes "json")) { short = Some 106 }
+
+-- `--bssid ADDR`
+abbrev pub bssid : Rule
+bssid = option (codes "bssid")
 
 -- `--context KEY=VALUE,..`
 abbrev pub context : Rule
@@ -162,15 +170,15 @@ check hooks = hook_command (codes "check") hooks (required (codes "CERT") ∷ co
 abbrev pub explain : Shape
 explain = command (codes "explain") (optional (codes "NUMBER") ∷ [])
 
--- `frames CAPTURE [--no-ticks] [-o FILE]`
+-- `frames CAPTURE [--no-ticks] [--bssid ADDR] [--all] [-o FILE]`
 abbrev pub frames : Shape
 frames =
-    command (codes "frames") (required (codes "CAPTURE") ∷ flag (codes "no-ticks")
-    ∷ output ∷ [])
+    command (codes "frames") (required (codes "CAPTURE") ∷ flag (codes "no-ticks") ∷ bssid
+    ∷ flag (codes "all") ∷ output ∷ [])
 
--- `test FILE`
+-- `test FILE..`
 abbrev pub test : Shape
-test = command (codes "test") (file ∷ [])
+test = command (codes "test") (files ∷ [])
 
 -- `help [COMMAND]`
 abbrev pub help : Shape

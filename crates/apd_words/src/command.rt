@@ -5,7 +5,7 @@ ghost use Rattle.clap.specs.Words.{App, Rule, Shape, app_of, rule_of, with_subco
 ghost use Rattle.clap.specs.Simple.{new_shape};
 ghost use Rattle.clap.specs.declared.builder.value_parser.ValueParser.TheVariants.{Names};
 ghost use Rattle.apd_words.specs.Built.{IsProgram, IsCommand, with_argument};
-ghost use Rattle.apd_words.specs.CommandLine.{command_line, program, with_code_commands, with_trial_commands, with_run_commands, with_certificate_commands, with_reading_commands, hook_command, required, optional, flag, hook, file, config, against, json, output, context, events, color, workers, states, work, verify, assemble, disassemble, trace, evaluate, run, live, certify, check, explain, frames, test, help};
+ghost use Rattle.apd_words.specs.CommandLine.{command_line, program, with_code_commands, with_trial_commands, with_run_commands, with_certificate_commands, with_reading_commands, hook_command, required, optional, flag, hook, file, files, config, against, json, output, bssid, context, events, color, workers, states, work, verify, assemble, disassemble, trace, evaluate, run, live, certify, check, explain, frames, test, help};
 
 use clap::builder::ValueParser;
 use clap::{Arg, ArgAction, Command};
@@ -304,18 +304,19 @@ fn frames<'a>(alloc: Global) -> Made<'a>
         required(alloc, "CAPTURE", capture),
     );
     let ticks = "Leave out the time between frames";
-    with_arg(
-        with_arg(command, flag(alloc, "no-ticks", ticks)),
-        output(alloc),
-    )
+    let command = with_arg(command, flag(alloc, "no-ticks", ticks));
+    let command = with_arg(command, bssid(alloc));
+    let all = "Keep frames that aren't for the access point";
+    let command = with_arg(command, flag(alloc, "all", all));
+    with_arg(command, output(alloc))
 }
 
 fn test<'a>(alloc: Global) -> Made<'a>
     ensures is { IfOk result (IsCommand test) }
 {
-    let about = "Judge policies by a file of cases, and print what failed";
+    let about = "Judge policies by files of cases, and print what failed";
     let command = named(alloc, "test", about);
-    with_arg(command, required(alloc, "FILE", "The file of cases"))
+    with_arg(command, files(alloc))
 }
 
 fn help<'a>(alloc: Global) -> Made<'a>
@@ -370,6 +371,17 @@ fn code<'a>(alloc: Global) -> Arg<'a>
         .help("Code, as hex digits with white space between")
 }
 
+/// FILE, once or more.
+fn files<'a>(alloc: Global) -> Arg<'a>
+    ensures is { rule_of result ≡ files }
+    ensures local { result.global ≡ false }
+{
+    Arg::new(alloc, "FILE")
+        .required(true)
+        .action(ArgAction::Append)
+        .help("A file of cases")
+}
+
 fn config<'a>(alloc: Global) -> Arg<'a>
     ensures is { rule_of result ≡ config }
     ensures local { result.global ≡ false }
@@ -413,6 +425,17 @@ fn output<'a>(alloc: Global) -> Arg<'a>
         .value_name("FILE")
         .action(ArgAction::Set)
         .help("Write to this file, and only if the command succeeds")
+}
+
+fn bssid<'a>(alloc: Global) -> Arg<'a>
+    ensures is { rule_of result ≡ bssid }
+    ensures local { result.global ≡ false }
+{
+    Arg::new(alloc, "bssid")
+        .long("bssid")
+        .value_name("ADDR")
+        .action(ArgAction::Set)
+        .help("The access point's address, unless the frames name only one")
 }
 
 fn context<'a>(alloc: Global) -> Arg<'a>

@@ -76,6 +76,17 @@ pub struct Claim<'a> {
     pub work: Option<u64>,
 }
 
+/// A capture to turn into a script, with the time between frames if `ticks` is set. Of its frames it has those for the
+/// access point, or all.
+#[derive(Clone, Copy)]
+pub struct Conversion<'a> {
+    pub capture: &'a str,
+    pub ticks: bool,
+    /// The access point's address, if it is given.
+    pub bssid: Option<&'a str>,
+    pub all: bool,
+}
+
 /// A script to run by 1 to 8 workers. `quiet` suppresses progress on standard error, `strict` ends the run after the
 /// first interval in which a line was refused, and `verbose` reports each load on standard error.
 #[derive(Clone, Copy)]
@@ -125,9 +136,7 @@ pub enum Question<'a> {
     Check(Claim<'a>),
     /// Without a number, it lists all.
     Explain { number: Option<&'a str> },
-    Frames { capture: &'a str, ticks: bool },
-    /// Judges a file of cases for policies.
-    Test { file: &'a str },
+    Frames(Conversion<'a>),
     /// Without a command, it is the program's help.
     Help { command: Option<&'a str> },
 }
@@ -140,11 +149,13 @@ pub struct Query<'a> {
 }
 
 /// What the words ask for.
-#[derive(Clone, Copy)]
+#[derive(Drop)]
 pub enum Request<'a> {
     Run(ScriptRun<'a>),
     Live(LiveRun<'a>),
     Answer(Query<'a>),
+    /// Judges these files of cases for policies.
+    Test(Vec<&'a str>),
 }
 
 /// What `apd` prints for words that make no request.
