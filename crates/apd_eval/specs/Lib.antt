@@ -11,3 +11,4 @@ pub mod Again
 pub mod Asked
 pub mod Changes
 pub mod Compared
+pub mod Repeated

@@ -3,7 +3,8 @@
 //! Main calls: `evaluation_text` and `compare`. It depends on `ap_core`, `program_judge` and `capture`. The frames of a
 //! capture come to a new access point of which the program is the only one; each query of its hook is a row, with the
 //! verdict and the steps of the program's run on that query. A second program may judge the same queries, with maps of
-//! its own; then the rows are the queries on which both differ.
+//! its own; then the rows are the queries on which both differ. `repeated_text` also tells how long a run takes, by a
+//! clock.
 #![tactic(auto)]
 
 mod again;
@@ -12,6 +13,7 @@ mod comparing;
 mod evaluating;
 mod follow;
 mod handling;
+mod repeating;
 mod ruling;
 mod sums;
 mod table;
@@ -24,5 +26,6 @@ pub use again::Contrast;
 pub use comparing::{Comparison, compare};
 pub use evaluating::{evaluate, evaluation_text};
 pub use follow::{Replay, Row};
+pub use repeating::{Figures, Rounds, repeated_text};
 pub use ruling::Ruling;
 pub use tried::copied_shapes;

@@ -4,6 +4,7 @@ pub mod KeptCode
 pub mod Slots
 pub mod Said
 pub mod Performing
+pub mod Repeated
 pub mod Delivering
 pub mod Admits
 pub mod Evaluated

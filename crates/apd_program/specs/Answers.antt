@@ -3,7 +3,7 @@ use Rattle.std.specs.Prelude.{◌^◌, Bool, List, ℕ, Option}
 use Rattle.bpf_regions.specs.declared.hooks.Hook.{Hook}
 use Rattle.bpf_decode.specs.Program.{Code}
 use Rattle.bpf_verifier.specs.declared.limit.Limits.{Limits}
-use Rattle.apd_words.specs.Asked.{Asked, Verify, Assemble, Disassemble, ListRaw, Graph, Trace, Evaluate, Explain, Frames, Test, Help, Certify, Check}
+use Rattle.apd_words.specs.Asked.{Asked, Verify, Assemble, Disassemble, ListRaw, Graph, Trace, Evaluate, Repeat, Explain, Frames, Test, Help, Certify, Check}
 use Rattle.apd_program.specs.declared.answer.Answer.{Answer}
 use Rattle.apd_program.specs.declared.reading.Setup.{Setup}
 use Rattle.apd_files.specs.declared.inputs.files.FileKind.TheVariants as kind
@@ -17,6 +17,7 @@ use Rattle.apd_program.specs.Verifying.{IsVerdict, IsBudget, IsRun, within}
 use Rattle.apd_program.specs.Texts.{IsAssembly, IsListingWith, IsRawListing}
 use Rattle.apd_program.specs.Drawings.{IsDrawing}
 use Rattle.apd_program.specs.Evaluating.{IsEvaluatedFile, HasNoEvaluation}
+use Rattle.apd_program.specs.Repeating.{IsRepeatedFile, HasNoRepetition}
 use Rattle.apd_program.specs.Testing.{AreTested, HaveNoTest}
 use Rattle.apd_program.specs.Certifying.{IsCertificate, IsChecked}
 
@@ -67,6 +68,8 @@ IsAnswer files (Trace hook file word config states work words from_frame) a =
     IsTraced files (within states work) hook file word config words from_frame a
 IsAnswer files (Evaluate hook file capture config against states work json) a =
     IsEvaluatedFile files (within states work) hook file capture against json config a
+IsAnswer files (Repeat hook file capture config against states work json times) a =
+    IsRepeatedFile files (within states work) hook file capture against json times config a
 IsAnswer files (Explain number) a = IsPageFor number a
 IsAnswer files (Frames capture ticks bssid all) a = IsOfText (IsScript ticks bssid all) files capture a
 IsAnswer files (Test paths) a = AreTested files paths a
@@ -85,6 +88,8 @@ HasNoAnswer files (Trace hook file word config states work words from_frame) =
     HasNoTrial files file word config words from_frame
 HasNoAnswer files (Evaluate hook file capture config against states work json) =
     HasNoEvaluation files file capture against config
+HasNoAnswer files (Repeat hook file capture config against states work json times) =
+    HasNoRepetition files file capture against config
 HasNoAnswer files (Explain number) = HasNoPage number
 HasNoAnswer files (Frames capture ticks bssid all) = HasNoScript files capture bssid all
 HasNoAnswer files (Test paths) = HaveNoTest files paths

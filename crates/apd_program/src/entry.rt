@@ -9,7 +9,7 @@ ghost use Rattle.apd_program.specs.Program.{Fulfils};
 ghost use Rattle.apd_program.specs.Forms.{in_lines};
 
 use crate::lines::run_live;
-use crate::program::{respond, tell};
+use crate::program::{Posed, respond, tell};
 use crate::testing;
 use apd_driver::{Form, Manner};
 use apd_files::Files;
@@ -142,7 +142,8 @@ where
             );
         }
         Ok(Request::Answer(query)) => {
-            let status = respond(alloc, query, files, &mut out, err);
+            let posed = Posed { query, clock: rt };
+            let status = respond(alloc, posed, files, &mut out, err);
             return (out, status);
         }
         Ok(Request::Test(paths)) => {

@@ -202,7 +202,7 @@ fn code_if_any<F: Files>(
 }
 
 /// Reads the files.
-fn gather<F: Files>(
+pub(crate) fn gather<F: Files>(
     alloc: Global,
     config: &str,
     evaluation: Evaluation<'_>,

@@ -33,6 +33,8 @@ pub(crate) enum ProgramFault {
         fault: CaptureFault,
     },
     NoConfig,
+    /// A repetition is of one program, and another is in force.
+    TwoPrograms,
     /// The word for the access point's address isn't one.
     NoAddress,
     /// The frames of this capture name several access points.
@@ -70,6 +72,9 @@ impl fmt::Display for ProgramFault {
             ProgramFault::NoConfig => f.write_str(
                 "apd: no --config was given, so no address to which the capture's frames come",
             ),
+            ProgramFault::TwoPrograms => {
+                f.write_str("apd: `--repeat` is of one program: leave out `--against`")
+            }
             ProgramFault::NoAddress => f.write_str("apd: `--bssid` takes 12 hex digits"),
             ProgramFault::Several(path) => write!(
                 f,

@@ -38,6 +38,9 @@ fn has_config(question: &Question<'_>) -> bool {
         }
         Question::Trace(trial) => trial.subject.source.config.is_some(),
         Question::Evaluate(evaluation) => evaluation.subject.source.config.is_some(),
+        Question::Repeat(repetition) => {
+            repetition.evaluation.subject.source.config.is_some()
+        }
         Question::Check(claim) => claim.source.config.is_some(),
         Question::Disassemble { source, .. }
         | Question::ListRaw { source, .. }

@@ -20,6 +20,7 @@ mod output;
 mod printing;
 mod program;
 mod reading;
+mod repeating;
 mod testing;
 mod texts;
 mod verifying;

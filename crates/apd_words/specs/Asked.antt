@@ -8,13 +8,14 @@ use Rattle.clap.specs.ValueTests.{is_unsigned_in}
 use Rattle.clap.specs.Words.{Row, Text, all_of, first_of}
 use Rattle.bpf_regions.specs.declared.hooks.Hook.{Hook}
 use Rattle.bpf_regions.specs.declared.hooks.Hook.TheVariants.{Association, Addba, Data}
-use Rattle.apd_words.specs.CommandLine.{most_states, most_work}
+use Rattle.apd_words.specs.CommandLine.{most_repeats, most_states, most_work}
 use Rattle.apd_words.specs.declared.Claim.{Claim}
 use Rattle.apd_words.specs.declared.Conversion.{Conversion}
 use Rattle.apd_words.specs.declared.Evaluation.{Evaluation}
 use Rattle.apd_words.specs.declared.LiveRun.{LiveRun}
 use Rattle.apd_words.specs.declared.Query.{Query}
 use Rattle.apd_words.specs.declared.Question.{Question}
+use Rattle.apd_words.specs.declared.Repetition.{Repetition}
 use Rattle.apd_words.specs.declared.Request.{Request}
 use Rattle.apd_words.specs.declared.ScriptRun.{ScriptRun}
 use Rattle.apd_words.specs.declared.Source.{Source}
@@ -32,6 +33,7 @@ pub data Asked : Type 0 where
   Graph : Text → Option Text → Asked
   Trace : Hook → Text → Text → Option Text → ℕ → Option ℕ → Option Text → Bool → Asked
   Evaluate : Hook → Text → Text → Option Text → Option Text → ℕ → Option ℕ → Bool → Asked
+  Repeat : Hook → Text → Text → Option Text → Option Text → ℕ → Option ℕ → Bool → ℕ → Asked
   Certify : Hook → Text → Option Text → ℕ → Option ℕ → Asked
   Check : Hook → Text → Text → Option Text → Option ℕ → Asked
   Explain : Option Text → Asked
@@ -82,6 +84,14 @@ asked_evaluation evaluation =
     (config_of evaluation.subject.source) (text_of evaluation.against)
     evaluation.subject.terms.states evaluation.subject.terms.work evaluation.json
 
+-- the question of `eval` with `--repeat`
+abbrev pub asked_repetition : Repetition → Asked
+asked_repetition repetition =
+    Repeat repetition.evaluation.subject.terms.hook repetition.evaluation.subject.source.file.now
+    repetition.evaluation.capture.now (config_of repetition.evaluation.subject.source)
+    (text_of repetition.evaluation.against) repetition.evaluation.subject.terms.states
+    repetition.evaluation.subject.terms.work repetition.evaluation.json repetition.times
+
 -- the question of `trace`
 abbrev pub asked_run : Trial → Asked
 asked_run trial =
@@ -114,6 +124,7 @@ asked_of (question.ListRaw source slots) = asked_slots source slots
 asked_of (question.Graph source) = asked_graph source
 asked_of (question.Trace trial) = asked_run trial
 asked_of (question.Evaluate evaluation) = asked_evaluation evaluation
+asked_of (question.Repeat repetition) = asked_repetition repetition
 asked_of (question.Certify subject) = asked_certificate subject
 asked_of (question.Check claim) = asked_check claim
 asked_of (question.Explain number) = Explain (text_of number)
@@ -178,6 +189,10 @@ states_named text = number_to most_states text
 abbrev pub work_named : Text → Option ℕ
 work_named text = number_to most_work text
 
+-- a number of times
+abbrev pub repeats_named : Text → Option ℕ
+repeats_named text = number_to most_repeats text
+
 -- ---- what the arguments of a command ask for; `first_of id rows` is the value of an argument
 
 -- whether a flag was given: its value is `true`
@@ -195,6 +210,10 @@ states_at rows = option_and_then states_named (first_of (codes "states") rows)
 -- how many units of work the verifier, or a check, may do; none if no limit is named
 abbrev pub work_at : List Row → Option ℕ
 work_at rows = option_and_then work_named (first_of (codes "work") rows)
+
+-- how often a judgement is repeated; none if no number is named
+abbrev pub repeats_at : List Row → Option ℕ
+repeats_at rows = option_and_then repeats_named (first_of (codes "repeat") rows)
 
 -- `verify HOOK FILE [--config C] [--states N] [--explain] [--work N]`
 abbrev pub verify_of : List Row → Option Asked
@@ -230,15 +249,23 @@ trace_of rows = do
   Some (Trace hook file frame (first_of (codes "config") rows) states (work_at rows)
       (first_of (codes "context") rows) (is_set (codes "from-frame") rows))
 
--- `eval HOOK FILE CAPTURE [--config C] [--against OLD] [--states N] [-j] [--work N]`
+-- an evaluation, repeated if a number of times is named
+abbrev pub evaluation_of : Hook → Text → Text → ℕ → List Row → Option ℕ → Asked
+evaluation_of hook file capture states rows None =
+    Evaluate hook file capture (first_of (codes "config") rows) (first_of (codes "against") rows)
+    states (work_at rows) (is_set (codes "json") rows)
+evaluation_of hook file capture states rows (Some times) =
+    Repeat hook file capture (first_of (codes "config") rows) (first_of (codes "against") rows)
+    states (work_at rows) (is_set (codes "json") rows) times
+
+-- `eval HOOK FILE CAPTURE [--config C] [--against OLD] [--states N] [-j] [--work N] [--repeat N]`
 abbrev pub evaluate_of : List Row → Option Asked
 evaluate_of rows = do
   hook ← hook_at rows
   file ← first_of (codes "FILE") rows
   capture ← first_of (codes "CAPTURE") rows
   states ← states_at rows
-  Some (Evaluate hook file capture (first_of (codes "config") rows)
-      (first_of (codes "against") rows) states (work_at rows) (is_set (codes "json") rows))
+  Some (evaluation_of hook file capture states rows (repeats_at rows))
 
 -- `run C SCRIPT [--workers N] [--states N] [--quiet] [--strict] [--verbose] [--work N]`
 abbrev pub run_of : List Row → Option Wanted

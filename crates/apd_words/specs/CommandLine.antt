@@ -25,6 +25,10 @@ most_states = 4194304
 abbrev pub most_work : ℕ
 most_work = 1099511627776
 
+-- the most times that a judgement may be repeated
+abbrev pub most_repeats : ℕ
+most_repeats = 1000000
+
 -- a value is one of these names
 pub record TakesNames (parser : ValueParser) (names : List Text) : Type 0 where
   pub given : Bor (List (Bor Text))
@@ -107,6 +111,10 @@ states = record (option (codes "states")) {
 abbrev pub work : Rule
 work = record (option (codes "work")) { parser = Some (Unsigned 1 most_work) }
 
+-- `--repeat N`, by default not at all
+abbrev pub repeat : Rule
+repeat = record (option (codes "repeat")) { parser = Some (Unsigned 1 most_repeats) }
+
 -- a command with these arguments
 abbrev pub command : Text → List Rule → Shape
 command name rules = record (new_shape name) { rules = rules }
@@ -137,11 +145,12 @@ trace hooks =
     hook_command (codes "trace") hooks (required (codes "FRAME") ∷ config ∷ states ∷ context
     ∷ flag (codes "from-frame") ∷ flag (codes "explain") ∷ work ∷ [])
 
--- `eval HOOK FILE CAPTURE [--config C] [--against OLD] [--states N] [-j] [-o FILE] [--work N]`
+-- `eval HOOK FILE CAPTURE [--config C] [--against OLD] [--states N] [-j] [-o FILE] [--work N]
+-- [--repeat N]`
 abbrev pub evaluate : ValueParser → Shape
 evaluate hooks =
     hook_command (codes "eval") hooks (required (codes "CAPTURE") ∷ config ∷ against ∷ states
-    ∷ json ∷ output ∷ work ∷ [])
+    ∷ json ∷ output ∷ work ∷ repeat ∷ [])
 
 -- `run C SCRIPT [--workers N] [--states N] [--quiet] [--strict] [--verbose] [--work N]`
 abbrev pub run : ValueParser → Shape

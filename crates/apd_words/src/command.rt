@@ -5,7 +5,7 @@ ghost use Rattle.clap.specs.Words.{App, Rule, Shape, app_of, rule_of, with_subco
 ghost use Rattle.clap.specs.Simple.{new_shape};
 ghost use Rattle.clap.specs.declared.builder.value_parser.ValueParser.TheVariants.{Names};
 ghost use Rattle.apd_words.specs.Built.{IsProgram, IsCommand, with_argument};
-ghost use Rattle.apd_words.specs.CommandLine.{command_line, program, with_code_commands, with_trial_commands, with_run_commands, with_certificate_commands, with_reading_commands, hook_command, required, optional, flag, hook, file, files, config, against, json, output, bssid, context, events, color, workers, states, work, verify, assemble, disassemble, trace, evaluate, run, live, certify, check, explain, frames, test, help};
+ghost use Rattle.apd_words.specs.CommandLine.{command_line, program, with_code_commands, with_trial_commands, with_run_commands, with_certificate_commands, with_reading_commands, hook_command, required, optional, flag, hook, file, files, config, against, json, output, bssid, context, events, color, workers, states, work, repeat, verify, assemble, disassemble, trace, evaluate, run, live, certify, check, explain, frames, test, help};
 
 use clap::builder::ValueParser;
 use clap::{Arg, ArgAction, Command};
@@ -17,6 +17,9 @@ pub(crate) static WORKERS: [&str; 8] = ["1", "2", "3", "4", "5", "6", "7", "8"];
 
 /// The most units of work that a limit may name.
 pub(crate) const MOST_WORK: u64 = 1099511627776;
+
+/// The most times that a judgement may be repeated.
+pub(crate) const MOST_REPEATS: u32 = 1000000;
 
 /// The most states that a limit may name.
 pub(crate) const MOST_STATES: u32 = 4194304;
@@ -218,7 +221,8 @@ fn evaluate<'a>(alloc: Global, hooks: &'a [&'a str]) -> Made<'a>
     );
     let command = with_arg(with_arg(command, config(alloc)), against(alloc));
     let command = with_arg(with_arg(command, states(alloc)), json(alloc));
-    with_arg(with_arg(command, output(alloc)), work(alloc))
+    let command = with_arg(with_arg(command, output(alloc)), work(alloc));
+    with_arg(command, repeat(alloc))
 }
 
 fn run<'a>(alloc: Global, numbers: &'a [&'a str]) -> Made<'a>
@@ -508,4 +512,16 @@ fn work<'a>(alloc: Global) -> Arg<'a>
         .action(ArgAction::Set)
         .value_parser(ValueParser::Unsigned(1, MOST_WORK))
         .help("How many units of work may be done, 1 to 1099511627776; without it, any number")
+}
+
+fn repeat<'a>(alloc: Global) -> Arg<'a>
+    ensures is { rule_of result ≡ repeat }
+    ensures local { result.global ≡ false }
+{
+    Arg::new(alloc, "repeat")
+        .long("repeat")
+        .value_name("N")
+        .action(ArgAction::Set)
+        .value_parser(ValueParser::Unsigned(1, u64::from(MOST_REPEATS)))
+        .help("Judge all queries N times more, and tell how long a run takes, 1 to 1000000")
 }

@@ -66,6 +66,13 @@ pub struct Evaluation<'a> {
     pub json: bool,
 }
 
+/// A program to judge the frames of a capture 1 to 1000000 times more, to tell how long a run takes.
+#[derive(Clone, Copy)]
+pub struct Repetition<'a> {
+    pub evaluation: Evaluation<'a>,
+    pub times: u32,
+}
+
 /// A program, the file of a certificate that should show it safe for a hook, and how many units of work the check may
 /// do, if that is limited.
 #[derive(Clone, Copy)]
@@ -132,6 +139,7 @@ pub enum Question<'a> {
     Graph { source: Source<'a> },
     Trace(Trial<'a>),
     Evaluate(Evaluation<'a>),
+    Repeat(Repetition<'a>),
     Certify { subject: Subject<'a> },
     Check(Claim<'a>),
     /// Without a number, it lists all.

@@ -4,12 +4,12 @@ ghost use Rattle.std.specs.Prelude.{◌≡◌, ◌≤◌, ◌^◌, IfOk, IfSome,
 ghost use Rattle.clap.specs.Matches.{found_of};
 ghost use Rattle.clap.specs.Simple.{subcommand_rows_of};
 ghost use Rattle.clap.specs.Walk.{all_of, first_of, rows_of};
-ghost use Rattle.apd_words.specs.Asked.{asked_of, command_asks, answers_to, wanted_of, wanted_in, asked_verdict, asked_certificate, hook_named, hook_at, workers_named, states_named, states_at, work_named, work_at, verify_of, assemble_of, disassemble_of, trace_of, evaluate_of, run_of, live_of, certify_of, check_of, explain_of, frames_of, test_of, help_of, is_set, texts_of};
+ghost use Rattle.apd_words.specs.Asked.{asked_of, command_asks, answers_to, wanted_of, wanted_in, asked_verdict, asked_certificate, hook_named, hook_at, workers_named, states_named, states_at, work_named, work_at, repeats_named, repeats_at, verify_of, assemble_of, disassemble_of, trace_of, evaluate_of, run_of, live_of, certify_of, check_of, explain_of, frames_of, test_of, help_of, is_set, texts_of};
 
-use crate::command::{MOST_STATES, MOST_WORK};
+use crate::command::{MOST_REPEATS, MOST_STATES, MOST_WORK};
 use crate::{
-    Claim, Conversion, Evaluation, Given, LiveRun, Query, Question, Request, ScriptRun, Source,
-    Subject, Terms, Trial,
+    Claim, Conversion, Evaluation, Given, LiveRun, Query, Question, Repetition, Request, ScriptRun,
+    Source, Subject, Terms, Trial,
 };
 use bpf_regions::Hook;
 use clap::ArgMatches;
@@ -127,12 +127,16 @@ fn evaluate<'a>(matches: &ArgMatches<'a>) -> Option<Question<'a>>
     let json = flag(matches, "json");
     let source = Source { file, config };
     let terms = Terms { hook, states, work };
-    Some(Question::Evaluate(Evaluation {
+    let evaluation = Evaluation {
         subject: Subject { source, terms },
         capture,
         against,
         json,
-    }))
+    };
+    match repeats(matches) {
+        Some(times) => Some(Question::Repeat(Repetition { evaluation, times })),
+        None => Some(Question::Evaluate(evaluation)),
+    }
 }
 
 fn run<'a>(matches: &ArgMatches<'a>) -> Option<Request<'a>>
@@ -372,6 +376,24 @@ fn work_named(text: &str) -> Option<u64>
 {
     match text.parse::<u64>() {
         Ok(work) if 1 <= work && work <= MOST_WORK => Some(work),
+        _ => None,
+    }
+}
+
+fn repeats(matches: &ArgMatches<'_>) -> Option<u32>
+    ensures is { result ≡ repeats_at (rows_of (found_of matches.now)) }
+    ensures from { IfSome result (λ times. 1 ≤ times) }
+{
+    let text = value(matches, "repeat")?;
+    repeats_named(text)
+}
+
+fn repeats_named(text: &str) -> Option<u32>
+    ensures is { result ≡ repeats_named text.now }
+    ensures from { IfSome result (λ times. 1 ≤ times) }
+{
+    match text.parse::<u32>() {
+        Ok(times) if 1 <= times && times <= MOST_REPEATS => Some(times),
         _ => None,
     }
 }

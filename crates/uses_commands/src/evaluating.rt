@@ -33,7 +33,7 @@ const DROPS: &[u8] = b"b700000001000000 9500000000000000";
 const MARKS: &[u8] = b"b7000000022e0000 9500000000000000";
 
 /// The capture `examples/voice.pcap`: an authentication, an association, two packets of voice, another, and one of ARP.
-const CAPTURE: &str = "d4c3b2a1020004000000000000000000ffff000069000000\
+pub const CAPTURE: &str = "d4c3b2a1020004000000000000000000ffff000069000000\
     e8030000000000001e0000001e000000\
     b000000002000000000102000000000a0200000000011000000001000000\
     e8030000d00700002700000027000000\
@@ -48,7 +48,7 @@ const CAPTURE: &str = "d4c3b2a1020004000000000000000000ffff000069000000\
     8801000002000000000102000000000a0200000000ff60000000aaaa0300000008060001";
 
 /// Fails if `apd eval` with these words has another result.
-fn judges(rt: &impl Abort, alloc: Global, words: &[&str], status: u8, out: &str, err: &str) {
+pub fn judges(rt: &impl Abort, alloc: Global, words: &[&str], status: u8, out: &str, err: &str) {
     let capture = hex::decode(alloc, CAPTURE).ok().expect(rt, "a capture");
     let files: [(&str, &[u8]); 8] = [
         ("voice.hex", VOICE),

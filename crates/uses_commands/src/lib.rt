@@ -42,6 +42,8 @@ mod options;
 #[cfg(test)]
 mod refusals;
 #[cfg(test)]
+mod repeating;
+#[cfg(test)]
 mod running;
 #[cfg(test)]
 mod same;

@@ -28,7 +28,7 @@ returns-in-Ok-Answer g c = record {
 pub returns-in-Ok-Test : goal.returns-in-Ok-Test
 returns-in-Ok-Test g c = record {
   fulfils = λ w spelled.
-      let P : Wanted → Type 0 = λ v. Fulfils (g.F.Files.held c.args.files.now) v (g.O.Write.contents c.args.streams.out) (g.O.Write.contents c.judge-status.new.out) c.judge-status.result in
+      let P : Wanted → Type 0 = λ v. Fulfils c.args.streams.shown (g.F.Files.held c.args.files.now) v (g.O.Write.contents c.args.streams.out) (g.O.Write.contents c.judge-status.new.out) c.judge-status.result in
       subst P ((rw c.in-Ok-Test.field-0-is at c.in-Ok-Test.ensures.spelled) w spelled) (rw c.as_slice.ensures.value at c.judge-status.ensures.is);
 }
 
