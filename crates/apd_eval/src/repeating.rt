@@ -1,7 +1,7 @@
 //! How long programs take on the queries of a capture.
 
-ghost use Rattle.std.specs.Prelude.{◌≡◌, ◌≤◌, IfOk, IfSome, length, map, string_bytes};
-ghost use Rattle.bpf_helpers.specs.Hooked.{IsFitting, shapes_of};
+ghost use Rattle.std.specs.Prelude.{◌≡◌, IfOk, IfSome, length, map, string_bytes};
+ghost use Rattle.bpf_helpers.specs.Hooked.{IsFitting};
 ghost use Rattle.capture.specs.Packets.{seen_of};
 ghost use Rattle.apd_eval.specs.Evaluated.{IsEvaluated};
 ghost use Rattle.apd_eval.specs.Repeated.{AreFigures, IsTold, IsRepeated, figures_line, json_figures, figures_text};
