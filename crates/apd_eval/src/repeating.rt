@@ -53,7 +53,11 @@ struct Judged {
 }
 
 /// The verdicts of a program, as `evaluate` returns them, and the program.
-fn judged(alloc: Global, accepted: Accepted, replay: Replay<'_>) -> Result<Judged, AllocError>
+fn judge_queries(
+    alloc: Global,
+    accepted: Accepted,
+    replay: Replay<'_>,
+) -> Result<Judged, AllocError>
     ensures rows { IfOk result (λ j. IsEvaluated accepted replay.entry.draw replay.entry.link.now
         (map seen_of replay.entry.packets.now) j.rows.items) }
 {
@@ -151,7 +155,7 @@ fn figures_of(durations: Vec<u64>) -> Option<Figures>
 }
 
 /// The figures of all rounds, if they could be timed.
-fn figures<C: Clock>(
+fn measure<C: Clock>(
     alloc: Global,
     matter: Matter<'_>,
     rounds: &Rounds<'_, C>,
@@ -230,7 +234,7 @@ pub fn repeated_text<C: Clock>(
         budget,
         replay,
     };
-    let Judged { programs, rows } = judged(alloc, accepted, replay)?;
+    let Judged { programs, rows } = judge_queries(alloc, accepted, replay)?;
     let mut text = table_text(alloc, rows.as_slice(), course, json)?;
     let matter = Matter {
         hook,
@@ -238,7 +242,7 @@ pub fn repeated_text<C: Clock>(
         replay,
         rows: rows.as_slice(),
     };
-    let figures = figures(alloc, matter, rounds)?;
+    let figures = measure(alloc, matter, rounds)?;
     let line = figures_text(alloc, rows.as_slice(), rounds.count, figures, json)?;
     text.push_str(line.as_str())?;
     Ok(text)

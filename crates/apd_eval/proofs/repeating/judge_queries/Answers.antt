@@ -2,7 +2,7 @@ use Rattle.std.proofs.Common.{List, Ok, sym, subst}
 use Rattle.bpf_helpers.specs.Hooked.{IsFitting}
 use Rattle.bpf_helpers.specs.Tables.{Tables}
 use Rattle.apd_eval.proofs.Rows.{evaluated}
-use Rattle.apd_eval.proofs.repeating.judged.Goals as goal
+use Rattle.apd_eval.proofs.repeating.judge_queries.Goals as goal
 
 pub follow-requires : goal.follow-requires
 follow-requires c = record {
