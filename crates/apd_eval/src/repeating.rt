@@ -146,11 +146,13 @@ fn durations<C: Clock>(
 fn figures_of(durations: Vec<u64>) -> Option<Figures>
     ensures are { IfSome result (AreFigures (length durations.items)) }
 {
+    if durations.is_empty() {
+        return None;
+    }
     let mut durations = durations;
     durations.sort_unstable();
-    let least = *durations.first()?;
-    let middle = (durations.len() - 1) / 2;
-    let median = *durations.get(middle)?;
+    let least = durations[0];
+    let median = durations[(durations.len() - 1) / 2];
     Some(Figures { least, median })
 }
 

@@ -3,4 +3,4 @@ use Rattle.std.proofs.Common.{◌≡◌, length}
 use Rattle.apd_eval.proofs.repeating.durations.Given as goal
 
 abbrev pub invariant-loop : goal.invariant-loop
-invariant-loop l = length l.durations.items ≡ l.counter
+invariant-loop g l = length l.durations.items ≡ l.counter
