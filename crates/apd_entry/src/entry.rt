@@ -11,7 +11,7 @@ ghost use Rattle.apd_entry.specs.Forms.{in_lines};
 use crate::lines::run_live;
 use apd_driver::{Form, Manner};
 use apd_files::Files;
-use apd_program::{respond, tell};
+use apd_program::{Posed, judge_cases, respond, tell};
 use apd_run::{Limits, OpenGate, Progress, RunWords, StateLimit, Streams, Supplies, run};
 use apd_words::{Request, ScriptRun, read_words};
 use std::alloc::Global;
@@ -141,7 +141,12 @@ where
             );
         }
         Ok(Request::Answer(query)) => {
-            let status = respond(alloc, query, files, &mut out, err);
+            let posed = Posed { query, clock: rt };
+            let status = respond(alloc, posed, files, &mut out, err);
+            return (out, status);
+        }
+        Ok(Request::Test(paths)) => {
+            let status = judge_cases(alloc, paths.as_slice(), files, &mut out, err);
             return (out, status);
         }
         Err(told) => {

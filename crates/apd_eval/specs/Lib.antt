@@ -14,3 +14,4 @@ pub mod Asked
 pub mod Changes
 pub mod Compared
 pub mod Profile
+pub mod Repeated

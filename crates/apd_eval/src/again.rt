@@ -56,7 +56,12 @@ fn bytes_at<'a>(packets: &'a [Packet<'a>], number: usize) -> &'a [u8]
 }
 
 /// Judges the query of a row by these programs.
-fn rule(policy: Policy<'_>, state: &mut Meter, row: &Row, packets: &[Packet<'_>]) -> Ruling
+pub(crate) fn rule(
+    policy: Policy<'_>,
+    state: &mut Meter,
+    row: &Row,
+    packets: &[Packet<'_>],
+) -> Ruling
     requires fitting { IsFitting policy.maps.now 0 state.old.held.seats }
     ensures ruling { IsRuling (read_at policy.entry row.now) policy.entry.programs.now state.old
         (query_of (map seen_of packets.now) row.now) result state.new }

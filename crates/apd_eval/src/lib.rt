@@ -4,7 +4,7 @@
 //! capture come to a new access point of which the program is the only one; each query of its hook is a row, with the
 //! verdict and the steps of the program's run on that query. A second program may judge the same queries, with maps of
 //! its own; then the rows are the queries on which both differ. `profile_text` tells at which instructions the runs on
-//! these queries make their steps.
+//! these queries make their steps, `repeated_text` how long a run takes, by a clock.
 #![tactic(auto)]
 
 mod again;
@@ -15,6 +15,7 @@ mod follow;
 mod handling;
 mod meter;
 mod profiling;
+mod repeating;
 mod ruling;
 mod sums;
 mod table;
@@ -28,5 +29,6 @@ pub use comparing::{Comparison, compare};
 pub use evaluating::{evaluate, evaluation_text};
 pub use follow::{Replay, Row};
 pub use profiling::{ProfileForm, profile_text};
+pub use repeating::{Figures, Rounds, repeated_text};
 pub use ruling::Ruling;
 pub use tried::copied_shapes;

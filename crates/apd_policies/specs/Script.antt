@@ -1,11 +1,13 @@
 -- A capture as a script: `frame HEX` for each frame, `tick N` for the time that passes before it in units of 1024
 -- microseconds, and a comment for each packet that is left out; `wait` after each 1000th packet, so that a run
--- prints its reports and keeps no more.
-use Rattle.std.specs.Prelude.{ℕ, ◌+◌, ◌-◌, ◌/◌, ◌%◌, ◌==◌, ◌&&◌, Bool, nat_lt, min, max, List, [], ◌∷◌, ◌++◌, length, codes, decimal, Option, Some, None, Result, Ok, Err, if◌then◌else◌}
+-- prints its reports and keeps no more. If an access point is named, frames that aren't for it are left out, and counted
+-- in a comment at the end.
+use Rattle.std.specs.Prelude.{ℕ, ◌+◌, ◌-◌, ◌/◌, ◌%◌, ◌==◌, ◌&&◌, Bool, true, false, nat_lt, min, max, List, [], ◌∷◌, ◌++◌, length, codes, decimal, Option, Some, None, Result, Ok, Err, if◌then◌else◌}
 use Rattle.hex.specs.Hex.{encode_lower}
 use Rattle.capture.specs.declared.fault.LeftOut.{LeftOut}
 use Rattle.capture.specs.declared.fault.LeftOut.TheVariants.{Cut, Radiotap, CheckSequence, WrongCheckSequence}
 use Rattle.capture.specs.Packets.{Seen}
+use Rattle.apd_policies.specs.Chosen.{is_kept, others}
 
 -- why a packet has no frame, in words
 abbrev pub reason_of : LeftOut → List ℕ
@@ -54,12 +56,27 @@ abbrev pub unit_of : ℕ → Option ℕ → ℕ
 unit_of start None = 0
 unit_of start (Some time) = (time - start) / 1024000
 
+-- a packet that comes at a unit after another, if it is kept
+abbrev pub kept_lines : Bool → Bool → ℕ → ℕ → ℕ → Result (List ℕ) LeftOut → List ℕ
+kept_lines true ticks number clock now frame = time_lines ticks clock now ++ packet_lines number frame
+kept_lines false ticks number clock now frame = []
+
+-- the latest unit after that
+abbrev pub clock_after : Bool → ℕ → ℕ → ℕ
+clock_after kept clock now = (if kept then max clock now else clock)
+
 -- the packets from this number on; `clock` is the latest unit so far
-abbrev pub lines_from : Bool → ℕ → ℕ → ℕ → List Seen → List ℕ
-lines_from ticks start number clock [] = []
-lines_from ticks start number clock (packet ∷ packets) =
-    time_lines ticks clock (unit_of start packet.time) ++ (packet_lines number packet.frame ++ (wait_lines number
-    ++ lines_from ticks start (number + 1) (max clock (unit_of start packet.time)) packets))
+abbrev pub lines_from : Bool → Option (List ℕ) → ℕ → ℕ → ℕ → List Seen → List ℕ
+lines_from ticks bssid start number clock [] = []
+lines_from ticks bssid start number clock (packet ∷ packets) =
+    kept_lines (is_kept bssid packet.frame) ticks number clock (unit_of start packet.time) packet.frame ++ (wait_lines number
+    ++ lines_from ticks bssid start (number + 1) (clock_after (is_kept bssid packet.frame) clock (unit_of start packet.time)) packets)
+
+-- how many packets aren't kept, if there are any
+abbrev pub others_line : ℕ → List ℕ
+others_line count =
+    (if count == 0 then [] else codes "# "
+    ++ (decimal count ++ (codes " frames that aren't for the access point are left out" ++ 10 ∷ [])))
 
 -- a packet's time, or the first one after it
 abbrev pub time_or : Option ℕ → ℕ → ℕ
@@ -71,6 +88,7 @@ abbrev pub start_of : List Seen → ℕ
 start_of [] = 0
 start_of (packet ∷ packets) = time_or packet.time (start_of packets)
 
--- the whole capture, with times or without; the first known time is the start
-abbrev pub script_of : Bool → List Seen → List ℕ
-script_of ticks packets = lines_from ticks (start_of packets) 1 0 packets
+-- the whole capture, with times or without, for an access point or with all frames; the first known time is the start
+abbrev pub script_of : Bool → Option (List ℕ) → List Seen → List ℕ
+script_of ticks bssid packets =
+    lines_from ticks bssid (start_of packets) 1 0 packets ++ others_line (others bssid packets)

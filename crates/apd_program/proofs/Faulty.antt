@@ -67,7 +67,7 @@ configuration_by files path text slice e f there same tells m (inl memory) = inl
 configuration_by files path text slice e f there same tells m (inr other) =
     inr (NoConfiguration text e there other (let P : List ℕ → Type 0 = λ t. TellsOfText t e in subst P same tells))
 
-known_capture : (e : CaptureFault) → (e ≡ capture.NoMemory) ⊎ (e ≢ capture.NoMemory)
+pub known_capture : (e : CaptureFault) → (e ≡ capture.NoMemory) ⊎ (e ≢ capture.NoMemory)
 known_capture capture.NoMemory = inl refl
 known_capture capture.NoCapture = inr (λ h. cc)
 known_capture capture.CutHeader = inr (λ h. cc)

@@ -4,6 +4,8 @@ pub mod KeptCode
 pub mod Slots
 pub mod Said
 pub mod Performing
+pub mod Repeated
+pub mod Scripted
 pub mod Delivering
 pub mod Admits
 pub mod Evaluated

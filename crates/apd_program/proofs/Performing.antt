@@ -50,6 +50,9 @@ complained files a output o (fault.OddDigits path) (inl memory) = cc
 complained files a output o (fault.Config path f) (inl memory) = cc
 complained files a output o fault.LongFrame (inl memory) = cc
 complained files a output o fault.NoConfig (inl memory) = cc
+complained files a output o fault.TwoPrograms (inl memory) = cc
+complained files a output o fault.NoAddress (inl memory) = cc
+complained files a output o (fault.Several path) (inl memory) = cc
 complained files a output o (fault.Cases path line why) (inl memory) = cc
 complained files a output o (fault.Unreadable path why) (inr h) = Refrained h (Keeps-same o)
 complained files a output o (fault.NoCode path f) (inr h) = Refrained h (Keeps-same o)
@@ -65,6 +68,9 @@ complained files a output o (fault.OddDigits path) (inr h) = Refrained h (Keeps-
 complained files a output o (fault.Config path f) (inr h) = Refrained h (Keeps-same o)
 complained files a output o fault.LongFrame (inr h) = Refrained h (Keeps-same o)
 complained files a output o fault.NoConfig (inr h) = Refrained h (Keeps-same o)
+complained files a output o fault.TwoPrograms (inr h) = Refrained h (Keeps-same o)
+complained files a output o fault.NoAddress (inr h) = Refrained h (Keeps-same o)
+complained files a output o (fault.Several path) (inr h) = Refrained h (Keeps-same o)
 complained files a output o (fault.Cases path line why) (inr h) = Refrained h (Keeps-same o)
 
 pub Performs-complained : (files : Held) (a : Asked) (output o : Option (List ℕ)) (f : ProgramFault) (status : ℕ) → (f ≡ fault.NoMemory) ⊎ HasNoAnswer files a → status ≡ fault_status f → Performs files a output o o status

@@ -1,5 +1,9 @@
--- Faults of files of cases.
-use Rattle.std.proofs.Common.{◌≡◌, ℕ, List, inl, inr, refl, subst}
+-- Reports on files of cases, and their faults.
+use Rattle.std.proofs.Common.{◌≡◌, ◌<◌, ◌++◌, ◌∷◌, ◌∙◌, ℕ, List, [], length, get_or, map, inl, inr, refl, sym, ap, subst}
+use Rattle.std.specs.Borrow.{Bor}
+use Rattle.std.specs.List.{Contains}
+use Rattle.std.proofs.lemmas.List.{get_or-map, length-map}
+use Rattle.std.proofs.lemmas.List.Elements.{Contains-get_or}
 use Rattle.apd_files.specs.Held.{Held, Holds}
 use Rattle.apd_cases.specs.Cases.{AreCases, IsFirstMalformed, Spoils}
 use Rattle.apd_cases.specs.Said.{Said}
@@ -8,7 +12,11 @@ use Rattle.apd_cases.specs.declared.reading.Unread.TheVariants as unread
 use Rattle.apd_program.specs.declared.fault.ProgramFault.{ProgramFault}
 use Rattle.apd_program.specs.declared.fault.ProgramFault.TheVariants.{NoMemory}
 use Rattle.apd_program.specs.Faults.{IsMemoryOr}
-use Rattle.apd_program.specs.Testing.{HasNoTest, NoCases, Unjudged}
+use Rattle.apd_program.specs.Testing.{IsTried, OneMore, Covers, HasNoTest, NoCases, Unjudged, HaveNoTest}
+use Rattle.apd_trials.specs.Reports.{Trial, IsReport}
+use Rattle.apd_trials.specs.declared.report.Report.{Report}
+use Rattle.apd_trials.specs.declared.row.Row.{Row}
+use Rattle.apd_words.specs.Asked.{texts_of}
 
 module _ (files : Held) (path text slice : List ℕ) (there : Holds files path text) (same : slice ≡ text) (f : ProgramFault) where
   pub cases_at_fault : (e : Unread) → Spoils slice e → (e ≡ unread.NoMemory → f ≡ NoMemory) → IsMemoryOr (HasNoTest files path) f
@@ -17,3 +25,23 @@ module _ (files : Held) (path text slice : List ℕ) (there : Holds files path t
 
   pub case_at_fault : (lines : List (ℕ × Said)) → AreCases slice lines → IsMemoryOr (HasNoTest files path) f
   case_at_fault lines cases = inr (Unjudged text lines there (let P : List ℕ → Type 0 = λ t. AreCases t lines in subst P same cases))
+
+-- a report on one more file
+pub covers_more : (files : Held) (path name : List ℕ) (rows : List Row) (old new : Report) → IsTried files path rows
+    → ((trials : List Trial) → IsReport old trials → IsReport new (trials ++ record { name = name; rows = rows } ∷ []))
+    → (paths : List (List ℕ)) → Covers files paths old → Covers files (paths ++ path ∷ []) new
+covers_more files path name rows old new tried more paths covers = record {
+  trials = covers.trials ++ record { name = name; rows = rows } ∷ [];
+  tried = OneMore path paths (record { name = name; rows = rows }) covers.trials covers.tried tried;
+  is = more covers.trials covers.is;
+}
+
+-- one of the files is at fault
+pub one_at_fault : (files : Held) (paths : List (Bor (List ℕ))) (i : ℕ) (path : Bor (List ℕ)) (f : ProgramFault) → i < length paths → path ≡ get_or paths i path
+    → IsMemoryOr (HasNoTest files path.now) f → IsMemoryOr (HaveNoTest files (texts_of paths)) f
+one_at_fault files paths i path f low is (inl memory) = inl memory
+one_at_fault files paths i path f low is (inr has) =
+    let text : Bor (List ℕ) → List ℕ = λ word. word.now in
+    let within : i < length (map text paths) = subst (λ n. i < n) (sym (length-map paths text)) low in
+    let there : get_or (map text paths) i path.now ≡ path.now = get_or-map text paths i path path.now low ∙ ap text (sym is) in
+    inr (record { path = path.now; among = subst (λ word. Contains (map text paths) word) there (Contains-get_or (map text paths) i path.now within); fault = has })

@@ -3,21 +3,22 @@ use Rattle.std.specs.Prelude.{◌^◌, Bool, List, ℕ, Option}
 use Rattle.bpf_regions.specs.declared.hooks.Hook.{Hook}
 use Rattle.bpf_decode.specs.Program.{Code}
 use Rattle.bpf_verifier.specs.declared.limit.Limits.{Limits}
-use Rattle.apd_words.specs.Asked.{Asked, Verify, Assemble, Disassemble, ListRaw, Graph, Trace, Evaluate, Explain, Frames, Test, Help, Certify, Check}
+use Rattle.apd_words.specs.Asked.{Asked, Verify, Assemble, Disassemble, ListRaw, Graph, Trace, Evaluate, Repeat, Explain, Frames, Test, Help, Certify, Check}
 use Rattle.apd_program.specs.declared.answer.Answer.{Answer}
 use Rattle.apd_program.specs.declared.reading.Setup.{Setup}
 use Rattle.apd_files.specs.declared.inputs.files.FileKind.TheVariants as kind
 use Rattle.apd_files.specs.Held.{Held, Holds, Lacks, HoldsCode, HoldsKept}
 use Rattle.apd_program.specs.Setups.{IsFrame, IsContext, Configures}
-use Rattle.apd_program.specs.Faults.{IsAtFault, HasNoTrial, HasBadCapture, HasNoCertificate}
+use Rattle.apd_program.specs.Faults.{IsAtFault, HasNoTrial, HasNoCertificate}
 use Rattle.apd_program.specs.Pages.{IsPageFor, HasNoPage, IsHelpText, HasNoHelp, help_words}
-use Rattle.apd_program.specs.Scripts.{IsScript}
+use Rattle.apd_program.specs.Scripts.{IsScript, HasNoScript}
 use Rattle.apd_program.specs.Programs.{IsOfProgram}
 use Rattle.apd_program.specs.Verifying.{IsVerdict, IsBudget, IsRun, within}
 use Rattle.apd_program.specs.Texts.{IsAssembly, IsListingWith, IsRawListing}
 use Rattle.apd_program.specs.Drawings.{IsDrawingWith}
 use Rattle.apd_program.specs.Evaluating.{IsEvaluatedFile, HasNoEvaluation}
-use Rattle.apd_program.specs.Testing.{IsTested, HasNoTest}
+use Rattle.apd_program.specs.Repeating.{IsRepeatedFile, HasNoRepetition}
+use Rattle.apd_program.specs.Testing.{AreTested, HaveNoTest}
 use Rattle.apd_program.specs.Certifying.{IsCertificate, IsChecked}
 
 -- what is said of the program in the file, with the configuration
@@ -67,9 +68,11 @@ IsAnswer files (Trace hook file word config states work words from_frame) a =
     IsTraced files (within states work) hook file word config words from_frame a
 IsAnswer files (Evaluate hook file capture config against states work report) a =
     IsEvaluatedFile files (within states work) hook file capture against report config a
+IsAnswer files (Repeat hook file capture config against states work report times) a =
+    IsRepeatedFile files (within states work) hook file capture against report times config a
 IsAnswer files (Explain number) a = IsPageFor number a
-IsAnswer files (Frames capture ticks) a = IsOfText (IsScript ticks) files capture a
-IsAnswer files (Test file) a = IsTested files file a
+IsAnswer files (Frames capture ticks bssid all) a = IsOfText (IsScript ticks bssid all) files capture a
+IsAnswer files (Test paths) a = AreTested files paths a
 IsAnswer files (Help command) a = IsHelpText (help_words command) a
 IsAnswer files (Certify hook file config states work) a = IsOfCode (λ setup. IsCertificate (within states work) hook) files file config a
 IsAnswer files (Check hook file certificate config work) a = IsCheckedFile files hook file certificate config work a
@@ -85,9 +88,11 @@ HasNoAnswer files (Trace hook file word config states work words from_frame) =
     HasNoTrial files file word config words from_frame
 HasNoAnswer files (Evaluate hook file capture config against states work report) =
     HasNoEvaluation files file capture against config
+HasNoAnswer files (Repeat hook file capture config against states work report times) =
+    HasNoRepetition files file capture against config
 HasNoAnswer files (Explain number) = HasNoPage number
-HasNoAnswer files (Frames capture ticks) = HasBadCapture files capture
-HasNoAnswer files (Test file) = HasNoTest files file
+HasNoAnswer files (Frames capture ticks bssid all) = HasNoScript files capture bssid all
+HasNoAnswer files (Test paths) = HaveNoTest files paths
 HasNoAnswer files (Help command) = HasNoHelp (help_words command)
 HasNoAnswer files (Certify hook file config states work) = IsAtFault files file config
 HasNoAnswer files (Check hook file certificate config work) = HasNoCertificate files file certificate config

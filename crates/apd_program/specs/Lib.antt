@@ -12,6 +12,7 @@ pub mod Drawings
 pub mod Pages
 pub mod Scripts
 pub mod Evaluating
+pub mod Repeating
 pub mod Testing
 pub mod Answers
 pub mod Printed

@@ -1,28 +1,91 @@
 -- The answer of `frames` for a capture.
-use Rattle.std.specs.Prelude.{◌≡◌, ℕ, Bool, List, ◌++◌, string_bytes}
+use Rattle.std.specs.Prelude.{◌≡◌, ◌≢◌, ℕ, Bool, true, false, List, ◌++◌, length, string_bytes, Option, Some, None, Ok}
+use Rattle.hex.specs.Hex.{decode_of}
 use Rattle.capture.specs.Packets.{Seen}
-use Rattle.capture.specs.Captures.{Holds, Refuses}
+use Rattle.capture.specs.Captures as capture
 use Rattle.capture.specs.declared.fault.CaptureFault.{CaptureFault}
+use Rattle.capture.specs.declared.fault.CaptureFault.TheVariants.{NoMemory}
+use Rattle.apd_files.specs.Held.{Held, Holds, Lacks}
+use Rattle.apd_files.specs.declared.inputs.files.FileKind.TheVariants.{Capture}
+use Rattle.apd_policies.specs.Chosen.{AreNamed, points_of}
 use Rattle.apd_policies.specs.Script.{script_of}
+use Rattle.apd_policies.specs.declared.frames.chosen.Named.TheVariants.{NoOne, One, Several}
 use Rattle.apd_program.specs.declared.answer.Answer.{Answer}
 use Rattle.apd_program.specs.declared.answer.Answer.TheVariants.{Script, CutScript}
+use Rattle.apd_program.specs.declared.framing.Choice.{Choice}
+use Rattle.apd_program.specs.declared.framing.Choice.TheVariants as choice
+
+-- the word spells an address, by 12 hex digits
+pub record IsAddress (word address : List ℕ) : Type 0 where
+  pub spelled : decode_of word ≡ Ok address
+  pub long : length address ≡ 6
+
+-- the frames that the words ask for: all, those for the given access point, or those for the only one
+pub data IsChoice : Option (List ℕ) → Bool → Choice → Type 0 where
+  AllChosen : (given : Option (List ℕ)) → IsChoice given true choice.All
+  GivenChosen : (word address : List ℕ) → IsAddress word address → IsChoice (Some word) false (choice.Given address)
+  OnlyChosen : IsChoice None false choice.Only
+
+-- The access point for whose frames a script of packets is; if they name none, it is for all frames.
+pub data IsFor (packets : List Seen) : Choice → Option (List ℕ) → Type 0 where
+  ForAll : IsFor packets choice.All None
+  ForGiven : (address : List ℕ) → IsFor packets (choice.Given address) (Some address)
+  ForOnly : (address : List ℕ) → AreNamed (points_of packets) (One address) → IsFor packets choice.Only (Some address)
+  ForNobody : AreNamed (points_of packets) NoOne → IsFor packets choice.Only None
+
+-- the text is a script of the packets, with the frames that are chosen
+pub record IsScriptFor (ticks : Bool) (c : Choice) (packets : List Seen) (text : List ℕ) : Type 0 where
+  pub bssid : Option (List ℕ)
+  pub is_for : IsFor packets c bssid
+  pub is : text ≡ script_of ticks bssid packets
+
+-- the packets name several access points, and none is chosen
+pub record IsUnclear (c : Choice) (packets : List Seen) : Type 0 where
+  pub only : c ≡ choice.Only
+  pub named : AreNamed (points_of packets) Several
 
 -- the text is the script of the file's packets
-pub record IsScriptOf (ticks : Bool) (file text : List ℕ) : Type 0 where
+pub record IsScriptOf (ticks : Bool) (c : Choice) (file text : List ℕ) : Type 0 where
   pub packets : List Seen
-  pub held : Holds file packets
-  pub is : text ≡ script_of ticks packets
+  pub held : capture.Holds file packets
+  pub is : IsScriptFor ticks c packets text
 
 -- the file has the fault, and the text is the script of some prefix of the file
-pub record IsCutScriptOf (ticks : Bool) (file text : List ℕ) (fault : CaptureFault) : Type 0 where
-  pub refused : Refuses file fault
+pub record IsCutScriptOf (ticks : Bool) (c : Choice) (file text : List ℕ) (fault : CaptureFault) : Type 0 where
+  pub refused : capture.Refuses file fault
   pub front : List ℕ
   pub rest : List ℕ
   pub cut : file ≡ front ++ rest
-  pub script : IsScriptOf ticks front text
+  pub script : IsScriptOf ticks c front text
+
+-- the script, with the frames that are chosen
+abbrev pub IsChosenScript : Bool → Choice → List ℕ → Answer → Type 0
+IsChosenScript ticks c file (Script text) = IsScriptOf ticks c file (string_bytes text)
+IsChosenScript ticks c file (CutScript text fault) = IsCutScriptOf ticks c file (string_bytes text) fault
+IsChosenScript ticks c file _ = ⊥
 
 -- `frames`: the script
-abbrev pub IsScript : Bool → List ℕ → Answer → Type 0
-IsScript ticks file (Script text) = IsScriptOf ticks file (string_bytes text)
-IsScript ticks file (CutScript text fault) = IsCutScriptOf ticks file (string_bytes text) fault
-IsScript ticks file _ = ⊥
+pub record IsScript (ticks : Bool) (given : Option (List ℕ)) (all : Bool) (file : List ℕ) (a : Answer) : Type 0 where
+  pub choice : Choice
+  pub chosen : IsChoice given all choice
+  pub script : IsChosenScript ticks choice file a
+
+-- packets of the file, or of some prefix of it, name several access points, and none is chosen
+pub record IsUnclearIn (c : Choice) (file : List ℕ) : Type 0 where
+  pub front : List ℕ
+  pub rest : List ℕ
+  pub cut : file ≡ front ++ rest
+  pub packets : List Seen
+  pub held : capture.Holds front packets
+  pub unclear : IsUnclear c packets
+
+-- the bytes aren't a capture, or its access point isn't clear
+pub data IsUnscripted (c : Choice) (file : List ℕ) : Type 0 where
+  NoCapture : (e : CaptureFault) → e ≢ NoMemory → capture.Refuses file e → IsUnscripted c file
+  Unclear : IsUnclearIn c file → IsUnscripted c file
+
+-- the word spells no address, or the file can't be read, or this is so of its bytes
+pub data HasNoScript (files : Held) (path : List ℕ) (given : Option (List ℕ)) (all : Bool) : Type 0 where
+  NoAddress : (word : List ℕ) → given ≡ Some word → ((address : List ℕ) → IsAddress word address → ⊥) → HasNoScript files path given all
+  NoFile : Lacks Capture files path → HasNoScript files path given all
+  NoScript : (c : Choice) (file : List ℕ) → IsChoice given all c → Holds files path file → IsUnscripted c file → HasNoScript files path given all

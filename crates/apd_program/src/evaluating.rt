@@ -111,7 +111,7 @@ fn report_text(
 }
 
 /// Whether lines of JSON are asked for.
-fn is_json(report: Report) -> bool
+pub(crate) fn is_json(report: Report) -> bool
     ensures is { result ≡ is_json report }
 {
     match report {
@@ -232,7 +232,7 @@ fn code_if_any<F: Files>(
 }
 
 /// Reads the files.
-fn gather<F: Files>(
+pub(crate) fn gather<F: Files>(
     alloc: Global,
     config: &str,
     evaluation: Evaluation<'_>,

@@ -33,6 +33,12 @@ pub enum ProgramFault {
         fault: CaptureFault,
     },
     NoConfig,
+    /// A repetition is of one program, and another is in force.
+    TwoPrograms,
+    /// The word for the access point's address isn't one.
+    NoAddress,
+    /// The frames of this capture name several access points.
+    Several(String),
     NoPage {
         word: String,
         ranges: String,
@@ -65,6 +71,14 @@ impl fmt::Display for ProgramFault {
             ProgramFault::Capture { path, fault } => write!(f, "apd: {path}: {fault}"),
             ProgramFault::NoConfig => f.write_str(
                 "apd: no --config was given, so no address to which the capture's frames come",
+            ),
+            ProgramFault::TwoPrograms => {
+                f.write_str("apd: `--repeat` is of one program: leave out `--against`")
+            }
+            ProgramFault::NoAddress => f.write_str("apd: `--bssid` takes 12 hex digits"),
+            ProgramFault::Several(path) => write!(
+                f,
+                "apd: {path}: the frames name several access points; `--bssid` chooses one, `--all` keeps all frames"
             ),
             ProgramFault::Cases { path, line, why } => write!(f, "apd: {path}:{line}: {why}"),
             ProgramFault::NoPage { word, ranges } => write!(
@@ -187,6 +201,14 @@ pub(crate) fn of_capture(alloc: Global, path: &str, fault: CaptureFault) -> Prog
     match fault {
         CaptureFault::NoMemory => ProgramFault::NoMemory,
         fault => ProgramFault::Capture { path, fault },
+    }
+}
+
+/// The fault of a capture whose frames name several access points.
+pub(crate) fn of_several(alloc: Global, path: &str) -> ProgramFault {
+    match shown(alloc, path) {
+        Ok(path) => ProgramFault::Several(path),
+        Err(AllocError) => ProgramFault::NoMemory,
     }
 }
 

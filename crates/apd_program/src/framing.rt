@@ -1,68 +1,185 @@
 //! A capture as a script: the command `frames`.
 
-ghost use Rattle.std.specs.Prelude.{◌≡◌, IfOk, IfErr, IfSome};
+ghost use Rattle.std.specs.Prelude.{◌≡◌, ◌++◌, ℕ, List, IfOk, IfErr, IfSome, map, string_bytes};
 ghost use Rattle.capture.specs.Captures.{Refuses};
+ghost use Rattle.capture.specs.Packets.{seen_of};
+ghost use Rattle.apd_files.specs.Held.{Held};
+ghost use Rattle.apd_words.specs.Asked.{text_of};
 ghost use Rattle.apd_program.specs.Answers.{IsOfText};
-ghost use Rattle.apd_program.specs.Faults.{IsMemoryOr, HasBadCapture};
-ghost use Rattle.apd_program.specs.Scripts.{IsScript};
+ghost use Rattle.apd_program.specs.Faults.{IsMemoryOr};
+ghost use Rattle.apd_program.specs.Scripts.{IsAddress, IsChoice, IsFor, IsScriptFor, IsUnclear, IsChosenScript, IsUnscripted, IsScript, HasNoScript};
 
 use crate::answer::Answer;
-use crate::fault::{ProgramFault, of_capture};
+use crate::fault::{ProgramFault, of_capture, of_several};
 use crate::reading::read;
 use apd_files::{FileKind, Files};
-use apd_policies::script_text;
-use capture::{CaptureFault, read_capture};
+use apd_policies::{Bssid, Manner, Named, access_points, script_text};
+use apd_words::Conversion;
+use capture::{CaptureFault, Packet, read_capture};
+use hex::FromHexError;
 use std::alloc::Global;
 
-/// The script of the frames in a capture, with the time between them if `ticks` is set. Of a cut capture, it has the
-/// frames before the cut.
-pub(crate) fn frames<F: Files>(
+/// The frames of a capture that are wanted.
+#[derive(Clone, Copy)]
+pub(crate) enum Choice {
+    All,
+    /// Those for this access point.
+    Given(Bssid),
+    /// Those for the only access point that the capture names.
+    Only,
+}
+
+/// The script that is wanted of a capture: with the time between frames or without, and with these frames.
+#[derive(Clone, Copy)]
+pub(crate) struct Plan {
+    pub ticks: bool,
+    pub choice: Choice,
+}
+
+/// The address that a word spells.
+fn address(alloc: Global, word: &str) -> Result<Bssid, ProgramFault>
+    ensures address { IfOk result (IsAddress word.now) }
+    ensures fault { IfErr result (IsMemoryOr ((a : List ℕ) → IsAddress word.now a → ⊥)) }
+{
+    let bytes = match hex::decode(alloc, word) {
+        Ok(bytes) => bytes,
+        Err(FromHexError::OutOfMemory) => return Err(ProgramFault::NoMemory),
+        Err(_) => return Err(ProgramFault::NoAddress),
+    };
+    match bytes.as_slice() {
+        [a, b, c, d, e, f] => return Ok([*a, *b, *c, *d, *e, *f]),
+        _ => return Err(ProgramFault::NoAddress),
+    }
+}
+
+/// The frames that the words ask for.
+fn chosen(alloc: Global, asked: Conversion<'_>) -> Result<Choice, ProgramFault>
+    ensures choice { IfOk result (IsChoice (text_of asked.entry.bssid) asked.entry.all) }
+    ensures fault { (files : Held) → IfErr result (IsMemoryOr (HasNoScript files
+        asked.entry.capture.now (text_of asked.entry.bssid) asked.entry.all)) }
+{
+    if asked.all {
+        return Ok(Choice::All);
+    }
+    match asked.bssid {
+        Some(word) => {
+            let address = address(alloc, word)?;
+            return Ok(Choice::Given(address));
+        }
+        None => return Ok(Choice::Only),
+    }
+}
+
+/// The access point for whose frames the script of these packets is, or `None` if it is for all frames. `path` names the
+/// capture if its frames name several.
+fn bssid(
     alloc: Global,
     path: &str,
-    ticks: bool,
-    files: &mut F,
-) -> Result<Answer, ProgramFault>
-    ensures script { IfOk result (λ a. IsOfText (IsScript ticks) (F.held files.old) path.now a) }
-    ensures fault { IfErr result (IsMemoryOr (HasBadCapture (F.held files.old) path.now)) }
+    choice: Choice,
+    packets: &[Packet<'_>],
+) -> Result<Option<Bssid>, ProgramFault>
+    ensures bssid { IfOk result (IsFor (map seen_of packets.now) choice) }
+    ensures unclear { IfErr result (IsMemoryOr (IsUnclear choice (map seen_of packets.now))) }
 {
-    let file = read(alloc, path, FileKind::Capture, files)?;
-    match read_capture(alloc, file.as_slice()) {
-        Ok(packets) => {
-            let text = script_text(alloc, packets.as_slice(), ticks)?;
-            Ok(Answer::Script(text))
-        }
-        Err(fault) => match cut_script(alloc, file.as_slice(), ticks, fault)? {
-            Some(answer) => Ok(answer),
-            None => Err(of_capture(alloc, path, fault)),
+    match choice {
+        Choice::All => return Ok(None),
+        Choice::Given(bssid) => return Ok(Some(bssid)),
+        Choice::Only => match access_points(packets) {
+            Named::NoOne => return Ok(None),
+            Named::One(bssid) => return Ok(Some(bssid)),
+            Named::Several => return Err(of_several(alloc, path)),
         },
     }
 }
 
-/// The script of what comes before the fault of a cut capture; `None` if it has another fault.
+/// The script of packets.
+fn script(
+    alloc: Global,
+    path: &str,
+    plan: Plan,
+    packets: &[Packet<'_>],
+) -> Result<String, ProgramFault>
+    ensures script { IfOk result (λ text. IsScriptFor plan.ticks plan.choice
+        (map seen_of packets.now) (string_bytes text)) }
+    ensures unclear { IfErr result
+        (IsMemoryOr (IsUnclear plan.choice (map seen_of packets.now))) }
+{
+    let bssid = bssid(alloc, path, plan.choice, packets)?;
+    let manner = Manner {
+        ticks: plan.ticks,
+        bssid,
+    };
+    let text = script_text(alloc, packets, manner)?;
+    Ok(text)
+}
+
+/// What comes before the record or block that is cut; `None` for another fault.
+fn front_of(file: &[u8], fault: CaptureFault) -> Option<&[u8]>
+    ensures is { IfSome result (λ front. (rest : List ℕ) × (file.now ≡ front.now ++ rest)) }
+{
+    let end = cut_at(file, fault)?;
+    let (front, _) = file.split_at_checked(end)?;
+    Some(front)
+}
+
+/// The script of a capture with this fault, if it is cut: what comes before.
 fn cut_script(
     alloc: Global,
+    path: &str,
+    plan: Plan,
     file: &[u8],
-    ticks: bool,
     fault: CaptureFault,
-) -> Result<Option<Answer>, ProgramFault>
+) -> Result<Answer, ProgramFault>
     requires refused { Refuses file.now fault }
-    ensures script { IfOk result (λ found. IfSome found (IsScript ticks file.now)) }
-    ensures memory { IfErr result (λ e. e ≡ ProgramFault.NoMemory) }
+    ensures script { IfOk result (IsChosenScript plan.ticks plan.choice file.now) }
+    ensures fault { IfErr result (IsMemoryOr (IsUnscripted plan.choice file.now)) }
 {
-    let Some(end) = cut_at(file, fault) else {
-        return Ok(None);
-    };
-    let Some((front, _)) = file.split_at_checked(end) else {
-        return Ok(None);
+    let Some(front) = front_of(file, fault) else {
+        return Err(of_capture(alloc, path, fault));
     };
     match read_capture(alloc, front) {
         Ok(packets) => {
-            let text = script_text(alloc, packets.as_slice(), ticks)?;
-            Ok(Some(Answer::CutScript { text, fault }))
+            let text = script(alloc, path, plan, packets.as_slice())?;
+            return Ok(Answer::CutScript { text, fault });
         }
-        Err(CaptureFault::NoMemory) => Err(ProgramFault::NoMemory),
-        Err(_) => Ok(None),
+        Err(CaptureFault::NoMemory) => return Err(ProgramFault::NoMemory),
+        Err(_) => return Err(of_capture(alloc, path, fault)),
     }
+}
+
+/// The script of a capture's bytes; of a cut capture, it has what is before the cut.
+fn convert(alloc: Global, path: &str, plan: Plan, file: &[u8]) -> Result<Answer, ProgramFault>
+    ensures script { IfOk result (IsChosenScript plan.ticks plan.choice file.now) }
+    ensures fault { IfErr result (IsMemoryOr (IsUnscripted plan.choice file.now)) }
+{
+    match read_capture(alloc, file) {
+        Ok(packets) => {
+            let text = script(alloc, path, plan, packets.as_slice())?;
+            return Ok(Answer::Script(text));
+        }
+        Err(fault) => return cut_script(alloc, path, plan, file, fault),
+    }
+}
+
+/// The script of the frames in a capture that the words ask for.
+pub(crate) fn frames<F: Files>(
+    alloc: Global,
+    asked: Conversion<'_>,
+    files: &mut F,
+) -> Result<Answer, ProgramFault>
+    ensures script { IfOk result (λ a. IsOfText (IsScript asked.entry.ticks
+        (text_of asked.entry.bssid) asked.entry.all) (F.held files.old) asked.entry.capture.now a) }
+    ensures fault { IfErr result (IsMemoryOr (HasNoScript (F.held files.old)
+        asked.entry.capture.now (text_of asked.entry.bssid) asked.entry.all)) }
+{
+    let choice = chosen(alloc, asked)?;
+    let plan = Plan {
+        ticks: asked.ticks,
+        choice,
+    };
+    let file = read(alloc, asked.capture, FileKind::Capture, files)?;
+    let answer = convert(alloc, asked.capture, plan, file.as_slice())?;
+    Ok(answer)
 }
 
 /// The bytes before the record or block that is cut; `None` for another fault.

@@ -15,8 +15,8 @@ pub(crate) fn of(
     answer: &Answer,
 ) -> Result<Option<String>, AllocError> {
     match (question, answer) {
-        (Question::Frames { capture, .. }, Answer::CutScript { fault, .. }) => {
-            let capture = shown(alloc, capture)?;
+        (Question::Frames(conversion), Answer::CutScript { fault, .. }) => {
+            let capture = shown(alloc, conversion.capture)?;
             let text = format!(in alloc;
                 "apd: {capture}: {fault}; the script has what is before that\n"
             )?;
@@ -38,14 +38,14 @@ fn has_config(question: &Question<'_>) -> bool {
         }
         Question::Trace(trial) => trial.subject.source.config.is_some(),
         Question::Evaluate(evaluation) => evaluation.subject.source.config.is_some(),
+        Question::Repeat(repetition) => { repetition.evaluation.subject.source.config.is_some() }
         Question::Check(claim) => claim.source.config.is_some(),
         Question::Disassemble { source, .. }
         | Question::ListRaw { source, .. }
         | Question::Graph { source, .. } => source.config.is_some(),
         Question::Assemble { .. }
         | Question::Explain { .. }
-        | Question::Frames { .. }
-        | Question::Test { .. }
+        | Question::Frames(_)
         | Question::Help { .. } => true,
     }
 }

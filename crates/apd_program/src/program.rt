@@ -20,19 +20,43 @@ use crate::printing::{complain, print_text, say, say_if_any};
 use crate::reading::{Loaded, Setup, certificate, frame, load, read};
 use crate::verifying::Stimulus;
 use crate::{
-    certifying, drawing, evaluating, explaining, framing, helping, hints, testing, texts, verifying,
+    certifying, drawing, evaluating, explaining, framing, helping, hints, repeating, testing,
+    texts, verifying,
 };
 use apd_files::{FileKind, Files};
 use apd_text::context_for;
 use apd_words::{Claim, Given, Query, Question, Request, Source, Subject, Told, Trial, read_words};
 use bpf_regions::{Context, Frame, Hook};
 use std::alloc::Global;
-use std::io::Write;
+use std::io::{self, ErrorKind, Write};
+use std::time::{Clock, Duration};
+
+/// A question, and the clock by which runs are timed.
+#[derive(Drop)]
+pub struct Posed<'a, C> {
+    pub query: Query<'a>,
+    pub clock: &'a C,
+}
+
+/// A clock that can't be read.
+#[derive(Clone, Copy)]
+struct NoClock;
+
+impl Clock for NoClock {
+    fn monotonic(&self) -> io::Result<Duration> {
+        Err(io::Error::from(ErrorKind::Unsupported))
+    }
+
+    fn since_1970(&self) -> io::Result<Duration> {
+        self.monotonic()
+    }
+}
 
 /// Does what the words ask for; the first is the program's own name. Returns the exit status: 0 for success; 1 if
 /// something was refused or a capture is cut; 2 for a fault of the words, a configuration, a file or a write; 3 for
 /// lack of memory. An answer goes to `out`, or, if it is a success, to the file named for it; all messages go to
-/// `err`. No script runs, nor lines as they come, since that takes threads (`perform`): the status is 2.
+/// `err`. No script runs, nor lines as they come, since that takes threads (`perform`): the status is 2. No clock tells
+/// how long the runs of `eval --repeat` take.
 pub fn apd_main<'a, F: Files, O: Write, E: Write>(
     alloc: Global,
     words: &'a [&'a str],
@@ -48,7 +72,11 @@ pub fn apd_main<'a, F: Files, O: Write, E: Write>(
         → Responds (F.held files.old) w (O.contents out.old) (O.contents out.new) result }
 {
     match read_words(alloc, words) {
-        Ok(Request::Answer(query)) => respond(alloc, query, files, out, err),
+        Ok(Request::Answer(query)) => {
+            let clock = &NoClock;
+            respond(alloc, Posed { query, clock }, files, out, err)
+        }
+        Ok(Request::Test(paths)) => testing::judge_cases(alloc, paths.as_slice(), files, out, err),
         Ok(Request::Run(_)) => complain(alloc, &ProgramFault::NoThreads, err),
         Ok(Request::Live(_)) => complain(alloc, &ProgramFault::NoThreads, err),
         Err(told) => tell(alloc, &told, out, err),
@@ -70,20 +98,21 @@ pub fn tell<O: Write, E: Write>(alloc: Global, told: &Told, out: &mut O, err: &m
 }
 
 /// Writes the answer to a question to standard output, or to the file named for it; returns the exit status.
-pub fn respond<F: Files, O: Write, E: Write>(
+pub fn respond<C: Clock, F: Files, O: Write, E: Write>(
     alloc: Global,
-    query: Query<'_>,
+    posed: Posed<'_, C>,
     files: &mut F,
     out: &mut O,
     err: &mut E,
 ) -> u8
     ensures is { Performs (F.held files.old)
-        (asked_of query.entry.question) (text_of query.entry.output)
+        (asked_of posed.entry.query.question) (text_of posed.entry.query.output)
         (O.contents out.old) (O.contents out.new) result }
 {
+    let Posed { query, clock } = posed;
     let Query { question, output } = query;
     let mut reason = Reason::wanted_by(&question);
-    match answer(alloc, question, files, &mut reason) {
+    match answer(alloc, question, clock, files, &mut reason) {
         Ok(answer) => {
             let sentence = explaining::sentence(alloc, &answer, reason.insn());
             let hint = hints::of(alloc, &question, &answer);
@@ -98,9 +127,10 @@ pub fn respond<F: Files, O: Write, E: Write>(
     }
 }
 
-fn answer<F: Files>(
+fn answer<C: Clock, F: Files>(
     alloc: Global,
     question: Question<'_>,
+    clock: &C,
     files: &mut F,
     reason: &mut Reason,
 ) -> Result<Answer, ProgramFault>
@@ -118,9 +148,11 @@ fn answer<F: Files>(
         }
         Question::Trace(trial) => trace(alloc, trial, files, reason),
         Question::Evaluate(evaluation) => evaluating::evaluate(alloc, evaluation, files, reason),
+        Question::Repeat(repetition) => {
+            repeating::repeat(alloc, repetition, clock, files, reason)
+        }
         Question::Explain { number } => explaining::page(alloc, number),
-        Question::Frames { capture, ticks } => framing::frames(alloc, capture, ticks, files),
-        Question::Test { file } => testing::test(alloc, file, files),
+        Question::Frames(conversion) => framing::frames(alloc, conversion, files),
         Question::Help { command } => helping::help(alloc, command),
         Question::Certify { subject } => certify(alloc, subject, files, reason),
         Question::Check(claim) => check(alloc, claim, files, reason),

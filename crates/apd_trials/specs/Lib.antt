@@ -4,3 +4,4 @@ pub mod Met
 pub mod Rows
 pub mod Running
 pub mod Texts
+pub mod Reports

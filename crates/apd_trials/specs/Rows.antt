@@ -1,5 +1,5 @@
 -- What becomes of the expectations of a file of cases.
-use Rattle.std.specs.Prelude.{◌≡◌, ℕ, ◌==◌, ◌&&◌, nat_lt, List, [], ◌∷◌, ◌++◌, Bool, not}
+use Rattle.std.specs.Prelude.{◌≡◌, ℕ, ◌+◌, ◌==◌, ◌&&◌, nat_lt, List, [], ◌∷◌, ◌++◌, Bool, not}
 use Rattle.std.specs.List.{count_by}
 use Rattle.apd_files.specs.Held.{Held}
 use Rattle.apd_trials.specs.Met.{is_met}
@@ -53,6 +53,10 @@ failed rows = count_by (λ row. not (is_ok row)) rows
 -- both numbers
 abbrev pub tally_of : List Row → Tally
 tally_of rows = record { passed = passed rows; failed = failed rows }
+
+-- the sums of both numbers
+abbrev pub sum_of : Tally → Tally → Tally
+sum_of a b = record { passed = a.passed + b.passed; failed = a.failed + b.failed }
 
 -- there is an expectation, and all are met
 abbrev pub is_good_tally : Tally → Bool

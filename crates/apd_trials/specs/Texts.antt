@@ -1,15 +1,16 @@
--- The lines that are printed for a file of cases.
+-- The lines that are printed for files of cases.
 use Rattle.std.specs.Prelude.{ℕ, List, [], ◌∷◌, ◌++◌, codes, decimal, length, if◌then◌else◌}
 use Rattle.std.specs.List.{flat_map}
 use Rattle.bpf_decode.specs.Answer.{fault_text}
 use Rattle.bpf_verifier.specs.Refusals.{refusal_text}
 use Rattle.apd_cases.specs.Spelling.{verdict_text, expectation_text}
-use Rattle.apd_trials.specs.Rows.{is_ok, passed, failed}
+use Rattle.apd_trials.specs.Rows.{is_ok}
 use Rattle.apd_trials.specs.declared.admission.Reason.{Reason}
 use Rattle.apd_trials.specs.declared.admission.Reason.TheVariants as reason
 use Rattle.apd_trials.specs.declared.found.Found.{Found}
 use Rattle.apd_trials.specs.declared.found.Found.TheVariants as found
 use Rattle.apd_trials.specs.declared.row.Row.{Row}
+use Rattle.apd_trials.specs.declared.row.Tally.{Tally}
 
 -- why a policy isn't admitted
 abbrev pub reason_text : Reason → List ℕ
@@ -49,10 +50,6 @@ abbrev pub rows_text : List ℕ → List Row → List ℕ
 rows_text path rows = flat_map (row_text path) rows
 
 -- the last line: how many expectations are met, and how many aren't
-abbrev pub counts_text : List Row → List ℕ
-counts_text rows =
-    decimal (passed rows) ++ (codes " passed, " ++ (decimal (failed rows) ++ (codes " failed" ++ 10 ∷ [])))
-
--- all that is printed
-abbrev pub report_text : List ℕ → List Row → List ℕ
-report_text path rows = rows_text path rows ++ counts_text rows
+abbrev pub counts_text : Tally → List ℕ
+counts_text t =
+    decimal t.passed ++ (codes " passed, " ++ (decimal t.failed ++ (codes " failed" ++ 10 ∷ [])))

@@ -1,7 +1,7 @@
 //! What becomes of an expectation.
 
-ghost use Rattle.std.specs.Prelude.{◌≡◌};
-ghost use Rattle.apd_trials.specs.Rows.{is_ok, passed, failed, is_good_tally};
+ghost use Rattle.std.specs.Prelude.{◌≡◌, IfSome};
+ghost use Rattle.apd_trials.specs.Rows.{is_ok, passed, failed, is_good_tally, sum_of};
 
 use crate::found::{Found, is_met};
 use apd_cases::Expectation;
@@ -38,6 +38,15 @@ impl Tally {
         ensures is { result ≡ is_good_tally self }
     {
         self.passed > 0 && self.failed == 0
+    }
+
+    /// The sums with other counts; `None` if one is too large.
+    pub(crate) fn plus(self, other: Tally) -> Option<Tally>
+        ensures is { IfSome result (λ sum. sum ≡ sum_of self other) }
+    {
+        let passed = self.passed.checked_add(other.passed)?;
+        let failed = self.failed.checked_add(other.failed)?;
+        Some(Tally { passed, failed })
     }
 }
 

@@ -1,11 +1,11 @@
-//! The lines that are printed for a file of cases.
+//! The lines that are printed for the rows of a file of cases.
 
 ghost use Rattle.std.specs.Prelude.{◌≡◌, ◌++◌, Some, IfOk, string_bytes};
-ghost use Rattle.apd_trials.specs.Texts.{reason_text, notes_text, found_text, row_text, rows_text, report_text};
+ghost use Rattle.apd_trials.specs.Texts.{reason_text, notes_text, found_text, row_text, rows_text};
 
 use crate::admission::Reason;
 use crate::found::Found;
-use crate::row::{Row, count_rows};
+use crate::row::Row;
 use std::alloc::{AllocError, Global};
 use std::fmt;
 use std::fmt::Write;
@@ -70,25 +70,13 @@ fn append_row(text: &mut String, path: &str, row: &Row) -> Result<(), AllocError
     Ok(())
 }
 
-/// The lines of all rows of the file with this path.
-fn rows_text(alloc: Global, path: &str, rows: &[Row]) -> Result<String, AllocError>
-    ensures is { IfOk result (λ text. string_bytes text ≡ rows_text path.now rows.now) }
+/// Appends the lines of all rows of the file with this path.
+pub(crate) fn append_rows(text: &mut String, path: &str, rows: &[Row]) -> Result<(), AllocError>
+    ensures ok { IfOk result
+        (λ _. string_bytes text.new ≡ string_bytes text.old ++ rows_text path.now rows.now) }
 {
-    let mut text = String::new(alloc);
     for row in rows {
-        append_row(&mut text, path, row)?;
+        append_row(text, path, row)?;
     }
-    Ok(text)
-}
-
-/// All that is printed for the file with this path: a line for each row, and how many are `ok` and how many aren't.
-pub fn report_text(alloc: Global, path: &str, rows: &[Row]) -> Result<String, AllocError>
-    ensures is { IfOk result (λ text. string_bytes text ≡ report_text path.now rows.now) }
-{
-    let mut text = rows_text(alloc, path, rows)?;
-    let tally = count_rows(rows);
-    let passed = tally.passed;
-    let failed = tally.failed;
-    writeln!(text, "{passed} passed, {failed} failed")?;
-    Ok(text)
+    Ok(())
 }

@@ -16,7 +16,7 @@ use Rattle.bpf_regions.specs.Hooks.{name_of}
 use Rattle.bpf_regions.specs.declared.hooks.Hook.{Hook}
 use Rattle.bpf_regions.specs.declared.hooks.Hook.TheVariants.{Association, Addba, Data}
 use Rattle.apd_words.specs.CommandLine.{command_line, hook_names, most_states, program as commands, verify, assemble, disassemble, trace, TakesNames}
-use Rattle.apd_words.specs.Asked.{Asked, Verify, Assemble, Disassemble, Trace, Answer, answers_to, command_asks, hook_named, run_of, live_of, states_named, wanted_in}
+use Rattle.apd_words.specs.Asked.{Asked, Verify, Assemble, Disassemble, Trace, Answer, answers_to, command_asks, hook_named, run_of, live_of, test_of, states_named, wanted_in}
 use Rattle.apd_words.specs.Spells.{IsOperand, Spells}
 use Rattle.apd_words.proofs.Level.{Enters, IsPlain, Passes, and_then, before_value, between, command_gives, command_passes, end_fault, first_operand, level_passes, next_operand, no_more, option_given, option_named, plain_then, value_then}
 
@@ -65,17 +65,19 @@ hook_is_named Association asks = refl
 hook_is_named Addba asks = refl
 hook_is_named Data asks = refl
 
--- the name of a command that runs no lines
+-- the name of a command that runs no lines, and judges no cases
 pub record IsOther (name : Text) : Type 0 where
   pub run : bytes_eq name (codes "run") ≡ false
   pub live : bytes_eq name (codes "live") ≡ false
+  pub test : bytes_eq name (codes "test") ≡ false
 
 -- a command's answer goes to standard output if no file is named for it
 answered : (name : Text) (rows : List Row) {a : Asked} → IsOther name → command_asks name rows ≡ Some a → first_of (codes "output") rows ≡ None
     → wanted_in (Some (name, rows)) ≡ Some (Answer a None)
 answered name rows {a} other asks none =
-    ap (λ b. (if b then run_of rows else (if bytes_eq name (codes "live") then live_of rows else answers_to name rows))) other.run
-    ∙ ap (λ b. (if b then live_of rows else answers_to name rows)) other.live
+    ap (λ b. (if b then run_of rows else (if bytes_eq name (codes "live") then live_of rows else (if bytes_eq name (codes "test") then test_of rows else answers_to name rows)))) other.run
+    ∙ ap (λ b. (if b then live_of rows else (if bytes_eq name (codes "test") then test_of rows else answers_to name rows))) other.live
+    ∙ ap (λ b. (if b then test_of rows else answers_to name rows)) other.test
     ∙ ap₂ (λ q o. option_map (λ asked. Answer asked o) q) asks none
 
 -- ---- verify
@@ -145,7 +147,7 @@ verify_within_asks p name file number = refl
 
 verify_is_other : (p : ValueParser) → IsOther (leaf (verify p)).name
 unfolding clap_on_literals
-verify_is_other p = record { run = refl; live = refl }
+verify_is_other p = record { run = refl; live = refl; test = refl }
 
 verify_output : (p : ValueParser) (name file : Text) → first_of (codes "output") (finished (leaf (verify p)).rules (verified p name file)) ≡ None
 unfolding clap_on_literals
@@ -210,7 +212,7 @@ assemble_asks file = refl
 
 assemble_is_other : IsOther (leaf assemble).name
 unfolding clap_on_literals
-assemble_is_other = record { run = refl; live = refl }
+assemble_is_other = record { run = refl; live = refl; test = refl }
 
 assemble_output : (file : Text) → first_of (codes "output") (finished (leaf assemble).rules (first_operand (codes "FILE") file)) ≡ None
 unfolding clap_on_literals
@@ -268,7 +270,7 @@ disassemble_with_asks file config = refl
 
 disassemble_is_other : IsOther (leaf disassemble).name
 unfolding clap_on_literals
-disassemble_is_other = record { run = refl; live = refl }
+disassemble_is_other = record { run = refl; live = refl; test = refl }
 
 disassemble_output : (file : Text) → first_of (codes "output") (finished (leaf disassemble).rules (listed file)) ≡ None
 unfolding clap_on_literals
@@ -371,7 +373,7 @@ trace_within_asks p name file frame number = refl
 
 trace_is_other : (p : ValueParser) → IsOther (leaf (trace p)).name
 unfolding clap_on_literals
-trace_is_other p = record { run = refl; live = refl }
+trace_is_other p = record { run = refl; live = refl; test = refl }
 
 trace_output : (p : ValueParser) (name file frame : Text) → first_of (codes "output") (finished (leaf (trace p)).rules (traced p name file frame)) ≡ None
 unfolding clap_on_literals

@@ -5,17 +5,19 @@ use Rattle.std.specs.Option.{option_map_or}
 use Rattle.std.specs.Str.{bytes_eq}
 use Rattle.std.specs.Str.Parse.{digits_value, without_leading_plus}
 use Rattle.clap.specs.ValueTests.{is_unsigned_in}
-use Rattle.clap.specs.Words.{Row, Text, first_of}
+use Rattle.clap.specs.Words.{Row, Text, all_of, first_of}
 use Rattle.bpf_regions.specs.declared.hooks.Hook.{Hook}
 use Rattle.bpf_regions.specs.declared.hooks.Hook.TheVariants.{Association, Addba, Data}
-use Rattle.apd_words.specs.CommandLine.{most_states, most_work}
+use Rattle.apd_words.specs.CommandLine.{most_repeats, most_states, most_work}
 use Rattle.apd_words.specs.declared.Claim.{Claim}
+use Rattle.apd_words.specs.declared.Conversion.{Conversion}
 use Rattle.apd_words.specs.declared.Evaluation.{Evaluation}
 use Rattle.apd_words.specs.declared.LiveRun.{LiveRun}
 use Rattle.apd_words.specs.declared.Query.{Query}
 use Rattle.apd_words.specs.declared.Question.{Question}
 use Rattle.apd_words.specs.declared.Report.{Report}
 use Rattle.apd_words.specs.declared.Report.TheVariants as report
+use Rattle.apd_words.specs.declared.Repetition.{Repetition}
 use Rattle.apd_words.specs.declared.Request.{Request}
 use Rattle.apd_words.specs.declared.ScriptRun.{ScriptRun}
 use Rattle.apd_words.specs.declared.Source.{Source}
@@ -33,11 +35,12 @@ pub data Asked : Type 0 where
   Graph : Text → Option Text → Bool → Asked
   Trace : Hook → Text → Text → Option Text → ℕ → Option ℕ → Option Text → Bool → Asked
   Evaluate : Hook → Text → Text → Option Text → Option Text → ℕ → Option ℕ → Report → Asked
+  Repeat : Hook → Text → Text → Option Text → Option Text → ℕ → Option ℕ → Report → ℕ → Asked
   Certify : Hook → Text → Option Text → ℕ → Option ℕ → Asked
   Check : Hook → Text → Text → Option Text → Option ℕ → Asked
   Explain : Option Text → Asked
-  Frames : Text → Bool → Asked
-  Test : Text → Asked
+  Frames : Text → Bool → Option Text → Bool → Asked
+  Test : List Text → Asked
   Help : Option Text → Asked
 
 -- the run of a script, or of lines as they come, or a question and the file for its answer, if there is one
@@ -83,6 +86,14 @@ asked_evaluation evaluation =
     (config_of evaluation.subject.source) (text_of evaluation.against)
     evaluation.subject.terms.states evaluation.subject.terms.work evaluation.report
 
+-- the question of `eval` with `--repeat`
+abbrev pub asked_repetition : Repetition → Asked
+asked_repetition repetition =
+    Repeat repetition.evaluation.subject.terms.hook repetition.evaluation.subject.source.file.now
+    repetition.evaluation.capture.now (config_of repetition.evaluation.subject.source)
+    (text_of repetition.evaluation.against) repetition.evaluation.subject.terms.states
+    repetition.evaluation.subject.terms.work repetition.evaluation.report repetition.times
+
 -- the question of `trace`
 abbrev pub asked_run : Trial → Asked
 asked_run trial =
@@ -95,6 +106,11 @@ abbrev pub asked_certificate : Subject → Asked
 asked_certificate subject =
     Certify subject.terms.hook subject.source.file.now (config_of subject.source) subject.terms.states
     subject.terms.work
+
+-- the question of `frames`
+abbrev pub asked_script : Conversion → Asked
+asked_script conversion =
+    Frames conversion.capture.now conversion.ticks (text_of conversion.bssid) conversion.all
 
 -- the question of `check`
 abbrev pub asked_check : Claim → Asked
@@ -110,11 +126,11 @@ asked_of (question.ListRaw source slots) = asked_slots source slots
 asked_of (question.Graph source explain) = asked_graph source explain
 asked_of (question.Trace trial) = asked_run trial
 asked_of (question.Evaluate evaluation) = asked_evaluation evaluation
+asked_of (question.Repeat repetition) = asked_repetition repetition
 asked_of (question.Certify subject) = asked_certificate subject
 asked_of (question.Check claim) = asked_check claim
 asked_of (question.Explain number) = Explain (text_of number)
-asked_of (question.Frames capture ticks) = Frames capture.now ticks
-asked_of (question.Test file) = Test file.now
+asked_of (question.Frames conversion) = asked_script conversion
 asked_of (question.Help command) = Help (text_of command)
 
 -- the run of a script
@@ -132,11 +148,16 @@ wanted_live run =
 abbrev pub wanted_answer : Query → Wanted
 wanted_answer query = Answer (asked_of query.question) (text_of query.output)
 
+-- the answer for files of cases, on standard output
+abbrev pub wanted_test : List Text → Wanted
+wanted_test files = Answer (Test files) None
+
 -- what a request wants
 abbrev pub wanted_of : Request → Wanted
 wanted_of (request.Run run) = wanted_run run
 wanted_of (request.Live run) = wanted_live run
 wanted_of (request.Answer query) = wanted_answer query
+wanted_of (request.Test files) = wanted_test (texts_of files.items)
 
 infixl 10 ◌>>=◌
 -- what follows from a part, if it is there
@@ -170,6 +191,10 @@ states_named text = number_to most_states text
 abbrev pub work_named : Text → Option ℕ
 work_named text = number_to most_work text
 
+-- a number of times
+abbrev pub repeats_named : Text → Option ℕ
+repeats_named text = number_to most_repeats text
+
 -- ---- what the arguments of a command ask for; `first_of id rows` is the value of an argument
 
 -- whether a flag was given: its value is `true`
@@ -187,6 +212,10 @@ states_at rows = option_and_then states_named (first_of (codes "states") rows)
 -- how many units of work the verifier, or a check, may do; none if no limit is named
 abbrev pub work_at : List Row → Option ℕ
 work_at rows = option_and_then work_named (first_of (codes "work") rows)
+
+-- how often a judgement is repeated; none if no number is named
+abbrev pub repeats_at : List Row → Option ℕ
+repeats_at rows = option_and_then repeats_named (first_of (codes "repeat") rows)
 
 -- `verify HOOK FILE [--config C] [--states N] [--explain] [--work N]`
 abbrev pub verify_of : List Row → Option Asked
@@ -230,15 +259,23 @@ report_at rows =
     then (if is_set (codes "json") rows then report.ProfileJson else report.Profile)
     else (if is_set (codes "json") rows then report.VerdictsJson else report.Verdicts)))
 
--- `eval HOOK FILE CAPTURE [--config C] [--against OLD] [--states N] [-j] [--work N] [--profile] [--dot]`
+-- an evaluation, repeated if a number of times is named
+abbrev pub evaluation_of : Hook → Text → Text → ℕ → List Row → Option ℕ → Asked
+evaluation_of hook file capture states rows None =
+    Evaluate hook file capture (first_of (codes "config") rows) (first_of (codes "against") rows)
+    states (work_at rows) (report_at rows)
+evaluation_of hook file capture states rows (Some times) =
+    Repeat hook file capture (first_of (codes "config") rows) (first_of (codes "against") rows)
+    states (work_at rows) (report_at rows) times
+
+-- `eval HOOK FILE CAPTURE [--config C] [--against OLD] [--states N] [-j] [--work N] [--profile] [--dot] [--repeat N]`
 abbrev pub evaluate_of : List Row → Option Asked
 evaluate_of rows = do
   hook ← hook_at rows
   file ← first_of (codes "FILE") rows
   capture ← first_of (codes "CAPTURE") rows
   states ← states_at rows
-  Some (Evaluate hook file capture (first_of (codes "config") rows)
-      (first_of (codes "against") rows) states (work_at rows) (report_at rows))
+  Some (evaluation_of hook file capture states rows (repeats_at rows))
 
 -- `run C SCRIPT [--workers N] [--states N] [--quiet] [--strict] [--verbose] [--work N]`
 abbrev pub run_of : List Row → Option Wanted
@@ -281,15 +318,16 @@ check_of rows = do
 abbrev pub explain_of : List Row → Option Asked
 explain_of rows = Some (Explain (first_of (codes "NUMBER") rows))
 
--- `frames CAPTURE [--no-ticks]`
+-- `frames CAPTURE [--no-ticks] [--bssid ADDR] [--all]`
 abbrev pub frames_of : List Row → Option Asked
 frames_of rows = do
   capture ← first_of (codes "CAPTURE") rows
-  Some (Frames capture (not (is_set (codes "no-ticks") rows)))
+  Some (Frames capture (not (is_set (codes "no-ticks") rows)) (first_of (codes "bssid") rows)
+      (is_set (codes "all") rows))
 
--- `test FILE`
-abbrev pub test_of : List Row → Option Asked
-test_of rows = option_map Test (first_of (codes "FILE") rows)
+-- `test FILE..`
+abbrev pub test_of : List Row → Option Wanted
+test_of rows = option_map wanted_test (all_of (codes "FILE") rows)
 
 -- `help [COMMAND]`
 abbrev pub help_of : List Row → Option Asked
@@ -307,8 +345,7 @@ command_asks name rows =
     else (if bytes_eq name (codes "check") then check_of rows
     else (if bytes_eq name (codes "explain") then explain_of rows
     else (if bytes_eq name (codes "frames") then frames_of rows
-    else (if bytes_eq name (codes "test") then test_of rows
-    else (if bytes_eq name (codes "help") then help_of rows else None)))))))))))
+    else (if bytes_eq name (codes "help") then help_of rows else None))))))))))
 
 -- what a command with these arguments asks for, and the file of `-o`
 abbrev pub answers_to : Text → List Row → Option Wanted
@@ -319,7 +356,8 @@ answers_to name rows =
 abbrev pub command_wants : Text → List Row → Option Wanted
 command_wants name rows =
     (if bytes_eq name (codes "run") then run_of rows
-    else (if bytes_eq name (codes "live") then live_of rows else answers_to name rows))
+    else (if bytes_eq name (codes "live") then live_of rows
+    else (if bytes_eq name (codes "test") then test_of rows else answers_to name rows)))
 
 -- what the words want, by the command that they name, and its arguments
 abbrev pub wanted_in : Option (Text × List Row) → Option Wanted

@@ -3,7 +3,7 @@ use Rattle.std.specs.Prelude.{◌≡◌, ℕ, true, List, [], ◌∷◌, map, co
 use Rattle.std.specs.Borrow.{Bor}
 use Rattle.clap.specs.Words.{App, Rule, Shape, Text, new_rule, with_subcommand}
 use Rattle.clap.specs.Simple.{new_shape}
-use Rattle.clap.specs.declared.builder.action.ArgAction.TheVariants.{Set, SetTrue}
+use Rattle.clap.specs.declared.builder.action.ArgAction.TheVariants.{Append, Set, SetTrue}
 use Rattle.clap.specs.declared.builder.value_parser.ValueParser.{ValueParser}
 use Rattle.clap.specs.declared.builder.value_parser.ValueParser.TheVariants.{Names, Unsigned}
 
@@ -24,6 +24,10 @@ most_states = 4194304
 -- the largest limit of work that may be named; no program needs it
 abbrev pub most_work : ℕ
 most_work = 1099511627776
+
+-- the most times that a judgement may be repeated
+abbrev pub most_repeats : ℕ
+most_repeats = 1000000
 
 -- a value is one of these names
 pub record TakesNames (parser : ValueParser) (names : List Text) : Type 0 where
@@ -51,6 +55,10 @@ option name = record (new_rule name) { long = Some name; value_names = 1; action
 abbrev pub file : Rule
 file = required (codes "FILE")
 
+-- the argument FILE, once or more
+abbrev pub files : Rule
+files = record file { action = Some Append }
+
 -- `--config C`
 abbrev pub config : Rule
 config = option (codes "config")
@@ -66,6 +74,10 @@ against = option (codes "against")
 -- `-j`, or `--json`; the letter is 106
 abbrev pub json : Rule
 json = record (flag (codes "json")) { short = Some 106 }
+
+-- `--bssid ADDR`
+abbrev pub bssid : Rule
+bssid = option (codes "bssid")
 
 -- `--context KEY=VALUE,..`
 abbrev pub context : Rule
@@ -99,6 +111,10 @@ states = record (option (codes "states")) {
 abbrev pub work : Rule
 work = record (option (codes "work")) { parser = Some (Unsigned 1 most_work) }
 
+-- `--repeat N`, by default not at all
+abbrev pub repeat : Rule
+repeat = record (option (codes "repeat")) { parser = Some (Unsigned 1 most_repeats) }
+
 -- a command with these arguments
 abbrev pub command : Text → List Rule → Shape
 command name rules = record (new_shape name) { rules = rules }
@@ -130,11 +146,11 @@ trace hooks =
     ∷ flag (codes "from-frame") ∷ flag (codes "explain") ∷ work ∷ [])
 
 -- `eval HOOK FILE CAPTURE [--config C] [--against OLD] [--states N] [-j] [-o FILE] [--work N]
--- [--profile] [--dot]`
+-- [--profile] [--dot] [--repeat N]`
 abbrev pub evaluate : ValueParser → Shape
 evaluate hooks =
     hook_command (codes "eval") hooks (required (codes "CAPTURE") ∷ config ∷ against ∷ states
-    ∷ json ∷ output ∷ work ∷ flag (codes "profile") ∷ flag (codes "dot") ∷ [])
+    ∷ json ∷ output ∷ work ∷ flag (codes "profile") ∷ flag (codes "dot") ∷ repeat ∷ [])
 
 -- `run C SCRIPT [--workers N] [--states N] [--quiet] [--strict] [--verbose] [--work N]`
 abbrev pub run : ValueParser → Shape
@@ -163,15 +179,15 @@ check hooks = hook_command (codes "check") hooks (required (codes "CERT") ∷ co
 abbrev pub explain : Shape
 explain = command (codes "explain") (optional (codes "NUMBER") ∷ [])
 
--- `frames CAPTURE [--no-ticks] [-o FILE]`
+-- `frames CAPTURE [--no-ticks] [--bssid ADDR] [--all] [-o FILE]`
 abbrev pub frames : Shape
 frames =
-    command (codes "frames") (required (codes "CAPTURE") ∷ flag (codes "no-ticks")
-    ∷ output ∷ [])
+    command (codes "frames") (required (codes "CAPTURE") ∷ flag (codes "no-ticks") ∷ bssid
+    ∷ flag (codes "all") ∷ output ∷ [])
 
--- `test FILE`
+-- `test FILE..`
 abbrev pub test : Shape
-test = command (codes "test") (file ∷ [])
+test = command (codes "test") (files ∷ [])
 
 -- `help [COMMAND]`
 abbrev pub help : Shape

@@ -5,7 +5,7 @@ ghost use Rattle.clap.specs.Words.{App, Rule, Shape, app_of, rule_of, with_subco
 ghost use Rattle.clap.specs.Simple.{new_shape};
 ghost use Rattle.clap.specs.declared.builder.value_parser.ValueParser.TheVariants.{Names};
 ghost use Rattle.apd_words.specs.Built.{IsProgram, IsCommand, with_argument};
-ghost use Rattle.apd_words.specs.CommandLine.{command_line, program, with_code_commands, with_trial_commands, with_run_commands, with_certificate_commands, with_reading_commands, hook_command, required, optional, flag, hook, file, config, against, json, output, context, events, color, workers, states, work, verify, assemble, disassemble, trace, evaluate, run, live, certify, check, explain, frames, test, help};
+ghost use Rattle.apd_words.specs.CommandLine.{command_line, program, with_code_commands, with_trial_commands, with_run_commands, with_certificate_commands, with_reading_commands, hook_command, required, optional, flag, hook, file, files, config, against, json, output, bssid, context, events, color, workers, states, work, repeat, verify, assemble, disassemble, trace, evaluate, run, live, certify, check, explain, frames, test, help};
 
 use clap::builder::ValueParser;
 use clap::{Arg, ArgAction, Command};
@@ -17,6 +17,9 @@ pub(crate) static WORKERS: [&str; 8] = ["1", "2", "3", "4", "5", "6", "7", "8"];
 
 /// The most units of work that a limit may name.
 pub(crate) const MOST_WORK: u64 = 1099511627776;
+
+/// The most times that a judgement may be repeated.
+pub(crate) const MOST_REPEATS: u32 = 1000000;
 
 /// The most states that a limit may name.
 pub(crate) const MOST_STATES: u32 = 4194304;
@@ -224,7 +227,8 @@ fn evaluate<'a>(alloc: Global, hooks: &'a [&'a str]) -> Made<'a>
     let profile = "Print in place of verdicts how often each instruction was executed";
     let command = with_arg(command, flag(alloc, "profile", profile));
     let dot = "Print that as the control-flow graph, for graphviz";
-    with_arg(command, flag(alloc, "dot", dot))
+    let command = with_arg(command, flag(alloc, "dot", dot));
+    with_arg(command, repeat(alloc))
 }
 
 fn run<'a>(alloc: Global, numbers: &'a [&'a str]) -> Made<'a>
@@ -310,18 +314,19 @@ fn frames<'a>(alloc: Global) -> Made<'a>
         required(alloc, "CAPTURE", capture),
     );
     let ticks = "Leave out the time between frames";
-    with_arg(
-        with_arg(command, flag(alloc, "no-ticks", ticks)),
-        output(alloc),
-    )
+    let command = with_arg(command, flag(alloc, "no-ticks", ticks));
+    let command = with_arg(command, bssid(alloc));
+    let all = "Keep frames that aren't for the access point";
+    let command = with_arg(command, flag(alloc, "all", all));
+    with_arg(command, output(alloc))
 }
 
 fn test<'a>(alloc: Global) -> Made<'a>
     ensures is { IfOk result (IsCommand test) }
 {
-    let about = "Judge policies by a file of cases, and print what failed";
+    let about = "Judge policies by files of cases, and print what failed";
     let command = named(alloc, "test", about);
-    with_arg(command, required(alloc, "FILE", "The file of cases"))
+    with_arg(command, files(alloc))
 }
 
 fn help<'a>(alloc: Global) -> Made<'a>
@@ -376,6 +381,17 @@ fn code<'a>(alloc: Global) -> Arg<'a>
         .help("Code, as hex digits with white space between")
 }
 
+/// FILE, once or more.
+fn files<'a>(alloc: Global) -> Arg<'a>
+    ensures is { rule_of result ≡ files }
+    ensures local { result.global ≡ false }
+{
+    Arg::new(alloc, "FILE")
+        .required(true)
+        .action(ArgAction::Append)
+        .help("A file of cases")
+}
+
 fn config<'a>(alloc: Global) -> Arg<'a>
     ensures is { rule_of result ≡ config }
     ensures local { result.global ≡ false }
@@ -419,6 +435,17 @@ fn output<'a>(alloc: Global) -> Arg<'a>
         .value_name("FILE")
         .action(ArgAction::Set)
         .help("Write to this file, and only if the command succeeds")
+}
+
+fn bssid<'a>(alloc: Global) -> Arg<'a>
+    ensures is { rule_of result ≡ bssid }
+    ensures local { result.global ≡ false }
+{
+    Arg::new(alloc, "bssid")
+        .long("bssid")
+        .value_name("ADDR")
+        .action(ArgAction::Set)
+        .help("The access point's address, unless the frames name only one")
 }
 
 fn context<'a>(alloc: Global) -> Arg<'a>
@@ -491,4 +518,16 @@ fn work<'a>(alloc: Global) -> Arg<'a>
         .action(ArgAction::Set)
         .value_parser(ValueParser::Unsigned(1, MOST_WORK))
         .help("How many units of work may be done, 1 to 1099511627776; without it, any number")
+}
+
+fn repeat<'a>(alloc: Global) -> Arg<'a>
+    ensures is { rule_of result ≡ repeat }
+    ensures local { result.global ≡ false }
+{
+    Arg::new(alloc, "repeat")
+        .long("repeat")
+        .value_name("N")
+        .action(ArgAction::Set)
+        .value_parser(ValueParser::Unsigned(1, u64::from(MOST_REPEATS)))
+        .help("Judge all queries N times more, and tell how long a run takes, 1 to 1000000")
 }

@@ -81,6 +81,13 @@ pub struct Evaluation<'a> {
     pub report: Report,
 }
 
+/// A program to judge the frames of a capture 1 to 1000000 times more, to tell how long a run takes.
+#[derive(Clone, Copy)]
+pub struct Repetition<'a> {
+    pub evaluation: Evaluation<'a>,
+    pub times: u32,
+}
+
 /// A program, the file of a certificate that should show it safe for a hook, and how many units of work the check may
 /// do, if that is limited.
 #[derive(Clone, Copy)]
@@ -89,6 +96,17 @@ pub struct Claim<'a> {
     pub source: Source<'a>,
     pub certificate: &'a str,
     pub work: Option<u64>,
+}
+
+/// A capture to turn into a script, with the time between frames if `ticks` is set. Of its frames it has those for the
+/// access point, or all.
+#[derive(Clone, Copy)]
+pub struct Conversion<'a> {
+    pub capture: &'a str,
+    pub ticks: bool,
+    /// The access point's address, if it is given.
+    pub bssid: Option<&'a str>,
+    pub all: bool,
 }
 
 /// A script to run by 1 to 8 workers. `quiet` suppresses progress on standard error, `strict` ends the run after the
@@ -136,13 +154,12 @@ pub enum Question<'a> {
     Graph { source: Source<'a>, explain: bool },
     Trace(Trial<'a>),
     Evaluate(Evaluation<'a>),
+    Repeat(Repetition<'a>),
     Certify { subject: Subject<'a> },
     Check(Claim<'a>),
     /// Without a number, it lists all.
     Explain { number: Option<&'a str> },
-    Frames { capture: &'a str, ticks: bool },
-    /// Judges a file of cases for policies.
-    Test { file: &'a str },
+    Frames(Conversion<'a>),
     /// Without a command, it is the program's help.
     Help { command: Option<&'a str> },
 }
@@ -155,11 +172,13 @@ pub struct Query<'a> {
 }
 
 /// What the words ask for.
-#[derive(Clone, Copy)]
+#[derive(Drop)]
 pub enum Request<'a> {
     Run(ScriptRun<'a>),
     Live(LiveRun<'a>),
     Answer(Query<'a>),
+    /// Judges these files of cases for policies.
+    Test(Vec<&'a str>),
 }
 
 /// What `apd` prints for words that make no request.

@@ -1,28 +1,36 @@
 //! What the parser's matches ask for.
 
-ghost use Rattle.std.specs.Prelude.{◌≡◌, ◌≤◌, ◌^◌, IfSome, option_map, codes};
+ghost use Rattle.std.specs.Prelude.{◌≡◌, ◌≤◌, ◌^◌, IfOk, IfSome, option_map, codes};
 ghost use Rattle.clap.specs.Matches.{found_of};
 ghost use Rattle.clap.specs.Simple.{subcommand_rows_of};
-ghost use Rattle.clap.specs.Walk.{first_of, rows_of};
-ghost use Rattle.apd_words.specs.Asked.{asked_of, command_asks, answers_to, wanted_of, wanted_in, asked_verdict, asked_certificate, hook_named, hook_at, report_at, workers_named, states_named, states_at, work_named, work_at, verify_of, assemble_of, disassemble_of, trace_of, evaluate_of, run_of, live_of, certify_of, check_of, explain_of, frames_of, test_of, help_of, is_set};
+ghost use Rattle.clap.specs.Walk.{all_of, first_of, rows_of};
+ghost use Rattle.apd_words.specs.Asked.{asked_of, command_asks, answers_to, wanted_of, wanted_in, asked_verdict, asked_certificate, hook_named, hook_at, report_at, workers_named, states_named, states_at, work_named, work_at, repeats_named, repeats_at, verify_of, assemble_of, disassemble_of, trace_of, evaluate_of, run_of, live_of, certify_of, check_of, explain_of, frames_of, test_of, help_of, is_set, texts_of};
 
-use crate::command::{MOST_STATES, MOST_WORK};
+use crate::command::{MOST_REPEATS, MOST_STATES, MOST_WORK};
 use crate::{
-    Claim, Evaluation, Given, LiveRun, Query, Question, Report, Request, ScriptRun, Source,
-    Subject, Terms, Trial,
+    Claim, Conversion, Evaluation, Given, LiveRun, Query, Question, Repetition, Report, Request,
+    ScriptRun, Source, Subject, Terms, Trial,
 };
 use bpf_regions::Hook;
 use clap::ArgMatches;
+use std::alloc::{AllocError, Global};
 
 /// The request of the matches; `None` only if the parser omitted what it requires.
-pub(crate) fn request<'a>(matches: &ArgMatches<'a>) -> Option<Request<'a>>
-    ensures is { option_map wanted_of result ≡ wanted_in (subcommand_rows_of matches.now) }
+pub(crate) fn request<'a>(
+    alloc: Global,
+    matches: &ArgMatches<'a>,
+) -> Result<Option<Request<'a>>, AllocError>
+    ensures is { IfOk result (λ request. option_map wanted_of request
+        ≡ wanted_in (subcommand_rows_of matches.now)) }
 {
-    let (name, matches) = matches.subcommand()?;
+    let Some((name, matches)) = matches.subcommand() else {
+        return Ok(None);
+    };
     match name {
-        "run" => run(matches),
-        "live" => live(matches),
-        _ => answer(name, matches),
+        "run" => Ok(run(matches)),
+        "live" => Ok(live(matches)),
+        "test" => test(alloc, matches),
+        _ => Ok(answer(name, matches)),
     }
 }
 
@@ -50,7 +58,6 @@ fn question<'a>(name: &str, matches: &ArgMatches<'a>) -> Option<Question<'a>>
         "check" => check(matches),
         "explain" => explain(matches),
         "frames" => frames(matches),
-        "test" => test(matches),
         "help" => help(matches),
         _ => None,
     }
@@ -121,12 +128,16 @@ fn evaluate<'a>(matches: &ArgMatches<'a>) -> Option<Question<'a>>
     let report = report(matches);
     let source = Source { file, config };
     let terms = Terms { hook, states, work };
-    Some(Question::Evaluate(Evaluation {
+    let evaluation = Evaluation {
         subject: Subject { source, terms },
         capture,
         against,
         report,
-    }))
+    };
+    match repeats(matches) {
+        Some(times) => Some(Question::Repeat(Repetition { evaluation, times })),
+        None => Some(Question::Evaluate(evaluation)),
+    }
 }
 
 /// What `--dot`, `--profile` and `-j` ask for.
@@ -229,14 +240,25 @@ fn frames<'a>(matches: &ArgMatches<'a>) -> Option<Question<'a>>
 {
     let capture = value(matches, "CAPTURE")?;
     let ticks = !flag(matches, "no-ticks");
-    Some(Question::Frames { capture, ticks })
+    let bssid = value(matches, "bssid");
+    let all = flag(matches, "all");
+    Some(Question::Frames(Conversion {
+        capture,
+        ticks,
+        bssid,
+        all,
+    }))
 }
 
-fn test<'a>(matches: &ArgMatches<'a>) -> Option<Question<'a>>
-    ensures is { option_map asked_of result ≡ test_of (rows_of (found_of matches.now)) }
+fn test<'a>(alloc: Global, matches: &ArgMatches<'a>) -> Result<Option<Request<'a>>, AllocError>
+    ensures is { IfOk result (λ request. option_map wanted_of request
+        ≡ test_of (rows_of (found_of matches.now))) }
 {
-    let file = value(matches, "FILE")?;
-    Some(Question::Test { file })
+    let Some(files) = values(matches, "FILE") else {
+        return Ok(None);
+    };
+    let files = Vec::from_slice(alloc, files)?;
+    Ok(Some(Request::Test(files)))
 }
 
 fn help<'a>(matches: &ArgMatches<'a>) -> Option<Question<'a>>
@@ -289,6 +311,13 @@ fn value<'a>(matches: &ArgMatches<'a>, name: &str) -> Option<&'a str>
         ≡ first_of name.now (rows_of (found_of matches.now)) }
 {
     matches.get_str(name)
+}
+
+fn values<'b, 'a>(matches: &'b ArgMatches<'a>, name: &str) -> Option<&'b [&'a str]>
+    ensures is { option_map (λ words. texts_of words.now) result
+        ≡ all_of name.now (rows_of (found_of matches.now)) }
+{
+    matches.get_raw(name)
 }
 
 fn hook(matches: &ArgMatches<'_>) -> Option<Hook>
@@ -364,6 +393,24 @@ fn work_named(text: &str) -> Option<u64>
 {
     match text.parse::<u64>() {
         Ok(work) if 1 <= work && work <= MOST_WORK => Some(work),
+        _ => None,
+    }
+}
+
+fn repeats(matches: &ArgMatches<'_>) -> Option<u32>
+    ensures is { result ≡ repeats_at (rows_of (found_of matches.now)) }
+    ensures from { IfSome result (λ times. 1 ≤ times) }
+{
+    let text = value(matches, "repeat")?;
+    repeats_named(text)
+}
+
+fn repeats_named(text: &str) -> Option<u32>
+    ensures is { result ≡ repeats_named text.now }
+    ensures from { IfSome result (λ times. 1 ≤ times) }
+{
+    match text.parse::<u32>() {
+        Ok(times) if 1 <= times && times <= MOST_REPEATS => Some(times),
         _ => None,
     }
 }

@@ -22,9 +22,10 @@ pub fn read_words<'a>(alloc: Global, words: &'a [&'a str]) -> Result<Request<'a>
         return Err(Told::NoMemory);
     };
     match command.try_get_matches_from(words) {
-        Ok(matches) => match request(&matches) {
-            Some(request) => Ok(request),
-            None => Err(incomplete(alloc)),
+        Ok(matches) => match request(alloc, &matches) {
+            Ok(Some(request)) => Ok(request),
+            Ok(None) => Err(incomplete(alloc)),
+            Err(AllocError) => Err(Told::NoMemory),
         },
         Err(error) => Err(told(alloc, &error)),
     }

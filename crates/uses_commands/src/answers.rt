@@ -10,14 +10,14 @@ use std::process::Abort;
 
 /// Files in memory, by name, and the unread part of the open one, which is read in blocks of 7 bytes.
 #[derive(Drop)]
-struct Folder<'a> {
+pub struct Folder<'a> {
     files: &'a [(&'a str, &'a [u8])],
     left: &'a [u8],
     alloc: Global,
 }
 
 /// Files in memory; none is open.
-fn folder_of<'a>(files: &'a [(&'a str, &'a [u8])], alloc: Global) -> Folder<'a> {
+pub fn folder_of<'a>(files: &'a [(&'a str, &'a [u8])], alloc: Global) -> Folder<'a> {
     Folder {
         files,
         left: b"",

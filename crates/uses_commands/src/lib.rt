@@ -1,14 +1,16 @@
 //! Tests of what a session can't show of `apd`: lack of memory, writers that fail, code, frames and files of the
 //! greatest length; faults of configurations and times of captures, by rows; well-formed and malformed scripts; the
-//! lines of a run and their order; whole runs by several workers with files in memory, and what they tell; and that
-//! each program on the pages on refusals is refused with its number, and admitted after the fix. The session of
-//! `uses_apd` shows everything else.
+//! lines of a run and their order; files of cases for policies; verdicts on a capture; whole runs by several workers
+//! with files in memory, and what they tell; and that each program on the pages on refusals is refused with its number,
+//! and admitted after the fix. The session of `uses_apd` shows everything else.
 #![tactic(auto)]
 
 #[cfg(test)]
 mod answers;
 #[cfg(test)]
 mod captures;
+#[cfg(test)]
+mod cases;
 #[cfg(test)]
 mod clocks;
 #[cfg(test)]
@@ -17,6 +19,8 @@ mod configuration;
 mod counted;
 #[cfg(test)]
 mod echo;
+#[cfg(test)]
+mod evaluating;
 #[cfg(test)]
 mod events;
 #[cfg(test)]
@@ -39,6 +43,8 @@ mod memory;
 mod options;
 #[cfg(test)]
 mod refusals;
+#[cfg(test)]
+mod repeating;
 #[cfg(test)]
 mod running;
 #[cfg(test)]

@@ -3,7 +3,7 @@
 ghost use Rattle.std.specs.Prelude.{◌≡◌, ◌++◌, ◌<◌, IfOk, codes};
 ghost use Rattle.std.specs.String.{string_bytes};
 ghost use Rattle.capture.specs.Radiotap.{bytes_in};
-ghost use Rattle.apd_policies.specs.Script.{reason_of, left_out_line, frame_line, frame_lines, packet_lines, tick_line, time_lines, wait_lines};
+ghost use Rattle.apd_policies.specs.Script.{reason_of, left_out_line, frame_line, frame_lines, packet_lines, tick_line, time_lines, wait_lines, others_line};
 
 use capture::LeftOut;
 use std::alloc::{AllocError, Global};
@@ -104,6 +104,20 @@ pub(crate) fn append_wait(text: &mut String, number: u64) -> Result<(), AllocErr
 {
     if number % 1000 == 0 {
         writeln!(text, "wait")?;
+    }
+    Ok(())
+}
+
+/// Appends how many packets aren't kept, if there are any.
+pub(crate) fn append_others(text: &mut String, count: usize) -> Result<(), AllocError>
+    ensures ok { IfOk result
+        (λ _. string_bytes text.new ≡ string_bytes text.old ++ others_line count) }
+{
+    if count > 0 {
+        writeln!(
+            text,
+            "# {count} frames that aren't for the access point are left out"
+        )?;
     }
     Ok(())
 }

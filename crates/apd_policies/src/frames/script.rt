@@ -1,12 +1,15 @@
 //! The script of a capture.
 
-ghost use Rattle.std.specs.Prelude.{◌≡◌, IfOk, map};
+ghost use Rattle.std.specs.Prelude.{◌≡◌, ◌++◌, IfOk, map};
 ghost use Rattle.std.specs.String.{string_bytes};
 ghost use Rattle.capture.specs.Packets.{seen_of};
-ghost use Rattle.apd_policies.specs.Script.{start_of, unit_of, script_of};
+ghost use Rattle.capture.specs.Radiotap.{bytes_in};
+ghost use Rattle.apd_policies.specs.Chosen.{is_kept};
+ghost use Rattle.apd_policies.specs.Script.{start_of, unit_of, kept_lines, clock_after, lines_from, script_of};
 
-use crate::frames::lines::{append_packet, append_time, append_wait};
-use capture::Packet;
+use crate::frames::chosen::{Bssid, count_others, is_kept};
+use crate::frames::lines::{append_others, append_packet, append_time, append_wait};
+use capture::{LeftOut, Packet};
 use std::alloc::{AllocError, Global};
 
 /// The first known time, in nanoseconds; 0 if there is none.
@@ -31,12 +34,48 @@ pub fn unit(start: u64, time: Option<u64>) -> u64
     }
 }
 
-/// The packets of a capture as a script: a line `frame HEX` for each frame, after `tick N` for the units of 1024
-/// microseconds that have passed, if `ticks` is set; a comment for each packet that is left out; and a line `wait`
-/// after each 1000th packet. No time passes before a packet whose time is unknown.
-pub fn script_text(alloc: Global, packets: &[Packet<'_>], ticks: bool) -> Result<String, AllocError>
-    ensures is { IfOk result
-        (λ text. string_bytes text ≡ script_of ticks (map seen_of packets.now)) }
+/// How a capture becomes a script: with the time between frames or without, and with all frames or, if an access point
+/// is named, those for it.
+#[derive(Clone, Copy, Debug, PartialEq, Eq)]
+pub struct Manner {
+    pub ticks: bool,
+    pub bssid: Option<Bssid>,
+}
+
+/// A packet with this number comes at the unit `now`; `clock` is the latest unit before.
+#[derive(Clone, Copy)]
+struct Arrival {
+    number: u64,
+    clock: u64,
+    now: u64,
+}
+
+/// Appends the time before a packet and its line, if it is kept; returns the latest unit after that.
+fn append_arrival(
+    alloc: Global,
+    text: &mut String,
+    manner: Manner,
+    arrival: Arrival,
+    frame: Result<&[u8], LeftOut>,
+) -> Result<u64, AllocError>
+    ensures lines { IfOk result (λ _. string_bytes text.new ≡ string_bytes text.old
+        ++ kept_lines (is_kept manner.bssid (bytes_in frame.entry)) manner.ticks arrival.number
+        arrival.clock arrival.now (bytes_in frame.entry)) }
+    ensures clock { IfOk result (λ clock. clock ≡ clock_after
+        (is_kept manner.bssid (bytes_in frame.entry)) arrival.clock arrival.now) }
+{
+    if is_kept(manner.bssid, frame) {
+        append_time(text, manner.ticks, arrival.clock, arrival.now)?;
+        append_packet(alloc, text, arrival.number, frame)?;
+        return Ok(arrival.clock.max(arrival.now));
+    }
+    Ok(arrival.clock)
+}
+
+/// The lines of packets, without the last comment.
+fn packets_text(alloc: Global, packets: &[Packet<'_>], manner: Manner) -> Result<String, AllocError>
+    ensures is { IfOk result (λ text. string_bytes text ≡ lines_from manner.ticks manner.bssid
+        (start_of (map seen_of packets.now)) 1 0 (map seen_of packets.now)) }
 {
     let mut text = String::new(alloc);
     let start = start(packets);
@@ -44,11 +83,27 @@ pub fn script_text(alloc: Global, packets: &[Packet<'_>], ticks: bool) -> Result
     let mut number = 1;
     for packet in packets {
         let now = unit(start, packet.time);
-        append_time(&mut text, ticks, clock, now)?;
-        append_packet(alloc, &mut text, number, packet.frame)?;
+        let arrival = Arrival { number, clock, now };
+        clock = append_arrival(alloc, &mut text, manner, arrival, packet.frame)?;
         append_wait(&mut text, number)?;
-        clock = clock.max(now);
         number += 1;
     }
+    Ok(text)
+}
+
+/// The packets of a capture as a script: a line `frame HEX` for each frame that is kept, after `tick N` for the units of
+/// 1024 microseconds that have passed, if they are wanted; a comment for each packet that has no frame; a line `wait`
+/// after each 1000th packet; and a comment that counts the frames that aren't kept. No time passes before a packet whose
+/// time is unknown.
+pub fn script_text(
+    alloc: Global,
+    packets: &[Packet<'_>],
+    manner: Manner,
+) -> Result<String, AllocError>
+    ensures is { IfOk result (λ text. string_bytes text
+        ≡ script_of manner.ticks manner.bssid (map seen_of packets.now)) }
+{
+    let mut text = packets_text(alloc, packets, manner)?;
+    append_others(&mut text, count_others(manner.bssid, packets))?;
     Ok(text)
 }

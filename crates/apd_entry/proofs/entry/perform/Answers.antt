@@ -25,5 +25,12 @@ returns-in-Ok-Answer g c = record {
       subst P ((rw c.in-Ok-Answer.field-0-is at c.in-Ok-Answer.ensures.spelled) w spelled) c.respond-status.ensures.is;
 }
 
+pub returns-in-Ok-Test : goal.returns-in-Ok-Test
+returns-in-Ok-Test g c = record {
+  fulfils = λ w spelled.
+      let P : Wanted → Type 0 = λ v. Fulfils c.args.streams.shown (g.F.Files.held c.args.files.now) v (g.O.Write.contents c.args.streams.out) (g.O.Write.contents c.judge_cases-status.new.out) c.judge_cases-status.result in
+      subst P ((rw c.in-Ok-Test.field-0-is at c.in-Ok-Test.ensures.spelled) w spelled) (rw c.as_slice.ensures.value at c.judge_cases-status.ensures.is);
+}
+
 pub returns-in-Err : goal.returns-in-Err
 returns-in-Err g c = record { fulfils = λ w spelled. Fulfils-told c.args.streams.shown _ w _ _ _ _ (c.in-Err.ensures.spelled w spelled) c.tell-status.ensures.is }

@@ -1,5 +1,5 @@
 use Rattle.std.proofs.Common.{inl, refl, subst}
-use Rattle.apd_words.specs.Asked.{Wanted, wanted_answer, wanted_run, wanted_live}
+use Rattle.apd_words.specs.Asked.{Wanted, texts_of, wanted_answer, wanted_run, wanted_live, wanted_test}
 use Rattle.apd_program.specs.Program.{Responds, Performed}
 use Rattle.apd_program.proofs.Performing.{Responds-status, Responds-memory, Responds-told, Does-told}
 use Rattle.apd_program.proofs.program.apd_main.Goals as goal
@@ -25,6 +25,28 @@ pub returns-in-Ok-Answer-clause-spelled : goal.returns-in-Ok-Answer-clause-spell
 returns-in-Ok-Answer-clause-spelled g c = λ w spelled.
     let P : Wanted → Type 0 = λ v. Responds (g.F.Files.held c.args.files.now) v (g.O.Write.contents c.args.out.now) (g.O.Write.contents c.respond.new.out) c.respond.result in
     subst P ((rw c.in-Ok-Answer.field-0-is at c.in-Ok-Answer.ensures.spelled) w spelled) c.respond.ensures.is
+
+pub returns-in-Ok-Test-clause-status : goal.returns-in-Ok-Test-clause-status
+returns-in-Ok-Test-clause-status g c = Responds-status _ (wanted_test (texts_of c.as_slice.result.now)) _ _ _ c.judge_cases.ensures.is
+
+pub returns-in-Ok-Test-clause-memory : goal.returns-in-Ok-Test-clause-memory
+returns-in-Ok-Test-clause-memory g c = Responds-memory _ (wanted_test (texts_of c.as_slice.result.now)) _ _ _ c.judge_cases.ensures.is
+
+pub returns-in-Ok-Test-clause-runs : goal.returns-in-Ok-Test-clause-runs
+returns-in-Ok-Test-clause-runs g c =
+    let reads = rw c.in-Ok-Test.field-0-is at c.in-Ok-Test.ensures.reads in
+    record {
+      hooks = reads.hooks;
+      numbers = reads.numbers;
+      takes_hooks = reads.takes_hooks;
+      takes_numbers = reads.takes_numbers;
+      does = Performed (wanted_test (texts_of c.in-Ok-Test.paths.items)) _ reads.at (rw c.as_slice.ensures.value at c.judge_cases.ensures.is);
+    }
+
+pub returns-in-Ok-Test-clause-spelled : goal.returns-in-Ok-Test-clause-spelled
+returns-in-Ok-Test-clause-spelled g c = λ w spelled.
+    let P : Wanted → Type 0 = λ v. Responds (g.F.Files.held c.args.files.now) v (g.O.Write.contents c.args.out.now) (g.O.Write.contents c.judge_cases.new.out) c.judge_cases.result in
+    subst P ((rw c.in-Ok-Test.field-0-is at c.in-Ok-Test.ensures.spelled) w spelled) (rw c.as_slice.ensures.value at c.judge_cases.ensures.is)
 
 pub returns-in-Ok-Run-clause-runs : goal.returns-in-Ok-Run-clause-runs
 returns-in-Ok-Run-clause-runs g c =

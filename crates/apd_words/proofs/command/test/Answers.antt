@@ -1,4 +1,4 @@
 use Rattle.apd_words.proofs.command.test.Goals as goal
 
 pub returns : goal.returns
-returns c = record { is = c.with_arg.ensures.is _ _ c.named-command.ensures.is c.required.ensures.is }
+returns c = record { is = c.with_arg.ensures.is _ _ c.named-command.ensures.is c.files.ensures.is }

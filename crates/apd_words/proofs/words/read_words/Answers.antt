@@ -24,21 +24,21 @@ returns-in_default c =
     } in
     record { reads = reads; spelled = λ a. IsReadAs-spelled _ _ a reads }
 
-pub returns-in-Some : goal.returns-in-Some
-returns-in-Some c =
+pub returns-in-Ok-Some : goal.returns-in-Ok-Some
+returns-in-Ok-Some c =
     let hooks : map (λ (s : Bor Text). s.now) c.as_slice.result.now ≡ hook_names = search rules in
     let numbers : map (λ (s : Bor Text). s.now) c.as_slice-2.result.now ≡ worker_names = search rules in
-    let reads : Reads (map (λ word. word.now) c.args.words.now) (Ok c.in-Some.request) = record {
+    let reads : Reads (map (λ word. word.now) c.args.words.now) (Ok c.in-Ok-Some.request) = record {
       hooks = Names c.as_slice.result;
       numbers = Names c.as_slice-2.result;
       takes_hooks = takes c.as_slice.result _ hooks;
       takes_numbers = takes c.as_slice-2.result _ numbers;
-      at = AsksFor-parsed c.as_slice.result c.as_slice-2.result _ _ c.in-Ok.ensures.is _ _ _ c.in-Ok-try_get_matches_from.ensures.matches c.in-Ok-try_get_matches_from.ensures.kinds c.request.ensures.is c.in-Some.is;
+      at = AsksFor-parsed c.as_slice.result c.as_slice-2.result _ _ c.in-Ok.ensures.is _ _ _ c.in-Ok-try_get_matches_from.ensures.matches c.in-Ok-try_get_matches_from.ensures.kinds c.in-Ok-Some.ensures.is c.in-Ok-Some.field-0-is;
     } in
     record { reads = reads; spelled = λ a. IsReadAs-spelled _ _ a reads }
 
-pub returns-in-Ok-try_get_matches_from : goal.returns-in-Ok-try_get_matches_from
-returns-in-Ok-try_get_matches_from c =
+pub returns-in-Ok-None : goal.returns-in-Ok-None
+returns-in-Ok-None c =
     let hooks : map (λ (s : Bor Text). s.now) c.as_slice.result.now ≡ hook_names = search rules in
     let numbers : map (λ (s : Bor Text). s.now) c.as_slice-2.result.now ≡ worker_names = search rules in
     let reads : Reads (map (λ word. word.now) c.args.words.now) (Err c.incomplete.result) = record {
@@ -46,7 +46,20 @@ returns-in-Ok-try_get_matches_from c =
       numbers = Names c.as_slice-2.result;
       takes_hooks = takes c.as_slice.result _ hooks;
       takes_numbers = takes c.as_slice-2.result _ numbers;
-      at = TellsOf-incomplete c.as_slice.result c.as_slice-2.result _ _ c.in-Ok.ensures.is _ _ _ c.in-Ok-try_get_matches_from.ensures.matches c.request.ensures.is c.in-None.is c.incomplete.ensures.is;
+      at = TellsOf-incomplete c.as_slice.result c.as_slice-2.result _ _ c.in-Ok.ensures.is _ _ _ c.in-Ok-try_get_matches_from.ensures.matches c.in-Ok-None.ensures.is c.in-Ok-None.field-0-is c.incomplete.ensures.is;
+    } in
+    record { reads = reads; spelled = λ a. IsReadAs-spelled _ _ a reads }
+
+pub returns-in-Ok-try_get_matches_from : goal.returns-in-Ok-try_get_matches_from
+returns-in-Ok-try_get_matches_from c =
+    let hooks : map (λ (s : Bor Text). s.now) c.as_slice.result.now ≡ hook_names = search rules in
+    let numbers : map (λ (s : Bor Text). s.now) c.as_slice-2.result.now ≡ worker_names = search rules in
+    let reads : Reads (map (λ word. word.now) c.args.words.now) (Err NoMemory) = record {
+      hooks = Names c.as_slice.result;
+      numbers = Names c.as_slice-2.result;
+      takes_hooks = takes c.as_slice.result _ hooks;
+      takes_numbers = takes c.as_slice-2.result _ numbers;
+      at = tt;
     } in
     record { reads = reads; spelled = λ a. IsReadAs-spelled _ _ a reads }
 
