@@ -47,6 +47,32 @@ impl<'p, 't, 's> SetJudge<'p, 't, 's> {
     }
 }
 
+impl SetJudge<'_, '_, '_> {
+    ghost use Rattle.bpf_helpers.specs.HookPorts.{given_by};
+    ghost use Rattle.hook_judge.specs.Judges.{Keeps, loads_of};
+    ghost use Rattle.hook_judge.specs.Verdicts.{GivesIn};
+
+    /// The verdict on a query, which isn't listed, and the steps of the run.
+    fn rule(&mut self, hook: Hook, frame: &Frame<'_>, context: &Context) -> (u64, u32)
+        ensures keeps { Keeps self.old self.new }
+        ensures given { GivesIn (given_by self.old.view) (loads_of self.old) self.old.state.now
+            (record { hook = hook; frame = frame.now; context = context.now })
+            result.0 result.1 self.new.state.now }
+        ensures steps { self.new.steps ≡ self.old.steps }
+        ensures asked { self.new.asked ≡ self.old.asked }
+    {
+        match self.set.program(hook) {
+            None => return (no_program(hook), 0),
+            Some(accepted) => {
+                let _safe = accepted.program();
+                let load = self.set.load_number(hook);
+                let outcome = self.state.run(accepted, load, self.view, frame, context);
+                return (outcome.r0, outcome.steps);
+            }
+        }
+    }
+}
+
 impl Judge for SetJudge<'_, '_, '_> {
     ghost use Rattle.hook_judge.specs.Judges.{Judges};
 
@@ -57,15 +83,7 @@ impl Judge for SetJudge<'_, '_, '_> {
     ghost lists = { λ j k ask verdict h. h.listed };
 
     fn judge(&mut self, hook: Hook, frame: &Frame<'_>, context: &Context) -> u64 {
-        let (verdict, steps) = match self.set.program(hook) {
-            None => (no_program(hook), 0),
-            Some(accepted) => {
-                let _safe = accepted.program();
-                let load = self.set.load_number(hook);
-                let outcome = self.state.run(accepted, load, self.view, frame, context);
-                (outcome.r0, outcome.steps)
-            }
-        };
+        let (verdict, steps) = self.rule(hook, frame, context);
         self.steps = self.steps.wrapping_add(u64::from(steps));
         self.asked.note(hook, frame, context, verdict);
         verdict
