@@ -6,7 +6,7 @@ _apd() {
     [ "$before" = = ] && before=${COMP_WORDS[COMP_CWORD - 2]}
     for ((at = 2; at < COMP_CWORD; at++)); do
         case ${COMP_WORDS[at]} in
-            --config | --states | --work | --output | --context | --against | --workers | --events | --color)
+            --config | --states | --work | --output | --context | --against | --workers | --events | --color | --bssid)
                 at=$((at + 1))
                 [ "${COMP_WORDS[at]}" = = ] && at=$((at + 1))
                 ;;
@@ -25,8 +25,8 @@ _apd() {
         cert) options='--config --states --output --work --help' kinds=('assoc addba data/' '/hex') ;;
         check) options='--config --work --help' kinds=('assoc addba data/' '/hex' '/cert') ;;
         explain) options='--help' kinds=('NUMBERS/') ;;
-        frames) options='--no-ticks --output --help' kinds=('/pcap pcapng') ;;
-        test) options='--help' kinds=('/hex') ;;
+        frames) options='--no-ticks --bssid --all --output --help' kinds=('/pcap pcapng') ;;
+        test) options='--help' kinds=('/') ;;
         help) options='--help' kinds=('COMMANDS/') ;;
     esac
     kind=${kinds[place]-}
@@ -40,6 +40,7 @@ _apd() {
         --workers) kind='1 2 3 4 5 6 7 8/' ;;
         --events) kind='/' ;;
         --color) kind='/' ;;
+        --bssid) kind='/' ;;
     esac
     if [ "$COMP_CWORD" -eq 1 ]; then
         kind='COMMANDS/' options='--help --version'

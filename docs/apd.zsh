@@ -14,7 +14,7 @@ commands=(
     'check:Check a program'\''s certificate and print the budget'
     'explain:Explain the number of a refusal, or list all numbers'
     'frames:Print a capture'\''s frames as a script for `apd run`'
-    'test:Judge policies by a file of cases, and print what failed'
+    'test:Judge policies by files of cases, and print what failed'
     'help:Print this help, or that of a command'
 )
 _arguments -C '(-h --help)'{-h,--help}'[Print help]' '(-V --version)'{-V,--version}'[Print version]' \
@@ -54,10 +54,10 @@ case $state in
                 _arguments -C '1:NUMBER:(1 2 3 10 11 12 13 14 15 16 17 18 19 20 21 22 30 31 32 33 34 35 36 37 38 40 50 51 52 53 54 55 56 60 61 62 63 70 71 72)' '--help[Print help]'
                 ;;
             frames)
-                _arguments -C '1:CAPTURE:_files -g "*.(pcap|pcapng)"' '--no-ticks[Leave out the time between frames]' '--output=[Write to this file, and only if the command succeeds]:output:_files -g "*.hex"' '--help[Print help]'
+                _arguments -C '1:CAPTURE:_files -g "*.(pcap|pcapng)"' '--no-ticks[Leave out the time between frames]' '--bssid=[The access point'\''s address, unless the frames name only one]:bssid: ' '--all[Keep frames that aren'\''t for the access point]' '--output=[Write to this file, and only if the command succeeds]:output:_files -g "*.hex"' '--help[Print help]'
                 ;;
             test)
-                _arguments -C '1:FILE:_files -g "*.hex"' '--help[Print help]'
+                _arguments -C '1:FILE>...: ' '--help[Print help]'
                 ;;
             help)
                 _arguments -C '1:COMMAND:->command' '--help[Print help]'

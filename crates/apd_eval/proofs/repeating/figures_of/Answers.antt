@@ -1,13 +1,13 @@
 use Rattle.std.proofs.Common.{rules, ◌≡◌, ◌≤◌, ◌-◌, ◌/◌, ◌∙◌, length, slice_index, ap, arith}
 use Rattle.std.specs.List.Sorted.{IsNonDecreasing}
-use Rattle.std.proofs.lemmas.List.Sorted.{IsNonDecreasingBy-from_sort}
+use Rattle.std.proofs.lemmas.List.Sorted.{IsNonDecreasingBy-from_sort, length_permutation}
 use Rattle.apd_eval.proofs.repeating.figures_of.Goals as goal
 
 pub returns : goal.returns
 returns c =
     let sorted = c.sort_unstable.new.self.items in
     let up : IsNonDecreasing sorted = IsNonDecreasingBy-from_sort (λ x. x) sorted c.sort_unstable.ensures.sorted in
-    let many : length sorted ≡ length c.args.durations.items = c.sort_unstable.ensures.len in
+    let many : length sorted ≡ length c.args.durations.items = length_permutation c.args.durations.items sorted c.sort_unstable.ensures.permutation in
     record {
       are = record {
         durations = sorted;
