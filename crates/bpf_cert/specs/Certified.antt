@@ -66,10 +66,10 @@ pub record IsUncertified (program : Code) (limit : ℕ) (refusal : Refusal) : Ty
 
 -- Why the states that were found gave no certificate, with the work after: lack of memory; 36, since the work has passed
 -- the limit; or 36, since they don't fit a certificate, or it doesn't show the program safe.
-pub data IsUnmade (new : Tally) (fault : Fault) : Type 0 where
-  ByMemory : fault ≡ fault.NoMemory → IsUnmade new fault
-  ByWork : fault ≡ fault.TooManyVisits → HasPassed new → IsUnmade new fault
-  Unfit : fault ≡ fault.TooManyVisits → IsUnmade new fault
+pub data IsUnmade (new : Tally) (why : Fault) : Type 0 where
+  ByMemory : why ≡ fault.NoMemory → IsUnmade new why
+  ByWork : why ≡ fault.TooManyVisits → HasPassed new → IsUnmade new why
+  Unfit : why ≡ fault.TooManyVisits → IsUnmade new why
 
 -- Why no certificate was made, with the work before and after: the exploration refused the program, for one of the causes
 -- of `IsDue`; or its states gave no certificate, which is refused at slot 0.
