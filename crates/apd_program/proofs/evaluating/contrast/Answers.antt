@@ -1,4 +1,7 @@
-use Rattle.std.proofs.Common.{subst}
+use Rattle.std.proofs.Common.{Bool, map, subst}
+use Rattle.std.specs.String.{string_bytes}
+use Rattle.capture.specs.Packets.{seen_of}
+use Rattle.apd_eval.specs.Compared.{IsComparison}
 use Rattle.apd_program.specs.Admitting.{IsAdmission, Accepted}
 use Rattle.apd_program.specs.declared.admission.Admission.{Admission}
 use Rattle.apd_program.specs.Verifying.{within}
@@ -7,4 +10,6 @@ use Rattle.apd_program.proofs.evaluating.contrast.Goals as goal
 pub returns-in-Admitted-clause-verdicts : goal.returns-in-Admitted-clause-verdicts
 returns-in-Admitted-clause-verdicts c =
     let P : Admission → Type 0 = IsAdmission (within c.args.exam.terms.states c.args.exam.terms.work) c.args.exam.terms.hook c.args.code.now c.args.exam.shapes.now in
-    Accepted c.in-Admitted.tried (subst P c.in-Admitted.is c.in_ok-admission.ensures.admission) c.in_ok-found-in-Admitted.ensures.is
+    let Q : Bool → Type 0 = λ json. IsComparison c.args.in_force c.in-Admitted.tried c.args.exam.replay.draw c.args.exam.replay.link.now (map seen_of c.args.exam.replay.packets.now) json
+    (string_bytes c.in_ok-found-in-Admitted.found.text) c.in_ok-found-in-Admitted.found.differs in
+    Accepted c.in-Admitted.tried (subst P c.in-Admitted.is c.in_ok-admission.ensures.admission) (subst Q c.is_json.ensures.is c.in_ok-found-in-Admitted.ensures.is)
