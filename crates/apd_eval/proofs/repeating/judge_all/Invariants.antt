@@ -3,4 +3,4 @@ use Rattle.bpf_helpers.specs.Hooked.{IsFitting}
 use Rattle.apd_eval.proofs.repeating.judge_all.Given as goal
 
 abbrev pub invariant-loop-row : goal.invariant-loop-row
-invariant-loop-row l = IsFitting l.policy.maps.now 0 l.state.seats
+invariant-loop-row l = IsFitting l.policy.maps.now 0 l.state.held.seats

@@ -1,15 +1,21 @@
-use Rattle.std.proofs.Common.{List, Ok, sym, subst}
+use Rattle.std.proofs.Common.{rules, ◌≡◌, ◌∙◌, [], List, Ok, sym, subst, ap}
 use Rattle.bpf_helpers.specs.Hooked.{IsFitting}
 use Rattle.bpf_helpers.specs.Tables.{Tables}
-use Rattle.apd_eval.proofs.Rows.{evaluated}
+use Rattle.apd_eval.specs.Metered.{Metered}
+use Rattle.apd_eval.proofs.Rows.{is_alone, evaluated}
 use Rattle.apd_eval.proofs.repeating.judge_queries.Goals as goal
 
 pub follow-requires : goal.follow-requires
 follow-requires c = record {
-  fitting = subst (λ (maps : List Tables). IsFitting maps 0 c.in_ok-programs.field-0.state.seats) (sym c.maps.ensures.is) c.in_ok-programs.field-0.fitting;
+  alone = is_alone _ c.args.accepted c.hook-hook.ensures.is c.in_ok-programs.ensures.programs;
+  fitting = subst (λ (m : Metered). IsFitting c.maps.result.now 0 m.held.seats) (sym c.new-meter.ensures.is)
+      (subst (λ (maps : List Tables). IsFitting maps 0 c.in_ok-programs.field-0.state.seats) (sym c.maps.ensures.is) c.in_ok-programs.field-0.fitting);
 }
 
 pub returns : goal.returns
-returns c = record {
-  rows = evaluated c.args.accepted c.args.replay.draw _ _ _ _ (Ok c.in_ok-rows.rows) c.hook-hook.ensures.is c.in_ok-programs.ensures.programs c.in_ok-programs.ensures.draw c.in_ok-rows.ensures.rows;
-}
+returns c =
+    let drawn = ap (λ (m : Metered). m.held.draw) c.new-meter.ensures.is ∙ c.in_ok-programs.ensures.draw in
+    let from : c.new-meter.result.counts ≡ [] = search rules in
+    record {
+      rows = evaluated c.args.accepted c.args.replay.draw _ _ _ _ _ (Ok c.in_ok-rows.rows) c.hook-hook.ensures.is c.in_ok-programs.ensures.programs drawn from c.in_ok-rows.ensures.rows;
+    }
