@@ -1,36 +1,53 @@
 -- Scripts of captures, from their parts.
-use Rattle.std.proofs.Common.{◌≡◌, ◌≢◌, ◌⊎◌, ◌++◌, ◌∙◌, ℕ, Bool, List, [], length, take, drop, Option, Some, Result, Ok, Err, inl, inr, refl, sym, ap, subst}
+use Rattle.std.proofs.Common.{◌≡◌, ◌≢◌, ◌⊎◌, ◌++◌, ◌∷◌, ◌∙◌, ◌<◌, ◌≤◌, ℕ, Bool, false, List, [], length, take, drop, slice_index_or, Option, Some, None, Result, Ok, Err, inl, inr, refl, sym, ap, subst, arith}
 use Rattle.std.proofs.lemmas.List.{take-append-drop}
+use Rattle.std.specs.Borrow.{Bor}
 use Rattle.hex.specs.Hex.{decode_of}
-use Rattle.hex.specs.declared.error.FromHexError.{FromHexError}
 use Rattle.capture.specs.Packets.{Seen}
 use Rattle.capture.specs.Captures.{Holds as HoldsPackets, Refuses}
 use Rattle.capture.specs.declared.fault.CaptureFault.{CaptureFault}
 use Rattle.capture.specs.declared.fault.CaptureFault.TheVariants as capture
 use Rattle.apd_files.specs.Held.{Held, Holds, Lacks}
 use Rattle.apd_files.specs.declared.inputs.files.FileKind.TheVariants.{Capture}
+use Rattle.apd_words.specs.Asked.{text_of}
 use Rattle.apd_program.specs.Answers.{IsOfText}
 use Rattle.apd_program.specs.Faults.{IsMemoryOr}
-use Rattle.apd_program.specs.Scripts.{IsAddress, IsChoice, IsUnclear, IsChosenScript, IsScript, IsUnscripted, NoCapture, Unclear, HasNoScript, NoFile, NoScript}
+use Rattle.apd_program.specs.Scripts.{IsAddress, IsChoice, GivenChosen, OnlyChosen, NoAddress, IsUnclear, IsChosenScript, IsScript, IsUnscripted, NoCapture, Unclear, HasNoScript, NoFile, NoScript}
 use Rattle.apd_program.specs.declared.answer.Answer.{Answer}
 use Rattle.apd_program.specs.declared.fault.ProgramFault.{ProgramFault}
 use Rattle.apd_program.specs.declared.fault.ProgramFault.TheVariants.{NoMemory}
 use Rattle.apd_program.specs.declared.framing.Choice.{Choice}
+use Rattle.apd_program.specs.declared.framing.Choice.TheVariants as choice
 use Rattle.apd_program.proofs.Faulty.{known_capture}
 
 pub joined : (xs front back : List ℕ) (n : ℕ) → front ≡ take n xs → back ≡ drop n xs → xs ≡ front ++ back
 joined xs front back n before after = rw (before, after) (sym (take-append-drop n xs))
 
--- a word that isn't hex digits spells no address
-pub no_digits : (word : List ℕ) (e : FromHexError) → decode_of word ≡ Err e → (a : List ℕ) → IsAddress word a → ⊥
-no_digits word e fault a is = let no : Err e ≡ Ok a = sym fault ∙ is.spelled in cc
+-- six bytes, one by one
+six : (xs : List ℕ) → 6 ≤ length xs → length xs < 7 → xs ≡ slice_index_or xs 0 0 ∷ slice_index_or xs 1 0 ∷ slice_index_or xs 2 0 ∷ slice_index_or xs 3 0 ∷ slice_index_or xs 4 0 ∷ slice_index_or xs 5 0 ∷ []
+six [] low high = absurd (omega (arith, low))
+six (a ∷ []) low high = absurd (omega (arith, low))
+six (a ∷ b ∷ []) low high = absurd (omega (arith, low))
+six (a ∷ b ∷ c ∷ []) low high = absurd (omega (arith, low))
+six (a ∷ b ∷ c ∷ d ∷ []) low high = absurd (omega (arith, low))
+six (a ∷ b ∷ c ∷ d ∷ e ∷ []) low high = absurd (omega (arith, low))
+six (a ∷ b ∷ c ∷ d ∷ e ∷ f ∷ []) low high = refl
+six (a ∷ b ∷ c ∷ d ∷ e ∷ f ∷ g ∷ xs) low high = absurd (omega (arith, high))
 
-same_ok : (a b : List ℕ) (r : Result (List ℕ) FromHexError) → r ≡ Ok a → r ≡ Ok b → a ≡ b
-same_ok a b r x y = let same : Ok a ≡ Ok b = sym x ∙ y in cc
+pub address_of : (word bytes slice : List ℕ) → decode_of word ≡ Ok bytes → slice ≡ bytes → 6 ≤ length slice → length slice < 7
+    → IsAddress word (slice_index_or slice 0 0 ∷ slice_index_or slice 1 0 ∷ slice_index_or slice 2 0 ∷ slice_index_or slice 3 0 ∷ slice_index_or slice 4 0 ∷ slice_index_or slice 5 0 ∷ [])
+address_of word bytes slice spelled same low high = record { spelled = spelled ∙ ap Ok (sym same ∙ six slice low high); long = refl }
 
--- nor does one that spells more or fewer bytes than six
-pub no_length : (word bytes : List ℕ) → decode_of word ≡ Ok bytes → (length bytes ≡ 6 → ⊥) → (a : List ℕ) → IsAddress word a → ⊥
-no_length word bytes spelled other a is = other (ap length (same_ok bytes a (decode_of word) spelled is.spelled) ∙ is.long)
+-- what words choose without `--all`
+pub chosen_given : (given : Option (Bor (List ℕ))) (all : Bool) (word : Bor (List ℕ)) (address : List ℕ) → given ≡ Some word → all ≡ false → IsAddress word.now address → IsChoice (text_of given) all (choice.Given address)
+chosen_given given all word address is none h = rw (is, none) (GivenChosen word.now address h)
+
+pub chosen_only : (given : Option (Bor (List ℕ))) (all : Bool) → given ≡ None → all ≡ false → IsChoice (text_of given) all choice.Only
+chosen_only given all is none = rw (is, none) OnlyChosen
+
+pub no_address : (files : Held) (path : List ℕ) (given : Option (Bor (List ℕ))) (all : Bool) (word : Bor (List ℕ)) (e : ProgramFault) → given ≡ Some word → IsMemoryOr ((a : List ℕ) → IsAddress word.now a → ⊥) e → IsMemoryOr (HasNoScript files path (text_of given) all) e
+no_address files path given all word e is (inl memory) = inl memory
+no_address files path given all word e is (inr none) = inr (NoAddress word.now (ap text_of is) none)
 
 unscripted_by : (c : Choice) (file : List ℕ) (e : CaptureFault) (f : ProgramFault) → Refuses file e → (e ≡ capture.NoMemory → f ≡ NoMemory) → (e ≡ capture.NoMemory) ⊎ (e ≢ capture.NoMemory) → IsMemoryOr (IsUnscripted c file) f
 unscripted_by c file e f refuses m (inl memory) = inl (m memory)

@@ -35,9 +35,10 @@ fn certified(alloc: Global, program: Program, terms: Terms) -> Result<Answer, Pr
     ensures memory { IfErr result (λ e. e ≡ ProgramFault.NoMemory) }
 {
     let limits = limits_of(terms);
+    let states = limits.states;
     let mut work = Work::within(limits.units());
-    match verify_counted(alloc, program, terms.hook, limits.states, &mut work) {
-        Ok(accepted) => match certificate_counted(alloc, &accepted, limits.states, &mut work) {
+    match verify_counted(alloc, program, terms.hook, states, &mut work) {
+        Ok(accepted) => match certificate_counted(alloc, &accepted, states, &mut work) {
             Ok(bytes) => Ok(Answer::Certificate(bytes)),
             Err(refusal) => refused(refusal),
         },
