@@ -1,8 +1,8 @@
 //! The program `apd`: a programmable access point that runs scripts, and programs for its hooks, from the command line.
 #![tactic(auto)]
 
-use apd_files::RealFiles;
 use apd_entry::{Messages, Standard, Streams};
+use apd_files::RealFiles;
 use std::alloc::{AllocError, Global};
 use std::env::FillError;
 use std::io::{ErrorKind, Input, IsTerminal, Read, Write};

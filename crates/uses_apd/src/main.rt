@@ -5,8 +5,8 @@
 //! line, and then the status, if it isn't 0.
 #![tactic(auto)]
 
-use apd_files::RealFiles;
 use apd_entry::{Messages, Standard, Streams};
+use apd_files::RealFiles;
 use std::alloc::{AllocError, Global};
 use std::io;
 use std::io::{Input, Read, Write};

@@ -41,9 +41,13 @@ fn timed(rt: &impl Abort, alloc: Global, nanos: &[u64], count: u32, json: bool) 
     let code = [0xb7, 0, 0, 0, 1, 0, 0, 0, 0x95, 0, 0, 0, 0, 0, 0, 0];
     let shapes = Shapes::new(Vec::new(alloc)).expect(rt, "no maps");
     let program = decode(alloc, &code, shapes).ok().expect(rt, "a program");
-    let accepted = verify(alloc, program, Hook::Data).ok().expect(rt, "accepted");
+    let accepted = verify(alloc, program, Hook::Data)
+        .ok()
+        .expect(rt, "accepted");
     let bytes = hex::decode(alloc, CAPTURE).ok().expect(rt, "bytes");
-    let packets = read_capture(alloc, bytes.as_slice()).ok().expect(rt, "a capture");
+    let packets = read_capture(alloc, bytes.as_slice())
+        .ok()
+        .expect(rt, "a capture");
     let ssid = Octets::copy(alloc, b"lab").expect(rt, "memory");
     let rates = Octets::copy(alloc, &[0x82, 0x84, 0x8b, 0x96]).expect(rt, "memory");
     let link = LinkConfig::new(Address::new([2, 0, 0, 0, 0, 1]), ssid, rates).expect(rt, "a link");
