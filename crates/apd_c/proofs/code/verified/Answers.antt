@@ -1,8 +1,5 @@
 use Rattle.std.proofs.Common.{◌≡◌, ℕ, Result, Ok, Err, IfErr, Option, Some, None, inl, inr, ap, sym, subst, ◌∙◌}
 use Rattle.bpf_decode.specs.Program.{Code}
-use Rattle.bpf_rules.specs.declared.fault.Fault.{Fault}
-use Rattle.bpf_prune.specs.Spending.{Tally}
-use Rattle.bpf_cert.specs.Limits.{HasPassedLimit}
 use Rattle.bpf_verifier.specs.Admission.{IsRefusal, IsRefusalWithin}
 use Rattle.bpf_verifier.specs.Limits.{units_of}
 use Rattle.bpf_verifier.specs.Spent.{IsMemoryOrPassed}
@@ -16,17 +13,17 @@ unlimited : {X : Type 0} (program : Code) (limit : ℕ) (work : Option ℕ) (r :
 unlimited program limit work (Ok x) h = h
 unlimited program limit work (Err e) h = record { begins = h.begins; plain = λ most plain. inl (h.plain most plain); clear = λ clear. inl (h.clear clear) }
 
-passed : (work : Option ℕ) (most : ℕ) (why : Fault) (w : Tally) → work ≡ Some most → w.most ≡ units_of work → IsMemoryOrPassed why w → IsMemoryOrWork work why
-passed work most why w some same (inl memory) = inl memory
-passed work most why w some same (inr passes) =
-    inr (record { tally = w; within = some ∙ ap (λ n. Some n) (sym (same ∙ ap units_of some)); passed = passes })
+passed : (program : Code) (limits : Limits) (most : ℕ) (e : Refusal) → limits.work ≡ Some most → (h : IsRefusalWithin program limits e) → IsMemoryOrPassed e.fault h.tally → IsMemoryOrWork limits.work e.fault
+passed program limits most e some h (inl memory) = inl memory
+passed program limits most e some h (inr passes) =
+    inr (record { tally = h.tally; within = some ∙ ap (λ n. Some n) (sym (h.spent.most ∙ ap units_of some)); passed = passes })
 
 limited : {X : Type 0} (program : Code) (limits : Limits) (most : ℕ) (r : Result X Refusal) → limits.work ≡ Some most → IfErr r (IsRefusalWithin program limits) → IfErr r (IsUnsafe program limits.states limits.work)
 limited program limits most (Ok x) some h = h
 limited program limits most (Err e) some h = record {
   begins = h.after.begins;
-  plain = λ greatest plain. passed limits.work most e.fault h.tally some h.spent.most (h.after.plain greatest plain);
-  clear = λ clear. passed limits.work most e.fault h.tally some h.spent.most (h.after.clear clear);
+  plain = λ greatest plain. passed program limits most e some h (h.after.plain greatest plain);
+  clear = λ clear. passed program limits most e some h (h.after.clear clear);
 }
 
 pub returns-in-None-clause-refused : goal.returns-in-None-clause-refused
