@@ -1,4 +1,4 @@
-use Rattle.std.proofs.Common.{◌≡◌, refl, sym, subst}
+use Rattle.std.proofs.Common.{◌≡◌, ap, sym, subst}
 use Rattle.bpf_helpers.specs.declared.worker.WorkerView.{WorkerView}
 use Rattle.bpf_helpers.specs.HookPorts.{given_by}
 use Rattle.ap_core.specs.AccessPoints.{readings_of, outs_in}
@@ -12,7 +12,7 @@ returns-clause-policed c =
     let j = c.new-judge.result in
     let p = c.args.policies in
     let old = c.args.shards.now in
-    let same : judges.loads_of j ≡ loads_of p = rw c.new-judge.ensures.set refl in
+    let same : judges.loads_of j ≡ loads_of p = ap (λ s. s.now.loads) c.new-judge.ensures.set in
     one_policed c.judging_law.ensures.judged p old c.handle_all.new.shards c.args.event.now c.index-event-0.result j c.handle_all.new.judge
     (outs_in c.in_ok-results.results.items) c.requires.one c.index-event-0.is c.in_ok-results.ensures.run same
     (λ s at. subst (λ (v : WorkerView). IsGiven p (readings_of old s) (given_by v)) (sym c.new-judge.ensures.view) (c.view_at-view.ensures.given s at))

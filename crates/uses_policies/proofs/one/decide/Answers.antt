@@ -1,4 +1,4 @@
-use Rattle.std.proofs.Common.{rules, ◌≡◌, refl, sym, ◌∙◌}
+use Rattle.std.proofs.Common.{rules, ◌≡◌, ap, refl, sym, ◌∙◌}
 use Rattle.bpf_helpers.specs.Hooked.{IsFitting}
 use Rattle.hook_judge.specs.Counted.{Counted}
 use Rattle.bpf_helpers.specs.HookPorts.{given_by}
@@ -14,7 +14,7 @@ returns-clause-headline c =
     let j = c.new-judge.result in
     let k = c.handle.new.judge in
     let p = c.args.policies in
-    let same : judges.loads_of j ≡ loads_of p = rw c.new-judge.ensures.set refl in
+    let same : judges.loads_of j ≡ loads_of p = ap (λ s. s.now.loads) c.new-judge.ensures.set in
     let given : IsGiven p (reads c.args.shard.now) (given_by j.view) = rw c.new-judge.ensures.view (record {
       maps = rw c.view_of.ensures.maps refl;
       worker = c.view_of.ensures.worker;
