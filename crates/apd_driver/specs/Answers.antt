@@ -1,5 +1,5 @@
 -- The answers to the questions of `apd live`.
-use Rattle.std.specs.Prelude.{ℕ, ◌==◌, if◌then◌else◌, List, [], ◌∷◌, ◌++◌, length, codes, decimal, string_bytes, Option, Some, None}
+use Rattle.std.specs.Prelude.{ℕ, ◌==◌, List, [], ◌∷◌, ◌++◌, length, codes, decimal, string_bytes, Option, Some, None}
 use Rattle.std.specs.List.{flat_map}
 use Rattle.bpf_regions.specs.Hooks.{name_of}
 use Rattle.bpf_regions.specs.declared.hooks.Hook.{Hook}
@@ -72,7 +72,8 @@ numbers_text numbers = flat_map (λ n. 32 ∷ decimal n) numbers
 
 -- ` says`, and the notes, each after a space; nothing, if there is none
 abbrev pub says_text : List ℕ → List ℕ
-says_text notes = if length notes == 0 then [] else codes " says" ++ numbers_text notes
+says_text [] = []
+says_text (note ∷ notes) = codes " says" ++ numbers_text (note ∷ notes)
 
 -- a program's words, and what it noted
 abbrev pub program_text : ProgramRow → List ℕ
