@@ -4,6 +4,6 @@ use Rattle.uses_link.proofs.tests.setting.seats_at.Goals as goal
 
 pub returns-clause-one : goal.returns-clause-one
 returns-clause-one g c =
-    let one = c.expect-one.result in
+    let one = c.expect-one-2.result in
     let fits : IsFitting c.seated.new.maps 0 one.seats = search rules in
     c.tables_law.ensures.fitting c.seated.new.maps c.seated-2.new.maps 0 one.seats c.seated-2.ensures.tables fits
