@@ -3,6 +3,7 @@ use Rattle.std.specs.Global.{Vec}
 use Rattle.ap_books.specs.Holdings.{HasMerged, HasMoreThan, HasParts, HasSplit, Holding, sum_of}
 use Rattle.ap_books.specs.Reading.{Reads}
 use Rattle.ap_live.specs.Counting.{counted_by, tally}
+use Rattle.ap_shards.specs.Tokens.{holding_of}
 use Rattle.ap_live.specs.declared.tagged.Tagged.{Tagged}
 use Rattle.apd_driver.specs.Crews.{Crew, gains}
 use Rattle.ap_live.specs.Tokens.{Worker}
@@ -33,11 +34,11 @@ invariant_of-self g c =
     let stayed : sum_of left ≡ sum_of hoard = c.split_off-fresh.ensures.counts ∙ ap sum_of c.deref_mut.ensures.value in
     let split : HasSplit 1 hoard left = subst (λ (h : Holding). HasSplit 1 h left) c.deref_mut.ensures.value c.split_off-fresh.ensures.left in
     let merged : HasMerged left c.renew-counted.result c.merge.new.self = subst (λ (h : Holding). HasMerged h c.renew-counted.result c.merge.new.self) c.deref_mut-2.ensures.value c.merge.ensures in
-    let counted = exchanged_sum hoard left c.renew-counted.result c.merge.new.self (counted_by shards) stayed merged (ap sum_of c.renew-counted.ensures.given) in
+    let counted = exchanged_sum hoard left c.renew-counted.result c.merge.new.self (counted_by shards) stayed merged (ap sum_of c.renew-counted.ensures.given ∙ ap (λ (w : Worker). counted_by w.shards) c.take_counts-runs.ensures.anew) in
     let programs : c.add.new.self ≡ with_counts c.self.inside.programs c.take_counts-runs.result = c.add.ensures.sums in
     let handled = ap (λ (v : Vec Tagged). tally v.items) c.replace-handled.ensures.value in
     let numbers : Reads c.counted_in-numbers.result (counted_by shards) = subst (Reads c.counted_in-numbers.result) (ap tally c.as_slice.ensures.value ∙ (handled ∙ sym c.worker.invariant.counts)) c.counted_in-numbers.ensures.reads in
-    let given : HasParts 1 c.renew-counted.result = subst (HasParts 1) (sym c.renew-counted.ensures.given) c.worker.invariant.parts in
+    let given : HasParts 1 c.renew-counted.result = subst (HasParts 1) (sym (c.renew-counted.ensures.given ∙ ap (λ (w : Worker). holding_of w.shards) c.take_counts-runs.ensures.anew)) c.worker.invariant.parts in
     record {
       own = i.own;
       mine = i.mine;
@@ -64,7 +65,7 @@ returns-clause-crew g c =
     let shards = c.worker.inside.token.shards in
     let stayed : sum_of left ≡ sum_of hoard = c.split_off-fresh.ensures.counts ∙ ap sum_of c.deref_mut.ensures.value in
     let merged : HasMerged left c.renew-counted.result c.merge.new.self = subst (λ (h : Holding). HasMerged h c.renew-counted.result c.merge.new.self) c.deref_mut-2.ensures.value c.merge.ensures in
-    let counted = exchanged_sum hoard left c.renew-counted.result c.merge.new.self (counted_by shards) stayed merged (ap sum_of c.renew-counted.ensures.given) in
+    let counted = exchanged_sum hoard left c.renew-counted.result c.merge.new.self (counted_by shards) stayed merged (ap sum_of c.renew-counted.ensures.given ∙ ap (λ (w : Worker). counted_by w.shards) c.take_counts-runs.ensures.anew) in
     let before : Crew = record { workers = c.self.inside.workers; counted = sum_of hoard } in
     let after : Crew = record { workers = c.self.inside.workers; counted = sum_of c.merge.new.self } in
     let crew : after ≡ gains before (counted_by shards) = λ i. record { workers = c.self.inside.workers; counted = counted i } in
