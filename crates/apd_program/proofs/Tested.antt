@@ -37,11 +37,11 @@ covers_more files path name rows old new tried more paths covers = record {
 }
 
 -- one of the files is at fault
-pub one_at_fault : (files : Held) (paths : List (Bor (List ℕ))) (i : ℕ) (path : Bor (List ℕ)) (f : ProgramFault) → i < length paths → path ≡ get_or paths i path
-    → IsMemoryOr (HasNoTest files path.now) f → IsMemoryOr (HaveNoTest files (texts_of paths)) f
-one_at_fault files paths i path f low is (inl memory) = inl memory
-one_at_fault files paths i path f low is (inr has) =
+pub one_at_fault : (files : Held) (paths : List (Bor (List ℕ))) (i : ℕ) (beyond : Bor (List ℕ)) (f : ProgramFault) → i < length paths
+    → IsMemoryOr (HasNoTest files (get_or paths i beyond).now) f → IsMemoryOr (HaveNoTest files (texts_of paths)) f
+one_at_fault files paths i beyond f low (inl memory) = inl memory
+one_at_fault files paths i beyond f low (inr has) =
     let text : Bor (List ℕ) → List ℕ = λ word. word.now in
     let within : i < length (map text paths) = subst (λ n. i < n) (sym (length-map paths text)) low in
-    let there : get_or (map text paths) i path.now ≡ path.now = get_or-map text paths i path path.now low ∙ ap text (sym is) in
-    inr (record { path = path.now; among = subst (λ word. Contains (map text paths) word) there (Contains-get_or (map text paths) i path.now within); fault = has })
+    let there : get_or (map text paths) i beyond.now ≡ (get_or paths i beyond).now = get_or-map text paths i beyond beyond.now low in
+    inr (record { path = (get_or paths i beyond).now; among = subst (λ word. Contains (map text paths) word) there (Contains-get_or (map text paths) i beyond.now within); fault = has })

@@ -23,3 +23,6 @@ pub returns-in_err-text-in-Ok-clause-fault : goal.returns-in_err-text-in-Ok-clau
 returns-in_err-text-in-Ok-clause-fault c =
     let bad : IfErr c.from_residual.result (IsMemoryOr (IsUnclear c.args.plan.choice (map seen_of c.as_slice.result.now))) = search rules in
     IfErr-weaker c.from_residual.result _ _ (λ e h. unclear_unscripted c.args.plan.choice c.args.file.now c.in-Some.front.now c.in-Some.ensures.is.0 (map seen_of c.in-Ok.packets.items) e c.in-Some.ensures.is.1 c.in-Ok.ensures.packets (rw c.as_slice.ensures.value at h)) bad
+
+pub returns-in-Err-clause-fault : goal.returns-in-Err-clause-fault
+returns-in-Err-clause-fault c = capture_unscripted c.args.plan.choice c.args.file.now c.args.fault _ c.requires.refused c.of_capture-in-Err.ensures.memory

@@ -7,4 +7,4 @@ use Rattle.apd_program.proofs.repeating.examine.Goals as goal
 pub returns-in-Admitted-clause-verdicts : goal.returns-in-Admitted-clause-verdicts
 returns-in-Admitted-clause-verdicts g c =
     let P : Admission → Type 0 = IsAdmission (within c.args.exam.terms.states c.args.exam.terms.work) c.args.exam.terms.hook c.args.code.now c.args.exam.shapes.now in
-    Accepted c.in-Admitted.accepted (subst P c.in-Admitted.is c.in_ok-admission.ensures.admission) c.in_ok-text-in-Admitted.ensures.is
+    Accepted c.in-Admitted.accepted (subst P c.in-Admitted.is c.in_ok-admission.ensures.admission) (rw c.is_json.ensures.is at c.in_ok-text-in-Admitted.ensures.is)
