@@ -49,7 +49,7 @@ invariant_of-self g c =
       shares_are = i.shares_are;
       some = i.some;
       list_is = i.list_is;
-      in_force = subst (λ (p : ProgramCounts). AreInForce p c.self.inside.loads.loads) (sym programs) (counted_in_force c.self.inside.programs c.take_counts-runs.result c.self.inside.loads.loads i.in_force);
+      in_force = subst (λ (p : ProgramCounts). AreInForce p c.self.inside.loads.now.loads) (sym programs) (counted_in_force c.self.inside.programs c.take_counts-runs.result c.self.inside.loads.now.loads i.in_force);
       reads = subst (Reads c.and-self-inside.result) (sym counted) (c.and-self-inside.ensures _ _ i.reads numbers);
     }
 
