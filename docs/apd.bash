@@ -6,7 +6,7 @@ _apd() {
     [ "$before" = = ] && before=${COMP_WORDS[COMP_CWORD - 2]}
     for ((at = 2; at < COMP_CWORD; at++)); do
         case ${COMP_WORDS[at]} in
-            --config | --states | --work | --output | --context | --against | --workers | --events | --color | --bssid)
+            --config | --states | --work | --output | --context | --against | --repeat | --workers | --events | --color | --bssid)
                 at=$((at + 1))
                 [ "${COMP_WORDS[at]}" = = ] && at=$((at + 1))
                 ;;
@@ -19,7 +19,7 @@ _apd() {
         asm) options='--output --help' kinds=('/s') ;;
         disasm) options='--config --slots --raw --dot --output --explain --help' kinds=('/hex') ;;
         trace) options='--config --states --context --from-frame --explain --work --help' kinds=('assoc addba data/' '/hex' '/') ;;
-        eval) options='--config --against --states --json --output --work --profile --dot --help' kinds=('assoc addba data/' '/hex' '/pcap pcapng') ;;
+        eval) options='--config --against --states --json --output --work --profile --dot --repeat --help' kinds=('assoc addba data/' '/hex' '/pcap pcapng') ;;
         run) options='--workers --states --quiet --strict --verbose --work --help' kinds=('/toml' '/script') ;;
         live) options='--workers --states --strict --verbose --clock --events --color --work --help' kinds=('/toml') ;;
         cert) options='--config --states --output --work --help' kinds=('assoc addba data/' '/hex') ;;
@@ -37,6 +37,7 @@ _apd() {
         --output) kind='/hex' ;;
         --context) kind='/' ;;
         --against) kind='/' ;;
+        --repeat) kind='/' ;;
         --workers) kind='1 2 3 4 5 6 7 8/' ;;
         --events) kind='/' ;;
         --color) kind='/' ;;
