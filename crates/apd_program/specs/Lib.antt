@@ -18,3 +18,4 @@ pub mod Printed
 pub mod Delivered
 pub mod Forms
 pub mod Program
+pub mod Captured

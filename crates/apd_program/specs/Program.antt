@@ -16,6 +16,7 @@ use Rattle.apd_program.specs.Lines.{printed, status_of}
 use Rattle.apd_program.specs.Answers.{IsAnswer, HasNoAnswer}
 use Rattle.apd_program.specs.Delivered.{GoesOut, IsForFile}
 use Rattle.apd_program.specs.Forms.{in_lines, RunsLive}
+use Rattle.apd_program.specs.Captured.{lines_known}
 use Rattle.apd_program.specs.Printed.{PrintsText}
 
 -- What is written to standard output for a question, with a file for the answer or without, and the status. Lack of
@@ -35,17 +36,17 @@ Refuses old new status = (new ≡ old) × ((status ≡ 2) ⊎ (status ≡ 3))
 -- what is wanted is done without threads: no script runs, nor lines as they come
 abbrev pub Responds : Held → Wanted → Option (List ℕ) → Option (List ℕ) → ℕ → Type 0
 Responds files (Answer a output) old new status = Performs files a output old new status
-Responds files (Run config script workers states work quiet strict verbose) old new status = Refuses old new status
-Responds files (Live config workers states work strict verbose clock events color) old new status = Refuses old new status
+Responds files (Run config script workers states work quiet strict verbose capture replaces) old new status = Refuses old new status
+Responds files (Live config workers states work strict verbose clock events color capture replaces) old new status = Refuses old new status
 
 -- what is wanted is done: a script runs from its first line, or lines as they come, whose answers a terminal shows or
--- doesn't
+-- doesn't; nothing is said of a capture in the place of the lines
 abbrev pub Fulfils : Bool → Held → Wanted → Option (List ℕ) → Option (List ℕ) → ℕ → Type 0
 Fulfils shown files (Answer a output) old new status = Performs files a output old new status
-Fulfils shown files (Run config script workers states work quiet strict verbose) old new status =
-    shows.Runs (in_lines strict) old new none status
-Fulfils shown files (Live config workers states work strict verbose clock events color) old new status =
-    RunsLive shown strict events color old new status
+Fulfils shown files (Run config script workers states work quiet strict verbose capture replaces) old new status =
+    shows.Runs (in_lines strict) (lines_known capture old) (lines_known capture new) none status
+Fulfils shown files (Live config workers states work strict verbose clock events color capture replaces) old new status =
+    RunsLive shown strict events color (lines_known capture old) (lines_known capture new) status
 
 -- what is written for words that make no request, and the status
 abbrev pub Tells : Told → Option (List ℕ) → Option (List ℕ) → ℕ → Type 0

@@ -7,6 +7,7 @@
 mod admission;
 mod answer;
 mod certifying;
+mod destination;
 mod drawing;
 mod entry;
 mod evaluating;

@@ -6,7 +6,7 @@ ghost use Rattle.apd_program.specs.Forms.{colours_named, colours_of, style_named
 
 use crate::fault::ProgramFault;
 use crate::printing::complain;
-use apd_driver::{Direct, Form, Manner, Style, Timed};
+use apd_driver::{Direct, Form, Manner, Recording, Style, Timed};
 use apd_files::Files;
 use apd_run::{Limits, OpenGate, RunWords, StateLimit, Streams, Supplies, live};
 use apd_words::LiveRun;
@@ -90,7 +90,7 @@ where
     R: Threads + Wait + Clock + Copy + Send + Sync + 'static,
     F: Files,
     I: Read + Drop + Send + 'static,
-    O: Write + Drop,
+    O: Recording + Drop,
     E: Write,
     ensures runs { RunsLive streams.shown asked.entry.strict
         (text_of asked.entry.events) (text_of asked.entry.color)
@@ -118,6 +118,7 @@ where
         },
         verbose: asked.verbose,
         prompts: typed,
+        capture: asked.capture.path.unwrap_or(""),
     };
     let limits = Limits {
         states: StateLimit::nearest(asked.states),

@@ -3,4 +3,6 @@ mod Options
 mod Passing
 mod Present
 mod Records
+mod Unique
 mod Units
+mod Written
