@@ -6,3 +6,4 @@ pub mod Broken
 pub mod Ending
 pub mod Batches
 pub mod Entries
+pub mod Packets

@@ -9,3 +9,4 @@ pub mod Admits
 pub mod Evaluated
 pub mod Tested
 pub mod Formed
+pub mod Recorded

@@ -1,3 +1,4 @@
+mod Counted
 mod Named
 mod Options
 mod Passing

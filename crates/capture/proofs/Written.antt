@@ -1,6 +1,7 @@
 -- What is read of a written file.
 use Rattle.std.proofs.Common.{◌≡◌, ◌<◌, ◌≤◌, ◌==◌, ◌∙◌, ◌↔◌, ℕ, ◌+◌, ◌-◌, ◌*◌, ◌/◌, ◌%◌, ◌^◌, min, Bool, true, false, nat_lt, List, [], ◌∷◌, ◌++◌, length, take, drop, map, replicate, slice_get, Option, Some, None, Result, Ok, Err, refl, sym, ap, subst, arith, lit<, append_assoc, append-nil, length-append, length-replicate, if◌then◌else◌}
 use Rattle.std.specs.List.{All}
+use Rattle.std.proofs.Math.Nat.{min-eq_left}
 use Rattle.std.proofs.Math.Seq.{drop-append_seam, take-append_seam, drop-append-add}
 use Rattle.std.proofs.lemmas.List.{take_all, length-take}
 use Rattle.std.proofs.lemmas.Bool.Decides.{nat_tests}
@@ -71,7 +72,7 @@ holds_kept : (n t k d c : ℕ) → n ≡ 20 + t → 20 + k ≤ n → d ≡ t →
 holds_kept n t k d c e h f g = omega (arith, e, h, f, g)
 
 upper_few : (time : ℕ) → time < 2 ^ 64 → time / 2 ^ 32 < 2 ^ 32
-upper_few time h = grind (arith, h)
+upper_few time h = omega (arith, h)
 
 lower_few : (time : ℕ) → time % 2 ^ 32 < 2 ^ 32
 lower_few time = omega arith
@@ -83,7 +84,9 @@ halves : (time : ℕ) → time / 2 ^ 32 * 2 ^ 32 + time % 2 ^ 32 ≡ time
 halves time = omega arith
 
 counts : (time : ℕ) → time < 2 ^ 64 → stamp_of 1000000000 time ≡ time
-counts time h = grind (arith, h)
+counts time h =
+    let whole : time * 1000000000 / 1000000000 ≡ time = omega arith in
+    ap (λ t. min t (2 ^ 64 - 1)) whole ∙ min-eq_left (omega (arith, h))
 
 -- ---- one block
 
@@ -359,21 +362,38 @@ module _ (p : Written) (counted : IsCounted p) where
 some : (xs ys : List ℕ) → 0 < length xs → 0 < length (xs ++ ys)
 some xs ys h = let l = length-append xs ys in omega (arith, l, h)
 
+splits : (a i o u rest : List ℕ) → (a ++ (i ++ (o ++ u))) ++ rest ≡ a ++ (i ++ (o ++ (u ++ rest)))
+splits a i o u rest =
+    append_assoc a (i ++ (o ++ u)) rest
+    ∙ ap (λ l. a ++ l) (append_assoc i (o ++ u) rest ∙ ap (λ l. i ++ l) (append_assoc o u rest))
+
 -- a section whose interfaces were described so far
 abbrev with : List Described → State
 with described = record { endian = Little; interfaces = described; packets = [] }
 
-any_block : (side : Side) → 0 < length (block_of 1 (interface_body side))
-any_block In = lit< tt
-any_block Out = lit< tt
-any_block Up = lit< tt
+-- the bytes of an interface
+bytes_of : Side → List ℕ
+bytes_of In = 105 ∷ 0 ∷ 0 ∷ 0 ∷ 0 ∷ 0 ∷ 4 ∷ 0 ∷ 2 ∷ 0 ∷ 2 ∷ 0 ∷ 105 ∷ 110 ∷ 0 ∷ 0 ∷ 9 ∷ 0 ∷ 1 ∷ 0 ∷ 9 ∷ 0 ∷ 0 ∷ 0 ∷ 0 ∷ 0 ∷ 0 ∷ 0 ∷ []
+bytes_of Out = 105 ∷ 0 ∷ 0 ∷ 0 ∷ 0 ∷ 0 ∷ 4 ∷ 0 ∷ 2 ∷ 0 ∷ 3 ∷ 0 ∷ 111 ∷ 117 ∷ 116 ∷ 0 ∷ 9 ∷ 0 ∷ 1 ∷ 0 ∷ 9 ∷ 0 ∷ 0 ∷ 0 ∷ 0 ∷ 0 ∷ 0 ∷ 0 ∷ []
+bytes_of Up = 1 ∷ 0 ∷ 0 ∷ 0 ∷ 0 ∷ 0 ∷ 4 ∷ 0 ∷ 2 ∷ 0 ∷ 2 ∷ 0 ∷ 117 ∷ 112 ∷ 0 ∷ 0 ∷ 9 ∷ 0 ∷ 1 ∷ 0 ∷ 9 ∷ 0 ∷ 0 ∷ 0 ∷ 0 ∷ 0 ∷ 0 ∷ 0 ∷ []
 
-short_interface : (side : Side) → length (interface_body side) + 12 < 2 ^ 32
+spelled : (side : Side) → interface_body side ≡ bytes_of side
+spelled In = refl
+spelled Out = refl
+spelled Up = refl
+
+any_block : (kind : ℕ) (body : List ℕ) → 0 < length (block_of kind body)
+any_block kind body =
+    let l = length-append (little_bytes 4 kind) (little_bytes 4 (length body + 12) ++ (body ++ little_bytes 4 (length body + 12))) in
+    let f = four kind in
+    omega (arith, l, f)
+
+short_interface : (side : Side) → length (bytes_of side) + 12 < 2 ^ 32
 short_interface In = lit< tt
 short_interface Out = lit< tt
 short_interface Up = lit< tt
 
-even_interface : (side : Side) → length (interface_body side) % 4 ≡ 0
+even_interface : (side : Side) → length (bytes_of side) % 4 ≡ 0
 even_interface In = refl
 even_interface Out = refl
 even_interface Up = refl
@@ -382,9 +402,8 @@ module _ (file : List ℕ) where
   packet_passed : (p : Written) → IsCounted p → (packets : List Seen) (rest : List ℕ) → Reached file (so_far packets) (packet_block p ++ rest) → Reached file (so_far (packets ++ seen_from p ∷ [])) rest
   packet_passed p counted packets rest reached =
       let bytes = packet_block p ++ rest in
-      let l = length-append (little_bytes 4 6) (little_bytes 4 (length (packet_body p) + 12) ++ (packet_body p ++ little_bytes 4 (length (packet_body p) + 12))) in
       Passed (so_far packets) (so_far (packets ++ seen_from p ∷ [])) bytes (record { endian = Little; kind = 6; body = packet_body p; after = rest }) reached
-      (some (packet_block p) rest (let f = four 6 in omega (arith, l, f)))
+      (some (packet_block p) rest (any_block 6 (packet_body p)))
       (read_as (place_of file bytes) 6 (packet_body p) rest (lit< tt) (packet_short p counted) (packet_even p counted) refl)
       (packet_read p counted (place_of file bytes) packets rest)
 
@@ -397,7 +416,8 @@ module _ (file : List ℕ) where
   begun_section : (place : ℕ) (rest : List ℕ) → after_block place opening (record { endian = Little; kind = section; body = section_body; after = rest }) ≡ Ok (with [])
   begun_section place rest = refl
 
-  described : (side : Side) (before : List Described) (place : ℕ) (rest : List ℕ) → after_block place (with before) (record { endian = Little; kind = 1; body = interface_body side; after = rest }) ≡ Ok (with (before ++ described_by side ∷ []))
+  described : (side : Side) (before : List Described) (place : ℕ) (rest : List ℕ)
+      → after_block place (with before) (record { endian = Little; kind = 1; body = bytes_of side; after = rest }) ≡ Ok (with (before ++ described_by side ∷ []))
   unfolding resolution_in
   described In before place rest = refl
   described Out before place rest = refl
@@ -405,9 +425,10 @@ module _ (file : List ℕ) where
 
   interface_passed : (side : Side) (before : List Described) (rest : List ℕ) → Reached file (with before) (block_of 1 (interface_body side) ++ rest) → Reached file (with (before ++ described_by side ∷ [])) rest
   interface_passed side before rest reached =
-      let bytes = block_of 1 (interface_body side) ++ rest in
-      Passed (with before) (with (before ++ described_by side ∷ [])) bytes (record { endian = Little; kind = 1; body = interface_body side; after = rest }) reached
-      (some (block_of 1 (interface_body side)) rest (any_block side)) (read_as (place_of file bytes) 1 (interface_body side) rest (lit< tt) (short_interface side) (even_interface side) refl)
+      let bytes = block_of 1 (bytes_of side) ++ rest in
+      let P : List ℕ → Type 0 = λ l. Reached file (with before) (block_of 1 l ++ rest) in
+      Passed (with before) (with (before ++ described_by side ∷ [])) bytes (record { endian = Little; kind = 1; body = bytes_of side; after = rest }) (subst P (spelled side) reached)
+      (some (block_of 1 (bytes_of side)) rest (any_block 1 (bytes_of side))) (read_as (place_of file bytes) 1 (bytes_of side) rest (lit< tt) (short_interface side) (even_interface side) refl)
       (described side before (place_of file bytes) rest)
 
   after_heading : (rest : List ℕ) → Reached file opening (heading ++ rest) → Reached file (so_far []) rest
@@ -416,12 +437,9 @@ module _ (file : List ℕ) where
       let o = block_of 1 (interface_body Out) in
       let u = block_of 1 (interface_body Up) in
       let more = i ++ (o ++ (u ++ rest)) in
-      let split : heading ++ rest ≡ block_of section section_body ++ more =
-      append_assoc (block_of section section_body) (i ++ (o ++ u)) rest
-      ∙ ap (λ l. block_of section section_body ++ l) (append_assoc i (o ++ u) rest ∙ ap (λ l. i ++ l) (append_assoc o u rest)) in
-      let from = subst (λ l. Reached file opening l) split reached in
+      let from = subst (λ l. Reached file opening l) (splits (block_of section section_body) i o u rest) reached in
       let one = Passed opening (with []) (block_of section section_body ++ more) (record { endian = Little; kind = section; body = section_body; after = more }) from
-      (some (block_of section section_body) more (lit< tt)) (read_section (place_of file (block_of section section_body ++ more)) more) (begun_section (place_of file (block_of section section_body ++ more)) more) in
+      (some (block_of section section_body) more (any_block section section_body)) (read_section (place_of file (block_of section section_body ++ more)) more) (begun_section (place_of file (block_of section section_body ++ more)) more) in
       interface_passed Up (described_by In ∷ described_by Out ∷ []) rest
       (interface_passed Out (described_by In ∷ []) (u ++ rest) (interface_passed In [] (o ++ (u ++ rest)) one))
 

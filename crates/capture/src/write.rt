@@ -37,6 +37,7 @@ pub struct NewPacket<'a> {
     pub bytes: &'a [u8],
     /// A text on the packet, of which the first 65535 bytes are kept.
     pub comment: &'a [u8],
+    pub ghost counted: { time < 2 ^ 64 },
 }
 
 /// The body of a section header: the byte order's magic number, version 1.0, and no known length.

@@ -36,6 +36,8 @@ mod memory;
 #[cfg(test)]
 mod options;
 #[cfg(test)]
+mod recording;
+#[cfg(test)]
 mod refusals;
 #[cfg(test)]
 mod running;
