@@ -1,8 +1,6 @@
 -- Packets of a capture, one after another.
-use Rattle.std.proofs.Common.{◌≡◌, ◌<◌, ◌≤◌, ℕ, suc, ◌+◌, Bool, true, false, nat_le, List, [], ◌∷◌, ◌++◌, length, take, drop, get_or, refl, sym, ap, subst, ◌∙◌, append_assoc, drop-cons, add-one, arith, if◌then◌else◌}
-use Rattle.std.proofs.lemmas.List.{drop_all}
+use Rattle.std.proofs.Common.{◌≡◌, ◌<◌, ℕ, suc, ◌+◌, List, [], ◌∷◌, ◌++◌, length, take, drop, get_or, refl, sym, ap, ◌∙◌, append_assoc, drop-cons, add-one}
 use Rattle.std.specs.List.{flat_map}
-use Rattle.std.proofs.lemmas.Bool.Decides.{nat_tests}
 use Rattle.capture.specs.Writing.{Written, packet_block, blocks_of}
 use Rattle.apd_script.specs.declared.command.Numbered.{Numbered}
 use Rattle.apd_driver.specs.declared.reports.report.Report.{Report}
@@ -43,24 +41,3 @@ next_packets time ns i n rs h e =
     ∙ (ap (λ m. blocks_of (line_packets (time_after time m.command) m (take (up_to m.line rs) rs) ++ interval_packets (time_after time m.command) (drop (suc i) ns) (drop (up_to m.line rs) rs))) (sym e)
     ∙ (blocks_append (line_packets (time_after time n.command) n (take (up_to n.line rs) rs)) (interval_packets (time_after time n.command) (drop (suc i) ns) (drop (up_to n.line rs) rs))
     ∙ ap (λ k. blocks_of (line_packets (time_after time n.command) n (take (up_to n.line rs) rs)) ++ blocks_of (interval_packets (time_after time n.command) (drop k ns) (drop (up_to n.line rs) rs))) (sym (add-one i))))
-
--- ---- the reports up to a line
-
-pub counts_next : (line : ℕ) (rs : List Report) (i : ℕ) (r : Report) → i < length rs → r ≡ get_or rs i r → r.line ≤ line
-    → up_to line (drop i rs) ≡ suc (up_to line (drop (i + 1) rs))
-counts_next line rs i r h e below =
-    let le : nat_le r.line line ≡ true = grind (arith, nat_tests, below) in
-    ap (up_to line) (drop-cons rs i r h)
-    ∙ (ap (λ x. (if nat_le x.line line then suc (up_to line (drop (suc i) rs)) else 0)) (sym e)
-    ∙ (ap (λ (b : Bool). (if b then suc (up_to line (drop (suc i) rs)) else 0)) le
-    ∙ ap (λ k. suc (up_to line (drop k rs))) (sym (add-one i))))
-
-pub counts_last : (line : ℕ) (rs : List Report) (i : ℕ) (r : Report) → i < length rs → r ≡ get_or rs i r → line < r.line → up_to line (drop i rs) ≡ 0
-counts_last line rs i r h e above =
-    let le : nat_le r.line line ≡ false = grind (arith, nat_tests, above) in
-    ap (up_to line) (drop-cons rs i r h)
-    ∙ (ap (λ x. (if nat_le x.line line then suc (up_to line (drop (suc i) rs)) else 0)) (sym e)
-    ∙ ap (λ (b : Bool). (if b then suc (up_to line (drop (suc i) rs)) else 0)) le)
-
-pub counts_none : (line : ℕ) (rs : List Report) (i : ℕ) → length rs ≤ i → up_to line (drop i rs) ≡ 0
-counts_none line rs i h = ap (up_to line) (drop_all i rs h)

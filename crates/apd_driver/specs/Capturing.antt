@@ -1,8 +1,8 @@
 -- The capture of a run: a packet for each frame that is received, each that is sent, and all that is passed up.
-use Rattle.std.specs.Prelude.{◌≡◌, ℕ, suc, ◌+◌, ◌*◌, ◌-◌, ◌^◌, Bool, true, false, nat_le, min, List, [], ◌∷◌, ◌++◌, take, drop, codes, decimal, Option, Some, None, if◌then◌else◌}
-use Rattle.std.specs.List.{flat_map, list_any}
+use Rattle.std.specs.Prelude.{◌≡◌, ℕ, ◌+◌, ◌*◌, ◌-◌, ◌^◌, Bool, true, false, nat_le, min, List, [], ◌∷◌, ◌++◌, take, drop, codes, decimal, Option, Some, None, if◌then◌else◌}
+use Rattle.std.specs.List.{flat_map, list_any, prefix_len}
 use Rattle.std.specs.Io.KnownBytes.{Appends}
-use Rattle.capture.specs.declared.write.Side.TheVariants as side
+use Rattle.capture.specs.declared.new_packet.Side.TheVariants as side
 use Rattle.capture.specs.Writing.{Written, blocks_of}
 use Rattle.ap_model.specs.declared.event.Out.{Out}
 use Rattle.ap_model.specs.declared.event.Out.TheVariants as out
@@ -86,8 +86,7 @@ line_packets time n reports =
 
 -- how many of the first reports are on lines up to this one
 abbrev pub up_to : ℕ → List Report → ℕ
-up_to line [] = 0
-up_to line (r ∷ reports) = (if nat_le r.line line then suc (up_to line reports) else 0)
+up_to line reports = prefix_len (λ r. nat_le r.line line) reports
 
 -- the packets of an interval: for each command in order, with the reports up to its line
 abbrev pub interval_packets : ℕ → List Numbered → List Report → List Written

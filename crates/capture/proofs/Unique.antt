@@ -19,7 +19,7 @@ goes_on v block (Steps s t rest b some0 is0 leads0 g) some is leads = Steps s t 
 
 from_opening : (file : List ℕ) (s : State) (rest : List ℕ) → Reached file s rest → Goes file s rest opening file
 from_opening file s rest Opened = Rests
-from_opening file t rest (Passed s t rest0 block reached some is leads) = goes_on t block (from_opening file s rest0 reached) some is leads
+from_opening file t rest (Passed s _ rest0 block reached some is leads) = goes_on t block (from_opening file s rest0 reached) some is leads
 
 abbrev ok : {X : Type 0} → X → Result X CaptureFault
 ok x = Ok x
@@ -35,7 +35,7 @@ either : {file : List ℕ} {u : State} {end : List ℕ} {v : State} {stop : List
     → Goes file u end v stop ⊎ Goes file v stop u end
 either Rests h = inr h
 either (Steps s t rest b some is leads g) Rests = inl (Steps s t rest b some is leads g)
-either {file} {u} {end} {v} {stop} (Steps s t rest b some is leads g) (Steps s t2 rest b2 some2 is2 leads2 h) =
+either {file} {u} {end} {v} {stop} (Steps s t rest b some is leads g) (Steps _ t2 _ b2 some2 is2 leads2 h) =
     let same : b2 ≡ b = framed_is b2 b (block_at (place_of file rest) s.endian rest) is2 is in
     let led = subst (λ (x : Framed). after_block (place_of file rest) s x ≡ Ok t2) same leads2 in
     let alike : t2 ≡ t = state_is t2 t (after_block (place_of file rest) s b) led leads in
@@ -45,7 +45,7 @@ either {file} {u} {end} {v} {stop} (Steps s t rest b some is leads g) (Steps s t
 -- nothing follows the end
 ended : (file : List ℕ) (u s : State) (end rest : List ℕ) → Goes file u end s rest → rest ≡ [] → s ≡ u
 ended file u s end rest Rests none = refl
-ended file u s end rest (Steps s t rest b some is leads g) none = absurd (let P : List ℕ → Type 0 = λ l. 0 < length l in omega (arith, subst P none some))
+ended file u s end rest (Steps _ t _ b some is leads g) none = absurd (let P : List ℕ → Type 0 = λ l. 0 < length l in omega (arith, subst P none some))
 
 pub unique : (file : List ℕ) (p q : List Seen) → HoldsBlocks file p → HoldsBlocks file q → p ≡ q
 unique file p q h k =

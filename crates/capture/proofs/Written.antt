@@ -1,9 +1,8 @@
 -- What is read of a written file.
-use Rattle.std.proofs.Common.{◌≡◌, ◌<◌, ◌≤◌, ◌==◌, ◌∙◌, ◌↔◌, ℕ, ◌+◌, ◌-◌, ◌*◌, ◌/◌, ◌%◌, ◌^◌, min, Bool, true, false, nat_lt, List, [], ◌∷◌, ◌++◌, length, take, drop, map, replicate, slice_get, Option, Some, None, Result, Ok, Err, refl, sym, ap, subst, arith, lit<, append_assoc, append-nil, length-append, length-replicate, if◌then◌else◌}
-use Rattle.std.specs.List.{All}
+use Rattle.std.proofs.Common.{◌≡◌, ◌<◌, ◌≤◌, ◌==◌, ◌∙◌, ◌↔◌, ℕ, ◌+◌, ◌-◌, ◌*◌, ◌/◌, ◌%◌, ◌^◌, min, Bool, true, false, nat_lt, List, [], ◌∷◌, ◌++◌, length, take, drop, map, replicate, slice_get, Option, Some, None, Result, Ok, Err, refl, sym, ap, subst, arith, lit<, append_assoc, append-nil, length-append, if◌then◌else◌}
 use Rattle.std.proofs.Math.Nat.{min-eq_left}
 use Rattle.std.proofs.Math.Seq.{drop-append_seam, take-append_seam, drop-append-add}
-use Rattle.std.proofs.lemmas.List.{take_all, length-take}
+use Rattle.std.proofs.lemmas.List.{take_all, length-take, length-replicate}
 use Rattle.std.proofs.lemmas.Bool.Decides.{nat_tests}
 use Rattle.byteorder.specs.Endian.{little_number, little_bytes}
 use Rattle.byteorder.specs.Numbers.{little_number-reads_back, length-bytes_low_first}
@@ -14,15 +13,15 @@ use Rattle.capture.specs.declared.fault.LeftOut.TheVariants.{Cut}
 use Rattle.capture.specs.declared.fields.Endian.TheVariants.{Little}
 use Rattle.capture.specs.declared.form.Link.{Link}
 use Rattle.capture.specs.declared.form.Link.TheVariants.{Plain, Other}
-use Rattle.capture.specs.declared.write.Side.{Side}
-use Rattle.capture.specs.declared.write.Side.TheVariants.{In, Out, Up}
+use Rattle.capture.specs.declared.new_packet.Side.{Side}
+use Rattle.capture.specs.declared.new_packet.Side.TheVariants.{In, Out, Up}
 use Rattle.capture.specs.Fields.{number_at}
 use Rattle.capture.specs.Blocks.{Framed, section, endian_of, endian_shown, is_odd, ordered, block_at}
 use Rattle.capture.specs.Captures.{Holds}
 use Rattle.capture.specs.Interfaces.{Described, padded, resolution_in}
 use Rattle.capture.specs.Packets.{Seen, frame_of, linked_frame}
 use Rattle.capture.specs.Sections.{State, Reached, Opened, Passed, opening, after_block, with_packet, enhanced, enhanced_of, place_of, stamp_of, stamp_in, HoldsBlocks}
-use Rattle.capture.specs.Writing.{Written, IsCounted, number_of, most_kept, padding, block_of, option_of, ending, section_body, interface_body, heading, original, packet_rest, packet_body, packet_block, blocks_of, file_of, whole_frame, frame_read, seen_from}
+use Rattle.capture.specs.Writing.{Written, IsCounted, AreCounted, number_of, most_kept, cut_to, padding, block_of, option_of, ending, section_body, interface_body, heading, original, packet_rest, body_of, packet_body, packet_block, blocks_of, file_of, whole_frame, frame_read, seen_from}
 use Rattle.capture.proofs.Unique.{unique}
 
 -- ---- lists
@@ -47,7 +46,7 @@ filled : (xs rest : List ℕ) → length (xs ++ (padding (length xs) ++ rest)) �
 filled xs rest =
     let a = length-append xs (padding (length xs) ++ rest) in
     let b = length-append (padding (length xs)) rest in
-    let p = length-replicate (padded (length xs) - length xs) 0 in
+    let p = length-replicate {A = ℕ} (padded (length xs) - length xs) 0 in
     let up : length xs + (padded (length xs) - length xs) ≡ (length xs + 3) / 4 * 4 = omega arith in
     omega (arith, a, b, p, up)
 
@@ -128,8 +127,10 @@ module _ (kind : ℕ) (body rest : List ℕ) (small : kind < 2 ^ 32) (short : le
 
   past : (m : ℕ) → drop (8 + m) bytes ≡ drop m (body ++ (little_bytes 4 n ++ rest))
   past m =
-      further 4 (4 + m) (little_bytes 4 kind) (little_bytes 4 n ++ (body ++ (little_bytes 4 n ++ rest))) (four kind)
-      ∙ further 4 m (little_bytes 4 n) (body ++ (little_bytes 4 n ++ rest)) (four n)
+      let e : 8 + m ≡ 4 + (4 + m) = omega arith in
+      ap (λ k. drop k bytes) e
+      ∙ (further 4 (4 + m) (little_bytes 4 kind) (little_bytes 4 n ++ (body ++ (little_bytes 4 n ++ rest))) (four kind)
+      ∙ further 4 m (little_bytes 4 n) (body ++ (little_bytes 4 n ++ rest)) (four n))
 
   past_body : drop (8 + length body) bytes ≡ little_bytes 4 n ++ rest
   past_body = past (length body) ∙ drop-append_seam body (little_bytes 4 n ++ rest)
@@ -150,7 +151,7 @@ module _ (kind : ℕ) (body rest : List ℕ) (small : kind < 2 ^ 32) (short : le
   block_read place shown =
       let enough : nat_lt (length bytes) 12 ≡ false = grind (arith, nat_tests, long) in
       let fits : nat_lt (length bytes) n ≡ false = grind (arith, nat_tests, long) in
-      let same : (n == n) ≡ true = search (nat_tests) in
+      let same : (n == n) ≡ true = grind (arith, nat_tests) in
       let made : ℕ → List ℕ → List ℕ → Result Framed CaptureFault = λ k b a. Ok (record { endian = Little; kind = k; body = b; after = a }) in
       let is_body : take (n - 12) (drop 8 bytes) ≡ body = (let w : n - 12 ≡ length body = omega arith in ap (λ k. take k (drop 8 bytes)) w ∙ (ap (take (length body)) past_length ∙ take-append_seam body (little_bytes 4 n ++ rest))) in
       let is_after : drop n bytes ≡ rest = (let w : n ≡ 8 + (length body + 4) = omega arith in ap (λ k. drop k bytes) w ∙ past_all) in
@@ -189,12 +190,12 @@ read_section place rest =
 -- ---- packets
 
 -- the link of a written interface
-link_of : Side → Link
+abbrev link_of : Side → Link
 link_of In = Plain
 link_of Out = Plain
 link_of Up = Other 1
 
-described_by : Side → Described
+abbrev described_by : Side → Described
 described_by side = record { link = link_of side; units = 1000000000; most = most_kept }
 
 abbrev interfaces : List Described
@@ -214,9 +215,9 @@ numbers_few Out = lit< tt
 numbers_few Up = lit< tt
 
 linked : (side : Side) (bytes : List ℕ) → linked_frame (link_of side) bytes ≡ whole_frame side bytes
-linked In bytes = refl
-linked Out bytes = refl
-linked Up bytes = refl
+linked In l = refl
+linked Out l = refl
+linked Up l = refl
 
 -- the body of a packet's block
 module _ (side : Side) (time many : ℕ) (kept comment : List ℕ) (counted : time < 2 ^ 64) (few : many < 2 ^ 32) (short : length kept ≤ 262144) (brief : length comment ≤ 65535) where
@@ -262,42 +263,62 @@ module _ (side : Side) (time many : ℕ) (kept comment : List ℕ) (counted : ti
   long_body : 20 + length kept ≤ length body
   long_body = long_enough (length body) (length kept) (length comment) padded_length
 
+  -- what follows each of the numbers
+  abbrev rest16 : List ℕ
+  rest16 = little_bytes 4 many ++ tail
+
+  abbrev rest12 : List ℕ
+  rest12 = little_bytes 4 (length kept) ++ rest16
+
+  abbrev rest8 : List ℕ
+  rest8 = little_bytes 4 (time % 2 ^ 32) ++ rest12
+
+  abbrev rest4 : List ℕ
+  rest4 = little_bytes 4 (time / 2 ^ 32) ++ rest8
+
   at0 : number_at Little 4 0 body ≡ number_of side
-  at0 = reads (number_of side) _ (numbers_few side)
+  at0 = reads (number_of side) rest4 (numbers_few side)
 
-  drop4 : drop 4 body ≡ little_bytes 4 (time / 2 ^ 32) ++ (little_bytes 4 (time % 2 ^ 32) ++ (little_bytes 4 (length kept) ++ (little_bytes 4 many ++ tail)))
-  drop4 = behind 4 (little_bytes 4 (number_of side)) _ (four (number_of side))
+  drop4 : drop 4 body ≡ rest4
+  drop4 = behind 4 (little_bytes 4 (number_of side)) rest4 (four (number_of side))
 
-  drop8 : drop 8 body ≡ little_bytes 4 (time % 2 ^ 32) ++ (little_bytes 4 (length kept) ++ (little_bytes 4 many ++ tail))
-  drop8 = further 4 4 (little_bytes 4 (number_of side)) _ (four (number_of side)) ∙ behind 4 (little_bytes 4 (time / 2 ^ 32)) _ (four (time / 2 ^ 32))
+  drop8 : drop 8 body ≡ rest8
+  drop8 =
+      further 4 4 (little_bytes 4 (number_of side)) rest4 (four (number_of side))
+      ∙ behind 4 (little_bytes 4 (time / 2 ^ 32)) rest8 (four (time / 2 ^ 32))
 
-  drop12 : drop 12 body ≡ little_bytes 4 (length kept) ++ (little_bytes 4 many ++ tail)
+  drop12 : drop 12 body ≡ rest12
   drop12 =
-      further 4 8 (little_bytes 4 (number_of side)) _ (four (number_of side)) ∙ (further 4 4 (little_bytes 4 (time / 2 ^ 32)) _ (four (time / 2 ^ 32))
-      ∙ behind 4 (little_bytes 4 (time % 2 ^ 32)) _ (four (time % 2 ^ 32)))
+      further 4 8 (little_bytes 4 (number_of side)) rest4 (four (number_of side))
+      ∙ (further 4 4 (little_bytes 4 (time / 2 ^ 32)) rest8 (four (time / 2 ^ 32))
+      ∙ behind 4 (little_bytes 4 (time % 2 ^ 32)) rest12 (four (time % 2 ^ 32)))
 
-  drop16 : drop 16 body ≡ little_bytes 4 many ++ tail
+  drop16 : drop 16 body ≡ rest16
   drop16 =
-      further 4 12 (little_bytes 4 (number_of side)) _ (four (number_of side)) ∙ (further 4 8 (little_bytes 4 (time / 2 ^ 32)) _ (four (time / 2 ^ 32))
-      ∙ (further 4 4 (little_bytes 4 (time % 2 ^ 32)) _ (four (time % 2 ^ 32)) ∙ behind 4 (little_bytes 4 (length kept)) _ (four (length kept))))
+      further 4 12 (little_bytes 4 (number_of side)) rest4 (four (number_of side))
+      ∙ (further 4 8 (little_bytes 4 (time / 2 ^ 32)) rest8 (four (time / 2 ^ 32))
+      ∙ (further 4 4 (little_bytes 4 (time % 2 ^ 32)) rest12 (four (time % 2 ^ 32))
+      ∙ behind 4 (little_bytes 4 (length kept)) rest16 (four (length kept))))
 
   drop20 : drop 20 body ≡ tail
   drop20 =
-      further 4 16 (little_bytes 4 (number_of side)) _ (four (number_of side)) ∙ (further 4 12 (little_bytes 4 (time / 2 ^ 32)) _ (four (time / 2 ^ 32))
-      ∙ (further 4 8 (little_bytes 4 (time % 2 ^ 32)) _ (four (time % 2 ^ 32)) ∙ (further 4 4 (little_bytes 4 (length kept)) _ (four (length kept))
-      ∙ behind 4 (little_bytes 4 many) _ (four many))))
+      further 4 16 (little_bytes 4 (number_of side)) rest4 (four (number_of side))
+      ∙ (further 4 12 (little_bytes 4 (time / 2 ^ 32)) rest8 (four (time / 2 ^ 32))
+      ∙ (further 4 8 (little_bytes 4 (time % 2 ^ 32)) rest12 (four (time % 2 ^ 32))
+      ∙ (further 4 4 (little_bytes 4 (length kept)) rest16 (four (length kept))
+      ∙ behind 4 (little_bytes 4 many) tail (four many))))
 
   at4 : number_at Little 4 4 body ≡ time / 2 ^ 32
-  at4 = ap (little_number 4) drop4 ∙ reads (time / 2 ^ 32) _ (upper_few time counted)
+  at4 = ap (little_number 4) drop4 ∙ reads (time / 2 ^ 32) rest8 (upper_few time counted)
 
   at8 : number_at Little 4 8 body ≡ time % 2 ^ 32
-  at8 = ap (little_number 4) drop8 ∙ reads (time % 2 ^ 32) _ (lower_few time)
+  at8 = ap (little_number 4) drop8 ∙ reads (time % 2 ^ 32) rest12 (lower_few time)
 
   at12 : number_at Little 4 12 body ≡ length kept
-  at12 = ap (little_number 4) drop12 ∙ reads (length kept) _ (kept_few (length kept) short)
+  at12 = ap (little_number 4) drop12 ∙ reads (length kept) rest16 (kept_few (length kept) short)
 
   at16 : number_at Little 4 16 body ≡ many
-  at16 = ap (little_number 4) drop16 ∙ reads many _ few
+  at16 = ap (little_number 4) drop16 ∙ reads many tail few
 
   captured : take (number_at Little 4 12 body) (drop 20 body) ≡ kept
   captured = ap (λ k. take k (drop 20 body)) at12 ∙ (ap (take (length kept)) drop20 ∙ take-append_seam kept (padding (length kept) ++ (option_of 1 comment ++ ending)))
@@ -323,38 +344,44 @@ module _ (side : Side) (time many : ℕ) (kept comment : List ℕ) (counted : ti
       ∙ (ap (λ f. Ok (record { time = Some (stamp_in (described_by side) b); frame = f })) framed
       ∙ ap (λ x. Ok (record { time = Some x; frame = frame })) timed))))
 
--- the frame of a packet that is cut, or isn't
-framed_as : (most : ℕ) → most < 2 ^ 32 - 1 → (side : Side) (bytes : List ℕ) → frame_of (link_of side) (original bytes) (take most bytes) ≡ (if nat_lt most (length bytes) then Err Cut else whole_frame side bytes)
-framed_as most below side bytes = elim (nat_lt most (length bytes)) [
-  | true eq is ↦ (let less : nat_lt (length (take most bytes)) (original bytes) ≡ true = (let l = length-take most bytes in grind (arith, nat_tests, is, l, below)) in
-      ap (λ (x : Bool). (if x then Err Cut else linked_frame (link_of side) (take most bytes))) less
-      ∙ sym (ap (λ (x : Bool). (if x then Err Cut else whole_frame side bytes)) is))
-  | false eq is ↦ (let few : length bytes ≤ most = grind (arith, nat_tests, is) in
-      let all : take most bytes ≡ bytes = take_all most bytes few in
-      let less : nat_lt (length (take most bytes)) (original bytes) ≡ false = (let s = ap length all in grind (arith, nat_tests, s, few)) in
-      ap (λ (x : Bool). (if x then Err Cut else linked_frame (link_of side) (take most bytes))) less
-      ∙ (linked side (take most bytes) ∙ (ap (whole_frame side) all
-      ∙ sym (ap (λ (x : Bool). (if x then Err Cut else whole_frame side bytes)) is))))
-]
+cut_is : (most : ℕ) (l : List ℕ) → cut_to most l ≡ take most l
+unfolding cut_to
+cut_is most l = refl
 
-kept_short : (most : ℕ) (bytes : List ℕ) → length (take most bytes) ≤ most
-kept_short most bytes = let l = length-take most bytes in grind (arith, l)
+framed_by : (most : ℕ) → most < 2 ^ 32 - 1 → (side : Side) (bytes kept : List ℕ) (b : Bool) → kept ≡ take most bytes → nat_lt most (length bytes) ≡ b
+    → frame_of (link_of side) (original bytes) kept ≡ (if b then Err Cut else whole_frame side bytes)
+framed_by most below side bytes kept true e is =
+    let less : nat_lt (length kept) (original bytes) ≡ true = (let l = length-take most bytes in let k = ap length e in grind (arith, nat_tests, is, l, k, below)) in
+    ap (λ (x : Bool). (if x then Err Cut else linked_frame (link_of side) kept)) less
+framed_by most below side bytes kept false e is =
+    let few : length bytes ≤ most = grind (arith, nat_tests, is) in
+    let all : kept ≡ bytes = e ∙ take_all most bytes few in
+    let less : nat_lt (length kept) (original bytes) ≡ false = (let s = ap length all in grind (arith, nat_tests, s, few)) in
+    ap (λ (x : Bool). (if x then Err Cut else linked_frame (link_of side) kept)) less
+    ∙ (linked side kept ∙ ap (whole_frame side) all)
+
+-- the frame of a packet that is cut, or isn't
+framed_as : (most : ℕ) → most < 2 ^ 32 - 1 → (side : Side) (bytes : List ℕ) → frame_of (link_of side) (original bytes) (cut_to most bytes) ≡ (if nat_lt most (length bytes) then Err Cut else whole_frame side bytes)
+framed_as most below side bytes = framed_by most below side bytes (cut_to most bytes) (nat_lt most (length bytes)) (cut_is most bytes) refl
+
+kept_short : (most : ℕ) (bytes : List ℕ) → length (cut_to most bytes) ≤ most
+kept_short most bytes = let l = length-take most bytes in let k = ap length (cut_is most bytes) in grind (arith, l, k)
 
 original_few : (bytes : List ℕ) → original bytes < 2 ^ 32
 original_few bytes = grind arith
 
 module _ (p : Written) (counted : IsCounted p) where
-  packet_short : length (packet_body p) + 12 < 2 ^ 32
-  packet_short = short_body p.side p.time (original p.bytes) (take most_kept p.bytes) (take 65535 p.comment) counted (original_few p.bytes) (kept_short most_kept p.bytes) (kept_short 65535 p.comment)
+  pub packet_short : length (packet_body p) + 12 < 2 ^ 32
+  packet_short = short_body p.side p.time (original p.bytes) (cut_to most_kept p.bytes) (cut_to 65535 p.comment) counted (original_few p.bytes) (kept_short most_kept p.bytes) (kept_short 65535 p.comment)
 
   packet_even : length (packet_body p) % 4 ≡ 0
-  packet_even = even_body p.side p.time (original p.bytes) (take most_kept p.bytes) (take 65535 p.comment) counted (original_few p.bytes) (kept_short most_kept p.bytes) (kept_short 65535 p.comment)
+  packet_even = even_body p.side p.time (original p.bytes) (cut_to most_kept p.bytes) (cut_to 65535 p.comment) counted (original_few p.bytes) (kept_short most_kept p.bytes) (kept_short 65535 p.comment)
 
   packet_read : (place : ℕ) (packets : List Seen) (rest : List ℕ)
       → after_block place (so_far packets) (record { endian = Little; kind = 6; body = packet_body p; after = rest }) ≡ Ok (so_far (packets ++ seen_from p ∷ []))
   packet_read place packets rest =
       ap (with_packet (so_far packets))
-      (body_read p.side p.time (original p.bytes) (take most_kept p.bytes) (take 65535 p.comment) counted (original_few p.bytes) (kept_short most_kept p.bytes) (kept_short 65535 p.comment)
+      (body_read p.side p.time (original p.bytes) (cut_to most_kept p.bytes) (cut_to 65535 p.comment) counted (original_few p.bytes) (kept_short most_kept p.bytes) (kept_short 65535 p.comment)
       place rest (frame_read p) (framed_as most_kept (lit< tt) p.side p.bytes))
 
 -- ---- the whole file
@@ -372,7 +399,7 @@ abbrev with : List Described → State
 with described = record { endian = Little; interfaces = described; packets = [] }
 
 -- the bytes of an interface
-bytes_of : Side → List ℕ
+abbrev bytes_of : Side → List ℕ
 bytes_of In = 105 ∷ 0 ∷ 0 ∷ 0 ∷ 0 ∷ 0 ∷ 4 ∷ 0 ∷ 2 ∷ 0 ∷ 2 ∷ 0 ∷ 105 ∷ 110 ∷ 0 ∷ 0 ∷ 9 ∷ 0 ∷ 1 ∷ 0 ∷ 9 ∷ 0 ∷ 0 ∷ 0 ∷ 0 ∷ 0 ∷ 0 ∷ 0 ∷ []
 bytes_of Out = 105 ∷ 0 ∷ 0 ∷ 0 ∷ 0 ∷ 0 ∷ 4 ∷ 0 ∷ 2 ∷ 0 ∷ 3 ∷ 0 ∷ 111 ∷ 117 ∷ 116 ∷ 0 ∷ 9 ∷ 0 ∷ 1 ∷ 0 ∷ 9 ∷ 0 ∷ 0 ∷ 0 ∷ 0 ∷ 0 ∷ 0 ∷ 0 ∷ []
 bytes_of Up = 1 ∷ 0 ∷ 0 ∷ 0 ∷ 0 ∷ 0 ∷ 4 ∷ 0 ∷ 2 ∷ 0 ∷ 2 ∷ 0 ∷ 117 ∷ 112 ∷ 0 ∷ 0 ∷ 9 ∷ 0 ∷ 1 ∷ 0 ∷ 9 ∷ 0 ∷ 0 ∷ 0 ∷ 0 ∷ 0 ∷ 0 ∷ 0 ∷ []
@@ -407,7 +434,7 @@ module _ (file : List ℕ) where
       (read_as (place_of file bytes) 6 (packet_body p) rest (lit< tt) (packet_short p counted) (packet_even p counted) refl)
       (packet_read p counted (place_of file bytes) packets rest)
 
-  passed : (written : List Written) → All IsCounted written → (packets : List Seen) → Reached file (so_far packets) (blocks_of written) → Reached file (so_far (packets ++ map seen_from written)) []
+  passed : (written : List Written) → AreCounted written → (packets : List Seen) → Reached file (so_far packets) (blocks_of written) → Reached file (so_far (packets ++ map seen_from written)) []
   passed [] counted packets reached = let P : List Seen → Type 0 = λ l. Reached file (so_far l) [] in subst P (sym (append-nil packets)) reached
   passed (p ∷ written) counted packets reached =
       let P : List Seen → Type 0 = λ l. Reached file (so_far l) [] in
@@ -443,7 +470,7 @@ module _ (file : List ℕ) where
       interface_passed Up (described_by In ∷ described_by Out ∷ []) rest
       (interface_passed Out (described_by In ∷ []) (u ++ rest) (interface_passed In [] (o ++ (u ++ rest)) one))
 
-pub holds : (written : List Written) → All IsCounted written → HoldsBlocks (file_of written) (map seen_from written)
+pub holds : (written : List Written) → AreCounted written → HoldsBlocks (file_of written) (map seen_from written)
 holds written counted =
     let file = file_of written in
     record {
@@ -453,7 +480,7 @@ holds written counted =
     }
 
 -- what is read of a written file is what was written
-pub reads_back : (written : List Written) → All IsCounted written → (seen : List Seen) → Holds (file_of written) seen ↔ (seen ≡ map seen_from written)
+pub reads_back : (written : List Written) → AreCounted written → (seen : List Seen) → Holds (file_of written) seen ↔ (seen ≡ map seen_from written)
 reads_back written counted seen = (
   λ h. unique (file_of written) seen (map seen_from written) h (holds written counted),
   λ e. let P : List Seen → Type 0 = λ l. HoldsBlocks (file_of written) l in subst P (sym e) (holds written counted),

@@ -4,9 +4,9 @@ use Rattle.std.specs.Prelude.{◌<◌, ℕ, ◌+◌, ◌-◌, ◌/◌, ◌%◌, 
 use Rattle.byteorder.specs.Endian.{little_bytes}
 use Rattle.capture.specs.declared.fault.LeftOut.{LeftOut}
 use Rattle.capture.specs.declared.fault.LeftOut.TheVariants.{Cut, LinkType}
-use Rattle.capture.specs.declared.write.Side.{Side}
-use Rattle.capture.specs.declared.write.Side.TheVariants.{In, Out, Up}
-use Rattle.capture.specs.declared.write.NewPacket.{NewPacket}
+use Rattle.capture.specs.declared.new_packet.Side.{Side}
+use Rattle.capture.specs.declared.new_packet.Side.TheVariants.{In, Out, Up}
+use Rattle.capture.specs.declared.new_packet.NewPacket.{NewPacket}
 use Rattle.capture.specs.Blocks.{section}
 use Rattle.capture.specs.Interfaces.{padded}
 use Rattle.capture.specs.Packets.{Seen}
@@ -25,6 +25,11 @@ written_of p = record { side = p.side; time = p.time; bytes = p.bytes.now; comme
 -- 64 bits count its time
 abbrev pub IsCounted : Written → Type 0
 IsCounted p = p.time < 2 ^ 64
+
+-- the same of all packets
+abbrev pub AreCounted : List Written → Type 0
+AreCounted [] = Unit {0}
+AreCounted (p ∷ packets) = IsCounted p × AreCounted packets
 
 -- the number of an interface in its section
 abbrev pub number_of : Side → ℕ
@@ -47,6 +52,10 @@ name_of Up = codes "up"
 -- the most bytes kept of a packet
 abbrev pub most_kept : ℕ
 most_kept = 262144
+
+-- the first bytes, at most so many
+unfoldable pub cut_to : ℕ → List ℕ → List ℕ
+cut_to most bytes = take most bytes
 
 -- zeros up to a multiple of 4 bytes
 abbrev pub padding : ℕ → List ℕ
@@ -104,7 +113,7 @@ body_of side time many kept comment =
 -- the same of a packet, which is kept up to its limit, as is the comment
 abbrev pub packet_body : Written → List ℕ
 packet_body p =
-    body_of p.side p.time (original p.bytes) (take most_kept p.bytes) (take 65535 p.comment)
+    body_of p.side p.time (original p.bytes) (cut_to most_kept p.bytes) (cut_to 65535 p.comment)
 
 -- the block of a packet
 abbrev pub packet_block : Written → List ℕ

@@ -12,6 +12,7 @@ mod fault;
 mod fields;
 mod form;
 mod interface;
+mod new_packet;
 mod packet;
 mod radiotap;
 mod read;
@@ -19,8 +20,7 @@ mod section;
 mod write;
 
 pub use fault::{CaptureFault, LeftOut};
+pub use new_packet::{NewPacket, Side};
 pub use packet::Packet;
 pub use read::read_capture;
-pub use write::{
-    MOST_KEPT, NewPacket, Side, append_heading, append_packet, write_capture, written_law,
-};
+pub use write::{MOST_KEPT, append_heading, append_packet, write_capture, written_law};

@@ -1,13 +1,13 @@
 //! Writing a capture: a pcapng file of what an access point received, sent and passed up.
 
-ghost use Rattle.std.specs.Prelude.{◌≡◌, ◌<◌, ◌+◌, ◌^◌, ◌++◌, ◌↔◌, List, IfOk, OnOk, length, map, take};
-ghost use Rattle.std.specs.List.{All};
+ghost use Rattle.std.specs.Prelude.{◌≡◌, ◌<◌, ◌≤◌, ◌+◌, ◌^◌, ◌++◌, ◌↔◌, List, IfOk, OnOk, length, map};
 ghost use Rattle.byteorder.specs.Endian.{little_bytes};
 ghost use Rattle.capture.specs.Captures.{Holds};
 ghost use Rattle.capture.specs.Packets.{Seen};
-ghost use Rattle.capture.specs.Writing.{Written, IsCounted, block_of, file_of, heading, interface_body, link_number, name_of, number_of, option_of, packet_block, packet_body, padding, seen_from, written_of};
+ghost use Rattle.capture.specs.Writing.{Written, AreCounted, block_of, cut_to, file_of, heading, interface_body, link_number, name_of, number_of, option_of, packet_block, packet_body, padding, seen_from, written_of};
 
 use crate::block::SECTION;
+use crate::new_packet::{NewPacket, Side};
 use std::alloc::{AllocError, Global};
 
 /// The most bytes of a packet that a capture keeps.
@@ -15,30 +15,6 @@ pub const MOST_KEPT: usize = 262_144;
 
 /// The most bytes of an option's value.
 const MOST_TEXT: usize = 65_535;
-
-/// An interface of a written capture.
-#[derive(Clone, Copy, Debug, PartialEq, Eq)]
-pub enum Side {
-    /// The frames that are received.
-    In,
-    /// The frames that are sent.
-    Out,
-    /// What is passed up, as Ethernet frames.
-    Up,
-}
-
-/// A packet to write.
-#[derive(Clone, Copy)]
-pub struct NewPacket<'a> {
-    pub side: Side,
-    /// Nanoseconds since the start of 1970.
-    pub time: u64,
-    /// The packet, of which the first 262144 bytes are kept.
-    pub bytes: &'a [u8],
-    /// A text on the packet, of which the first 65535 bytes are kept.
-    pub comment: &'a [u8],
-    pub ghost counted: { time < 2 ^ 64 },
-}
 
 /// The body of a section header: the byte order's magic number, version 1.0, and no known length.
 const SECTION_BODY: [u8; 16] = [
@@ -80,8 +56,10 @@ impl Side {
 }
 
 /// The first bytes, at most so many.
+#[tactic(auto, unfolding(crate::specs::Writing::cut_to))]
 fn first(most: usize, bytes: &[u8]) -> &[u8]
-    ensures is { result.now ≡ take most bytes.now }
+    ensures is { result.now ≡ cut_to most bytes.now }
+    ensures short { length result.now ≤ most }
 {
     if bytes.len() <= most {
         return bytes;
@@ -176,7 +154,8 @@ pub fn append_heading(alloc: Global, out: &mut Vec<u8>) -> Result<(), AllocError
     append_block(out, SECTION, &SECTION_BODY)?;
     append_interface(alloc, out, Side::In)?;
     append_interface(alloc, out, Side::Out)?;
-    append_interface(alloc, out, Side::Up)
+    append_interface(alloc, out, Side::Up)?;
+    Ok(())
 }
 
 fn append_interface(alloc: Global, out: &mut Vec<u8>, side: Side) -> Result<(), AllocError>
@@ -197,7 +176,8 @@ pub fn append_packet(
         (out.new.items ≡ out.old.items ++ packet_block (written_of packet.entry)) }
 {
     let body = packet_body(alloc, packet)?;
-    append_block(out, 6, body.as_slice())
+    append_block(out, 6, body.as_slice())?;
+    Ok(())
 }
 
 /// A whole file of these packets. What is read from it is the frames that were received and sent, with their times; each
@@ -218,6 +198,6 @@ pub fn write_capture(alloc: Global, packets: &[NewPacket<'_>]) -> Result<Vec<u8>
 /// Reading a file that begins with the heading and goes on with the blocks of packets, whose times 64 bits count, gives
 /// these packets and no others.
 pub fn written_law()
-    ensures read { (packets : List Written) → All IsCounted packets → (seen : List Seen) →
+    ensures read { (packets : List Written) → AreCounted packets → (seen : List Seen) →
         Holds (file_of packets) seen ↔ (seen ≡ map seen_from packets) }
 {}
