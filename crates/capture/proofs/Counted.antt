@@ -1,4 +1,4 @@
--- Packets whose times 64 bits count.
+-- Packets whose times 64 bits count, and bytes that are appended part by part.
 use Rattle.std.proofs.Common.{◌≡◌, ◌<◌, ℕ, suc, ◌+◌, List, [], ◌∷◌, ◌++◌, length, drop, map, get_or, sym, ap, ◌∙◌, append_assoc, drop-cons, add-one}
 use Rattle.capture.specs.declared.new_packet.NewPacket.{NewPacket}
 use Rattle.capture.specs.Writing.{AreCounted, blocks_of, packet_block, written_of}
