@@ -54,6 +54,7 @@ fn rows<R: Threads + Wait + Abort + Sync>(
 ) -> String {
     let files = [
         file("config", LAB),
+        file("-", ""),
         file("zero", ZERO),
         file("one", ONE),
         file("notes", NOTES),
