@@ -1,3 +1,4 @@
 pub mod Values
 pub mod Handles
 pub mod Sent
+pub mod Running

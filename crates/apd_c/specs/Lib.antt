@@ -5,6 +5,7 @@ pub mod Given
 pub mod Code
 pub mod Words
 pub mod Runs
+pub mod Ports
 pub mod Certificates
 pub mod Link
 pub mod Outs

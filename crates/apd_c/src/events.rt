@@ -17,6 +17,7 @@ use ap_core::{Event, Octets, Out};
 use ap_single::AccessPoint;
 use mac_types::{Address, Reason, Tid};
 use std::alloc::Global;
+use std::mem::forget;
 
 /// A station, by its address.
 #[repr(C)]
@@ -169,7 +170,8 @@ fn lead_to(
         Ok(mut boxed) => match lead_over(alloc, link, maps, event) {
             Err(number) => return number,
             Ok(list) => {
-                *boxed = Content::Outs(Outputs { user, list });
+                // (what stood there owns nothing)
+                forget(Box::replace(&mut boxed, Content::Outs(Outputs { user, list })));
                 outs.put(boxed);
                 return 0;
             }

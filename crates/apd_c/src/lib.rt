@@ -9,6 +9,7 @@
 
 mod answer;
 mod atomics;
+mod call_port;
 mod certificates;
 mod code;
 mod crossing;

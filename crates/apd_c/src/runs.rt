@@ -1,14 +1,15 @@
 //! Runs of programs.
 
-ghost use Rattle.std.specs.Prelude.{◌≡◌, ◌≢◌, ◌↔◌, Some, IsTrue, take};
+ghost use Rattle.std.specs.Prelude.{◌≡◌, ◌≢◌, ◌≤◌, ◌↔◌, Some, IsTrue, take};
 ghost use Rattle.apd_c.specs.Held.{held};
 ghost use Rattle.apd_c.specs.Runs.{RunsOn, RunsCode, IsForHook, IsNumberOn, IsRunNumber};
 
 use crate::answer::{OTHER_HOOK, OTHER_MAPS, OTHER_VALUE, OUT_OF_LIMITS};
+use crate::call_port::CallPort;
 use crate::handle::{Content, Handle};
 use crate::maps::Maps;
-use bpf_helpers::{WorkerView, run_hook};
-use bpf_machine::{Accepted, Outcome};
+use bpf_helpers::{HookPort, WorkerView};
+use bpf_machine::{Accepted, Outcome, run};
 use bpf_regions::{Context, Frame, Shape};
 use std::alloc::Global;
 
@@ -34,6 +35,7 @@ pub struct Report {
 }
 
 /// Reports a run, without its number. The array beyond the run's notes is unchanged.
+#[inline(always)]
 fn tell(outcome: &Outcome, report: &mut Report)
     ensures r0 { report.new.r0 ≡ outcome.now.r0 }
     ensures steps { report.new.steps ≡ outcome.now.steps }
@@ -50,6 +52,7 @@ fn tell(outcome: &Outcome, report: &mut Report)
     report.notes[..count].copy_from_slice(listed);
 }
 
+#[inline(always)]
 pub(crate) fn are_alike(shapes: &[Shape], others: &[Shape]) -> bool
     ensures { IsTrue result ↔ (shapes.now ≡ others.now) }
 {
@@ -61,6 +64,28 @@ fn is_for_hook(accepted: &Accepted, given: &Given) -> bool
     ensures { IsTrue result ↔ IsForHook accepted.now given.now }
 {
     given.context[6] == accepted.hook().number()
+}
+
+/// Runs a program on a frame over maps of its shapes, lent to a port, and reports it.
+#[inline(always)]
+fn run_over(accepted: &Accepted, maps: &mut Maps, frame: &Frame, given: &Given, report: &mut Report)
+    requires shapes { maps.old.shapes ≡ accepted.now.code.shapes }
+    requires few { given.now.stations ≤ 2007 }
+    ensures { RunsOn accepted.now maps.old frame.now given.now report.new maps.new }
+{
+    let context = Context::new(given.context);
+    let view = WorkerView {
+        maps: maps.tables.maps(),
+        worker: 0,
+        clock: given.clock,
+        stations: given.stations,
+    };
+    let state = &mut maps.state;
+    let mut port = CallPort {
+        port: HookPort { view, state },
+    };
+    let outcome = run(accepted, frame, &context, &mut port);
+    tell(&outcome, report);
 }
 
 /// Runs a program on a frame over its maps, and returns the number.
@@ -91,15 +116,7 @@ fn run_on(
     if !is_for_hook(accepted, given) {
         return OTHER_HOOK;
     }
-    let context = Context::new(given.context);
-    let view = WorkerView {
-        maps: maps.tables.maps(),
-        worker: 0,
-        clock: given.clock,
-        stations: given.stations,
-    };
-    let outcome = run_hook(accepted, &frame, &context, view, &mut maps.state);
-    tell(&outcome, report);
+    run_over(accepted, maps, &frame, given, report);
     return 0;
 }
 
