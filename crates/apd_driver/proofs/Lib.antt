@@ -8,3 +8,4 @@ pub mod Batches
 pub mod Entries
 pub mod Digits
 pub mod Looking
+pub mod Packets

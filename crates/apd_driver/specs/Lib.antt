@@ -18,3 +18,5 @@ pub mod Asking
 pub mod Shows
 pub mod Tells
 pub use Rattle.ap_books.specs.Counts
+pub mod Ethernet
+pub mod Capturing

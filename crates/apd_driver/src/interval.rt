@@ -16,7 +16,6 @@ use crate::setting::{Setting, Staff};
 use crate::{PrintFault, Report, Told, print_reports, put_in_order};
 use apd_script::{MalformedLine, Numbered};
 use std::alloc::Global;
-use std::io::Write;
 use std::sync::Wait;
 use std::sync::atomic::Ordering;
 
@@ -56,10 +55,11 @@ fn any_memory(reports: &[Report]) -> bool
     reports.iter().any(|report| is_memory(&report.told))
 }
 
-/// Prints reports in order, and returns what their lines say.
-fn print_interval<P: Write>(
+/// Prints reports in order, and returns what their lines say. Before them it records them, with the commands.
+fn print_interval<P: Console>(
     alloc: Global,
     manner: Manner,
+    commands: &[Numbered<'_>],
     handed: Vec<Report>,
     writer: &mut P,
 ) -> Result<Found, PrintFault>
@@ -68,12 +68,14 @@ fn print_interval<P: Write>(
     ensures breaks { OnErr result (BreaksOff manner.form
         (P.contents writer.old) (P.contents writer.new)) }
 {
-    let mut reports = handed;
-    put_in_order(&mut reports)?;
-    match print_reports(alloc, writer, manner.form, reports.as_slice()) {
+    let mut ordered = handed;
+    put_in_order(&mut ordered)?;
+    let reports = ordered.as_slice();
+    writer.record(commands, reports)?;
+    match print_reports(alloc, writer, manner.form, reports) {
         Ok(()) => {
-            let memory = any_memory(reports.as_slice());
-            let refused = any_fault(manner.strict, reports.as_slice());
+            let memory = any_memory(reports);
+            let refused = any_fault(manner.strict, reports);
             return Ok(Found { memory, refused });
         }
         Err(fault) => return Err(fault),
@@ -115,12 +117,12 @@ fn interval<W: Serving + Drop, O: Operating<W> + Drop, R: Wait, P: Console>(
     writer.tell(followed, told.as_slice());
     tell_malformed(setting.alloc, given.malformed, &mut told)?;
     collect(setting, staff, &mut told)?;
-    let found = print_interval(setting.alloc, setting.manner, told, writer)?;
+    let found = print_interval(setting.alloc, setting.manner, followed, told, writer)?;
     Ok(Passed { next, found })
 }
 
 /// Answers malformed lines without commands, for which no worker goes out.
-fn answer<P: Write>(
+fn answer<P: Console>(
     alloc: Global,
     manner: Manner,
     malformed: &[MalformedLine<'_>],
@@ -134,7 +136,7 @@ fn answer<P: Write>(
 {
     let mut told = Vec::new(alloc);
     tell_malformed(alloc, malformed, &mut told)?;
-    match print_interval(alloc, manner, told, writer) {
+    match print_interval(alloc, manner, &[], told, writer) {
         Ok(found) => return Ok(found),
         Err(fault) => return Err(fault),
     }

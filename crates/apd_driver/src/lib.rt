@@ -3,13 +3,14 @@
 //! Main call: `run_lines`, which runs the lines of a `Script` or of an `Input` on what `Operating` and `Serving` promise of
 //! an access point. It writes, for each interval (up to a `wait` or 4096 lines), reports ordered by line and shard, with an
 //! input then the answer to a question, and at the end a line of totals, which are what the reports count; or a prefix of
-//! that. Inputs come from a `Source`, with the time that passes. It depends on `apd_script`, `apd_files`, `ap_model` and
-//! `ap_books`, and on no access point.
+//! that. Inputs come from a `Source`, with the time that passes. A `Destination` may keep a capture beside the lines. It
+//! depends on `apd_script`, `apd_files`, `ap_model`, `ap_books` and `capture`, and on no access point.
 #![tactic(auto)]
 
 mod actions;
 mod answers;
 mod asking;
+mod capturing;
 mod collecting;
 mod console;
 mod crew;
@@ -28,6 +29,7 @@ mod source;
 
 pub use actions::{Publication, WordUse};
 pub use answers::{AgreementRow, Answer, EntryRow, ProgramRow, StationRow, print_answer};
+pub use capturing::{Capturing, Destination, InFile, Recorder, Recording, Unprinted, Unrecorded};
 pub use console::{Console, Notes, Terminal};
 pub use crew::{Ready, Serving};
 pub use input::Input;

@@ -4,6 +4,7 @@ use Rattle.apd_driver.specs.declared.reports.report.Form.{Form}
 use Rattle.apd_driver.specs.declared.reports.report.Style.{Style}
 use Rattle.apd_driver.specs.Counts.{none}
 use Rattle.apd_driver.specs.Shows.{IsBroken, Runs}
+use Rattle.apd_driver.proofs.Ending.{runs_nothing}
 use Rattle.apd_entry.specs.Forms.{RunsFormed, RunsLive, colours_of, form_of, style_of}
 
 form_named : (style : Style) (colours : Bool) (s : Option Style) (b : Option Bool) → Some style ≡ s → Some colours ≡ b
@@ -36,3 +37,12 @@ pub runs_in_no_colours : (shown strict : Bool) (events color : Option (List ℕ)
 runs_in_no_colours shown strict events color old status is broken =
     subst (λ (b : Option Bool). RunsFormed strict (form_of (style_of events) b) old old status) is
     (subst (λ (f : Option Form). RunsFormed strict f old old status) (no_colours (style_of events)) (refl, broken))
+
+formed_nothing : (strict : Bool) (form : Option Form) (old : Option (List ℕ)) (status : ℕ) → IsBroken status → RunsFormed strict form old old status
+formed_nothing strict None old status broken = (refl, broken)
+formed_nothing strict (Some form) old status broken = runs_nothing (record { strict = strict; form = form }) old none status broken
+
+-- nothing is written
+pub lives_nothing : (shown strict : Bool) (events color : Option (List ℕ)) (old : Option (List ℕ)) (status : ℕ) → IsBroken status
+    → RunsLive shown strict events color old old status
+lives_nothing shown strict events color old status broken = formed_nothing strict (form_of (style_of events) (colours_of shown color)) old status broken

@@ -3,17 +3,19 @@
 ghost use Rattle.std.specs.Prelude.{◌≡◌, map};
 ghost use Rattle.apd_driver.specs.Counts.{none};
 ghost use Rattle.apd_driver.specs.Shows.{Runs};
-ghost use Rattle.apd_words.specs.Asked.{Wanted};
+ghost use Rattle.apd_words.specs.Asked.{Wanted, text_of};
 ghost use Rattle.apd_words.specs.Spells.{Spells};
 ghost use Rattle.apd_entry.specs.Fulfilled.{Fulfils};
-ghost use Rattle.apd_entry.specs.Forms.{in_lines};
+ghost use Rattle.apd_entry.specs.Captured.{lines_known};
+ghost use Rattle.apd_entry.specs.Forms.{in_lines, RunsLive};
 
+use crate::destination::{beside, in_place, is_in_place};
 use crate::lines::run_live;
-use apd_driver::{Form, Manner};
-use apd_files::Files;
-use apd_program::{Posed, judge_cases, respond, tell};
+use apd_driver::{Form, Manner, Recording};
+use apd_files::{Files, Tapes};
+use apd_program::{Posed, ProgramFault, complain, judge_cases, respond, tell};
 use apd_run::{Limits, OpenGate, Progress, RunWords, StateLimit, Streams, Supplies, run};
-use apd_words::{Request, ScriptRun, read_words};
+use apd_words::{LiveRun, Request, ScriptRun, read_words};
 use std::alloc::Global;
 use std::io::{Read, Write};
 use std::sync::Wait;
@@ -28,25 +30,11 @@ pub struct Messages<'a, E> {
     pub watched: bool,
 }
 
-/// Runs a script, and reports its progress to whoever watches, if wanted.
-fn run_watched<R, F, O, E>(
-    rt: &R,
-    alloc: Global,
-    asked: ScriptRun<'_>,
-    files: &mut F,
-    out: O,
-    messages: Messages<'_, E>,
-) -> (O, u8)
-where
-    R: Threads + Wait + Sync + Clock + Eprint,
-    F: Files,
-    O: Write + Drop,
-    E: Write,
-    ensures runs { Runs (in_lines asked.entry.strict)
-        (O.contents out) (O.contents result.0) none result.1 }
+/// What a run of a script is given.
+fn words_of<'a>(asked: ScriptRun<'a>) -> RunWords<'a>
+    ensures manner { result.manner ≡ in_lines asked.entry.strict }
 {
-    let Messages { err, watched } = messages;
-    let words = RunWords {
+    RunWords {
         config: asked.config,
         script: asked.script,
         workers: asked.workers,
@@ -56,7 +44,29 @@ where
         },
         verbose: asked.verbose,
         prompts: false,
-    };
+        capture: asked.capture.path.unwrap_or(""),
+    }
+}
+
+/// Runs a script, and reports its progress to whoever watches, if wanted.
+fn run_watched<R, F, P, E>(
+    rt: &R,
+    alloc: Global,
+    asked: ScriptRun<'_>,
+    files: &mut F,
+    out: P,
+    messages: Messages<'_, E>,
+) -> (P, u8)
+where
+    R: Threads + Wait + Sync + Clock + Eprint,
+    F: Files,
+    P: Recording + Drop,
+    E: Write,
+    ensures runs { Runs (in_lines asked.entry.strict)
+        (P.contents out) (P.contents result.0) none result.1 }
+{
+    let Messages { err, watched } = messages;
+    let words = words_of(asked);
     let limits = Limits {
         states: StateLimit::nearest(asked.states),
         work: asked.work,
@@ -92,6 +102,89 @@ where
     );
 }
 
+/// Runs a script, with a capture if that is wanted.
+fn run_script<R, F, O, E>(
+    rt: &R,
+    alloc: Global,
+    asked: ScriptRun<'_>,
+    files: &mut F,
+    out: O,
+    messages: Messages<'_, E>,
+) -> (O, u8)
+where
+    R: Threads + Wait + Sync + Clock + Eprint,
+    F: Files + Tapes,
+    O: Write + Drop,
+    E: Write,
+    ensures runs { Runs (in_lines asked.entry.strict)
+        (lines_known (text_of asked.entry.capture.path) (O.contents out))
+        (lines_known (text_of asked.entry.capture.path) (O.contents result.0)) none result.1 }
+{
+    if is_in_place(asked.capture) {
+        let out = in_place(alloc, out);
+        let (out, status) = run_watched(rt, alloc, asked, files, out, messages);
+        return (out.capture.tape, status);
+    }
+    match beside(alloc, asked.capture, files, out) {
+        Ok(out) => {
+            let (out, status) = run_watched(rt, alloc, asked, files, out, messages);
+            return (out.lines, status);
+        }
+        Err(out) => return (out, complain(alloc, &ProgramFault::NoMemory, messages.err)),
+    }
+}
+
+/// Runs lines as they come on an input, with a capture if that is wanted.
+fn run_input<R, F, I, O, E>(
+    rt: &R,
+    alloc: Global,
+    asked: LiveRun<'_>,
+    files: &mut F,
+    streams: Streams<I, O>,
+    err: &mut E,
+) -> (O, u8)
+where
+    R: Threads + Wait + Clock + Copy + Send + Sync + 'static,
+    F: Files + Tapes,
+    I: Read + Drop + Send + 'static,
+    O: Write + Drop,
+    E: Write,
+    ensures runs { RunsLive streams.shown asked.entry.strict
+        (text_of asked.entry.events) (text_of asked.entry.color)
+        (lines_known (text_of asked.entry.capture.path) (O.contents streams.out))
+        (lines_known (text_of asked.entry.capture.path) (O.contents result.0)) result.1 }
+{
+    let Streams {
+        input,
+        out,
+        typed,
+        shown,
+    } = streams;
+    if is_in_place(asked.capture) {
+        let streams = Streams {
+            input,
+            out: in_place(alloc, out),
+            typed,
+            shown,
+        };
+        let (out, status) = run_live(rt, alloc, asked, files, streams, err);
+        return (out.capture.tape, status);
+    }
+    match beside(alloc, asked.capture, files, out) {
+        Ok(out) => {
+            let streams = Streams {
+                input,
+                out,
+                typed,
+                shown,
+            };
+            let (out, status) = run_live(rt, alloc, asked, files, streams, err);
+            return (out.lines, status);
+        }
+        Err(out) => return (out, complain(alloc, &ProgramFault::NoMemory, err)),
+    }
+}
+
 /// Does what the words ask for; the first is the program's own name. An answer goes to `out`, or, if it is a
 /// success, to the file named for it. Returns `out` and the exit status: 0 for success; 1 if something was refused
 /// (in a script's run, only if it is strict), a line of `live` is malformed or a capture is cut; 2 for a fault of the
@@ -106,7 +199,7 @@ pub fn perform<'a, R, F, I, O, E>(
 ) -> (O, u8)
 where
     R: Threads + Wait + Clock + Eprint + Copy + Send + Sync + 'static,
-    F: Files,
+    F: Files + Tapes,
     I: Read + Drop + Send + 'static,
     O: Write + Drop,
     E: Write,
@@ -123,10 +216,10 @@ where
     let mut out = out;
     match read_words(alloc, words) {
         Ok(Request::Run(asked)) => {
-            return run_watched(rt, alloc, asked, files, out, Messages { err, watched });
+            return run_script(rt, alloc, asked, files, out, Messages { err, watched });
         }
         Ok(Request::Live(asked)) => {
-            return run_live(
+            return run_input(
                 rt,
                 alloc,
                 asked,

@@ -3,6 +3,7 @@
 //! Main call: `perform`, which reads the words once; what they ask for determines the rest.
 #![tactic(auto)]
 
+mod destination;
 mod entry;
 mod lines;
 

@@ -4,7 +4,7 @@ ghost use Rattle.std.specs.Prelude.{◌≡◌};
 ghost use Rattle.apd_words.specs.Asked.{text_of};
 ghost use Rattle.apd_entry.specs.Forms.{colours_named, colours_of, style_named, style_of, RunsLive};
 
-use apd_driver::{Direct, Form, Manner, Style, Timed};
+use apd_driver::{Direct, Form, Manner, Recording, Style, Timed};
 use apd_files::Files;
 use apd_program::{ProgramFault, complain};
 use apd_run::{Limits, OpenGate, RunWords, StateLimit, Streams, Supplies, live};
@@ -89,7 +89,7 @@ where
     R: Threads + Wait + Clock + Copy + Send + Sync + 'static,
     F: Files,
     I: Read + Drop + Send + 'static,
-    O: Write + Drop,
+    O: Recording + Drop,
     E: Write,
     ensures runs { RunsLive streams.shown asked.entry.strict
         (text_of asked.entry.events) (text_of asked.entry.color)
@@ -117,6 +117,7 @@ where
         },
         verbose: asked.verbose,
         prompts: typed,
+        capture: asked.capture.path.unwrap_or(""),
     };
     let limits = Limits {
         states: StateLimit::nearest(asked.states),

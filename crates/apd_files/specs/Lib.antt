@@ -3,3 +3,4 @@ pub mod Held
 pub mod Reading
 pub mod Faults
 pub mod Beginning
+pub mod Tapes

@@ -3,8 +3,9 @@ ghost use Rattle.std.specs.Prelude.{◌≡◌, true, Err};
 
 use crate::inputs::{FileFault, Files};
 use crate::outputs::{Unwritten, write_whole};
-use std::alloc::Global;
-use std::io::{Error, ErrorKind, Input, Read};
+use crate::tapes::{Tape, Tapes};
+use std::alloc::{AllocError, Global};
+use std::io::{self, Error, ErrorKind, Input, Read, Write};
 use std::{fs, rt};
 
 const BLOCK: usize = 1 << 16;
@@ -111,5 +112,61 @@ impl<R: rt::Files + Input + AllocGlobal> Files for RealFiles<'_, R> {
             Ok(mut file) => write_whole(&mut file, bytes),
             Err(error) => Err(Unwritten(error.kind())),
         }
+    }
+}
+
+/// A file of the system that is written as its bytes come. Nothing is known of what it holds.
+#[derive(Drop)]
+pub struct RealTape<'a, R: rt::Files> {
+    rt: &'a R,
+    path: String,
+    replaces: bool,
+    file: Option<R::File>,
+}
+
+impl<R: rt::Files> Write for RealTape<'_, R> {
+    fn write(&mut self, buf: &[u8]) -> io::Result<usize> {
+        match &mut self.file {
+            Some(file) => file.write(buf),
+            None => Err(Error::from(ErrorKind::NotFound)),
+        }
+    }
+
+    fn flush(&mut self) -> io::Result<()> {
+        match &mut self.file {
+            Some(file) => file.flush(),
+            None => Ok(()),
+        }
+    }
+}
+
+impl<R: rt::Files> Tape for RealTape<'_, R> {
+    fn open(&mut self) -> Result<(), Unwritten> {
+        let made = if self.replaces {
+            fs::create(self.rt, self.path.as_str())
+        } else {
+            fs::File::create_new(self.rt, self.path.as_str())
+        };
+        match made {
+            Ok(file) => {
+                self.file = Some(file);
+                Ok(())
+            }
+            Err(error) => Err(Unwritten(error.kind())),
+        }
+    }
+}
+
+impl<'a, R: rt::Files + Input + AllocGlobal> Tapes for RealFiles<'a, R> {
+    type Tape = RealTape<'a, R>;
+
+    fn tape(&self, path: &str, replaces: bool) -> Result<RealTape<'a, R>, AllocError> {
+        let path = String::from_str(self.rt.alloc(), path)?;
+        Ok(RealTape {
+            rt: self.rt,
+            path,
+            replaces,
+            file: None,
+        })
     }
 }

@@ -4,16 +4,16 @@ use Rattle.apd_policies.specs.declared.graph.overlay.Overlay.{Overlay}
 use Rattle.apd_policies.specs.declared.graph.overlay.Overlay.TheVariants as told
 
 -- by each slot a number, of which a block tells its first slot's: how many steps were made there, and the most of all; or
--- how many states the verifier examined
+-- how many states the verifier examined there, and by each slot a second number, the budget left there, 0 for none
 pub data Told : Type 0 where
   Nothing : Told
   Steps : List ℕ → ℕ → Told
-  States : List ℕ → Told
+  States : List ℕ → List ℕ → Told
 
 abbrev pub overlay_of : Overlay → Told
 overlay_of told.Plain = Nothing
 overlay_of (told.Steps counts most) = Steps counts.now most
-overlay_of (told.States visits) = States visits.now
+overlay_of (told.States visits budgets) = States visits.now budgets.now
 
 -- how dark a block is, by its share of the most steps: 1 to 5, or 0 without a step; 4 times a count is at most 2^64 - 1
 abbrev pub level_of : ℕ → ℕ → ℕ
@@ -33,10 +33,18 @@ fill_reached states = (if states == 0 then codes "style=filled, fillcolor=\"ligh
 abbrev pub fill_of : Told → ℕ → List ℕ
 fill_of Nothing slot = []
 fill_of (Steps counts most) slot = fill (level_of (slice_index counts slot) most)
-fill_of (States visits) slot = fill_reached (slice_index visits slot)
+fill_of (States visits budgets) slot = fill_reached (slice_index visits slot)
 
--- its first line
+-- the line of a budget, if there is one
+abbrev pub left : ℕ → List ℕ
+left budget = (if budget == 0 then [] else codes "budget left " ++ (decimal budget ++ codes "\\l"))
+
+-- the lines of what the verifier found
+abbrev pub found : ℕ → ℕ → List ℕ
+found states budget = codes "states: " ++ (decimal states ++ (codes "\\l" ++ left budget))
+
+-- its first lines
 abbrev pub note_of : Told → ℕ → List ℕ
 note_of Nothing slot = []
 note_of (Steps counts most) slot = codes "runs: " ++ (decimal (slice_index counts slot) ++ codes "\\l")
-note_of (States visits) slot = codes "states: " ++ (decimal (slice_index visits slot) ++ codes "\\l")
+note_of (States visits budgets) slot = found (slice_index visits slot) (slice_index budgets slot)

@@ -5,7 +5,7 @@
 use Rattle.std.specs.Prelude.{ℕ, ◌+◌, ◌-◌, ◌/◌, ◌%◌, ◌==◌, ◌&&◌, Bool, true, false, nat_lt, min, max, List, [], ◌∷◌, ◌++◌, length, codes, decimal, Option, Some, None, Result, Ok, Err, if◌then◌else◌}
 use Rattle.hex.specs.Hex.{encode_lower}
 use Rattle.capture.specs.declared.fault.LeftOut.{LeftOut}
-use Rattle.capture.specs.declared.fault.LeftOut.TheVariants.{Cut, Radiotap, CheckSequence, WrongCheckSequence}
+use Rattle.capture.specs.declared.fault.LeftOut.TheVariants.{Cut, Radiotap, CheckSequence, WrongCheckSequence, LinkType}
 use Rattle.capture.specs.Packets.{Seen}
 use Rattle.apd_policies.specs.Chosen.{is_kept, others}
 
@@ -15,6 +15,7 @@ reason_of Cut = codes "it was cut when it was captured"
 reason_of Radiotap = codes "its radiotap header is damaged"
 reason_of CheckSequence = codes "its frame check sequence is cut"
 reason_of WrongCheckSequence = codes "its frame check sequence is wrong"
+reason_of (LinkType number) = codes "its link type is neither 105 (802.11) nor 127 (802.11 with radiotap)"
 
 -- packets are counted from 1; a line ends with a line feed (10)
 abbrev pub left_out_line : ℕ → List ℕ → List ℕ

@@ -123,19 +123,19 @@ two_or_three status (inr e) = omega (arith, e)
 
 pub Responds-status : (files : Held) (w : Wanted) (old new : Option (List ℕ)) (status : ℕ) → Responds files w old new status → status ≤ 3
 Responds-status files (AnswerWanted a output) old new status h = Performs-status files a output old new status h
-Responds-status files (RunWanted config script workers states work quiet strict verbose) old new status h = two_or_three status h.1
-Responds-status files (LiveWanted config workers states work strict verbose clock events color) old new status h = two_or_three status h.1
+Responds-status files (RunWanted config script workers states work quiet strict verbose capture replaces) old new status h = two_or_three status h.1
+Responds-status files (LiveWanted config workers states work strict verbose clock events color capture replaces) old new status h = two_or_three status h.1
 
 pub Responds-memory : (files : Held) (w : Wanted) (old new : Option (List ℕ)) (status : ℕ) → Responds files w old new status → status ≡ 3 → Keeps old new
 Responds-memory files (AnswerWanted a output) old new status h e = Performs-memory files a output old new status h e
-Responds-memory files (RunWanted config script workers states work quiet strict verbose) old new status h e = kept_same old new h.0
-Responds-memory files (LiveWanted config workers states work strict verbose clock events color) old new status h e = kept_same old new h.0
+Responds-memory files (RunWanted config script workers states work quiet strict verbose capture replaces) old new status h e = kept_same old new h.0
+Responds-memory files (LiveWanted config workers states work strict verbose clock events color capture replaces) old new status h e = kept_same old new h.0
 
 -- unchanged output with status 3 is a response to any request
 pub Responds-nothing : (files : Held) (w : Wanted) (o : Option (List ℕ)) → Responds files w o o 3
 Responds-nothing files (AnswerWanted a output) o = Exhausted (Keeps-same o)
-Responds-nothing files (RunWanted config script workers states work quiet strict verbose) o = (refl, inr refl)
-Responds-nothing files (LiveWanted config workers states work strict verbose clock events color) o = (refl, inr refl)
+Responds-nothing files (RunWanted config script workers states work quiet strict verbose capture replaces) o = (refl, inr refl)
+Responds-nothing files (LiveWanted config workers states work strict verbose clock events color capture replaces) o = (refl, inr refl)
 
 -- words that always make a request are reported only for lack of memory
 pub Responds-told : (files : Held) (w : Wanted) (t : Told) (old new : Option (List ℕ)) (status : ℕ) → t ≡ told.NoMemory → Tells t old new status → Responds files w old new status

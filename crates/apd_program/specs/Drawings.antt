@@ -20,9 +20,10 @@ IsDrawing p _ = ⊥
 abbrev pub unlimited : Limits
 unlimited = within most_states None
 
--- the graph with numbers of states; the verifier's contract doesn't say that it examined as many
+-- the graph with numbers of states, and with budgets; the verifier's contract doesn't say that it examined as many, nor
+-- what they are
 abbrev pub IsExplored : Code → List ℕ → Type 0
-IsExplored p text = (visits : List ℕ) × IsGraph (States visits) p.slots text
+IsExplored p text = (visits budgets : List ℕ) × IsGraph (States visits budgets) p.slots text
 
 -- the same of a program that is safe within a budget, or of one that the verifier refuses, but not for lack of memory
 abbrev pub IsExplained : Code → Answer → Type 0

@@ -32,8 +32,8 @@ Refuses old new status = (new ≡ old) × ((status ≡ 2) ⊎ (status ≡ 3))
 -- what is wanted is done without threads: no script runs, nor lines as they come
 abbrev pub Responds : Held → Wanted → Option (List ℕ) → Option (List ℕ) → ℕ → Type 0
 Responds files (Answer a output) old new status = Performs files a output old new status
-Responds files (Run config script workers states work quiet strict verbose) old new status = Refuses old new status
-Responds files (Live config workers states work strict verbose clock events color) old new status = Refuses old new status
+Responds files (Run config script workers states work quiet strict verbose capture replaces) old new status = Refuses old new status
+Responds files (Live config workers states work strict verbose clock events color capture replaces) old new status = Refuses old new status
 
 -- what is written for words that make no request, and the status
 abbrev pub Tells : Told → Option (List ℕ) → Option (List ℕ) → ℕ → Type 0

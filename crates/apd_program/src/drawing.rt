@@ -69,7 +69,7 @@ fn drawn(alloc: Global, program: &Program) -> Result<Answer, ProgramFault>
     }
 }
 
-/// Draws a program with how many states the verifier examines at each block.
+/// Draws a program with how many states the verifier examines at each block, and the budget left there.
 fn explained(alloc: Global, program: &Program) -> Result<Answer, ProgramFault>
     ensures drawing { IfOk result (IsExplained program.now) }
     ensures memory { IfErr result (λ e. e ≡ ProgramFault.NoMemory) }
@@ -81,10 +81,12 @@ fn explained(alloc: Global, program: &Program) -> Result<Answer, ProgramFault>
     let Explanation {
         verdict,
         visits,
+        budgets,
         ..
     } = explain_limited(alloc, program, limits)?;
     let visits = visits.as_slice();
-    let text = graph_text(alloc, program, Overlay::States { visits })?;
+    let budgets = budgets.as_slice();
+    let text = graph_text(alloc, program, Overlay::States { visits, budgets })?;
     match verdict {
         Ok(_) => Ok(Answer::Instructions(text)),
         Err(refusal) => refused_graph(program, text, refusal),

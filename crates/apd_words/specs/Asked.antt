@@ -45,8 +45,8 @@ pub data Asked : Type 0 where
 
 -- the run of a script, or of lines as they come, or a question and the file for its answer, if there is one
 pub data Wanted : Type 0 where
-  Run : Text → Text → ℕ → ℕ → Option ℕ → Bool → Bool → Bool → Wanted
-  Live : Text → ℕ → ℕ → Option ℕ → Bool → Bool → Bool → Option Text → Option Text → Wanted
+  Run : Text → Text → ℕ → ℕ → Option ℕ → Bool → Bool → Bool → Option Text → Bool → Wanted
+  Live : Text → ℕ → ℕ → Option ℕ → Bool → Bool → Bool → Option Text → Option Text → Option Text → Bool → Wanted
   Answer : Asked → Option Text → Wanted
 
 -- the text of a word, if there is one
@@ -137,12 +137,13 @@ asked_of (question.Help command) = Help (text_of command)
 abbrev pub wanted_run : ScriptRun → Wanted
 wanted_run run =
     Run run.config.now run.script.now run.workers run.states run.work run.quiet run.strict run.verbose
+    (text_of run.capture.path) run.capture.replaces
 
 -- the run of lines as they come
 abbrev pub wanted_live : LiveRun → Wanted
 wanted_live run =
     Live run.config.now run.workers run.states run.work run.strict run.verbose run.clock
-    (text_of run.events) (text_of run.color)
+    (text_of run.events) (text_of run.color) (text_of run.capture.path) run.capture.replaces
 
 -- what a query wants
 abbrev pub wanted_answer : Query → Wanted
@@ -277,7 +278,7 @@ evaluate_of rows = do
   states ← states_at rows
   Some (evaluation_of hook file capture states rows (repeats_at rows))
 
--- `run C SCRIPT [--workers N] [--states N] [--quiet] [--strict] [--verbose] [--work N]`
+-- `run C SCRIPT [--workers N] [--states N] [--quiet] [--strict] [--verbose] [--work N] [--pcap OUT] [--force]`
 abbrev pub run_of : List Row → Option Wanted
 run_of rows = do
   config ← first_of (codes "C") rows
@@ -285,10 +286,11 @@ run_of rows = do
   workers ← option_and_then workers_named (first_of (codes "workers") rows)
   states ← states_at rows
   Some (Run config script workers states (work_at rows) (is_set (codes "quiet") rows)
-      (is_set (codes "strict") rows) (is_set (codes "verbose") rows))
+      (is_set (codes "strict") rows) (is_set (codes "verbose") rows)
+      (first_of (codes "pcap") rows) (is_set (codes "force") rows))
 
 -- `live C [--workers N] [--states N] [--strict] [--verbose] [--clock] [--events FORM] [--color WHEN]
--- [--work N]`
+-- [--work N] [--pcap OUT] [--force]`
 abbrev pub live_of : List Row → Option Wanted
 live_of rows = do
   config ← first_of (codes "C") rows
@@ -296,7 +298,8 @@ live_of rows = do
   states ← states_at rows
   Some (Live config workers states (work_at rows) (is_set (codes "strict") rows)
       (is_set (codes "verbose") rows) (is_set (codes "clock") rows)
-      (first_of (codes "events") rows) (first_of (codes "color") rows))
+      (first_of (codes "events") rows) (first_of (codes "color") rows)
+      (first_of (codes "pcap") rows) (is_set (codes "force") rows))
 
 -- `cert HOOK FILE [--config C] [--states N] [--work N]`
 abbrev pub certify_of : List Row → Option Asked

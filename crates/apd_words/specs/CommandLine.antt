@@ -79,6 +79,10 @@ json = record (flag (codes "json")) { short = Some 106 }
 abbrev pub bssid : Rule
 bssid = option (codes "bssid")
 
+-- `--pcap OUT`
+abbrev pub pcap : Rule
+pcap = option (codes "pcap")
+
 -- `--context KEY=VALUE,..`
 abbrev pub context : Rule
 context = option (codes "context")
@@ -152,20 +156,20 @@ evaluate hooks =
     hook_command (codes "eval") hooks (required (codes "CAPTURE") ∷ config ∷ against ∷ states
     ∷ json ∷ output ∷ work ∷ flag (codes "profile") ∷ flag (codes "dot") ∷ repeat ∷ [])
 
--- `run C SCRIPT [--workers N] [--states N] [--quiet] [--strict] [--verbose] [--work N]`
+-- `run C SCRIPT [--workers N] [--states N] [--quiet] [--strict] [--verbose] [--work N] [--pcap OUT] [--force]`
 abbrev pub run : ValueParser → Shape
 run numbers =
     command (codes "run") (required (codes "C") ∷ required (codes "SCRIPT")
     ∷ workers numbers ∷ states ∷ flag (codes "quiet") ∷ flag (codes "strict")
-    ∷ flag (codes "verbose") ∷ work ∷ [])
+    ∷ flag (codes "verbose") ∷ work ∷ pcap ∷ flag (codes "force") ∷ [])
 
 -- `live C [--workers N] [--states N] [--strict] [--verbose] [--clock] [--events FORM] [--color WHEN]
--- [--work N]`
+-- [--work N] [--pcap OUT] [--force]`
 abbrev pub live : ValueParser → Shape
 live numbers =
     command (codes "live") (required (codes "C") ∷ workers numbers ∷ states
     ∷ flag (codes "strict") ∷ flag (codes "verbose") ∷ flag (codes "clock") ∷ events
-    ∷ color ∷ work ∷ [])
+    ∷ color ∷ work ∷ pcap ∷ flag (codes "force") ∷ [])
 
 -- `cert HOOK FILE [--config C] [--states N] [-o FILE] [--work N]`
 abbrev pub certify : ValueParser → Shape

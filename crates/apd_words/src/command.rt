@@ -1,11 +1,11 @@
 //! The commands of `apd`, with their arguments and help.
 
-ghost use Rattle.std.specs.Prelude.{◌≡◌, false, IfOk, []};
+ghost use Rattle.std.specs.Prelude.{◌≡◌, false, IfOk, [], codes};
 ghost use Rattle.clap.specs.Words.{App, Rule, Shape, app_of, rule_of, with_subcommand};
 ghost use Rattle.clap.specs.Simple.{new_shape};
 ghost use Rattle.clap.specs.declared.builder.value_parser.ValueParser.TheVariants.{Names};
 ghost use Rattle.apd_words.specs.Built.{IsProgram, IsCommand, with_argument};
-ghost use Rattle.apd_words.specs.CommandLine.{command_line, program, with_code_commands, with_trial_commands, with_run_commands, with_certificate_commands, with_reading_commands, hook_command, required, optional, flag, hook, file, files, config, against, json, output, bssid, context, events, color, workers, states, work, repeat, verify, assemble, disassemble, trace, evaluate, run, live, certify, check, explain, frames, test, help};
+ghost use Rattle.apd_words.specs.CommandLine.{command_line, program, with_code_commands, with_trial_commands, with_run_commands, with_certificate_commands, with_reading_commands, hook_command, required, optional, flag, hook, file, files, config, against, json, output, bssid, context, events, color, pcap, workers, states, work, repeat, verify, assemble, disassemble, trace, evaluate, run, live, certify, check, explain, frames, test, help};
 
 use clap::builder::ValueParser;
 use clap::{Arg, ArgAction, Command};
@@ -248,7 +248,8 @@ fn run<'a>(alloc: Global, numbers: &'a [&'a str]) -> Made<'a>
     let command = with_arg(command, flag(alloc, "strict", strict));
     let verbose = "Tell on standard error what becomes of each load";
     let command = with_arg(command, flag(alloc, "verbose", verbose));
-    with_arg(command, work(alloc))
+    let command = with_arg(command, work(alloc));
+    with_arg(with_arg(command, pcap(alloc)), force(alloc))
 }
 
 fn live<'a>(alloc: Global, numbers: &'a [&'a str]) -> Made<'a>
@@ -269,7 +270,8 @@ fn live<'a>(alloc: Global, numbers: &'a [&'a str]) -> Made<'a>
     let command = with_arg(command, flag(alloc, "clock", clock));
     let command = with_arg(command, events(alloc));
     let command = with_arg(command, color(alloc));
-    with_arg(command, work(alloc))
+    let command = with_arg(command, work(alloc));
+    with_arg(with_arg(command, pcap(alloc)), force(alloc))
 }
 
 fn certify<'a>(alloc: Global, hooks: &'a [&'a str]) -> Made<'a>
@@ -479,6 +481,27 @@ fn color<'a>(alloc: Global) -> Arg<'a>
         .value_name("WHEN")
         .action(ArgAction::Set)
         .help("Colours in the answers: `auto` (at a terminal), `always` or `never`")
+}
+
+fn pcap<'a>(alloc: Global) -> Arg<'a>
+    ensures is { rule_of result ≡ pcap }
+    ensures local { result.global ≡ false }
+{
+    Arg::new(alloc, "pcap")
+        .long("pcap")
+        .value_name("OUT")
+        .action(ArgAction::Set)
+        .help(
+            "Write what comes in, is sent and passed up to this pcapng file; `-`: in place of the lines",
+        )
+}
+
+/// `--force`
+fn force<'a>(alloc: Global) -> Arg<'a>
+    ensures is { rule_of result ≡ flag (codes "force") }
+    ensures local { result.global ≡ false }
+{
+    flag(alloc, "force", "Replace a capture that exists")
 }
 
 fn workers<'a>(alloc: Global, numbers: &'a [&'a str]) -> Arg<'a>

@@ -109,6 +109,14 @@ pub struct Conversion<'a> {
     pub all: bool,
 }
 
+/// Where a capture of a run goes, if it keeps one, and whether it may replace a file. The path `-` stands for standard
+/// output, in the place of the lines.
+#[derive(Clone, Copy)]
+pub struct CaptureWords<'a> {
+    pub path: Option<&'a str>,
+    pub replaces: bool,
+}
+
 /// A script to run by 1 to 8 workers. `quiet` suppresses progress on standard error, `strict` ends the run after the
 /// first interval in which a line was refused, and `verbose` reports each load on standard error.
 #[derive(Clone, Copy)]
@@ -121,6 +129,7 @@ pub struct ScriptRun<'a> {
     pub quiet: bool,
     pub strict: bool,
     pub verbose: bool,
+    pub capture: CaptureWords<'a>,
 }
 
 /// An access point of 1 to 8 workers that answers lines as they come on standard input. `strict` ends it after the first
@@ -138,6 +147,7 @@ pub struct LiveRun<'a> {
     pub clock: bool,
     pub events: Option<&'a str>,
     pub color: Option<&'a str>,
+    pub capture: CaptureWords<'a>,
 }
 
 /// A request that runs no script. Paths, frames and numbers are as they were written. The verifier may examine 1 to

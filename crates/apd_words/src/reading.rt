@@ -8,8 +8,8 @@ ghost use Rattle.apd_words.specs.Asked.{asked_of, command_asks, answers_to, want
 
 use crate::command::{MOST_REPEATS, MOST_STATES, MOST_WORK};
 use crate::{
-    Claim, Conversion, Evaluation, Given, LiveRun, Query, Question, Repetition, Report, Request,
-    ScriptRun, Source, Subject, Terms, Trial,
+    CaptureWords, Claim, Conversion, Evaluation, Given, LiveRun, Query, Question, Repetition,
+    Report, Request, ScriptRun, Source, Subject, Terms, Trial,
 };
 use bpf_regions::Hook;
 use clap::ArgMatches;
@@ -176,6 +176,7 @@ fn run<'a>(matches: &ArgMatches<'a>) -> Option<Request<'a>>
         quiet,
         strict,
         verbose,
+        capture: capture(matches),
     }))
 }
 
@@ -201,7 +202,21 @@ fn live<'a>(matches: &ArgMatches<'a>) -> Option<Request<'a>>
         clock,
         events,
         color,
+        capture: capture(matches),
     }))
+}
+
+/// The capture of a run.
+fn capture<'a>(matches: &ArgMatches<'a>) -> CaptureWords<'a>
+    ensures path { option_map (λ text. text.now) result.path
+        ≡ first_of (codes "pcap") (rows_of (found_of matches.now)) }
+    ensures replaces { result.replaces
+        ≡ is_set (codes "force") (rows_of (found_of matches.now)) }
+{
+    CaptureWords {
+        path: value(matches, "pcap"),
+        replaces: flag(matches, "force"),
+    }
 }
 
 fn certify<'a>(matches: &ArgMatches<'a>) -> Option<Question<'a>>

@@ -1,6 +1,6 @@
 -- What is told of a budget within a limit of work.
 use Rattle.std.proofs.Common.{◌≡◌, ℕ, Some, Result, Ok, Err, ap, sym}
-use Rattle.bpf_prune.specs.Spending.{Tally, HasPassed}
+use Rattle.bpf_prune.specs.Spending.{Tally, HasPassed, CountsAll}
 use Rattle.bpf_cert.specs.declared.fault.CertFault.{CertFault}
 use Rattle.bpf_cert.specs.declared.fault.CertFault.TheVariants as fault
 use Rattle.bpf_cert.specs.declared.limit.WithinFault.{WithinFault}
@@ -17,7 +17,7 @@ answers_admits passed (within.Refused fault.NotCovered) b h = absurd h
 answers_admits passed within.TooMuchWork b h = h
 
 -- work within a limit that has passed it
-pub passed_limits : {X : Type 0} (most : ℕ) (w : Tally) (P : Result X CertFault → Type 0) (r : Result X WithinFault) → w.most ≡ most → Within (HasPassed w) P r → Within (HasPassedLimit (Some most)) P r
-passed_limits most w P (Ok x) is h = h
-passed_limits most w P (Err (within.Refused f)) is h = h
-passed_limits most w P (Err within.TooMuchWork) is h = record { tally = w; within = ap Some (sym is); passed = h }
+pub passed_limits : {X : Type 0} (most : ℕ) (w : Tally) (P : Result X CertFault → Type 0) (r : Result X WithinFault) → w.most ≡ most → CountsAll w → Within (HasPassed w) P r → Within (HasPassedLimit (Some most)) P r
+passed_limits most w P (Ok x) is all h = h
+passed_limits most w P (Err (within.Refused f)) is all h = h
+passed_limits most w P (Err within.TooMuchWork) is all h = record { tally = w; within = ap Some (sym is); counted = all; passed = h }

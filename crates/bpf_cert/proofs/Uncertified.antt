@@ -1,5 +1,5 @@
 -- Why no certificate was made.
-use Rattle.std.proofs.Common.{◌≡◌, ℕ, None, Result, Ok, Err, IfErr, inl, inr, refl, ap, sym, subst}
+use Rattle.std.proofs.Common.{◌≡◌, ℕ, None, Result, Ok, Err, IfErr, inl, inr, refl, sym, subst}
 use Rattle.bpf_decode.specs.Program.{Code, Begins}
 use Rattle.bpf_prune.specs.Spending.{Tally, HasPassed, unspent}
 use Rattle.bpf_verifier.specs.Limits.{IsStateLimit}

@@ -1,6 +1,7 @@
 -- Checks within a limit of work.
-use Rattle.std.specs.Prelude.{◌≡◌, ℕ, Option, Some, Result, Ok, Err}
-use Rattle.bpf_prune.specs.Spending.{Tally, HasPassed}
+use Rattle.std.specs.Prelude.{◌≡◌, ◌≤◌, ◌+◌, ℕ, Bool, false, List, length, Option, Some, Result, Ok, Err}
+use Rattle.bpf_prune.specs.Spending.{Tally, HasPassed, CountsAll}
+use Rattle.bpf_cert.specs.declared.claim.Claim.{Claim}
 use Rattle.bpf_cert.specs.declared.fault.CertFault.{CertFault}
 use Rattle.bpf_cert.specs.declared.fault.CertFault.TheVariants as fault
 use Rattle.bpf_cert.specs.declared.limit.Stop.{Stop}
@@ -48,8 +49,21 @@ Within passed P (Ok x) = P (Ok x)
 Within passed P (Err (within.Refused f)) = P (Err f)
 Within passed P (Err within.TooMuchWork) = passed
 
--- there is a limit, and the work of a tally within it has passed it
+-- with a limit, exactly one comparison more is counted
+abbrev pub CountsOne : Option ℕ → ℕ → ℕ → Type 0
+CountsOne limit old new = (most : ℕ) → limit ≡ Some most → new ≡ old + 1
+
+-- with a limit, at least n comparisons more are counted
+abbrev pub CountsMore : Option ℕ → ℕ → ℕ → ℕ → Type 0
+CountsMore limit n old new = (most : ℕ) → limit ≡ Some most → old + n ≤ new
+
+-- with a limit, a comparison with each of these claims is counted before a state is said to be in none
+abbrev pub CountsEach : List Claim → Option ℕ → ℕ → ℕ → Bool → Type 0
+CountsEach es limit old new told = told ≡ false → CountsMore limit (length es) old new
+
+-- there is a limit, and the work of a tally within it, which counts all that was done, has passed it
 pub record HasPassedLimit (most : Option ℕ) : Type 0 where
   pub tally : Tally
   pub within : most ≡ Some tally.most
+  pub counted : CountsAll tally
   pub passed : HasPassed tally

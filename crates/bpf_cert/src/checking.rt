@@ -211,6 +211,7 @@ fn shown_budget<M: Meter>(
     ensures is { IfOk result (λ o. Finds o (Shows program.now entries.now)) }
     ensures safe { IfOk result (λ o. IfSome o (Safe program.now.slots program.now.shapes)) }
     ensures limit { M.limit work.new ≡ M.limit work.old }
+    ensures least { M.compared work.old ≤ M.compared work.new }
     ensures stop { IfErr result (IsStop (M.has_passed work.new)) }
 {
     let stand = all_stand(alloc, program, entries)?;
@@ -251,6 +252,7 @@ pub(crate) fn certified_budget<M: Meter>(
     ensures err { Within (M.has_passed work.new)
         (λ r. IfErr r (Refuses program.now hook bytes.now)) result }
     ensures limit { M.limit work.new ≡ M.limit work.old }
+    ensures least { M.compared work.old ≤ M.compared work.new }
 {
     match read(alloc, program.shapes(), bytes) {
         Err(fault) => Err(WithinFault::Refused(unread(fault))),
@@ -281,6 +283,7 @@ fn admitted<M: Meter>(
     ensures err { Within (M.has_passed work.new)
         (λ r. IfErr r (Refuses program hook bytes.now)) result }
     ensures limit { M.limit work.new ≡ M.limit work.old }
+    ensures least { M.compared work.old ≤ M.compared work.new }
 {
     let budget = certified_budget(alloc, &program, hook, bytes, work)?;
     let accepted = accept(alloc, program, hook, budget)?;
@@ -315,7 +318,7 @@ pub fn check(
 }
 
 /// Like `check`, but does no more work than `most`, if there is such a limit: a certificate that needs more is refused
-/// with 36. Work is counted as for `check_counted`.
+/// with 36. Work is counted as for `check_counted`, each comparison with a claim, too.
 pub fn check_within(
     alloc: Global,
     program: Program,
@@ -364,6 +367,7 @@ pub fn check_counted(
     ensures err { Within (HasPassed work.new)
         (λ r. IfErr r (Refuses program hook bytes.now)) result }
     ensures most { work.new.most ≡ work.old.most }
+    ensures compared { work.old.compared ≤ work.new.compared }
     ensures counted { CountsAll work.new }
 {
     let checked = admitted(alloc, program, hook, bytes, work);

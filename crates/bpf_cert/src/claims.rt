@@ -3,7 +3,7 @@
 ghost use Rattle.std.specs.Prelude.{◌≡◌, ◌<◌, ◌≤◌, ◌++◌, [], ◌∷◌, IfOk, IfErr, OnOk, OnSome, IsTrue, Some, length, slice_get};
 ghost use Rattle.bpf_cert_format.specs.Unread.{entry_from};
 ghost use Rattle.bpf_cert.specs.Covered.{IsIncluded};
-ghost use Rattle.bpf_cert.specs.Limits.{IsStop};
+ghost use Rattle.bpf_cert.specs.Limits.{CountsEach, IsStop};
 ghost use Rattle.bpf_cert.specs.States.{claim_of};
 ghost use Rattle.bpf_cert.specs.Steps.{Tells};
 
@@ -79,6 +79,9 @@ fn some_includes<M: Meter>(
 ) -> Result<bool, Stop>
     ensures is { IfOk result (λ told. Tells told (IsIncluded list.now state.now left)) }
     ensures limit { M.limit work.new ≡ M.limit work.old }
+    ensures least { M.compared work.old ≤ M.compared work.new }
+    ensures each { IfOk result
+        (CountsEach list.now (M.limit work.old) (M.compared work.old) (M.compared work.new)) }
     ensures stop { IfErr result (IsStop (M.has_passed work.new)) }
 {
     for held in list {
@@ -185,6 +188,7 @@ impl Claims {
     ) -> Result<bool, Stop>
         ensures is { IfOk result (λ told. IsTrue told → IsIncluded self.now state.now left) }
         ensures limit { M.limit work.new ≡ M.limit work.old }
+        ensures least { M.compared work.old ≤ M.compared work.new }
         ensures stop { IfErr result (IsStop (M.has_passed work.new)) }
     {
         if place >= self.list.len() {
@@ -205,6 +209,7 @@ impl Claims {
     ) -> Result<Option<usize>, Stop>
         ensures is { IfOk result (λ place. OnSome place (IsIncluded self.now state.now left)) }
         ensures limit { M.limit work.new ≡ M.limit work.old }
+        ensures least { M.compared work.old ≤ M.compared work.new }
         ensures stop { IfErr result (IsStop (M.has_passed work.new)) }
     {
         for spot in spots.iter().rev() {
@@ -226,6 +231,7 @@ impl Claims {
     ) -> Result<bool, Stop>
         ensures is { IfOk result (λ told. IsTrue told → IsIncluded self.now state.now left) }
         ensures limit { M.limit work.new ≡ M.limit work.old }
+        ensures least { M.compared work.old ≤ M.compared work.new }
         ensures stop { IfErr result (IsStop (M.has_passed work.new)) }
     {
         let pc = state.pc();
@@ -249,10 +255,13 @@ impl Claims {
 
     /// Whether some claim includes a state, with a budget of at most what is left. The claim that served last at the
     /// slot is examined first, then, if claims were added by rising budgets, those with the greatest budgets that can
-    /// serve. Before it returns false, it examines all.
+    /// serve. Before it returns false, it examines all, and counts a comparison for each.
     pub fn include<M: Meter>(&self, state: &AbsState, left: u32, work: &mut M) -> Result<bool, Stop>
         ensures is { IfOk result (λ told. Tells told (IsIncluded self.now state.now left)) }
         ensures limit { M.limit work.new ≡ M.limit work.old }
+        ensures least { M.compared work.old ≤ M.compared work.new }
+        ensures each { IfOk result
+            (CountsEach self.now (M.limit work.old) (M.compared work.old) (M.compared work.new)) }
         ensures stop { IfErr result (IsStop (M.has_passed work.new)) }
     {
         if self.soon_include(state, left, usize::MAX, work)? {

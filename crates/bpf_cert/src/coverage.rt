@@ -54,6 +54,7 @@ fn arrive<M: Meter>(
     ensures is { IfOk result
         (Goes program.now claims.now left (Arrives program.now claims.now left state)) }
     ensures limit { M.limit work.new ≡ M.limit work.old }
+    ensures least { M.compared work.old ≤ M.compared work.new }
     ensures stop { IfErr result (IsStop (M.has_passed work.new)) }
 {
     if program.is_target(state.pc()) {
@@ -75,6 +76,7 @@ fn follow<M: Meter>(
     ensures is { IfOk result
         (Goes program.now claims.now left (EachWay ways (Arrives program.now claims.now left))) }
     ensures limit { M.limit work.new ≡ M.limit work.old }
+    ensures least { M.compared work.old ≤ M.compared work.new }
     ensures stop { IfErr result (IsStop (M.has_passed work.new)) }
 {
     match ways {
@@ -116,6 +118,7 @@ fn advance<M: Meter>(
     ensures is { IfOk result
         (Goes program.now claims.now left (LeadsWithin program.now claims.now (left + 1) state)) }
     ensures limit { M.limit work.new ≡ M.limit work.old }
+    ensures least { M.compared work.old ≤ M.compared work.new }
     ensures stop { IfErr result (IsStop (M.has_passed work.new)) }
 {
     program.whole();
@@ -141,6 +144,7 @@ pub(crate) fn leads<M: Meter>(
     ensures is { IfOk result
         (λ told. Tells told (LeadsWithin program.now claims.now claim.budget claim.state)) }
     ensures limit { M.limit work.new ≡ M.limit work.old }
+    ensures least { M.compared work.old ≤ M.compared work.new }
     ensures stop { IfErr result (IsStop (M.has_passed work.new)) }
 {
     let mut state = claim.state;
@@ -160,6 +164,7 @@ pub(crate) fn leads<M: Meter>(
 fn are_kept<M: Meter>(program: &Program, claims: &Claims, work: &mut M) -> Result<bool, Stop>
     ensures is { IfOk result (λ told. Tells told (AreKept program.now claims.now)) }
     ensures limit { M.limit work.new ≡ M.limit work.old }
+    ensures least { M.compared work.old ≤ M.compared work.new }
     ensures stop { IfErr result (IsStop (M.has_passed work.new)) }
 {
     for place in 0..claims.len() {
@@ -208,6 +213,7 @@ pub fn covered_budget<M: Meter>(
         (λ o. MatchOption o ((b : ℕ) → AreCovered program.now claims.now b → ⊥)
         (AreCovered program.now claims.now)) }
     ensures limit { M.limit work.new ≡ M.limit work.old }
+    ensures least { M.compared work.old ≤ M.compared work.new }
     ensures stop { IfErr result (IsStop (M.has_passed work.new)) }
 {
     let start = AbsState::entry(claims.alloc())?;

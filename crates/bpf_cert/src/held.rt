@@ -1,10 +1,10 @@
 //! Claims, as values or by their entries, each with where a state was last found not included in it.
 
-ghost use Rattle.std.specs.Prelude.{◌≡◌, IfOk, IfErr};
+ghost use Rattle.std.specs.Prelude.{◌≡◌, ◌≤◌, IfOk, IfErr, OnOk};
 ghost use Rattle.bpf_absstate.specs.Inclusion.{state_included};
 ghost use Rattle.bpf_cert_format.specs.Unread.{entry_from};
 ghost use Rattle.bpf_cert.specs.Covered.{Includes};
-ghost use Rattle.bpf_cert.specs.Limits.{IsStop};
+ghost use Rattle.bpf_cert.specs.Limits.{CountsOne, IsStop};
 ghost use Rattle.bpf_cert.specs.States.{claim_of};
 ghost use Rattle.bpf_cert.specs.Steps.{Tells, Serves};
 
@@ -90,6 +90,7 @@ fn lies_in<M: Meter>(
 ) -> Result<bool, Stop>
     ensures is { IfOk result (λ told. told ≡ state_included state.now other.now) }
     ensures limit { M.limit work.new ≡ M.limit work.old }
+    ensures compared { M.compared work.new ≡ M.compared work.old }
     ensures stop { IfErr result (IsStop (M.has_passed work.new)) }
 {
     let Places { differed, recent } = places;
@@ -121,6 +122,7 @@ fn includes_soon<M: Meter>(
 ) -> Result<bool, Stop>
     ensures is { IfOk result (λ told. Tells told (Includes claim.now state.now)) }
     ensures limit { M.limit work.new ≡ M.limit work.old }
+    ensures compared { M.compared work.new ≡ M.compared work.old }
     ensures stop { IfErr result (IsStop (M.has_passed work.new)) }
 {
     if !claim.is_open {
@@ -134,6 +136,7 @@ fn includes_soon<M: Meter>(
 fn serves<M: Meter>(claim: &Claim, state: &AbsState, left: u32, work: &mut M) -> Result<bool, Stop>
     ensures is { IfOk result (λ told. Tells told (Serves claim.now state.now left)) }
     ensures limit { M.limit work.new ≡ M.limit work.old }
+    ensures compared { M.compared work.new ≡ M.compared work.old }
     ensures stop { IfErr result (IsStop (M.has_passed work.new)) }
 {
     work.spends(parts_of(state))?;
@@ -196,6 +199,9 @@ impl Held {
     ) -> Result<bool, Stop>
         ensures is { IfOk result (λ told. Tells told (Serves self.now state.now left)) }
         ensures limit { M.limit work.new ≡ M.limit work.old }
+        ensures counted { OnOk result
+            (CountsOne (M.limit work.old) (M.compared work.old) (M.compared work.new)) }
+        ensures least { M.compared work.old ≤ M.compared work.new }
         ensures stop { IfErr result (IsStop (M.has_passed work.new)) }
     {
         work.compares()?;

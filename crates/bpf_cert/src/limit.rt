@@ -1,8 +1,8 @@
 //! The work of a check, counted or not, and why a check ends without a verdict.
 
-ghost use Rattle.std.specs.Prelude.{◌≡◌, ◌≤◌, ℕ, Option, Some, None, IfErr};
+ghost use Rattle.std.specs.Prelude.{◌≡◌, ◌≤◌, ℕ, Option, Some, None, IfErr, OnOk};
 ghost use Rattle.bpf_prune.specs.Spending.{HasPassed};
-ghost use Rattle.bpf_cert.specs.Limits.{IsStop, number_within, stopped};
+ghost use Rattle.bpf_cert.specs.Limits.{CountsOne, IsStop, number_within, stopped};
 ghost use Rattle.bpf_cert.specs.declared.limit.Stop.TheVariants as stop;
 ghost use Rattle.bpf_cert.specs.declared.limit.WithinFault.TheVariants.{Refused};
 ghost use Rattle.bpf_cert.specs.declared.fault.CertFault.TheVariants as fault;
@@ -85,20 +85,27 @@ pub trait Meter {
     /// What was done passes the limit with the piece that was refused.
     ghost has_passed: { Self → Type 0 };
 
+    /// How many comparisons it has counted.
+    ghost compared: { Self → ℕ };
+
     /// Counts a state that is examined.
     fn examines(&mut self, state: &AbsState) -> Result<(), Stop>
         ensures limit { limit self.new ≡ limit self.old }
+        ensures compared { compared self.new ≡ compared self.old }
         ensures stop { IfErr result (IsStop (has_passed self.new)) };
 
-    /// Counts a comparison of a state with a claim.
+    /// Counts a comparison of a state with a claim, if there is a limit.
     fn compares(&mut self) -> Result<(), Stop>
         ensures limit { limit self.new ≡ limit self.old }
+        ensures counted { OnOk result (CountsOne (limit self.old) (compared self.old) (compared self.new)) }
+        ensures least { compared self.old ≤ compared self.new }
         ensures stop { IfErr result (IsStop (has_passed self.new)) };
 
     /// Counts units.
     fn spends(&mut self, units: u64) -> Result<(), Stop>
         requires small { units ≤ 563 }
         ensures limit { limit self.new ≡ limit self.old }
+        ensures compared { compared self.new ≡ compared self.old }
         ensures stop { IfErr result (IsStop (has_passed self.new)) };
 }
 
@@ -110,6 +117,8 @@ impl Meter for Unlimited {
     ghost limit = { λ _. None };
 
     ghost has_passed = { λ _. ⊥ };
+
+    ghost compared = { λ _. 0 };
 
     fn examines(&mut self, state: &AbsState) -> Result<(), Stop> {
         let _state = state;
@@ -130,6 +139,8 @@ impl Meter for Work {
     ghost limit = { λ w. Some w.most };
 
     ghost has_passed = { λ w. HasPassed w };
+
+    ghost compared = { λ w. w.compared };
 
     fn examines(&mut self, state: &AbsState) -> Result<(), Stop> {
         match self.examine(state) {
@@ -159,6 +170,7 @@ const PIECE: u64 = 563;
 /// Counts any number of units.
 pub(crate) fn spend_all<M: Meter>(work: &mut M, units: u64) -> Result<(), Stop>
     ensures limit { M.limit work.new ≡ M.limit work.old }
+    ensures compared { M.compared work.new ≡ M.compared work.old }
     ensures stop { IfErr result (IsStop (M.has_passed work.new)) }
 {
     let mut left = units;

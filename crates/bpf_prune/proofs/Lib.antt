@@ -1,1 +1,2 @@
 mod Newest
+mod Keeping

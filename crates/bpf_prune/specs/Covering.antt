@@ -1,14 +1,18 @@
 -- Finished states, the oldest first, and which of them covers a state.
-use Rattle.std.specs.Prelude.{◌≡◌, ◌==◌, ℕ, List, [], ◌∷◌, ◌++◌, length, drop, Option, Some, None, if◌then◌else◌, slice_index_or, slice_set, true}
+use Rattle.std.specs.Prelude.{◌≡◌, ℕ, ◌-◌, List, [], ◌∷◌, ◌++◌, length, drop, Option, Some, None, if◌then◌else◌, slice_index_or, slice_set, true}
 use Rattle.std.specs.List.{Contains as Has}
 use Rattle.bpf_absstate.specs.View.{View}
 use Rattle.bpf_absstate.specs.Inclusion.{state_included}
 use Rattle.bpf_absstate.specs.WellFormed.{IsView}
 use Rattle.bpf_prune.specs.declared.kept.Entry.{Entry}
 
--- a new entry comes last; the first of 64 is dropped for it
+-- the newest 64 entries, the oldest first; all, if there are no more
+abbrev pub newest_of : List Entry → List Entry
+newest_of es = drop (length es - 64) es
+
+-- a new entry comes last, and the newest 64 stay
 unfoldable pub with_newest : List Entry → Entry → List Entry
-with_newest es e = (if length es == 64 then drop 1 es else es) ++ e ∷ []
+with_newest es e = newest_of (es ++ e ∷ [])
 
 -- the first, if it exists, otherwise the second
 abbrev pub or_else : Option ℕ → Option ℕ → Option ℕ

@@ -1,11 +1,13 @@
 -- Folded frames.
 use Rattle.std.proofs.Common.{◌≡◌, ◌<◌, ◌≤◌, ℕ, zero, suc, ◌+◌, ◌-◌, length, get_or, set, List, [], ◌∷◌, ◌++◌, take, drop, refl, sym, subst, ap, ◌∙◌, inl, inr, Option, Some, None, IfSome, arith, append_assoc}
-use Rattle.std.specs.Prelude.{map, slice_get, is_some, false}
+use Rattle.std.specs.Prelude.{◌⊎◌, map, slice_get, false}
 use Rattle.std.proofs.lemmas.List.{append-nil, length-take-le, length-map, take_all, take-map, take-append-drop, length-append, take_more, set_split, drop_all}
 use Rattle.bpf_absstate.specs.View.{View}
 use Rattle.bpf_verifier.specs.Counting.{weight, states_from}
 use Rattle.bpf_verifier.proofs.Counts.{weight_push}
 use Rattle.bpf_verifier.proofs.Tracing.{same_frame}
+use Rattle.bpf_verifier.proofs.Pushing.{none_of, pushed_over}
+use Rattle.bpf_verifier.specs.Pushed.{IsPushedOut}
 use Rattle.bpf_verifier.specs.declared.frame.Frame.{Frame}
 use Rattle.bpf_verifier.specs.declared.fold.Outline.{Outline}
 use Rattle.bpf_verifier.specs.Folded.{outline_of, unfolded, with_state, IsTaken, IsFolded, BeginsWith}
@@ -222,6 +224,15 @@ folded_last folds n fold new size is =
       set_split folds n new lt ∙ ap (λ x. take n folds ++ new ∷ x) (drop_all (suc n) folds past),
     )
 
+-- what is said of a frame that is taken, with more frames below
+taken_over : (root below all : List Frame) (f : Frame) (o : Option View) → root ++ below ≡ all → (f.state ≡ o) ⊎ ((f.state ≡ None) × (f.pending ≡ None) × IfSome o (IsPushedOut below)) →
+    (f.state ≡ o) ⊎ ((f.state ≡ None) × (f.pending ≡ None) × IfSome o (IsPushedOut all))
+taken_over root below all f o e h =
+    elim h [
+      | inl same ↦ inl same
+      | inr left ↦ inr (left.0, left.1, subst (λ x. IfSome o (IsPushedOut x)) e (pushed_over root below o left.2))
+    ]
+
 -- the newest frame of the newest fold is taken
 pub taken_of_fold : (folds left rest : List (List Frame)) (fold new : List Frame) (f : Frame) → folds ≡ rest ++ fold ∷ [] → left ≡ rest ++ new ∷ [] → IsTaken fold new f → IsTaken (unfolded folds) (unfolded left) f
 taken_of_fold folds left rest fold new f e e2 t =
@@ -230,7 +241,7 @@ taken_of_fold folds left rest fold new f e e2 t =
       state = t.state;
       last = ap unfolded e ∙ unfolded_push rest fold ∙ ap (λ x. unfolded rest ++ x) t.last ∙ sym (append_assoc (unfolded rest) new (g ∷ []))
           ∙ ap (λ x. x ++ g ∷ []) (sym (ap unfolded e2 ∙ unfolded_push rest new));
-      same = t.same;
+      same = taken_over (unfolded rest) new (unfolded left) f t.state (sym (ap unfolded e2 ∙ unfolded_push rest new)) t.same;
     }
 
 -- the newest frame of the folds is taken, where none is after them
@@ -243,7 +254,8 @@ taken_of_folds root folds left older newer o n f none nothing g is t =
       last = ap (λ y. root ++ (y ++ (older ++ newer))) t.last ∙ ap (λ y. root ++ ((left ++ x ∷ []) ++ (y ++ newer))) none
           ∙ ap (λ y. root ++ ((left ++ x ∷ []) ++ ([] ++ y))) nothing ∙ two root left (x ∷ [])
           ∙ ap (λ y. (root ++ (left ++ (y ++ []))) ++ x ∷ []) (sym g) ∙ ap (λ y. (root ++ (left ++ (o ++ y))) ++ x ∷ []) (sym is);
-      same = t.same;
+      same = taken_over root left (root ++ (left ++ (o ++ n))) f t.state
+          (ap (λ y. root ++ y) (sym (append-nil left)) ∙ ap (λ y. root ++ (left ++ (y ++ []))) (sym g) ∙ ap (λ y. root ++ (left ++ (o ++ y))) (sym is)) t.same;
     }
 
 pub taken_from : (a b new : List Frame) (f : Frame) → a ≡ b → IsTaken a new f → IsTaken b new f
@@ -256,10 +268,6 @@ states_within all k f e some =
     let few = states_taken all (k + 1) in
     let same : states_from (take (k + 1) all) ≡ states_from (take k all ++ f ∷ []) = ap states_from e in
     omega (arith, more, few, same)
-
-none_of : (o : Option View) → is_some o ≡ false → o ≡ None
-none_of None h = refl
-none_of (Some a) h = cc
 
 -- the frame of an outline without a pending successor
 pub frame_of : (f : Frame) (o : Outline) → o ≡ outline_of f → o.forks ≡ false → f ≡ record { before = o.before; state = f.state; pending = None; best = o.best }

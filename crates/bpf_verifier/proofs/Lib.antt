@@ -6,6 +6,8 @@ pub mod Paths
 pub mod Reopening
 pub mod Tables
 pub mod Walking
+pub mod Pushing
 pub mod Folding
+pub mod Finishing
 pub mod Tracing
 pub mod Admitting

@@ -1,6 +1,6 @@
 -- What holds of all finished states.
-use Rattle.std.proofs.Common.{◌≡◌, ℕ, inl, inr, List, [], length, drop, Bool, true, false, cond, sym, subst, Option, Some, None, IfSome}
-use Rattle.std.specs.Prelude.{◌==◌, replicate}
+use Rattle.std.proofs.Common.{◌≡◌, ℕ, ◌-◌, inl, inr, List, [], ◌∷◌, ◌++◌, length, sym, subst, Option, Some, None, IfSome}
+use Rattle.std.specs.Prelude.{replicate}
 use Rattle.std.specs.List.{All}
 use Rattle.std.proofs.lemmas.List.{get_or_past}
 use Rattle.std.proofs.lemmas.List.Elements.{All-push, All-drop, All-set, All-nil, All-get_or, All-replicate, All-contains, All-weaker}
@@ -20,10 +20,7 @@ module _ (P : Entry → Type 0) where
 
   newest : (es : List Entry) (e : Entry) → All P es → P e → All P (with_newest es e)
   unfolding with_newest
-  newest es e h k = All-push P _ e (rest (length es == 64)) k where
-    rest : (full : Bool) → All P (cond full (drop 1 es) es)
-    rest true = All-drop P 1 es h
-    rest false = h
+  newest es e h k = All-drop P (length (es ++ e ∷ []) - 64) (es ++ e ∷ []) (All-push P es e h k)
 
   pub kept : (old new : List (List Entry)) (o : Option View) (budget : ℕ) → IsKept old new o budget → All (All P) old → IfSome o (λ a. P (record { state = a; budget = budget })) → All (All P) new
   kept old new None budget k h each = subst (All (All P)) (sym k) h

@@ -1,8 +1,9 @@
 -- Folded frames of the path.
-use Rattle.std.specs.Prelude.{◌≡◌, ◌⊎◌, List, [], ◌∷◌, ◌++◌, map, Option, Some, None, is_some}
+use Rattle.std.specs.Prelude.{◌≡◌, ◌⊎◌, List, [], ◌∷◌, ◌++◌, map, Option, Some, None, is_some, IfSome}
 use Rattle.bpf_absstate.specs.View.{View}
 use Rattle.bpf_verifier.specs.declared.frame.Frame.{Frame}
 use Rattle.bpf_verifier.specs.declared.fold.Outline.{Outline}
+use Rattle.bpf_verifier.specs.Pushed.{IsPushedOut}
 
 -- the outline of a frame
 abbrev pub outline_of : Frame → Outline
@@ -22,12 +23,12 @@ pub record IsFolded (first : View) (outlines : List Outline) (frames : List Fram
 abbrev pub with_state : Frame → Option View → Frame
 with_state f o = record { before = f.before; state = o; pending = f.pending; best = f.best }
 
--- The newest frame is taken off the path: as it is, or without its state, if no successor is pending. Then the state isn't
--- kept when it is finished.
+-- The newest frame is taken off the path: as it is, or without its state, if no successor is pending and those below it
+-- push the state out. Then the state isn't kept when it is finished.
 pub record IsTaken (old new : List Frame) (f : Frame) : Type 0 where
   pub state : Option View
   pub last : old ≡ new ++ with_state f state ∷ []
-  pub same : (f.state ≡ state) ⊎ ((f.state ≡ None) × (f.pending ≡ None))
+  pub same : (f.state ≡ state) ⊎ ((f.state ≡ None) × (f.pending ≡ None) × IfSome state (IsPushedOut new))
 
 -- the frames of all folds
 unfoldable pub unfolded : List (List Frame) → List Frame

@@ -8,6 +8,8 @@ use Rattle.bpf_verifier.specs.declared.exploration.Exploration.{Exploration}
 use Rattle.bpf_verifier.specs.declared.exploration.Unwound.{Unwound}
 use Rattle.bpf_verifier.specs.Clear.{AreClear, IsClearOn}
 use Rattle.bpf_verifier.specs.Counting.{IsCounted, IsPaid}
+use Rattle.bpf_prune.specs.Keeping.{with_entries}
+use Rattle.bpf_verifier.specs.Finishing.{finished_of}
 use Rattle.bpf_verifier.specs.Path.{Linked, AreBegun}
 use Rattle.bpf_verifier.specs.Safety.{LeadsSafely, IsExplored, AreSafe, IsOngoing}
 use Rattle.bpf_verifier.specs.Traced.{IsTraced}
@@ -20,6 +22,11 @@ pub record IsFresh (c : Code) (e : Exploration) : Type 0 where
   pub after : e.after ≡ 0
   pub finished : e.finished ≡ replicate (length c.slots) []
   pub visits : e.visits ≡ 0
+
+-- the finished states are the same as if each state of the path, up to the newest pending successor, had been kept when it
+-- was finished
+abbrev pub HasFinished : ℕ → Exploration → Exploration → Type 0
+HasFinished done old new = new.finished ≡ with_entries old.finished (finished_of old.path old.after done)
 
 -- the visits bound its budgets
 abbrev pub IsCountedSoFar : Exploration → Type 0

@@ -1,12 +1,15 @@
 pub mod Admission
+pub mod Budgets
 pub mod Causes
 pub mod Clear
 pub mod Counting
+pub mod Finishing
 pub mod Folded
 pub mod Found
 pub mod Laws
 pub mod Limits
 pub mod Path
+pub mod Pushed
 pub mod Refusals
 pub mod Safety
 pub mod Spent

@@ -14,7 +14,7 @@ ghost use Rattle.bpf_rules.specs.Covers.{IsSetting};
 ghost use Rattle.bpf_verifier.specs.Causes.{IsFaulty, IsStopped, IsDue};
 ghost use Rattle.bpf_verifier.specs.Counting.{weight};
 ghost use Rattle.bpf_verifier.specs.Spent.{IsSpent, IsMemoryOrPassed};
-ghost use Rattle.bpf_verifier.specs.Found.{IsFresh, IsCountedSoFar, IsPaidSoFar, IsBegunSoFar, IsSafeSoFar, IsSafeAfter, IsTracedSoFar, IsTracedAfter, IsWalkedSoFar, IsWalkedAfter, IsClearSoFar, IsClearAfter};
+ghost use Rattle.bpf_verifier.specs.Found.{IsFresh, IsCountedSoFar, IsPaidSoFar, IsBegunSoFar, IsSafeSoFar, IsSafeAfter, HasFinished, IsTracedSoFar, IsTracedAfter, IsWalkedSoFar, IsWalkedAfter, IsClearSoFar, IsClearAfter};
 ghost use Rattle.bpf_verifier.specs.Path.{IsBegun, IsKept, StandsIn};
 ghost use Rattle.bpf_verifier.specs.Safety.{AllSafe};
 ghost use Rattle.bpf_plain.specs.Walks.{IsPlain, HasWalk};
@@ -30,6 +30,7 @@ use bpf_absstate::laws::{entry_law, inclusion_law};
 use bpf_decode::Program;
 use bpf_model::laws::within_law;
 use bpf_plain::laws::{standing_law, walking_law};
+use bpf_prune::laws::keeping_law;
 use bpf_prune::{Entry, Finished, TooMuchWork, Work};
 use bpf_rules::{Fault, Ways};
 use std::alloc::{AllocError, Global};
@@ -105,13 +106,14 @@ impl Exploration {
         Ok(())
     }
 
-    /// Keeps a finished state.
+    /// The state that follows the path is finished, and kept if it is given.
     fn finish(&mut self, state: Option<AbsState>, budget: u32) -> Result<(), AllocError>
         ensures finished { OnOk result (IsKept self.old.finished self.new.finished state budget) }
         ensures path { self.new.path ≡ self.old.path }
         ensures after { self.new.after ≡ self.old.after }
         ensures visits { self.new.visits ≡ self.old.visits }
     {
+        self.observer.ends(self.path.len(), self.after, budget);
         if let Some(state) = state {
             self.observer.finishes(&state, budget)?;
             self.finished.keep(Entry { state, budget })?;
@@ -119,8 +121,9 @@ impl Exploration {
         Ok(())
     }
 
-    /// The state under exploration is finished with a budget: goes back to the newest pending successor. States of the
-    /// path that are made again count as work before that.
+    /// The state under exploration is finished with a budget: goes back to the newest pending successor. The states of
+    /// the path up to there are finished, too: what is kept then is the same as if each of them had been kept. States of
+    /// the path that are made again count as work before that.
     fn unwind(&mut self, program: &Program, done: u32, work: &mut Work) -> Result<Unwound, Fault>
         requires room { self.old.visits ≤ 2 ^ 22 }
         requires traced { (a : View) × IsTracedSoFar program.now a self.old }
@@ -128,6 +131,7 @@ impl Exploration {
         requires paid { done + weight self.old.path self.old.after ≤ self.old.visits }
         ensures traced { IfOk result (IsTracedAfter program.now self.new) }
         ensures visits { self.new.visits ≡ self.old.visits }
+        ensures finished { IfOk result (λ u. HasFinished done self.old self.new) }
         ensures counted { IfOk result (λ u. IsCountedSoFar self.new) }
         ensures paid { IfOk result (IsPaidSoFar self.new) }
         ensures begun { IfOk result
@@ -151,6 +155,7 @@ impl Exploration {
         ensures units { work.new.units + 563 * work.old.remade ≤ work.old.units + 563 * work.new.remade }
         ensures refuses { IfErr result (λ e. IsStopped e work.new) }
     {
+        keeping_law();
         let mut done = done;
         while let Some(frame) = self.path.pop(program, work)? {
             let Frame {
@@ -226,6 +231,7 @@ impl Exploration {
         self.visits += 1;
         self.observer.examines(&state, self.path.len(), self.after)?;
         if let Some(budget) = covering {
+            self.observer.ends(self.path.len(), self.after, budget);
             let unwound = self.unwind(program, budget, work)?;
             return Ok(unwound);
         }

@@ -1,12 +1,13 @@
 //! Frames of the path that are reduced to outlines, and rebuilt when they are needed.
 
-ghost use Rattle.std.specs.Prelude.{◌≡◌, ◌<◌, ◌≤◌, ◌+◌, ◌*◌, ◌∷◌, ◌++◌, [], ℕ, List, length, map, Option, is_some, IfOk, IfErr, IfSome, OnOk, IfNone};
+ghost use Rattle.std.specs.Prelude.{◌≡◌, ◌<◌, ◌≤◌, ◌+◌, ◌*◌, ◌∷◌, ◌++◌, [], ℕ, List, length, map, drop, false, Option, is_some, IfOk, IfErr, IfSome, OnOk, IfNone};
 ghost use Rattle.bpf_absstate.specs.View.{View};
 ghost use Rattle.bpf_rules.specs.declared.ways.Ways.TheVariants.{One};
 ghost use Rattle.bpf_verifier.specs.declared.frame.Frame.{Frame};
 ghost use Rattle.bpf_verifier.specs.Causes.{IsStopped};
 ghost use Rattle.bpf_verifier.specs.Counting.{states_from};
 ghost use Rattle.bpf_verifier.specs.Folded.{outline_of, unfolded, IsTaken};
+ghost use Rattle.bpf_verifier.specs.Pushed.{AreStraight, ArePushedOut, IsLate, MoreAt, NoMore};
 ghost use Rattle.bpf_verifier.specs.Traced.{LeadsExactly, AreOpen, IsOpened, OpensWith, IsTraced};
 
 use crate::frame::{Frame, Outcome, examine_state};
@@ -45,8 +46,8 @@ struct Opened {
 pub(crate) struct Fold {
     first: AbsState,
     outlines: Vec<Outline>,
-    /// How many frames, from the oldest, have to be made again. The others have no pending successor, and their states
-    /// needn't be kept when they are finished.
+    /// How many frames, from the oldest, have to be made again. The states of the others are pushed out when those below
+    /// are finished, so they needn't be kept.
     needed: usize,
     frames: Snapshot<Vec<Frame>>,
 }
@@ -58,10 +59,12 @@ impl Model for Fold {
     ghost Value = { List Frame };
 
     ghost use Rattle.bpf_verifier.specs.Folded.{IsFolded};
+    ghost use Rattle.bpf_verifier.specs.Pushed.{ArePushedOut};
 
     ghost view = { λ a. take (length a.outlines.items) a.frames.value.items };
 
-    ghost invariant = { λ a. IsFolded a.first a.outlines.items (take (length a.outlines.items) a.frames.value.items) };
+    ghost invariant = { λ a. IsFolded a.first a.outlines.items (take (length a.outlines.items) a.frames.value.items)
+        × ArePushedOut a.needed (take (length a.outlines.items) a.frames.value.items) };
 }
 
 fn outlined(frame: &Frame) -> Outline
@@ -85,7 +88,10 @@ fn outlines(alloc: Global, frames: &[Frame]) -> Result<Vec<Outline>, AllocError>
 }
 
 /// The number of frames up to the newest with a pending successor.
-fn forked(frames: &[Frame]) -> usize {
+fn forked(frames: &[Frame]) -> usize
+    ensures within { result ≤ length frames.now }
+    ensures straight { AreStraight (drop result frames.now) }
+{
     let mut end = 0;
     for place in 0..frames.len() {
         if frames[place].pending.is_some() {
@@ -95,23 +101,42 @@ fn forked(frames: &[Frame]) -> usize {
     end
 }
 
-/// Whether a state at that slot is one of the first 64; counts it.
-fn is_early(counts: &mut Vec<u8>, pc: usize) -> Result<bool, AllocError> {
+/// Makes room for the count of a slot.
+fn widen(counts: &mut Vec<u8>, pc: usize) -> Result<(), AllocError>
+    ensures same { IfOk result (λ u. NoMore counts.old.items counts.new.items) }
+{
     if counts.len() <= pc {
         counts.resize(pc.saturating_add(1), 0u8)?;
     }
-    if let Some(count) = counts.get_mut(pc) {
-        if *count < KEPT {
-            *count += 1;
-            return Ok(true);
-        }
+    Ok(())
+}
+
+/// Whether a state at that slot is one of the first 64; counts it.
+fn is_early(counts: &mut Vec<u8>, pc: usize) -> Result<bool, AllocError>
+    ensures more { IfOk result (λ early. MoreAt pc counts.old.items counts.new.items) }
+    ensures late { IfOk result
+        (λ early. early ≡ false → IsLate pc counts.old.items counts.new.items) }
+{
+    widen(counts, pc)?;
+    let Some(count) = counts.get_mut(pc) else {
+        return Ok(true);
+    };
+    if *count < KEPT {
+        *count += 1;
+        return Ok(true);
     }
     Ok(false)
 }
 
 /// How many frames, from the oldest, have to be made again: those up to the newest with a pending successor, and then
-/// the 64 oldest of each target slot. The younger ones are finished before those, which push them out.
-fn needed(alloc: Global, frames: &[Frame]) -> Result<usize, AllocError> {
+/// the 64 oldest of each target slot. The younger ones are finished before those, which push them out. All, if the fold is
+/// `whole`.
+fn needed(alloc: Global, frames: &[Frame], whole: bool) -> Result<usize, AllocError>
+    ensures pushed { IfOk result (λ n. ArePushedOut n frames.now) }
+{
+    if whole {
+        return Ok(frames.len());
+    }
     let start = forked(frames);
     let mut counts = Vec::new(alloc);
     let mut needed = start;
@@ -265,10 +290,7 @@ impl Fold {
         };
         let first = state.clone()?;
         let outlines = outlines(alloc, frames)?;
-        let mut needed = needed(alloc, frames)?;
-        if whole {
-            needed = frames.len();
-        }
+        let needed = needed(alloc, frames, whole)?;
         Ok(Some(Fold {
             first,
             outlines,

@@ -15,6 +15,7 @@ pub mod limit;
 pub mod listing;
 mod observer;
 mod path;
+mod raising;
 pub mod refusal;
 
 pub use admission::{verify, verify_counted, verify_limited, verify_within};

@@ -1,6 +1,6 @@
 //! The states that an exploration finishes.
 
-ghost use Rattle.std.specs.Prelude.{◌≡◌, ◌^◌, ℕ, IfOk, IfErr, OnOk};
+ghost use Rattle.std.specs.Prelude.{◌≡◌, ◌≤◌, ◌^◌, ℕ, length, slice_index, IfOk, IfErr, OnOk};
 ghost use Rattle.bpf_verifier.specs.Admission.{IsSafeBudget, IsRefusal, IsRefusalAfter, IsRefusalWithin};
 ghost use Rattle.bpf_verifier.specs.Causes.{IsDue};
 ghost use Rattle.bpf_verifier.specs.Spent.{IsSpent};
@@ -9,6 +9,7 @@ ghost use Rattle.bpf_prune.specs.Spending.{CountsAll};
 use crate::exploration::{Exploration, observed_budget};
 use crate::limit::{Limits, StateLimit};
 use crate::observer::{Heard, Observer};
+use crate::raising::raises;
 use crate::refusal::Refusal;
 use bpf_absstate::AbsState;
 use bpf_decode::Program;
@@ -97,9 +98,13 @@ pub struct Explanation {
     pub path: Vec<usize>,
     /// How many states were examined at each slot; it ends at the last slot examined.
     pub visits: Vec<u32>,
+    /// The budget left at each slot: the most steps that a run may still make from a state examined there, as far as
+    /// the exploration found it; 0 if it found none.
+    pub budgets: Vec<u32>,
 }
 
-/// What `verify_within` finds of a program, and how. The contract describes only the verdict.
+/// What `verify_within` finds of a program, and how. The contract describes the verdict; of `budgets` only that each slot
+/// has one, and that slot 0 has no less than the verdict.
 pub fn explain_within(
     alloc: Global,
     program: &Program,
@@ -107,6 +112,9 @@ pub fn explain_within(
 ) -> Result<Explanation, AllocError>
     ensures budget { IfOk result (λ x. IfOk x.verdict (IsSafeBudget program.now limit)) }
     ensures refused { IfOk result (λ x. IfErr x.verdict (IsRefusal program.now limit)) }
+    ensures slots { IfOk result (λ x. length x.budgets.items ≡ length program.now.slots) }
+    ensures start { IfOk result
+        (λ x. IfOk x.verdict (λ budget. budget ≤ slice_index x.budgets.items 0)) }
 {
     limit.known();
     let limits = Limits {
@@ -116,7 +124,7 @@ pub fn explain_within(
     explain_limited(alloc, program, limits)
 }
 
-/// What `verify_limited` finds of a program, and how. The contract describes only the verdict.
+/// What `verify_limited` finds of a program, and how. The contract describes what that of `explain_within` does.
 pub fn explain_limited(
     alloc: Global,
     program: &Program,
@@ -125,6 +133,9 @@ pub fn explain_limited(
     ensures budget { IfOk result (λ x. IfOk x.verdict (IsSafeBudget program.now limits.states)) }
     ensures refused { IfOk result
         (λ x. IfErr x.verdict (IsRefusalWithin program.now limits)) }
+    ensures slots { IfOk result (λ x. length x.budgets.items ≡ length program.now.slots) }
+    ensures start { IfOk result
+        (λ x. IfOk x.verdict (λ budget. budget ≤ slice_index x.budgets.items 0)) }
 {
     program.whole();
     plain_law();
@@ -133,33 +144,60 @@ pub fn explain_limited(
     let mut exploration = Exploration::new(alloc, program, Observer::listening(alloc))?;
     let verdict = observed_budget(alloc, program, &mut exploration, states, &mut work);
     work.known();
-    Ok(explained(alloc, verdict, exploration.into_observer()))
+    let observer = exploration.into_observer();
+    let explanation = explained(alloc, program.len(), verdict, observer)?;
+    Ok(explanation)
 }
 
-/// A verdict with the observer's records.
-fn explained(alloc: Global, verdict: Result<u32, Refusal>, observer: Observer) -> Explanation
-    ensures verdict { result.verdict ≡ verdict }
+/// The budgets of so many slots; slot 0, where each run starts, has no less than the verdict.
+fn by_slot(
+    budgets: Vec<u32>,
+    slots: usize,
+    verdict: &Result<u32, Refusal>,
+) -> Result<Vec<u32>, AllocError>
+    requires some { 1 ≤ slots }
+    ensures slots { IfOk result (λ found. length found.items ≡ slots) }
+    ensures start { IfOk result
+        (λ found. IfOk verdict.now (λ budget. budget ≤ slice_index found.items 0)) }
 {
-    match observer.into_heard() {
-        Some(heard) => {
-            let Heard {
-                examined,
-                path,
-                visits,
-                ..
-            } = heard;
-            Explanation {
-                verdict,
-                state: examined,
-                path,
-                visits,
-            }
-        }
-        None => Explanation {
-            verdict,
-            state: None,
-            path: Vec::new(alloc),
-            visits: Vec::new(alloc),
-        },
+    let mut budgets = budgets;
+    budgets.resize(slots, 0u32)?;
+    if let Ok(budget) = verdict {
+        raises(budgets.as_mut_slice(), 0, *budget);
     }
+    Ok(budgets)
+}
+
+/// A verdict on a program of so many slots, with the observer's records.
+fn explained(
+    alloc: Global,
+    slots: usize,
+    verdict: Result<u32, Refusal>,
+    observer: Observer,
+) -> Result<Explanation, AllocError>
+    requires some { 1 ≤ slots }
+    ensures verdict { IfOk result (λ x. x.verdict ≡ verdict) }
+    ensures slots { IfOk result (λ x. length x.budgets.items ≡ slots) }
+    ensures start { IfOk result
+        (λ x. IfOk verdict (λ budget. budget ≤ slice_index x.budgets.items 0)) }
+{
+    let heard = match observer.into_heard() {
+        Some(heard) => heard,
+        None => Heard::new(alloc),
+    };
+    let Heard {
+        examined,
+        path,
+        visits,
+        budgets,
+        ..
+    } = heard;
+    let budgets = by_slot(budgets, slots, &verdict)?;
+    Ok(Explanation {
+        verdict,
+        state: examined,
+        path,
+        visits,
+        budgets,
+    })
 }

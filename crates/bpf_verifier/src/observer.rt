@@ -1,7 +1,9 @@
 //! What is recorded of an exploration, beside its result.
 
-ghost use Rattle.std.specs.Prelude.{◌≡◌};
+ghost use Rattle.std.specs.Prelude.{◌≡◌, OnOk};
+ghost use Rattle.bpf_verifier.specs.Budgets.{raised_along, start_of, slots_after, budgets_of, ended};
 
+use crate::raising::{part, raises_along};
 use bpf_absstate::AbsState;
 use bpf_prune::Entry;
 use std::alloc::{AllocError, Global};
@@ -17,6 +19,9 @@ pub(crate) struct Heard {
     pub(crate) path: Vec<usize>,
     /// How many states were examined at each slot; it ends at the last slot examined.
     pub(crate) visits: Vec<u32>,
+    /// The greatest budget with which a state was finished at each slot, 0 if none was; it ends at the last slot
+    /// examined.
+    pub(crate) budgets: Vec<u32>,
     /// For each kept state, which has a pending successor or is at a target slot, the length of the path before the
     /// state that follows it.
     starts: Vec<usize>,
@@ -29,12 +34,13 @@ pub(crate) struct Observer {
 }
 
 impl Heard {
-    fn new(alloc: Global) -> Heard {
+    pub(crate) fn new(alloc: Global) -> Heard {
         Heard {
             finished: Vec::new(alloc),
             examined: None,
             path: Vec::new(alloc),
             visits: Vec::new(alloc),
+            budgets: Vec::new(alloc),
             starts: Vec::new(alloc),
         }
     }
@@ -56,10 +62,41 @@ impl Heard {
         if self.visits.len() <= slot {
             self.visits.resize(slot.saturating_add(1), 0u32)?;
         }
+        if self.budgets.len() <= slot {
+            self.budgets.resize(slot.saturating_add(1), 0u32)?;
+        }
         if let Some(count) = self.visits.get_mut(slot) {
             *count = count.saturating_add(1);
         }
         Ok(())
+    }
+
+    /// Where on the path the states begin that follow the newest of `kept` kept ones.
+    fn start(&self, kept: usize) -> usize
+        ensures is { result ≡ start_of self.now.starts.items kept }
+    {
+        if kept == 0 {
+            return 0;
+        }
+        match self.starts.get(kept - 1) {
+            Some(start) => *start,
+            None => 0,
+        }
+    }
+
+    /// The path has `kept` kept states, and `after` after the newest; the state that comes next is finished with that
+    /// budget, and so are those `after` states, each with one step more than the next.
+    fn ends(&mut self, kept: usize, after: u32, budget: u32)
+        ensures budgets { self.new.budgets.items
+            ≡ raised_along self.old.budgets.items (slots_after self.old kept after) budget }
+    {
+        let start = self.start(kept);
+        let slots = part(
+            self.path.as_slice(),
+            start,
+            (after as usize).saturating_add(1),
+        );
+        raises_along(self.budgets.as_mut_slice(), slots, budget);
     }
 }
 
@@ -96,8 +133,20 @@ impl Observer {
         Ok(())
     }
 
-    /// This state is finished with that budget.
-    pub(crate) fn finishes(&mut self, state: &AbsState, budget: u32) -> Result<(), AllocError> {
+    /// The path has `kept` kept states, and `after` after the newest; the state that comes next is finished with that
+    /// budget, and so are those `after` states, each with one step more than the next.
+    pub(crate) fn ends(&mut self, kept: usize, after: u32, budget: u32)
+        ensures budgets { budgets_of self.new ≡ ended self.old kept after budget }
+    {
+        if let Some(heard) = &mut self.heard {
+            heard.ends(kept, after, budget);
+        }
+    }
+
+    /// This state, at a target slot, is finished with that budget.
+    pub(crate) fn finishes(&mut self, state: &AbsState, budget: u32) -> Result<(), AllocError>
+        ensures budgets { OnOk result (budgets_of self.new ≡ budgets_of self.old) }
+    {
         if let Some(heard) = &mut self.heard {
             heard.finished.push(Entry {
                 state: state.clone()?,

@@ -1,6 +1,9 @@
+mod Counted
 mod Named
 mod Options
 mod Passing
 mod Present
 mod Records
+mod Unique
 mod Units
+mod Written

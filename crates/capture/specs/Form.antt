@@ -9,7 +9,7 @@ use Rattle.capture.specs.declared.fields.Endian.TheVariants.{Little, Big}
 use Rattle.capture.specs.declared.form.TimeUnit.{TimeUnit}
 use Rattle.capture.specs.declared.form.TimeUnit.TheVariants.{Microsecond, Nanosecond}
 use Rattle.capture.specs.declared.form.Link.{Link}
-use Rattle.capture.specs.declared.form.Link.TheVariants.{Plain, Radiotap}
+use Rattle.capture.specs.declared.form.Link.TheVariants.{Plain, Radiotap, Other}
 use Rattle.capture.specs.declared.form.Form.{Form}
 use Rattle.capture.specs.Fields.{number_at}
 
@@ -30,6 +30,10 @@ abbrev pub link_of : ℕ → Result Link CaptureFault
 link_of number =
     (if number == 105 then Ok Plain else
     (if number == 127 then Ok Radiotap else Err (LinkType number)))
+
+-- the same of an interface, which may have another link type
+abbrev pub any_link : ℕ → Link
+any_link number = (if number == 105 then Plain else (if number == 127 then Radiotap else Other number))
 
 -- a fault of the header
 abbrev pub IsOfHeader : CaptureFault → Type 0

@@ -8,7 +8,7 @@ use Rattle.capture.specs.declared.fields.Endian.{Endian}
 use Rattle.capture.specs.declared.form.Link.{Link}
 use Rattle.capture.specs.declared.interface.Interface.{Interface}
 use Rattle.capture.specs.Fields.{number_at}
-use Rattle.capture.specs.Form.{link_of}
+use Rattle.capture.specs.Form.{any_link}
 use Rattle.capture.specs.Blocks.{Framed}
 
 -- an interface: its link type, how many units of time a second has, and the most bytes captured of a packet, 0 for all
@@ -63,14 +63,9 @@ with_options place b link None = Err (BadBlock place)
 with_options place b link (Some resolution) =
     with_units (number_at b.endian 4 4 b.body) link resolution (counted_units resolution)
 
--- an interface, by its link type
-abbrev pub with_link : ℕ → Framed → Result Link CaptureFault → Result Described CaptureFault
-with_link place b (Err fault) = Err fault
-with_link place b (Ok link) = with_options place b link
-    (resolution_in (length (drop 8 b.body)) b.endian (drop 8 b.body))
-
 -- the interface that a block at this position in the file describes
 abbrev pub interface_of : ℕ → Framed → Result Described CaptureFault
 interface_of place b =
     (if nat_lt (length b.body) 8 then Err (BadBlock place)
-    else with_link place b (link_of (number_at b.endian 2 0 b.body)))
+    else with_options place b (any_link (number_at b.endian 2 0 b.body))
+    (resolution_in (length (drop 8 b.body)) b.endian (drop 8 b.body)))

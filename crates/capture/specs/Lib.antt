@@ -6,3 +6,4 @@ pub mod Blocks
 pub mod Interfaces
 pub mod Sections
 pub mod Captures
+pub mod Writing

@@ -9,7 +9,7 @@ use Rattle.capture.specs.declared.fault.CaptureFault.TheVariants as fault
 use Rattle.capture.specs.declared.form.TimeUnit.{TimeUnit}
 use Rattle.capture.specs.declared.form.TimeUnit.TheVariants.{Microsecond, Nanosecond}
 use Rattle.capture.specs.declared.form.Link.{Link}
-use Rattle.capture.specs.declared.form.Link.TheVariants.{Plain, Radiotap}
+use Rattle.capture.specs.declared.form.Link.TheVariants.{Plain, Radiotap, Other}
 use Rattle.capture.specs.declared.form.Form.{Form}
 use Rattle.capture.specs.declared.packet.Packet.{Packet}
 use Rattle.capture.specs.Fields.{number_at}
@@ -34,6 +34,7 @@ time_of Nanosecond seconds part = 1000000000 * seconds + part
 abbrev pub linked_frame : Link → List ℕ → Result (List ℕ) LeftOut
 linked_frame Plain bytes = Ok bytes
 linked_frame Radiotap bytes = radiotap_frame bytes
+linked_frame (Other number) bytes = Err (out.LinkType number)
 
 -- the frame in captured bytes of a packet of `original` bytes
 abbrev pub frame_of : Link → ℕ → List ℕ → Result (List ℕ) LeftOut

@@ -17,7 +17,7 @@ pub enum CaptureFault {
     /// Not version 2.4, the only one of pcap in use, or, in pcapng, neither 1.0 nor 1.2.
     #[error("unknown version {major}.{minor}")]
     Version { major: u16, minor: u16 },
-    /// Neither 105, IEEE 802.11, nor 127, IEEE 802.11 after a radiotap header.
+    /// In pcap neither 105, IEEE 802.11, nor 127, IEEE 802.11 after a radiotap header.
     #[error("link type {0} is neither 105 (802.11) nor 127 (802.11 with radiotap)")]
     LinkType(u32),
     /// The record after this many whole records is cut.
@@ -60,4 +60,7 @@ pub enum LeftOut {
     /// The radiotap header says that the frame check sequence is wrong: the frame was received damaged.
     #[error("the frame check sequence is wrong")]
     WrongCheckSequence,
+    /// It comes from an interface of another link type than 105 and 127.
+    #[error("link type {0} is neither 105 (802.11) nor 127 (802.11 with radiotap)")]
+    LinkType(u32),
 }

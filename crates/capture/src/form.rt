@@ -1,7 +1,7 @@
 //! The header of a classic capture file.
 
 ghost use Rattle.std.specs.Prelude.{◌≡◌, ◌≤◌, length, IfErr, OnOk};
-ghost use Rattle.capture.specs.Form.{magic_of, link_of, form_of, IsOfHeader};
+ghost use Rattle.capture.specs.Form.{magic_of, link_of, any_link, form_of, IsOfHeader};
 
 use crate::fault::CaptureFault;
 use crate::fields::{Endian, u16_at, u32_at};
@@ -20,6 +20,8 @@ pub(crate) enum Link {
     Plain,
     /// A radiotap header.
     Radiotap,
+    /// Something else: no frame is read from it.
+    Other(u32),
 }
 
 /// What a file's header says of its records.
@@ -51,6 +53,16 @@ pub(crate) fn link_named(number: u32) -> Result<Link, CaptureFault>
         105 => Ok(Link::Plain),
         127 => Ok(Link::Radiotap),
         _ => Err(CaptureFault::LinkType(number)),
+    }
+}
+
+/// The kind of packet that a link type means, if an interface may have any.
+pub(crate) fn any_link(number: u32) -> Link
+    ensures is { result ≡ any_link number }
+{
+    match link_named(number) {
+        Ok(link) => link,
+        Err(_) => Link::Other(number),
     }
 }
 

@@ -8,7 +8,7 @@ ghost use Rattle.capture.specs.Interfaces.{described_in, padded, resolution_in, 
 use crate::block::Block;
 use crate::fault::CaptureFault;
 use crate::fields::{Endian, u16_at, u32_at};
-use crate::form::{Link, link_named};
+use crate::form::{Link, any_link};
 use std::num::NonZeroU64;
 
 /// An interface that captured packets.
@@ -77,7 +77,7 @@ pub(crate) fn interface_in(place: u64, block: Block<'_>) -> Result<Interface, Ca
     if block.body.len() < 8 {
         return Err(CaptureFault::BadBlock(place));
     }
-    let link = link_named(u32::from(u16_at(block.endian, block.body, 0)))?;
+    let link = any_link(u32::from(u16_at(block.endian, block.body, 0)));
     let Some(resolution) = resolution_in(block.endian, block.body.split_at(8).1) else {
         return Err(CaptureFault::BadBlock(place));
     };

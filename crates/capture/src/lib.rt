@@ -1,8 +1,9 @@
 //! The frames of a capture file: classic pcap in either byte order, with times in microseconds or
 //! nanoseconds, or pcapng, of IEEE 802.11 frames with or without a radiotap header.
 //!
-//! Main call: `read_capture`. It depends on `byteorder`. It returns the packets that a file holds, each with its time
-//! and its frame, or why it is left out; or the file's first fault.
+//! Main calls: `read_capture` returns the packets that a file holds, each with its time and its frame, or why it is left
+//! out; or the file's first fault. `append_heading` and `append_packet` write a pcapng file of what an access point
+//! receives, sends and passes up, and `written_law` shows that reading it gives these packets. It depends on `byteorder`.
 #![tactic(auto)]
 
 mod block;
@@ -11,11 +12,15 @@ mod fault;
 mod fields;
 mod form;
 mod interface;
+mod new_packet;
 mod packet;
 mod radiotap;
 mod read;
 mod section;
+mod write;
 
 pub use fault::{CaptureFault, LeftOut};
+pub use new_packet::{NewPacket, Side};
 pub use packet::Packet;
 pub use read::read_capture;
+pub use write::{MOST_KEPT, append_heading, append_packet, write_capture, written_law};

@@ -37,6 +37,7 @@ pub(crate) fn frame(link: Link, original: usize, bytes: &[u8]) -> Result<&[u8], 
     match link {
         Link::Plain => Ok(bytes),
         Link::Radiotap => radiotap_frame(bytes),
+        Link::Other(number) => Err(LeftOut::LinkType(number)),
     }
 }
 

@@ -11,9 +11,10 @@ use crate::section::read_sections;
 use std::alloc::Global;
 
 /// The packets of a capture file, in order, from classic pcap or pcapng (draft-ietf-opsawg-pcapng). A packet without a
-/// readable frame says why. A simple packet block has no time. Blocks other than section header, interface
-/// description, enhanced and simple packet are skipped, as are an interface's options other than `if_tsresol`. An
-/// error is `NoMemory`, or the file's first fault: in its header, a record or a block.
+/// readable frame says why; so does one of an interface of another link type than 105 and 127. A simple packet block has
+/// no time. Blocks other than section header, interface description, enhanced and simple packet are skipped, as are an
+/// interface's options other than `if_tsresol`. An error is `NoMemory`, or the file's first fault: in its header, a record
+/// or a block.
 pub fn read_capture<'a>(alloc: Global, file: &'a [u8]) -> Result<Vec<Packet<'a>>, CaptureFault>
     ensures packets { IfOk result (λ packets. Holds file.entry.now (map seen_of packets.items)) }
     ensures fault { IfErr result (Refuses file.entry.now) }

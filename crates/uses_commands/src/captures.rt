@@ -1,7 +1,7 @@
 //! Captures made by hand.
 
 use crate::same::same;
-use capture::{CaptureFault, LeftOut, Packet, read_capture};
+use capture::{CaptureFault, LeftOut, NewPacket, Packet, Side, read_capture, write_capture};
 use std::alloc::Global;
 use std::process::Abort;
 
@@ -182,4 +182,44 @@ fn cut_blocks_are_refused(rt: HostRuntime) {
         let fault = fault_of(alloc, &file[..len]);
         same(&rt, (len, fault), (len, fault_of_cut(len)), "the fault");
     }
+}
+
+#[test]
+fn a_written_capture_is_read(rt: HostRuntime) {
+    let alloc = rt.alloc();
+    let long = vec![in alloc; 8u8; 262_145].ok().expect(&rt, "memory");
+    let packets = [
+        NewPacket {
+            side: Side::Out,
+            time: u64::MAX,
+            bytes: &[1, 2, 3],
+            comment: b"line 1",
+        },
+        NewPacket {
+            side: Side::Up,
+            time: 7,
+            bytes: &[4],
+            comment: b"",
+        },
+        NewPacket {
+            side: Side::In,
+            time: 8,
+            bytes: &long,
+            comment: b"long",
+        },
+        NewPacket {
+            side: Side::In,
+            time: 9,
+            bytes: &long[1..],
+            comment: &long,
+        },
+    ];
+    let file = write_capture(alloc, &packets).ok().expect(&rt, "memory");
+    let wanted = [
+        packet(Some(u64::MAX), Ok(&[1, 2, 3])),
+        packet(Some(7), Err(LeftOut::LinkType(1))),
+        packet(Some(8), Err(LeftOut::Cut)),
+        packet(Some(9), Ok(&long[1..])),
+    ];
+    reads(&rt, alloc, &file, &wanted);
 }

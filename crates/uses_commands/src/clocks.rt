@@ -1,7 +1,7 @@
 //! Time that passes by a clock: its ticks, agreements that end by themselves, and a thread that reads when asked.
 
 use crate::lab::{ANSWERS, ASSOCIATION, AUTHENTICATION, LAB, file, joined};
-use crate::memory::{Memory, Outcome, words};
+use crate::memory::{Memory, Outcome, lines_alone, words};
 use crate::same::same;
 use apd_driver::{Arrival, Direct, Passing, Source, Timed};
 use apd_files::FileFault;
@@ -159,13 +159,17 @@ pub fn lived<R: Threads + Wait + Sync, S: Source + Drop>(
     };
     let streams = Streams {
         input,
-        out: Vec::new(alloc),
+        out: lines_alone(Vec::new(alloc)),
         typed: false,
         shown: false,
     };
     let mut err = Vec::new(alloc);
-    let (out, status) = live(rt, alloc, asked, supplies, streams, &mut err);
-    Outcome { out, err, status }
+    let (page, status) = live(rt, alloc, asked, supplies, streams, &mut err);
+    Outcome {
+        out: page.lines,
+        err,
+        status,
+    }
 }
 
 /// A request for an agreement with a timeout of 10 units from number 100 on, and data 101, which it holds.

@@ -42,6 +42,8 @@ mod memory;
 #[cfg(test)]
 mod options;
 #[cfg(test)]
+mod recording;
+#[cfg(test)]
 mod refusals;
 #[cfg(test)]
 mod repeating;

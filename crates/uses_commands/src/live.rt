@@ -1,7 +1,7 @@
 //! Lines that are done as they come, in chunks of any length.
 
 use crate::lab::{ANSWERS, ASSOCIATION, AUTHENTICATION, LAB, file, joined};
-use crate::memory::{Memory, Outcome, STRICT, ran, words};
+use crate::memory::{Memory, Outcome, STRICT, lines_alone, ran, words};
 use crate::same::same;
 use apd_driver::Direct;
 use apd_run::{Limits, OpenGate, RunWords, Streams, Supplies, live};
@@ -81,13 +81,17 @@ fn lived_with<R: Threads + Wait + Sync, I: Read + Drop>(
     };
     let streams = Streams {
         input: Direct { input },
-        out: Vec::new(alloc),
+        out: lines_alone(Vec::new(alloc)),
         typed: false,
         shown: false,
     };
     let mut err = Vec::new(alloc);
-    let (out, status) = live(rt, alloc, asked, supplies, streams, &mut err);
-    Outcome { out, err, status }
+    let (page, status) = live(rt, alloc, asked, supplies, streams, &mut err);
+    Outcome {
+        out: page.lines,
+        err,
+        status,
+    }
 }
 
 /// What a text is answered with, before the totals of no event, and the status.
@@ -342,10 +346,10 @@ fn answers_are_flushed_before_the_next_read(rt: HostRuntime) {
                 flushed: &flushed,
             },
         },
-        out: Flushed {
+        out: lines_alone(Flushed {
             taken: 0,
             flushed: &flushed,
-        },
+        }),
         typed: false,
         shown: false,
     };
@@ -452,7 +456,7 @@ fn a_reader_that_goes_away_ends_a_run_quietly(rt: HostRuntime) {
             input: Direct {
                 input: Chunks::of(b"frame 00\n", 7),
             },
-            out: Failing { why },
+            out: lines_alone(Failing { why }),
             typed: false,
             shown: false,
         };

@@ -1,6 +1,6 @@
 //! Files in memory, and runs with them.
 
-use apd_driver::{Form, Manner};
+use apd_driver::{Destination, Form, Manner, Recorder};
 use apd_files::{FileFault, Files};
 use apd_run::{Limits, OpenGate, RunWords, Supplies, Watcher, run};
 use std::alloc::Global;
@@ -82,6 +82,15 @@ pub fn words(workers: u8) -> RunWords<'static> {
         manner: MANNER,
         verbose: false,
         prompts: false,
+        capture: "capture",
+    }
+}
+
+/// Lines that go to a writer, without a capture.
+pub fn lines_alone<L: Drop>(lines: L) -> Destination<L, Option<Recorder<Vec<u8>>>> {
+    Destination {
+        lines,
+        capture: None,
     }
 }
 
@@ -104,8 +113,13 @@ fn run_of<R: Threads + Wait + Sync, G: Watcher + Copy + Send>(
         gate,
     };
     let mut err = Vec::new(alloc);
-    let (out, status) = run(rt, alloc, words, supplies, Vec::new(alloc), &mut err);
-    Outcome { out, err, status }
+    let page = lines_alone(Vec::new(alloc));
+    let (page, status) = run(rt, alloc, words, supplies, page, &mut err);
+    Outcome {
+        out: page.lines,
+        err,
+        status,
+    }
 }
 
 /// Runs the file `script` with the configuration `config` by `workers` workers. The watcher is told of each event.

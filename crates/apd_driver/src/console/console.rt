@@ -5,6 +5,7 @@ ghost use Rattle.std.specs.Io.KnownBytes.{Keeps};
 ghost use Rattle.apd_driver.specs.declared.manner.Manner.{Manner};
 
 use crate::Report;
+use crate::capturing::Unrecorded;
 use crate::manner::Manner;
 use apd_script::Numbered;
 use std::io;
@@ -30,4 +31,12 @@ pub trait Console: Write {
     /// Tells what became of consecutive commands, for which the operator made these reports, in order.
     fn tell(&mut self, commands: &[Numbered<'_>], reports: &[Report])
         ensures output { Self.contents self.new ≡ Self.contents self.old };
+
+    /// Adds consecutive commands, and the reports that are printed of them, in order, to the run's capture, if it keeps
+    /// one.
+    fn record(&mut self, _commands: &[Numbered<'_>], _reports: &[Report]) -> Result<(), Unrecorded>
+        ensures output { Self.contents self.new ≡ Self.contents self.old }
+    {
+        Ok(())
+    }
 }

@@ -3,6 +3,7 @@
 ghost use Rattle.std.specs.Prelude.{◌≡◌};
 
 use crate::Report;
+use crate::capturing::{Recording, Unrecorded};
 use crate::console::console::Console;
 use crate::console::notes::Notes;
 use crate::manner::Manner;
@@ -71,7 +72,7 @@ impl<'a, O: Write + Drop, E: Write> Write for Terminal<'a, O, E> {
     }
 }
 
-impl<'a, O: Write + Drop, E: Write> Console for Terminal<'a, O, E> {
+impl<'a, O: Recording + Drop, E: Write> Console for Terminal<'a, O, E> {
     ghost manner = { λ t. t.manner };
 
     ghost is_flushed = { λ t. t.is_flushed };
@@ -96,6 +97,16 @@ impl<'a, O: Write + Drop, E: Write> Console for Terminal<'a, O, E> {
 
     fn tell(&mut self, commands: &[Numbered<'_>], reports: &[Report]) {
         self.notes.tell(&mut *self.err, commands, reports);
+    }
+
+    fn record(&mut self, commands: &[Numbered<'_>], reports: &[Report]) -> Result<(), Unrecorded> {
+        match self.out.record(commands, reports) {
+            Ok(()) => return Ok(()),
+            Err(why) => {
+                self.reader_left = why == Unrecorded::Unwritten(ErrorKind::BrokenPipe);
+                return Err(why);
+            }
+        }
     }
 }
 

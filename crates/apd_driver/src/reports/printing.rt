@@ -6,6 +6,7 @@ ghost use Rattle.apd_files.specs.Beginning.{AppendsBeginning};
 ghost use Rattle.apd_driver.specs.Lines.{report_text, reports_text, totals_text};
 ghost use Rattle.apd_driver.specs.Moving.{MovesOn};
 
+use crate::capturing::Unrecorded;
 use crate::reports::lines::{append_report, totals_line};
 use crate::reports::report::{Form, Report};
 use ap_books::Totals;
@@ -32,6 +33,15 @@ impl From<AllocError> for PrintFault {
 
     fn from(_error: AllocError) -> PrintFault {
         PrintFault::NoMemory
+    }
+}
+
+impl From<Unrecorded> for PrintFault {
+    fn from(error: Unrecorded) -> PrintFault {
+        match error {
+            Unrecorded::Unwritten(_) => PrintFault::Unwritten,
+            Unrecorded::NoMemory => PrintFault::NoMemory,
+        }
     }
 }
 

@@ -18,6 +18,8 @@ fn reason(left_out: LeftOut) -> &'static str
         LeftOut::Radiotap => "its radiotap header is damaged",
         LeftOut::CheckSequence => "its frame check sequence is cut",
         LeftOut::WrongCheckSequence => "its frame check sequence is wrong",
+        LeftOut::LinkType(_) =>
+            "its link type is neither 105 (802.11) nor 127 (802.11 with radiotap)",
     }
 }
 

@@ -2,7 +2,7 @@
 
 ghost use Rattle.std.specs.Prelude.{◌≡◌, ◌++◌, IfOk, slice_index};
 ghost use Rattle.std.specs.String.{string_bytes};
-ghost use Rattle.apd_policies.specs.Overlays.{level_of, fill, overlay_of, fill_of, note_of};
+ghost use Rattle.apd_policies.specs.Overlays.{level_of, fill, left, found, overlay_of, fill_of, note_of};
 
 use std::alloc::AllocError;
 use std::fmt::Write;
@@ -14,9 +14,16 @@ pub enum Overlay<'a> {
     Plain,
     /// How many steps were made at each slot, and the most at any. A block is the darker the more were made at its
     /// first slot; one with none is white.
-    Steps { counts: &'a [u64], most: u64 },
-    /// How many states the verifier examined at each slot. A block with none is grey.
-    States { visits: &'a [u32] },
+    Steps {
+        counts: &'a [u64],
+        most: u64,
+    },
+    /// How many states the verifier examined at each slot, and the budget left there, 0 if it found none. A block
+    /// without a state is grey.
+    States {
+        visits: &'a [u32],
+        budgets: &'a [u32],
+    },
 }
 
 /// A level of darkness, 1 to 5; or 0 for a block at which no step was made.
@@ -74,7 +81,7 @@ pub(crate) fn append_fill(
     match overlay {
         Overlay::Plain => Ok(()),
         Overlay::Steps { counts, most } => append_level(text, level(steps_at(counts, slot), most)),
-        Overlay::States { visits } => {
+        Overlay::States { visits, .. } => {
             if states_at(visits, slot) == 0 {
                 text.push_str("style=filled, fillcolor=\"lightgrey\", ")?;
             }
@@ -83,7 +90,28 @@ pub(crate) fn append_fill(
     }
 }
 
-/// Appends the first line of the block that begins at a slot.
+/// Appends the line of a budget, unless it is 0.
+fn append_left(text: &mut String, budget: u32) -> Result<(), AllocError>
+    ensures ok { IfOk result
+        (λ _. string_bytes text.new ≡ string_bytes text.old ++ left budget) }
+{
+    if budget == 0 {
+        return Ok(());
+    }
+    write!(text, "budget left {budget}\\l")?;
+    Ok(())
+}
+
+/// Appends the lines of what the verifier found at a slot.
+fn append_found(text: &mut String, states: u32, budget: u32) -> Result<(), AllocError>
+    ensures ok { IfOk result
+        (λ _. string_bytes text.new ≡ string_bytes text.old ++ found states budget) }
+{
+    write!(text, "states: {states}\\l")?;
+    append_left(text, budget)
+}
+
+/// Appends the first lines of the block that begins at a slot.
 pub(crate) fn append_note(
     text: &mut String,
     overlay: Overlay<'_>,
@@ -99,10 +127,8 @@ pub(crate) fn append_note(
             write!(text, "runs: {count}\\l")?;
             Ok(())
         }
-        Overlay::States { visits } => {
-            let states = states_at(visits, slot);
-            write!(text, "states: {states}\\l")?;
-            Ok(())
+        Overlay::States { visits, budgets } => {
+            append_found(text, states_at(visits, slot), states_at(budgets, slot))
         }
     }
 }

@@ -1,17 +1,17 @@
 //! The commands `apd run` and `apd live`.
 
-ghost use Rattle.std.specs.Prelude.{◌≤◌};
+ghost use Rattle.std.specs.Prelude.{◌≡◌, ◌≤◌, IfErr};
 ghost use Rattle.apd_driver.specs.Counts.{none};
-ghost use Rattle.apd_driver.specs.Shows.{Runs};
+ghost use Rattle.apd_driver.specs.Shows.{IsBroken, Runs};
 
 use crate::access::{NewShards, Opening, Supplies, run_live};
 use crate::progress::Watcher;
 use crate::runner::fault::{
-    RunFault, complain, of_script, say_if_group, say_why, say_why_live, unreadable,
+    RunFault, complain, of_script, say_if_group, say_why, say_why_live, uncaptured, unreadable,
 };
 use crate::runner::setup::{configuration, read, settings};
 use apd_config::Configuration;
-use apd_driver::{Console, Input, Lines, Manner, Notes, Script, Source, Terminal};
+use apd_driver::{Console, Input, Lines, Manner, Notes, Recording, Script, Source, Terminal};
 use apd_files::{FileKind, Files};
 use apd_script::{Numbered, read_script};
 use std::alloc::Global;
@@ -32,6 +32,8 @@ pub struct RunWords<'a> {
     pub verbose: bool,
     /// Whether a prompt on standard error asks for lines.
     pub prompts: bool,
+    /// The path of the capture, if the run keeps one.
+    pub capture: &'a str,
 }
 
 /// Where the lines of `apd live` come from, with the time that passes, and where its answers go.
@@ -108,6 +110,22 @@ where
     run_live::<Brand, F, G, R, L, P>(rt, alloc, opening, supplies, lines, writer)
 }
 
+/// Makes the capture of a run, if it keeps one. Err: it can't be written, which `err` is told, with the exit status.
+fn begun<P: Recording, E: Write>(
+    alloc: Global,
+    path: &str,
+    out: &mut P,
+    err: &mut E,
+) -> Result<(), u8>
+    ensures output { P.contents out.new ≡ P.contents out.old }
+    ensures broken { IfErr result IsBroken }
+{
+    match out.begin() {
+        Ok(()) => return Ok(()),
+        Err(why) => return Err(complain(alloc, &uncaptured(alloc, path, why), err)),
+    }
+}
+
 /// Runs lines on a new access point. Messages on `err` say what a hook keeps after a refused load.
 fn run_told<R, F, G, L, P, E>(
     rt: &R,
@@ -123,7 +141,7 @@ where
     F: Files,
     G: Watcher + Copy + Send,
     L: Lines + Drop,
-    P: Write + Drop,
+    P: Recording + Drop,
     E: Write,
     ensures runs { Runs words.entry.manner
         (P.contents out) (P.contents result.out) none result.status }
@@ -163,10 +181,10 @@ where
 }
 
 /// Runs a script, and returns `out` and the exit status: 3 if a line says `memory`, or an allocation failed for the run
-/// itself; 2 for a fault of a file, the configuration, the script or a write; otherwise 1 if the run is strict and a
-/// line was refused, which ends the run after that interval; otherwise 0. If the run breaks off, the contract doesn't
-/// say whether the status is 2 or 3. A faulty script is refused before any line runs. Messages on `err` say what a
-/// status of 1, 2 or 3 means, unless a write failed since nobody reads any more, and what a hook keeps after a refused
+/// itself; 2 for a fault of a file, the configuration, the script, the capture or a write; otherwise 1 if the run is strict
+/// and a line was refused, which ends the run after that interval; otherwise 0. If the run breaks off, the contract
+/// doesn't say whether the status is 2 or 3. A faulty script is refused before any line runs. Messages on `err` say what
+/// a status of 1, 2 or 3 means, unless a write failed since nobody reads any more, and what a hook keeps after a refused
 /// load.
 pub fn run<R, F, G, P, E>(
     rt: &R,
@@ -180,10 +198,11 @@ where
     R: Threads + Wait + Sync,
     F: Files,
     G: Watcher + Copy + Send,
-    P: Write + Drop,
+    P: Recording + Drop,
     E: Write,
     ensures runs { Runs words.entry.manner (P.contents out) (P.contents result.0) none result.1 }
 {
+    let mut out = out;
     let Supplies {
         files,
         limits,
@@ -207,6 +226,9 @@ where
         }
     };
     let commands = commands.as_slice();
+    if let Err(status) = begun(alloc, words.capture, &mut out, err) {
+        return (out, status);
+    }
     gate.start(last_line(commands));
     let lines = Script { commands };
     let task = Task {
@@ -234,7 +256,7 @@ where
 /// holds whole lines, they are done, and their answers written and flushed, before more is read. Before them a tick with
 /// the number 0 lets the time pass that the input says has passed, if that is a unit or more; the same while no line
 /// comes. The run ends with the input, or before a line `quit`. The status is 3 if a line says `memory`, or an allocation
-/// failed for the run itself; 2 for a fault of the configuration, of a read or of a write; otherwise 1 if a line was
+/// failed for the run itself; 2 for a fault of the configuration, the capture, a read or a write; otherwise 1 if a line was
 /// malformed, or the run is strict and a line was refused; otherwise 0. A strict run ends after the interval of such a
 /// line. If the run breaks off, the contract doesn't say whether the status is 2 or 3. Messages on `err` are those of
 /// `run`.
@@ -251,12 +273,12 @@ where
     F: Files,
     G: Watcher + Copy + Send,
     S: Source + Drop,
-    P: Write + Drop,
+    P: Recording + Drop,
     E: Write,
     ensures runs { Runs words.entry.manner
         (P.contents streams.out) (P.contents result.0) none result.1 }
 {
-    let Streams { input, out, .. } = streams;
+    let Streams { input, mut out, .. } = streams;
     let Supplies {
         files,
         limits,
@@ -273,6 +295,10 @@ where
         input.end();
         return (out, complain(alloc, &RunFault::NoMemory, err));
     };
+    if let Err(status) = begun(alloc, words.capture, &mut out, err) {
+        input.end();
+        return (out, status);
+    }
     let lines = Input::new(alloc, input, shapes);
     let task = Task {
         configuration,

@@ -6,11 +6,12 @@ ghost use Rattle.apd_run.specs.declared.runner.fault.RunFault.TheVariants.{NoMem
 ghost use Rattle.apd_run.specs.Statuses.{fault_status};
 
 use apd_config::{ConfigFault, Configuration, fault_text};
+use apd_driver::Unrecorded;
 use apd_files::{FileFault, shown, write_whole};
 use apd_script::{ScriptFault, line_fault};
 use bpf_regions::Shapes;
 use std::alloc::{AllocError, Global};
-use std::io::Write;
+use std::io::{ErrorKind, Write};
 use thiserror::Error;
 
 /// Why no script runs. Its text goes to standard error.
@@ -30,6 +31,12 @@ pub(crate) enum RunFault {
     Script {
         path: String,
         fault: ScriptFault,
+        why: String,
+    },
+    /// A capture isn't written, for this reason.
+    #[error("apd: cannot write {path}: {why}")]
+    Capture {
+        path: String,
         why: String,
     },
     #[error("apd: out of memory")]
@@ -54,6 +61,26 @@ pub(crate) fn unreadable(alloc: Global, path: &str, why: FileFault) -> RunFault
     match why {
         FileFault::NoMemory => RunFault::NoMemory,
         why => RunFault::Unreadable { path, why },
+    }
+}
+
+/// The fault of a capture that isn't written.
+pub(crate) fn uncaptured(alloc: Global, path: &str, why: Unrecorded) -> RunFault {
+    let Unrecorded::Unwritten(kind) = why else {
+        return RunFault::NoMemory;
+    };
+    let Ok(path) = shown(alloc, path) else {
+        return RunFault::NoMemory;
+    };
+    let told = match kind {
+        ErrorKind::AlreadyExists => format!(in alloc; "it exists already; `--force` replaces it"),
+        ErrorKind::NotFound => format!(in alloc; "there is no such folder"),
+        ErrorKind::PermissionDenied => format!(in alloc; "it is not allowed"),
+        kind => format!(in alloc; "{kind}"),
+    };
+    match told {
+        Ok(why) => RunFault::Capture { path, why },
+        Err(AllocError) => RunFault::NoMemory,
     }
 }
 

@@ -7,15 +7,15 @@ use Rattle.apd_entry.proofs.entry.perform.Goals as goal
 pub returns-in-Ok-Run : goal.returns-in-Ok-Run
 returns-in-Ok-Run g c = record {
   fulfils = λ w spelled.
-      let P : Wanted → Type 0 = λ v. Fulfils c.args.streams.shown (g.F.Files.held c.args.files.now) v (g.O.Write.contents c.args.streams.out) (g.O.Write.contents c.run_watched.result.0) c.run_watched.result.1 in
-      subst P ((rw c.in-Ok-Run.field-0-is at c.in-Ok-Run.ensures.spelled) w spelled) c.run_watched.ensures.runs;
+      let P : Wanted → Type 0 = λ v. Fulfils c.args.streams.shown (g.F.Files.held c.args.files.now) v (g.O.Write.contents c.args.streams.out) (g.O.Write.contents c.run_script.result.0) c.run_script.result.1 in
+      subst P ((rw c.in-Ok-Run.field-0-is at c.in-Ok-Run.ensures.spelled) w spelled) c.run_script.ensures.runs;
 }
 
 pub returns-in-Ok-Live : goal.returns-in-Ok-Live
 returns-in-Ok-Live g c = record {
   fulfils = λ w spelled.
-      let P : Wanted → Type 0 = λ v. Fulfils c.args.streams.shown (g.F.Files.held c.args.files.now) v (g.O.Write.contents c.args.streams.out) (g.O.Write.contents c.run_live.result.0) c.run_live.result.1 in
-      subst P ((rw c.in-Ok-Live.field-0-is at c.in-Ok-Live.ensures.spelled) w spelled) c.run_live.ensures.runs;
+      let P : Wanted → Type 0 = λ v. Fulfils c.args.streams.shown (g.F.Files.held c.args.files.now) v (g.O.Write.contents c.args.streams.out) (g.O.Write.contents c.run_input.result.0) c.run_input.result.1 in
+      subst P ((rw c.in-Ok-Live.field-0-is at c.in-Ok-Live.ensures.spelled) w spelled) c.run_input.ensures.runs;
 }
 
 pub returns-in-Ok-Answer : goal.returns-in-Ok-Answer

@@ -1,4 +1,4 @@
-use Rattle.std.proofs.Common.{◌≡◌, ◌<◌, ℕ, get_or}
+use Rattle.std.proofs.Common.{◌≡◌, ◌≤◌, ◌<◌, ℕ, get_or}
 use Rattle.bpf_cert.specs.declared.claim.Claim.{Claim}
 use Rattle.bpf_cert.specs.Covered.{LeadsWithin}
 use Rattle.bpf_cert.proofs.coverage.are_kept.Given as goal
@@ -7,4 +7,5 @@ abbrev pub invariant-loop-place : goal.invariant-loop-place
 invariant-loop-place g l = record {
   kept : (k : ℕ) (d : Claim) → k < l.place → LeadsWithin l.program l.claims (get_or l.claims k d).budget (get_or l.claims k d).state;
   limit : g.M.Meter.limit l.work ≡ g.M.Meter.limit l.initial.work;
+  least : g.M.Meter.compared l.initial.work ≤ g.M.Meter.compared l.work;
 }

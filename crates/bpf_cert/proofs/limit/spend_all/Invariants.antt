@@ -2,7 +2,10 @@ use Rattle.std.proofs.Common.{◌≡◌}
 use Rattle.bpf_cert.proofs.limit.spend_all.Given as goal
 
 abbrev pub invariant-loop-left : goal.invariant-loop-left
-invariant-loop-left g l = g.M.Meter.limit l.work ≡ g.M.Meter.limit l.initial.work
+invariant-loop-left g l = record {
+  limit : g.M.Meter.limit l.work ≡ g.M.Meter.limit l.initial.work;
+  compared : g.M.Meter.compared l.work ≡ g.M.Meter.compared l.initial.work;
+}
 
 abbrev pub decreases-loop-left : goal.decreases-loop-left
 decreases-loop-left g l = l.left

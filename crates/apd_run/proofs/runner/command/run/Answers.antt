@@ -10,3 +10,7 @@ returns-in-Err-read g c = record { runs = runs_nothing _ _ _ _ c.complain-in-Err
 pub returns-in-Err-read_script : goal.returns-in-Err-read_script
 returns-in-Err-read_script g c =
     record { runs = runs_nothing _ _ _ _ c.complain-in-Err-read_script.ensures.broken }
+
+pub returns-in-Err-begun : goal.returns-in-Err-begun
+returns-in-Err-begun g c =
+    record { runs = rw c.begun.ensures.output (runs_nothing _ _ _ _ c.in-Err-begun.ensures.broken) }

@@ -14,6 +14,7 @@ use Rattle.bpf_verifier.proofs.Tables.{kept}
 use Rattle.bpf_verifier.proofs.Explored as explored
 use Rattle.bpf_verifier.proofs.Tracing as tracing
 use Rattle.bpf_verifier.proofs.Walking as walking
+use Rattle.bpf_verifier.proofs.Finishing as finishing
 use Rattle.bpf_verifier.proofs.exploration.Exploration.unwind.Goals as goal
 
 pub overflow_add-done : goal.overflow_add-done
@@ -120,6 +121,9 @@ loop-frame-preserved c =
       visits = c.in_ok-finish-in-None.ensures.visits ∙ h.visits;
       traced = rw (c.in_ok-finish-in-None.ensures.path, c.in_ok-finish-in-None.ensures.after)
           (tracing.goes_back c.args.program.now c.loop-frame.self.path c.pop.new.self f c.loop-frame.self.after h.traced.0 taken.last h.traced.1);
+      finished = rw (c.in_ok-finish-in-None.ensures.path, c.in_ok-finish-in-None.ensures.after)
+          (finishing.goes_back c.keeping_law.ensures.left_out c.loop-frame.self.finished c.finish.new.self.finished c.loop-frame.self.path c.pop.new.self c.in-Some.frame c.loop-frame.self.after c.loop-frame.done c.max-best.result taken
+          c.in-None.is c.max-best.ensures c.in_ok-finish-in-None.ensures.finished ∙ h.finished);
       counted = rw (c.in_ok-finish-in-None.ensures.path, c.in_ok-finish-in-None.ensures.after, c.in_ok-finish-in-None.ensures.visits) counted;
       paid = rw (c.in_ok-finish-in-None.ensures.path, c.in_ok-finish-in-None.ensures.after, c.in_ok-finish-in-None.ensures.visits) paid;
       begun = λ slots begun. rw c.in_ok-finish-in-None.ensures.path
@@ -228,3 +232,16 @@ returns-clause-remade c =
     let empty : c.pop.new.self ≡ [] = search rules in
     let none : length c.pop.new.self ≡ 0 = ap length empty in
     omega (arith, few, none, c.pop.ensures.greatest, h.remade, h.visits, c.requires.room)
+
+pub returns-in-Some-pending-clause-finished : goal.returns-in-Some-pending-clause-finished
+returns-in-Some-pending-clause-finished c =
+    let taken : IsTaken c.loop-frame.self.path c.pop.new.self c.in-Some.frame = rw c.in-Some.is at c.in_ok-frame.ensures.some in
+    let f : Frame = with_state c.in-Some.frame taken.state in
+    let none = finishing.finished_pending c.loop-frame.self.path c.pop.new.self f c.in-Some-pending.next c.loop-frame.self.after c.loop-frame.done taken.last c.in-Some-pending.is in
+    rw c.in_ok-push-in-Some-pending.ensures.finished
+    (finishing.nothing_more c.loop-frame.self.finished c.args.self.now.finished _ _ none c.loop-frame.invariant.finished)
+
+pub returns-clause-finished : goal.returns-clause-finished
+returns-clause-finished c =
+    let none = finishing.finished_none c.loop-frame.self.path c.loop-frame.self.after c.loop-frame.done (search rules) in
+    finishing.nothing_more c.loop-frame.self.finished c.args.self.now.finished _ _ none c.loop-frame.invariant.finished

@@ -3,7 +3,9 @@ use Rattle.bpf_insn.specs.declared.insn.Insn.{Insn}
 use Rattle.bpf_decode.specs.Program.{Code}
 use Rattle.bpf_model.specs.State.{Setting}
 use Rattle.bpf_absstate.specs.View.{View}
+use Rattle.bpf_prune.specs.Keeping.{with_entries}
 use Rattle.bpf_verifier.specs.Counting.{weight}
+use Rattle.bpf_verifier.specs.Finishing.{finished_of}
 use Rattle.bpf_verifier.specs.Found.{IsCountedSoFar, IsBegunSoFar, IsTracedSoFar, IsSafeSoFar, IsWalkedSoFar, IsClearSoFar}
 use Rattle.bpf_verifier.specs.Safety.{AllSafe}
 use Rattle.bpf_plain.specs.Paths.{Reaches}
@@ -13,6 +15,7 @@ abbrev pub invariant-loop-frame : goal.invariant-loop-frame
 invariant-loop-frame l = record {
   visits : l.self.visits ≡ l.initial.self.visits;
   traced : (a : View) × IsTracedSoFar l.program a l.self;
+  finished : with_entries l.self.finished (finished_of l.self.path l.self.after l.done) ≡ with_entries l.initial.self.finished (finished_of l.initial.self.path l.initial.self.after l.initial.done);
   counted : IsCountedSoFar l.self;
   paid : l.done + weight l.self.path l.self.after ≤ l.self.visits;
   begun : (slots : List (Option Insn)) → IsBegunSoFar slots l.initial.self → IsBegunSoFar slots l.self;

@@ -14,7 +14,7 @@ use Rattle.bpf_verifier.proofs.fold.Fold.unfold.Goals as goal
 pub reopened-requires : goal.reopened-requires
 reopened-requires c =
     let os : List Outline = c.self.inside.outlines.items in
-    let folded : IsFolded c.self.inside.first os c.args.self = subst (IsFolded c.self.inside.first os) c.self.view_is c.self.invariant in
+    let folded : IsFolded c.self.inside.first os c.args.self = subst (IsFolded c.self.inside.first os) c.self.view_is c.self.invariant.0 in
     let at : slice_get os 0 ≡ Some c.index.result.now = slice_get_read os (length os) 0 c.index.result.now refl (some_outline c.args.self c.self.inside.first os folded) c.index.ensures in
     let r = first_of c.args.program.now c.args.self c.self.inside.first os c.index.result.now c.requires.traced.0 c.requires.traced.1 folded at c.requires.traced.2 in
     record { opens = (r.frame, r.child, r.opens, r.same) }
@@ -23,7 +23,7 @@ pub loop-k-init : goal.loop-k-init
 unfolding weight
 loop-k-init c =
     let os : List Outline = c.self.inside.outlines.items in
-    let folded : IsFolded c.self.inside.first os c.args.self = subst (IsFolded c.self.inside.first os) c.self.view_is c.self.invariant in
+    let folded : IsFolded c.self.inside.first os c.args.self = subst (IsFolded c.self.inside.first os) c.self.view_is c.self.invariant.0 in
     let at : slice_get os 0 ≡ Some c.index.result.now = slice_get_read os (length os) 0 c.index.result.now refl (some_outline c.args.self c.self.inside.first os folded) c.index.ensures in
     let r = first_of c.args.program.now c.args.self c.self.inside.first os c.index.result.now c.requires.traced.0 c.requires.traced.1 folded at c.requires.traced.2 in
     let is = c.in_ok-frame.ensures.is r.frame r.child r.opens r.same in
@@ -40,7 +40,7 @@ loop-k-init c =
 pub led-requires : goal.led-requires
 led-requires c =
     let os : List Outline = c.self.inside.outlines.items in
-    let folded : IsFolded c.self.inside.first os c.args.self = subst (IsFolded c.self.inside.first os) c.self.view_is c.self.invariant in
+    let folded : IsFolded c.self.inside.first os c.args.self = subst (IsFolded c.self.inside.first os) c.self.view_is c.self.invariant.0 in
     let o : Outline = c.index-outline.result.now in
     let at : slice_get os c.loop-k.k ≡ Some o = slice_get_read os c.len-k-end.result c.loop-k.k o (search rules) c.loop-k-test.true c.index-outline.ensures in
     let t = c.loop-k.invariant.rest in
@@ -50,7 +50,7 @@ led-requires c =
 pub reopened-requires-in-loop-k : goal.reopened-requires-in-loop-k
 reopened-requires-in-loop-k c =
     let os : List Outline = c.self.inside.outlines.items in
-    let folded : IsFolded c.self.inside.first os c.args.self = subst (IsFolded c.self.inside.first os) c.self.view_is c.self.invariant in
+    let folded : IsFolded c.self.inside.first os c.args.self = subst (IsFolded c.self.inside.first os) c.self.view_is c.self.invariant.0 in
     let o : Outline = c.index-outline.result.now in
     let at : slice_get os c.loop-k.k ≡ Some o = slice_get_read os c.len-k-end.result c.loop-k.k o (search rules) c.loop-k-test.true c.index-outline.ensures in
     let t = c.loop-k.invariant.rest in
@@ -61,7 +61,7 @@ reopened-requires-in-loop-k c =
 pub loop-k-preserved : goal.loop-k-preserved
 loop-k-preserved c =
     let os : List Outline = c.self.inside.outlines.items in
-    let folded : IsFolded c.self.inside.first os c.args.self = subst (IsFolded c.self.inside.first os) c.self.view_is c.self.invariant in
+    let folded : IsFolded c.self.inside.first os c.args.self = subst (IsFolded c.self.inside.first os) c.self.view_is c.self.invariant.0 in
     let o : Outline = c.index-outline.result.now in
     let at : slice_get os c.loop-k.k ≡ Some o = slice_get_read os c.len-k-end.result c.loop-k.k o (search rules) c.loop-k-test.true c.index-outline.ensures in
     let t = c.loop-k.invariant.rest in
@@ -84,7 +84,7 @@ loop-k-preserved c =
 pub returns-in_err-state-clause-greatest : goal.returns-in_err-state-clause-greatest
 returns-in_err-state-clause-greatest c =
     let os : List Outline = c.self.inside.outlines.items in
-    let folded : IsFolded c.self.inside.first os c.args.self = subst (IsFolded c.self.inside.first os) c.self.view_is c.self.invariant in
+    let folded : IsFolded c.self.inside.first os c.args.self = subst (IsFolded c.self.inside.first os) c.self.view_is c.self.invariant.0 in
     let o : Outline = c.index-outline.result.now in
     let at : slice_get os c.loop-k.k ≡ Some o = slice_get_read os c.len-k-end.result c.loop-k.k o (search rules) c.loop-k-test.true c.index-outline.ensures in
     let t = c.loop-k.invariant.rest in
@@ -96,7 +96,7 @@ returns-in_err-state-clause-greatest c =
 pub returns-in_err-frame-2-clause-greatest : goal.returns-in_err-frame-2-clause-greatest
 returns-in_err-frame-2-clause-greatest c =
     let os : List Outline = c.self.inside.outlines.items in
-    let folded : IsFolded c.self.inside.first os c.args.self = subst (IsFolded c.self.inside.first os) c.self.view_is c.self.invariant in
+    let folded : IsFolded c.self.inside.first os c.args.self = subst (IsFolded c.self.inside.first os) c.self.view_is c.self.invariant.0 in
     let o : Outline = c.index-outline.result.now in
     let at : slice_get os c.loop-k.k ≡ Some o = slice_get_read os c.len-k-end.result c.loop-k.k o (search rules) c.loop-k-test.true c.index-outline.ensures in
     let t = c.loop-k.invariant.rest in
@@ -108,7 +108,7 @@ returns-in_err-frame-2-clause-greatest c =
 pub returns-in_err-add-2-clause-greatest : goal.returns-in_err-add-2-clause-greatest
 returns-in_err-add-2-clause-greatest c =
     let os : List Outline = c.self.inside.outlines.items in
-    let folded : IsFolded c.self.inside.first os c.args.self = subst (IsFolded c.self.inside.first os) c.self.view_is c.self.invariant in
+    let folded : IsFolded c.self.inside.first os c.args.self = subst (IsFolded c.self.inside.first os) c.self.view_is c.self.invariant.0 in
     let o : Outline = c.index-outline.result.now in
     let at : slice_get os c.loop-k.k ≡ Some o = slice_get_read os c.len-k-end.result c.loop-k.k o (search rules) c.loop-k-test.true c.index-outline.ensures in
     let t = c.loop-k.invariant.rest in
@@ -125,7 +125,7 @@ returns-clause-greatest c =
 pub returns-clause-remade : goal.returns-clause-remade
 returns-clause-remade c =
     let os : List Outline = c.self.inside.outlines.items in
-    let folded : IsFolded c.self.inside.first os c.args.self = subst (IsFolded c.self.inside.first os) c.self.view_is c.self.invariant in
+    let folded : IsFolded c.self.inside.first os c.args.self = subst (IsFolded c.self.inside.first os) c.self.view_is c.self.invariant.0 in
     let size : length os ≡ length c.args.self = ap length folded.same ∙ length-map c.args.self outline_of in
     let past : length c.args.self ≤ c.loop-k.k = omega (arith, size, c.loop-k-test.false, c.len-k-end.ensures) in
     let all : states_from (take c.loop-k.k c.args.self) ≡ states_from c.args.self = ap states_from (take_all c.loop-k.k c.args.self past) in
