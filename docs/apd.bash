@@ -6,7 +6,7 @@ _apd() {
     [ "$before" = = ] && before=${COMP_WORDS[COMP_CWORD - 2]}
     for ((at = 2; at < COMP_CWORD; at++)); do
         case ${COMP_WORDS[at]} in
-            --config | --states | --work | --output | --context | --against | --repeat | --workers | --events | --color | --bssid)
+            --config | --states | --work | --output | --context | --against | --repeat | --workers | --pcap | --events | --color | --bssid)
                 at=$((at + 1))
                 [ "${COMP_WORDS[at]}" = = ] && at=$((at + 1))
                 ;;
@@ -20,8 +20,8 @@ _apd() {
         disasm) options='--config --slots --raw --dot --output --explain --help' kinds=('/hex') ;;
         trace) options='--config --states --context --from-frame --explain --work --help' kinds=('assoc addba data/' '/hex' '/') ;;
         eval) options='--config --against --states --json --output --work --profile --dot --repeat --help' kinds=('assoc addba data/' '/hex' '/pcap pcapng') ;;
-        run) options='--workers --states --quiet --strict --verbose --work --help' kinds=('/toml' '/script') ;;
-        live) options='--workers --states --strict --verbose --clock --events --color --work --help' kinds=('/toml') ;;
+        run) options='--workers --states --quiet --strict --verbose --work --pcap --force --help' kinds=('/toml' '/script') ;;
+        live) options='--workers --states --strict --verbose --clock --events --color --work --pcap --force --help' kinds=('/toml') ;;
         cert) options='--config --states --output --work --help' kinds=('assoc addba data/' '/hex') ;;
         check) options='--config --work --help' kinds=('assoc addba data/' '/hex' '/cert') ;;
         explain) options='--help' kinds=('NUMBERS/') ;;
@@ -39,6 +39,7 @@ _apd() {
         --against) kind='/' ;;
         --repeat) kind='/' ;;
         --workers) kind='1 2 3 4 5 6 7 8/' ;;
+        --pcap) kind='/' ;;
         --events) kind='/' ;;
         --color) kind='/' ;;
         --bssid) kind='/' ;;
