@@ -54,7 +54,7 @@ const SCRIPT: &str = "tick 1000\n\
     frame 0801000002000000000102000000000a0200000000ff4000aaaa03000000080045\n";
 
 /// Lets data pass with mark 5.
-const MARK: &str = "b700000005010000 9500000000000000\n";
+const MARK: &str = "b700000002050000 9500000000000000\n";
 
 /// Runs the script. Its capture goes to a file that has room for so many bytes, unless it isn't made.
 fn recorded<R: Threads + Wait + Sync>(
@@ -149,7 +149,7 @@ fn a_capture_that_is_not_written_ends_the_run(rt: HostRuntime) {
     same(
         &rt,
         outcome.err.as_slice(),
-        b"apd: cannot write: storage full\n".as_slice(),
+        b"apd: cannot write capture: no storage space\n".as_slice(),
         "what is told",
     );
     same(&rt, file.len(), 100, "the capture");
