@@ -13,6 +13,7 @@ use ap_books::Ledgers;
 use ap_live::{AgreementInForce, Known, KnownStation};
 use ap_locked::Journals;
 use apd_driver::{AgreementRow, StationRow};
+use apd_files::Files;
 use std::alloc::{AllocError, Global};
 use std::sync::Wait;
 
@@ -67,7 +68,7 @@ fn agreement_rows(
         .collect(alloc)
 }
 
-impl<'a, B: Ledgers + Journals, L: Publications, F> LiveOperator<'a, B, L, F> {
+impl<'a, B: Ledgers + Journals, L: Publications, F: Files> LiveOperator<'a, B, L, F> {
     /// The known stations of all shards, by address.
     pub(crate) fn known_stations<R: Wait>(
         &mut self,

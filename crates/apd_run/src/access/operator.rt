@@ -1,15 +1,17 @@
 //! The operator of a run.
 
-ghost use Rattle.std.specs.Prelude.{◌≡◌, ◌<◌, map, IfOk, IfSome};
+ghost use Rattle.std.specs.Prelude.{◌≡◌, ◌<◌, map, IfOk, IfSome, Some};
 ghost use Rattle.ap_books.specs.Counts.{none};
 ghost use Rattle.ap_books.specs.Reading.{Reads};
 ghost use Rattle.ap_live.specs.Counting.{counted_by, tally};
 ghost use Rattle.versions.specs.Sets.{set_of};
 ghost use Rattle.hook_judge.specs.Sums.{no_counts};
 ghost use Rattle.apd_run.specs.InForce.{budget_shown, budgets_of, row_shown, rows_of, with_counts};
-ghost use Rattle.apd_run.specs.Hands.{crew_of};
+ghost use Rattle.apd_run.specs.Hands.{crew_of, work_of};
+ghost use Rattle.apd_run.specs.Work.{Does};
+ghost use Rattle.apd_script.specs.Asked.{Adopt, Load, Unload};
 ghost use Rattle.apd_driver.specs.Tallies.{told_counts};
-ghost use Rattle.apd_driver.specs.Crews.{gains, with_one_more};
+ghost use Rattle.apd_driver.specs.Crews.{Works, gains, with_one_more};
 
 use crate::access::counting::counted_in;
 use crate::access::naming::Publications;
@@ -44,7 +46,7 @@ pub(crate) struct Sources<'a, F> {
 /// The operator of a run: its token, the parts of the ledgers and the pages that no worker has, what these parts have
 /// counted, what was counted of the programs in force, and their sources. Contracts see everything but the sources.
 #[derive(Drop)]
-pub struct LiveOperator<'a, B: Ledgers + Journals, L: Publications, F> {
+pub struct LiveOperator<'a, B: Ledgers + Journals, L: Publications, F: Files> {
     pub(crate) ap: &'a LiveAp<B>,
     pub(crate) token: Box<OperatorToken<B>>,
     pub(crate) hoard: Box<Portions<B>>,
@@ -58,7 +60,7 @@ pub struct LiveOperator<'a, B: Ledgers + Journals, L: Publications, F> {
     pub(crate) list: PhantomData<L>,
 }
 
-impl<'a, B: Ledgers + Journals, L: Publications, F> Model for LiveOperator<'a, B, L, F> {
+impl<'a, B: Ledgers + Journals, L: Publications, F: Files> Model for LiveOperator<'a, B, L, F> {
     ghost use Rattle.apd_run.specs.Hands.{RunOperator, IsRunOperator};
 
     ghost Value = { RunOperator };
@@ -73,6 +75,8 @@ impl<'a, B: Ledgers + Journals, L: Publications, F> Model for LiveOperator<'a, B
       workers = o.workers;
       loads = o.loads.now;
       programs = o.programs;
+      files = F.held o.sources.files.now;
+      limits = o.sources.limits;
     } };
 
     ghost invariant = { λ o. IsRunOperator B.shares L.list (record {
@@ -85,12 +89,16 @@ impl<'a, B: Ledgers + Journals, L: Publications, F> Model for LiveOperator<'a, B
       workers = o.workers;
       loads = o.loads.now;
       programs = o.programs;
+      files = F.held o.sources.files.now;
+      limits = o.sources.limits;
     }) };
 }
 
 impl<'a, B: Ledgers + Journals, L: Publications, F: Files> LiveOperator<'a, B, L, F> {
     fn load<R: Wait>(&mut self, rt: &R, hook: Hook, path: &str) -> Told
-        ensures same { crew_of self.new ≡ crew_of self.old }
+        ensures works { Works (crew_of self.old) (crew_of self.new) }
+        ensures does { Does (work_of self.old) (work_of self.new)
+            (Load hook path.now) (Some result) }
         ensures nothing { told_counts result ≡ none }
     {
         let limits = self.sources.limits;
@@ -101,7 +109,9 @@ impl<'a, B: Ledgers + Journals, L: Publications, F: Files> LiveOperator<'a, B, L
     }
 
     fn adopt<R: Wait>(&mut self, rt: &R, hook: Hook, path: &str, certificate: &str) -> Told
-        ensures same { crew_of self.new ≡ crew_of self.old }
+        ensures works { Works (crew_of self.old) (crew_of self.new) }
+        ensures does { Does (work_of self.old) (work_of self.new)
+            (Adopt hook path.now certificate.now) (Some result) }
         ensures nothing { told_counts result ≡ none }
     {
         let work = self.sources.limits.work;
@@ -116,7 +126,8 @@ impl<'a, B: Ledgers + Journals, L: Publications, F: Files> LiveOperator<'a, B, L
     }
 
     fn unload<R: Wait>(&mut self, rt: &R, hook: Hook) -> Option<Told>
-        ensures same { crew_of self.new ≡ crew_of self.old }
+        ensures works { Works (crew_of self.old) (crew_of self.new) }
+        ensures does { Does (work_of self.old) (work_of self.new) (Unload hook) result }
         ensures nothing { IfSome result (λ told. told_counts told ≡ none) }
     {
         match self.loads.unload(rt, hook) {
@@ -175,7 +186,7 @@ impl<'a, B: Ledgers + Journals, L: Publications, F: Files> LiveOperator<'a, B, L
     }
 }
 
-impl<'a, B: Ledgers + Journals, L: Publications, F> LiveOperator<'a, B, L, F> {
+impl<'a, B: Ledgers + Journals, L: Publications, F: Files> LiveOperator<'a, B, L, F> {
     /// Takes over a worker's counts, also those of the runs of its programs, gives it fresh parts of the ledgers, and
     /// returns what became of its events.
     fn exchange<G: Drop>(&mut self, worker: &mut LiveWorker<'a, B, L, G>) -> Vec<Tagged>
@@ -243,7 +254,9 @@ impl<'a, B: Ledgers + Journals, L: Publications, F> LiveOperator<'a, B, L, F> {
 }
 
 /// The part of an event that is still to be submitted.
-fn waiting_for(unserved: Unserved) -> Waiting {
+fn waiting_for(unserved: Unserved) -> Waiting
+    ensures is { result ≡ record { event = unserved.event; shard = unserved.shard } }
+{
     let Unserved { event, shard } = unserved;
     Waiting { event, shard }
 }
@@ -253,6 +266,9 @@ impl<'a, B: Ledgers + Journals, L: Publications, F: Files, G: Drop> Operating<
 > for LiveOperator<'a, B, L, F> {
     ghost use Rattle.ap_live.specs.Counting.{counted_by};
     ghost use Rattle.apd_run.specs.Hands.{crew_of};
+    ghost use Rattle.apd_run.specs.Work.{live};
+
+    ghost semantics = { live };
 
     ghost crew = { crew_of };
 

@@ -1,6 +1,6 @@
 //! Running lines on an access point made from settings.
 
-ghost use Rattle.std.specs.Prelude.{◌≡◌, ◌+◌, ◌<◌, ◌≤◌, [], vec_len, IfOk};
+ghost use Rattle.std.specs.Prelude.{◌≡◌, ◌+◌, ◌<◌, ◌≤◌, ℕ, List, [], Option, vec_len, IfOk};
 ghost use Rattle.std.specs.List.{All};
 ghost use Rattle.ap_books.specs.Counts.{none};
 ghost use Rattle.ap_books.specs.Holdings.{HasParts, sum_of};
@@ -10,7 +10,8 @@ ghost use Rattle.ap_shards.specs.Opening.{AreNamed};
 ghost use Rattle.ap_shards.specs.Pages.{HasPages};
 ghost use Rattle.apd_run.specs.Dealing.{AreHands, IsNewOperator, IsNewWorker};
 ghost use Rattle.apd_run.specs.Hands.{crew_of};
-ghost use Rattle.apd_driver.specs.Shows.{Runs};
+ghost use Rattle.apd_script.specs.Asked.{Asked};
+ghost use Rattle.apd_run.specs.NewRuns.{RunsNew};
 
 use crate::access::hands::{Hands, Kept, deal};
 use crate::access::naming::Publications;
@@ -58,7 +59,8 @@ struct Equipment<B: Ledgers + Journals> {
 
 /// The end of a run for which an allocation failed before it began.
 fn without_memory<P: Console>(writer: P) -> (P, u8)
-    ensures runs { Runs (P.manner writer) (P.contents writer) (P.contents result.0) none result.1 }
+    ensures runs { (script : Option (List (ℕ × Asked))) → RunsNew (P.manner writer) script
+        (P.contents writer) (P.contents result.0) result.1 }
 {
     (writer, NO_MEMORY)
 }
@@ -108,6 +110,7 @@ fn new_operator<'a, B, L, F>(
 where
     B: Ledgers + Journals,
     L: Publications,
+    F: Files,
     requires new { IsNewOperator ap.now kept.token.value }
     requires kept { HasParts parts kept.hoard.value }
     requires pages { HasPages parts kept.pages.value }
@@ -119,6 +122,7 @@ where
     requires no_loads { loads.old.loads ≡ [] }
     ensures workers { (crew_of result).workers ≡ workers }
     ensures counted { (crew_of result).counted ≡ sum_of kept.hoard.value }
+    ensures no_loads { (crew_of result).work.loads.loads ≡ [] }
 {
     let Kept {
         token,
@@ -165,7 +169,8 @@ where
     requires list { ap.now.list.list ≡ L.list }
     requires loads { equipment.loads.list ≡ L.list }
     requires no_loads { equipment.loads.loads ≡ [] }
-    ensures runs { Runs (P.manner writer) (P.contents writer) (P.contents result.0) none result.1 }
+    ensures runs { RunsNew (P.manner writer) (S.script lines)
+        (P.contents writer) (P.contents result.0) result.1 }
 {
     let Supplies {
         files,
@@ -219,7 +224,8 @@ where
     requires named { AreNamed B.name_of B.shares B.journal_of opening.new }
     requires config { opening.settings.link ≡ B.config }
     requires shares { B.shares ≡ parts_in_all }
-    ensures runs { Runs (P.manner writer) (P.contents writer) (P.contents result.0) none result.1 }
+    ensures runs { RunsNew (P.manner writer) (S.script lines)
+        (P.contents writer) (P.contents result.0) result.1 }
 {
     let Opening {
         settings,

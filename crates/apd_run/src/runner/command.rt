@@ -1,8 +1,8 @@
 //! The commands `apd run` and `apd live`.
 
 ghost use Rattle.std.specs.Prelude.{◌≡◌, ◌≤◌, IfErr};
-ghost use Rattle.apd_driver.specs.Counts.{none};
-ghost use Rattle.apd_driver.specs.Shows.{IsBroken, Runs};
+ghost use Rattle.apd_driver.specs.Shows.{IsBroken};
+ghost use Rattle.apd_run.specs.NewRuns.{RunsNew, RunsSome};
 
 use crate::access::{NewShards, Opening, Supplies, run_live};
 use crate::progress::Watcher;
@@ -93,7 +93,8 @@ where
     P: Console + Drop,
     requires some { 1 ≤ workers }
     requires few { workers ≤ 8 }
-    ensures runs { Runs (P.manner writer) (P.contents writer) (P.contents result.0) none result.1 }
+    ensures runs { RunsNew (P.manner writer) (L.script task.lines)
+        (P.contents writer) (P.contents result.0) result.1 }
 {
     let Task {
         configuration,
@@ -143,8 +144,8 @@ where
     L: Lines + Drop,
     P: Recording + Drop,
     E: Write,
-    ensures runs { Runs words.entry.manner
-        (P.contents out) (P.contents result.out) none result.status }
+    ensures runs { RunsNew words.entry.manner (L.script task.lines)
+        (P.contents out) (P.contents result.out) result.status }
 {
     let RunWords {
         script,
@@ -200,7 +201,7 @@ where
     G: Watcher + Copy + Send,
     P: Recording + Drop,
     E: Write,
-    ensures runs { Runs words.entry.manner (P.contents out) (P.contents result.0) none result.1 }
+    ensures runs { RunsSome words.entry.manner (P.contents out) (P.contents result.0) result.1 }
 {
     let mut out = out;
     let Supplies {
@@ -275,8 +276,8 @@ where
     S: Source + Drop,
     P: Recording + Drop,
     E: Write,
-    ensures runs { Runs words.entry.manner
-        (P.contents streams.out) (P.contents result.0) none result.1 }
+    ensures runs { RunsSome words.entry.manner
+        (P.contents streams.out) (P.contents result.0) result.1 }
 {
     let Streams { input, mut out, .. } = streams;
     let Supplies {
