@@ -1,5 +1,6 @@
 /* apd's verifier and machine on the workloads, called from C: reads lines NAME HEX STEPS, prints nanoseconds; with the
- * word "stations", what it costs to list 500 stations, and to compare two such lists. Best of 20 rounds.
+ * word "stations", what it costs to list 500 stations, and to compare two such lists; with the word "frames", what an
+ * access point without a program takes for a data frame of 100 bytes. Best of 20 rounds.
  */
 #include <stdio.h>
 #include <stdlib.h>
@@ -13,6 +14,8 @@
 static uint8_t frame[64];
 static char line[1 << 20];
 static uint8_t code[1 << 19];
+/* What is read of reports that calls return, so that they are made. */
+static volatile uint64_t seen;
 
 static double now(void)
 {
@@ -49,7 +52,7 @@ static void bench(const char *name, size_t bytes, double steps)
 {
     apd_handle program = APD_EMPTY, maps = APD_EMPTY;
     apd_given given = {0, 0, {0, 0, 0, 0, 0, 0, APD_DATA}};
-    double verified = 1e18, interpreted = 1e18;
+    double verified = 1e18, interpreted = 1e18, returned = 1e18;
     long runs = 5e6 / steps + 1;
     apd_report report = {0, 0, 0, 0, {0}};
 
@@ -72,9 +75,18 @@ static void bench(const char *name, size_t bytes, double steps)
         double end = now();
         if (end - start < interpreted)
             interpreted = end - start;
+        start = now();
+        for (long i = 0; i < runs; i++) {
+            apd_report whole = apd_run(&program, &maps, frame, sizeof frame, &given);
+            seen = whole.r0 + whole.count;
+        }
+        end = now();
+        if (end - start < returned)
+            returned = end - start;
     }
-    printf("%s: verify %.0f ns; interpreter %.2f ns a run, %.3f ns an instruction; R0 %llu, %u steps\n", name, verified,
-           interpreted / runs, interpreted / runs / steps, (unsigned long long)report.r0, (unsigned)report.steps);
+    printf("%s: verify %.0f ns; apd_run_into %.2f ns a run, %.3f ns an instruction; apd_run %.2f ns; R0 %llu, %u steps\n",
+           name, verified, interpreted / runs, interpreted / runs / steps, returned / runs, (unsigned long long)report.r0,
+           (unsigned)report.steps);
     apd_free(&program);
     apd_free(&maps);
 }
@@ -131,10 +143,51 @@ static void bench_stations(void)
     apd_free(&link);
 }
 
+/* A station authenticates, associates, and sends data again and again. */
+static void bench_frames(void)
+{
+    static const apd_network network = {{2, 0, 0, 0, 0, 1}, 3, "lab", 4, {0x82, 0x84, 0x8b, 0x96}};
+    static const char *const first[] = {
+        "b000000002000000000102000000000a0200000000011000000001000000",
+        "0000000002000000000102000000000a020000000001200001000a0000036c6162010482848b96",
+    };
+    apd_handle link = APD_EMPTY, maps = APD_EMPTY, outs = APD_EMPTY;
+    uint8_t sent[100] = {0};
+    double took = 1e18;
+
+    if (apd_link(&link, &network, NULL, 0) || apd_maps(&maps, NULL, 0, 0))
+        exit(1);
+    for (int at = 0; at < 2; at++) {
+        size_t bytes = bytes_of(first[at]);
+        if (apd_link_frame(&link, &maps, &outs, code, bytes, 0))
+            exit(1);
+        apd_free(&outs);
+    }
+    size_t head = bytes_of("0801000002000000000102000000000a0200000000ff3000");
+    memcpy(sent, code, head);
+    for (int round = 0; round < ROUNDS; round++) {
+        double start = now();
+        for (int i = 0; i < 100000; i++) {
+            if (apd_link_frame(&link, &maps, &outs, sent, sizeof sent, 0))
+                exit(1);
+            apd_free(&outs);
+        }
+        double end = now();
+        took = end - start < took ? end - start : took;
+    }
+    printf("a frame of data: apd_link_frame and apd_free %.0f ns\n", took / 100000);
+    apd_free(&maps);
+    apd_free(&link);
+}
+
 int main(int count, char **words)
 {
     if (count == 2 && !strcmp(words[1], "stations")) {
         bench_stations();
+        return 0;
+    }
+    if (count == 2 && !strcmp(words[1], "frames")) {
+        bench_frames();
         return 0;
     }
     fill_frame();

@@ -4,7 +4,7 @@ use crate::clocks::AGREED;
 use crate::lab::{
     ASSOCIATION, AUTHENTICATION, LAB, OTHER_ASSOCIATION, OTHER_AUTHENTICATION, file, joined,
 };
-use crate::memory::{Memory, words};
+use crate::memory::{Memory, lines_alone, words};
 use crate::same::same;
 use apd_driver::Direct;
 use apd_run::{Limits, OpenGate, Streams, Supplies, live};
@@ -76,14 +76,14 @@ fn rows<R: Threads + Wait + Abort + Sync>(
                 left: text.as_bytes(),
             },
         },
-        out: Vec::new(alloc),
+        out: lines_alone(Vec::new(alloc)),
         typed: false,
         shown: false,
     };
     let mut err = Vec::new(alloc);
-    let (out, status) = live(rt, alloc, words(workers), supplies, streams, &mut err);
+    let (page, status) = live(rt, alloc, words(workers), supplies, streams, &mut err);
     same(rt, status, 0, "the status");
-    rows_in(rt, alloc, out.as_slice())
+    rows_in(rt, alloc, page.lines.as_slice())
 }
 
 /// The lines of an output that tell of programs.

@@ -109,8 +109,9 @@ fn recorded<R: Threads + Wait + Sync>(
 }
 
 /// Fails if the packet isn't of this time in units, or has a frame that doesn't begin so.
-fn is_packet(rt: &impl Abort, packet: &Packet<'_>, units: u64, begins: &[u8]) {
-    same(rt, packet.time, Some(units * 1_024_000), "the time");
+fn is_packet(rt: &impl Abort, packet: &Packet<'_>, units: u32, begins: &[u8]) {
+    let time = u64::from(units) * 1_024_000;
+    same(rt, packet.time, Some(time), "the time");
     match packet.frame {
         Ok(frame) => holds(rt, frame.starts_with(begins), "the frame"),
         Err(_) => same(rt, begins.len(), 0, "no frame"),
@@ -123,7 +124,7 @@ fn a_run_keeps_what_comes_in_is_sent_and_passed_up(rt: HostRuntime) {
     let (outcome, file) = recorded(&rt, alloc, 1 << 16, None);
     same(&rt, outcome.status, 0, "the status");
     let packets = read_capture(alloc, &file).ok().expect(&rt, "a capture");
-    let wanted: &[(u64, &[u8])] = &[
+    let wanted: &[(u32, &[u8])] = &[
         (1000, &[0xb0]),
         (1000, &[0xb0]),
         (1000, &[0x00]),

@@ -16,7 +16,7 @@ unlimited program limit work (Err e) h = record { begins = h.begins; plain = λ 
 passed : (program : Code) (limits : Limits) (most : ℕ) (e : Refusal) → limits.work ≡ Some most → (h : IsRefusalWithin program limits e) → IsMemoryOrPassed e.fault h.tally → IsMemoryOrWork limits.work e.fault
 passed program limits most e some h (inl memory) = inl memory
 passed program limits most e some h (inr passes) =
-    inr (record { tally = h.tally; within = some ∙ ap (λ n. Some n) (sym (h.spent.most ∙ ap units_of some)); passed = passes })
+    inr (record { tally = h.tally; within = some ∙ ap (λ n. Some n) (sym (h.spent.most ∙ ap units_of some)); counted = h.counted; passed = passes })
 
 limited : {X : Type 0} (program : Code) (limits : Limits) (most : ℕ) (r : Result X Refusal) → limits.work ≡ Some most → IfErr r (IsRefusalWithin program limits) → IfErr r (IsUnsafe program limits.states limits.work)
 limited program limits most (Ok x) some h = h
