@@ -4,7 +4,7 @@ pub mod Sums
 pub mod Served
 pub mod Keeping
 pub mod Operated
-pub mod Unbegun
+pub mod NewRuns
 pub mod Loading
 pub mod OneByOne
 pub mod Counted

@@ -37,9 +37,9 @@ pub record IsRunWorker (list : Book) (w : RunWorker) : Type 0 where
 
 -- An operator's access point and token, the parts of the ledgers and the pages that it keeps and how many of each they
 -- are, what these have counted, how many workers have one, what was published, what the workers that came back have
--- counted of the runs of the programs in force, what is known of the files of programs, and what the verifier or a check
--- may do for each.
-pub record RunOperator : Type 0 where
+-- counted of the runs of the programs in force, the files of programs, and what the verifier or a check may do for each
+-- program.
+pub record RunOperator (F : Type 0) : Type 0 where
   pub ap : Live
   pub token : Operator
   pub hoard : Holding
@@ -49,12 +49,12 @@ pub record RunOperator : Type 0 where
   pub workers : ℕ
   pub loads : Beginning
   pub programs : ProgramCounts
-  pub files : Held
+  pub files : F
   pub limits : Limits
 
 -- Its token belongs to the access point, whose published loads are this list, and has one part of each ledger, which
 -- has counted nothing. The operator keeps, or the workers have, all other parts.
-pub record IsRunOperator (shares : ℕ) (list : Book) (o : RunOperator) : Type 0 where
+pub record IsRunOperator {F : Type 0} (shares : ℕ) (list : Book) (o : RunOperator F) : Type 0 where
   pub own : IsOperator o.ap o.token
   pub mine : HasParts 1 (holding_of o.token.shards)
   pub nothing : counted_by o.token.shards ≡ none
@@ -67,10 +67,10 @@ pub record IsRunOperator (shares : ℕ) (list : Book) (o : RunOperator) : Type 0
   pub reads : Reads o.totals (sum_of o.hoard)
   pub in_force : AreInForce o.programs o.loads.loads
 
--- what an operator works with, and what it has done
-abbrev pub work_of : RunOperator → Work
-work_of o = record { files = o.files; limits = o.limits; puts = puts_of o.token.lines; loads = o.loads }
+-- what an operator works with, where this is known of its files, and what it has done
+abbrev pub work_of : {F : Type 0} → (F → Held) → RunOperator F → Work
+work_of held o = record { files = held o.files; limits = o.limits; puts = puts_of o.token.lines; loads = o.loads }
 
 -- how many workers have rights, what those that came back have counted, and what the operator has done
-abbrev pub crew_of : RunOperator → Crew live
-crew_of o = record { workers = o.workers; counted = sum_of o.hoard; work = work_of o }
+abbrev pub crew_of : {F : Type 0} → (F → Held) → RunOperator F → Crew live
+crew_of held o = record { workers = o.workers; counted = sum_of o.hoard; work = work_of held o }

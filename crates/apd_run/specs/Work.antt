@@ -1,5 +1,5 @@
 -- What an operator works with, and what it has done so far.
-use Rattle.std.specs.Prelude.{◌≡◌, ℕ, List, Option, Some, None}
+use Rattle.std.specs.Prelude.{◌≡◌, ℕ, List, Option, Some, None, IfSome}
 use Rattle.bpf_regions.specs.declared.hooks.Hook.{Hook}
 use Rattle.bpf_verifier.specs.declared.limit.Limits.{Limits}
 use Rattle.versions.specs.Lists.{Beginning, with_load}
@@ -9,9 +9,10 @@ use Rattle.ap_queues.specs.Items.{Item}
 use Rattle.ap_queues.specs.Putting.{item, with_item}
 use Rattle.apd_files.specs.Held.{Held, path_of}
 use Rattle.apd_script.specs.Asked.{Asked, Load, Unload, Adopt, Store, Read, Sum}
+use Rattle.apd_script.specs.declared.command.MapWord.{MapWord}
 use Rattle.apd_driver.specs.Semantics.{Semantics}
 use Rattle.apd_driver.specs.declared.reports.report.Told.{Told}
-use Rattle.apd_driver.specs.declared.reports.report.Told.TheVariants.{Memory}
+use Rattle.apd_driver.specs.declared.reports.report.Told.TheVariants.{Memory, Word}
 use Rattle.apd_run.specs.Adopting.{AdoptsFiles}
 use Rattle.apd_run.specs.Loading.{LoadsFile}
 
@@ -31,15 +32,14 @@ with_loads w loads = record w { loads = loads }
 abbrev pub put_at : Work → ℕ → Event → ℕ → Work
 put_at w line e shard = record w { puts = with_item w.puts (item line shard e) }
 
--- the line asks for a use of a word of a map
-abbrev pub IsUse : Asked → Type 0
-IsUse (Store word value) = Unit {0}
-IsUse (Read word) = Unit {0}
-IsUse (Sum word) = Unit {0}
-IsUse _ = ⊥
+-- the value of a word
+abbrev pub IsWord : Told → Type 0
+IsWord (Word value) = Unit {0}
+IsWord _ = ⊥
 
 -- What is done for a line that asks for no event, and what is told of it, if anything: a load, an adoption or an unload
--- changes the published loads, and nothing else. Of a use of a word nothing is said but that it changes none of these.
+-- changes the published loads, and nothing else. A use of a word changes none of these, and tells a value or nothing; which,
+-- is not said.
 pub data Does (old new : Work) : Asked → Option Told → Type 0 where
   Loads : (hook : Hook) (path : List ℕ) (told : Told) (loads : Beginning) → LoadsFile old.files old.limits hook (path_of path) old.loads loads told
       → new ≡ with_loads old loads → Does old new (Load hook path) (Some told)
@@ -47,7 +47,9 @@ pub data Does (old new : Work) : Asked → Option Told → Type 0 where
       → new ≡ with_loads old loads → Does old new (Adopt hook path certificate) (Some told)
   Unloads : (hook : Hook) → new ≡ with_loads old (with_load old.loads (load hook None)) → Does old new (Unload hook) None
   NotUnloads : (hook : Hook) → new ≡ old → Does old new (Unload hook) (Some Memory)
-  Uses : (a : Asked) (told : Option Told) → IsUse a → new ≡ old → Does old new a told
+  Stores : (word : MapWord) (value : ℕ) → new ≡ old → Does old new (Store word value) None
+  Reads : (word : MapWord) (told : Option Told) → IfSome told IsWord → new ≡ old → Does old new (Read word) told
+  Sums : (word : MapWord) (told : Option Told) → IfSome told IsWord → new ≡ old → Does old new (Sum word) told
 
 -- what is said of an operator of a live access point
 abbrev pub live : Semantics

@@ -75,7 +75,7 @@ impl<'a, B: Ledgers + Journals, L: Publications, F: Files> LiveOperator<'a, B, L
         rt: &R,
         alloc: Global,
     ) -> Result<Vec<StationRow>, AllocError>
-        ensures same { crew_of self.new ≡ crew_of self.old }
+        ensures same { crew_of F.held self.new ≡ crew_of F.held self.old }
         ensures ordered { IfOk result (λ rows. AreStationsInOrder rows.items) }
         ensures lists { IfOk result (λ rows. ListsStations B.config
             self.old.token.shards self.new.token.shards rows.items) }
@@ -90,7 +90,7 @@ impl<'a, B: Ledgers + Journals, L: Publications, F: Files> LiveOperator<'a, B, L
         rt: &R,
         alloc: Global,
     ) -> Result<Vec<AgreementRow>, AllocError>
-        ensures same { crew_of self.new ≡ crew_of self.old }
+        ensures same { crew_of F.held self.new ≡ crew_of F.held self.old }
         ensures ordered { IfOk result (λ rows. AreAgreementsInOrder rows.items) }
         ensures lists { IfOk result (λ rows. ListsAgreements B.config
             self.old.token.shards self.new.token.shards rows.items) }

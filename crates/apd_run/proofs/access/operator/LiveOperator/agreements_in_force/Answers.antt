@@ -10,4 +10,4 @@ pub returns-clause-ordered : goal.returns-clause-ordered
 returns-clause-ordered g c = if_rising agreement_row (λ r. (r.station, r.tid)) agreement_cmp _ _ c.agreement_rows.ensures.are (rw c.as_slice.ensures.value c.in_ok-agreements.ensures.shown.merges.ordered)
 
 pub returns-clause-same : goal.returns-clause-same
-returns-clause-same g c = same_lines _ _ _ _ c.self.view_is c.deref_mut.ensures.value (ap (λ (o : Operator). o.lines) c.agreements.ensures.same)
+returns-clause-same g c = same_lines g.F.Files.held _ _ c.agreements.new.operator _ c.self.view_is c.deref_mut.ensures.value (ap (λ (o : Operator). o.lines) c.agreements.ensures.same)

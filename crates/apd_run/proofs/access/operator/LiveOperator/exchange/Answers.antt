@@ -68,4 +68,4 @@ returns-clause-crew g c =
     let merged : HasMerged left c.renew-counted.result c.merge.new.self = subst (λ (h : Holding). HasMerged h c.renew-counted.result c.merge.new.self) c.deref_mut-2.ensures.value c.merge.ensures in
     let counted = exchanged_sum hoard left c.renew-counted.result c.merge.new.self (counted_by shards) stayed merged (ap sum_of c.renew-counted.ensures.given ∙ ap (λ (w : Worker). counted_by w.shards) c.take_counts-runs.ensures.anew) in
     let handled = c.worker.invariant.counts ∙ sym (ap (λ (v : Vec Tagged). tally v.items) c.replace-handled.ensures.value) in
-    gained_crew _ _ c.merge.new.self (counted_by shards) c.self.view_is counted ∙ ap (gains (crew_of c.args.self.now)) handled
+    gained_crew g.F.Files.held _ _ c.merge.new.self (counted_by shards) c.self.view_is counted ∙ ap (gains (crew_of g.F.Files.held c.args.self.now)) handled
