@@ -3,7 +3,11 @@ pub mod Rows
 pub mod Tallying
 pub mod Waits
 pub mod Broken
-pub mod Ending
+pub mod Puts
+pub mod Followed
+pub mod Gathering
+pub mod Segments
+pub mod Looks
 pub mod Batches
 pub mod Entries
 pub mod Digits

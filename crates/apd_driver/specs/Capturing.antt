@@ -1,5 +1,5 @@
 -- The capture of a run: a packet for each frame that is received, each that is sent, and all that is passed up.
-use Rattle.std.specs.Prelude.{◌≡◌, ℕ, ◌+◌, ◌*◌, ◌-◌, ◌^◌, Bool, true, false, nat_le, min, List, [], ◌∷◌, ◌++◌, take, drop, codes, decimal, Option, Some, None, if◌then◌else◌}
+use Rattle.std.specs.Prelude.{◌≡◌, ℕ, ◌+◌, ◌*◌, ◌-◌, ◌^◌, Bool, true, false, nat_le, min, List, [], ◌∷◌, ◌++◌, take, drop, codes, decimal, Option, Some, None}
 use Rattle.std.specs.List.{flat_map, list_any, prefix_len}
 use Rattle.std.specs.Io.KnownBytes.{Appends}
 use Rattle.capture.specs.declared.new_packet.Side.TheVariants as side

@@ -13,7 +13,10 @@ pub mod Order
 pub mod Answers
 pub mod Moving
 pub mod Tallies
+pub mod Semantics
+pub mod Following
 pub mod Crews
+pub mod Done
 pub mod Asking
 pub mod Shows
 pub mod Tells

@@ -1,7 +1,7 @@
 //! A whole run.
 
 ghost use Rattle.std.specs.Prelude.{◌≡◌, vec_len, IfOk, OnOk, OnErr};
-ghost use Rattle.apd_driver.specs.Shows.{Shows, Breaks, IsBroken, status_of, Finishes, Runs};
+ghost use Rattle.apd_driver.specs.Shows.{Breaks, ShowsScript, IsBroken, status_of, Finishes, Runs};
 
 use crate::console::Console;
 use crate::crew::{Desk, Ready, Serving, Signs};
@@ -103,12 +103,12 @@ where
     ensures home { OnOk result.found (vec_len result.staff.workers ≡ vec_len staff.workers) }
     ensures workers { OnOk result.found
         ((O.crew result.staff.operator).workers ≡ (O.crew staff.operator).workers) }
-    ensures shows { IfOk result.found (λ found. Shows (P.manner writer)
-        (P.contents writer) (O.crew staff.operator).counted
-        (P.contents result.writer) (O.crew result.staff.operator).counted
+    ensures shows { IfOk result.found (λ found. ShowsScript (P.manner writer) (L.script lines)
+        (P.contents writer) (P.contents result.writer)
+        (O.crew staff.operator) (O.crew result.staff.operator)
         found.memory found.refused) }
-    ensures breaks { OnErr result.found (Breaks (P.manner writer)
-        (P.contents writer) (P.contents result.writer) (O.crew staff.operator).counted) }
+    ensures breaks { OnErr result.found (Breaks (P.manner writer) (L.script lines)
+        (P.contents writer) (P.contents result.writer) (O.crew staff.operator)) }
 {
     let Ok(desks) = new_desks(alloc, staff.workers.len()) else {
         return Ran {
@@ -132,7 +132,8 @@ where
     run_threads(&setting, &task, staff, lines, writer)
 }
 
-/// Runs lines: between two waits the operator follows them while the workers handle events. It returns the writer and the
+/// Runs lines: between two waits the operator follows them, one after another, each once, while the workers handle events.
+/// If the writer is strict and ends the run early, or the run breaks off, these are a prefix. It returns the writer and the
 /// exit status: 3 if a line says `memory`; otherwise 1 if a line was malformed, or the writer is strict and a line was
 /// refused; otherwise 0. If the writer is strict, such a line ends the run after its interval. A run that breaks off has
 /// status 2 or 3: 2 after a failed read or write, 3 for lack of memory, but the contract doesn't say which.
@@ -150,8 +151,8 @@ where
     L: Lines + Drop,
     P: Console + Drop,
     requires all { vec_len staff.workers ≡ (O.crew staff.operator).workers }
-    ensures runs { Runs (P.manner writer) (P.contents writer) (P.contents result.0)
-        (O.crew staff.operator).counted result.1 }
+    ensures runs { Runs (P.manner writer) (L.script lines)
+        (P.contents writer) (P.contents result.0) (O.crew staff.operator) result.1 }
 {
     let Ran {
         staff,

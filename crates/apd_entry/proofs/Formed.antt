@@ -2,9 +2,9 @@
 use Rattle.std.proofs.Common.{◌≡◌, ℕ, Bool, List, Option, Some, None, refl, sym, subst, ◌∙◌}
 use Rattle.apd_driver.specs.declared.reports.report.Form.{Form}
 use Rattle.apd_driver.specs.declared.reports.report.Style.{Style}
-use Rattle.apd_driver.specs.Counts.{none}
-use Rattle.apd_driver.specs.Shows.{IsBroken, Runs}
-use Rattle.apd_driver.proofs.Ending.{runs_nothing}
+use Rattle.apd_driver.specs.Shows.{IsBroken}
+use Rattle.apd_run.specs.NewRuns.{RunsSome}
+use Rattle.apd_run.proofs.Unbegun.{runs_nothing}
 use Rattle.apd_entry.specs.Forms.{RunsFormed, RunsLive, colours_of, form_of, style_of}
 
 form_named : (style : Style) (colours : Bool) (s : Option Style) (b : Option Bool) → Some style ≡ s → Some colours ≡ b
@@ -16,7 +16,7 @@ form_named style colours s b is named =
 -- they name a form, and the run prints in this
 pub runs_formed : (shown strict : Bool) (style : Style) (colours : Bool) (events color : Option (List ℕ)) (old new : Option (List ℕ)) (status : ℕ)
     → Some style ≡ style_of events → Some colours ≡ colours_of shown color
-    → Runs (record { strict = strict; form = record { style = style; colours = colours } }) old new none status
+    → RunsSome (record { strict = strict; form = record { style = style; colours = colours } }) old new status
     → RunsLive shown strict events color old new status
 runs_formed shown strict style colours events color old new status is named runs =
     subst (λ (f : Option Form). RunsFormed strict f old new status) (form_named style colours (style_of events) (colours_of shown color) is named) runs
@@ -40,7 +40,7 @@ runs_in_no_colours shown strict events color old status is broken =
 
 formed_nothing : (strict : Bool) (form : Option Form) (old : Option (List ℕ)) (status : ℕ) → IsBroken status → RunsFormed strict form old old status
 formed_nothing strict None old status broken = (refl, broken)
-formed_nothing strict (Some form) old status broken = runs_nothing (record { strict = strict; form = form }) old none status broken
+formed_nothing strict (Some form) old status broken = runs_nothing (record { strict = strict; form = form }) old status broken
 
 -- nothing is written
 pub lives_nothing : (shown strict : Bool) (events color : Option (List ℕ)) (old : Option (List ℕ)) (status : ℕ) → IsBroken status

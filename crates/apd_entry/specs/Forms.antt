@@ -4,9 +4,9 @@ use Rattle.std.specs.Str.{bytes_eq}
 use Rattle.apd_driver.specs.declared.reports.report.Form.{Form}
 use Rattle.apd_driver.specs.declared.reports.report.Style.{Style}
 use Rattle.apd_driver.specs.declared.reports.report.Style.TheVariants.{Lines, Notices, Json}
-use Rattle.apd_driver.specs.Counts.{none}
-use Rattle.apd_driver.specs.Shows.{IsBroken, Runs}
+use Rattle.apd_driver.specs.Shows.{IsBroken}
 use Rattle.apd_driver.specs.declared.manner.Manner.{Manner}
+use Rattle.apd_run.specs.NewRuns.{RunsSome}
 
 -- a run that prints lines, without colours
 abbrev pub in_lines : Bool → Manner
@@ -44,7 +44,7 @@ form_of None colours = None
 -- lines run as they come, in this form; without a form nothing is written, and the status is that of a fault
 abbrev pub RunsFormed : Bool → Option Form → Option (List ℕ) → Option (List ℕ) → ℕ → Type 0
 RunsFormed strict None old new status = (new ≡ old) × IsBroken status
-RunsFormed strict (Some form) old new status = Runs (record { strict = strict; form = form }) old new none status
+RunsFormed strict (Some form) old new status = RunsSome (record { strict = strict; form = form }) old new status
 
 -- the same in the form that `--events` and `--color` name, where a terminal shows the output or doesn't
 abbrev pub RunsLive : Bool → Bool → Option (List ℕ) → Option (List ℕ) → Option (List ℕ) → Option (List ℕ) → ℕ → Type 0

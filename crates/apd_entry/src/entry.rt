@@ -1,8 +1,7 @@
 //! From words to a status: `apd` runs a script, or lines as they come, with threads, or answers a question.
 
 ghost use Rattle.std.specs.Prelude.{◌≡◌, map};
-ghost use Rattle.apd_driver.specs.Counts.{none};
-ghost use Rattle.apd_driver.specs.Shows.{Runs};
+ghost use Rattle.apd_run.specs.NewRuns.{RunsSome};
 ghost use Rattle.apd_words.specs.Asked.{Wanted, text_of};
 ghost use Rattle.apd_words.specs.Spells.{Spells};
 ghost use Rattle.apd_entry.specs.Fulfilled.{Fulfils};
@@ -62,8 +61,8 @@ where
     F: Files,
     P: Recording + Drop,
     E: Write,
-    ensures runs { Runs (in_lines asked.entry.strict)
-        (P.contents out) (P.contents result.0) none result.1 }
+    ensures runs { RunsSome (in_lines asked.entry.strict)
+        (P.contents out) (P.contents result.0) result.1 }
 {
     let Messages { err, watched } = messages;
     let words = words_of(asked);
@@ -116,9 +115,9 @@ where
     F: Files + Tapes,
     O: Write + Drop,
     E: Write,
-    ensures runs { Runs (in_lines asked.entry.strict)
+    ensures runs { RunsSome (in_lines asked.entry.strict)
         (lines_known (text_of asked.entry.capture.path) (O.contents out))
-        (lines_known (text_of asked.entry.capture.path) (O.contents result.0)) none result.1 }
+        (lines_known (text_of asked.entry.capture.path) (O.contents result.0)) result.1 }
 {
     if is_in_place(asked.capture) {
         let out = in_place(alloc, out);

@@ -1,6 +1,6 @@
 use Rattle.std.proofs.Common.{inl, inr}
 use Rattle.apd_words.specs.Asked.{text_of}
-use Rattle.apd_driver.proofs.Ending.{runs_nothing}
+use Rattle.apd_run.proofs.Unbegun.{runs_nothing}
 use Rattle.apd_entry.proofs.Formed.{runs_formed, runs_in_no_colours, runs_in_no_style}
 use Rattle.apd_entry.proofs.lines.run_live.Goals as goal
 
@@ -18,4 +18,4 @@ returns-in-Ok g c =
 
 pub returns-in-Err : goal.returns-in-Err
 returns-in-Err g c =
-    record { runs = runs_formed _ c.args.asked.strict _ _ (text_of c.args.asked.events) (text_of c.args.asked.color) (g.O.Write.contents c.args.streams.out) (g.O.Write.contents c.args.streams.out) _ c.in-Some.ensures.is c.in-Some-colours_of.ensures.is (runs_nothing _ _ _ _ (inr c.complain-in-Err.ensures.is)) }
+    record { runs = runs_formed _ c.args.asked.strict _ _ (text_of c.args.asked.events) (text_of c.args.asked.color) (g.O.Write.contents c.args.streams.out) (g.O.Write.contents c.args.streams.out) _ c.in-Some.ensures.is c.in-Some-colours_of.ensures.is (runs_nothing _ _ _ (inr c.complain-in-Err.ensures.is)) }
