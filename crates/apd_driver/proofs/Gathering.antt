@@ -48,7 +48,7 @@ only_malformed malformed xs handed empty k t =
     record { on_malformed = ap (map malformed_by) mine ∙ k.kind; nothing = ap tallied yours ∙ t.nothing }
 
 -- the same while no worker is out
-gathered_answers : {s : Semantics} → (malformed : List ℕ) (crew : Crew s) (handed : List Report) → OnlyMalformed malformed handed → Gathered [] malformed crew crew handed
+pub gathered_answers : {s : Semantics} → (malformed : List ℕ) (crew : Crew s) (handed : List Report) → OnlyMalformed malformed handed → Gathered [] malformed crew crew handed
 gathered_answers malformed crew handed only =
     let same : plus crew.counted (tallied handed) ≡ crew.counted = ap (plus crew.counted) only.nothing ∙ plus_none crew.counted in
     record {
@@ -62,14 +62,7 @@ gathered_answers malformed crew handed only =
       counts = λ i. record { workers = crew.workers; counted = sym same i; work = crew.work };
     }
 
--- an interval of no lines shows them
-pub shows_malformed : {s : Semantics} → (manner : Manner) (lines : List (ℕ × Asked)) (malformed : List ℕ) (old new : Option (List ℕ)) (crew : Crew s) (memory refused : Bool) → lines ≡ []
-    → ShowsMalformed manner malformed old new memory refused → ShowsOne manner lines malformed old new crew crew memory refused
-shows_malformed {s} manner lines malformed old new crew memory refused empty h =
-    subst (λ (l : List (ℕ × Asked)). ShowsOne manner l malformed old new crew crew memory refused) (sym empty)
-    (record { handed = h.handed; prints = h.prints; gathered = gathered_answers malformed crew h.handed h.only })
-
--- it breaks off
+-- an interval of no lines breaks off
 pub breaks_malformed : {s : Semantics} → (form : Form) (lines : List (ℕ × Asked)) (malformed : List ℕ) (old new : Option (List ℕ)) (crew : Crew s) → lines ≡ []
     → BreaksMalformed form malformed old new → BreaksFrom form lines malformed old new crew
 breaks_malformed form lines malformed old new crew empty (BeforeThem same) = record { lines = []; rest = lines; first = refl; breaks = Before same }
