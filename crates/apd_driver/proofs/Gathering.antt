@@ -1,5 +1,5 @@
 -- The reports of an interval, together.
-use Rattle.std.proofs.Common.{◌≡◌, ◌==◌, ℕ, ◌+◌, ◌<◌, List, [], ◌∷◌, ◌++◌, length, map, take, get_or, Bool, true, Option, refl, sym, ap, subst, ◌∙◌, append_assoc, append-nil}
+use Rattle.std.proofs.Common.{◌≡◌, ◌==◌, ℕ, ◌+◌, ◌<◌, List, [], ◌∷◌, ◌++◌, length, map, take, get_or, Bool, true, Option, refl, sym, ap, ◌∙◌, append_assoc, append-nil}
 use Rattle.std.proofs.lemmas.Bool.{eqb-true}
 use Rattle.std.proofs.lemmas.List.{map-append, nil_from_length, take_more}
 use Rattle.ap_books.specs.Counts.{Counts, none, plus}
@@ -7,13 +7,12 @@ use Rattle.apd_script.specs.Asked.{Asked, commands_of}
 use Rattle.apd_script.specs.Batches.{numbers_of}
 use Rattle.apd_script.specs.declared.command.Numbered.{Numbered}
 use Rattle.apd_script.specs.declared.batch.MalformedLine.{MalformedLine}
-use Rattle.apd_driver.specs.declared.manner.Manner.{Manner}
 use Rattle.apd_driver.specs.declared.reports.report.Form.{Form}
 use Rattle.apd_driver.specs.declared.reports.report.Report.{Report}
 use Rattle.apd_driver.specs.Crews.{Collects, Crew, Works, gains, with_work}
 use Rattle.apd_driver.specs.Following.{FollowsAll, Lists, NoLine}
 use Rattle.apd_driver.specs.Semantics.{Semantics}
-use Rattle.apd_driver.specs.Shows.{AnswerMalformed, Before, BeforeThem, BreaksFrom, BreaksMalformed, Gathered, OnlyMalformed, PrintsPart, ShowsMalformed, ShowsOne, Within, WithinThem, malformed_at, malformed_by}
+use Rattle.apd_driver.specs.Shows.{AnswerMalformed, Before, BeforeThem, BreaksFrom, BreaksMalformed, Gathered, OnlyMalformed, PrintsPart, Within, WithinThem, malformed_at, malformed_by}
 use Rattle.apd_driver.specs.Tallies.{tallied}
 use Rattle.apd_driver.specs.Tells.{Tells}
 use Rattle.apd_driver.proofs.Tallying.{none_plus, plus_none, tallied_joined}

@@ -9,7 +9,7 @@ use Rattle.apd_script.specs.Asked.{Asked, commands_of, numbered_of}
 use Rattle.apd_script.specs.declared.command.Numbered.{Numbered}
 use Rattle.apd_driver.specs.Asking.{TellsAnswer}
 use Rattle.apd_driver.specs.Captures.{Interval, KeepsLines, KeepsRun, KeepsWhole, NoReports, PrintsAll, RecordsAll, ShowsAndRecords, ThenAnswer, ThenFlushed, ThenReports}
-use Rattle.apd_driver.specs.Capturing.{Recorded, Records}
+use Rattle.apd_driver.specs.Capturing.{Recorded}
 use Rattle.apd_driver.specs.Crews.{Crew}
 use Rattle.apd_driver.specs.Semantics.{Semantics}
 use Rattle.apd_driver.specs.Shows.{Finishes, IsBroken, Part, Whole}

@@ -1,5 +1,5 @@
 -- What is read of a run's capture.
-use Rattle.std.proofs.Common.{◌≡◌, ◌↔◌, ◌<◌, ◌^◌, ◌++◌, ℕ, Bool, List, [], ◌∷◌, Option, Some, None, arith, refl, sym, ap, ◌∙◌, append_assoc, append-nil, lit<, map, subst, take, drop}
+use Rattle.std.proofs.Common.{◌≡◌, ◌↔◌, ◌<◌, ◌^◌, ◌++◌, ℕ, Bool, List, [], ◌∷◌, Option, Some, None, arith, sym, ap, ◌∙◌, append_assoc, append-nil, lit<, map, subst, take, drop}
 use Rattle.std.specs.List.{flat_map}
 use Rattle.std.specs.Io.KnownBytes.{Appends}
 use Rattle.capture.specs.Captures.{Holds}

@@ -3,7 +3,6 @@ use Rattle.std.proofs.Common.{◌≡◌, ◌+◌, ◌-◌, ◌≤◌, ℕ, List,
 use Rattle.std.specs.List.{slice_range}
 use Rattle.std.proofs.lemmas.List.{length-append, map-append, take-append-drop, take-append-le, take_all}
 use Rattle.std.proofs.lemmas.List.Folds.{drop_split}
-use Rattle.std.proofs.lemmas.Slice.{between_from_start}
 use Rattle.std.proofs.Math.Seq.{take-add}
 use Rattle.apd_script.specs.Asked.{Asked, commands_of, numbered_of}
 use Rattle.apd_script.specs.declared.command.Numbered.{Numbered}
