@@ -1,5 +1,5 @@
 -- The reports of an interval, together.
-use Rattle.std.proofs.Common.{◌≡◌, ◌==◌, ℕ, ◌+◌, ◌<◌, List, [], ◌∷◌, ◌++◌, length, map, take, get_or, Bool, true, Option, refl, sym, ap, subst, ◌∙◌, append_assoc, append-nil}
+use Rattle.std.proofs.Common.{◌≡◌, ◌==◌, ℕ, ◌+◌, ◌<◌, List, [], ◌∷◌, ◌++◌, length, map, take, get_or, Bool, true, Option, refl, sym, ap, ◌∙◌, append_assoc, append-nil}
 use Rattle.std.proofs.lemmas.Bool.{eqb-true}
 use Rattle.std.proofs.lemmas.List.{map-append, nil_from_length, take_more}
 use Rattle.ap_books.specs.Counts.{Counts, none, plus}
@@ -7,13 +7,12 @@ use Rattle.apd_script.specs.Asked.{Asked, commands_of}
 use Rattle.apd_script.specs.Batches.{numbers_of}
 use Rattle.apd_script.specs.declared.command.Numbered.{Numbered}
 use Rattle.apd_script.specs.declared.batch.MalformedLine.{MalformedLine}
-use Rattle.apd_driver.specs.declared.manner.Manner.{Manner}
 use Rattle.apd_driver.specs.declared.reports.report.Form.{Form}
 use Rattle.apd_driver.specs.declared.reports.report.Report.{Report}
 use Rattle.apd_driver.specs.Crews.{Collects, Crew, Works, gains, with_work}
 use Rattle.apd_driver.specs.Following.{FollowsAll, Lists, NoLine}
 use Rattle.apd_driver.specs.Semantics.{Semantics}
-use Rattle.apd_driver.specs.Shows.{AnswerMalformed, Before, BeforeThem, BreaksFrom, BreaksMalformed, Gathered, OnlyMalformed, PrintsPart, ShowsMalformed, ShowsOne, Within, WithinThem, malformed_at, malformed_by}
+use Rattle.apd_driver.specs.Shows.{AnswerMalformed, Before, BeforeThem, BreaksFrom, BreaksMalformed, Gathered, OnlyMalformed, PrintsPart, Within, WithinThem, malformed_at, malformed_by}
 use Rattle.apd_driver.specs.Tallies.{tallied}
 use Rattle.apd_driver.specs.Tells.{Tells}
 use Rattle.apd_driver.proofs.Tallying.{none_plus, plus_none, tallied_joined}
@@ -48,7 +47,7 @@ only_malformed malformed xs handed empty k t =
     record { on_malformed = ap (map malformed_by) mine ∙ k.kind; nothing = ap tallied yours ∙ t.nothing }
 
 -- the same while no worker is out
-gathered_answers : {s : Semantics} → (malformed : List ℕ) (crew : Crew s) (handed : List Report) → OnlyMalformed malformed handed → Gathered [] malformed crew crew handed
+pub gathered_answers : {s : Semantics} → (malformed : List ℕ) (crew : Crew s) (handed : List Report) → OnlyMalformed malformed handed → Gathered [] malformed crew crew handed
 gathered_answers malformed crew handed only =
     let same : plus crew.counted (tallied handed) ≡ crew.counted = ap (plus crew.counted) only.nothing ∙ plus_none crew.counted in
     record {
@@ -62,14 +61,7 @@ gathered_answers malformed crew handed only =
       counts = λ i. record { workers = crew.workers; counted = sym same i; work = crew.work };
     }
 
--- an interval of no lines shows them
-pub shows_malformed : {s : Semantics} → (manner : Manner) (lines : List (ℕ × Asked)) (malformed : List ℕ) (old new : Option (List ℕ)) (crew : Crew s) (memory refused : Bool) → lines ≡ []
-    → ShowsMalformed manner malformed old new memory refused → ShowsOne manner lines malformed old new crew crew memory refused
-shows_malformed {s} manner lines malformed old new crew memory refused empty h =
-    subst (λ (l : List (ℕ × Asked)). ShowsOne manner l malformed old new crew crew memory refused) (sym empty)
-    (record { handed = h.handed; prints = h.prints; gathered = gathered_answers malformed crew h.handed h.only })
-
--- it breaks off
+-- an interval of no lines breaks off
 pub breaks_malformed : {s : Semantics} → (form : Form) (lines : List (ℕ × Asked)) (malformed : List ℕ) (old new : Option (List ℕ)) (crew : Crew s) → lines ≡ []
     → BreaksMalformed form malformed old new → BreaksFrom form lines malformed old new crew
 breaks_malformed form lines malformed old new crew empty (BeforeThem same) = record { lines = []; rest = lines; first = refl; breaks = Before same }

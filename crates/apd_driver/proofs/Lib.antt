@@ -13,3 +13,7 @@ pub mod Entries
 pub mod Digits
 pub mod Looking
 pub mod Packets
+pub mod Captured
+pub mod Recalled
+pub mod Kept
+pub mod Beginning

@@ -3,7 +3,6 @@ use Rattle.std.proofs.Common.{◌≡◌, ◌+◌, ◌-◌, ◌≤◌, ℕ, List,
 use Rattle.std.specs.List.{slice_range}
 use Rattle.std.proofs.lemmas.List.{length-append, map-append, take-append-drop, take-append-le, take_all}
 use Rattle.std.proofs.lemmas.List.Folds.{drop_split}
-use Rattle.std.proofs.lemmas.Slice.{between_from_start}
 use Rattle.std.proofs.Math.Seq.{take-add}
 use Rattle.apd_script.specs.Asked.{Asked, commands_of, numbered_of}
 use Rattle.apd_script.specs.declared.command.Numbered.{Numbered}
@@ -67,12 +66,6 @@ begun_within commands given end start own rest malformed is within first none =
     whole ∙ (ap (λ (l : List (ℕ × Asked)). l ++ after) (parts ∙ sym (append_assoc before own rest)) ∙ append_assoc (before ++ own) rest after) in
     (rest ++ after, all, none)
 
--- all lines
-pub whole_segment : (commands : List Numbered) (next : ℕ) → drop next commands ≡ [] → commands_of (slice_range commands 0 next) ≡ commands_of commands
-whole_segment commands next none =
-    ap commands_of (between_from_start commands next)
-    ∙ ap commands_of (sym (append-nil (take next commands)) ∙ (ap (λ (l : List Numbered). take next commands ++ l) (sym none) ∙ take-append-drop next commands))
-
 -- a segment, and the lines after it
 pub segment_first : (commands : List Numbered) (start next : ℕ) → start ≤ next → commands_of (drop start commands) ≡ commands_of (slice_range commands start next) ++ commands_of (drop next commands)
 segment_first commands start next le = ap commands_of (drop_split commands start next le) ∙ two (slice_range commands start next) (drop next commands)
@@ -93,8 +86,3 @@ shows_then manner old mid new crew before after lines own lines2 malformed memor
     subst (λ (l : List (ℕ × Asked)). Shows manner old crew l [] new after (memory || more) (refused || again)) (sym is)
     (subst (λ (m : List ℕ). Shows manner old crew (lines ++ own) m new after (memory || more) (refused || again)) none
     (Then lines own [] malformed mid new before after memory more refused again shown goes_on one))
-
--- the same interval, of lines that are the same
-pub shows_same : {s : Semantics} → (manner : Manner) (lines lines2 : List (ℕ × Asked)) (malformed : List ℕ) (old new : Option (List ℕ)) (before after : Crew s) (memory refused : Bool) → lines ≡ lines2
-    → ShowsOne manner lines malformed old new before after memory refused → ShowsOne manner lines2 malformed old new before after memory refused
-shows_same manner lines lines2 malformed old new before after memory refused is shown = subst (λ (l : List (ℕ × Asked)). ShowsOne manner l malformed old new before after memory refused) is shown

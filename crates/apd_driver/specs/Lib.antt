@@ -23,3 +23,4 @@ pub mod Tells
 pub use Rattle.ap_books.specs.Counts
 pub mod Ethernet
 pub mod Capturing
+pub mod Captures

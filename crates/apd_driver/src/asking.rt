@@ -157,6 +157,7 @@ pub(crate) fn tell<W: Serving + Drop, O: Operating<W>, R: Wait, P: Console>(
         (P.contents writer.old) (P.contents writer.new)) }
     ensures breaks { OnErr result (BreaksAnswer (O.crew operator.old).counted
         (P.contents writer.old) (P.contents writer.new)) }
+    ensures kept { P.recorded writer.new ≡ P.recorded writer.old }
 {
     let Some(NumberedQuestion { line, question }) = asked else {
         return Ok(());

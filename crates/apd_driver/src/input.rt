@@ -3,6 +3,7 @@
 ghost use Rattle.std.specs.Prelude.{◌≡◌, [], None, true, length, vec_len, IfOk, OnOk, OnErr};
 ghost use Rattle.std.specs.Io.KnownBytes.{Keeps};
 ghost use Rattle.apd_script.specs.Batches.{after_wait};
+ghost use Rattle.apd_driver.specs.Captures.{KeepsRun};
 ghost use Rattle.apd_driver.specs.Shows.{Breaks, BreaksBatch, ShowsBatch, ShowsScript};
 ghost use Rattle.apd_driver.specs.Ticks.{with_tick};
 
@@ -104,6 +105,7 @@ impl<S: Source + Drop> Input<S> {
     /// input.
     fn advance<P: Console>(&mut self, alloc: Global, console: &mut P) -> Result<bool, PrintFault>
         ensures keeps { Keeps (P.contents console.old) (P.contents console.new) }
+        ensures kept { P.recorded console.new ≡ P.recorded console.old }
     {
         for _ in 0..u64::MAX {
             if self.rest().contains(&b'\n') {
@@ -197,6 +199,9 @@ fn do_batch<W: Serving + Drop, O: Operating<W> + Drop, R: Wait, P: Console>(
         found.memory found.refused) }
     ensures breaks { OnErr result (BreaksBatch setting.now.manner
         (P.contents writer.old) (P.contents writer.new) (O.crew staff.old.operator)) }
+    ensures keeps { OnOk result (KeepsRun setting.now.manner.form None
+        (P.contents writer.old) (P.contents writer.new)
+        (P.recorded writer.old) (P.recorded writer.new)) }
 {
     let given = Given {
         commands: batch.commands.as_slice(),
@@ -239,6 +244,9 @@ impl<S: Source + Drop> Input<S> {
             passed.found.memory passed.found.refused) }
         ensures breaks { OnErr result (BreaksBatch setting.now.manner
             (P.contents writer.old) (P.contents writer.new) (O.crew staff.old.operator)) }
+        ensures keeps { OnOk result (KeepsRun setting.now.manner.form None
+            (P.contents writer.old) (P.contents writer.new)
+            (P.recorded writer.old) (P.recorded writer.new)) }
     {
         let units = self.source.passed();
         let batch = self.batch(setting.alloc, units)?;
@@ -272,6 +280,9 @@ impl<S: Source + Drop> Input<S> {
             found.memory found.refused) }
         ensures breaks { OnErr result (Breaks setting.now.manner None
             (P.contents writer.old) (P.contents writer.new) (O.crew staff.old.operator)) }
+        ensures keeps { OnOk result (KeepsRun setting.now.manner.form None
+            (P.contents writer.old) (P.contents writer.new)
+            (P.recorded writer.old) (P.recorded writer.new)) }
     {
         let mut found = Found::nothing();
         let mut number = 1u64;

@@ -4,8 +4,9 @@ ghost use Rattle.std.specs.List.{slice_range};
 ghost use Rattle.std.specs.Prelude.{◌≡◌, ◌<◌, ◌≤◌, [], Some, length, drop, vec_len, IfOk, OnOk, OnErr};
 ghost use Rattle.apd_script.specs.Asked.{commands_of};
 ghost use Rattle.apd_script.specs.Batches.{numbers_of};
+ghost use Rattle.apd_driver.specs.Captures.{AnswersAndRecords, KeepsRun, PrintsAndRecords, ShowsAndRecords};
 ghost use Rattle.apd_driver.specs.Intervals.{after_wait};
-ghost use Rattle.apd_driver.specs.Shows.{is_memory, any_memory, Prints, PrintsPart, BreaksFrom, BreaksMalformed, ShowsMalformed, ShowsOne, ShowsScript, Breaks};
+ghost use Rattle.apd_driver.specs.Shows.{is_memory, any_memory, PrintsPart, BreaksFrom, BreaksMalformed, ShowsScript, Breaks};
 
 use crate::collecting::{collect, send_out};
 use crate::console::Console;
@@ -65,8 +66,10 @@ fn print_interval<P: Console>(
     handed: Vec<Report>,
     writer: &mut P,
 ) -> Result<Found, PrintFault>
-    ensures prints { IfOk result (λ found. Prints manner (P.contents writer.old)
-        (P.contents writer.new) handed.items found.memory found.refused) }
+    ensures prints { IfOk result (λ found. PrintsAndRecords manner commands.now
+        (P.contents writer.old) (P.contents writer.new)
+        (P.recorded writer.old) (P.recorded writer.new)
+        handed.items found.memory found.refused) }
     ensures breaks { OnErr result (PrintsPart manner.form
         (P.contents writer.old) (P.contents writer.new) handed.items) }
 {
@@ -103,10 +106,11 @@ fn interval<W: Serving + Drop, O: Operating<W> + Drop, R: Wait, P: Console>(
     ensures rest { IfOk result (λ passed.
         drop passed.next given.entry.commands.now
         ≡ after_wait (drop from.line given.entry.commands.now)) }
-    ensures shows { IfOk result (λ passed. ShowsOne setting.now.manner
-        (commands_of (slice_range given.entry.commands.now from.line passed.next))
+    ensures shows { IfOk result (λ passed. ShowsAndRecords setting.now.manner
+        (slice_range given.entry.commands.now from.line passed.next)
         (numbers_of given.entry.malformed.now)
         (P.contents writer.old) (P.contents writer.new)
+        (P.recorded writer.old) (P.recorded writer.new)
         (O.crew staff.old.operator) (O.crew staff.new.operator)
         passed.found.memory passed.found.refused) }
     ensures breaks { OnErr result (BreaksFrom setting.now.manner.form
@@ -135,8 +139,9 @@ fn answer<P: Console>(
     malformed: &[MalformedLine<'_>],
     writer: &mut P,
 ) -> Result<Found, PrintFault>
-    ensures shows { IfOk result (λ found. ShowsMalformed manner (numbers_of malformed.now)
-        (P.contents writer.old) (P.contents writer.new) found.memory found.refused) }
+    ensures shows { IfOk result (λ found. AnswersAndRecords manner (numbers_of malformed.now)
+        (P.contents writer.old) (P.contents writer.new)
+        (P.recorded writer.old) (P.recorded writer.new) found.memory found.refused) }
     ensures breaks { OnErr result (BreaksMalformed manner.form (numbers_of malformed.now)
         (P.contents writer.old) (P.contents writer.new)) }
 {
@@ -161,9 +166,10 @@ pub(crate) fn whole_interval<W: Serving + Drop, O: Operating<W> + Drop, R: Wait,
     ensures home { OnOk result (vec_len staff.new.workers ≡ length setting.now.desks.now) }
     ensures workers { OnOk result
         ((O.crew staff.new.operator).workers ≡ (O.crew staff.old.operator).workers) }
-    ensures shows { IfOk result (λ found. ShowsOne setting.now.manner
-        (commands_of given.entry.commands.now) (numbers_of given.entry.malformed.now)
+    ensures shows { IfOk result (λ found. ShowsAndRecords setting.now.manner
+        given.entry.commands.now (numbers_of given.entry.malformed.now)
         (P.contents writer.old) (P.contents writer.new)
+        (P.recorded writer.old) (P.recorded writer.new)
         (O.crew staff.old.operator) (O.crew staff.new.operator)
         found.memory found.refused) }
     ensures breaks { OnErr result (BreaksFrom setting.now.manner.form
@@ -201,6 +207,9 @@ pub(crate) fn intervals<W: Serving + Drop, O: Operating<W> + Drop, R: Wait, P: C
     ensures breaks { OnErr result (Breaks setting.now.manner
         (Some (commands_of commands.now)) (P.contents writer.old) (P.contents writer.new)
         (O.crew staff.old.operator)) }
+    ensures keeps { OnOk result (KeepsRun setting.now.manner.form
+        (Some (commands_of commands.now)) (P.contents writer.old) (P.contents writer.new)
+        (P.recorded writer.old) (P.recorded writer.new)) }
 {
     let mut line = 0;
     let mut found = Found::nothing();

@@ -2,6 +2,7 @@
 
 ghost use Rattle.std.specs.Prelude.{◌≡◌, ℕ, List, Option, length, vec_len, IfOk, OnOk, OnErr};
 ghost use Rattle.apd_script.specs.Asked.{Asked};
+ghost use Rattle.apd_driver.specs.Captures.{KeepsRun};
 ghost use Rattle.apd_driver.specs.Shows.{Breaks, ShowsScript};
 
 use crate::PrintFault;
@@ -36,7 +37,10 @@ pub trait Lines {
             (O.crew staff.old.operator) (O.crew staff.new.operator)
             found.memory found.refused) }
         ensures breaks { OnErr result (Breaks setting.now.manner (script self)
-            (P.contents writer.old) (P.contents writer.new) (O.crew staff.old.operator)) };
+            (P.contents writer.old) (P.contents writer.new) (O.crew staff.old.operator)) }
+        ensures keeps { OnOk result (KeepsRun setting.now.manner.form (script self)
+            (P.contents writer.old) (P.contents writer.new)
+            (P.recorded writer.old) (P.recorded writer.new)) };
 }
 
 /// The commands of a script.

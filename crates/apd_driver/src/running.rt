@@ -1,6 +1,7 @@
 //! The threads of a run.
 
 ghost use Rattle.std.specs.Prelude.{◌≡◌, length, vec_len, IfOk, OnOk, OnErr};
+ghost use Rattle.apd_driver.specs.Captures.{KeepsRun};
 ghost use Rattle.apd_driver.specs.Shows.{Breaks, ShowsScript};
 
 use crate::PrintFault;
@@ -63,6 +64,9 @@ fn beside<W: Serving + Drop, O: Operating<W> + Drop, R: Wait, L: Lines + Drop, P
         found.memory found.refused) }
     ensures breaks { OnErr result.found (Breaks setting.now.manner (L.script lines)
         (P.contents writer) (P.contents result.writer) (O.crew staff.operator)) }
+    ensures keeps { OnOk result.found (KeepsRun setting.now.manner.form (L.script lines)
+        (P.contents writer) (P.contents result.writer)
+        (P.recorded writer) (P.recorded result.writer)) }
 {
     let mut staff = staff;
     let mut writer = writer;
@@ -99,6 +103,9 @@ pub(crate) fn run_threads<
         found.memory found.refused) }
     ensures breaks { OnErr result.found (Breaks setting.now.manner (L.script lines)
         (P.contents writer) (P.contents result.writer) (O.crew staff.operator)) }
+    ensures keeps { OnOk result.found (KeepsRun setting.now.manner.form (L.script lines)
+        (P.contents writer) (P.contents result.writer)
+        (P.recorded writer) (P.recorded result.writer)) }
 {
     let rt = setting.rt;
     let many = setting.desks.len();

@@ -1,8 +1,10 @@
 //! A whole run.
 
-ghost use Rattle.std.specs.Prelude.{◌≡◌, vec_len, IfOk, OnOk, OnErr};
+ghost use Rattle.std.specs.Prelude.{◌≡◌, ◌<◌, vec_len, IfOk, OnOk, OnErr};
+ghost use Rattle.apd_driver.specs.Captures.{KeepsRun, KeepsWhole};
 ghost use Rattle.apd_driver.specs.Shows.{Breaks, ShowsScript, IsBroken, status_of, Finishes, Runs};
 
+use crate::capturing::Printing;
 use crate::console::Console;
 use crate::crew::{Desk, Ready, Serving, Signs};
 use crate::found::Found;
@@ -12,7 +14,6 @@ use crate::running::{Ran, Work, run_threads};
 use crate::setting::{Setting, Staff};
 use crate::{PrintFault, print_totals};
 use std::alloc::{AllocError, Global};
-use std::io::Write;
 use std::sync::Wait;
 use std::thread::Threads;
 
@@ -63,7 +64,7 @@ fn dismiss_all<W: Serving + Drop, O: Operating<W>>(operator: &mut O, workers: Ve
 }
 
 /// Prints the last line, and returns the status: `own` if the line was written.
-fn finish<W: Serving + Drop, O: Operating<W> + Drop, R: Wait, P: Write>(
+fn finish<W: Serving + Drop, O: Operating<W> + Drop, R: Wait, P: Printing>(
     rt: &R,
     alloc: Global,
     staff: Staff<W, O>,
@@ -73,6 +74,7 @@ fn finish<W: Serving + Drop, O: Operating<W> + Drop, R: Wait, P: Write>(
     requires all { vec_len staff.workers ≡ (O.crew staff.operator).workers }
     ensures finishes { Finishes (P.contents writer.old) (P.contents writer.new)
         (O.crew staff.operator).counted own result }
+    ensures kept { P.recorded writer.new ≡ P.recorded writer.old }
 {
     let Staff {
         mut operator,
@@ -109,6 +111,9 @@ where
         found.memory found.refused) }
     ensures breaks { OnErr result.found (Breaks (P.manner writer) (L.script lines)
         (P.contents writer) (P.contents result.writer) (O.crew staff.operator)) }
+    ensures keeps { OnOk result.found (KeepsRun (P.manner writer).form (L.script lines)
+        (P.contents writer) (P.contents result.writer)
+        (P.recorded writer) (P.recorded result.writer)) }
 {
     let Ok(desks) = new_desks(alloc, staff.workers.len()) else {
         return Ran {
@@ -153,6 +158,9 @@ where
     requires all { vec_len staff.workers ≡ (O.crew staff.operator).workers }
     ensures runs { Runs (P.manner writer) (L.script lines)
         (P.contents writer) (P.contents result.0) (O.crew staff.operator) result.1 }
+    ensures keeps { result.1 < 2 → KeepsWhole (P.manner writer).form (L.script lines)
+        (P.contents writer) (P.contents result.0)
+        (P.recorded writer) (P.recorded result.0) }
 {
     let Ran {
         staff,

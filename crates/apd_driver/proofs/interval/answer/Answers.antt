@@ -1,16 +1,14 @@
 use Rattle.apd_driver.specs.Shows.{BeforeThem, WithinThem}
 use Rattle.apd_driver.proofs.Broken.{on_err}
+use Rattle.apd_driver.proofs.Captured.{answers_malformed}
 use Rattle.apd_driver.proofs.Gathering.{only_malformed}
 use Rattle.apd_driver.proofs.interval.answer.Goals as goal
 use Rattle.std.proofs.Common.{refl}
 
 pub returns-in-Ok-clause-shows : goal.returns-in-Ok-clause-shows
 returns-in-Ok-clause-shows g c =
-    record {
-      handed = c.tell_malformed.new.told.items;
-      prints = c.in-Ok.ensures.prints;
-      only = only_malformed _ _ _ c.new-told.ensures.items c.in_ok-tell_malformed.ensures.answers c.in_ok-tell_malformed.ensures.told;
-    }
+    answers_malformed _ _ _ _ _ _ c.tell_malformed.new.told.items _ _
+    (only_malformed _ _ _ c.new-told.ensures.items c.in_ok-tell_malformed.ensures.answers c.in_ok-tell_malformed.ensures.told) c.in-Ok.ensures.prints
 
 pub returns-in-Err-clause-breaks : goal.returns-in-Err-clause-breaks
 returns-in-Err-clause-breaks g c =

@@ -1,5 +1,6 @@
 use Rattle.std.proofs.Common.{◌≤◌, arith, refl}
 use Rattle.apd_driver.proofs.Broken.{on_err}
+use Rattle.apd_driver.proofs.Captured.{shows_interval}
 use Rattle.apd_driver.proofs.Gathering.{breaks_before, breaks_within, gathered}
 use Rattle.apd_driver.proofs.Segments.{segment_first}
 use Rattle.apd_driver.proofs.Tallying.{tells_more}
@@ -9,11 +10,9 @@ pub returns-clause-shows : goal.returns-clause-shows
 returns-clause-shows g c =
     let told = tells_more _ _ _ (rw c.new-told.ensures.items at c.in_ok-next.ensures.told) c.in_ok-tell_malformed.ensures.told in
     let follows = rw c.new-told.ensures.items at c.in_ok-next.ensures.follows in
-    record {
-      handed = c.collect.new.all.items;
-      prints = rw c.tell.ensures.output at c.in_ok-found.ensures.prints;
-      gathered = gathered _ _ _ _ _ _ _ _ c.feed-fed.ensures.works follows c.in_ok-tell_malformed.ensures.answers told c.in_ok-collect.ensures.collects;
-    }
+    shows_interval _ _ _ _ _ _ _ _ _ _ _ c.collect.new.all.items _ _ c.tell.ensures.output c.tell.ensures.kept
+    (gathered _ _ _ _ _ _ _ _ c.feed-fed.ensures.works follows c.in_ok-tell_malformed.ensures.answers told c.in_ok-collect.ensures.collects)
+    c.in_ok-found.ensures.prints
 
 pub returns-in_err-next-clause-breaks : goal.returns-in_err-next-clause-breaks
 returns-in_err-next-clause-breaks g c = on_err _ _ (breaks_before _ _ _ _ _ _ refl)

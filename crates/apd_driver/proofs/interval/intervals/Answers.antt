@@ -1,12 +1,13 @@
 use Rattle.std.proofs.Common.{◌≤◌, [], length, take, refl, sym, ◌∙◌, arith}
 use Rattle.std.proofs.lemmas.List.{length-take}
 use Rattle.apd_driver.specs.Shows.{Nothing, InInterval}
-use Rattle.apd_driver.proofs.Segments.{begun_within, done_over, done_taken, shows_then, taken_within, within_all}
+use Rattle.apd_driver.proofs.Kept.{keeps_more, keeps_none}
+use Rattle.apd_driver.proofs.Segments.{begun_at, begun_within, done_over, done_taken, shows_then, taken_within, within_all}
 use Rattle.apd_driver.proofs.interval.intervals.Goals as goal
 
 pub intervals-init : goal.intervals-init
 intervals-init g c =
-    record { home = c.requires.home; workers = refl; within = omega arith; shown = rw c.nothing-found.ensures.memory (rw c.nothing-found.ensures.refused Nothing) }
+    record { home = c.requires.home; workers = refl; within = omega arith; shown = rw c.nothing-found.ensures.memory (rw c.nothing-found.ensures.refused Nothing); kept = keeps_none _ _ _ }
 
 pub intervals-preserved : goal.intervals-preserved
 intervals-preserved g c =
@@ -18,7 +19,8 @@ intervals-preserved g c =
       within = within_all c.args.commands.now c.min-end.result c.in-Ok.passed.next c.in-Ok.ensures.within;
       shown = rw c.and-found.ensures.memory
           (rw c.and-found.ensures.refused
-          (shows_then _ _ _ _ _ _ _ _ _ _ _ _ _ _ _ (taken_within c.args.commands.now _ c.min-end.result _ _ refl le c.in-Ok.ensures.within) refl c.intervals.invariant.shown goes_on c.in-Ok.ensures.shows));
+          (shows_then _ _ _ _ _ _ _ _ _ _ _ _ _ _ _ (taken_within c.args.commands.now _ c.min-end.result _ _ refl le c.in-Ok.ensures.within) refl c.intervals.invariant.shown goes_on c.in-Ok.ensures.shows.shows));
+      kept = keeps_more _ _ _ _ _ _ _ _ _ _ _ _ _ _ _ (taken_within c.args.commands.now _ c.min-end.result _ _ refl le c.in-Ok.ensures.within) c.intervals.invariant.kept c.in-Ok.ensures.shows;
     }
 
 pub returns-in-Err-clause-breaks : goal.returns-in-Err-clause-breaks
@@ -36,3 +38,9 @@ returns-then-is_over-clause-shows g c =
 pub returns-clause-shows : goal.returns-clause-shows
 returns-clause-shows g c =
     record { lines = _; malformed = []; shows = c.intervals.invariant.shown; done = done_taken c.args.commands.now c.intervals.line _ c.intervals-test.false }
+
+pub returns-then-is_over-clause-keeps : goal.returns-then-is_over-clause-keeps
+returns-then-is_over-clause-keeps g c = record { lines = _; begun = begun_at c.args.commands.now c.intervals.line; keeps = c.intervals.invariant.kept }
+
+pub returns-clause-keeps : goal.returns-clause-keeps
+returns-clause-keeps g c = record { lines = _; begun = begun_at c.args.commands.now c.intervals.line; keeps = c.intervals.invariant.kept }

@@ -12,3 +12,6 @@ returns-clause-home g c =
 
 pub returns-clause-shows : goal.returns-clause-shows
 returns-clause-shows g c = rw c.how.ensures.is at c.run_threads.ensures.shows
+
+pub returns-clause-keeps : goal.returns-clause-keeps
+returns-clause-keeps g c = rw c.how.ensures.is at c.run_threads.ensures.keeps

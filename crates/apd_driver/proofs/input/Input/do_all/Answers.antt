@@ -1,10 +1,11 @@
 use Rattle.std.proofs.Common.{refl, sym, ◌∙◌}
 use Rattle.apd_driver.proofs.Batches.{breaks_flushed, breaks_more, shows_flushed, shows_more, shows_none}
+use Rattle.apd_driver.proofs.Kept.{run_flushed, run_more, run_none}
 use Rattle.apd_driver.proofs.input.Input.do_all.Goals as goal
 
 pub intervals-init : goal.intervals-init
 intervals-init g c =
-    record { home = c.requires.home; workers = refl; shown = rw c.nothing-found.ensures.memory (rw c.nothing-found.ensures.refused (shows_none _ _ _)) }
+    record { home = c.requires.home; workers = refl; shown = rw c.nothing-found.ensures.memory (rw c.nothing-found.ensures.refused (shows_none _ _ _)); kept = run_none _ _ _ }
 
 pub intervals-preserved : goal.intervals-preserved
 intervals-preserved g c =
@@ -14,6 +15,7 @@ intervals-preserved g c =
       home = c.in-Ok.ensures.home;
       workers = c.in-Ok.ensures.workers ∙ c.intervals.invariant.workers;
       shown = rw c.and-found.ensures.memory (rw c.and-found.ensures.refused (shows_more _ _ _ _ _ _ _ _ _ _ _ flushed goes_on c.in-Ok.ensures.shows));
+      kept = run_more _ _ _ _ _ _ _ (run_flushed _ _ _ _ _ _ _ c.intervals.invariant.kept c.advance.ensures.keeps c.advance.ensures.kept) c.in-Ok.ensures.keeps;
     }
 
 pub returns-in-Ok-false-clause-shows : goal.returns-in-Ok-false-clause-shows
@@ -25,3 +27,6 @@ returns-in-Err-clause-breaks g c = breaks_flushed _ _ _ _ _ _ _ _ c.intervals.in
 pub returns-in-Err-do_lines-clause-breaks : goal.returns-in-Err-do_lines-clause-breaks
 returns-in-Err-do_lines-clause-breaks g c =
     breaks_more _ _ _ _ _ _ _ _ (shows_flushed _ _ _ _ _ _ _ _ c.intervals.invariant.shown c.advance.ensures.keeps) (sym c.is_over.ensures.is ∙ c.if-is_over.false) c.in-Err-do_lines.ensures.breaks
+
+pub returns-in-Ok-false-clause-keeps : goal.returns-in-Ok-false-clause-keeps
+returns-in-Ok-false-clause-keeps g c = run_flushed _ _ _ _ _ _ _ c.intervals.invariant.kept c.advance.ensures.keeps c.advance.ensures.kept
