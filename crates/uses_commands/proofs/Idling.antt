@@ -1,8 +1,10 @@
 -- An operator of whose work nothing is said.
-use Rattle.std.proofs.Common.{◌≡◌, ◌+◌, ◌-◌, ◌<◌, ◌≤◌, ℕ, zero, suc, Option, Some, None, refl, sym, ap, subst, arith, add-zero}
+use Rattle.std.proofs.Common.{◌≡◌, ◌+◌, ◌-◌, ◌<◌, ◌≤◌, ℕ, zero, suc, Option, Some, None, Ok, Err, refl, sym, ap, subst, ◌∙◌, arith, add-zero}
+use Rattle.std.specs.Result.{IfErr, OnOk}
+use Rattle.std.specs.declared.result.Result.{Result}
 use Rattle.ap_model.specs.AccessPoint.{shard_of}
 use Rattle.ap_model.specs.declared.event.Event.{Event}
-use Rattle.apd_driver.specs.Following.{AtNone, AtOneMore, Concerns, PutsFrom, WaitsAt, end_of, first_of, first_shard, shard_end}
+use Rattle.apd_driver.specs.Following.{AtNone, AtOneMore, Concerns, PutsAll, PutsFrom, WaitsAt, end_of, first_of, first_shard, shard_end}
 use Rattle.apd_driver.specs.declared.operating.Waiting.{Waiting}
 use Rattle.uses_commands.specs.Idling.{idle}
 
@@ -15,7 +17,7 @@ puts_some line e from (suc n) =
 -- any shards get an event
 pub idle_puts : (line : ℕ) (e : Event) (from to : ℕ) → from ≤ to → PutsFrom idle line e from tt to tt
 idle_puts line e from to le =
-    let all : from + (to - from) ≡ to = omega arith in
+    let all : from + (to - from) ≡ to = omega (arith, le) in
     subst (λ (k : ℕ). PutsFrom idle line e from tt k tt) all (puts_some line e from (to - from))
 
 one_more : (s : Option ℕ) → first_of s ≤ end_of s
@@ -34,3 +36,17 @@ idle_waits line e shard w concerned is =
 -- a tick concerns the first shard
 pub tick_first : (e : Event) → shard_of e ≡ None → Concerns e (first_shard e)
 tick_first e t = record { first_is = omega arith; within = subst (λ (s : Option ℕ). first_of s < end_of s) (sym t) (omega arith) }
+
+-- a tick was put, or waits at the first shard
+pub idle_submits : {T : Type 0} → (line : ℕ) (e : Event) (r : Result T Waiting) → IfErr r (λ w. w ≡ record { event = e; shard = 0 }) → IfErr r (λ w. shard_of e ≡ None)
+    → OnOk r (PutsAll idle line e tt tt) × IfErr r (WaitsAt idle line e (first_shard e) tt tt)
+idle_submits line e (Ok x) waits tick = (idle_puts_all line e, tt)
+idle_submits line e (Err w) waits tick =
+    let first : first_shard e ≡ 0 = ap first_of tick in
+    (tt, idle_waits line e (first_shard e) w (tick_first e tick) (waits ∙ (λ i. record { event = e; shard = sym first i })))
+
+-- it was put from this shard on, or waits there
+pub idle_goes_on : {T : Type 0} → (line : ℕ) (e : Event) (shard : ℕ) (r : Result T Waiting) → IfErr r (λ w. w ≡ record { event = e; shard = shard }) → Concerns e shard
+    → OnOk r (PutsFrom idle line e shard tt (shard_end e) tt) × IfErr r (WaitsAt idle line e shard tt tt)
+idle_goes_on line e shard (Ok x) waits c = (idle_puts line e shard (shard_end e) (omega (arith, c.within)), tt)
+idle_goes_on line e shard (Err w) waits c = (tt, idle_waits line e shard w c waits)
