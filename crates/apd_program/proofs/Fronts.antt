@@ -1,5 +1,5 @@
 -- Captures as far as they go, from their parts.
-use Rattle.std.proofs.Common.{◌≡◌, ◌≢◌, ◌∙◌, ◌⊎◌, ◌++◌, Bool, true, List, ℕ, length, map, take, drop, inl, inr, sym, ap}
+use Rattle.std.proofs.Common.{◌≡◌, ◌≢◌, ◌∙◌, ◌⊎◌, ◌++◌, Bool, true, List, ℕ, length, map, take, drop, inl, inr, sym, ap, ap₂}
 use Rattle.std.proofs.lemmas.List.{length-map, take-append-drop}
 use Rattle.capture.specs.Captures.{Refuses}
 use Rattle.capture.specs.Packets.{seen_of}
@@ -23,7 +23,7 @@ no_capture_by file e f refuses m (inr other) = inr (record { fault = e; known = 
 pub no_capture : (file : List ℕ) (e : CaptureFault) (f : ProgramFault) → Refuses file e → (e ≡ capture.NoMemory → f ≡ NoMemory) → IsMemoryOr (IsNoCapture file) f
 no_capture file e f refuses m = no_capture_by file e f refuses m (known_capture e)
 
--- so many packets are as many as are seen
-pub before_seen : (fault : CaptureFault) (bytes n : ℕ) (packets : List Packet) (b : Bool) → b ≡ is_before fault bytes n → n ≡ length packets → b ≡ true → is_before fault bytes (length (map seen_of packets)) ≡ true
-before_seen fault bytes n packets b is many holds =
-    rw (length-map packets seen_of) (ap (λ k. is_before fault bytes k) (sym many) ∙ (sym is ∙ holds))
+-- so many bytes and packets are as many as are seen
+pub before_seen : (fault : CaptureFault) (bytes n : ℕ) (front : List ℕ) (packets : List Packet) (b : Bool) → b ≡ is_before fault bytes n → bytes ≡ length front → n ≡ length packets → b ≡ true → is_before fault (length front) (length (map seen_of packets)) ≡ true
+before_seen fault bytes n front packets b is long many holds =
+    ap (λ k. is_before fault (length front) k) (length-map packets seen_of) ∙ (ap₂ (λ (j k : ℕ). is_before fault j k) (sym long) (sym many) ∙ (sym is ∙ holds))

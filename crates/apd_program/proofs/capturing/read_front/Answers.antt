@@ -10,6 +10,7 @@ returns-in-Err-clause-fault c = no_capture c.args.file.now c.args.fault _ c.requ
 
 pub returns-then-is_before-clause-captured : goal.returns-then-is_before-clause-captured
 returns-then-is_before-clause-captured c =
+    let long : c.len.result ≡ length c.in-Some.front.now = search rules in
     let many : c.len-2.result ≡ length c.in-Ok.packets.items = search rules in
     record {
       refused = c.requires.refused;
@@ -17,7 +18,7 @@ returns-then-is_before-clause-captured c =
       rest = c.in-Some.ensures.is.0;
       cut = c.in-Some.ensures.is.1;
       held = c.in-Ok.ensures.packets;
-      before = before_seen c.args.fault _ _ c.in-Ok.packets.items c.is_before.result c.is_before.ensures.is many c.if-is_before.true;
+      before = before_seen c.args.fault _ _ c.in-Some.front.now c.in-Ok.packets.items c.is_before.result c.is_before.ensures.is long many c.if-is_before.true;
     }
 
 pub returns-clause-fault : goal.returns-clause-fault
