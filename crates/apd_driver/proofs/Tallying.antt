@@ -6,6 +6,7 @@ use Rattle.ap_books.specs.Counts.{Counts, none, plus}
 use Rattle.apd_driver.specs.declared.reports.report.Report.{Report}
 use Rattle.apd_driver.specs.Tallies.{told_counts, report_counts, tallied}
 use Rattle.apd_driver.specs.Crews.{Crew, gains, Collects}
+use Rattle.apd_driver.specs.Semantics.{Semantics}
 use Rattle.apd_driver.specs.Tells.{Tells}
 
 both : (f : Report → ℕ) (n : ℕ) (xs ys : List Report) → n + sum_by f xs + sum_by f ys ≡ n + sum_by f (xs ++ ys)
@@ -21,7 +22,7 @@ counts_append c xs ys i =
       notes = both (λ r. (report_counts r).notes) c.notes xs ys i;
     }
 
-plus_none : (c : Counts) → plus c none ≡ c
+pub plus_none : (c : Counts) → plus c none ≡ c
 plus_none c i =
     record {
       events = add-zero c.events i;
@@ -31,59 +32,51 @@ plus_none c i =
       notes = add-zero c.notes i;
     }
 
-with_counts : Crew → Counts → Crew
-with_counts crew counts = record { workers = crew.workers; counted = counts }
+pub none_plus : (c : Counts) → plus none c ≡ c
+none_plus c i =
+    record {
+      events = zero-add c.events i;
+      sent = zero-add c.sent i;
+      up = zero-add c.up i;
+      dropped = zero-add c.dropped i;
+      notes = zero-add c.notes i;
+    }
 
 -- nothing was collected yet
-pub collects_none : (c : Crew) (xs : List Report) → Collects c c xs xs
+pub collects_none : {s : Semantics} → (c : Crew s) (xs : List Report) → Collects c c xs xs
 collects_none c xs =
     record {
       reports = [];
       listed = sym (append-nil xs);
-      counted = λ i. record { workers = c.workers; counted = sym (plus_none c.counted) i };
+      counted = λ i. record { workers = c.workers; counted = sym (plus_none c.counted) i; work = c.work };
     }
 
 -- and then more was
-pub collects_more : (c d e : Crew) (xs ys zs : List Report) → Collects c d xs ys → Collects d e ys zs → Collects c e xs zs
+pub collects_more : {s : Semantics} → (c d e : Crew s) (xs ys zs : List Report) → Collects c d xs ys → Collects d e ys zs → Collects c e xs zs
 collects_more c d e xs ys zs h k =
     record {
       reports = h.reports ++ k.reports;
       listed = k.listed ∙ ap (λ l. l ++ k.reports) h.listed ∙ append_assoc xs h.reports k.reports;
       counted = k.counted ∙ ap (λ x. gains x (tallied k.reports)) h.counted
-          ∙ (λ i. record { workers = c.workers; counted = counts_append c.counted h.reports k.reports i });
+          ∙ (λ i. record { workers = c.workers; counted = counts_append c.counted h.reports k.reports i; work = c.work });
     }
-
--- the operator's reports count nothing, so all reports count what was collected
-pub counted_all : (c d : Crew) (xs ys : List Report) → Tells [] xs → Collects c d xs ys → d.counted ≡ plus c.counted (tallied ys)
-counted_all c d xs ys t h =
-    let told : tallied xs ≡ none = ap tallied t.listed ∙ t.nothing in
-    ap (λ x. x.counted) h.counted
-    ∙ ap (λ x. plus x (tallied h.reports)) (sym (plus_none c.counted) ∙ ap (plus c.counted) (sym told))
-    ∙ counts_append c.counted xs h.reports
-    ∙ ap (λ l. plus c.counted (tallied l)) (sym h.listed)
-
--- nothing was collected, and the reports count nothing
-pub counted_nothing : (c : Counts) (xs : List Report) → Tells [] xs → c ≡ plus c (tallied xs)
-counted_nothing c xs t =
-    let crew : Crew = record { workers = 0; counted = c } in
-    counted_all crew crew xs xs t (collects_none crew xs)
 
 -- the operator has reported nothing
 pub tells_none : (xs : List Report) → Tells xs xs
 tells_none xs = record { reports = []; listed = sym (append-nil xs); nothing = refl }
 
+pub tallied_joined : (xs ys : List Report) → tallied (xs ++ ys) ≡ plus (tallied xs) (tallied ys)
+tallied_joined xs ys i =
+    record {
+      events = sum_by-append (λ r. (report_counts r).events) xs ys i;
+      sent = sum_by-append (λ r. (report_counts r).sent) xs ys i;
+      up = sum_by-append (λ r. (report_counts r).up) xs ys i;
+      dropped = sum_by-append (λ r. (report_counts r).dropped) xs ys i;
+      notes = sum_by-append (λ r. (report_counts r).notes) xs ys i;
+    }
+
 tallied_two : (xs ys : List Report) → tallied xs ≡ none → tallied ys ≡ none → tallied (xs ++ ys) ≡ none
 tallied_two xs ys h k = tallied_joined xs ys ∙ ap (λ c. plus c (tallied ys)) h ∙ ap (plus none) k ∙ plus_none none
-  where
-    tallied_joined : (xs ys : List Report) → tallied (xs ++ ys) ≡ plus (tallied xs) (tallied ys)
-    tallied_joined xs ys i =
-        record {
-          events = sum_by-append (λ r. (report_counts r).events) xs ys i;
-          sent = sum_by-append (λ r. (report_counts r).sent) xs ys i;
-          up = sum_by-append (λ r. (report_counts r).up) xs ys i;
-          dropped = sum_by-append (λ r. (report_counts r).dropped) xs ys i;
-          notes = sum_by-append (λ r. (report_counts r).notes) xs ys i;
-        }
 
 -- and then reports more
 pub tells_more : (xs ys zs : List Report) → Tells xs ys → Tells ys zs → Tells xs zs

@@ -1,5 +1,5 @@
 -- The answers to the questions of `apd live`.
-use Rattle.std.specs.Prelude.{ℕ, ◌==◌, List, [], ◌∷◌, ◌++◌, length, codes, decimal, string_bytes, Option, Some, None}
+use Rattle.std.specs.Prelude.{ℕ, List, [], ◌∷◌, ◌++◌, length, codes, decimal, string_bytes, Option, Some, None}
 use Rattle.std.specs.List.{flat_map}
 use Rattle.bpf_regions.specs.Hooks.{name_of}
 use Rattle.bpf_regions.specs.declared.hooks.Hook.{Hook}

@@ -1,9 +1,9 @@
 -- The capture of a run: a packet for each frame that is received, each that is sent, and all that is passed up.
-use Rattle.std.specs.Prelude.{◌≡◌, ℕ, ◌+◌, ◌*◌, ◌-◌, ◌^◌, Bool, true, false, nat_le, min, List, [], ◌∷◌, ◌++◌, take, drop, codes, decimal, Option, Some, None, if◌then◌else◌}
+use Rattle.std.specs.Prelude.{◌≡◌, ◌⊎◌, ℕ, ◌+◌, ◌*◌, ◌-◌, ◌^◌, Bool, true, false, nat_le, min, List, [], ◌∷◌, ◌++◌, take, drop, codes, decimal, Option, Some, None}
 use Rattle.std.specs.List.{flat_map, list_any, prefix_len}
 use Rattle.std.specs.Io.KnownBytes.{Appends}
 use Rattle.capture.specs.declared.new_packet.Side.TheVariants as side
-use Rattle.capture.specs.Writing.{Written, blocks_of}
+use Rattle.capture.specs.Writing.{Written, blocks_of, heading}
 use Rattle.ap_model.specs.declared.event.Out.{Out}
 use Rattle.ap_model.specs.declared.event.Out.TheVariants as out
 use Rattle.apd_script.specs.Digits.{bytes_of}
@@ -103,6 +103,28 @@ Recorded = Option (Option (List ℕ) × ℕ)
 abbrev pub recorded_if_any : {C : Type 0} → (C → Recorded) → Option C → Recorded
 recorded_if_any recorded None = None
 recorded_if_any recorded (Some capture) = recorded capture
+
+-- its bytes are known, if there is one
+abbrev pub IsKnown : Recorded → Type 0
+IsKnown None = Unit {0}
+IsKnown (Some (None, time)) = ⊥
+IsKnown (Some (Some bytes, time)) = Unit {0}
+
+-- the same of all captures of a kind
+abbrev pub AreKnown : {C : Type 0} → (C → Recorded) → Type 0
+AreKnown {C} recorded = (capture : C) → IsKnown (recorded capture)
+
+-- the bytes are what a capture begins with
+abbrev pub IsHeading : Option (List ℕ) → Type 0
+IsHeading None = ⊥
+IsHeading (Some bytes) = bytes ≡ heading
+
+-- a capture begins: its heading is appended to what was there, or is alone in a new file; no time passes
+abbrev pub Begins : Recorded → Recorded → Type 0
+Begins None new = Unit {0}
+Begins (Some old) None = ⊥
+Begins (Some old) (Some new) =
+    (Appends old.0 new.0 heading ⊎ IsHeading new.0) × (new.1 ≡ old.1)
 
 -- the packets of an interval are appended to the capture, and its time passes
 abbrev pub Records : Recorded → Recorded → List Numbered → List Report → Type 0

@@ -2,23 +2,39 @@
 use Rattle.std.specs.Prelude.{◌≡◌, ℕ, ◌+◌, List, ◌++◌}
 use Rattle.ap_books.specs.Counts.{Counts, plus}
 use Rattle.apd_driver.specs.declared.reports.report.Report.{Report}
+use Rattle.apd_driver.specs.Following.{Looks}
+use Rattle.apd_driver.specs.Semantics.{Semantics}
 use Rattle.apd_driver.specs.Tallies.{tallied}
 
--- how many workers have rights, and what those that came back have counted
-pub record Crew : Type 0 where
+-- how many workers have rights, what those that came back have counted, and what the operator has done
+pub record Crew (s : Semantics) : Type 0 where
   pub workers : ℕ
   pub counted : Counts
+  pub work : s.Work
 
 -- a worker that has counted this came back
-abbrev pub gains : Crew → Counts → Crew
-gains crew counted = record { workers = crew.workers; counted = plus crew.counted counted }
+abbrev pub gains : {s : Semantics} → Crew s → Counts → Crew s
+gains crew counted = record { workers = crew.workers; counted = plus crew.counted counted; work = crew.work }
 
 -- one more worker has rights
-abbrev pub with_one_more : Crew → Crew
-with_one_more crew = record { workers = crew.workers + 1; counted = crew.counted }
+abbrev pub with_one_more : {s : Semantics} → Crew s → Crew s
+with_one_more crew = record { workers = crew.workers + 1; counted = crew.counted; work = crew.work }
+
+-- the operator has done this
+abbrev pub with_work : {s : Semantics} → Crew s → s.Work → Crew s
+with_work crew work = record { workers = crew.workers; counted = crew.counted; work = work }
+
+-- nothing changed but what the operator has done
+abbrev pub Works : {s : Semantics} → Crew s → Crew s → Type 0
+Works crew crew2 = crew2 ≡ with_work crew crew2.work
+
+-- nothing changed but that the operator read or summed up words
+pub record LooksOn {s : Semantics} (crew crew2 : Crew s) : Type 0 where
+  pub works : Works crew crew2
+  pub looks : Looks s crew.work crew2.work
 
 -- reports were appended to the list, and are what was counted
-pub record Collects (crew crew2 : Crew) (list list2 : List Report) : Type 0 where
+pub record Collects {s : Semantics} (crew crew2 : Crew s) (list list2 : List Report) : Type 0 where
   pub reports : List Report
   pub listed : list2 ≡ list ++ reports
   pub counted : crew2 ≡ gains crew (tallied reports)

@@ -13,10 +13,14 @@ pub mod Order
 pub mod Answers
 pub mod Moving
 pub mod Tallies
+pub mod Semantics
+pub mod Following
 pub mod Crews
+pub mod Done
 pub mod Asking
 pub mod Shows
 pub mod Tells
 pub use Rattle.ap_books.specs.Counts
 pub mod Ethernet
 pub mod Capturing
+pub mod Captures

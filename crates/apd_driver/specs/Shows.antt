@@ -1,8 +1,8 @@
 -- What a run prints.
-use Rattle.std.specs.Prelude.{◌≡◌, ◌⊎◌, ℕ, List, Option, Bool, true, false, ◌||◌, ◌&&◌, if◌then◌else◌}
+use Rattle.std.specs.Prelude.{◌≡◌, ◌⊎◌, ℕ, List, [], ◌++◌, map, Option, Bool, true, false, ◌||◌, ◌&&◌, if◌then◌else◌}
 use Rattle.std.specs.List.{list_any}
 use Rattle.std.specs.Io.KnownBytes.{Appends, Keeps}
-use Rattle.ap_books.specs.Counts.{Counts, plus}
+use Rattle.ap_books.specs.Counts.{Counts, none}
 use Rattle.ap_books.specs.Reading.{Reads}
 use Rattle.ap_books.specs.declared.totals.Totals.{Totals}
 use Rattle.apd_files.specs.Beginning.{AppendsBeginning}
@@ -12,7 +12,12 @@ use Rattle.apd_driver.specs.declared.reports.report.Report.{Report}
 use Rattle.apd_driver.specs.declared.reports.report.Told.{Told}
 use Rattle.apd_driver.specs.declared.reports.report.Told.TheVariants.{Memory, Fault, Refused, Certificate, Unreadable, Malformed}
 use Rattle.apd_driver.specs.declared.reports.report.Form.{Form}
+use Rattle.apd_script.specs.Asked.{Asked}
 use Rattle.apd_driver.specs.Asking.{TellsAnswer, BreaksAnswer}
+use Rattle.apd_driver.specs.Crews.{Crew, LooksOn, gains, with_work}
+use Rattle.apd_driver.specs.Done.{AreBegun, AreDone}
+use Rattle.apd_driver.specs.Following.{FollowsAll}
+use Rattle.apd_driver.specs.Semantics.{Semantics}
 use Rattle.apd_driver.specs.Tallies.{tallied}
 use Rattle.apd_driver.specs.declared.manner.Manner.{Manner}
 
@@ -62,45 +67,114 @@ pub record Prints (manner : Manner) (old new : Option (List ℕ)) (handed : List
   pub memory_is : memory ≡ any_memory printed
   pub refused_is : refused ≡ any_fault manner.strict printed
 
--- printing an interval breaks off: before it begins, or within the reports
-pub data BreaksOff (form : Form) (old new : Option (List ℕ)) : Type 0 where
-  Before : new ≡ old → BreaksOff form old new
-  Within : (handed printed : List Report) → IsOrdered handed printed → AppendsBeginning old new (reports_text form printed) → BreaksOff form old new
+-- a report's line, and whether the report says that the line is malformed
+abbrev pub malformed_by : Report → ℕ × Bool
+malformed_by r = (r.line, is_malformed r.told)
 
--- one interval: the reports are printed, and are what was counted
-pub record ShowsOne (manner : Manner) (old new : Option (List ℕ)) (counted counted2 : Counts) (memory refused : Bool) : Type 0 where
+-- that this line is malformed
+abbrev pub malformed_at : ℕ → ℕ × Bool
+malformed_at line = (line, true)
+
+-- a report on each malformed line, in order
+abbrev pub AnswerMalformed : List ℕ → List Report → Type 0
+AnswerMalformed malformed reports = map malformed_by reports ≡ map malformed_at malformed
+
+-- The reports of an interval: those of the operator, which follows the lines, those on malformed lines, and those on what
+-- became of events, from the workers. They are what was counted.
+pub record Gathered {s : Semantics} (lines : List (ℕ × Asked)) (malformed : List ℕ) (crew crew2 : Crew s) (handed : List Report) : Type 0 where
+  pub work : s.Work
+  pub told : List Report
+  pub follows : FollowsAll s crew.work lines work told
+  pub answers : List Report
+  pub on_malformed : AnswerMalformed malformed answers
+  pub others : List Report
+  pub all : handed ≡ told ++ (answers ++ others)
+  pub counts : crew2 ≡ with_work (gains crew (tallied handed)) work
+
+-- printing reports breaks off: before it begins, or within them
+pub data PrintsPart (form : Form) (old new : Option (List ℕ)) (handed : List Report) : Type 0 where
+  NotBegun : new ≡ old → PrintsPart form old new handed
+  Partly : (printed : List Report) → IsOrdered handed printed → AppendsBeginning old new (reports_text form printed) → PrintsPart form old new handed
+
+-- the reports answer malformed lines alone, and count nothing
+pub record OnlyMalformed (malformed : List ℕ) (handed : List Report) : Type 0 where
+  pub on_malformed : AnswerMalformed malformed handed
+  pub nothing : tallied handed ≡ none
+
+-- they are printed
+pub record ShowsMalformed (manner : Manner) (malformed : List ℕ) (old new : Option (List ℕ)) (memory refused : Bool) : Type 0 where
   pub handed : List Report
   pub prints : Prints manner old new handed memory refused
-  pub counts : counted2 ≡ plus counted (tallied handed)
+  pub only : OnlyMalformed malformed handed
+
+-- printing them breaks off
+pub data BreaksMalformed (form : Form) (malformed : List ℕ) (old new : Option (List ℕ)) : Type 0 where
+  BeforeThem : new ≡ old → BreaksMalformed form malformed old new
+  WithinThem : (handed : List Report) → OnlyMalformed malformed handed → PrintsPart form old new handed → BreaksMalformed form malformed old new
+
+-- an interval of these lines breaks off: before its reports are printed, or within them
+pub data BreaksOff {s : Semantics} (form : Form) (lines : List (ℕ × Asked)) (malformed : List ℕ) (old new : Option (List ℕ)) (crew : Crew s) : Type 0 where
+  Before : new ≡ old → BreaksOff form lines malformed old new crew
+  Within : (crew2 : Crew s) (handed : List Report) → Gathered lines malformed crew crew2 handed → PrintsPart form old new handed
+      → BreaksOff form lines malformed old new crew
+
+-- an interval of the first of these lines breaks off
+pub record BreaksFrom {s : Semantics} (form : Form) (all : List (ℕ × Asked)) (malformed : List ℕ) (old new : Option (List ℕ)) (crew : Crew s) : Type 0 where
+  pub lines : List (ℕ × Asked)
+  pub rest : List (ℕ × Asked)
+  pub first : all ≡ lines ++ rest
+  pub breaks : BreaksOff form lines malformed old new crew
+
+-- one interval of these lines: the reports are printed, and are what was counted
+pub record ShowsOne {s : Semantics} (manner : Manner) (lines : List (ℕ × Asked)) (malformed : List ℕ) (old new : Option (List ℕ)) (crew crew2 : Crew s) (memory refused : Bool) : Type 0 where
+  pub handed : List Report
+  pub prints : Prints manner old new handed memory refused
+  pub gathered : Gathered lines malformed crew crew2 handed
 
 -- one interval and then the answer to a question, if there is one, by what was counted until then
-pub record ShowsBatch (manner : Manner) (old new : Option (List ℕ)) (counted counted2 : Counts) (memory refused : Bool) : Type 0 where
+pub record ShowsBatch {s : Semantics} (manner : Manner) (old new : Option (List ℕ)) (crew crew2 : Crew s) (memory refused : Bool) : Type 0 where
+  pub lines : List (ℕ × Asked)
+  pub malformed : List ℕ
   pub mid : Option (List ℕ)
-  pub shows : ShowsOne manner old mid counted counted2 memory refused
-  pub tells : TellsAnswer counted2 mid new
+  pub before : Crew s
+  pub shows : ShowsOne manner lines malformed old mid crew before memory refused
+  pub tells : TellsAnswer before.counted mid new
+  pub looks : LooksOn before crew2
 
 -- it breaks off: in its interval, or in its answer
-pub data BreaksBatch (manner : Manner) (old new : Option (List ℕ)) (counted : Counts) : Type 0 where
-  InReports : BreaksOff manner.form old new → BreaksBatch manner old new counted
-  InAnswer : (mid : Option (List ℕ)) (counted2 : Counts) (memory refused : Bool) → ShowsOne manner old mid counted counted2 memory refused
-      → BreaksAnswer counted2 mid new → BreaksBatch manner old new counted
+pub data BreaksBatch {s : Semantics} (manner : Manner) (old new : Option (List ℕ)) (crew : Crew s) : Type 0 where
+  InReports : (all : List (ℕ × Asked)) (malformed : List ℕ) → BreaksFrom manner.form all malformed old new crew → BreaksBatch manner old new crew
+  InAnswer : (lines : List (ℕ × Asked)) (malformed : List ℕ) (mid : Option (List ℕ)) (before : Crew s) (memory refused : Bool)
+      → ShowsOne manner lines malformed old mid crew before memory refused → BreaksAnswer before.counted mid new → BreaksBatch manner old new crew
 
--- consecutive intervals, each with the answer that follows it; in a strict run, no interval follows a line at fault
-pub data Shows (manner : Manner) (old : Option (List ℕ)) (counted : Counts) : Option (List ℕ) → Counts → Bool → Bool → Type 0 where
-  Nothing : Shows manner old counted old counted false false
-  Then : (mid new : Option (List ℕ)) (before after : Counts) (memory more refused again : Bool) → Shows manner old counted mid before memory refused
-      → is_over manner.strict refused ≡ false → ShowsOne manner mid new before after more again → Shows manner old counted new after (memory || more) (refused || again)
-  ThenAnswers : (mid new : Option (List ℕ)) (before : Counts) (memory refused : Bool) → Shows manner old counted mid before memory refused
-      → TellsAnswer before mid new → Shows manner old counted new before memory refused
-  ThenFlushes : (mid new : Option (List ℕ)) (before : Counts) (memory refused : Bool) → Shows manner old counted mid before memory refused
-      → Keeps mid new → Shows manner old counted new before memory refused
+-- consecutive intervals of these lines, each with the answer that follows it; in a strict run, no interval follows a line at
+-- fault
+pub data Shows {s : Semantics} (manner : Manner) (old : Option (List ℕ)) (crew : Crew s) : List (ℕ × Asked) → List ℕ → Option (List ℕ) → Crew s → Bool → Bool → Type 0 where
+  Nothing : Shows manner old crew [] [] old crew false false
+  Then : (lines own : List (ℕ × Asked)) (malformed bad : List ℕ) (mid new : Option (List ℕ)) (before after : Crew s) (memory more refused again : Bool)
+      → Shows manner old crew lines malformed mid before memory refused → is_over manner.strict refused ≡ false → ShowsOne manner own bad mid new before after more again
+      → Shows manner old crew (lines ++ own) (malformed ++ bad) new after (memory || more) (refused || again)
+  ThenAnswers : (lines : List (ℕ × Asked)) (malformed : List ℕ) (mid new : Option (List ℕ)) (before after : Crew s) (memory refused : Bool)
+      → Shows manner old crew lines malformed mid before memory refused → TellsAnswer before.counted mid new → LooksOn before after
+      → Shows manner old crew lines malformed new after memory refused
+  ThenFlushes : (lines : List (ℕ × Asked)) (malformed : List ℕ) (mid new : Option (List ℕ)) (before : Crew s) (memory refused : Bool)
+      → Shows manner old crew lines malformed mid before memory refused → Keeps mid new → Shows manner old crew lines malformed new before memory refused
 
--- consecutive intervals, the last of which, or its answer, breaks off
-pub data Breaks (manner : Manner) (old new : Option (List ℕ)) (counted : Counts) : Type 0 where
-  InInterval : (mid : Option (List ℕ)) (before : Counts) (memory refused : Bool) → Shows manner old counted mid before memory refused
-      → is_over manner.strict refused ≡ false → BreaksOff manner.form mid new → Breaks manner old new counted
-  BehindInterval : (mid : Option (List ℕ)) (before : Counts) (memory refused : Bool) → Shows manner old counted mid before memory refused
-      → BreaksAnswer before mid new → Breaks manner old new counted
+-- consecutive intervals of the script's lines: of all, or of a prefix if a strict run is over before
+pub record ShowsScript {s : Semantics} (manner : Manner) (script : Option (List (ℕ × Asked))) (old new : Option (List ℕ)) (crew crew2 : Crew s) (memory refused : Bool) : Type 0 where
+  pub lines : List (ℕ × Asked)
+  pub malformed : List ℕ
+  pub shows : Shows manner old crew lines malformed new crew2 memory refused
+  pub done : AreDone script (is_over manner.strict refused) lines malformed
+
+-- consecutive intervals of a prefix of the script's lines, the last of which, or its answer, breaks off
+pub data Breaks {s : Semantics} (manner : Manner) (script : Option (List (ℕ × Asked))) (old new : Option (List ℕ)) (crew : Crew s) : Type 0 where
+  InInterval : (lines own : List (ℕ × Asked)) (malformed bad : List ℕ) (mid : Option (List ℕ)) (before : Crew s) (memory refused : Bool)
+      → Shows manner old crew lines malformed mid before memory refused → is_over manner.strict refused ≡ false → BreaksOff manner.form own bad mid new before
+      → AreBegun script (lines ++ own) (malformed ++ bad) → Breaks manner script old new crew
+  BehindInterval : (lines : List (ℕ × Asked)) (malformed : List ℕ) (mid : Option (List ℕ)) (before : Crew s) (memory refused : Bool)
+      → Shows manner old crew lines malformed mid before memory refused → BreaksAnswer before.counted mid new → AreBegun script lines malformed
+      → Breaks manner script old new crew
 
 -- 3 if a line says `memory`; otherwise 1 if a line is at fault; otherwise 0
 abbrev pub status_of : Bool → Bool → ℕ
@@ -116,8 +190,8 @@ pub data Finishes (old new : Option (List ℕ)) (counted : Counts) (own : ℕ) :
   Part : (totals : Totals) (status : ℕ) → Reads totals counted → AppendsBeginning old new (totals_text totals) → IsBroken status
       → Finishes old new counted own status
 
--- a whole run and its status: its intervals and then the last line, or it breaks off in its intervals
-pub data Runs (manner : Manner) (old new : Option (List ℕ)) (counted : Counts) : ℕ → Type 0 where
-  Ends : (mid : Option (List ℕ)) (all : Counts) (memory refused : Bool) (status : ℕ) → Shows manner old counted mid all memory refused
-      → Finishes mid new all (status_of memory refused) status → Runs manner old new counted status
-  Fails : (status : ℕ) → Breaks manner old new counted → IsBroken status → Runs manner old new counted status
+-- a whole run of the script and its status: its intervals and then the last line, or it breaks off in its intervals
+pub data Runs {s : Semantics} (manner : Manner) (script : Option (List (ℕ × Asked))) (old new : Option (List ℕ)) (crew : Crew s) : ℕ → Type 0 where
+  Ends : (mid : Option (List ℕ)) (all : Crew s) (memory refused : Bool) (status : ℕ) → ShowsScript manner script old mid crew all memory refused
+      → Finishes mid new all.counted (status_of memory refused) status → Runs manner script old new crew status
+  Fails : (status : ℕ) → Breaks manner script old new crew → IsBroken status → Runs manner script old new crew status

@@ -2,6 +2,8 @@
 
 ghost use Rattle.std.specs.Prelude.{◌≡◌, false, IfOk, OnErr};
 ghost use Rattle.apd_driver.specs.Actions.{action_of};
+ghost use Rattle.apd_script.specs.Asked.{asked_of};
+ghost use Rattle.apd_driver.specs.Following.{IsFrame};
 ghost use Rattle.apd_driver.specs.Intervals.{is_wait};
 
 use ap_model::{Event, Octets};
@@ -52,7 +54,8 @@ pub(crate) enum Action<'a> {
 /// What a command asks of the operator. Err: an allocation for a frame's bytes failed.
 pub(crate) fn action_of<'a>(alloc: Global, command: &Command<'a>) -> Result<Action<'a>, AllocError>
     ensures is { IfOk result (λ action. action ≡ action_of command.now) }
-    ensures frame { OnErr result (is_wait command.now ≡ false) }
+    ensures frame { OnErr result (IsFrame (asked_of command.now)) }
+    ensures goes_on { OnErr result (is_wait command.now ≡ false) }
 {
     match *command {
         Command::Frame(text) => {

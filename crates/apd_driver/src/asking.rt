@@ -2,6 +2,8 @@
 
 ghost use Rattle.std.specs.List.{list_all};
 ghost use Rattle.std.specs.Prelude.{◌≡◌, ◌==◌, ◌++◌, map, IfOk, OnOk, OnErr, Some, vec_len};
+ghost use Rattle.apd_driver.specs.Crews.{LooksOn};
+ghost use Rattle.apd_driver.specs.Following.{IsLook, for_use};
 ghost use Rattle.apd_driver.specs.Asking.{Answers, BreaksAnswer, ListsEntries, TellsAnswer, entry_if, shown};
 
 use crate::actions::WordUse;
@@ -24,7 +26,9 @@ struct Map {
 
 impl Map {
     /// How a word of an entry is read: at once, or summed over all workers.
-    fn use_of(&self, index: u32, place: u32) -> WordUse {
+    fn use_of(&self, index: u32, place: u32) -> WordUse
+        ensures look { IsLook (for_use result) }
+    {
         let word = MapWord {
             map: self.number,
             word: index.saturating_mul(self.shape.words).saturating_add(place),
@@ -37,8 +41,9 @@ impl Map {
 }
 
 /// The value of a word of a map; 0 if there is no such word.
+#[tactic(auto, using(crate::proofs::Looks::looks_one))]
 fn value_of<W: Serving + Drop, O: Operating<W>>(operator: &mut O, wanted: WordUse) -> u64
-    ensures same { O.crew operator.new ≡ O.crew operator.old }
+    ensures looks { IsLook (for_use wanted) → LooksOn (O.crew operator.old) (O.crew operator.new) }
 {
     match operator.use_word(wanted) {
         Some(Told::Word { value }) => return value,
@@ -53,7 +58,7 @@ fn words_of<W: Serving + Drop, O: Operating<W>>(
     map: Map,
     index: u32,
 ) -> Result<Vec<u64>, AllocError>
-    ensures same { O.crew operator.new ≡ O.crew operator.old }
+    ensures looks { LooksOn (O.crew operator.old) (O.crew operator.new) }
     ensures many { IfOk result (λ words. vec_len words ≡ map.shape.words) }
 {
     let mut words = Vec::new(alloc);
@@ -88,7 +93,7 @@ fn dump<W: Serving + Drop, O: Operating<W>>(
     operator: &mut O,
     map: Map,
 ) -> Result<Vec<EntryRow>, AllocError>
-    ensures same { O.crew operator.new ≡ O.crew operator.old }
+    ensures looks { LooksOn (O.crew operator.old) (O.crew operator.new) }
     ensures lists { IfOk result (λ rows. ListsEntries map.shape rows.items) }
 {
     let mut entries = Vec::new(alloc);
@@ -100,13 +105,14 @@ fn dump<W: Serving + Drop, O: Operating<W>>(
 }
 
 /// The answer to a question.
+#[tactic(auto, using(crate::proofs::Looks::looks_none))]
 fn answer_to<W: Serving + Drop, O: Operating<W>, R: Wait>(
     rt: &R,
     alloc: Global,
     operator: &mut O,
     question: Question,
 ) -> Result<Answer, AllocError>
-    ensures same { O.crew operator.new ≡ O.crew operator.old }
+    ensures looks { LooksOn (O.crew operator.old) (O.crew operator.new) }
     ensures answers { IfOk result (Answers (O.crew operator.old).counted question) }
 {
     match question {
@@ -139,17 +145,19 @@ fn answer_to<W: Serving + Drop, O: Operating<W>, R: Wait>(
 }
 
 /// Prints the answer to a question, if there is one.
+#[tactic(auto, using(crate::proofs::Looks::looks_none))]
 pub(crate) fn tell<W: Serving + Drop, O: Operating<W>, R: Wait, P: Console>(
     setting: &Setting<'_, W, R>,
     operator: &mut O,
     asked: Option<NumberedQuestion>,
     writer: &mut P,
 ) -> Result<(), PrintFault>
-    ensures same { O.crew operator.new ≡ O.crew operator.old }
+    ensures looks { LooksOn (O.crew operator.old) (O.crew operator.new) }
     ensures tells { OnOk result (TellsAnswer (O.crew operator.old).counted
         (P.contents writer.old) (P.contents writer.new)) }
     ensures breaks { OnErr result (BreaksAnswer (O.crew operator.old).counted
         (P.contents writer.old) (P.contents writer.new)) }
+    ensures kept { P.recorded writer.new ≡ P.recorded writer.old }
 {
     let Some(NumberedQuestion { line, question }) = asked else {
         return Ok(());

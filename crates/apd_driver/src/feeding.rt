@@ -1,6 +1,12 @@
 //! Following the script's lines up to a wait.
 
-ghost use Rattle.std.specs.Prelude.{◌≡◌, ◌<◌, ◌≤◌, length, drop, IfOk, OnOk};
+ghost use Rattle.std.specs.List.{slice_range};
+ghost use Rattle.std.specs.Prelude.{◌≡◌, ◌<◌, ◌≤◌, [], ◌∷◌, ◌++◌, length, drop, IfOk, OnOk};
+ghost use Rattle.apd_script.specs.Asked.{asked_of, commands_of};
+ghost use Rattle.apd_script.specs.Batches.{numbers_of};
+ghost use Rattle.apd_driver.specs.Crews.{Works};
+ghost use Rattle.apd_driver.specs.Following.{Follows, FollowsAll, Lists, PutsAll, for_publication, for_use};
+ghost use Rattle.apd_driver.specs.Shows.{AnswerMalformed};
 ghost use Rattle.apd_driver.specs.Tells.{Tells};
 ghost use Rattle.apd_driver.specs.Intervals.{is_wait, after_wait};
 
@@ -24,7 +30,9 @@ fn put<W: Serving + Drop, O: Operating<W>, R: Wait>(
     line: u64,
     event: Event,
 ) -> Result<(), AllocError>
-    ensures same { O.crew operator.new ≡ O.crew operator.old }
+    ensures works { Works (O.crew operator.old) (O.crew operator.new) }
+    ensures puts { OnOk result (PutsAll O.semantics line event
+        (O.crew operator.old).work (O.crew operator.new).work) }
 {
     let mut waiting = match operator.submit(rt, line, event) {
         Ok(()) => return Ok(()),
@@ -51,7 +59,11 @@ fn publish<W: Serving + Drop, O: Operating<W>, R: Wait>(
     publication: Publication<'_>,
     told: &mut Vec<Report>,
 ) -> Result<(), AllocError>
-    ensures same { O.crew operator.new ≡ O.crew operator.old }
+    ensures works { Works (O.crew operator.old) (O.crew operator.new) }
+    ensures follows { OnOk result (Lists
+        (Follows O.semantics line (for_publication publication.entry)
+        (O.crew operator.old).work (O.crew operator.new).work)
+        told.old.items told.new.items) }
     ensures told { OnOk result (Tells told.old.items told.new.items) }
 {
     told.reserve(1)?;
@@ -68,7 +80,11 @@ fn use_word<W: Serving + Drop, O: Operating<W>>(
     wanted: WordUse,
     told: &mut Vec<Report>,
 ) -> Result<(), AllocError>
-    ensures same { O.crew operator.new ≡ O.crew operator.old }
+    ensures works { Works (O.crew operator.old) (O.crew operator.new) }
+    ensures follows { OnOk result (Lists
+        (Follows O.semantics line (for_use wanted)
+        (O.crew operator.old).work (O.crew operator.new).work)
+        told.old.items told.new.items) }
     ensures told { OnOk result (Tells told.old.items told.new.items) }
 {
     told.reserve(1)?;
@@ -91,6 +107,8 @@ fn of_line(line: u64, told: Told) -> Report
 
 /// Lists a report that an allocation failed for a line.
 fn tell_memory(told: &mut Vec<Report>, line: u64) -> Result<(), AllocError>
+    ensures listed { OnOk result (told.new.items
+        ≡ told.old.items ++ record { line = line; shard = 0; told = Told.Memory } ∷ []) }
     ensures told { OnOk result (Tells told.old.items told.new.items) }
 {
     told.reserve(1)?;
@@ -104,6 +122,8 @@ fn tell_malformed_line(
     malformed: &MalformedLine<'_>,
     told: &mut Vec<Report>,
 ) -> Result<(), AllocError>
+    ensures answers { OnOk result (Lists (AnswerMalformed (malformed.now.line ∷ []))
+        told.old.items told.new.items) }
     ensures told { OnOk result (Tells told.old.items told.new.items) }
 {
     let MalformedLine { line, fault } = *malformed;
@@ -119,6 +139,8 @@ pub(crate) fn tell_malformed(
     malformed: &[MalformedLine<'_>],
     told: &mut Vec<Report>,
 ) -> Result<(), AllocError>
+    ensures answers { OnOk result (Lists (AnswerMalformed (numbers_of malformed.now))
+        told.old.items told.new.items) }
     ensures told { OnOk result (Tells told.old.items told.new.items) }
 {
     for line in malformed {
@@ -134,7 +156,11 @@ fn follow<W: Serving + Drop, O: Operating<W>, R: Wait>(
     numbered: &Numbered<'_>,
     told: &mut Vec<Report>,
 ) -> Result<bool, AllocError>
-    ensures same { O.crew operator.new ≡ O.crew operator.old }
+    ensures works { Works (O.crew operator.old) (O.crew operator.new) }
+    ensures follows { OnOk result (Lists
+        (Follows O.semantics numbered.now.line (asked_of numbered.now.command)
+        (O.crew operator.old).work (O.crew operator.new).work)
+        told.old.items told.new.items) }
     ensures told { OnOk result (Tells told.old.items told.new.items) }
     ensures waits { IfOk result (λ waits. waits ≡ is_wait numbered.now.command) }
 {
@@ -170,7 +196,11 @@ pub(crate) fn feed<W: Serving + Drop, O: Operating<W>, R: Wait>(
     told: &mut Vec<Report>,
 ) -> Result<usize, AllocError>
     requires more { start < length commands.now }
-    ensures same { O.crew operator.new ≡ O.crew operator.old }
+    ensures works { Works (O.crew operator.old) (O.crew operator.new) }
+    ensures follows { IfOk result (λ next. Lists
+        (FollowsAll O.semantics (O.crew operator.old).work
+        (commands_of (slice_range commands.now start next)) (O.crew operator.new).work)
+        told.old.items told.new.items) }
     ensures told { OnOk result (Tells told.old.items told.new.items) }
     ensures on { IfOk result (λ next. start < next) }
     ensures within { IfOk result (λ next. next ≤ length commands.now) }

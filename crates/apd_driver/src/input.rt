@@ -1,9 +1,10 @@
 //! Lines as they come.
 
-ghost use Rattle.std.specs.Prelude.{◌≡◌, [], true, length, vec_len, IfOk, OnOk, OnErr};
+ghost use Rattle.std.specs.Prelude.{◌≡◌, [], None, true, length, vec_len, IfOk, OnOk, OnErr};
 ghost use Rattle.std.specs.Io.KnownBytes.{Keeps};
 ghost use Rattle.apd_script.specs.Batches.{after_wait};
-ghost use Rattle.apd_driver.specs.Shows.{Breaks, BreaksBatch, Shows, ShowsBatch};
+ghost use Rattle.apd_driver.specs.Captures.{KeepsRun};
+ghost use Rattle.apd_driver.specs.Shows.{Breaks, BreaksBatch, ShowsBatch, ShowsScript};
 ghost use Rattle.apd_driver.specs.Ticks.{with_tick};
 
 use crate::PrintFault;
@@ -104,6 +105,7 @@ impl<S: Source + Drop> Input<S> {
     /// input.
     fn advance<P: Console>(&mut self, alloc: Global, console: &mut P) -> Result<bool, PrintFault>
         ensures keeps { Keeps (P.contents console.old) (P.contents console.new) }
+        ensures kept { P.recorded console.new ≡ P.recorded console.old }
     {
         for _ in 0..u64::MAX {
             if self.rest().contains(&b'\n') {
@@ -193,10 +195,13 @@ fn do_batch<W: Serving + Drop, O: Operating<W> + Drop, R: Wait, P: Console>(
         ((O.crew staff.new.operator).workers ≡ (O.crew staff.old.operator).workers) }
     ensures shows { IfOk result (λ found. ShowsBatch setting.now.manner
         (P.contents writer.old) (P.contents writer.new)
-        (O.crew staff.old.operator).counted (O.crew staff.new.operator).counted
+        (O.crew staff.old.operator) (O.crew staff.new.operator)
         found.memory found.refused) }
     ensures breaks { OnErr result (BreaksBatch setting.now.manner
-        (P.contents writer.old) (P.contents writer.new) (O.crew staff.old.operator).counted) }
+        (P.contents writer.old) (P.contents writer.new) (O.crew staff.old.operator)) }
+    ensures keeps { OnOk result (KeepsRun setting.now.manner.form None
+        (P.contents writer.old) (P.contents writer.new)
+        (P.recorded writer.old) (P.recorded writer.new)) }
 {
     let given = Given {
         commands: batch.commands.as_slice(),
@@ -235,10 +240,13 @@ impl<S: Source + Drop> Input<S> {
             ((O.crew staff.new.operator).workers ≡ (O.crew staff.old.operator).workers) }
         ensures shows { IfOk result (λ passed. ShowsBatch setting.now.manner
             (P.contents writer.old) (P.contents writer.new)
-            (O.crew staff.old.operator).counted (O.crew staff.new.operator).counted
+            (O.crew staff.old.operator) (O.crew staff.new.operator)
             passed.found.memory passed.found.refused) }
         ensures breaks { OnErr result (BreaksBatch setting.now.manner
-            (P.contents writer.old) (P.contents writer.new) (O.crew staff.old.operator).counted) }
+            (P.contents writer.old) (P.contents writer.new) (O.crew staff.old.operator)) }
+        ensures keeps { OnOk result (KeepsRun setting.now.manner.form None
+            (P.contents writer.old) (P.contents writer.new)
+            (P.recorded writer.old) (P.recorded writer.new)) }
     {
         let units = self.source.passed();
         let batch = self.batch(setting.alloc, units)?;
@@ -266,12 +274,15 @@ impl<S: Source + Drop> Input<S> {
         ensures home { OnOk result (vec_len staff.new.workers ≡ length setting.now.desks.now) }
         ensures workers { OnOk result
             ((O.crew staff.new.operator).workers ≡ (O.crew staff.old.operator).workers) }
-        ensures shows { IfOk result (λ found. Shows setting.now.manner
-            (P.contents writer.old) (O.crew staff.old.operator).counted
-            (P.contents writer.new) (O.crew staff.new.operator).counted
+        ensures shows { IfOk result (λ found. ShowsScript setting.now.manner None
+            (P.contents writer.old) (P.contents writer.new)
+            (O.crew staff.old.operator) (O.crew staff.new.operator)
             found.memory found.refused) }
-        ensures breaks { OnErr result (Breaks setting.now.manner
-            (P.contents writer.old) (P.contents writer.new) (O.crew staff.old.operator).counted) }
+        ensures breaks { OnErr result (Breaks setting.now.manner None
+            (P.contents writer.old) (P.contents writer.new) (O.crew staff.old.operator)) }
+        ensures keeps { OnOk result (KeepsRun setting.now.manner.form None
+            (P.contents writer.old) (P.contents writer.new)
+            (P.recorded writer.old) (P.recorded writer.new)) }
     {
         let mut found = Found::nothing();
         let mut number = 1u64;
@@ -297,6 +308,10 @@ impl<S: Source + Drop> Input<S> {
 }
 
 impl<S: Source + Drop> Lines for Input<S> {
+    ghost use Rattle.std.specs.Prelude.{None};
+
+    ghost script = { λ _. None };
+
     fn run<W: Serving + Drop, O: Operating<W> + Drop, R: Wait, P: Console>(
         self,
         setting: &Setting<'_, W, R>,

@@ -1,9 +1,12 @@
 //! Intervals: consecutive lines up to a `wait`, and at most 4096 of them.
 
-ghost use Rattle.std.specs.Prelude.{◌≡◌, ◌<◌, [], length, drop, vec_len, IfOk, OnOk, OnErr};
-ghost use Rattle.ap_books.specs.Counts.{Counts};
+ghost use Rattle.std.specs.List.{slice_range};
+ghost use Rattle.std.specs.Prelude.{◌≡◌, ◌<◌, ◌≤◌, [], Some, length, drop, vec_len, IfOk, OnOk, OnErr};
+ghost use Rattle.apd_script.specs.Asked.{commands_of};
+ghost use Rattle.apd_script.specs.Batches.{numbers_of};
+ghost use Rattle.apd_driver.specs.Captures.{AnswersAndRecords, KeepsRun, PrintsAndRecords, ShowsAndRecords};
 ghost use Rattle.apd_driver.specs.Intervals.{after_wait};
-ghost use Rattle.apd_driver.specs.Shows.{is_memory, any_memory, Prints, BreaksOff, ShowsOne, Shows, Breaks};
+ghost use Rattle.apd_driver.specs.Shows.{is_memory, any_memory, PrintsPart, BreaksFrom, BreaksMalformed, ShowsScript, Breaks};
 
 use crate::collecting::{collect, send_out};
 use crate::console::Console;
@@ -63,10 +66,12 @@ fn print_interval<P: Console>(
     handed: Vec<Report>,
     writer: &mut P,
 ) -> Result<Found, PrintFault>
-    ensures prints { IfOk result (λ found. Prints manner (P.contents writer.old)
-        (P.contents writer.new) handed.items found.memory found.refused) }
-    ensures breaks { OnErr result (BreaksOff manner.form
-        (P.contents writer.old) (P.contents writer.new)) }
+    ensures prints { IfOk result (λ found. PrintsAndRecords manner commands.now
+        (P.contents writer.old) (P.contents writer.new)
+        (P.recorded writer.old) (P.recorded writer.new)
+        handed.items found.memory found.refused) }
+    ensures breaks { OnErr result (PrintsPart manner.form
+        (P.contents writer.old) (P.contents writer.new) handed.items) }
 {
     let mut ordered = handed;
     put_in_order(&mut ordered)?;
@@ -97,15 +102,21 @@ fn interval<W: Serving + Drop, O: Operating<W> + Drop, R: Wait, P: Console>(
     ensures workers { OnOk result
         ((O.crew staff.new.operator).workers ≡ (O.crew staff.old.operator).workers) }
     ensures on { IfOk result (λ passed. from.line < passed.next) }
+    ensures within { IfOk result (λ passed. passed.next ≤ length given.entry.commands.now) }
     ensures rest { IfOk result (λ passed.
         drop passed.next given.entry.commands.now
         ≡ after_wait (drop from.line given.entry.commands.now)) }
-    ensures shows { IfOk result (λ passed. ShowsOne setting.now.manner
+    ensures shows { IfOk result (λ passed. ShowsAndRecords setting.now.manner
+        (slice_range given.entry.commands.now from.line passed.next)
+        (numbers_of given.entry.malformed.now)
         (P.contents writer.old) (P.contents writer.new)
-        (O.crew staff.old.operator).counted (O.crew staff.new.operator).counted
+        (P.recorded writer.old) (P.recorded writer.new)
+        (O.crew staff.old.operator) (O.crew staff.new.operator)
         passed.found.memory passed.found.refused) }
-    ensures breaks { OnErr result (BreaksOff setting.now.manner.form
-        (P.contents writer.old) (P.contents writer.new)) }
+    ensures breaks { OnErr result (BreaksFrom setting.now.manner.form
+        (commands_of (drop from.line given.entry.commands.now))
+        (numbers_of given.entry.malformed.now)
+        (P.contents writer.old) (P.contents writer.new) (O.crew staff.old.operator)) }
 {
     send_out(setting, &mut staff.workers, from.interval);
     let mut told = Vec::new(setting.alloc);
@@ -128,10 +139,10 @@ fn answer<P: Console>(
     malformed: &[MalformedLine<'_>],
     writer: &mut P,
 ) -> Result<Found, PrintFault>
-    ensures shows { (counted : Counts) → IfOk result (λ found. ShowsOne manner
+    ensures shows { IfOk result (λ found. AnswersAndRecords manner (numbers_of malformed.now)
         (P.contents writer.old) (P.contents writer.new)
-        counted counted found.memory found.refused) }
-    ensures breaks { OnErr result (BreaksOff manner.form
+        (P.recorded writer.old) (P.recorded writer.new) found.memory found.refused) }
+    ensures breaks { OnErr result (BreaksMalformed manner.form (numbers_of malformed.now)
         (P.contents writer.old) (P.contents writer.new)) }
 {
     let mut told = Vec::new(alloc);
@@ -155,12 +166,15 @@ pub(crate) fn whole_interval<W: Serving + Drop, O: Operating<W> + Drop, R: Wait,
     ensures home { OnOk result (vec_len staff.new.workers ≡ length setting.now.desks.now) }
     ensures workers { OnOk result
         ((O.crew staff.new.operator).workers ≡ (O.crew staff.old.operator).workers) }
-    ensures shows { IfOk result (λ found. ShowsOne setting.now.manner
+    ensures shows { IfOk result (λ found. ShowsAndRecords setting.now.manner
+        given.entry.commands.now (numbers_of given.entry.malformed.now)
         (P.contents writer.old) (P.contents writer.new)
-        (O.crew staff.old.operator).counted (O.crew staff.new.operator).counted
+        (P.recorded writer.old) (P.recorded writer.new)
+        (O.crew staff.old.operator) (O.crew staff.new.operator)
         found.memory found.refused) }
-    ensures breaks { OnErr result (BreaksOff setting.now.manner.form
-        (P.contents writer.old) (P.contents writer.new)) }
+    ensures breaks { OnErr result (BreaksFrom setting.now.manner.form
+        (commands_of given.entry.commands.now) (numbers_of given.entry.malformed.now)
+        (P.contents writer.old) (P.contents writer.new) (O.crew staff.old.operator)) }
 {
     if given.commands.is_empty() {
         return answer(setting.alloc, setting.manner, given.malformed, writer);
@@ -187,11 +201,15 @@ pub(crate) fn intervals<W: Serving + Drop, O: Operating<W> + Drop, R: Wait, P: C
     ensures home { OnOk result (vec_len staff.new.workers ≡ length setting.now.desks.now) }
     ensures workers { OnOk result
         ((O.crew staff.new.operator).workers ≡ (O.crew staff.old.operator).workers) }
-    ensures shows { IfOk result (λ found. Shows setting.now.manner
-        (P.contents writer.old) (O.crew staff.old.operator).counted
-        (P.contents writer.new) (O.crew staff.new.operator).counted found.memory found.refused) }
+    ensures shows { IfOk result (λ found. ShowsScript setting.now.manner
+        (Some (commands_of commands.now)) (P.contents writer.old) (P.contents writer.new)
+        (O.crew staff.old.operator) (O.crew staff.new.operator) found.memory found.refused) }
     ensures breaks { OnErr result (Breaks setting.now.manner
-        (P.contents writer.old) (P.contents writer.new) (O.crew staff.old.operator).counted) }
+        (Some (commands_of commands.now)) (P.contents writer.old) (P.contents writer.new)
+        (O.crew staff.old.operator)) }
+    ensures keeps { OnOk result (KeepsRun setting.now.manner.form
+        (Some (commands_of commands.now)) (P.contents writer.old) (P.contents writer.new)
+        (P.recorded writer.old) (P.recorded writer.new)) }
 {
     let mut line = 0;
     let mut found = Found::nothing();

@@ -29,7 +29,10 @@ mod source;
 
 pub use actions::{Publication, WordUse};
 pub use answers::{AgreementRow, Answer, EntryRow, ProgramRow, StationRow, print_answer};
-pub use capturing::{Capturing, Destination, InFile, Recorder, Recording, Unprinted, Unrecorded};
+pub use capturing::{
+    Capturing, Destination, InFile, Printing, Recorder, Recording, Unprinted, Unrecorded,
+    capture_law,
+};
 pub use console::{Console, Notes, Terminal};
 pub use crew::{Ready, Serving};
 pub use input::Input;

@@ -1,11 +1,13 @@
 //! What the operator of a run can do.
 
-ghost use Rattle.std.specs.Prelude.{◌≡◌, ◌<◌, IfOk, IfSome, OnOk};
+ghost use Rattle.std.specs.Prelude.{◌≡◌, ◌<◌, IfOk, IfErr, IfSome, OnOk};
 ghost use Rattle.ap_books.specs.Counts.{Counts, none};
 ghost use Rattle.ap_books.specs.Reading.{Reads};
 ghost use Rattle.apd_driver.specs.Asking.{AreAgreementsInOrder, AreStationsInOrder, AreWithinBudget};
 ghost use Rattle.apd_driver.specs.Tallies.{told_counts};
-ghost use Rattle.apd_driver.specs.Crews.{Collects, Crew, with_one_more};
+ghost use Rattle.apd_driver.specs.Crews.{Collects, Crew, Works, with_one_more};
+ghost use Rattle.apd_driver.specs.Following.{Concerns, PutsAll, PutsFrom, WaitsAt, first_shard, for_publication, for_use, shard_end};
+ghost use Rattle.apd_driver.specs.Semantics.{Semantics};
 
 use crate::actions::{Publication, WordUse};
 use crate::{AgreementRow, ProgramRow, Report, StationRow, Told};
@@ -23,28 +25,45 @@ pub struct Waiting {
 
 /// The operator's interface to an access point whose events such workers handle.
 pub trait Operating<W> {
-    // How many workers have its rights, and what those that came back have counted.
-    ghost crew: { Self → Crew };
+    // What is said of its work.
+    ghost semantics: { Semantics };
+
+    // How many workers have its rights, what those that came back have counted, and what it has done.
+    ghost crew: { Self → Crew semantics };
 
     // What a worker has counted since the operator last took over its counts.
     ghost taken: { W → Counts };
 
     /// Submits an event of the line to its shard's worker; a tick, to each shard's.
     fn submit<R: Wait>(&mut self, rt: &R, line: u64, event: Event) -> Result<(), Waiting>
-        ensures same { crew self.new ≡ crew self.old };
+        ensures works { Works (crew self.old) (crew self.new) }
+        ensures puts { OnOk result (PutsAll semantics line event
+            (crew self.old).work (crew self.new).work) }
+        ensures waits { IfErr result (WaitsAt semantics line event (first_shard event)
+            (crew self.old).work (crew self.new).work) };
 
-    /// Continues after a queue was full.
+    /// Continues after a queue was full, at the shard at which the event waits.
     fn go_on<R: Wait>(&mut self, rt: &R, line: u64, waiting: Waiting) -> Result<(), Waiting>
-        ensures same { crew self.new ≡ crew self.old };
+        ensures works { Works (crew self.old) (crew self.new) }
+        ensures puts { Concerns waiting.event waiting.shard → OnOk result
+            (PutsFrom semantics line waiting.event waiting.shard (crew self.old).work
+            (shard_end waiting.event) (crew self.new).work) }
+        ensures waits { Concerns waiting.event waiting.shard → IfErr result
+            (WaitsAt semantics line waiting.event waiting.shard
+            (crew self.old).work (crew self.new).work) };
 
     /// Changes the program of a hook, and returns what is printed of it.
     fn publish<R: Wait>(&mut self, rt: &R, publication: Publication<'_>) -> Option<Told>
-        ensures same { crew self.new ≡ crew self.old }
+        ensures works { Works (crew self.old) (crew self.new) }
+        ensures does { semantics.Does (crew self.old).work (crew self.new).work
+            (for_publication publication.entry) result }
         ensures nothing { IfSome result (λ told. told_counts told ≡ none) };
 
     /// Uses a word of a map, and returns what is printed of it.
     fn use_word(&mut self, wanted: WordUse) -> Option<Told>
-        ensures same { crew self.new ≡ crew self.old }
+        ensures works { Works (crew self.old) (crew self.new) }
+        ensures does { semantics.Does (crew self.old).work (crew self.new).work
+            (for_use wanted) result }
         ensures nothing { IfSome result (λ told. told_counts told ≡ none) };
 
     /// The known stations, by address.

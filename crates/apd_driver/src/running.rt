@@ -1,7 +1,8 @@
 //! The threads of a run.
 
 ghost use Rattle.std.specs.Prelude.{◌≡◌, length, vec_len, IfOk, OnOk, OnErr};
-ghost use Rattle.apd_driver.specs.Shows.{Shows, Breaks};
+ghost use Rattle.apd_driver.specs.Captures.{KeepsRun};
+ghost use Rattle.apd_driver.specs.Shows.{Breaks, ShowsScript};
 
 use crate::PrintFault;
 use crate::console::Console;
@@ -57,12 +58,15 @@ fn beside<W: Serving + Drop, O: Operating<W> + Drop, R: Wait, L: Lines + Drop, P
         ≡ length setting.now.desks.now) }
     ensures workers { OnOk result.found
         ((O.crew result.staff.operator).workers ≡ (O.crew staff.operator).workers) }
-    ensures shows { IfOk result.found (λ found. Shows setting.now.manner
-        (P.contents writer) (O.crew staff.operator).counted
-        (P.contents result.writer) (O.crew result.staff.operator).counted
+    ensures shows { IfOk result.found (λ found. ShowsScript setting.now.manner (L.script lines)
+        (P.contents writer) (P.contents result.writer)
+        (O.crew staff.operator) (O.crew result.staff.operator)
         found.memory found.refused) }
-    ensures breaks { OnErr result.found (Breaks setting.now.manner
-        (P.contents writer) (P.contents result.writer) (O.crew staff.operator).counted) }
+    ensures breaks { OnErr result.found (Breaks setting.now.manner (L.script lines)
+        (P.contents writer) (P.contents result.writer) (O.crew staff.operator)) }
+    ensures keeps { OnOk result.found (KeepsRun setting.now.manner.form (L.script lines)
+        (P.contents writer) (P.contents result.writer)
+        (P.recorded writer) (P.recorded result.writer)) }
 {
     let mut staff = staff;
     let mut writer = writer;
@@ -93,12 +97,15 @@ pub(crate) fn run_threads<
         ≡ length setting.now.desks.now) }
     ensures workers { OnOk result.found
         ((O.crew result.staff.operator).workers ≡ (O.crew staff.operator).workers) }
-    ensures shows { IfOk result.found (λ found. Shows setting.now.manner
-        (P.contents writer) (O.crew staff.operator).counted
-        (P.contents result.writer) (O.crew result.staff.operator).counted
+    ensures shows { IfOk result.found (λ found. ShowsScript setting.now.manner (L.script lines)
+        (P.contents writer) (P.contents result.writer)
+        (O.crew staff.operator) (O.crew result.staff.operator)
         found.memory found.refused) }
-    ensures breaks { OnErr result.found (Breaks setting.now.manner
-        (P.contents writer) (P.contents result.writer) (O.crew staff.operator).counted) }
+    ensures breaks { OnErr result.found (Breaks setting.now.manner (L.script lines)
+        (P.contents writer) (P.contents result.writer) (O.crew staff.operator)) }
+    ensures keeps { OnOk result.found (KeepsRun setting.now.manner.form (L.script lines)
+        (P.contents writer) (P.contents result.writer)
+        (P.recorded writer) (P.recorded result.writer)) }
 {
     let rt = setting.rt;
     let many = setting.desks.len();

@@ -1,8 +1,10 @@
 //! A whole run.
 
-ghost use Rattle.std.specs.Prelude.{◌≡◌, vec_len, IfOk, OnOk, OnErr};
-ghost use Rattle.apd_driver.specs.Shows.{Shows, Breaks, IsBroken, status_of, Finishes, Runs};
+ghost use Rattle.std.specs.Prelude.{◌≡◌, ◌<◌, vec_len, IfOk, OnOk, OnErr};
+ghost use Rattle.apd_driver.specs.Captures.{KeepsRun, KeepsWhole};
+ghost use Rattle.apd_driver.specs.Shows.{Breaks, ShowsScript, IsBroken, status_of, Finishes, Runs};
 
+use crate::capturing::Printing;
 use crate::console::Console;
 use crate::crew::{Desk, Ready, Serving, Signs};
 use crate::found::Found;
@@ -12,7 +14,6 @@ use crate::running::{Ran, Work, run_threads};
 use crate::setting::{Setting, Staff};
 use crate::{PrintFault, print_totals};
 use std::alloc::{AllocError, Global};
-use std::io::Write;
 use std::sync::Wait;
 use std::thread::Threads;
 
@@ -63,7 +64,7 @@ fn dismiss_all<W: Serving + Drop, O: Operating<W>>(operator: &mut O, workers: Ve
 }
 
 /// Prints the last line, and returns the status: `own` if the line was written.
-fn finish<W: Serving + Drop, O: Operating<W> + Drop, R: Wait, P: Write>(
+fn finish<W: Serving + Drop, O: Operating<W> + Drop, R: Wait, P: Printing>(
     rt: &R,
     alloc: Global,
     staff: Staff<W, O>,
@@ -73,6 +74,7 @@ fn finish<W: Serving + Drop, O: Operating<W> + Drop, R: Wait, P: Write>(
     requires all { vec_len staff.workers ≡ (O.crew staff.operator).workers }
     ensures finishes { Finishes (P.contents writer.old) (P.contents writer.new)
         (O.crew staff.operator).counted own result }
+    ensures kept { P.recorded writer.new ≡ P.recorded writer.old }
 {
     let Staff {
         mut operator,
@@ -103,12 +105,15 @@ where
     ensures home { OnOk result.found (vec_len result.staff.workers ≡ vec_len staff.workers) }
     ensures workers { OnOk result.found
         ((O.crew result.staff.operator).workers ≡ (O.crew staff.operator).workers) }
-    ensures shows { IfOk result.found (λ found. Shows (P.manner writer)
-        (P.contents writer) (O.crew staff.operator).counted
-        (P.contents result.writer) (O.crew result.staff.operator).counted
+    ensures shows { IfOk result.found (λ found. ShowsScript (P.manner writer) (L.script lines)
+        (P.contents writer) (P.contents result.writer)
+        (O.crew staff.operator) (O.crew result.staff.operator)
         found.memory found.refused) }
-    ensures breaks { OnErr result.found (Breaks (P.manner writer)
-        (P.contents writer) (P.contents result.writer) (O.crew staff.operator).counted) }
+    ensures breaks { OnErr result.found (Breaks (P.manner writer) (L.script lines)
+        (P.contents writer) (P.contents result.writer) (O.crew staff.operator)) }
+    ensures keeps { OnOk result.found (KeepsRun (P.manner writer).form (L.script lines)
+        (P.contents writer) (P.contents result.writer)
+        (P.recorded writer) (P.recorded result.writer)) }
 {
     let Ok(desks) = new_desks(alloc, staff.workers.len()) else {
         return Ran {
@@ -132,7 +137,8 @@ where
     run_threads(&setting, &task, staff, lines, writer)
 }
 
-/// Runs lines: between two waits the operator follows them while the workers handle events. It returns the writer and the
+/// Runs lines: between two waits the operator follows them, one after another, each once, while the workers handle events.
+/// If the writer is strict and ends the run early, or the run breaks off, these are a prefix. It returns the writer and the
 /// exit status: 3 if a line says `memory`; otherwise 1 if a line was malformed, or the writer is strict and a line was
 /// refused; otherwise 0. If the writer is strict, such a line ends the run after its interval. A run that breaks off has
 /// status 2 or 3: 2 after a failed read or write, 3 for lack of memory, but the contract doesn't say which.
@@ -150,8 +156,11 @@ where
     L: Lines + Drop,
     P: Console + Drop,
     requires all { vec_len staff.workers ≡ (O.crew staff.operator).workers }
-    ensures runs { Runs (P.manner writer) (P.contents writer) (P.contents result.0)
-        (O.crew staff.operator).counted result.1 }
+    ensures runs { Runs (P.manner writer) (L.script lines)
+        (P.contents writer) (P.contents result.0) (O.crew staff.operator) result.1 }
+    ensures keeps { result.1 < 2 → KeepsWhole (P.manner writer).form (L.script lines)
+        (P.contents writer) (P.contents result.0)
+        (P.recorded writer) (P.recorded result.0) }
 {
     let Ran {
         staff,

@@ -4,9 +4,11 @@ use Rattle.std.specs.Str.{bytes_eq}
 use Rattle.apd_driver.specs.declared.reports.report.Form.{Form}
 use Rattle.apd_driver.specs.declared.reports.report.Style.{Style}
 use Rattle.apd_driver.specs.declared.reports.report.Style.TheVariants.{Lines, Notices, Json}
-use Rattle.apd_driver.specs.Counts.{none}
-use Rattle.apd_driver.specs.Shows.{IsBroken, Runs}
+use Rattle.apd_driver.specs.Shows.{IsBroken}
 use Rattle.apd_driver.specs.declared.manner.Manner.{Manner}
+use Rattle.apd_files.specs.Held.{Held}
+use Rattle.apd_run.specs.NewRuns.{RunsNew}
+use Rattle.apd_program.specs.Verifying.{within}
 
 -- a run that prints lines, without colours
 abbrev pub in_lines : Bool → Manner
@@ -41,12 +43,14 @@ form_of (Some style) (Some colours) = Some (record { style = style; colours = co
 form_of (Some style) None = None
 form_of None colours = None
 
--- lines run as they come, in this form; without a form nothing is written, and the status is that of a fault
-abbrev pub RunsFormed : Bool → Option Form → Option (List ℕ) → Option (List ℕ) → ℕ → Type 0
-RunsFormed strict None old new status = (new ≡ old) × IsBroken status
-RunsFormed strict (Some form) old new status = Runs (record { strict = strict; form = form }) old new none status
+-- lines run as they come, in this form, with these files and limits; without a form nothing is written, and the status is
+-- that of a fault
+abbrev pub RunsFormed : Held → ℕ → Option ℕ → Bool → Option Form → Option (List ℕ) → Option (List ℕ) → ℕ → Type 0
+RunsFormed files states work strict None old new status = (new ≡ old) × IsBroken status
+RunsFormed files states work strict (Some form) old new status =
+    RunsNew files (within states work) (record { strict = strict; form = form }) None old new status
 
 -- the same in the form that `--events` and `--color` name, where a terminal shows the output or doesn't
-abbrev pub RunsLive : Bool → Bool → Option (List ℕ) → Option (List ℕ) → Option (List ℕ) → Option (List ℕ) → ℕ → Type 0
-RunsLive shown strict events color old new status =
-    RunsFormed strict (form_of (style_of events) (colours_of shown color)) old new status
+abbrev pub RunsLive : Held → ℕ → Option ℕ → Bool → Bool → Option (List ℕ) → Option (List ℕ) → Option (List ℕ) → Option (List ℕ) → ℕ → Type 0
+RunsLive files states work shown strict events color old new status =
+    RunsFormed files states work strict (form_of (style_of events) (colours_of shown color)) old new status

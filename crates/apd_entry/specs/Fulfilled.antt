@@ -1,10 +1,10 @@
 -- What the program does with its words.
 use Rattle.std.specs.Prelude.{◌≡◌, ℕ, Bool, List, Option}
-use Rattle.apd_driver.specs.Counts.{none}
-use Rattle.apd_driver.specs.Shows.{Runs as runs}
 use Rattle.apd_files.specs.Held.{Held}
 use Rattle.apd_words.specs.Asked.{Wanted, Run, Live, Answer}
+use Rattle.apd_run.specs.NewRuns.{RunsScript}
 use Rattle.apd_program.specs.Program.{Performs}
+use Rattle.apd_program.specs.Verifying.{within}
 use Rattle.apd_entry.specs.Captured.{lines_known}
 use Rattle.apd_entry.specs.Forms.{in_lines, RunsLive}
 
@@ -13,6 +13,6 @@ use Rattle.apd_entry.specs.Forms.{in_lines, RunsLive}
 abbrev pub Fulfils : Bool → Held → Wanted → Option (List ℕ) → Option (List ℕ) → ℕ → Type 0
 Fulfils shown files (Answer a output) old new status = Performs files a output old new status
 Fulfils shown files (Run config script workers states work quiet strict verbose capture replaces) old new status =
-    runs (in_lines strict) (lines_known capture old) (lines_known capture new) none status
+    RunsScript files (within states work) script (in_lines strict) (lines_known capture old) (lines_known capture new) status
 Fulfils shown files (Live config workers states work strict verbose clock events color capture replaces) old new status =
-    RunsLive shown strict events color (lines_known capture old) (lines_known capture new) status
+    RunsLive files states work shown strict events color (lines_known capture old) (lines_known capture new) status

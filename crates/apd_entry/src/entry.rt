@@ -1,8 +1,8 @@
 //! From words to a status: `apd` runs a script, or lines as they come, with threads, or answers a question.
 
 ghost use Rattle.std.specs.Prelude.{◌≡◌, map};
-ghost use Rattle.apd_driver.specs.Counts.{none};
-ghost use Rattle.apd_driver.specs.Shows.{Runs};
+ghost use Rattle.apd_run.specs.NewRuns.{RunsScript};
+ghost use Rattle.apd_program.specs.Verifying.{within};
 ghost use Rattle.apd_words.specs.Asked.{Wanted, text_of};
 ghost use Rattle.apd_words.specs.Spells.{Spells};
 ghost use Rattle.apd_entry.specs.Fulfilled.{Fulfils};
@@ -33,6 +33,7 @@ pub struct Messages<'a, E> {
 /// What a run of a script is given.
 fn words_of<'a>(asked: ScriptRun<'a>) -> RunWords<'a>
     ensures manner { result.manner ≡ in_lines asked.entry.strict }
+    ensures script { result.script.now ≡ asked.entry.script.now }
 {
     RunWords {
         config: asked.config,
@@ -62,8 +63,9 @@ where
     F: Files,
     P: Recording + Drop,
     E: Write,
-    ensures runs { Runs (in_lines asked.entry.strict)
-        (P.contents out) (P.contents result.0) none result.1 }
+    ensures runs { RunsScript (F.held files.old) (within asked.entry.states asked.entry.work)
+        asked.entry.script.now (in_lines asked.entry.strict)
+        (P.contents out) (P.contents result.0) result.1 }
 {
     let Messages { err, watched } = messages;
     let words = words_of(asked);
@@ -116,9 +118,10 @@ where
     F: Files + Tapes,
     O: Write + Drop,
     E: Write,
-    ensures runs { Runs (in_lines asked.entry.strict)
+    ensures runs { RunsScript (F.held files.old) (within asked.entry.states asked.entry.work)
+        asked.entry.script.now (in_lines asked.entry.strict)
         (lines_known (text_of asked.entry.capture.path) (O.contents out))
-        (lines_known (text_of asked.entry.capture.path) (O.contents result.0)) none result.1 }
+        (lines_known (text_of asked.entry.capture.path) (O.contents result.0)) result.1 }
 {
     if is_in_place(asked.capture) {
         let out = in_place(alloc, out);
@@ -149,7 +152,8 @@ where
     I: Read + Drop + Send + 'static,
     O: Write + Drop,
     E: Write,
-    ensures runs { RunsLive streams.shown asked.entry.strict
+    ensures runs { RunsLive (F.held files.old) asked.entry.states asked.entry.work
+        streams.shown asked.entry.strict
         (text_of asked.entry.events) (text_of asked.entry.color)
         (lines_known (text_of asked.entry.capture.path) (O.contents streams.out))
         (lines_known (text_of asked.entry.capture.path) (O.contents result.0)) result.1 }

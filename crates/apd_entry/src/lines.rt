@@ -91,7 +91,8 @@ where
     I: Read + Drop + Send + 'static,
     O: Recording + Drop,
     E: Write,
-    ensures runs { RunsLive streams.shown asked.entry.strict
+    ensures runs { RunsLive (F.held files.old) asked.entry.states asked.entry.work
+        streams.shown asked.entry.strict
         (text_of asked.entry.events) (text_of asked.entry.color)
         (O.contents streams.out) (O.contents result.0) result.1 }
 {

@@ -1,6 +1,7 @@
 -- Files, and the code that they spell.
-use Rattle.std.specs.Prelude.{◌≡◌, ◌<◌, ◌%◌, ◌⊎◌, ℕ, List, [], ◌∷◌, ◌++◌, length, Option, Some, None, Result, Ok, IfSome, not, filter}
+use Rattle.std.specs.Prelude.{◌≡◌, ◌<◌, ◌%◌, ◌⊎◌, ℕ, List, [], ◌∷◌, ◌++◌, length, Option, Some, None, Result, Ok, IfSome, not, filter, codes, if◌then◌else◌}
 use Rattle.std.specs.Char.{is_ascii_whitespace}
+use Rattle.std.specs.Str.{bytes_eq}
 use Rattle.hex.specs.Hex.{decode_of}
 use Rattle.hex.specs.declared.error.FromHexError.{FromHexError}
 use Rattle.apd_files.specs.Kinds.{most_of}
@@ -11,6 +12,10 @@ use Rattle.apd_files.specs.declared.inputs.files.FileKind.{FileKind}
 -- What is known of files, by path: nothing, the file's bytes, or that it can't be read.
 abbrev pub Held : Type 0
 Held = List ℕ → Option (Option (List ℕ))
+
+-- the path of the file that a word of a script names: `-` is an ordinary file name there
+abbrev pub path_of : List ℕ → List ℕ
+path_of word = if bytes_eq word (codes "-") then codes "./-" else word
 
 -- the file's bytes, as far as is known
 abbrev pub Holds : Held → List ℕ → List ℕ → Type 0

@@ -10,7 +10,6 @@ use Rattle.ap_live.specs.Tokens.{Operator, IsOperator, Worker, IsWorker}
 use Rattle.ap_live.specs.declared.tagged.Tagged.{Tagged}
 use Rattle.logbook.specs.Pages.{Book}
 use Rattle.versions.specs.Lists.{Beginning}
-use Rattle.hook_judge.specs.Counted.{Counted}
 use Rattle.hook_judge.specs.Sums.{no_counts}
 use Rattle.apd_run.specs.InForce.{AreInForce}
 use Rattle.apd_run.specs.declared.access.program_counts.ProgramCounts.{ProgramCounts}
@@ -19,7 +18,7 @@ use Rattle.apd_run.proofs.Served.{more_counted, nothing_counted}
 use Rattle.apd_run.proofs.Sums.{keeps_parts}
 
 -- an operator whose token has the same parts of the ledgers
-pub other_token : (shares : ℕ) (list : Book) (o : RunOperator) (t : Operator) → IsOperator o.ap t → t.shards ≡ o.token.shards → IsRunOperator shares list o
+pub other_token : {F : Type 0} → (shares : ℕ) (list : Book) (o : RunOperator F) (t : Operator) → IsOperator o.ap t → t.shards ≡ o.token.shards → IsRunOperator shares list o
     → IsRunOperator shares list (record o { token = t })
 other_token shares list o t own same h =
     record {
@@ -37,9 +36,9 @@ other_token shares list o t own same h =
     }
 
 -- an operator whose loads are of the same list, with the counts of their programs
-pub other_loads : (shares : ℕ) (list : Book) (o : RunOperator) (b : Beginning) (programs : ProgramCounts) → b.list ≡ o.loads.list → AreInForce programs b.loads
-    → IsRunOperator shares list o → IsRunOperator shares list (record o { loads = b; programs = programs })
-other_loads shares list o b programs same in_force h =
+pub other_loads : {F : Type 0} → (shares : ℕ) (list : Book) (o : RunOperator F) (f : F) (b : Beginning) (programs : ProgramCounts) → b.list ≡ o.loads.list → AreInForce programs b.loads
+    → IsRunOperator shares list o → IsRunOperator shares list (record o { loads = b; programs = programs; files = f })
+other_loads shares list o f b programs same in_force h =
     record {
       own = h.own;
       mine = h.mine;

@@ -3,6 +3,8 @@ pub mod Putting
 pub mod Sums
 pub mod Served
 pub mod Keeping
+pub mod Operated
+pub mod NewRuns
 pub mod Loading
 pub mod OneByOne
 pub mod Counted

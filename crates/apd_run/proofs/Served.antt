@@ -9,6 +9,7 @@ use Rattle.ap_shards.specs.declared.fate.Fate.{Fate}
 use Rattle.ap_shards.specs.declared.fate.Fate.TheVariants.{Decided, Refused, NotHandled}
 use Rattle.ap_live.specs.declared.tagged.Tagged.{Tagged}
 use Rattle.apd_driver.specs.Crews.{Collects, Crew, gains}
+use Rattle.apd_driver.specs.Semantics.{Semantics}
 use Rattle.apd_run.specs.Reports.{Handled, Memory, Report}
 use Rattle.apd_driver.specs.Tallies.{report_counts, tallied, told_counts}
 use Rattle.apd_run.specs.Telling.{dropped_in, report_if, reports_in, reports_of, told_of}
@@ -53,7 +54,7 @@ told_counted (t ∷ ts) =
     ∙ (ap (λ (c : Counts). plus c (tallied (reports_in ts))) (report_counted t.item.call t.item.shard t.item.event t.fate) ∙ ap (λ (c : Counts). plus (fate_counts t.fate) c) (told_counted ts))
 
 -- a worker came back, and the reports on its list were appended
-pub collects_told : (crew crew2 : Crew) (list list2 : List Report) (tags : List Tagged) → list2 ≡ list ++ reports_in tags → crew2 ≡ gains crew (tally tags) → Collects crew crew2 list list2
+pub collects_told : {s : Semantics} → (crew crew2 : Crew s) (list list2 : List Report) (tags : List Tagged) → list2 ≡ list ++ reports_in tags → crew2 ≡ gains crew (tally tags) → Collects crew crew2 list list2
 collects_told crew crew2 list list2 tags listed counted =
     record {
       reports = reports_in tags;

@@ -4,14 +4,16 @@ use Rattle.std.specs.List.{All}
 use Rattle.ap_books.specs.Counts.{none}
 use Rattle.ap_books.specs.Holdings.{Holding, HasParts, sum_of}
 use Rattle.ap_shards.specs.Tokens.{holding_of}
+use Rattle.ap_queues.specs.Lines.{HasPutNothing}
 use Rattle.ap_live.specs.Counting.{counted_by}
 use Rattle.ap_live.specs.Lives.{Live}
 use Rattle.ap_live.specs.Opening.{parts_in_all}
 use Rattle.ap_live.specs.Tokens.{Operator, IsOperator, Worker, IsWorker}
 
--- an operator's token with one part of each ledger, which has counted nothing
+-- an operator's token with one part of each ledger, which has counted nothing, and has put nothing into any queue
 pub record IsNewOperator (a : Live) (o : Operator) : Type 0 where
   pub own : IsOperator a o
+  pub unput : HasPutNothing a.queues o.lines
   pub parts : HasParts 1 (holding_of o.shards)
   pub nothing : counted_by o.shards ≡ none
 

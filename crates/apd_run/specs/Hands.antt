@@ -14,7 +14,11 @@ use Rattle.ap_live.specs.declared.tagged.Tagged.{Tagged}
 use Rattle.logbook.specs.Pages.{Book}
 use Rattle.versions.specs.Lists.{Beginning}
 use Rattle.apd_run.specs.InForce.{AreInForce}
+use Rattle.ap_queues.specs.Lines.{puts_of}
 use Rattle.apd_driver.specs.Crews.{Crew}
+use Rattle.apd_files.specs.Held.{Held}
+use Rattle.bpf_verifier.specs.declared.limit.Limits.{Limits}
+use Rattle.apd_run.specs.Work.{Work, live}
 use Rattle.apd_run.specs.declared.access.program_counts.ProgramCounts.{ProgramCounts}
 
 -- a worker's access point and token, and what became of its events since the operator last took over its counts
@@ -32,9 +36,10 @@ pub record IsRunWorker (list : Book) (w : RunWorker) : Type 0 where
   pub counts : counted_by w.token.shards ≡ tally w.handled
 
 -- An operator's access point and token, the parts of the ledgers and the pages that it keeps and how many of each they
--- are, what these have counted, how many workers have one, what was published, and what the workers that came
--- back have counted of the runs of the programs in force.
-pub record RunOperator : Type 0 where
+-- are, what these have counted, how many workers have one, what was published, what the workers that came back have
+-- counted of the runs of the programs in force, the files of programs, and what the verifier or a check may do for each
+-- program.
+pub record RunOperator (F : Type 0) : Type 0 where
   pub ap : Live
   pub token : Operator
   pub hoard : Holding
@@ -44,10 +49,12 @@ pub record RunOperator : Type 0 where
   pub workers : ℕ
   pub loads : Beginning
   pub programs : ProgramCounts
+  pub files : F
+  pub limits : Limits
 
 -- Its token belongs to the access point, whose published loads are this list, and has one part of each ledger, which
 -- has counted nothing. The operator keeps, or the workers have, all other parts.
-pub record IsRunOperator (shares : ℕ) (list : Book) (o : RunOperator) : Type 0 where
+pub record IsRunOperator {F : Type 0} (shares : ℕ) (list : Book) (o : RunOperator F) : Type 0 where
   pub own : IsOperator o.ap o.token
   pub mine : HasParts 1 (holding_of o.token.shards)
   pub nothing : counted_by o.token.shards ≡ none
@@ -60,6 +67,10 @@ pub record IsRunOperator (shares : ℕ) (list : Book) (o : RunOperator) : Type 0
   pub reads : Reads o.totals (sum_of o.hoard)
   pub in_force : AreInForce o.programs o.loads.loads
 
--- how many workers have rights, and what those that came back have counted
-abbrev pub crew_of : RunOperator → Crew
-crew_of o = record { workers = o.workers; counted = sum_of o.hoard }
+-- what an operator works with, where this is known of its files, and what it has done
+abbrev pub work_of : {F : Type 0} → (F → Held) → RunOperator F → Work
+work_of held o = record { files = held o.files; limits = o.limits; puts = puts_of o.token.lines; loads = o.loads }
+
+-- how many workers have rights, what those that came back have counted, and what the operator has done
+abbrev pub crew_of : {F : Type 0} → (F → Held) → RunOperator F → Crew live
+crew_of held o = record { workers = o.workers; counted = sum_of o.hoard; work = work_of held o }

@@ -4,7 +4,9 @@ pub mod Reports
 pub mod Telling
 pub mod InForce
 pub mod Listing
+pub mod Work
 pub mod Hands
+pub mod NewRuns
 pub mod Dealing
 pub mod Statuses
 pub use Rattle.ap_shards.specs.Opening

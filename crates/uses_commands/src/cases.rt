@@ -173,16 +173,24 @@ const FAULTY: &[(&str, &str)] = &[
         "2: no line before it has a frame (`frame HEX`)",
     ),
     (
-        "policy data no.hex\nexpect pass",
+        "frame 00\npolicy data no.hex\n\nexpect pass",
         "2: no.hex: there is no such file",
     ),
     (
-        "policy data maps.toml\nexpect pass",
+        "policy data no.hex\npolicy data maps.toml\nframe 00\nexpect pass\npolicy data no.hex",
         "2: maps.toml: line 1: `s` is no hex digit",
     ),
     (
+        "config no.toml\npolicy data mark.hex\nframe 00\nexpect pass",
+        "1: no.toml: there is no such file",
+    ),
+    (
         "policy data mark.hex\nframe 00\nword 0 0 0 1\nexpect pass",
-        "4: the maps of the configuration have no word 0 0 0",
+        "3: the maps of the configuration have no word 0 0 0",
+    ),
+    (
+        "policy data mark.hex\nframe 00\nconfig maps.toml\nword 3 0 0 1\nconfig maps.toml\nexpect word 3 0 0 1",
+        "6: the maps of the configuration have no word 3 0 0",
     ),
     (
         "policy data mark.hex\nframe 00\nexpect word 3 0 0 1",
@@ -190,11 +198,11 @@ const FAULTY: &[(&str, &str)] = &[
     ),
     (
         "policy data mark.hex\nframe 00\ngiven tid=9\nexpect pass",
-        "4: given: `tid` is 0 to 7, or 255 where there is none",
+        "3: given: `tid` is 0 to 7, or 255 where there is none",
     ),
     (
-        "policy data mark.hex\nframe 00\ngiven 9\nexpect pass",
-        "4: given: `9` is no KEY=VALUE",
+        "given 1\npolicy data mark.hex\ngiven 9\nframe 00\nexpect pass",
+        "3: given: `9` is no KEY=VALUE",
     ),
 ];
 

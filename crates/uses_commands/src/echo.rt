@@ -1,6 +1,7 @@
 //! An access point that reports each tick as refused, unless it has no units. It does what `run_lines` requires of one.
 
-ghost use Rattle.std.specs.Prelude.{OnOk};
+ghost use Rattle.std.specs.Prelude.{◌≡◌, None, IfErr, OnOk};
+ghost use Rattle.ap_model.specs.AccessPoint.{shard_of};
 ghost use Rattle.apd_driver.specs.Tells.{Tells};
 
 use ap_books::Totals;
@@ -111,8 +112,17 @@ fn put<R: Wait>(rt: &R, places: &[Place], tick: Tick) -> bool {
     true
 }
 
-/// Puts a tick; drops any other event.
-fn put_event<R: Wait>(rt: &R, places: &[Place], line: u64, event: Event) -> Result<(), Waiting> {
+/// Puts a tick, or returns it for this shard; drops any other event.
+fn put_event<R: Wait>(
+    rt: &R,
+    places: &[Place],
+    line: u64,
+    event: Event,
+    shard: u16,
+) -> Result<(), Waiting>
+    ensures waits { IfErr result (λ w. w ≡ record { event = event; shard = shard }) }
+    ensures tick { IfErr result (λ w. shard_of event ≡ None) }
+{
     match event {
         Event::Tick(units) => {
             if put(rt, places, Tick { line, units }) {
@@ -120,7 +130,7 @@ fn put_event<R: Wait>(rt: &R, places: &[Place], line: u64, event: Event) -> Resu
             }
             return Err(Waiting {
                 event: Event::Tick(units),
-                shard: 0,
+                shard,
             });
         }
         _ => return Ok(()),
@@ -129,18 +139,21 @@ fn put_event<R: Wait>(rt: &R, places: &[Place], line: u64, event: Event) -> Resu
 
 impl Operating<Echo> for Places {
     ghost use Rattle.ap_books.specs.Counts.{none};
+    ghost use Rattle.uses_commands.specs.Idling.{idle};
 
-    ghost crew = { λ o. record { workers = o.workers; counted = none } };
+    ghost semantics = { idle };
+
+    ghost crew = { λ o. record { workers = o.workers; counted = none; work = tt } };
 
     ghost taken = { λ _. none };
 
     fn submit<R: Wait>(&mut self, rt: &R, line: u64, event: Event) -> Result<(), Waiting> {
-        put_event(rt, self.places.as_slice(), line, event)
+        put_event(rt, self.places.as_slice(), line, event, 0)
     }
 
     fn go_on<R: Wait>(&mut self, rt: &R, line: u64, waiting: Waiting) -> Result<(), Waiting> {
-        let Waiting { event, shard: _ } = waiting;
-        put_event(rt, self.places.as_slice(), line, event)
+        let Waiting { event, shard } = waiting;
+        put_event(rt, self.places.as_slice(), line, event, shard)
     }
 
     fn publish<R: Wait>(&mut self, _rt: &R, publication: Publication<'_>) -> Option<Told> {

@@ -47,10 +47,23 @@ pub const CAPTURE: &str = "d4c3b2a1020004000000000000000000ffff000069000000\
     e8030000701101002400000024000000\
     8801000002000000000102000000000a0200000000ff60000000aaaa0300000008060001";
 
+/// A capture of two frames of a station that isn't associated: one is encrypted.
+const ALONE: &[u8] = &[
+    0xd4, 0xc3, 0xb2, 0xa1, 0x02, 0x00, 0x04, 0x00, 0x00, 0x00, 0x00, 0x00, 0x00, 0x00, 0x00, 0x00,
+    0xff, 0xff, 0x00, 0x00, 0x69, 0x00, 0x00, 0x00, 0xe8, 0x03, 0x00, 0x00, 0x10, 0x27, 0x00, 0x00,
+    0x26, 0x00, 0x00, 0x00, 0x26, 0x00, 0x00, 0x00, 0x88, 0x01, 0x00, 0x00, 0x02, 0x00, 0x00, 0x00,
+    0x00, 0x01, 0x02, 0x00, 0x00, 0x00, 0x00, 0x0a, 0x02, 0x00, 0x00, 0x00, 0x00, 0xff, 0x30, 0x00,
+    0x00, 0x00, 0xaa, 0xaa, 0x03, 0x00, 0x00, 0x00, 0x08, 0x00, 0x45, 0xb8, 0x00, 0x14, 0xe8, 0x03,
+    0x00, 0x00, 0x30, 0x75, 0x00, 0x00, 0x26, 0x00, 0x00, 0x00, 0x26, 0x00, 0x00, 0x00, 0x88, 0x41,
+    0x00, 0x00, 0x02, 0x00, 0x00, 0x00, 0x00, 0x01, 0x02, 0x00, 0x00, 0x00, 0x00, 0x0a, 0x02, 0x00,
+    0x00, 0x00, 0x00, 0xff, 0x40, 0x00, 0x00, 0x00, 0xaa, 0xaa, 0x03, 0x00, 0x00, 0x00, 0x08, 0x00,
+    0x45, 0xb8, 0x00, 0x14,
+];
+
 /// Fails if `apd eval` with these words has another result.
 pub fn judges(rt: &impl Abort, alloc: Global, words: &[&str], status: u8, out: &str, err: &str) {
     let capture = hex::decode(alloc, CAPTURE).ok().expect(rt, "a capture");
-    let files: [(&str, &[u8]); 8] = [
+    let files: [(&str, &[u8]); 9] = [
         ("voice.hex", VOICE),
         ("refuses.hex", REFUSES),
         ("exits.hex", EXITS),
@@ -59,6 +72,7 @@ pub fn judges(rt: &impl Abort, alloc: Global, words: &[&str], status: u8, out: &
         ("lab.toml", LAB),
         ("other.toml", OTHER),
         ("voice.pcap", capture.as_slice()),
+        ("alone.pcap", ALONE),
     ];
     let told = answer(alloc, words, &mut folder_of(&files, alloc));
     tells(rt, &told, status, out, err);
@@ -80,7 +94,8 @@ fn each_query_of_the_hook_is_a_row(rt: HostRuntime) {
         4       02:00:00:00:00:0a  pass mark 46  29\n\
         5       02:00:00:00:00:0a  pass          29\n\
         6       02:00:00:00:00:0a  pass          24\n\
-        judged 4 of 6 packets: pass 4 (2 marked), drop 0; steps at most 29 of budget 29\n";
+        judged 4 of 6 packets: pass 4 (2 marked), drop 0; steps at most 29 of budget 29\n\
+        not judged: 2 not data\n";
     judges(&rt, rt.alloc(), &words, 0, table, "");
 }
 
@@ -96,9 +111,11 @@ fn rows_are_lines_of_json(rt: HostRuntime) {
         "lab.toml",
         "-j",
     ];
-    let line =
-        "{\"packet\":2,\"station\":\"02:00:00:00:00:0a\",\"verdict\":\"refuse 37\",\"steps\":2}\n";
-    judges(&rt, rt.alloc(), &words, 0, line, "");
+    let lines =
+        "{\"packet\":2,\"station\":\"02:00:00:00:00:0a\",\"verdict\":\"refuse 37\",\"steps\":2}\n\
+        {\"judged\":1,\"packets\":6,\"admit\":0,\"refuse\":1,\"steps\":2,\"budget\":2,\"not_judged\":{\
+        \"without_frame\":0,\"other_kind\":5,\"other_address\":0,\"encrypted\":0,\"refused\":0}}\n";
+    judges(&rt, rt.alloc(), &words, 0, lines, "");
 }
 
 #[test]
@@ -114,7 +131,8 @@ fn a_verdict_of_the_hook_changes_what_follows(rt: HostRuntime) {
     ];
     let table = "packet  station            verdict       steps\n\
         2       02:00:00:00:00:0a  refuse 37     2\n\
-        judged 1 of 6 packets: admit 0, refuse 1; steps at most 2 of budget 2\n";
+        judged 1 of 6 packets: admit 0, refuse 1; steps at most 2 of budget 2\n\
+        not judged: 5 no association request\n";
     judges(&rt, rt.alloc(), &words, 0, table, "");
 }
 
@@ -130,8 +148,24 @@ fn a_table_without_rows_says_why(rt: HostRuntime) {
         "other.toml",
     ];
     let table = "packet  station            verdict       steps\n\
-        judged 0 of 6 packets: 0 without a frame, 2 not data, 4 to another address, 0 encrypted, \
-        0 refused before any program\n";
+        judged 0 of 6 packets: 2 not data, 4 to another address\n";
+    judges(&rt, rt.alloc(), &words, 0, table, "");
+}
+
+#[test]
+fn a_capture_without_an_association_leads_to_no_query(rt: HostRuntime) {
+    let words = [
+        "apd",
+        "eval",
+        "data",
+        "drops.hex",
+        "alone.pcap",
+        "--config",
+        "lab.toml",
+    ];
+    let table = "packet  station            verdict       steps\n\
+        judged 0 of 2 packets: 1 encrypted, 1 refused before any program\n\
+        no station associates in this capture, and frames of a station that is not associated come to no program\n";
     judges(&rt, rt.alloc(), &words, 0, table, "");
 }
 
@@ -180,21 +214,18 @@ fn contrasts(rt: &impl Abort, alloc: Global, words: &[&str], told: (u8, &str, &s
     judges(rt, alloc, all.as_slice(), status, out, err);
 }
 
+/// The verdicts that differ if all data is dropped in place of the policy `voice`.
+const DROPPED: &str = "packet  station            verdict\n\
+    3       02:00:00:00:00:0a  pass mark 46 -> drop\n\
+    4       02:00:00:00:00:0a  pass mark 46 -> drop\n\
+    5       02:00:00:00:00:0a  pass -> drop\n\
+    6       02:00:00:00:00:0a  pass -> drop\n\
+    judged 4 of 6 packets by both: 4 verdicts differ\n\
+    not judged: 2 not data\n";
+
 /// A program, the one in force and other words, with the status, the output and the error.
 const CONTRASTS: &[(&[&str], (u8, &str, &str))] = &[
-    (
-        &["drops.hex", "voice.hex"],
-        (
-            1,
-            "packet  station            verdict\n\
-            3       02:00:00:00:00:0a  pass mark 46 -> drop\n\
-            4       02:00:00:00:00:0a  pass mark 46 -> drop\n\
-            5       02:00:00:00:00:0a  pass -> drop\n\
-            6       02:00:00:00:00:0a  pass -> drop\n\
-            judged 4 of 6 packets by both: 4 verdicts differ\n",
-            "",
-        ),
-    ),
+    (&["drops.hex", "voice.hex"], (1, DROPPED, "")),
     (
         &["voice.hex", "marks.hex"],
         (
@@ -202,7 +233,8 @@ const CONTRASTS: &[(&[&str], (u8, &str, &str))] = &[
             "packet  station            verdict\n\
             5       02:00:00:00:00:0a  pass mark 46 -> pass\n\
             6       02:00:00:00:00:0a  pass mark 46 -> pass\n\
-            judged 4 of 6 packets by both: 2 verdicts differ\n",
+            judged 4 of 6 packets by both: 2 verdicts differ\n\
+            not judged: 2 not data\n",
             "",
         ),
     ),
@@ -211,7 +243,8 @@ const CONTRASTS: &[(&[&str], (u8, &str, &str))] = &[
         (
             0,
             "packet  station            verdict\n\
-            judged 4 of 6 packets by both: 0 verdicts differ\n",
+            judged 4 of 6 packets by both: 0 verdicts differ\n\
+            not judged: 2 not data\n",
             "",
         ),
     ),
@@ -222,11 +255,21 @@ const CONTRASTS: &[(&[&str], (u8, &str, &str))] = &[
             "{\"packet\":3,\"station\":\"02:00:00:00:00:0a\",\"old\":\"pass mark 46\",\"new\":\"drop\"}\n\
             {\"packet\":4,\"station\":\"02:00:00:00:00:0a\",\"old\":\"pass mark 46\",\"new\":\"drop\"}\n\
             {\"packet\":5,\"station\":\"02:00:00:00:00:0a\",\"old\":\"pass\",\"new\":\"drop\"}\n\
-            {\"packet\":6,\"station\":\"02:00:00:00:00:0a\",\"old\":\"pass\",\"new\":\"drop\"}\n",
+            {\"packet\":6,\"station\":\"02:00:00:00:00:0a\",\"old\":\"pass\",\"new\":\"drop\"}\n\
+            {\"judged\":4,\"packets\":6,\"differ\":4,\"not_judged\":{\"without_frame\":0,\"other_kind\":2,\
+            \"other_address\":0,\"encrypted\":0,\"refused\":0}}\n",
             "",
         ),
     ),
-    (&["drops.hex", "drops.hex", "-j"], (0, "", "")),
+    (
+        &["drops.hex", "drops.hex", "-j"],
+        (
+            0,
+            "{\"judged\":4,\"packets\":6,\"differ\":0,\"not_judged\":{\"without_frame\":0,\"other_kind\":2,\
+            \"other_address\":0,\"encrypted\":0,\"refused\":0}}\n",
+            "",
+        ),
+    ),
     (
         &["voice.hex", "exits.hex"],
         (

@@ -1,5 +1,6 @@
 //! What a run prints of its reports.
 
+use crate::memory::lines_alone;
 use crate::same::{holds, same};
 use ap_books::Totals;
 use ap_model::{Octets, Out, Up};
@@ -57,10 +58,10 @@ fn up(rt: &impl Abort, alloc: Global, tid: Option<Tid>, body: &str) -> Out {
 fn prints(rt: &impl Abort, alloc: Global, reports: Vec<Report>, lines: &str) {
     let mut reports = reports;
     put_in_order(&mut reports).expect(rt, "memory");
-    let mut out = Vec::new(alloc);
+    let mut out = lines_alone(Vec::new(alloc));
     let printed = print_reports(alloc, &mut out, Form::LINES, reports.as_slice());
     holds(rt, printed.is_ok(), "printed");
-    same(rt, out.as_slice(), lines.as_bytes(), "lines");
+    same(rt, out.lines.as_slice(), lines.as_bytes(), "lines");
 }
 
 #[test]
@@ -129,9 +130,9 @@ fn totals_stand_last(rt: HostRuntime) {
         dropped: 4,
         notes: 5,
     };
-    let mut out = Vec::new(alloc);
+    let mut out = lines_alone(Vec::new(alloc));
     let printed = print_totals(alloc, &mut out, &totals);
     holds(&rt, printed.is_ok(), "printed");
     let line = b"total events 3 sent 2 up 1 dropped 4 notes 5\n";
-    same(&rt, out.as_slice(), line.as_slice(), "totals");
+    same(&rt, out.lines.as_slice(), line.as_slice(), "totals");
 }

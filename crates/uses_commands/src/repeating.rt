@@ -73,7 +73,8 @@ const TABLE: &str = "packet  station            verdict       steps\n\
     4       02:00:00:00:00:0a  drop          2\n\
     5       02:00:00:00:00:0a  drop          2\n\
     6       02:00:00:00:00:0a  drop          2\n\
-    judged 4 of 6 packets: pass 0 (0 marked), drop 4; steps at most 2 of budget 2\n";
+    judged 4 of 6 packets: pass 0 (0 marked), drop 4; steps at most 2 of budget 2\n\
+    not judged: 2 not data\n";
 
 /// What a clock shows, the number of rounds of four runs each, and the line below the table.
 const TIMES: &[(&[u64], u32, &str)] = &[
@@ -152,8 +153,7 @@ fn a_table_without_rows_has_no_figures(rt: HostRuntime) {
         "5",
     ];
     let table = "packet  station            verdict       steps\n\
-        judged 0 of 6 packets: 0 without a frame, 2 not data, 4 to another address, 0 encrypted, \
-        0 refused before any program\n";
+        judged 0 of 6 packets: 2 not data, 4 to another address\n";
     judges(&rt, rt.alloc(), &words, 0, table, "");
 }
 
@@ -173,6 +173,7 @@ fn without_a_clock_there_are_no_figures(rt: HostRuntime) {
     let table = "packet  station            verdict       steps\n\
         2       02:00:00:00:00:0a  refuse 37     2\n\
         judged 1 of 6 packets: admit 0, refuse 1; steps at most 2 of budget 2\n\
+        not judged: 5 no association request\n\
         repeated 1000 times: no clock tells how long a run takes\n";
     judges(&rt, rt.alloc(), &words, 0, table, "");
 }

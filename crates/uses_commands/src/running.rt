@@ -4,7 +4,10 @@ ghost use Rattle.std.specs.Prelude.{◌≡◌, vec_len};
 
 use crate::echo::{Echo, Place, Places};
 use crate::same::same;
-use apd_driver::{Console, Form, Manner, Ready, Report, Script, Staff, run_lines};
+use apd_driver::{
+    Console, Form, Manner, Printing, Ready, Report, Script, Staff, Unrecorded, run_lines,
+};
+use apd_files::{Unwritten, write_whole};
 use apd_script::{Numbered, read_script};
 use bpf_regions::Shapes;
 use std::alloc::Global;
@@ -27,6 +30,28 @@ impl Write for Page {
     }
 
     fn flush(&mut self) -> io::Result<()> {
+        Ok(())
+    }
+}
+
+impl Printing for Page {
+    ghost use Rattle.std.specs.Prelude.{None};
+
+    ghost recorded = { λ page. None };
+
+    fn print(&mut self, text: &[u8]) -> Result<(), Unwritten> {
+        write_whole(self, text)
+    }
+
+    fn flush_lines(&mut self) -> io::Result<()> {
+        Ok(())
+    }
+
+    fn record(
+        &mut self,
+        _commands: &[Numbered<'_>],
+        _reports: &[Report],
+    ) -> Result<(), Unrecorded> {
         Ok(())
     }
 }

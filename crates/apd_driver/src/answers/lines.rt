@@ -10,13 +10,12 @@ ghost use Rattle.apd_driver.specs.Words.{then};
 
 use crate::answers::answer::{AgreementRow, Answer, EntryRow, ProgramRow, StationRow};
 use crate::answers::rows::ShapeWords;
+use crate::capturing::Printing;
 use crate::reports::PrintFault;
 use ap_books::Totals;
-use apd_files::write_whole;
 use bpf_regions::Shape;
 use std::alloc::{AllocError, Global};
 use std::fmt::Write;
-use std::io;
 
 /// Appends the line behind a list's rows.
 fn append_end(text: &mut String, line: u64, rows: usize) -> Result<(), AllocError>
@@ -199,7 +198,7 @@ fn answer_text(alloc: Global, line: u64, answer: &Answer) -> Result<String, Allo
 }
 
 /// Prints the answer to the question of a line, or a prefix of it if a write or an allocation fails.
-pub fn print_answer<W: io::Write>(
+pub fn print_answer<W: Printing>(
     alloc: Global,
     writer: &mut W,
     line: u64,
@@ -209,8 +208,9 @@ pub fn print_answer<W: io::Write>(
         (Appends (W.contents writer.old) (W.contents writer.new) (answer_text line answer.now)) }
     ensures beginning { AppendsBeginning
         (W.contents writer.old) (W.contents writer.new) (answer_text line answer.now) }
+    ensures kept { W.recorded writer.new ≡ W.recorded writer.old }
 {
     let text = answer_text(alloc, line, answer)?;
-    write_whole(writer, text.as_bytes())?;
+    writer.print(text.as_bytes())?;
     Ok(())
 }

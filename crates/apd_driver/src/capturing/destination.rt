@@ -1,11 +1,12 @@
 //! Where the lines of a run go, and its capture.
 
-ghost use Rattle.std.specs.Prelude.{◌≡◌, OnOk};
-ghost use Rattle.apd_driver.specs.Capturing.{Recorded, Records, recorded_if_any};
+ghost use Rattle.std.specs.Prelude.{OnOk};
+ghost use Rattle.apd_driver.specs.Capturing.{AreKnown, Begins, Recorded, Records, recorded_if_any};
 
 use crate::Report;
 use crate::capturing::recorder::{Recorder, Unrecorded};
-use apd_files::Tape;
+use crate::capturing::recording::{Printing, Recording};
+use apd_files::{Tape, Unwritten, write_whole};
 use apd_script::Numbered;
 use std::io;
 use std::io::Write;
@@ -16,7 +17,9 @@ pub trait Capturing {
     ghost recorded: { Self → Recorded };
 
     /// Makes the capture, and writes what it begins with.
-    fn begin(&mut self) -> Result<(), Unrecorded>;
+    fn begin(&mut self) -> Result<(), Unrecorded>
+        ensures heading { OnOk result
+            (AreKnown recorded → Begins (recorded self.old) (recorded self.new)) };
 
     /// Writes the packets of consecutive commands, and of the reports that are printed of them, in order.
     fn record(&mut self, commands: &[Numbered<'_>], reports: &[Report]) -> Result<(), Unrecorded>
@@ -79,17 +82,6 @@ impl<C: Capturing> Capturing for Option<C> {
     }
 }
 
-/// A writer of a run's lines that may keep a capture beside them.
-pub trait Recording: Write {
-    /// Makes the capture, if there is one, and writes what it begins with.
-    fn begin(&mut self) -> Result<(), Unrecorded>
-        ensures output { Self.contents self.new ≡ Self.contents self.old };
-
-    /// Writes the packets of consecutive commands, and of the reports that are printed of them, in order.
-    fn record(&mut self, commands: &[Numbered<'_>], reports: &[Report]) -> Result<(), Unrecorded>
-        ensures output { Self.contents self.new ≡ Self.contents self.old };
-}
-
 /// Where the lines of a run go, and its capture.
 #[derive(Drop)]
 pub struct Destination<L: Drop, C: Drop> {
@@ -109,13 +101,25 @@ impl<L: Write + Drop, C: Drop> Write for Destination<L, C> {
     }
 }
 
-impl<L: Write + Drop, C: Capturing + Drop> Recording for Destination<L, C> {
-    fn begin(&mut self) -> Result<(), Unrecorded> {
-        self.capture.begin()
+impl<L: Write + Drop, C: Capturing + Drop> Printing for Destination<L, C> {
+    ghost recorded = { λ d. C.recorded d.capture };
+
+    fn print(&mut self, text: &[u8]) -> Result<(), Unwritten> {
+        write_whole(&mut self.lines, text)
+    }
+
+    fn flush_lines(&mut self) -> io::Result<()> {
+        self.lines.flush()
     }
 
     fn record(&mut self, commands: &[Numbered<'_>], reports: &[Report]) -> Result<(), Unrecorded> {
         self.capture.record(commands, reports)
+    }
+}
+
+impl<L: Write + Drop, C: Capturing + Drop> Recording for Destination<L, C> {
+    fn begin(&mut self) -> Result<(), Unrecorded> {
+        self.capture.begin()
     }
 }
 

@@ -1,9 +1,12 @@
 //! A capture that is written as a run goes on.
 
-ghost use Rattle.std.specs.Prelude.{◌≡◌, ◌++◌, [], OnOk};
+ghost use Rattle.std.specs.Prelude.{◌≡◌, ◌++◌, ◌↔◌, ℕ, List, [], OnOk, map};
 ghost use Rattle.std.specs.Io.KnownBytes.{Appends};
-ghost use Rattle.capture.specs.Writing.{blocks_of, heading};
+ghost use Rattle.capture.specs.Captures.{Holds};
+ghost use Rattle.capture.specs.Packets.{Seen};
+ghost use Rattle.capture.specs.Writing.{blocks_of, heading, seen_from};
 ghost use Rattle.apd_files.specs.Beginning.{AppendsBeginning};
+ghost use Rattle.apd_driver.specs.Captures.{Interval, IsOfRun, run_packets};
 ghost use Rattle.apd_driver.specs.Capturing.{interval_packets, time_after_all};
 ghost use Rattle.apd_driver.specs.Moving.{MovesOn};
 
@@ -11,7 +14,7 @@ use crate::Report;
 use crate::capturing::packets::{append_line, time_after, time_after_all, up_to};
 use apd_files::{Unwritten, write_whole};
 use apd_script::Numbered;
-use capture::append_heading;
+use capture::{append_heading, written_law};
 use std::alloc::{AllocError, Global};
 use std::io::{ErrorKind, Write};
 
@@ -137,4 +140,12 @@ impl<T: Write + Drop> Recorder<T> {
         self.time = time_after_all(self.time, commands);
         Ok(())
     }
+}
+
+/// Reading what a capture holds after a run gives the packets of its intervals, and no others.
+pub fn capture_law()
+    ensures read { (bytes : List ℕ) → (intervals : List Interval) → IsOfRun bytes intervals
+        → (seen : List Seen) → Holds bytes seen ↔ (seen ≡ map seen_from (run_packets 0 intervals)) }
+{
+    written_law();
 }

@@ -5,14 +5,13 @@ ghost use Rattle.std.specs.Io.KnownBytes.{Keeps};
 ghost use Rattle.apd_driver.specs.declared.manner.Manner.{Manner};
 
 use crate::Report;
-use crate::capturing::Unrecorded;
+use crate::capturing::Printing;
 use crate::manner::Manner;
 use apd_script::Numbered;
 use std::io;
-use std::io::Write;
 
-/// A run writes its lines to it, and tells it what became of them.
-pub trait Console: Write {
+/// A run writes its lines and its capture to it, and tells it what became of the lines.
+pub trait Console: Printing {
     // How the run goes on and prints.
     ghost manner: { Self → Manner };
 
@@ -26,17 +25,11 @@ pub trait Console: Write {
     /// Flushes all that was written.
     fn flush_all(&mut self) -> io::Result<()>
         ensures flushed { OnOk result (is_flushed self.new ≡ true) }
-        ensures keeps { Keeps (Self.contents self.old) (Self.contents self.new) };
+        ensures keeps { Keeps (Self.contents self.old) (Self.contents self.new) }
+        ensures kept { Self.recorded self.new ≡ Self.recorded self.old };
 
     /// Tells what became of consecutive commands, for which the operator made these reports, in order.
     fn tell(&mut self, commands: &[Numbered<'_>], reports: &[Report])
-        ensures output { Self.contents self.new ≡ Self.contents self.old };
-
-    /// Adds consecutive commands, and the reports that are printed of them, in order, to the run's capture, if it keeps
-    /// one.
-    fn record(&mut self, _commands: &[Numbered<'_>], _reports: &[Report]) -> Result<(), Unrecorded>
         ensures output { Self.contents self.new ≡ Self.contents self.old }
-    {
-        Ok(())
-    }
+        ensures kept { Self.recorded self.new ≡ Self.recorded self.old };
 }

@@ -3,13 +3,14 @@
 ghost use Rattle.std.specs.Prelude.{◌≡◌};
 
 use crate::Report;
-use crate::capturing::{Recording, Unrecorded};
+use crate::capturing::{Printing, Unrecorded};
 use crate::console::console::Console;
 use crate::console::notes::Notes;
 use crate::manner::Manner;
+use apd_files::Unwritten;
 use apd_script::Numbered;
 use std::io;
-use std::io::{Error, ErrorKind, Write};
+use std::io::{ErrorKind, Write};
 
 /// Standard output, standard error, and the messages that go there.
 #[derive(Drop)]
@@ -28,12 +29,12 @@ pub struct Terminal<'a, O: Drop, E> {
 
 impl<'a, O: Drop, E> Terminal<'a, O, E> {
     /// Remembers why a write failed.
-    fn failed(&mut self, error: &Error)
+    fn failed(&mut self, why: ErrorKind)
         ensures out { self.new.out ≡ self.old.out }
         ensures manner { self.new.manner ≡ self.old.manner }
     {
         self.is_flushed = false;
-        self.reader_left = error.kind() == ErrorKind::BrokenPipe;
+        self.reader_left = why == ErrorKind::BrokenPipe;
     }
 }
 
@@ -61,7 +62,7 @@ impl<'a, O: Write + Drop, E: Write> Write for Terminal<'a, O, E> {
                 return Ok(count);
             }
             Err(error) => {
-                self.failed(&error);
+                self.failed(error.kind());
                 return Err(error);
             }
         }
@@ -72,31 +73,22 @@ impl<'a, O: Write + Drop, E: Write> Write for Terminal<'a, O, E> {
     }
 }
 
-impl<'a, O: Recording + Drop, E: Write> Console for Terminal<'a, O, E> {
-    ghost manner = { λ t. t.manner };
+impl<'a, O: Printing + Drop, E: Write> Printing for Terminal<'a, O, E> {
+    ghost recorded = { λ t. O.recorded t.out };
 
-    ghost is_flushed = { λ t. t.is_flushed };
-
-    fn how(&self) -> Manner {
-        self.manner
-    }
-
-    fn flush_all(&mut self) -> io::Result<()> {
-        match self.out.flush() {
-            Ok(()) => {
-                self.is_flushed = true;
-                self.prompt();
-                return Ok(());
-            }
-            Err(error) => {
-                self.failed(&error);
-                return Err(error);
+    fn print(&mut self, text: &[u8]) -> Result<(), Unwritten> {
+        self.is_flushed = false;
+        match self.out.print(text) {
+            Ok(()) => return Ok(()),
+            Err(why) => {
+                self.failed(why.0);
+                return Err(why);
             }
         }
     }
 
-    fn tell(&mut self, commands: &[Numbered<'_>], reports: &[Report]) {
-        self.notes.tell(&mut *self.err, commands, reports);
+    fn flush_lines(&mut self) -> io::Result<()> {
+        self.out.flush_lines()
     }
 
     fn record(&mut self, commands: &[Numbered<'_>], reports: &[Report]) -> Result<(), Unrecorded> {
@@ -107,6 +99,34 @@ impl<'a, O: Recording + Drop, E: Write> Console for Terminal<'a, O, E> {
                 return Err(why);
             }
         }
+    }
+}
+
+impl<'a, O: Printing + Drop, E: Write> Console for Terminal<'a, O, E> {
+    ghost manner = { λ t. t.manner };
+
+    ghost is_flushed = { λ t. t.is_flushed };
+
+    fn how(&self) -> Manner {
+        self.manner
+    }
+
+    fn flush_all(&mut self) -> io::Result<()> {
+        match self.out.flush_lines() {
+            Ok(()) => {
+                self.is_flushed = true;
+                self.prompt();
+                return Ok(());
+            }
+            Err(error) => {
+                self.failed(error.kind());
+                return Err(error);
+            }
+        }
+    }
+
+    fn tell(&mut self, commands: &[Numbered<'_>], reports: &[Report]) {
+        self.notes.tell(&mut *self.err, commands, reports);
     }
 }
 

@@ -6,13 +6,12 @@ ghost use Rattle.apd_files.specs.Beginning.{AppendsBeginning};
 ghost use Rattle.apd_driver.specs.Lines.{report_text, reports_text, totals_text};
 ghost use Rattle.apd_driver.specs.Moving.{MovesOn};
 
-use crate::capturing::Unrecorded;
+use crate::capturing::{Printing, Unrecorded};
 use crate::reports::lines::{append_report, totals_line};
 use crate::reports::report::{Form, Report};
 use ap_books::Totals;
-use apd_files::{Unwritten, write_whole};
+use apd_files::Unwritten;
 use std::alloc::{AllocError, Global};
-use std::io::Write;
 
 /// Why a text wasn't written whole.
 #[derive(Clone, Copy, PartialEq, Eq)]
@@ -60,20 +59,21 @@ impl From<Unwritten> for PrintFault {
 const ENOUGH: usize = 1 << 15;
 
 /// Writes the text, and empties it.
-fn flush<W: Write>(text: &mut String, writer: &mut W) -> Result<(), Unwritten>
+fn flush<W: Printing>(text: &mut String, writer: &mut W) -> Result<(), Unwritten>
     ensures whole { OnOk result
         (Appends (W.contents writer.old) (W.contents writer.new) (string_bytes text.old)) }
     ensures beginning { AppendsBeginning
         (W.contents writer.old) (W.contents writer.new) (string_bytes text.old) }
     ensures empty { OnOk result (string_bytes text.new ≡ []) }
+    ensures kept { W.recorded writer.new ≡ W.recorded writer.old }
 {
-    write_whole(writer, text.as_bytes())?;
+    writer.print(text.as_bytes())?;
     text.clear();
     Ok(())
 }
 
 /// Appends the lines of a report to the text, and writes it if it is long.
-fn print_report<W: Write>(
+fn print_report<W: Printing>(
     alloc: Global,
     text: &mut String,
     writer: &mut W,
@@ -84,6 +84,7 @@ fn print_report<W: Write>(
         (string_bytes text.old ++ report_text form report.now) (string_bytes text.new)) }
     ensures beginning { AppendsBeginning (W.contents writer.old) (W.contents writer.new)
         (string_bytes text.old ++ report_text form report.now) }
+    ensures kept { W.recorded writer.new ≡ W.recorded writer.old }
 {
     append_report(alloc, text, form, report)?;
     if text.len() >= ENOUGH {
@@ -92,8 +93,9 @@ fn print_report<W: Write>(
     Ok(())
 }
 
-/// Prints reports in their order. If a write or an allocation fails, a prefix of their text was written.
-pub fn print_reports<W: Write>(
+/// Prints reports in their order, beside the capture. If a write or an allocation fails, a prefix of their text was
+/// written.
+pub fn print_reports<W: Printing>(
     alloc: Global,
     writer: &mut W,
     form: Form,
@@ -103,6 +105,7 @@ pub fn print_reports<W: Write>(
         (Appends (W.contents writer.old) (W.contents writer.new) (reports_text form reports.now)) }
     ensures beginning { AppendsBeginning
         (W.contents writer.old) (W.contents writer.new) (reports_text form reports.now) }
+    ensures kept { W.recorded writer.new ≡ W.recorded writer.old }
 {
     let mut text = String::new(alloc);
     for report in reports {
@@ -113,7 +116,7 @@ pub fn print_reports<W: Write>(
 }
 
 /// Prints the last line of a run, or a prefix of it if a write or an allocation fails.
-pub fn print_totals<W: Write>(
+pub fn print_totals<W: Printing>(
     alloc: Global,
     writer: &mut W,
     totals: &Totals,
@@ -122,8 +125,9 @@ pub fn print_totals<W: Write>(
         (Appends (W.contents writer.old) (W.contents writer.new) (totals_text totals.now)) }
     ensures beginning { AppendsBeginning
         (W.contents writer.old) (W.contents writer.new) (totals_text totals.now) }
+    ensures kept { W.recorded writer.new ≡ W.recorded writer.old }
 {
     let text = totals_line(alloc, totals)?;
-    write_whole(writer, text.as_bytes())?;
+    writer.print(text.as_bytes())?;
     Ok(())
 }

@@ -3,7 +3,7 @@
 ghost use Rattle.std.specs.Prelude.{◌≡◌, ◌⊎◌, ◌≤◌, ℕ, List, Some, None, IfOk, IfErr, OnOk, IfSome, length};
 ghost use Rattle.std.specs.declared.option.Option.{Option};
 ghost use Rattle.apd_files.specs.Kinds.{most_of};
-ghost use Rattle.apd_files.specs.Held.{Holds, IsUnopened, IsUnread, Saved, Saves};
+ghost use Rattle.apd_files.specs.Held.{Holds, IsUnopened, IsUnread, Saved, Saves, path_of};
 ghost use Rattle.apd_files.specs.Reading.{Opens, Gives};
 
 use crate::outputs::Unwritten;
@@ -128,7 +128,9 @@ pub fn read_whole<F: Files>(
 }
 
 /// The path of the file that a word of a script names: `-` there is an ordinary file name.
-pub fn path_of_word(word: &str) -> &str {
+pub fn path_of_word(word: &str) -> &str
+    ensures is { result.now ≡ path_of word.now }
+{
     if word == "-" { "./-" } else { word }
 }
 

@@ -57,6 +57,7 @@ fn give_rights<B: Ledgers + Journals>(
     ensures parts { IfOk result (λ _. left.new.parts + count + 1 ≡ left.old.parts) }
     ensures counted { IfOk result (λ _. counted_by left.new.shards ≡ counted_by left.old.shards) }
     ensures list { ap.new.list ≡ ap.old.list }
+    ensures queues { ap.new.queues ≡ ap.old.queues }
 {
     newcomers_law();
     tokens_law();
@@ -99,7 +100,9 @@ pub(crate) fn deal<B: Ledgers + Journals>(
     ensures hands { IfOk result (λ h. AreHands ap.new
         h.kept.token.value h.workers.items h.kept.hoard.value h.parts) }
     ensures pages { IfOk result (λ h. HasPages h.parts h.kept.pages.value) }
+    ensures many { IfOk result (λ h. vec_len h.workers ≡ count) }
     ensures list { ap.new.list ≡ ap.old.list }
+    ensures queues { ap.new.queues ≡ ap.old.queues }
 {
     let mut left = left;
     let rights = match give_rights(ap, alloc, &mut left, count) {

@@ -27,6 +27,7 @@ pub(crate) fn hire<B: Ledgers + Journals>(
     ensures parts { IfOk result (λ ws. left.new.parts + vec_len ws ≡ left.old.parts) }
     ensures counted { IfOk result (λ _. counted_by left.new.shards ≡ counted_by left.old.shards) }
     ensures list { ap.new.list ≡ ap.old.list }
+    ensures queues { ap.new.queues ≡ ap.old.queues }
 {
     newcomers_law();
     tokens_law();

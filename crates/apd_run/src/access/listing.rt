@@ -13,6 +13,7 @@ use ap_books::Ledgers;
 use ap_live::{AgreementInForce, Known, KnownStation};
 use ap_locked::Journals;
 use apd_driver::{AgreementRow, StationRow};
+use apd_files::Files;
 use std::alloc::{AllocError, Global};
 use std::sync::Wait;
 
@@ -67,14 +68,14 @@ fn agreement_rows(
         .collect(alloc)
 }
 
-impl<'a, B: Ledgers + Journals, L: Publications, F> LiveOperator<'a, B, L, F> {
+impl<'a, B: Ledgers + Journals, L: Publications, F: Files> LiveOperator<'a, B, L, F> {
     /// The known stations of all shards, by address.
     pub(crate) fn known_stations<R: Wait>(
         &mut self,
         rt: &R,
         alloc: Global,
     ) -> Result<Vec<StationRow>, AllocError>
-        ensures same { crew_of self.new ≡ crew_of self.old }
+        ensures same { crew_of F.held self.new ≡ crew_of F.held self.old }
         ensures ordered { IfOk result (λ rows. AreStationsInOrder rows.items) }
         ensures lists { IfOk result (λ rows. ListsStations B.config
             self.old.token.shards self.new.token.shards rows.items) }
@@ -89,7 +90,7 @@ impl<'a, B: Ledgers + Journals, L: Publications, F> LiveOperator<'a, B, L, F> {
         rt: &R,
         alloc: Global,
     ) -> Result<Vec<AgreementRow>, AllocError>
-        ensures same { crew_of self.new ≡ crew_of self.old }
+        ensures same { crew_of F.held self.new ≡ crew_of F.held self.old }
         ensures ordered { IfOk result (λ rows. AreAgreementsInOrder rows.items) }
         ensures lists { IfOk result (λ rows. ListsAgreements B.config
             self.old.token.shards self.new.token.shards rows.items) }

@@ -1,15 +1,17 @@
 //! The operator of a run.
 
-ghost use Rattle.std.specs.Prelude.{◌≡◌, ◌<◌, map, IfOk, IfSome};
+ghost use Rattle.std.specs.Prelude.{◌≡◌, ◌<◌, map, IfOk, IfSome, Some};
 ghost use Rattle.ap_books.specs.Counts.{none};
 ghost use Rattle.ap_books.specs.Reading.{Reads};
 ghost use Rattle.ap_live.specs.Counting.{counted_by, tally};
 ghost use Rattle.versions.specs.Sets.{set_of};
 ghost use Rattle.hook_judge.specs.Sums.{no_counts};
 ghost use Rattle.apd_run.specs.InForce.{budget_shown, budgets_of, row_shown, rows_of, with_counts};
-ghost use Rattle.apd_run.specs.Hands.{crew_of};
+ghost use Rattle.apd_run.specs.Hands.{crew_of, work_of};
+ghost use Rattle.apd_run.specs.Work.{Does, IsWord};
+ghost use Rattle.apd_script.specs.Asked.{Adopt, Load, Unload};
 ghost use Rattle.apd_driver.specs.Tallies.{told_counts};
-ghost use Rattle.apd_driver.specs.Crews.{gains, with_one_more};
+ghost use Rattle.apd_driver.specs.Crews.{Works, gains, with_one_more};
 
 use crate::access::counting::counted_in;
 use crate::access::naming::Publications;
@@ -42,9 +44,9 @@ pub(crate) struct Sources<'a, F> {
 }
 
 /// The operator of a run: its token, the parts of the ledgers and the pages that no worker has, what these parts have
-/// counted, what was counted of the programs in force, and their sources. Contracts see everything but the sources.
+/// counted, what was counted of the programs in force, and their sources. Contracts see all of it.
 #[derive(Drop)]
-pub struct LiveOperator<'a, B: Ledgers + Journals, L: Publications, F> {
+pub struct LiveOperator<'a, B: Ledgers + Journals, L: Publications, F: Files> {
     pub(crate) ap: &'a LiveAp<B>,
     pub(crate) token: Box<OperatorToken<B>>,
     pub(crate) hoard: Box<Portions<B>>,
@@ -58,10 +60,10 @@ pub struct LiveOperator<'a, B: Ledgers + Journals, L: Publications, F> {
     pub(crate) list: PhantomData<L>,
 }
 
-impl<'a, B: Ledgers + Journals, L: Publications, F> Model for LiveOperator<'a, B, L, F> {
+impl<'a, B: Ledgers + Journals, L: Publications, F: Files> Model for LiveOperator<'a, B, L, F> {
     ghost use Rattle.apd_run.specs.Hands.{RunOperator, IsRunOperator};
 
-    ghost Value = { RunOperator };
+    ghost Value = { RunOperator F };
 
     ghost view = { λ o. record {
       ap = o.ap.now;
@@ -73,6 +75,8 @@ impl<'a, B: Ledgers + Journals, L: Publications, F> Model for LiveOperator<'a, B
       workers = o.workers;
       loads = o.loads.now;
       programs = o.programs;
+      files = o.sources.files.now;
+      limits = o.sources.limits;
     } };
 
     ghost invariant = { λ o. IsRunOperator B.shares L.list (record {
@@ -85,12 +89,16 @@ impl<'a, B: Ledgers + Journals, L: Publications, F> Model for LiveOperator<'a, B
       workers = o.workers;
       loads = o.loads.now;
       programs = o.programs;
+      files = o.sources.files.now;
+      limits = o.sources.limits;
     }) };
 }
 
 impl<'a, B: Ledgers + Journals, L: Publications, F: Files> LiveOperator<'a, B, L, F> {
     fn load<R: Wait>(&mut self, rt: &R, hook: Hook, path: &str) -> Told
-        ensures same { crew_of self.new ≡ crew_of self.old }
+        ensures works { Works (crew_of F.held self.old) (crew_of F.held self.new) }
+        ensures does { Does (work_of F.held self.old) (work_of F.held self.new)
+            (Load hook path.now) (Some result) }
         ensures nothing { told_counts result ≡ none }
     {
         let limits = self.sources.limits;
@@ -101,7 +109,9 @@ impl<'a, B: Ledgers + Journals, L: Publications, F: Files> LiveOperator<'a, B, L
     }
 
     fn adopt<R: Wait>(&mut self, rt: &R, hook: Hook, path: &str, certificate: &str) -> Told
-        ensures same { crew_of self.new ≡ crew_of self.old }
+        ensures works { Works (crew_of F.held self.old) (crew_of F.held self.new) }
+        ensures does { Does (work_of F.held self.old) (work_of F.held self.new)
+            (Adopt hook path.now certificate.now) (Some result) }
         ensures nothing { told_counts result ≡ none }
     {
         let work = self.sources.limits.work;
@@ -116,7 +126,8 @@ impl<'a, B: Ledgers + Journals, L: Publications, F: Files> LiveOperator<'a, B, L
     }
 
     fn unload<R: Wait>(&mut self, rt: &R, hook: Hook) -> Option<Told>
-        ensures same { crew_of self.new ≡ crew_of self.old }
+        ensures works { Works (crew_of F.held self.old) (crew_of F.held self.new) }
+        ensures does { Does (work_of F.held self.old) (work_of F.held self.new) (Unload hook) result }
         ensures nothing { IfSome result (λ told. told_counts told ≡ none) }
     {
         match self.loads.unload(rt, hook) {
@@ -140,17 +151,19 @@ impl<'a, B: Ledgers + Journals, L: Publications, F: Files> LiveOperator<'a, B, L
 
     /// Stores a number in a word of a shared map, if there is such a word.
     fn store(&mut self, at: MapWord, value: u64)
-        ensures same { crew_of self.new ≡ crew_of self.old }
+        ensures same { crew_of F.held self.new ≡ crew_of F.held self.old }
     {
         let map = at.map as usize;
-        if self.ap.has_word(Scope::Shared, map, at.word) {
-            self.ap.store(&mut *self.token, map, at.word, value);
+        if !self.ap.has_word(Scope::Shared, map, at.word) {
+            return;
         }
+        self.ap.store(&mut *self.token, map, at.word, value);
     }
 
     /// The number in a word of a shared map, if there is such a word.
     fn read(&mut self, at: MapWord) -> Option<Told>
-        ensures same { crew_of self.new ≡ crew_of self.old }
+        ensures same { crew_of F.held self.new ≡ crew_of F.held self.old }
+        ensures value { IfSome result IsWord }
         ensures nothing { IfSome result (λ told. told_counts told ≡ none) }
     {
         let map = at.map as usize;
@@ -163,7 +176,8 @@ impl<'a, B: Ledgers + Journals, L: Publications, F: Files> LiveOperator<'a, B, L
 
     /// The sum of a word of a worker map over all workers, if there is such a word.
     fn sum(&mut self, at: MapWord) -> Option<Told>
-        ensures same { crew_of self.new ≡ crew_of self.old }
+        ensures same { crew_of F.held self.new ≡ crew_of F.held self.old }
+        ensures value { IfSome result IsWord }
         ensures nothing { IfSome result (λ told. told_counts told ≡ none) }
     {
         let map = at.map as usize;
@@ -175,11 +189,11 @@ impl<'a, B: Ledgers + Journals, L: Publications, F: Files> LiveOperator<'a, B, L
     }
 }
 
-impl<'a, B: Ledgers + Journals, L: Publications, F> LiveOperator<'a, B, L, F> {
+impl<'a, B: Ledgers + Journals, L: Publications, F: Files> LiveOperator<'a, B, L, F> {
     /// Takes over a worker's counts, also those of the runs of its programs, gives it fresh parts of the ledgers, and
     /// returns what became of its events.
     fn exchange<G: Drop>(&mut self, worker: &mut LiveWorker<'a, B, L, G>) -> Vec<Tagged>
-        ensures crew { crew_of self.new ≡ gains (crew_of self.old) (tally result.items) }
+        ensures crew { crew_of F.held self.new ≡ gains (crew_of F.held self.old) (tally result.items) }
         ensures programs { self.new.programs
             ≡ with_counts self.old.programs worker.old.token.held.counts }
         ensures worker { counted_by worker.new.token.shards ≡ none }
@@ -198,7 +212,7 @@ impl<'a, B: Ledgers + Journals, L: Publications, F> LiveOperator<'a, B, L, F> {
 
     /// Tells a worker of the loads so far.
     fn tell<G: Drop>(&mut self, worker: &mut LiveWorker<'a, B, L, G>)
-        ensures same { crew_of self.new ≡ crew_of self.old }
+        ensures same { crew_of F.held self.new ≡ crew_of F.held self.old }
         ensures worker { worker.new.token.shards ≡ worker.old.token.shards }
     {
         let news = self.loads.tell();
@@ -209,7 +223,7 @@ impl<'a, B: Ledgers + Journals, L: Publications, F> LiveOperator<'a, B, L, F> {
     fn take_back<G: Drop>(&mut self, worker: LiveWorker<'a, B, L, G>)
         requires some { 0 < self.old.workers }
         requires nothing { counted_by worker.token.shards ≡ none }
-        ensures crew { crew_of self.old ≡ with_one_more (crew_of self.new) }
+        ensures crew { crew_of F.held self.old ≡ with_one_more (crew_of F.held self.new) }
     {
         let LiveWorker { token, .. } = worker;
         let (shares, pages) = token.into_parts();
@@ -223,7 +237,7 @@ impl<'a, B: Ledgers + Journals, L: Publications, F> LiveOperator<'a, B, L, F> {
     /// journals, which the totals count, unless one is full.
     fn read_totals<R: Wait>(self, rt: &R) -> Totals
         requires all { self.workers ≡ 0 }
-        ensures reads { Reads result (crew_of self.entry).counted }
+        ensures reads { Reads result (crew_of F.held self.entry).counted }
     {
         let LiveOperator {
             ap,
@@ -243,7 +257,9 @@ impl<'a, B: Ledgers + Journals, L: Publications, F> LiveOperator<'a, B, L, F> {
 }
 
 /// The part of an event that is still to be submitted.
-fn waiting_for(unserved: Unserved) -> Waiting {
+fn waiting_for(unserved: Unserved) -> Waiting
+    ensures is { result ≡ record { event = unserved.event; shard = unserved.shard } }
+{
     let Unserved { event, shard } = unserved;
     Waiting { event, shard }
 }
@@ -253,8 +269,11 @@ impl<'a, B: Ledgers + Journals, L: Publications, F: Files, G: Drop> Operating<
 > for LiveOperator<'a, B, L, F> {
     ghost use Rattle.ap_live.specs.Counting.{counted_by};
     ghost use Rattle.apd_run.specs.Hands.{crew_of};
+    ghost use Rattle.apd_run.specs.Work.{live};
 
-    ghost crew = { crew_of };
+    ghost semantics = { live };
+
+    ghost crew = { λ o. crew_of F.held o };
 
     ghost taken = { λ w. counted_by w.token.shards };
 
@@ -268,7 +287,11 @@ impl<'a, B: Ledgers + Journals, L: Publications, F: Files, G: Drop> Operating<
     fn go_on<R: Wait>(&mut self, rt: &R, line: u64, waiting: Waiting) -> Result<(), Waiting> {
         let Waiting { event, shard } = waiting;
         match event {
-            Event::Tick(units) if shard < 8 => {
+            Event::Tick(units) => {
+                if shard >= 8 {
+                    // There is no such shard.
+                    return Ok(());
+                }
                 let event = Event::Tick(units);
                 match self.ap.submit_at(rt, &mut *self.token, line, event, shard) {
                     Ok(()) => return Ok(()),

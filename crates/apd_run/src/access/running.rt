@@ -1,6 +1,6 @@
 //! Running lines on an access point made from settings.
 
-ghost use Rattle.std.specs.Prelude.{◌≡◌, ◌+◌, ◌<◌, ◌≤◌, [], vec_len, IfOk};
+ghost use Rattle.std.specs.Prelude.{◌≡◌, ◌+◌, ◌<◌, ◌≤◌, [], length, vec_len, IfOk};
 ghost use Rattle.std.specs.List.{All};
 ghost use Rattle.ap_books.specs.Counts.{none};
 ghost use Rattle.ap_books.specs.Holdings.{HasParts, sum_of};
@@ -10,7 +10,8 @@ ghost use Rattle.ap_shards.specs.Opening.{AreNamed};
 ghost use Rattle.ap_shards.specs.Pages.{HasPages};
 ghost use Rattle.apd_run.specs.Dealing.{AreHands, IsNewOperator, IsNewWorker};
 ghost use Rattle.apd_run.specs.Hands.{crew_of};
-ghost use Rattle.apd_driver.specs.Shows.{Runs};
+ghost use Rattle.apd_driver.specs.Shows.{IsBroken};
+ghost use Rattle.apd_run.specs.NewRuns.{IsNewCrew, RunsNew};
 
 use crate::access::hands::{Hands, Kept, deal};
 use crate::access::naming::Publications;
@@ -58,7 +59,8 @@ struct Equipment<B: Ledgers + Journals> {
 
 /// The end of a run for which an allocation failed before it began.
 fn without_memory<P: Console>(writer: P) -> (P, u8)
-    ensures runs { Runs (P.manner writer) (P.contents writer) (P.contents result.0) none result.1 }
+    ensures same { P.contents result.0 ≡ P.contents writer }
+    ensures broken { IsBroken result.1 }
 {
     (writer, NO_MEMORY)
 }
@@ -108,17 +110,21 @@ fn new_operator<'a, B, L, F>(
 where
     B: Ledgers + Journals,
     L: Publications,
+    F: Files,
     requires new { IsNewOperator ap.now kept.token.value }
     requires kept { HasParts parts kept.hoard.value }
     requires pages { HasPages parts kept.pages.value }
-    requires some { 1 < parts }
+    requires enough { 1 < parts }
     requires nothing { sum_of kept.hoard.value ≡ none }
+    requires some { 0 < workers }
+    requires each { length ap.now.queues ≡ workers }
     requires all { parts + workers + 1 ≡ parts_in_all }
     requires shares { B.shares ≡ parts_in_all }
     requires list { loads.old.list ≡ L.list }
     requires no_loads { loads.old.loads ≡ [] }
-    ensures workers { (crew_of result).workers ≡ workers }
-    ensures counted { (crew_of result).counted ≡ sum_of kept.hoard.value }
+    ensures workers { (crew_of F.held result).workers ≡ workers }
+    ensures new { IsNewCrew (F.held sources.entry.files.now) sources.entry.limits
+        (crew_of F.held result) }
 {
     let Kept {
         token,
@@ -162,10 +168,13 @@ where
         AreHands ap.now hands.kept.token.value hands.workers.items hands.kept.hoard.value hands.parts }
     requires pages { HasPages equipment.hands.parts equipment.hands.kept.pages.value }
     requires shares { B.shares ≡ parts_in_all }
+    requires some { 0 < length ap.now.queues }
+    requires each { length ap.now.queues ≡ vec_len equipment.hands.workers }
     requires list { ap.now.list.list ≡ L.list }
     requires loads { equipment.loads.list ≡ L.list }
     requires no_loads { equipment.loads.loads ≡ [] }
-    ensures runs { Runs (P.manner writer) (P.contents writer) (P.contents result.0) none result.1 }
+    ensures runs { RunsNew (F.held supplies.entry.files.now) supplies.entry.limits
+        (P.manner writer) (S.script lines) (P.contents writer) (P.contents result.0) result.1 }
 {
     let Supplies {
         files,
@@ -219,7 +228,8 @@ where
     requires named { AreNamed B.name_of B.shares B.journal_of opening.new }
     requires config { opening.settings.link ≡ B.config }
     requires shares { B.shares ≡ parts_in_all }
-    ensures runs { Runs (P.manner writer) (P.contents writer) (P.contents result.0) none result.1 }
+    ensures runs { RunsNew (F.held supplies.entry.files.now) supplies.entry.limits
+        (P.manner writer) (S.script lines) (P.contents writer) (P.contents result.0) result.1 }
 {
     let Opening {
         settings,

@@ -1,8 +1,8 @@
 //! The commands `apd run` and `apd live`.
 
-ghost use Rattle.std.specs.Prelude.{◌≡◌, ◌≤◌, IfErr};
-ghost use Rattle.apd_driver.specs.Counts.{none};
-ghost use Rattle.apd_driver.specs.Shows.{IsBroken, Runs};
+ghost use Rattle.std.specs.Prelude.{◌≡◌, ◌≤◌, None, IfErr};
+ghost use Rattle.apd_driver.specs.Shows.{IsBroken};
+ghost use Rattle.apd_run.specs.NewRuns.{RunsNew, RunsScript};
 
 use crate::access::{NewShards, Opening, Supplies, run_live};
 use crate::progress::Watcher;
@@ -93,7 +93,9 @@ where
     P: Console + Drop,
     requires some { 1 ≤ workers }
     requires few { workers ≤ 8 }
-    ensures runs { Runs (P.manner writer) (P.contents writer) (P.contents result.0) none result.1 }
+    ensures runs { RunsNew (F.held supplies.entry.files.now) supplies.entry.limits
+        (P.manner writer) (L.script task.lines)
+        (P.contents writer) (P.contents result.0) result.1 }
 {
     let Task {
         configuration,
@@ -143,8 +145,9 @@ where
     L: Lines + Drop,
     P: Recording + Drop,
     E: Write,
-    ensures runs { Runs words.entry.manner
-        (P.contents out) (P.contents result.out) none result.status }
+    ensures runs { RunsNew (F.held supplies.entry.files.now) supplies.entry.limits
+        words.entry.manner (L.script task.lines)
+        (P.contents out) (P.contents result.out) result.status }
 {
     let RunWords {
         script,
@@ -180,8 +183,8 @@ where
     }
 }
 
-/// Runs a script, and returns `out` and the exit status: 3 if a line says `memory`, or an allocation failed for the run
-/// itself; 2 for a fault of a file, the configuration, the script, the capture or a write; otherwise 1 if the run is strict
+/// Runs the script in a file: the operator follows its lines one after another, each once, or a prefix of them if the run
+/// ends early. Returns `out` and the exit status: 3 if a line says `memory`, or an allocation failed for the run itself; 2 for a fault of a file, the configuration, the script, the capture or a write; otherwise 1 if the run is strict
 /// and a line was refused, which ends the run after that interval; otherwise 0. If the run breaks off, the contract
 /// doesn't say whether the status is 2 or 3. A faulty script is refused before any line runs. Messages on `err` say what
 /// a status of 1, 2 or 3 means, unless a write failed since nobody reads any more, and what a hook keeps after a refused
@@ -200,20 +203,18 @@ where
     G: Watcher + Copy + Send,
     P: Recording + Drop,
     E: Write,
-    ensures runs { Runs words.entry.manner (P.contents out) (P.contents result.0) none result.1 }
+    ensures runs { RunsScript (F.held supplies.entry.files.now) supplies.entry.limits
+        words.entry.script.now words.entry.manner
+        (P.contents out) (P.contents result.0) result.1 }
 {
     let mut out = out;
-    let Supplies {
-        files,
-        limits,
-        gate,
-    } = supplies;
-    let configuration = match configuration(alloc, words.config, files) {
+    let mut supplies = supplies;
+    let configuration = match configuration(alloc, words.config, &mut *supplies.files) {
         Ok(configuration) => configuration,
         Err(fault) => return (out, complain(alloc, &fault, err)),
     };
     say_if_group(alloc, words.config, &configuration, err);
-    let text = match read(alloc, words.script, FileKind::Script, files) {
+    let text = match read(alloc, words.script, FileKind::Script, &mut *supplies.files) {
         Ok(text) => text,
         Err(fault) => return (out, complain(alloc, &fault, err)),
     };
@@ -229,16 +230,11 @@ where
     if let Err(status) = begun(alloc, words.capture, &mut out, err) {
         return (out, status);
     }
-    gate.start(last_line(commands));
+    supplies.gate.start(last_line(commands));
     let lines = Script { commands };
     let task = Task {
         configuration,
         lines,
-    };
-    let supplies = Supplies {
-        files,
-        limits,
-        gate,
     };
     let ended = run_told(rt, alloc, words, task, supplies, out, err);
     let Ended {
@@ -275,16 +271,12 @@ where
     S: Source + Drop,
     P: Recording + Drop,
     E: Write,
-    ensures runs { Runs words.entry.manner
-        (P.contents streams.out) (P.contents result.0) none result.1 }
+    ensures runs { RunsNew (F.held supplies.entry.files.now) supplies.entry.limits
+        words.entry.manner None (P.contents streams.out) (P.contents result.0) result.1 }
 {
     let Streams { input, mut out, .. } = streams;
-    let Supplies {
-        files,
-        limits,
-        gate,
-    } = supplies;
-    let configuration = match live_configuration(alloc, words.config, files, err) {
+    let mut supplies = supplies;
+    let configuration = match live_configuration(alloc, words.config, &mut *supplies.files, err) {
         Ok(configuration) => configuration,
         Err(fault) => {
             input.end();
@@ -304,11 +296,6 @@ where
         configuration,
         lines,
     };
-    let supplies = Supplies {
-        files,
-        limits,
-        gate,
-    };
     let ended = run_told(rt, alloc, words, task, supplies, out, err);
     let Ended {
         out,
@@ -327,7 +314,9 @@ fn live_configuration<F: Files, E: Write>(
     path: &str,
     files: &mut F,
     err: &mut E,
-) -> Result<Configuration, RunFault> {
+) -> Result<Configuration, RunFault>
+    ensures same { F.held files.new ≡ F.held files.old }
+{
     if let Err(why) = files.open(INPUT) {
         return Err(unreadable(alloc, INPUT, why));
     }

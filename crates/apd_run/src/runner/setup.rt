@@ -1,6 +1,7 @@
 //! The settings of an access point, from a configuration.
 
-ghost use Rattle.std.specs.Prelude.{◌≡◌, ◌<◌, ◌≤◌};
+ghost use Rattle.std.specs.Prelude.{◌≡◌, ◌<◌, ◌≤◌, IfOk};
+ghost use Rattle.apd_files.specs.Held.{Holds};
 
 use crate::access::Settings;
 use crate::runner::fault::{RunFault, of_configuration, unreadable};
@@ -10,23 +11,30 @@ use apd_files::{FileKind, Files, read_whole};
 use mac_types::Address;
 use std::alloc::Global;
 
+/// The bytes of a file, read whole.
 pub(crate) fn read<F: Files>(
     alloc: Global,
     path: &str,
     kind: FileKind,
     files: &mut F,
-) -> Result<Vec<u8>, RunFault> {
+) -> Result<Vec<u8>, RunFault>
+    ensures text { IfOk result (λ text. Holds (F.held files.old) path.now text.items) }
+    ensures same { F.held files.new ≡ F.held files.old }
+{
     match read_whole(alloc, path, kind, files) {
         Ok(bytes) => Ok(bytes),
         Err(why) => Err(unreadable(alloc, path, why)),
     }
 }
 
+/// The configuration in a file.
 pub(crate) fn configuration<F: Files>(
     alloc: Global,
     path: &str,
     files: &mut F,
-) -> Result<Configuration, RunFault> {
+) -> Result<Configuration, RunFault>
+    ensures same { F.held files.new ≡ F.held files.old }
+{
     let text = read(alloc, path, FileKind::Configuration, files)?;
     match read_configuration(alloc, text.as_slice()) {
         Ok(configuration) => Ok(configuration),

@@ -1,4 +1,6 @@
-use Rattle.std.proofs.Common.{◌≡◌, ◌-◌, length, vec_len}
+use Rattle.std.proofs.Common.{◌≡◌, ◌≤◌, ◌-◌, [], length, take, vec_len}
+use Rattle.apd_script.specs.Asked.{commands_of}
+use Rattle.apd_driver.specs.Captures.{KeepsLines}
 use Rattle.apd_driver.specs.Shows.{Shows}
 use Rattle.apd_driver.proofs.interval.intervals.Given as goal
 
@@ -7,7 +9,9 @@ invariant-intervals g l =
     record {
       home : vec_len l.staff.workers ≡ length l.setting.desks.now;
       workers : (g.O.Operating.crew l.staff.operator).workers ≡ (g.O.Operating.crew l.fn.staff.operator).workers;
-      shown : Shows l.setting.manner (g.P.Write.contents l.fn.writer) (g.O.Operating.crew l.fn.staff.operator).counted (g.P.Write.contents l.writer) (g.O.Operating.crew l.staff.operator).counted l.found.memory l.found.refused;
+      within : l.line ≤ length l.commands;
+      shown : Shows l.setting.manner (g.P.Write.contents l.fn.writer) (g.O.Operating.crew l.fn.staff.operator) (commands_of (take l.line l.commands)) [] (g.P.Write.contents l.writer) (g.O.Operating.crew l.staff.operator) l.found.memory l.found.refused;
+      kept : KeepsLines l.setting.manner.form (commands_of (take l.line l.commands)) (g.P.Write.contents l.fn.writer) (g.P.Write.contents l.writer) (g.P.Printing.recorded l.fn.writer) (g.P.Printing.recorded l.writer);
     }
 
 abbrev pub decreases-intervals : goal.decreases-intervals

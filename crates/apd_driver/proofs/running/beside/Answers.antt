@@ -6,5 +6,5 @@ pub returns-clause-breaks : goal.returns-clause-breaks
 returns-clause-breaks g c =
     elim c.if-started.branch [
       | then-started w ↦ rw w.found-is (rw w.writer-is w.run-found.ensures.breaks)
-      | else-started w ↦ rw w.found-is (rw w.writer-is (breaks_at_once _ _ _))
+      | else-started w ↦ rw w.found-is (rw w.writer-is (breaks_at_once _ _ _ _))
     ]

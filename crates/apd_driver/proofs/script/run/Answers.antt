@@ -3,7 +3,7 @@ use Rattle.apd_driver.proofs.Broken.{breaks_at_once}
 use Rattle.apd_driver.proofs.script.run.Goals as goal
 
 pub returns-in_default-clause-breaks : goal.returns-in_default-clause-breaks
-returns-in_default-clause-breaks g c = breaks_at_once _ _ _
+returns-in_default-clause-breaks g c = breaks_at_once _ _ _ _
 
 pub returns-clause-home : goal.returns-clause-home
 returns-clause-home g c =
@@ -12,3 +12,6 @@ returns-clause-home g c =
 
 pub returns-clause-shows : goal.returns-clause-shows
 returns-clause-shows g c = rw c.how.ensures.is at c.run_threads.ensures.shows
+
+pub returns-clause-keeps : goal.returns-clause-keeps
+returns-clause-keeps g c = rw c.how.ensures.is at c.run_threads.ensures.keeps

@@ -1,19 +1,22 @@
-use Rattle.std.proofs.Common.{inr}
+use Rattle.std.proofs.Common.{List, Option, inr, refl, ℕ}
 use Rattle.apd_words.specs.Asked.{text_of}
-use Rattle.apd_driver.specs.Counts.{none}
-use Rattle.apd_driver.specs.Shows.{Runs}
-use Rattle.apd_driver.proofs.Ending.{runs_nothing}
+use Rattle.apd_program.specs.Verifying.{within}
+use Rattle.apd_run.specs.NewRuns.{NotRead, RunsScript}
 use Rattle.apd_entry.specs.Forms.{in_lines}
 use Rattle.apd_entry.proofs.Recorded.{in_their_place, beside_them}
 use Rattle.apd_entry.proofs.entry.run_script.Goals as goal
 
 pub returns-then-is_in_place : goal.returns-then-is_in_place
 returns-then-is_in_place g c =
-    record { runs = in_their_place (λ o n. Runs (in_lines c.args.asked.strict) o n none c.run_watched-out.result.1) (text_of c.args.asked.capture.path) (g.O.Write.contents c.args.out) (g.O.Write.contents c.run_watched-out.result.0.capture.tape) c.if-is_in_place.ensures.is c.run_watched-out.ensures.runs }
+    let asked = c.args.asked in
+    let P : Option (List ℕ) → Option (List ℕ) → Type 0 = λ o n. RunsScript (g.F.Files.held c.args.files.now) (within asked.states asked.work) asked.script.now (in_lines asked.strict) o n c.run_watched-out.result.1 in
+    record { runs = in_their_place P (text_of asked.capture.path) (g.O.Write.contents c.args.out) (g.O.Write.contents c.run_watched-out.result.0.capture.tape) c.if-is_in_place.ensures.is c.run_watched-out.ensures.runs }
 
 pub returns-in-Ok : goal.returns-in-Ok
 returns-in-Ok g c =
-    record { runs = beside_them (λ o n. Runs (in_lines c.args.asked.strict) o n none c.run_watched-out-in-Ok.result.1) (text_of c.args.asked.capture.path) (g.O.Write.contents c.args.out) (g.O.Write.contents c.run_watched-out-in-Ok.result.0.lines) c.if-is_in_place.ensures.is (rw c.in-Ok.ensures.lines at c.run_watched-out-in-Ok.ensures.runs) }
+    let asked = c.args.asked in
+    let P : Option (List ℕ) → Option (List ℕ) → Type 0 = λ o n. RunsScript (g.F.Files.held c.args.files.now) (within asked.states asked.work) asked.script.now (in_lines asked.strict) o n c.run_watched-out-in-Ok.result.1 in
+    record { runs = beside_them P (text_of asked.capture.path) (g.O.Write.contents c.args.out) (g.O.Write.contents c.run_watched-out-in-Ok.result.0.lines) c.if-is_in_place.ensures.is (rw c.in-Ok.ensures.lines at c.run_watched-out-in-Ok.ensures.runs) }
 
 pub returns-in-Err : goal.returns-in-Err
-returns-in-Err g c = record { runs = rw c.in-Err.ensures.same (runs_nothing _ _ _ _ (inr c.complain.ensures.is)) }
+returns-in-Err g c = record { runs = rw c.in-Err.ensures.same (NotRead _ refl (inr c.complain.ensures.is)) }

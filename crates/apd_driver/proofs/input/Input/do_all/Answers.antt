@@ -1,29 +1,32 @@
 use Rattle.std.proofs.Common.{refl, sym, ◌∙◌}
-use Rattle.apd_driver.specs.Asking.{Unanswered}
-use Rattle.apd_driver.specs.Shows.{Nothing, ThenFlushes, BehindInterval}
-use Rattle.apd_driver.proofs.Batches.{shows_more, breaks_more}
+use Rattle.apd_driver.proofs.Batches.{breaks_flushed, breaks_more, shows_flushed, shows_more, shows_none}
+use Rattle.apd_driver.proofs.Kept.{run_flushed, run_more, run_none}
 use Rattle.apd_driver.proofs.input.Input.do_all.Goals as goal
 
 pub intervals-init : goal.intervals-init
 intervals-init g c =
-    record { home = c.requires.home; workers = refl; shown = rw c.nothing-found.ensures.memory (rw c.nothing-found.ensures.refused Nothing) }
+    record { home = c.requires.home; workers = refl; shown = rw c.nothing-found.ensures.memory (rw c.nothing-found.ensures.refused (shows_none _ _ _)); kept = run_none _ _ _ }
 
 pub intervals-preserved : goal.intervals-preserved
 intervals-preserved g c =
     let goes_on = sym c.is_over.ensures.is ∙ c.if-is_over.false in
-    let flushed = ThenFlushes _ _ _ _ _ c.intervals.invariant.shown c.advance.ensures.keeps in
+    let flushed = shows_flushed _ _ _ _ _ _ _ _ c.intervals.invariant.shown c.advance.ensures.keeps in
     record {
       home = c.in-Ok.ensures.home;
       workers = c.in-Ok.ensures.workers ∙ c.intervals.invariant.workers;
       shown = rw c.and-found.ensures.memory (rw c.and-found.ensures.refused (shows_more _ _ _ _ _ _ _ _ _ _ _ flushed goes_on c.in-Ok.ensures.shows));
+      kept = run_more _ _ _ _ _ _ _ (run_flushed _ _ _ _ _ _ _ c.intervals.invariant.kept c.advance.ensures.keeps c.advance.ensures.kept) c.in-Ok.ensures.keeps;
     }
 
 pub returns-in-Ok-false-clause-shows : goal.returns-in-Ok-false-clause-shows
-returns-in-Ok-false-clause-shows g c = ThenFlushes _ _ _ _ _ c.intervals.invariant.shown c.advance.ensures.keeps
+returns-in-Ok-false-clause-shows g c = shows_flushed _ _ _ _ _ _ _ _ c.intervals.invariant.shown c.advance.ensures.keeps
 
 pub returns-in-Err-clause-breaks : goal.returns-in-Err-clause-breaks
-returns-in-Err-clause-breaks g c = BehindInterval _ _ _ _ (ThenFlushes _ _ _ _ _ c.intervals.invariant.shown c.advance.ensures.keeps) (Unanswered refl)
+returns-in-Err-clause-breaks g c = breaks_flushed _ _ _ _ _ _ _ _ c.intervals.invariant.shown c.advance.ensures.keeps
 
 pub returns-in-Err-do_lines-clause-breaks : goal.returns-in-Err-do_lines-clause-breaks
 returns-in-Err-do_lines-clause-breaks g c =
-    breaks_more _ _ _ _ _ _ _ _ (ThenFlushes _ _ _ _ _ c.intervals.invariant.shown c.advance.ensures.keeps) (sym c.is_over.ensures.is ∙ c.if-is_over.false) c.in-Err-do_lines.ensures.breaks
+    breaks_more _ _ _ _ _ _ _ _ (shows_flushed _ _ _ _ _ _ _ _ c.intervals.invariant.shown c.advance.ensures.keeps) (sym c.is_over.ensures.is ∙ c.if-is_over.false) c.in-Err-do_lines.ensures.breaks
+
+pub returns-in-Ok-false-clause-keeps : goal.returns-in-Ok-false-clause-keeps
+returns-in-Ok-false-clause-keeps g c = run_flushed _ _ _ _ _ _ _ c.intervals.invariant.kept c.advance.ensures.keeps c.advance.ensures.kept

@@ -1,5 +1,6 @@
-use Rattle.std.proofs.Common.{◌≡◌, ◌-◌, ◌^◌, length, vec_len}
-use Rattle.apd_driver.specs.Shows.{Shows}
+use Rattle.std.proofs.Common.{◌≡◌, ◌-◌, ◌^◌, None, length, vec_len}
+use Rattle.apd_driver.specs.Captures.{KeepsRun}
+use Rattle.apd_driver.specs.Shows.{ShowsScript}
 use Rattle.apd_driver.proofs.input.Input.do_all.Given as goal
 
 abbrev pub invariant-intervals : goal.invariant-intervals
@@ -7,7 +8,8 @@ invariant-intervals g l =
     record {
       home : vec_len l.staff.workers ≡ length l.setting.desks.now;
       workers : (g.O.Operating.crew l.staff.operator).workers ≡ (g.O.Operating.crew l.fn.staff.operator).workers;
-      shown : Shows l.setting.manner (g.P.Write.contents l.fn.writer) (g.O.Operating.crew l.fn.staff.operator).counted (g.P.Write.contents l.writer) (g.O.Operating.crew l.staff.operator).counted l.found.memory l.found.refused;
+      shown : ShowsScript l.setting.manner None (g.P.Write.contents l.fn.writer) (g.P.Write.contents l.writer) (g.O.Operating.crew l.fn.staff.operator) (g.O.Operating.crew l.staff.operator) l.found.memory l.found.refused;
+      kept : KeepsRun l.setting.manner.form None (g.P.Write.contents l.fn.writer) (g.P.Write.contents l.writer) (g.P.Printing.recorded l.fn.writer) (g.P.Printing.recorded l.writer);
     }
 
 abbrev pub decreases-intervals : goal.decreases-intervals

@@ -25,4 +25,5 @@ loop-number-preserved g c =
       parts = omega (arith, c.in_ok-push.ensures.len, given.parts, c.loop-number.invariant.parts);
       counted = given_none stock c.worker.new.left.shards given.shards ∙ c.loop-number.invariant.counted;
       list = c.worker.ensures.keeps.list ∙ c.loop-number.invariant.list;
+      queues = c.worker.ensures.keeps.queues ∙ c.loop-number.invariant.queues;
     }

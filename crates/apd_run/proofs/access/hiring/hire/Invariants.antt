@@ -16,4 +16,5 @@ invariant-loop-number g l =
       parts : l.left.parts + vec_len l.tokens ≡ l.initial.left.parts;
       counted : counted_by l.left.shards ≡ counted_by l.initial.left.shards;
       list : l.ap.list ≡ l.initial.ap.list;
+      queues : l.ap.queues ≡ l.initial.ap.queues;
     }

@@ -1,12 +1,16 @@
-use Rattle.apd_driver.proofs.Ending.{runs_nothing}
+use Rattle.std.proofs.Common.{refl}
+use Rattle.apd_run.specs.NewRuns.{NotBegun}
+use Rattle.apd_run.proofs.NewRuns.{runs_same}
 use Rattle.apd_run.proofs.runner.command.live.Goals as goal
 
 pub returns-in-Err : goal.returns-in-Err
-returns-in-Err g c = record { runs = runs_nothing _ _ _ _ c.complain.ensures.broken }
+returns-in-Err g c = record { runs = NotBegun _ refl c.complain.ensures.broken }
 
 pub returns-in_default : goal.returns-in_default
-returns-in_default g c = record { runs = runs_nothing _ _ _ _ c.complain-in_default.ensures.broken }
+returns-in_default g c = record { runs = NotBegun _ refl c.complain-in_default.ensures.broken }
 
 pub returns-in-Err-begun : goal.returns-in-Err-begun
-returns-in-Err-begun g c =
-    record { runs = rw c.begun.ensures.output (runs_nothing _ _ _ _ c.in-Err-begun.ensures.broken) }
+returns-in-Err-begun g c = record { runs = NotBegun _ c.begun.ensures.output c.in-Err-begun.ensures.broken }
+
+pub returns : goal.returns
+returns g c = record { runs = runs_same _ c.live_configuration.ensures.same c.begun.ensures.output c.run_told-ended.ensures.runs }

@@ -7,6 +7,6 @@ pub returns : goal.returns
 returns c =
     let told = c.in_ok-report_refused.ensures.told in
     record {
-      collects = record { reports = told.reports; listed = told.listed; counted = ap (gains (record { workers = c.args.self.now.workers; counted = none })) (sym told.nothing) };
+      collects = record { reports = told.reports; listed = told.listed; counted = ap (gains (record { workers = c.args.self.now.workers; counted = none; work = tt })) (sym told.nothing) };
       worker = refl;
     }

@@ -5,13 +5,14 @@ use Rattle.ap_books.specs.Reading.{Reads}
 use Rattle.ap_live.specs.Counting.{counted_by, tally}
 use Rattle.ap_shards.specs.Tokens.{holding_of}
 use Rattle.ap_live.specs.declared.tagged.Tagged.{Tagged}
-use Rattle.apd_driver.specs.Crews.{Crew, gains}
+use Rattle.apd_driver.specs.Crews.{gains}
 use Rattle.ap_live.specs.Tokens.{Worker}
-use Rattle.apd_run.specs.Hands.{RunOperator, crew_of}
+use Rattle.apd_run.specs.Hands.{crew_of}
 use Rattle.apd_run.specs.InForce.{AreInForce, with_counts}
 use Rattle.apd_run.specs.declared.access.program_counts.ProgramCounts.{ProgramCounts}
 use Rattle.apd_run.proofs.Budgeting.{counted_in_force}
 use Rattle.apd_run.proofs.Keeping.{other_parts}
+use Rattle.apd_run.proofs.Operated.{gained_crew}
 use Rattle.apd_run.proofs.Sums.{exchanged_parts, exchanged_sum, fresh, more_than_one}
 use Rattle.apd_run.proofs.access.operator.LiveOperator.exchange.Goals as goal
 
@@ -66,8 +67,5 @@ returns-clause-crew g c =
     let stayed : sum_of left ≡ sum_of hoard = c.split_off-fresh.ensures.counts ∙ ap sum_of c.deref_mut.ensures.value in
     let merged : HasMerged left c.renew-counted.result c.merge.new.self = subst (λ (h : Holding). HasMerged h c.renew-counted.result c.merge.new.self) c.deref_mut-2.ensures.value c.merge.ensures in
     let counted = exchanged_sum hoard left c.renew-counted.result c.merge.new.self (counted_by shards) stayed merged (ap sum_of c.renew-counted.ensures.given ∙ ap (λ (w : Worker). counted_by w.shards) c.take_counts-runs.ensures.anew) in
-    let before : Crew = record { workers = c.self.inside.workers; counted = sum_of hoard } in
-    let after : Crew = record { workers = c.self.inside.workers; counted = sum_of c.merge.new.self } in
-    let crew : after ≡ gains before (counted_by shards) = λ i. record { workers = c.self.inside.workers; counted = counted i } in
     let handled = c.worker.invariant.counts ∙ sym (ap (λ (v : Vec Tagged). tally v.items) c.replace-handled.ensures.value) in
-    crew ∙ (ap (λ (o : RunOperator). gains (crew_of o) (counted_by shards)) c.self.view_is ∙ ap (gains (crew_of c.args.self.now)) handled)
+    gained_crew g.F.Files.held _ _ c.merge.new.self (counted_by shards) c.self.view_is counted ∙ ap (gains (crew_of g.F.Files.held c.args.self.now)) handled

@@ -9,5 +9,5 @@ use Rattle.apd_run.proofs.access.operator.LiveOperator.in_force.Goals as goal
 
 pub returns-clause-are : goal.returns-clause-are
 returns-clause-are g c =
-    subst (λ (o : RunOperator). IfOk c.rows.result (λ rows. map budget_shown rows.items ≡ budgets_of (set_of o.loads.loads))) c.self.view_is
+    subst (λ (o : RunOperator _). IfOk c.rows.result (λ rows. map budget_shown rows.items ≡ budgets_of (set_of o.loads.loads))) c.self.view_is
     (IfOk-weaker c.rows.result _ _ (λ rows shown. rows_of_set c.self.inside.programs c.self.inside.loads.now.loads rows.items c.self.invariant.in_force shown) c.rows.ensures.show)

@@ -15,7 +15,7 @@ invariant_of-self g c =
     let shares = c.into_parts-shares.result.0 in
     let merged : HasMerged hoard shares c.merge.new.self = subst (λ (h : Holding). HasMerged h shares c.merge.new.self) c.deref_mut.ensures.value c.merge.ensures in
     let given : HasParts 1 c.into_parts-shares.result.0 = subst (HasParts 1) (sym c.into_parts-shares.ensures.shares) c.worker.invariant.parts in
-    let some : 0 < c.self.inside.workers = subst (λ (o : RunOperator). 0 < o.workers) (sym c.self.view_is) c.requires.some in
+    let some : 0 < c.self.inside.workers = subst (λ (o : RunOperator _). 0 < o.workers) (sym c.self.view_is) c.requires.some in
     let none_more : counted_by c.worker.inside.token.shards ≡ none = subst (λ (w : RunWorker). counted_by w.token.shards ≡ none) (sym c.worker.view_is) c.requires.nothing in
     let counted : sum_of c.merge.new.self ≡ sum_of hoard = merged_sum hoard shares c.merge.new.self merged
     ∙ (ap (λ (h : Holding). plus (sum_of hoard) (sum_of h)) c.into_parts-shares.ensures.shares ∙ (ap (plus (sum_of hoard)) none_more ∙ plus_none (sum_of hoard))) in

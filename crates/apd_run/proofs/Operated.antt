@@ -1,0 +1,212 @@
+-- What an operator's calls do to what contracts see of it.
+use Rattle.std.proofs.Common.{◌≡◌, ◌+◌, ◌-◌, ◌<◌, ◌≤◌, ℕ, zero, suc, List, Option, Some, None, refl, sym, ap, subst, ◌∙◌, arith, add-zero}
+use Rattle.bpf_regions.specs.declared.hooks.Hook.{Hook}
+use Rattle.versions.specs.Lists.{Beginning, with_load}
+use Rattle.versions.specs.Sets.{load}
+use Rattle.ap_books.specs.Counts.{Counts, plus}
+use Rattle.ap_books.specs.Holdings.{Holding, sum_of}
+use Rattle.ap_model.specs.declared.event.Event.{Event}
+use Rattle.ap_model.specs.declared.event.Event.TheVariants as event
+use Rattle.ap_queues.specs.Items.{Item}
+use Rattle.ap_queues.specs.Lines.{puts_of}
+use Rattle.ap_queues.specs.Putting.{served, shard_count}
+use Rattle.ap_queues.specs.Putting as queue
+use Rattle.ap_queues.specs.Refusing.{StopsAt}
+use Rattle.ap_queues.specs.declared.lines.fault.Unserved.{Unserved}
+use Rattle.ap_queues.specs.declared.queue.EventQueue.{EventQueue}
+use Rattle.ap_live.specs.Tokens.{Operator}
+use Rattle.apd_script.specs.Asked.{Load, Adopt, Unload}
+use Rattle.apd_driver.specs.declared.reports.report.Told.{Told}
+use Rattle.apd_driver.specs.declared.reports.report.Told.TheVariants.{Memory}
+use Rattle.apd_driver.specs.Crews.{Crew, Works, gains, with_work}
+use Rattle.apd_driver.specs.Following.{AtNone, AtOneMore, Concerns, PutsAll, PutsFrom, WaitsAt, first_shard, for_publication, for_use, shard_end}
+use Rattle.apd_driver.specs.declared.actions.Publication.{Publication}
+use Rattle.apd_driver.specs.declared.actions.WordUse.{WordUse}
+use Rattle.apd_driver.specs.declared.operating.Waiting.{Waiting}
+use Rattle.apd_run.specs.Adopting.{AdoptsFiles}
+use Rattle.apd_run.specs.Hands.{RunOperator, crew_of, work_of}
+use Rattle.apd_run.specs.Loading.{LoadsFile}
+use Rattle.apd_files.specs.Held.{Held, path_of}
+use Rattle.apd_run.specs.Work.{Does, Work, live, with_loads}
+use Rattle.apd_run.specs.Work as work
+
+-- ---- events
+
+-- an event was put at some shards
+put_some : (w : Work) (line : ℕ) (e : Event) (first n : ℕ) → PutsFrom live line e first w (first + n) (record w { puts = served w.puts line e first n })
+put_some w line e first zero = subst (λ (k : ℕ). PutsFrom live line e first w k w) (sym (add-zero first)) AtNone
+put_some w line e first (suc n) =
+    let next : first + n + 1 ≡ first + suc n = omega arith in
+    subst (λ (k : ℕ). PutsFrom live line e first w k (record w { puts = served w.puts line e first (suc n) })) next
+    (AtOneMore (first + n) (record w { puts = served w.puts line e first n }) (record w { puts = served w.puts line e first (suc n) }) (put_some w line e first n) refl)
+
+same_first : (e : Event) → queue.first_shard e ≡ first_shard e
+same_first (event.Frame bytes) = refl
+same_first (event.Tick units) = refl
+same_first (event.Kick station reason) = refl
+same_first (event.Close station tid) = refl
+
+same_end : (e : Event) → first_shard e + shard_count e ≡ shard_end e
+same_end (event.Frame bytes) = refl
+same_end (event.Tick units) = refl
+same_end (event.Kick station reason) = refl
+same_end (event.Close station tid) = refl
+
+-- an event that is no tick concerns one shard
+pub starts_there : (e : Event) (shard : ℕ) → ((units : ℕ) → e ≡ event.Tick units → ⊥) → Concerns e shard → first_shard e ≡ shard
+starts_there (event.Frame bytes) shard other c = omega (arith, c.first_is, c.within)
+starts_there (event.Tick units) shard other c = absurd (other units refl)
+starts_there (event.Kick station reason) shard other c = omega (arith, c.first_is, c.within)
+starts_there (event.Close station tid) shard other c = omega (arith, c.first_is, c.within)
+
+-- a tick concerns no shard beyond the last
+pub no_such_shard : (e : Event) (units shard : ℕ) → e ≡ event.Tick units → 8 ≤ shard → Concerns e shard → ⊥
+no_such_shard e units shard tick high c =
+    let below : shard < 8 = subst (λ (x : Event). shard < shard_end x) tick c.within in
+    omega (arith, below, high)
+
+module _ {F : Type 0} (held : F → Held) where
+  -- the same of an operator
+  pub put_work : (o old : RunOperator F) (t m : Operator) (line : ℕ) (e : Event) (first n to : ℕ) → o ≡ old → m ≡ o.token → puts_of t.lines ≡ served (puts_of m.lines) line e first n → first + n ≡ to
+      → PutsFrom live line e first (work_of held old) to (work_of held (record o { token = t }))
+  put_work o old t m line e first n to is token put end =
+      let more : puts_of t.lines ≡ served (puts_of o.token.lines) line e first n = put ∙ ap (λ (x : Operator). served (puts_of x.lines) line e first n) token in
+      subst (λ (x : RunOperator F). PutsFrom live line e first (work_of held x) to (work_of held (record o { token = t }))) is
+      (subst (λ (k : ℕ). PutsFrom live line e first (work_of held o) k (work_of held (record o { token = t }))) end
+      (subst (λ (ps : List (List Item)). PutsFrom live line e first (work_of held o) (first + n) (record (work_of held o) { puts = ps })) (sym more) (put_some (work_of held o) line e first n)))
+
+  -- it was put at all that it concerns
+  pub put_all : (o old : RunOperator F) (t m : Operator) (line : ℕ) (e : Event) → o ≡ old → m ≡ o.token → puts_of t.lines ≡ served (puts_of m.lines) line e (queue.first_shard e) (shard_count e)
+      → PutsAll live line e (work_of held old) (work_of held (record o { token = t }))
+  put_all o old t m line e is token put =
+      subst (λ (k : ℕ). PutsFrom live line e k (work_of held old) (shard_end e) (work_of held (record o { token = t }))) (same_first e)
+      (put_work o old t m line e (queue.first_shard e) (shard_count e) (shard_end e) is token put (ap (λ (k : ℕ). k + shard_count e) (same_first e) ∙ same_end e))
+
+  -- a tick was put from a shard on
+  pub put_tick : (o old : RunOperator F) (t m : Operator) (line units shard : ℕ) (e : Event) → o ≡ old → m ≡ o.token → shard < 8 → e ≡ event.Tick units
+      → puts_of t.lines ≡ served (puts_of m.lines) line (event.Tick units) shard (8 - shard) → PutsFrom live line e shard (work_of held old) (shard_end e) (work_of held (record o { token = t }))
+  put_tick o old t m line units shard e is token below tick put =
+      let all : shard + (8 - shard) ≡ 8 = omega (arith, below) in
+      subst (λ (x : Event). PutsFrom live line x shard (work_of held old) (shard_end x) (work_of held (record o { token = t }))) (sym tick)
+      (put_work o old t m line (event.Tick units) shard (8 - shard) 8 is token put all)
+
+  -- another event was put at its shard
+  pub put_there : (o old : RunOperator F) (t m : Operator) (line : ℕ) (e : Event) (shard : ℕ) → o ≡ old → m ≡ o.token → first_shard e ≡ shard
+      → puts_of t.lines ≡ served (puts_of m.lines) line e (queue.first_shard e) (shard_count e) → PutsFrom live line e shard (work_of held old) (shard_end e) (work_of held (record o { token = t }))
+  put_there o old t m line e shard is token there put =
+      subst (λ (k : ℕ). PutsFrom live line e k (work_of held old) (shard_end e) (work_of held (record o { token = t }))) there (put_all o old t m line e is token put)
+
+  -- and waits at another
+  pub waits_work : (queues : List EventQueue) (o old : RunOperator F) (t m : Operator) (line : ℕ) (e : Event) (first count : ℕ) (u : Unserved) (w : Waiting) → o ≡ old → m ≡ o.token
+      → StopsAt queues m.lines t.lines line e first count u → first_shard e ≤ first → first + count ≡ shard_end e → w ≡ record { event = u.event; shard = u.shard }
+      → WaitsAt live line e first (work_of held old) (work_of held (record o { token = t })) w
+  waits_work queues o old t m line e first count u w is token h low end back =
+      let from : first ≤ u.shard = h.first_is in
+      let within : u.shard < first + count = h.within in
+      let upto : first + (u.shard - first) ≡ u.shard = omega (arith, from) in
+      let waits : WaitsAt live line e first (work_of held old) (work_of held (record o { token = t })) (record { event = u.event; shard = u.shard }) = record {
+        event = h.event;
+        concerned = record { first_is = omega (arith, low, from); within = subst (λ (n : ℕ). u.shard < n) end within };
+        before = put_work o old t m line e first (u.shard - first) u.shard is token h.before upto;
+      } in
+      subst (λ (x : Waiting). WaitsAt live line e first (work_of held old) (work_of held (record o { token = t })) x) (sym back) waits
+
+  -- the same after all that it concerns
+  pub waits_all : (queues : List EventQueue) (o old : RunOperator F) (t m : Operator) (line : ℕ) (e : Event) (u : Unserved) (w : Waiting) → o ≡ old → m ≡ o.token
+      → StopsAt queues m.lines t.lines line e (queue.first_shard e) (shard_count e) u → w ≡ record { event = u.event; shard = u.shard }
+      → WaitsAt live line e (first_shard e) (work_of held old) (work_of held (record o { token = t })) w
+  waits_all queues o old t m line e u w is token h back =
+      let low : first_shard e ≤ queue.first_shard e = omega (arith, same_first e) in
+      subst (λ (k : ℕ). WaitsAt live line e k (work_of held old) (work_of held (record o { token = t })) w) (same_first e)
+      (waits_work queues o old t m line e (queue.first_shard e) (shard_count e) u w is token h low (ap (λ (k : ℕ). k + shard_count e) (same_first e) ∙ same_end e) back)
+
+  -- a tick waits at another shard
+  pub waits_tick : (queues : List EventQueue) (o old : RunOperator F) (t m : Operator) (line units shard : ℕ) (e : Event) (u : Unserved) (w : Waiting) → o ≡ old → m ≡ o.token → shard < 8 → e ≡ event.Tick units
+      → StopsAt queues m.lines t.lines line (event.Tick units) shard (8 - shard) u → w ≡ record { event = u.event; shard = u.shard }
+      → WaitsAt live line e shard (work_of held old) (work_of held (record o { token = t })) w
+  waits_tick queues o old t m line units shard e u w is token below tick h back =
+      let all : shard + (8 - shard) ≡ 8 = omega (arith, below) in
+      let low : 0 ≤ shard = omega arith in
+      subst (λ (x : Event). WaitsAt live line x shard (work_of held old) (work_of held (record o { token = t })) w) (sym tick)
+      (waits_work queues o old t m line (event.Tick units) shard (8 - shard) u w is token h low all back)
+
+  -- another event waits at its shard
+  pub waits_there : (queues : List EventQueue) (o old : RunOperator F) (t m : Operator) (line : ℕ) (e : Event) (shard : ℕ) (u : Unserved) (w : Waiting) → o ≡ old → m ≡ o.token → first_shard e ≡ shard
+      → StopsAt queues m.lines t.lines line e (queue.first_shard e) (shard_count e) u → w ≡ record { event = u.event; shard = u.shard }
+      → WaitsAt live line e shard (work_of held old) (work_of held (record o { token = t })) w
+  waits_there queues o old t m line e shard u w is token there h back =
+      subst (λ (k : ℕ). WaitsAt live line e k (work_of held old) (work_of held (record o { token = t })) w) there (waits_all queues o old t m line e u w is token h back)
+
+  -- ---- loads
+
+  -- a load
+  pub load_does : (o old : RunOperator F) (f : F) (b : Beginning) (hook : Hook) (path named : List ℕ) (told : Told) → o ≡ old → held f ≡ held o.files → named ≡ path_of path
+      → LoadsFile (held o.files) o.limits hook named o.loads b told → Does (work_of held old) (work_of held (record o { files = f; loads = b })) (Load hook path) (Some told)
+  load_does o old f b hook path named told is same name h =
+      subst (λ (x : RunOperator F). Does (work_of held x) (work_of held (record o { files = f; loads = b })) (Load hook path) (Some told)) is
+      (work.Loads hook path told b (subst (λ (p : List ℕ). LoadsFile (held o.files) o.limits hook p o.loads b told) name h)
+      (ap (λ (x : Held). record (work_of held o) { files = x; loads = b }) same))
+
+  -- an adoption
+  pub adopt_does : (o old : RunOperator F) (f : F) (b : Beginning) (hook : Hook) (path certificate named shown : List ℕ) (told : Told) → o ≡ old → held f ≡ held o.files
+      → named ≡ path_of path → shown ≡ path_of certificate → AdoptsFiles (held o.files) o.limits.work hook named shown o.loads b told
+      → Does (work_of held old) (work_of held (record o { files = f; loads = b })) (Adopt hook path certificate) (Some told)
+  adopt_does o old f b hook path certificate named shown told is same name show h =
+      subst (λ (x : RunOperator F). Does (work_of held x) (work_of held (record o { files = f; loads = b })) (Adopt hook path certificate) (Some told)) is
+      (work.Adopts hook path certificate told b
+      (subst (λ (p : List ℕ). AdoptsFiles (held o.files) o.limits.work hook p (path_of certificate) o.loads b told) name
+      (subst (λ (p : List ℕ). AdoptsFiles (held o.files) o.limits.work hook named p o.loads b told) show h))
+      (ap (λ (x : Held). record (work_of held o) { files = x; loads = b }) same))
+
+  -- an unload
+  pub unload_does : (o old : RunOperator F) (b : Beginning) (hook : Hook) → o ≡ old → b ≡ with_load o.loads (load hook None)
+      → Does (work_of held old) (with_loads (work_of held o) b) (Unload hook) None
+  unload_does o old b hook is h =
+      subst (λ (x : RunOperator F). Does (work_of held x) (with_loads (work_of held o) b) (Unload hook) None) is (work.Unloads hook (ap (λ (x : Beginning). with_loads (work_of held o) x) h))
+
+  -- that failed
+  pub keep_does : (o old : RunOperator F) (b : Beginning) (hook : Hook) → o ≡ old → b ≡ o.loads → Does (work_of held old) (with_loads (work_of held o) b) (Unload hook) (Some Memory)
+  keep_does o old b hook is h =
+      subst (λ (x : RunOperator F). Does (work_of held x) (with_loads (work_of held o) b) (Unload hook) (Some Memory)) is
+      (work.NotUnloads hook (ap (λ (x : Beginning). with_loads (work_of held o) x) h))
+
+  -- ---- what stays
+
+  -- nothing changed but the work
+  pub works : (o old : RunOperator F) (w : Work) → o ≡ old → with_work (crew_of held o) w ≡ with_work (crew_of held old) w
+  works o old w is = ap (λ (x : RunOperator F). with_work (crew_of held x) w) is
+
+  -- a token that has put nothing more
+  pub same_lines : (o old : RunOperator F) (t m : Operator) → o ≡ old → m ≡ o.token → t.lines ≡ m.lines → crew_of held (record o { token = t }) ≡ crew_of held old
+  same_lines o old t m is token same =
+      let put : puts_of t.lines ≡ puts_of o.token.lines = ap puts_of (same ∙ ap (λ (x : Operator). x.lines) token) in
+      (λ i. record { workers = o.workers; counted = sum_of o.hoard; work = record { files = held o.files; limits = o.limits; puts = put i; loads = o.loads } }) ∙ ap (crew_of held) is
+
+  -- loads that were told
+  pub told_crew : (o old : RunOperator F) (b : Beginning) → o ≡ old → b ≡ o.loads → crew_of held (record o { loads = b }) ≡ crew_of held old
+  told_crew o old b is same = ap (λ (x : Beginning). crew_of held (record o { loads = x })) same ∙ ap (crew_of held) is
+
+  -- counts that were taken over
+  pub gained_crew : (o old : RunOperator F) (hoard : Holding) (counted : Counts) → o ≡ old → sum_of hoard ≡ plus (sum_of o.hoard) counted
+      → crew_of held (record o { hoard = hoard }) ≡ gains (crew_of held old) counted
+  gained_crew o old hoard counted is more =
+      let crew : crew_of held (record o { hoard = hoard }) ≡ gains (crew_of held o) counted = λ i. record { workers = o.workers; counted = more i; work = work_of held o } in
+      crew ∙ ap (λ (x : RunOperator F). gains (crew_of held x) counted) is
+
+-- ---- words
+
+-- an operator that did nothing
+pub works_same : (c d : Crew live) → d ≡ c → Works c d
+works_same c d same = rw same refl
+
+-- its work is the same
+pub same_work : (c d : Crew live) → d ≡ c → d.work ≡ c.work
+same_work c d same = ap (λ (x : Crew live). x.work) same
+
+-- what was done for a use of a word
+pub uses_as : {old new : Work} {told : Option Told} (u v : WordUse) → u ≡ v → Does old new (for_use v) told → Does old new (for_use u) told
+uses_as {old} {new} {told} u v is h = subst (λ (x : WordUse). Does old new (for_use x) told) (sym is) h
+
+-- the same for a publication
+pub publishes_as : {old new : Work} {told : Option Told} (p q : Publication) → p ≡ q → Does old new (for_publication q) told → Does old new (for_publication p) told
+publishes_as {old} {new} {told} p q is h = subst (λ (x : Publication). Does old new (for_publication x) told) (sym is) h

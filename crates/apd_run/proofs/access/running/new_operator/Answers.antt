@@ -1,0 +1,13 @@
+use Rattle.std.proofs.Common.{ℕ, [], replicate, ap, refl, ◌∙◌}
+use Rattle.apd_run.proofs.access.running.new_operator.Goals as goal
+
+pub returns-clause-new : goal.returns-clause-new
+returns-clause-new g c =
+    record {
+      some = c.requires.some;
+      nothing = c.requires.nothing;
+      files_are = refl;
+      limits_are = refl;
+      unput = c.requires.new.unput ∙ ap (λ (n : ℕ). replicate n []) c.requires.each;
+      no_loads = c.requires.no_loads;
+    }

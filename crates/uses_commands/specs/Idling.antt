@@ -1,0 +1,5 @@
+-- An operator of whose work nothing is said.
+use Rattle.apd_driver.specs.Semantics.{Semantics}
+
+abbrev pub idle : Semantics
+idle = record { Work = Unit {0}; Does = λ old new a told. Unit {0}; Puts = λ old new line e shard. Unit {0} }
