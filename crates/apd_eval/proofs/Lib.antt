@@ -11,4 +11,3 @@ mod Led
 pub mod Profiled
 mod Rows
 mod Splitting
-mod Tabled

@@ -19,7 +19,7 @@ use Rattle.apd_eval.specs.Again.{query_of}
 use Rattle.apd_eval.specs.Asked.{IsAsked, AreAsked, IsFollowed}
 use Rattle.apd_eval.specs.Evaluated.{judged_by}
 use Rattle.apd_eval.specs.Metered.{Metered}
-use Rattle.apd_eval.specs.Profile.{IsRunOn, AreRuns, steps_at, IsFormed, IsProfile}
+use Rattle.apd_eval.specs.Profile.{IsRunOn, AreRuns, steps_at, is_json, IsFormed, IsProfile}
 use Rattle.apd_eval.specs.Rulings.{GivesMetered}
 use Rattle.apd_eval.specs.Sums.{sums_text}
 use Rattle.apd_eval.specs.Visits.{counted, ticked, times}
@@ -125,7 +125,7 @@ module _ (p : Policy) (packets : List Seen) (v : Verified) (own : program_at p.h
 -- counts that begin at 0
 pub profiled : (v : Verified) (draw : ℕ) (config : Config) (packets : List Seen) (form : ProfileForm) (p : Policy) (first last : Metered) (rows : List Row) (text : List ℕ) → p.hook ≡ v.hook
     → p.programs.now ≡ replaced v.hook (no_programs v.code.shapes) (Some v) → first.held.draw ≡ draw → first.counts ≡ replicate (length v.code.slots) 0 → IsFollowed p config packets first rows last
-    → IsFormed form v.code.slots last.counts (sums_text (judged_by v config packets) rows) text → IsProfile v draw config packets form text
+    → IsFormed form v.code.slots last.counts (sums_text (judged_by v config packets) rows (is_json form)) text → IsProfile v draw config packets form text
 profiled v draw config packets form p first last rows text hook programs drawn zeros followed formed =
     let n : ℕ = length v.code.slots in
     let have = have_runs p packets v (own_program p v hook programs) rows first.counts last.counts followed.asked in
@@ -148,7 +148,7 @@ profiled v draw config packets form p first last rows text hook programs drawn z
 -- the same from the parts of its text
 pub profile_of : (v : Verified) (draw : ℕ) (config : Config) (packets : List Seen) (form : ProfileForm) (p : Policy) (first last : Metered) (rows : List Row) (slots : List (Option Insn)) (counts sums text : List ℕ) → p.hook ≡ v.hook
     → p.programs.now ≡ replaced v.hook (no_programs v.code.shapes) (Some v) → first.held.draw ≡ draw → first.counts ≡ replicate (length v.code.slots) 0 → IsFollowed p config packets first rows last
-    → slots ≡ v.code.slots → counts ≡ last.counts → sums ≡ sums_text (judged_by v config packets) rows → IsFormed form slots counts sums text → IsProfile v draw config packets form text
+    → slots ≡ v.code.slots → counts ≡ last.counts → sums ≡ sums_text (judged_by v config packets) rows (is_json form) → IsFormed form slots counts sums text → IsProfile v draw config packets form text
 profile_of v draw config packets form p first last rows slots counts sums text hook programs drawn zeros followed slots_are counts_are sums_are formed =
     let of_slots = subst (λ (s : List (Option Insn)). IsFormed form s counts sums text) slots_are formed in
     let of_counts = subst (λ (c : List ℕ). IsFormed form v.code.slots c sums text) counts_are of_slots in

@@ -2,7 +2,7 @@
 use Rattle.std.specs.Prelude.{◌≡◌, ℕ, ◌==◌, Bool, true, false, List, [], ◌∷◌, ◌++◌, codes, decimal, length, if◌then◌else◌}
 use Rattle.bpf_regions.specs.declared.hooks.Hook.{Hook}
 use Rattle.capture.specs.Packets.{Seen}
-use Rattle.apd_eval.specs.Unjudged.{unjudged_text}
+use Rattle.apd_eval.specs.Unjudged.{reasons_of, parts_text, others_line, none_text, json_reasons}
 use Rattle.apd_eval.specs.Words.{verdict_of, words_of}
 use Rattle.apd_eval.specs.Table.{column, station_text, lines_of}
 use Rattle.apd_eval.specs.declared.again.Contrast.{Contrast}
@@ -42,18 +42,34 @@ both_text judged packets changed =
     codes "judged " ++ (decimal judged ++ (codes " of " ++ (decimal packets
     ++ (codes " packets by both: " ++ (decimal changed ++ codes " verdicts differ\n")))))
 
--- the same, or why none was judged
-abbrev pub change_sums : Hook → List ℕ → List Seen → ℕ → ℕ → List ℕ
-change_sums hook address packets judged changed =
-    (if judged == 0 then unjudged_text hook address packets
-    else both_text judged (length packets) changed)
+-- the same, and which packets weren't judged; or why none was
+abbrev pub plain_changes : Hook → List ℕ → List Seen → ℕ → ℕ → List ℕ
+plain_changes hook address packets judged changed =
+    (if judged == 0 then none_text hook address packets
+    else both_text judged (length packets) changed
+    ++ others_line (parts_text hook (reasons_of hook address packets judged)))
+
+-- how many verdicts differ, in JSON, as the beginning of an object
+abbrev pub json_both : ℕ → ℕ → ℕ → List ℕ
+json_both judged packets changed =
+    codes "{\"judged\":" ++ (decimal judged ++ (codes ",\"packets\":" ++ (decimal packets
+    ++ (codes ",\"differ\":" ++ decimal changed))))
+
+-- the sums in either form
+abbrev pub change_sums : Hook → List ℕ → List Seen → ℕ → ℕ → Bool → List ℕ
+change_sums hook address packets judged changed true =
+    json_both judged (length packets) changed ++ json_reasons (reasons_of hook address packets judged)
+change_sums hook address packets judged changed false = plain_changes hook address packets judged changed
 
 -- the heads of the columns
 abbrev pub change_heads : List ℕ
 change_heads = codes "packet  station            verdict\n"
 
--- lines of JSON, or the heads of the columns, the lines of the changes, and a line of sums
+-- lines of JSON, or the heads of the columns and the lines of the changes
+abbrev pub change_rows : List Contrast → Bool → List ℕ
+change_rows changes true = lines_of json_change changes
+change_rows changes false = change_heads ++ lines_of change_line changes
+
+-- the same, and the sums
 abbrev pub changes_text : List Contrast → List ℕ → Bool → List ℕ
-changes_text changes sums true = lines_of json_change changes
-changes_text changes sums false =
-    change_heads ++ (lines_of change_line changes ++ sums)
+changes_text changes sums json = change_rows changes json ++ sums

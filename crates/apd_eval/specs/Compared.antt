@@ -32,4 +32,4 @@ pub record IsComparison (in_force tried : Verified) (draw : ℕ) (config : Confi
   pub are_changes : AreChanges contrasts changes
   pub equal : (changes ≡ []) ↔ AllAgree contrasts
   pub differ : differs ≡ nat_lt 0 (length changes)
-  pub text_is : text ≡ changes_text changes (change_sums in_force.hook config.bssid packets (length contrasts) (length changes)) json
+  pub text_is : text ≡ changes_text changes (change_sums in_force.hook config.bssid packets (length contrasts) (length changes) json) json

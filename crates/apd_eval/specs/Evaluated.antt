@@ -36,4 +36,4 @@ judged_by v config packets = record { hook = v.hook; budget = v.budget; address 
 pub record IsEvaluation (v : Verified) (draw : ℕ) (config : Config) (packets : List Seen) (json : Bool) (text : List ℕ) : Type 0 where
   pub rows : List Row
   pub evaluated : IsEvaluated v draw config packets rows
-  pub is : text ≡ table_text rows (sums_text (judged_by v config packets) rows) json
+  pub is : text ≡ table_text rows (sums_text (judged_by v config packets) rows json) json

@@ -56,11 +56,17 @@ profile_heads = codes "steps     slot  instruction\n"
 abbrev pub most_of : List ℕ → ℕ
 most_of counts = fold (λ most count. max count most) 0 counts
 
--- A table with a line of sums, lines of JSON, or the graph, whose blocks are the darker the more steps are made at their
+-- whether a form has lines of JSON
+abbrev pub is_json : ProfileForm → Bool
+is_json Table = false
+is_json Json = true
+is_json Graph = false
+
+-- A table or lines of JSON, with the sums, or the graph, whose blocks are the darker the more steps are made at their
 -- first slots.
 abbrev pub IsFormed : ProfileForm → List (Option Insn) → List ℕ → List ℕ → List ℕ → Type 0
 IsFormed Table slots counts sums text = text ≡ profile_heads ++ (slot_lines false slots counts (length slots) ++ sums)
-IsFormed Json slots counts sums text = text ≡ slot_lines true slots counts (length slots)
+IsFormed Json slots counts sums text = text ≡ slot_lines true slots counts (length slots) ++ sums
 IsFormed Graph slots counts sums text = IsGraph (Steps counts (most_of counts)) slots text
 
 -- A program's run on a query, with this ruling. It makes its steps at these slots.
@@ -89,4 +95,4 @@ pub record IsProfile (v : Verified) (draw : ℕ) (config : Config) (packets : Li
   pub runs : List (List ℕ)
   pub are : AreRuns v packets rows runs
   pub each : (slot : ℕ) → slot < length v.code.slots → slice_index counts slot ≡ steps_at slot runs % 2 ^ 64
-  pub formed : IsFormed form v.code.slots counts (sums_text (judged_by v config packets) rows) text
+  pub formed : IsFormed form v.code.slots counts (sums_text (judged_by v config packets) rows (is_json form)) text

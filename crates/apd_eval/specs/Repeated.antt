@@ -51,4 +51,4 @@ pub record IsRepeated (v : Verified) (draw : ℕ) (config : Config) (packets : L
   pub evaluated : IsEvaluated v draw config packets rows
   pub figures : Option Figures
   pub told : IsTold count figures
-  pub is : text ≡ table_text rows (sums_text (judged_by v config packets) rows) json ++ figures_text rows count figures json
+  pub is : text ≡ table_text rows (sums_text (judged_by v config packets) rows json) json ++ figures_text rows count figures json

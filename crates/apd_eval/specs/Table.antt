@@ -42,7 +42,11 @@ lines_of line (x ∷ xs) = line x ++ lines_of line xs
 abbrev pub heads : List ℕ
 heads = codes "packet  station            verdict       steps\n"
 
--- lines of JSON, or the heads of the columns, the lines of the rows, and a line of sums
+-- lines of JSON, or the heads of the columns and the lines of the rows
+abbrev pub rows_text : List Row → Bool → List ℕ
+rows_text rows true = lines_of json_line rows
+rows_text rows false = heads ++ lines_of row_line rows
+
+-- the same, and the sums
 abbrev pub table_text : List Row → List ℕ → Bool → List ℕ
-table_text rows sums true = lines_of json_line rows
-table_text rows sums false = heads ++ (lines_of row_line rows ++ sums)
+table_text rows sums json = rows_text rows json ++ sums

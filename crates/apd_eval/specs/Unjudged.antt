@@ -1,5 +1,5 @@
--- Why no packet of a capture was judged.
-use Rattle.std.specs.Prelude.{ℕ, ◌/◌, ◌%◌, ◌==◌, ◌&&◌, ◌||◌, nat_le, Bool, true, false, not, List, ◌++◌, codes, count_by, decimal, length, slice_index_or, slice_range, Result, Ok, Err, if◌then◌else◌}
+-- Why packets of a capture weren't judged.
+use Rattle.std.specs.Prelude.{ℕ, ◌-◌, ◌/◌, ◌%◌, ◌==◌, ◌&&◌, ◌||◌, nat_le, nat_lt, Bool, true, false, not, List, [], ◌∷◌, ◌++◌, codes, count_by, decimal, length, slice_index_or, slice_range, Result, Ok, Err, if◌then◌else◌}
 use Rattle.std.specs.Str.{bytes_eq}
 use Rattle.bpf_regions.specs.declared.hooks.Hook.{Hook}
 use Rattle.bpf_regions.specs.declared.hooks.Hook.TheVariants.{Association, Addba, Data}
@@ -7,6 +7,7 @@ use Rattle.capture.specs.Packets.{Seen}
 use Rattle.capture.specs.declared.fault.LeftOut.{LeftOut}
 use Rattle.apd_eval.specs.Follows.{is_received}
 use Rattle.apd_eval.specs.declared.unjudged.Reason.{Reason}
+use Rattle.apd_eval.specs.declared.unjudged.Reasons.{Reasons}
 use Rattle.apd_eval.specs.declared.unjudged.Reason.TheVariants.{NoFrame, OtherKind, OtherReceiver, Encrypted, Unasked}
 
 -- the octet at an index, or 0 past the end
@@ -59,20 +60,70 @@ other_kind Association = codes "no association request"
 other_kind Addba = codes "no ADDBA request"
 other_kind Data = codes "not data"
 
--- how many packets have no frame, or one of another kind
-abbrev pub kinds_text : ℕ → ℕ → ℕ → List ℕ → List ℕ
-kinds_text packets missing other kind =
-    codes "judged 0 of " ++ (decimal packets ++ (codes " packets: " ++ (decimal missing
-    ++ (codes " without a frame, " ++ (decimal other ++ (codes " " ++ kind))))))
+-- How many packets weren't judged for each reason, if this many were. What isn't encrypted, and is of the hook's kind and
+-- to the address, was refused before any program unless it was judged.
+abbrev pub reasons_of : Hook → List ℕ → List Seen → ℕ → Reasons
+reasons_of hook address packets judged = record {
+  missing = count NoFrame hook address packets;
+  other = count OtherKind hook address packets;
+  elsewhere = count OtherReceiver hook address packets;
+  encrypted = count Encrypted hook address packets;
+  refused = count Unasked hook address packets - judged;
+  requests = count Unasked Association address packets;
+}
 
--- how many have another receiver, are encrypted, or were refused
-abbrev pub refusals_text : ℕ → ℕ → ℕ → List ℕ
-refusals_text elsewhere encrypted unasked =
-    codes ", " ++ (decimal elsewhere ++ (codes " to another address, " ++ (decimal encrypted
-    ++ (codes " encrypted, " ++ (decimal unasked ++ codes " refused before any program\n")))))
+-- what separates a list so far from its next part
+abbrev pub separator : List ℕ → List ℕ
+separator text = (if length text == 0 then [] else codes ", ")
+
+-- a list with one more part, if that counts anything
+unfoldable pub with_part : List ℕ → ℕ → List ℕ → List ℕ
+with_part text n what =
+    (if n == 0 then text else text ++ (separator text ++ (decimal n ++ (codes " " ++ what))))
+
+-- the list of reasons that apply, with how many packets each
+abbrev pub parts_text : Hook → Reasons → List ℕ
+parts_text hook r =
+    with_part (with_part (with_part (with_part (with_part []
+    r.missing (codes "without a frame"))
+    r.other (other_kind hook))
+    r.elsewhere (codes "to another address"))
+    r.encrypted (codes "encrypted"))
+    r.refused (codes "refused before any program")
 
 -- the line of sums of a table without rows
-unfoldable pub unjudged_text : Hook → List ℕ → List Seen → List ℕ
-unjudged_text hook address packets =
-    kinds_text (length packets) (count NoFrame hook address packets) (count OtherKind hook address packets) (other_kind hook)
-    ++ refusals_text (count OtherReceiver hook address packets) (count Encrypted hook address packets) (count Unasked hook address packets)
+abbrev pub colon : List ℕ → List ℕ
+colon parts = (if length parts == 0 then [] else codes ": ")
+
+abbrev pub none_line : ℕ → List ℕ → List ℕ
+none_line packets parts =
+    codes "judged 0 of " ++ (decimal packets ++ (codes " packets" ++ (colon parts ++ (parts ++ 10 ∷ []))))
+
+-- the line below the sums of a table with rows, if some packets weren't judged
+abbrev pub others_line : List ℕ → List ℕ
+others_line parts = (if length parts == 0 then [] else codes "not judged: " ++ (parts ++ 10 ∷ []))
+
+-- frames were refused, and no request for an association was received
+abbrev pub is_lonely : Reasons → Bool
+is_lonely r = r.requests == 0 && nat_lt 0 r.refused
+
+-- what is said then: only a station that is associated leads to queries
+abbrev pub lonely_line : Reasons → List ℕ
+lonely_line r =
+    (if is_lonely r then codes "no station associates in this capture, and frames of a station that is not associated come to no program\n"
+    else [])
+
+-- the sums of a table without rows
+abbrev pub none_text : Hook → List ℕ → List Seen → List ℕ
+none_text hook address packets =
+    none_line (length packets) (parts_text hook (reasons_of hook address packets 0))
+    ++ lonely_line (reasons_of hook address packets 0)
+
+-- the same counts in JSON, as the end of an object
+abbrev pub json_reasons : Reasons → List ℕ
+json_reasons r =
+    codes ",\"not_judged\":{\"without_frame\":" ++ (decimal r.missing
+    ++ (codes ",\"other_kind\":" ++ (decimal r.other
+    ++ (codes ",\"other_address\":" ++ (decimal r.elsewhere
+    ++ (codes ",\"encrypted\":" ++ (decimal r.encrypted
+    ++ (codes ",\"refused\":" ++ (decimal r.refused ++ codes "}}\n")))))))))

@@ -1,17 +1,26 @@
 //! The verdicts that differ between two programs.
 
-ghost use Rattle.std.specs.Prelude.{◌≡◌, ◌↔◌, ◌++◌, IfOk, [], map, string_bytes};
+ghost use Rattle.std.specs.Prelude.{◌≡◌, ◌↔◌, ◌++◌, IfOk, [], map, string_bytes, true};
 ghost use Rattle.capture.specs.Packets.{seen_of};
-ghost use Rattle.apd_eval.specs.Changes.{AllAgree, AreChanges, change_line, json_change, both_text, change_sums, changes_text};
+ghost use Rattle.apd_eval.specs.Changes.{AllAgree, AreChanges, change_line, json_change, both_text, plain_changes, json_both, change_sums, change_rows, changes_text};
 ghost use Rattle.apd_eval.specs.Table.{lines_of};
 
 use crate::again::Contrast;
 use crate::follow::Replay;
 use crate::table::station_text;
-use crate::unjudged::unjudged_text;
+use crate::unjudged::{json_reasons, none_text, others_text, reasons_of};
 use bpf_regions::Hook;
 use std::alloc::{AllocError, Global};
 use std::fmt::Write;
+
+/// Two programs on a capture: how many queries of the hook were judged, and how many verdicts differ.
+#[derive(Clone, Copy)]
+pub(crate) struct Comparing<'a> {
+    pub hook: Hook,
+    pub replay: Replay<'a>,
+    pub judged: usize,
+    pub changed: usize,
+}
 
 /// The heads of the columns.
 const HEADS: &str = "packet  station            verdict\n";
@@ -92,24 +101,88 @@ fn both_text(
     format!(in alloc; "judged {judged} of {packets} packets by both: {changed} verdicts differ\n")
 }
 
-/// The same, or why none was judged.
-pub(crate) fn change_sums(
-    alloc: Global,
-    hook: Hook,
-    replay: Replay<'_>,
-    judged: usize,
-    changed: usize,
-) -> Result<String, AllocError>
-    ensures is { IfOk result (λ text. string_bytes text ≡ change_sums hook
-        replay.entry.link.now.bssid (map seen_of replay.entry.packets.now) judged changed) }
+/// The same, and which packets weren't judged; or why none was.
+fn plain_changes(alloc: Global, course: Comparing<'_>) -> Result<String, AllocError>
+    ensures is { IfOk result (λ text. string_bytes text ≡ plain_changes course.entry.hook
+        course.entry.replay.link.now.bssid (map seen_of course.entry.replay.packets.now)
+        course.entry.judged course.entry.changed) }
 {
+    let Comparing {
+        hook,
+        replay,
+        judged,
+        changed,
+    } = course;
     if judged == 0 {
-        return unjudged_text(alloc, hook, replay);
+        return none_text(alloc, hook, replay);
     }
-    both_text(alloc, judged, replay.count(), changed)
+    let mut text = both_text(alloc, judged, replay.count(), changed)?;
+    let others = others_text(alloc, hook, reasons_of(hook, replay, judged))?;
+    text.push_str(others.as_str())?;
+    Ok(text)
 }
 
-/// The lines of changes in JSON, or as a table with this line of sums.
+/// How many verdicts differ, in JSON, as the beginning of an object.
+fn json_both(
+    alloc: Global,
+    judged: usize,
+    packets: usize,
+    changed: usize,
+) -> Result<String, AllocError>
+    ensures is { IfOk result (λ text. string_bytes text ≡ json_both judged packets changed) }
+{
+    format!(in alloc; "{{\"judged\":{judged},\"packets\":{packets},\"differ\":{changed}")
+}
+
+/// All sums as a line of JSON.
+fn json_changes(alloc: Global, course: Comparing<'_>) -> Result<String, AllocError>
+    ensures is { IfOk result (λ text. string_bytes text ≡ change_sums course.entry.hook
+        course.entry.replay.link.now.bssid (map seen_of course.entry.replay.packets.now)
+        course.entry.judged course.entry.changed true) }
+{
+    let Comparing {
+        hook,
+        replay,
+        judged,
+        changed,
+    } = course;
+    let mut text = json_both(alloc, judged, replay.count(), changed)?;
+    let rest = json_reasons(alloc, reasons_of(hook, replay, judged))?;
+    text.push_str(rest.as_str())?;
+    Ok(text)
+}
+
+/// The sums of a comparison, in JSON or not.
+pub(crate) fn change_sums(
+    alloc: Global,
+    course: Comparing<'_>,
+    json: bool,
+) -> Result<String, AllocError>
+    ensures is { IfOk result (λ text. string_bytes text ≡ change_sums course.entry.hook
+        course.entry.replay.link.now.bssid (map seen_of course.entry.replay.packets.now)
+        course.entry.judged course.entry.changed json) }
+{
+    if json {
+        return json_changes(alloc, course);
+    }
+    plain_changes(alloc, course)
+}
+
+/// The lines of changes, in JSON or with the heads of their columns.
+fn change_rows(alloc: Global, changes: &[Contrast], json: bool) -> Result<String, AllocError>
+    ensures is { IfOk result (λ text. string_bytes text ≡ change_rows changes.now json) }
+{
+    if json {
+        let mut text = String::new(alloc);
+        append_all_json(alloc, &mut text, changes)?;
+        return Ok(text);
+    }
+    let mut text = String::from_str(alloc, HEADS)?;
+    append_lines(alloc, &mut text, changes)?;
+    Ok(text)
+}
+
+/// The same, and the sums.
 pub(crate) fn changes_text(
     alloc: Global,
     changes: &[Contrast],
@@ -119,13 +192,7 @@ pub(crate) fn changes_text(
     ensures is { IfOk result
         (λ text. string_bytes text ≡ changes_text changes.now sums.now json) }
 {
-    if json {
-        let mut text = String::new(alloc);
-        append_all_json(alloc, &mut text, changes)?;
-        return Ok(text);
-    }
-    let mut text = String::from_str(alloc, HEADS)?;
-    append_lines(alloc, &mut text, changes)?;
+    let mut text = change_rows(alloc, changes, json)?;
     text.push_str(sums)?;
     Ok(text)
 }

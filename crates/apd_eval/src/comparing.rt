@@ -5,7 +5,7 @@ ghost use Rattle.capture.specs.Packets.{seen_of};
 ghost use Rattle.apd_eval.specs.Compared.{AreJudgedAgain, IsComparison};
 
 use crate::again::{Contrast, judge_again};
-use crate::changes::{change_sums, changes_of, changes_text};
+use crate::changes::{Comparing, change_sums, changes_of, changes_text};
 use crate::evaluating::evaluate;
 use crate::follow::{Replay, Row};
 use crate::meter::Meter;
@@ -63,7 +63,13 @@ pub fn compare(
     let contrasts = judged_again(alloc, tried, replay, rows.as_slice())?;
     let changes = changes_of(alloc, contrasts.as_slice())?;
     let changed = changes.len();
-    let sums = change_sums(alloc, hook, replay, contrasts.len(), changed)?;
+    let course = Comparing {
+        hook,
+        replay,
+        judged: contrasts.len(),
+        changed,
+    };
+    let sums = change_sums(alloc, course, json)?;
     let text = changes_text(alloc, changes.as_slice(), sums.as_str(), json)?;
     let differs = 0 < changed;
     Ok(Comparison { text, differs })

@@ -1,10 +1,10 @@
 //! How many steps a program makes at each of its instructions, on a capture's queries.
 
-ghost use Rattle.std.specs.Prelude.{◌≡◌, ◌++◌, IfOk, length, replicate, slice_get, slice_index, map, true};
+ghost use Rattle.std.specs.Prelude.{◌≡◌, ◌++◌, IfOk, length, replicate, slice_get, slice_index, map, true, false};
 ghost use Rattle.std.specs.String.{string_bytes};
 ghost use Rattle.capture.specs.Packets.{seen_of};
-ghost use Rattle.apd_eval.specs.declared.profiling.ProfileForm.TheVariants.{Table};
-ghost use Rattle.apd_eval.specs.Profile.{profile_line, json_line, line_of, line_at, slot_lines, most_of, IsFormed, IsProfile};
+ghost use Rattle.apd_eval.specs.declared.profiling.ProfileForm.TheVariants.{Table, Json};
+ghost use Rattle.apd_eval.specs.Profile.{profile_line, json_line, line_of, line_at, slot_lines, most_of, is_json, IsFormed, IsProfile};
 ghost use Rattle.apd_eval.specs.Sums.{judged_of, sums_text};
 
 use crate::follow::{Replay, Row, follow};
@@ -27,7 +27,7 @@ const HEADS: &str = "steps     slot  instruction\n";
 pub enum ProfileForm {
     /// A line for each instruction, and a line of sums.
     Table,
-    /// A line of JSON for each instruction at which a step was made.
+    /// A line of JSON for each instruction at which a step was made, and one of sums.
     Json,
     /// The control-flow graph, for graphviz.
     Graph,
@@ -155,23 +155,29 @@ fn table_text(
     course: Course<'_>,
 ) -> Result<String, AllocError>
     ensures is { IfOk result (λ text. IsFormed Table profile.entry.program.now.slots
-        profile.entry.counts.now (sums_text (judged_of course.entry) rows.now) (string_bytes text)) }
+        profile.entry.counts.now (sums_text (judged_of course.entry) rows.now false) (string_bytes text)) }
 {
     let mut text = String::from_str(alloc, HEADS)?;
     append_slots(alloc, &mut text, profile, false)?;
-    let sums = sums_text(alloc, rows, course)?;
+    let sums = sums_text(alloc, rows, course, false)?;
     text.push_str(sums.as_str())?;
     Ok(text)
 }
 
-/// The lines of JSON of a profile.
-fn json_text(alloc: Global, profile: Profile<'_>) -> Result<String, AllocError>
-    ensures is { IfOk result (λ text. string_bytes text ≡ slot_lines true
-        profile.entry.program.now.slots profile.entry.counts.now
-        (length profile.entry.program.now.slots)) }
+/// The lines of JSON of a profile, with the sums of the rows.
+fn json_text(
+    alloc: Global,
+    profile: Profile<'_>,
+    rows: &[Row],
+    course: Course<'_>,
+) -> Result<String, AllocError>
+    ensures is { IfOk result (λ text. IsFormed Json profile.entry.program.now.slots
+        profile.entry.counts.now (sums_text (judged_of course.entry) rows.now true) (string_bytes text)) }
 {
     let mut text = String::new(alloc);
     append_slots(alloc, &mut text, profile, true)?;
+    let sums = sums_text(alloc, rows, course, true)?;
+    text.push_str(sums.as_str())?;
     Ok(text)
 }
 
@@ -184,11 +190,12 @@ fn formed(
     form: ProfileForm,
 ) -> Result<String, AllocError>
     ensures is { IfOk result (λ text. IsFormed form profile.entry.program.now.slots
-        profile.entry.counts.now (sums_text (judged_of course.entry) rows.now) (string_bytes text)) }
+        profile.entry.counts.now (sums_text (judged_of course.entry) rows.now (is_json form))
+        (string_bytes text)) }
 {
     match form {
         ProfileForm::Table => table_text(alloc, profile, rows, course),
-        ProfileForm::Json => json_text(alloc, profile),
+        ProfileForm::Json => json_text(alloc, profile, rows, course),
         ProfileForm::Graph => {
             let counts = profile.counts;
             let most = most_of(counts);

@@ -3,7 +3,7 @@
 ghost use Rattle.std.specs.Prelude.{◌≡◌, ◌++◌, IfOk};
 ghost use Rattle.std.specs.String.{string_bytes};
 ghost use Rattle.apd_eval.specs.Sums.{judged_of, sums_text};
-ghost use Rattle.apd_eval.specs.Table.{station_text, row_line, json_line, lines_of, table_text};
+ghost use Rattle.apd_eval.specs.Table.{station_text, row_line, json_line, lines_of, rows_text, table_text};
 
 use crate::follow::Row;
 use crate::sums::{Course, sums_text};
@@ -73,15 +73,9 @@ fn append_all_json(alloc: Global, text: &mut String, rows: &[Row]) -> Result<(),
     Ok(())
 }
 
-/// The table of a capture's verdicts by a program with this budget, or lines of JSON.
-pub(crate) fn table_text(
-    alloc: Global,
-    rows: &[Row],
-    course: Course<'_>,
-    json: bool,
-) -> Result<String, AllocError>
-    ensures is { IfOk result (λ text. string_bytes text
-        ≡ table_text rows.now (sums_text (judged_of course.entry) rows.now) json) }
+/// The rows of a table with their heads, or lines of JSON.
+fn rows_text(alloc: Global, rows: &[Row], json: bool) -> Result<String, AllocError>
+    ensures is { IfOk result (λ text. string_bytes text ≡ rows_text rows.now json) }
 {
     if json {
         let mut text = String::new(alloc);
@@ -90,7 +84,21 @@ pub(crate) fn table_text(
     }
     let mut text = String::from_str(alloc, HEADS)?;
     append_rows(alloc, &mut text, rows)?;
-    let sums = sums_text(alloc, rows, course)?;
+    Ok(text)
+}
+
+/// The table of a capture's verdicts by a program with this budget, or lines of JSON, with the sums.
+pub(crate) fn table_text(
+    alloc: Global,
+    rows: &[Row],
+    course: Course<'_>,
+    json: bool,
+) -> Result<String, AllocError>
+    ensures is { IfOk result (λ text. string_bytes text
+        ≡ table_text rows.now (sums_text (judged_of course.entry) rows.now json) json) }
+{
+    let sums = sums_text(alloc, rows, course, json)?;
+    let mut text = rows_text(alloc, rows, json)?;
     text.push_str(sums.as_str())?;
     Ok(text)
 }

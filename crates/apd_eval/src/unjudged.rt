@@ -1,14 +1,15 @@
-//! Why no packet of a capture was judged.
+//! Why packets of a capture weren't judged.
 
 ghost use Rattle.std.specs.Prelude.{◌≡◌, IfOk, map, slice_index_or, string_bytes};
 ghost use Rattle.capture.specs.Packets.{seen_of};
 ghost use Rattle.capture.specs.Radiotap.{bytes_in};
-ghost use Rattle.apd_eval.specs.Unjudged.{octet, is_judged, is_for, is_encrypted, reason_of, is_same, count, other_kind, kinds_text, refusals_text, unjudged_text};
+ghost use Rattle.apd_eval.specs.Unjudged.{octet, is_judged, is_for, is_encrypted, reason_of, is_same, count, other_kind, reasons_of, separator, with_part, parts_text, colon, none_line, others_line, lonely_line, none_text, json_reasons};
 
 use crate::follow::{Replay, is_received};
 use bpf_regions::Hook;
 use capture::{LeftOut, Packet};
 use std::alloc::{AllocError, Global};
+use std::fmt::Write;
 
 /// Why a packet wasn't judged.
 #[derive(Clone, Copy, Debug, PartialEq, Eq)]
@@ -22,6 +23,19 @@ pub enum Reason {
     Encrypted,
     /// The access point refused it by itself: the station is not associated, say, or asks for another network.
     Unasked,
+}
+
+/// How many packets weren't judged, for each reason.
+#[derive(Clone, Copy)]
+pub struct Reasons {
+    pub missing: usize,
+    pub other: usize,
+    pub elsewhere: usize,
+    pub encrypted: usize,
+    /// Refused before any program.
+    pub refused: usize,
+    /// How many requests for an association were received, judged or not.
+    pub requests: usize,
 }
 
 impl Reason {
@@ -121,55 +135,134 @@ fn count(reason: Reason, hook: Hook, address: [u8; 6], packets: &[Packet<'_>]) -
         .count()
 }
 
-/// How many packets have no frame, or one of another kind.
-fn kinds_text(
-    alloc: Global,
-    packets: usize,
-    missing: usize,
-    other: usize,
-    kind: &str,
-) -> Result<String, AllocError>
-    ensures is { IfOk result
-        (λ text. string_bytes text ≡ kinds_text packets missing other kind.now) }
+/// How many packets weren't judged for each reason, at an access point with this address, if this many were.
+fn reasons_for(hook: Hook, address: [u8; 6], packets: &[Packet<'_>], judged: usize) -> Reasons
+    ensures is { result ≡ reasons_of hook address (map seen_of packets.now) judged }
 {
-    format!(in alloc; "judged 0 of {packets} packets: {missing} without a frame, {other} {kind}")
+    let passed = count(Reason::Unasked, hook, address, packets);
+    Reasons {
+        missing: count(Reason::NoFrame, hook, address, packets),
+        other: count(Reason::OtherKind, hook, address, packets),
+        elsewhere: count(Reason::OtherReceiver, hook, address, packets),
+        encrypted: count(Reason::Encrypted, hook, address, packets),
+        refused: passed.saturating_sub(judged),
+        requests: count(Reason::Unasked, Hook::Association, address, packets),
+    }
 }
 
-/// How many have another receiver, are encrypted, or were refused.
-fn refusals_text(
-    alloc: Global,
-    elsewhere: usize,
-    encrypted: usize,
-    unasked: usize,
-) -> Result<String, AllocError>
-    ensures is { IfOk result
-        (λ text. string_bytes text ≡ refusals_text elsewhere encrypted unasked) }
+/// How many packets weren't judged for each reason, if this many were.
+pub(crate) fn reasons_of(hook: Hook, replay: Replay<'_>, judged: usize) -> Reasons
+    ensures is { result ≡ reasons_of hook replay.entry.link.now.bssid
+        (map seen_of replay.entry.packets.now) judged }
 {
-    format!(in alloc;
-        ", {elsewhere} to another address, {encrypted} encrypted, {unasked} refused before any program\n"
-    )
+    let address = replay.link.bssid().octets();
+    reasons_for(hook, address, replay.packets, judged)
+}
+
+/// What separates a list so far from its next part.
+fn separator(text: &str) -> &'static str
+    ensures is { result.now ≡ separator text.now }
+{
+    if text.is_empty() { "" } else { ", " }
+}
+
+/// Appends a part to a list, if the part counts anything.
+#[tactic(auto, unfolding(crate::specs::Unjudged::with_part))]
+fn append_part(text: &mut String, count: usize, what: &str) -> Result<(), AllocError>
+    ensures ok { IfOk result
+        (λ _. string_bytes text.new ≡ with_part (string_bytes text.old) count what.now) }
+{
+    if count == 0 {
+        return Ok(());
+    }
+    let separator = separator(text.as_str());
+    write!(text, "{separator}{count} {what}")?;
+    Ok(())
+}
+
+/// The list of the reasons that apply, with how many packets each.
+fn parts_text(alloc: Global, hook: Hook, reasons: Reasons) -> Result<String, AllocError>
+    ensures is { IfOk result (λ text. string_bytes text ≡ parts_text hook reasons) }
+{
+    let mut text = String::new(alloc);
+    append_part(&mut text, reasons.missing, "without a frame")?;
+    append_part(&mut text, reasons.other, other_kind(hook))?;
+    append_part(&mut text, reasons.elsewhere, "to another address")?;
+    append_part(&mut text, reasons.encrypted, "encrypted")?;
+    append_part(&mut text, reasons.refused, "refused before any program")?;
+    Ok(text)
+}
+
+/// What stands before a list, if it isn't empty.
+fn colon(parts: &str) -> &'static str
+    ensures is { result.now ≡ colon parts.now }
+{
+    if parts.is_empty() { "" } else { ": " }
 }
 
 /// The line of sums of a table without rows.
-pub(crate) fn unjudged_text(
-    alloc: Global,
-    hook: Hook,
-    replay: Replay<'_>,
-) -> Result<String, AllocError>
-    ensures is { IfOk result (λ text. string_bytes text ≡ unjudged_text hook
+fn none_line(alloc: Global, packets: usize, parts: &str) -> Result<String, AllocError>
+    ensures is { IfOk result (λ text. string_bytes text ≡ none_line packets parts.now) }
+{
+    let colon = colon(parts);
+    format!(in alloc; "judged 0 of {packets} packets{colon}{parts}\n")
+}
+
+/// The line below the sums of a table with rows, if some packets weren't judged.
+fn others_line(alloc: Global, parts: &str) -> Result<String, AllocError>
+    ensures is { IfOk result (λ text. string_bytes text ≡ others_line parts.now) }
+{
+    if parts.is_empty() {
+        return Ok(String::new(alloc));
+    }
+    format!(in alloc; "not judged: {parts}\n")
+}
+
+/// What is said if frames were refused, and no request for an association was received.
+fn lonely_line(reasons: Reasons) -> &'static str
+    ensures is { result.now ≡ lonely_line reasons }
+{
+    if reasons.requests == 0 && 0 < reasons.refused {
+        "no station associates in this capture, and frames of a station that is not associated come to no program\n"
+    } else {
+        ""
+    }
+}
+
+/// The sums of a table without rows.
+pub(crate) fn none_text(alloc: Global, hook: Hook, replay: Replay<'_>) -> Result<String, AllocError>
+    ensures is { IfOk result (λ text. string_bytes text ≡ none_text hook
         replay.entry.link.now.bssid (map seen_of replay.entry.packets.now)) }
 {
-    let total = replay.count();
-    let packets = replay.packets;
-    let address = replay.link.bssid().octets();
-    let kind = other_kind(hook);
-    let missing = count(Reason::NoFrame, hook, address, packets);
-    let other = count(Reason::OtherKind, hook, address, packets);
-    let mut text = kinds_text(alloc, total, missing, other, kind)?;
-    let elsewhere = count(Reason::OtherReceiver, hook, address, packets);
-    let encrypted = count(Reason::Encrypted, hook, address, packets);
-    let unasked = count(Reason::Unasked, hook, address, packets);
-    let rest = refusals_text(alloc, elsewhere, encrypted, unasked)?;
-    text.push_str(rest.as_str())?;
+    let reasons = reasons_of(hook, replay, 0);
+    let parts = parts_text(alloc, hook, reasons)?;
+    let mut text = none_line(alloc, replay.count(), parts.as_str())?;
+    text.push_str(lonely_line(reasons))?;
     Ok(text)
+}
+
+/// Which packets weren't judged, as a line below the sums; no text if all were.
+pub(crate) fn others_text(alloc: Global, hook: Hook, reasons: Reasons) -> Result<String, AllocError>
+    ensures is { IfOk result
+        (λ text. string_bytes text ≡ others_line (parts_text hook reasons)) }
+{
+    let parts = parts_text(alloc, hook, reasons)?;
+    others_line(alloc, parts.as_str())
+}
+
+/// The same counts in JSON, as the end of an object.
+pub(crate) fn json_reasons(alloc: Global, reasons: Reasons) -> Result<String, AllocError>
+    ensures is { IfOk result (λ text. string_bytes text ≡ json_reasons reasons) }
+{
+    let Reasons {
+        missing,
+        other,
+        elsewhere,
+        encrypted,
+        refused,
+        ..
+    } = reasons;
+    format!(in alloc;
+        ",\"not_judged\":{{\"without_frame\":{missing},\"other_kind\":{other},\"other_address\":{elsewhere},\"encrypted\":{encrypted},\"refused\":{refused}}}}}\n"
+    )
 }

@@ -23,8 +23,10 @@ pub enum Trouble {
     NoWord(Place),
     /// What is given for the context can't be, for this reason.
     Given(String),
-    /// A file can't be read, or doesn't hold what it should, for this reason.
-    File { path: String, why: String },
+    /// The policy's file can't be read, or has no code: the path and why.
+    Policy(String),
+    /// The configuration's file can't be read, or isn't one: the path and why.
+    Config(String),
     NoMemory,
 }
 
@@ -65,40 +67,42 @@ impl fmt::Display for Trouble {
                 place.map, place.entry, place.word
             ),
             Trouble::Given(why) => write!(f, "given: {why}"),
-            Trouble::File { path, why } => write!(f, "{path}: {why}"),
+            Trouble::Policy(told) | Trouble::Config(told) => f.write_str(told.as_str()),
             Trouble::NoMemory => f.write_str("out of memory"),
         }
     }
 }
 
-/// A file with this path is no use, for this reason.
-fn of_path<T: fmt::Display>(alloc: Global, path: &str, why: &T) -> Result<Trouble, AllocError> {
+/// What is said of a file with this path, for this reason.
+fn told<T: fmt::Display>(alloc: Global, path: &str, why: &T) -> Result<String, AllocError> {
     let path = shown(alloc, path)?;
-    let why = format!(in alloc; "{why}")?;
-    Ok(Trouble::File { path, why })
+    format!(in alloc; "{path}: {why}")
 }
 
-/// The trouble, or lack of memory.
-fn or_memory(told: Result<Trouble, AllocError>) -> Trouble {
-    match told {
-        Ok(trouble) => trouble,
+/// A configuration is no use for this reason.
+fn of_config<T: fmt::Display>(alloc: Global, path: &str, why: &T) -> Trouble {
+    match told(alloc, path, why) {
+        Ok(told) => Trouble::Config(told),
         Err(AllocError) => Trouble::NoMemory,
     }
 }
 
-/// A file can't be read.
+/// A configuration's file can't be read.
 pub(crate) fn of_file(alloc: Global, path: &str, why: FileFault) -> Trouble {
     match why {
         FileFault::NoMemory => Trouble::NoMemory,
-        why => or_memory(of_path(alloc, path, &why)),
+        why => of_config(alloc, path, &why),
     }
 }
 
-/// A file has no code.
+/// A policy's file has no code.
 pub(crate) fn of_code(alloc: Global, path: &str, fault: CodeFault) -> Trouble {
     match fault {
         CodeFault::NoMemory => Trouble::NoMemory,
-        fault => or_memory(of_path(alloc, path, &fault)),
+        fault => match told(alloc, path, &fault) {
+            Ok(told) => Trouble::Policy(told),
+            Err(AllocError) => Trouble::NoMemory,
+        },
     }
 }
 
@@ -112,7 +116,7 @@ pub(crate) fn of_configuration(
     match fault {
         ConfigFault::NoMemory => Trouble::NoMemory,
         fault => match fault_text(alloc, text, &fault) {
-            Ok(why) => or_memory(of_path(alloc, path, &why)),
+            Ok(why) => of_config(alloc, path, &why),
             Err(AllocError) => Trouble::NoMemory,
         },
     }

@@ -7,6 +7,7 @@
 #![tactic(auto)]
 
 mod admission;
+mod blame;
 mod fault;
 mod found;
 mod report;

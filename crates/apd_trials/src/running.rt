@@ -9,6 +9,7 @@ ghost use Rattle.apd_cases.specs.Situations.{start, after};
 ghost use Rattle.apd_trials.specs.Trials.{Finds};
 
 use crate::admission::{Admission, judge_policy};
+use crate::blame::blamed_line;
 use crate::fault::{CaseFault, Trouble};
 use crate::found::Found;
 use crate::row::Row;
@@ -146,10 +147,8 @@ pub fn run_cases<F: Files>(
     let mut rows = Vec::new(alloc);
     for numbered in lines {
         if let Err(trouble) = bench.step(alloc, *numbered, &mut rows, files) {
-            return Err(CaseFault {
-                line: numbered.number,
-                trouble,
-            });
+            let line = blamed_line(lines, numbered.number, &trouble);
+            return Err(CaseFault { line, trouble });
         }
     }
     Ok(rows)

@@ -11,11 +11,11 @@ returns c =
     let bssid = c.args.replay.link.now.bssid in
     let judged : c.len.result ≡ length contrasts = search rules in
     let changed : c.len-changed.result ≡ length changes = search rules in
-    let sums : c.as_str.result.now ≡ change_sums c.args.in_force.hook bssid packets (length contrasts) (length changes) =
+    let sums : c.as_str.result.now ≡ change_sums c.args.in_force.hook bssid packets (length contrasts) (length changes) c.args.json =
     c.as_str.ensures.value ∙ (c.in_ok-sums.ensures.is
-    ∙ (ap (λ h. change_sums h bssid packets c.len.result c.len-changed.result) c.hook-hook.ensures.is
-    ∙ (ap (λ n. change_sums c.args.in_force.hook bssid packets n c.len-changed.result) judged
-    ∙ ap (λ n. change_sums c.args.in_force.hook bssid packets (length contrasts) n) changed))) in
+    ∙ (ap (λ h. change_sums h bssid packets c.len.result c.len-changed.result c.args.json) c.hook-hook.ensures.is
+    ∙ (ap (λ n. change_sums c.args.in_force.hook bssid packets n c.len-changed.result c.args.json) judged
+    ∙ ap (λ n. change_sums c.args.in_force.hook bssid packets (length contrasts) n c.args.json) changed))) in
     record {
       is = record {
         rows = c.in_ok-rows.rows.items;

@@ -15,8 +15,8 @@ returns c =
         rows = rows;
         evaluated = c.in_ok-rows.ensures.rows;
         is = h
-            ∙ (ap (λ rs. table_text rs (sums_text (record { hook = c.hook.result; budget = c.budget.result; address = bssid; packets = packets }) rs) c.args.json) c.as_slice.ensures.value
-            ∙ (ap (λ k. table_text rows (sums_text (record { hook = k; budget = c.budget.result; address = bssid; packets = packets }) rows) c.args.json) c.hook.ensures.is
-            ∙ ap (λ n. table_text rows (sums_text (record { hook = c.args.accepted.hook; budget = n; address = bssid; packets = packets }) rows) c.args.json) c.budget.ensures.is));
+            ∙ (ap (λ rs. table_text rs (sums_text (record { hook = c.hook.result; budget = c.budget.result; address = bssid; packets = packets }) rs c.args.json) c.args.json) c.as_slice.ensures.value
+            ∙ (ap (λ k. table_text rows (sums_text (record { hook = k; budget = c.budget.result; address = bssid; packets = packets }) rows c.args.json) c.args.json) c.hook.ensures.is
+            ∙ ap (λ n. table_text rows (sums_text (record { hook = c.args.accepted.hook; budget = n; address = bssid; packets = packets }) rows c.args.json) c.args.json) c.budget.ensures.is));
       }) c.table_text.ensures.is;
     }

@@ -6,6 +6,7 @@ use Rattle.bpf_helpers.specs.Tables.{Tables}
 use Rattle.capture.specs.Packets.{seen_of}
 use Rattle.apd_eval.specs.Metered.{Metered}
 use Rattle.bpf_machine.specs.Verified.{Verified}
+use Rattle.apd_eval.specs.Profile.{is_json}
 use Rattle.apd_eval.specs.Sums.{sums_text}
 use Rattle.apd_eval.proofs.Profiled.{profile_of, same_program}
 use Rattle.apd_eval.proofs.Rows.{is_alone}
@@ -30,9 +31,9 @@ returns-in-Some c =
     ap (λ (m : Metered). m.counts) c.new-meter.ensures.is ∙ (c.in_ok-counts.ensures.is ∙ ap (λ n. replicate n 0) (c.len.ensures.is ∙ ap (λ (p : Code). length p.slots) c.program.ensures.is)) in
     let slots = ap (λ (p : Code). p.slots) (c.program-in-Some.ensures.is ∙ ap (λ (v : Verified). v.code) same) in
     let sums =
-    ap (λ rs. sums_text (record { hook = c.hook-hook.result; budget = c.budget.result; address = bssid; packets = packets }) rs) c.as_slice.ensures.value
-    ∙ (ap (λ k. sums_text (record { hook = k; budget = c.budget.result; address = bssid; packets = packets }) rows) c.hook-hook.ensures.is
-    ∙ ap (λ n. sums_text (record { hook = c.args.accepted.hook; budget = n; address = bssid; packets = packets }) rows) c.budget.ensures.is) in
+    ap (λ rs. sums_text (record { hook = c.hook-hook.result; budget = c.budget.result; address = bssid; packets = packets }) rs (is_json c.args.form)) c.as_slice.ensures.value
+    ∙ (ap (λ k. sums_text (record { hook = k; budget = c.budget.result; address = bssid; packets = packets }) rows (is_json c.args.form)) c.hook-hook.ensures.is
+    ∙ ap (λ n. sums_text (record { hook = c.args.accepted.hook; budget = n; address = bssid; packets = packets }) rows (is_json c.args.form)) c.budget.ensures.is) in
     record {
       is = IfOk-weaker c.formed.result _ _ (λ text h. profile_of c.args.accepted c.args.replay.draw c.args.replay.link.now packets c.args.form _ c.new-meter.result c.follow.new.state rows _ _ _ _
           c.hook-hook.ensures.is programs drawn zeros c.in_ok-rows.ensures.rows slots c.counts.ensures.is sums h) c.formed.ensures.is;
