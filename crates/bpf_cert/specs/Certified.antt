@@ -1,5 +1,5 @@
 -- When a certificate's bytes show that a program is safe.
-use Rattle.std.specs.Prelude.{◌≡◌, ◌⊎◌, ◌≤◌, ◌^◌, ℕ, ◌+◌, ℤ, List, drop, map, Result, Ok, Err, Option, Some, IfSome, MatchOption, ◌<◌}
+use Rattle.std.specs.Prelude.{◌≡◌, ◌⊎◌, ◌≤◌, ◌^◌, ℕ, ◌+◌, ◌*◌, ℤ, List, drop, length, map, Result, Ok, Err, Option, Some, IfSome, MatchOption, ◌<◌}
 use Rattle.std.specs.List.{All}
 use Rattle.bpf_insn.specs.declared.insn.Insn.TheVariants as insn
 use Rattle.bpf_regions.specs.declared.hooks.Hook.{Hook}
@@ -22,6 +22,7 @@ use Rattle.bpf_cert_format.specs.Views.{EntryView, CertificateView}
 use Rattle.bpf_cert.specs.declared.fault.CertFault.{CertFault}
 use Rattle.bpf_cert.specs.declared.fault.CertFault.TheVariants.{NoMemory, Malformed, Other, NotCovered}
 use Rattle.bpf_cert.specs.Covered.{AreCovered}
+use Rattle.bpf_cert.specs.Limits.{CountsMore}
 use Rattle.bpf_cert.specs.States.{claim_of}
 
 -- the certificate is for this hook and this code
@@ -112,6 +113,18 @@ pub record IsAdmitted (c : Code) (h : Hook) (bytes : List ℕ) (a : Verified) : 
   pub code : a.code ≡ c
   pub hook : a.hook ≡ h
   pub covered : Covered c h bytes a.budget
+
+-- The bytes spell a certificate, and with a limit of work a state is examined, and counted, for each of its entries.
+pub record CountsEntries (c : Code) (bytes : List ℕ) (limit : Option ℕ) (old new : ℕ) : Type 0 where
+  pub certificate : CertificateView
+  pub spelled : Spells c.shapes bytes certificate
+  pub each : CountsMore limit (length certificate.entries) old new
+
+-- The bytes spell a certificate, each entry of which takes 80 units of the limit at least.
+pub record HasFewEntries (c : Code) (bytes : List ℕ) (limit : Option ℕ) : Type 0 where
+  pub certificate : CertificateView
+  pub spelled : Spells c.shapes bytes certificate
+  pub few : (most : ℕ) → limit ≡ Some most → 80 * length certificate.entries ≤ most
 
 -- the number for which P holds, or none if there is none
 abbrev pub Finds : Option ℕ → (ℕ → Type 0) → Type 0

@@ -1,6 +1,6 @@
 //! Checks certificates: admits a program that was verified elsewhere.
 
-ghost use Rattle.std.specs.Prelude.{◌≡◌, ◌≤◌, ◌+◌, ◌^◌, ◌++◌, [], ◌∷◌, ℕ, ℤ, Some, IfOk, IfErr, IfSome, OnOk, length, map, drop};
+ghost use Rattle.std.specs.Prelude.{◌≡◌, ◌≤◌, ◌+◌, ◌^◌, ◌++◌, [], ◌∷◌, ℕ, ℤ, Some, IfOk, IfErr, IfSome, IsSome, OnOk, length, map, drop};
 ghost use Rattle.std.specs.List.{All};
 ghost use Rattle.bpf_insn.specs.declared.insn.Insn.TheVariants.{CallLocal};
 ghost use Rattle.bpf_decode.specs.Program.{Begins};
@@ -8,11 +8,11 @@ ghost use Rattle.bpf_model.specs.Run.{Safe};
 ghost use Rattle.bpf_prune.specs.Spending.{CountsAll, HasPassed};
 ghost use Rattle.bpf_absstate.specs.WellFormed.{IsView};
 ghost use Rattle.bpf_cert_format.specs.Fits.{FitsEntry};
-ghost use Rattle.bpf_cert.specs.Limits.{IsStop, Within, HasPassedLimit};
+ghost use Rattle.bpf_cert.specs.Limits.{CountsMore, IsStop, Within, HasPassedLimit};
 ghost use Rattle.bpf_cert.specs.Steps.{Tells};
 ghost use Rattle.bpf_cert.specs.States.{claim_of};
 ghost use Rattle.bpf_cert.specs.Certified.{IsFor, FollowsCall, AllFollow, StandsWell, Shows, Finds};
-ghost use Rattle.bpf_cert.specs.Certified.{KeepsWithin, Covered, Refuses, Answers, Admits, IsAdmitted};
+ghost use Rattle.bpf_cert.specs.Certified.{KeepsWithin, Covered, Refuses, Answers, Admits, IsAdmitted, CountsEntries, HasFewEntries};
 
 use crate::claims::Claims;
 use crate::coverage::{begins, covered_budget};
@@ -211,6 +211,8 @@ fn shown_budget<M: Meter>(
     ensures is { IfOk result (λ o. Finds o (Shows program.now entries.now)) }
     ensures safe { IfOk result (λ o. IfSome o (Safe program.now.slots program.now.shapes)) }
     ensures limit { M.limit work.new ≡ M.limit work.old }
+    ensures examined { IfOk result
+        (λ o. IsSome o → CountsMore (M.limit work.old) (length entries.now) (M.examined work.old) (M.examined work.new)) }
     ensures least { M.compared work.old ≤ M.compared work.new }
     ensures stop { IfErr result (IsStop (M.has_passed work.new)) }
 {
@@ -252,6 +254,8 @@ pub(crate) fn certified_budget<M: Meter>(
     ensures err { Within (M.has_passed work.new)
         (λ r. IfErr r (Refuses program.now hook bytes.now)) result }
     ensures limit { M.limit work.new ≡ M.limit work.old }
+    ensures entries { OnOk result
+        (CountsEntries program.now bytes.now (M.limit work.old) (M.examined work.old) (M.examined work.new)) }
     ensures least { M.compared work.old ≤ M.compared work.new }
 {
     match read(alloc, program.shapes(), bytes) {
@@ -283,6 +287,8 @@ fn admitted<M: Meter>(
     ensures err { Within (M.has_passed work.new)
         (λ r. IfErr r (Refuses program hook bytes.now)) result }
     ensures limit { M.limit work.new ≡ M.limit work.old }
+    ensures entries { OnOk result
+        (CountsEntries program bytes.now (M.limit work.old) (M.examined work.old) (M.examined work.new)) }
     ensures least { M.compared work.old ≤ M.compared work.new }
 {
     let budget = certified_budget(alloc, &program, hook, bytes, work)?;
@@ -334,6 +340,8 @@ pub fn check_within(
     // Which refusal applies: one of `check`, or 36 if the work has passed the limit.
     ensures err { Within (HasPassedLimit most)
         (λ r. IfErr r (Refuses program hook bytes.now)) result }
+    // An accepted certificate has at most one entry for 80 units of the limit.
+    ensures few { OnOk result (HasFewEntries program bytes.now most) }
 {
     match most {
         None => match check(alloc, program, hook, bytes) {
@@ -369,6 +377,9 @@ pub fn check_counted(
     ensures most { work.new.most ≡ work.old.most }
     ensures compared { work.old.compared ≤ work.new.compared }
     ensures counted { CountsAll work.new }
+    // A state was examined, and counted, for each entry of a certificate that is accepted.
+    ensures entries { OnOk result
+        (CountsEntries program bytes.now (Some work.old.most) work.old.examined work.new.examined) }
 {
     let checked = admitted(alloc, program, hook, bytes, work);
     work.known();

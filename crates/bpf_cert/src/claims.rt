@@ -79,6 +79,7 @@ fn some_includes<M: Meter>(
 ) -> Result<bool, Stop>
     ensures is { IfOk result (λ told. Tells told (IsIncluded list.now state.now left)) }
     ensures limit { M.limit work.new ≡ M.limit work.old }
+    ensures examined { M.examined work.new ≡ M.examined work.old }
     ensures least { M.compared work.old ≤ M.compared work.new }
     ensures each { IfOk result
         (CountsEach list.now (M.limit work.old) (M.compared work.old) (M.compared work.new)) }
@@ -188,6 +189,7 @@ impl Claims {
     ) -> Result<bool, Stop>
         ensures is { IfOk result (λ told. IsTrue told → IsIncluded self.now state.now left) }
         ensures limit { M.limit work.new ≡ M.limit work.old }
+        ensures examined { M.examined work.new ≡ M.examined work.old }
         ensures least { M.compared work.old ≤ M.compared work.new }
         ensures stop { IfErr result (IsStop (M.has_passed work.new)) }
     {
@@ -209,6 +211,7 @@ impl Claims {
     ) -> Result<Option<usize>, Stop>
         ensures is { IfOk result (λ place. OnSome place (IsIncluded self.now state.now left)) }
         ensures limit { M.limit work.new ≡ M.limit work.old }
+        ensures examined { M.examined work.new ≡ M.examined work.old }
         ensures least { M.compared work.old ≤ M.compared work.new }
         ensures stop { IfErr result (IsStop (M.has_passed work.new)) }
     {
@@ -231,6 +234,7 @@ impl Claims {
     ) -> Result<bool, Stop>
         ensures is { IfOk result (λ told. IsTrue told → IsIncluded self.now state.now left) }
         ensures limit { M.limit work.new ≡ M.limit work.old }
+        ensures examined { M.examined work.new ≡ M.examined work.old }
         ensures least { M.compared work.old ≤ M.compared work.new }
         ensures stop { IfErr result (IsStop (M.has_passed work.new)) }
     {
@@ -259,6 +263,7 @@ impl Claims {
     pub fn include<M: Meter>(&self, state: &AbsState, left: u32, work: &mut M) -> Result<bool, Stop>
         ensures is { IfOk result (λ told. Tells told (IsIncluded self.now state.now left)) }
         ensures limit { M.limit work.new ≡ M.limit work.old }
+        ensures examined { M.examined work.new ≡ M.examined work.old }
         ensures least { M.compared work.old ≤ M.compared work.new }
         ensures each { IfOk result
             (CountsEach self.now (M.limit work.old) (M.compared work.old) (M.compared work.new)) }

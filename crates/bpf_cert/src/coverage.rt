@@ -1,6 +1,6 @@
 //! Whether claims show that a program is safe.
 
-ghost use Rattle.std.specs.Prelude.{◌≡◌, ◌+◌, ◌<◌, ◌≤◌, ℕ, IfOk, IfErr, IsTrue, MatchOption, Ok, false, length, min};
+ghost use Rattle.std.specs.Prelude.{◌≡◌, ◌+◌, ◌<◌, ◌≤◌, ℕ, IfOk, IfErr, IsSome, IsTrue, MatchOption, Ok, false, length, min};
 ghost use Rattle.std.specs.List.{All};
 ghost use Rattle.std.specs.Option.{option_map_or};
 ghost use Rattle.bpf_absstate.specs.View.{entry_view};
@@ -11,7 +11,7 @@ ghost use Rattle.bpf_rules.specs.Examined.{examined};
 ghost use Rattle.bpf_rules.specs.declared.fault.Fault.TheVariants.{NoMemory};
 ghost use Rattle.bpf_cert.specs.declared.coverage.Step.TheVariants.{Decided};
 ghost use Rattle.bpf_cert.specs.Covered.{Includes, IsIncluded, LeadsWithin, AreKept, BeginsWithin, AreCovered};
-ghost use Rattle.bpf_cert.specs.Limits.{IsStop};
+ghost use Rattle.bpf_cert.specs.Limits.{CountsMore, IsStop};
 ghost use Rattle.bpf_cert.specs.Steps.{Tells, Arrives, Goes, SecondIsTarget};
 
 use crate::claim::Claim;
@@ -54,6 +54,7 @@ fn arrive<M: Meter>(
     ensures is { IfOk result
         (Goes program.now claims.now left (Arrives program.now claims.now left state)) }
     ensures limit { M.limit work.new ≡ M.limit work.old }
+    ensures examined { M.examined work.new ≡ M.examined work.old }
     ensures least { M.compared work.old ≤ M.compared work.new }
     ensures stop { IfErr result (IsStop (M.has_passed work.new)) }
 {
@@ -76,6 +77,7 @@ fn follow<M: Meter>(
     ensures is { IfOk result
         (Goes program.now claims.now left (EachWay ways (Arrives program.now claims.now left))) }
     ensures limit { M.limit work.new ≡ M.limit work.old }
+    ensures examined { M.examined work.new ≡ M.examined work.old }
     ensures least { M.compared work.old ≤ M.compared work.new }
     ensures stop { IfErr result (IsStop (M.has_passed work.new)) }
 {
@@ -118,6 +120,7 @@ fn advance<M: Meter>(
     ensures is { IfOk result
         (Goes program.now claims.now left (LeadsWithin program.now claims.now (left + 1) state)) }
     ensures limit { M.limit work.new ≡ M.limit work.old }
+    ensures examined { M.examined work.new ≡ M.examined work.old }
     ensures least { M.compared work.old ≤ M.compared work.new }
     ensures stop { IfErr result (IsStop (M.has_passed work.new)) }
 {
@@ -144,6 +147,9 @@ pub(crate) fn leads<M: Meter>(
     ensures is { IfOk result
         (λ told. Tells told (LeadsWithin program.now claims.now claim.budget claim.state)) }
     ensures limit { M.limit work.new ≡ M.limit work.old }
+    ensures examined { IfOk result
+        (λ told. IsTrue told → CountsMore (M.limit work.old) 1 (M.examined work.old) (M.examined work.new)) }
+    ensures later { M.examined work.old ≤ M.examined work.new }
     ensures least { M.compared work.old ≤ M.compared work.new }
     ensures stop { IfErr result (IsStop (M.has_passed work.new)) }
 {
@@ -164,6 +170,10 @@ pub(crate) fn leads<M: Meter>(
 fn are_kept<M: Meter>(program: &Program, claims: &Claims, work: &mut M) -> Result<bool, Stop>
     ensures is { IfOk result (λ told. Tells told (AreKept program.now claims.now)) }
     ensures limit { M.limit work.new ≡ M.limit work.old }
+    ensures examined { IfOk result
+        (λ told. IsTrue told →
+        CountsMore (M.limit work.old) (length claims.now) (M.examined work.old) (M.examined work.new)) }
+    ensures later { M.examined work.old ≤ M.examined work.new }
     ensures least { M.compared work.old ≤ M.compared work.new }
     ensures stop { IfErr result (IsStop (M.has_passed work.new)) }
 {
@@ -213,6 +223,8 @@ pub fn covered_budget<M: Meter>(
         (λ o. MatchOption o ((b : ℕ) → AreCovered program.now claims.now b → ⊥)
         (AreCovered program.now claims.now)) }
     ensures limit { M.limit work.new ≡ M.limit work.old }
+    ensures examined { IfOk result
+        (λ o. IsSome o → CountsMore (M.limit work.old) (length claims.now) (M.examined work.old) (M.examined work.new)) }
     ensures least { M.compared work.old ≤ M.compared work.new }
     ensures stop { IfErr result (IsStop (M.has_passed work.new)) }
 {

@@ -90,6 +90,7 @@ fn lies_in<M: Meter>(
 ) -> Result<bool, Stop>
     ensures is { IfOk result (λ told. told ≡ state_included state.now other.now) }
     ensures limit { M.limit work.new ≡ M.limit work.old }
+    ensures examined { M.examined work.new ≡ M.examined work.old }
     ensures compared { M.compared work.new ≡ M.compared work.old }
     ensures stop { IfErr result (IsStop (M.has_passed work.new)) }
 {
@@ -122,6 +123,7 @@ fn includes_soon<M: Meter>(
 ) -> Result<bool, Stop>
     ensures is { IfOk result (λ told. Tells told (Includes claim.now state.now)) }
     ensures limit { M.limit work.new ≡ M.limit work.old }
+    ensures examined { M.examined work.new ≡ M.examined work.old }
     ensures compared { M.compared work.new ≡ M.compared work.old }
     ensures stop { IfErr result (IsStop (M.has_passed work.new)) }
 {
@@ -136,6 +138,7 @@ fn includes_soon<M: Meter>(
 fn serves<M: Meter>(claim: &Claim, state: &AbsState, left: u32, work: &mut M) -> Result<bool, Stop>
     ensures is { IfOk result (λ told. Tells told (Serves claim.now state.now left)) }
     ensures limit { M.limit work.new ≡ M.limit work.old }
+    ensures examined { M.examined work.new ≡ M.examined work.old }
     ensures compared { M.compared work.new ≡ M.compared work.old }
     ensures stop { IfErr result (IsStop (M.has_passed work.new)) }
 {
@@ -199,6 +202,7 @@ impl Held {
     ) -> Result<bool, Stop>
         ensures is { IfOk result (λ told. Tells told (Serves self.now state.now left)) }
         ensures limit { M.limit work.new ≡ M.limit work.old }
+        ensures examined { M.examined work.new ≡ M.examined work.old }
         ensures counted { OnOk result
             (CountsOne (M.limit work.old) (M.compared work.old) (M.compared work.new)) }
         ensures least { M.compared work.old ≤ M.compared work.new }

@@ -85,18 +85,24 @@ pub trait Meter {
     /// What was done passes the limit with the piece that was refused.
     ghost has_passed: { Self → Type 0 };
 
+    /// How many examined states it has counted.
+    ghost examined: { Self → ℕ };
+
     /// How many comparisons it has counted.
     ghost compared: { Self → ℕ };
 
-    /// Counts a state that is examined.
+    /// Counts a state that is examined, if there is a limit.
     fn examines(&mut self, state: &AbsState) -> Result<(), Stop>
         ensures limit { limit self.new ≡ limit self.old }
+        ensures counted { OnOk result (CountsOne (limit self.old) (examined self.old) (examined self.new)) }
+        ensures least { examined self.old ≤ examined self.new }
         ensures compared { compared self.new ≡ compared self.old }
         ensures stop { IfErr result (IsStop (has_passed self.new)) };
 
     /// Counts a comparison of a state with a claim, if there is a limit.
     fn compares(&mut self) -> Result<(), Stop>
         ensures limit { limit self.new ≡ limit self.old }
+        ensures examined { examined self.new ≡ examined self.old }
         ensures counted { OnOk result (CountsOne (limit self.old) (compared self.old) (compared self.new)) }
         ensures least { compared self.old ≤ compared self.new }
         ensures stop { IfErr result (IsStop (has_passed self.new)) };
@@ -105,6 +111,7 @@ pub trait Meter {
     fn spends(&mut self, units: u64) -> Result<(), Stop>
         requires small { units ≤ 563 }
         ensures limit { limit self.new ≡ limit self.old }
+        ensures examined { examined self.new ≡ examined self.old }
         ensures compared { compared self.new ≡ compared self.old }
         ensures stop { IfErr result (IsStop (has_passed self.new)) };
 }
@@ -117,6 +124,8 @@ impl Meter for Unlimited {
     ghost limit = { λ _. None };
 
     ghost has_passed = { λ _. ⊥ };
+
+    ghost examined = { λ _. 0 };
 
     ghost compared = { λ _. 0 };
 
@@ -139,6 +148,8 @@ impl Meter for Work {
     ghost limit = { λ w. Some w.most };
 
     ghost has_passed = { λ w. HasPassed w };
+
+    ghost examined = { λ w. w.examined };
 
     ghost compared = { λ w. w.compared };
 
@@ -170,6 +181,7 @@ const PIECE: u64 = 563;
 /// Counts any number of units.
 pub(crate) fn spend_all<M: Meter>(work: &mut M, units: u64) -> Result<(), Stop>
     ensures limit { M.limit work.new ≡ M.limit work.old }
+    ensures examined { M.examined work.new ≡ M.examined work.old }
     ensures compared { M.compared work.new ≡ M.compared work.old }
     ensures stop { IfErr result (IsStop (M.has_passed work.new)) }
 {

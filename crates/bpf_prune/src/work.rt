@@ -117,6 +117,7 @@ impl Work {
         ensures compared { self.new.compared ≡ self.old.compared }
         ensures done { OnOk result (self.new.units ≡ self.old.units + parts state.now) }
         ensures few { self.new.units ≤ self.old.units + 563 }
+        ensures same { OnErr result (self.new.units ≡ self.old.units) }
         ensures none { OnErr result (self.new.examined ≡ self.old.examined) }
         ensures passed { OnErr result (HasPassed self.new) }
     {

@@ -1,5 +1,5 @@
 -- From parts of a verdict to the verdict.
-use Rattle.std.proofs.Common.{◌≡◌, ◌≤◌, ◌^◌, ℕ, None, Result, Ok, Err, IfOk, IfErr, inl, inr, refl, sym, subst, arith}
+use Rattle.std.proofs.Common.{◌≡◌, ◌≤◌, ◌^◌, ℕ, None, Result, Ok, Err, IfOk, IfErr, OnOk, inl, inr, refl, sym, subst, arith}
 use Rattle.bpf_decode.specs.Program.{Code, Begins}
 use Rattle.bpf_model.specs.Run.{Safe}
 use Rattle.bpf_absstate.specs.View.{entry_view}
@@ -10,7 +10,7 @@ use Rattle.bpf_rules.specs.declared.fault.Fault.TheVariants.{NoMemory}
 use Rattle.bpf_rules.specs.declared.fault.Fault.{Fault}
 use Rattle.bpf_verifier.specs.Admission.{IsSafeBudget, IsRefusal, IsRefusalAfter, IsRefusalWithin}
 use Rattle.bpf_verifier.specs.Limits.{IsStateLimit, units_of}
-use Rattle.bpf_verifier.specs.Spent.{IsSpent, IsAmple, IsMemoryOrPassed}
+use Rattle.bpf_verifier.specs.Spent.{IsSpent, IsEarned, IsWithin, IsAmple, IsMemoryOrPassed}
 use Rattle.bpf_verifier.specs.Causes.{IsDue, ByMemory}
 use Rattle.bpf_verifier.specs.declared.limit.Limits.{Limits}
 use Rattle.bpf_verifier.specs.declared.listing.Explanation.{Explanation}
@@ -67,6 +67,20 @@ pub withins : {X : Type 0} (program : Code) (limits : Limits) (w : Tally) (r : R
     → IfErr r (IsRefusalWithin program limits)
 withins program limits w (Ok x) spent counted after due = after
 withins program limits w (Err e) spent counted after due = record { tally = w; spent = spent; counted = counted; after = after; due = due }
+
+-- an earned budget is within the limit on work
+earned_within : (limits : Limits) (w : Tally) (b : ℕ) → IsSpent limits.states (unspent (units_of limits.work)) w → CountsAll w → IsEarned b (unspent (units_of limits.work)) w → IsWithin limits b
+earned_within limits w b spent counted earned = omega (arith, spent.most, counted.allowed, counted.all, earned)
+
+pub found_within : {X E : Type 0} (f : X → ℕ) (limits : Limits) (w : Tally) (r : Result X E) → IsSpent limits.states (unspent (units_of limits.work)) w → CountsAll w
+    → IfOk r (λ x. IsEarned (f x) (unspent (units_of limits.work)) w) → IfOk r (λ x. IsWithin limits (f x))
+found_within f limits w (Ok x) spent counted earned = earned_within limits w (f x) spent counted earned
+found_within f limits w (Err e) spent counted earned = earned
+
+pub explored_within : {X E : Type 0} (program : Code) (limits : Limits) (w : Tally) (r : Result X E) → IsSpent limits.states (unspent (units_of limits.work)) w → CountsAll w
+    → OnOk r ((b : ℕ) × IsSafeBudget program limits.states b × IsEarned b (unspent (units_of limits.work)) w) → OnOk r ((b : ℕ) × IsSafeBudget program limits.states b × IsWithin limits b)
+explored_within program limits w (Ok x) spent counted h = (h.0, h.1, earned_within limits w h.0 spent counted h.2)
+explored_within program limits w (Err e) spent counted h = h
 
 pub budgets : (program : Code) (limit : ℕ) (r : Result ℕ Refusal) → IfOk r (Safe program.slots program.shapes) → IfOk r (λ b. b ≤ limit)
     → IfOk r (λ b. IsPlain program.slots → HasWalk program.slots b) → IfOk r (IsSafeBudget program limit)

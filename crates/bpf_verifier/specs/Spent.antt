@@ -16,6 +16,14 @@ pub record IsSpent (states : ℕ) (old new : Tally) : Type 0 where
   pub again : new.remade + 4194304 * old.examined ≤ old.remade + 4194304 * (new.examined + 1)
   pub most : new.most ≡ old.most
 
+-- Each step of a budget that an exploration finds is earned by a state that it examined, and counted.
+abbrev pub IsEarned : ℕ → Tally → Tally → Type 0
+IsEarned budget old new = old.examined + budget ≤ new.examined
+
+-- So with a limit of work no budget is above the states that may be examined, 80 units each.
+abbrev pub IsWithin : Limits → ℕ → Type 0
+IsWithin limits budget = 80 * budget ≤ units_of limits.work
+
 -- with so much work allowed no exploration within the limit of states needs more
 abbrev pub IsAmple : Limits → Type 0
 IsAmple limits = (36979 + 563 * 4194304) * (limits.states + 1) + 563 ≤ units_of limits.work

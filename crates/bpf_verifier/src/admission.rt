@@ -4,7 +4,7 @@ ghost use Rattle.std.specs.Prelude.{◌≡◌, ◌^◌, IfOk, IfErr};
 ghost use Rattle.bpf_prune.specs.Spending.{CountsAll};
 ghost use Rattle.bpf_verifier.specs.Admission.{IsSafeBudget, IsRefusal, IsRefusalAfter, IsRefusalWithin};
 ghost use Rattle.bpf_verifier.specs.Causes.{IsDue};
-ghost use Rattle.bpf_verifier.specs.Spent.{IsSpent};
+ghost use Rattle.bpf_verifier.specs.Spent.{IsSpent, IsEarned, IsWithin};
 
 use crate::exploration::find_budget;
 use crate::limit::{Limits, StateLimit};
@@ -55,7 +55,8 @@ pub fn verify_within(
     verify_limited(alloc, program, hook, limits)
 }
 
-/// Like `verify_within`, with a limit on work, too: a program that needs more is refused with 36.
+/// Like `verify_within`, with a limit on work, too: a program that needs more is refused with 36. A budget is at most an
+/// 80th of the limit.
 pub fn verify_limited(
     alloc: Global,
     program: Program,
@@ -66,6 +67,7 @@ pub fn verify_limited(
     ensures hook { IfOk result (λ accepted. accepted.hook ≡ hook) }
     ensures budget { IfOk result (λ accepted. IsSafeBudget program limits.states accepted.budget) }
     ensures refused { IfErr result (IsRefusalWithin program limits) }
+    ensures earned { IfOk result (λ accepted. IsWithin limits accepted.budget) }
 {
     let states = limits.states;
     let mut work = Work::within(limits.units());
@@ -74,7 +76,7 @@ pub fn verify_limited(
 
 /// Like `verify_limited`, but `work` has the limit on work, and counts each unit before it is done; what was counted
 /// before stays. The states that are examined or made again, 80 units each at least, and the comparisons of a state with
-/// a finished one are within the units that are allowed.
+/// a finished one are within the units that are allowed. As many states as a budget has steps are examined and counted.
 pub fn verify_counted(
     alloc: Global,
     program: Program,
@@ -89,6 +91,7 @@ pub fn verify_counted(
     ensures due { IfErr result (IsDue program limit work.old work.new) }
     ensures spent { IsSpent limit work.old work.new }
     ensures counted { CountsAll work.new }
+    ensures earned { IfOk result (λ accepted. IsEarned accepted.budget work.old work.new) }
 {
     program.whole();
     plain_law();

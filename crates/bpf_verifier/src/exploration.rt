@@ -8,12 +8,12 @@ ghost use Rattle.bpf_model.specs.State.{Setting};
 ghost use Rattle.bpf_absstate.specs.View.{View, entry_view};
 ghost use Rattle.bpf_plain.specs.Clear.{IsClear};
 ghost use Rattle.bpf_plain.specs.Paths.{Reaches};
-ghost use Rattle.bpf_prune.specs.Covering.{Covers, kept_at};
+ghost use Rattle.bpf_prune.specs.Covering.{Covers, kept_at, newest_covering};
 ghost use Rattle.bpf_prune.specs.Spending.{HasPassed, comparisons};
 ghost use Rattle.bpf_rules.specs.Covers.{IsSetting};
 ghost use Rattle.bpf_verifier.specs.Causes.{IsFaulty, IsStopped, IsDue};
 ghost use Rattle.bpf_verifier.specs.Counting.{weight};
-ghost use Rattle.bpf_verifier.specs.Spent.{IsSpent, IsMemoryOrPassed};
+ghost use Rattle.bpf_verifier.specs.Spent.{IsSpent, IsEarned, IsMemoryOrPassed};
 ghost use Rattle.bpf_verifier.specs.Found.{IsFresh, IsCountedSoFar, IsPaidSoFar, IsBegunSoFar, IsSafeSoFar, IsSafeAfter, HasFinished, IsTracedSoFar, IsTracedAfter, IsWalkedSoFar, IsWalkedAfter, IsClearSoFar, IsClearAfter};
 ghost use Rattle.bpf_verifier.specs.Path.{IsBegun, IsKept, StandsIn};
 ghost use Rattle.bpf_verifier.specs.Safety.{AllSafe};
@@ -262,6 +262,8 @@ impl Exploration {
 
 /// Counts a state before it is examined, and looks for a finished one that includes it. Its budget, if there is one.
 fn look(finished: &Finished, state: &AbsState, work: &mut Work) -> Result<Option<u32>, TooMuchWork>
+    ensures is { IfOk result
+        (λ budget. budget ≡ newest_covering (kept_at finished.now state.now.pc) state.now) }
     ensures covers { IfOk result
         (λ budget. IfSome budget (Covers (kept_at finished.now state.now.pc) state.now)) }
     ensures most { work.new.most ≡ work.old.most }
@@ -299,6 +301,7 @@ pub(crate) fn observed_budget(
     ensures begins { IfErr result (λ e. Begins program.now.slots e.pc) }
     ensures due { IfErr result (IsDue program.now limit work.old work.new) }
     ensures spent { IsSpent limit work.old work.new }
+    ensures earned { IfOk result (λ budget. IsEarned budget work.old work.new) }
 {
     program.whole();
     program.shapes().whole();
@@ -338,6 +341,7 @@ pub(crate) fn find_budget(
     ensures begins { IfErr result (λ e. Begins program.now.slots e.pc) }
     ensures due { IfErr result (IsDue program.now limit work.old work.new) }
     ensures spent { IsSpent limit work.old work.new }
+    ensures earned { IfOk result (λ budget. IsEarned budget work.old work.new) }
 {
     program.whole();
     standing_law();

@@ -3,7 +3,7 @@
 ghost use Rattle.std.specs.Prelude.{◌≡◌, ◌≤◌, ◌^◌, ℕ, length, slice_index, IfOk, IfErr, OnOk};
 ghost use Rattle.bpf_verifier.specs.Admission.{IsSafeBudget, IsRefusal, IsRefusalAfter, IsRefusalWithin};
 ghost use Rattle.bpf_verifier.specs.Causes.{IsDue};
-ghost use Rattle.bpf_verifier.specs.Spent.{IsSpent};
+ghost use Rattle.bpf_verifier.specs.Spent.{IsSpent, IsEarned, IsWithin};
 ghost use Rattle.bpf_prune.specs.Spending.{CountsAll};
 
 use crate::exploration::{Exploration, observed_budget};
@@ -52,7 +52,8 @@ pub fn explore_limited(
     program: &Program,
     limits: Limits,
 ) -> Result<Vec<Entry>, Refusal>
-    ensures budget { OnOk result ((b : ℕ) × IsSafeBudget program.now limits.states b) }
+    ensures budget { OnOk result
+        ((b : ℕ) × IsSafeBudget program.now limits.states b × IsWithin limits b) }
     ensures refused { IfErr result (IsRefusalWithin program.now limits) }
 {
     let states = limits.states;
@@ -67,7 +68,8 @@ pub fn explore_counted(
     limit: StateLimit,
     work: &mut Work,
 ) -> Result<Vec<Entry>, Refusal>
-    ensures budget { OnOk result ((b : ℕ) × IsSafeBudget program.now limit b) }
+    ensures budget { OnOk result
+        ((b : ℕ) × IsSafeBudget program.now limit b × IsEarned b work.old work.new) }
     ensures refused { IfErr result (IsRefusalAfter program.now limit work.new) }
     ensures due { IfErr result (IsDue program.now limit work.old work.new) }
     ensures spent { IsSpent limit work.old work.new }
@@ -133,6 +135,7 @@ pub fn explain_limited(
     ensures budget { IfOk result (λ x. IfOk x.verdict (IsSafeBudget program.now limits.states)) }
     ensures refused { IfOk result
         (λ x. IfErr x.verdict (IsRefusalWithin program.now limits)) }
+    ensures earned { IfOk result (λ x. IfOk x.verdict (IsWithin limits)) }
     ensures slots { IfOk result (λ x. length x.budgets.items ≡ length program.now.slots) }
     ensures start { IfOk result
         (λ x. IfOk x.verdict (λ budget. budget ≤ slice_index x.budgets.items 0)) }

@@ -7,6 +7,7 @@ abbrev pub invariant-loop-left : goal.invariant-loop-left
 invariant-loop-left g l = record {
   same : IsSame (LeadsWithin l.program l.claims l.fn.claim.budget l.fn.claim.state) (LeadsWithin l.program l.claims l.left l.state);
   limit : g.M.Meter.limit l.work ≡ g.M.Meter.limit l.initial.work;
+  later : g.M.Meter.examined l.initial.work ≤ g.M.Meter.examined l.work;
   least : g.M.Meter.compared l.initial.work ≤ g.M.Meter.compared l.work;
 }
 

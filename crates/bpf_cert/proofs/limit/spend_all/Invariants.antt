@@ -4,6 +4,7 @@ use Rattle.bpf_cert.proofs.limit.spend_all.Given as goal
 abbrev pub invariant-loop-left : goal.invariant-loop-left
 invariant-loop-left g l = record {
   limit : g.M.Meter.limit l.work ≡ g.M.Meter.limit l.initial.work;
+  examined : g.M.Meter.examined l.work ≡ g.M.Meter.examined l.initial.work;
   compared : g.M.Meter.compared l.work ≡ g.M.Meter.compared l.initial.work;
 }
 

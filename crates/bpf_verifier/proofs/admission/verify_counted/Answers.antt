@@ -1,4 +1,4 @@
-use Rattle.std.proofs.Common.{sym, subst}
+use Rattle.std.proofs.Common.{sym, subst, arith}
 use Rattle.std.proofs.lemmas.Result.{err_from_is_err_and}
 use Rattle.bpf_verifier.specs.Admission.{IsSafeBudget}
 use Rattle.bpf_verifier.proofs.Admitting.{refusal_after, starved_after}
@@ -19,3 +19,6 @@ pub returns-clause-budget : goal.returns-clause-budget
 returns-clause-budget c =
     let found = c.in_ok-budget.ensures in
     subst (IsSafeBudget c.args.program c.args.limit) (sym c.in_ok-accepted.ensures.budget) (record { safe = found.safe; small = found.small; walk = found.walk })
+
+pub returns-clause-earned : goal.returns-clause-earned
+returns-clause-earned c = omega (arith, c.in_ok-accepted.ensures.budget, c.in_ok-budget.ensures.earned)

@@ -97,6 +97,11 @@ returns-in-Ok-Over-clause-walk c = λ plain.
     let r = (rw c.in-Ok-Over.field-0-is at c.in-Ok-Over.ensures.walked entry_view plain (h.walks plain, h.walked plain)).0 in
     c.walking_law.ensures.walks c.args.program.now c.in-Ok-Over.budget r
 
+pub returns-in-Ok-Over-clause-earned : goal.returns-in-Ok-Over-clause-earned
+returns-in-Ok-Over-clause-earned c =
+    let paid = rw c.in-Ok-Over.field-0-is at c.in-Ok-Over.ensures.paid in
+    omega (arith, paid, c.visit.invariant.examined, c.in-Ok.ensures.examined, c.in-Ok-Over.ensures.examined, c.in-Ok-Over.ensures.visits)
+
 pub returns-clause-clear : goal.returns-clause-clear
 returns-clause-clear c = λ clear.
     let k = c.visit.invariant.clear clear in

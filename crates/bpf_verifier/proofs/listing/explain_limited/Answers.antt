@@ -1,4 +1,4 @@
-use Rattle.bpf_verifier.proofs.Admitting.{budgets, refusals}
+use Rattle.bpf_verifier.proofs.Admitting.{budgets, refusals, found_within}
 use Rattle.bpf_verifier.proofs.listing.explain_limited.Goals as goal
 
 pub returns-clause-budget : goal.returns-clause-budget
@@ -15,3 +15,9 @@ returns-clause-refused c =
 
 pub returns-clause-start : goal.returns-clause-start
 returns-clause-start c = rw c.in_ok-explanation.ensures.verdict c.in_ok-explanation.ensures.start
+
+pub returns-clause-earned : goal.returns-clause-earned
+returns-clause-earned c =
+    let v = c.observed_budget-verdict in
+    rw c.in_ok-explanation.ensures.verdict
+    (found_within (λ b. b) c.args.limits _ v.result (rw (c.within-work.ensures.is, c.units.ensures.is) at v.ensures.spent) (record { allowed = c.known.ensures.allowed; all = c.known.ensures.counted }) (rw (c.within-work.ensures.is, c.units.ensures.is) at v.ensures.earned))

@@ -14,7 +14,7 @@ returns-in_err-_budget-clause-refused c =
     (refusal_after c.args.program.now c.args.limit _ _ (c.plain_law.ensures.clear c.args.program.now c.whole.ensures.is) c.in_err-_budget.ensures.begins c.in_err-_budget.ensures.clear)
 
 pub returns-in-Some-clause-budget : goal.returns-in-Some-clause-budget
-returns-in-Some-clause-budget c = (_, record { safe = c.in_ok-_budget.ensures.safe; small = c.in_ok-_budget.ensures.small; walk = c.in_ok-_budget.ensures.walk })
+returns-in-Some-clause-budget c = (_, record { safe = c.in_ok-_budget.ensures.safe; small = c.in_ok-_budget.ensures.small; walk = c.in_ok-_budget.ensures.walk }, c.in_ok-_budget.ensures.earned)
 
 pub returns-in-None-clause-budget : goal.returns-in-None-clause-budget
-returns-in-None-clause-budget c = (_, record { safe = c.in_ok-_budget.ensures.safe; small = c.in_ok-_budget.ensures.small; walk = c.in_ok-_budget.ensures.walk })
+returns-in-None-clause-budget c = (_, record { safe = c.in_ok-_budget.ensures.safe; small = c.in_ok-_budget.ensures.small; walk = c.in_ok-_budget.ensures.walk }, c.in_ok-_budget.ensures.earned)
