@@ -7,15 +7,17 @@ use Rattle.bpf_regions.specs.declared.hooks.Hook.{Hook}
 use Rattle.bpf_verifier.specs.declared.limit.Limits.{Limits}
 use Rattle.bpf_regions.specs.declared.maps.Shape.{Shape}
 use Rattle.capture.specs.Packets.{Seen}
-use Rattle.capture.specs.Captures.{Holds as HoldsPackets}
+use Rattle.capture.specs.Captures.{Refuses}
+use Rattle.capture.specs.declared.fault.CaptureFault.{CaptureFault}
 use Rattle.ap_model.specs.Readings.{Config}
 use Rattle.apd_files.specs.declared.inputs.files.FileKind.TheVariants.{Capture}
-use Rattle.apd_files.specs.Held.{Held, Keeps, Lacks}
+use Rattle.apd_files.specs.Held.{Held, Holds, Keeps, Lacks}
 use Rattle.apd_words.specs.Asked.{text_of}
 use Rattle.apd_words.specs.declared.Report.{Report}
 use Rattle.apd_program.specs.Admitting.{IsOfAdmitted}
+use Rattle.apd_program.specs.Captured.{IsCaptured, IsNoCapture}
 use Rattle.apd_program.specs.Evaluating.{Replayed, AreVerdicts, AreDifferences, AreJudged, IsKept, HoldsIfAny, HasBadCodeInForce, IsMaterial, IsEvaluatedWith, HasNoEvaluation, NoConfig, OfConfiguration, OfCode, OfCapture, OfCodeInForce, link_of}
-use Rattle.apd_program.specs.Faults.{IsMemoryOr, HasBadConfiguration, HasBadCode, HasBadCapture, NoFile}
+use Rattle.apd_program.specs.Faults.{IsMemoryOr, HasBadConfiguration, HasBadCode, HasBadCapture, NoFile, NoCapture}
 use Rattle.apd_program.specs.declared.answer.Answer.{Answer}
 use Rattle.apd_program.specs.declared.evaluating.Material.{Material}
 use Rattle.apd_program.specs.declared.fault.ProgramFault.{ProgramFault}
@@ -46,9 +48,9 @@ module _ (files : Held) (file capture : List ℕ) (against : Option (List ℕ)) 
   bad_code_in_force later same (inl memory) = inl memory
   bad_code_in_force later same (inr bad) = inr (OfCodeInForce (Some config) (let P : Held → Type 0 = λ f. HasBadCodeInForce f against in subst P same bad))
 
-  pub bad_capture : (later : Held) → later ≡ files → IsMemoryOr (HasBadCapture later capture) e → IsMemoryOr (HasNoEvaluation files file capture against (Some config)) e
-  bad_capture later same (inl memory) = inl memory
-  bad_capture later same (inr bad) = inr (OfCapture (Some config) (let P : Held → Type 0 = λ f. HasBadCapture f capture in subst P same bad))
+  pub bad_capture : (text slice : List ℕ) → Holds files capture text → slice ≡ text → IsMemoryOr (IsNoCapture slice) e → IsMemoryOr (HasNoEvaluation files file capture against (Some config)) e
+  bad_capture text slice there same (inl memory) = inl memory
+  bad_capture text slice there same (inr none) = inr (OfCapture (Some config) (NoCapture text none.fault there none.known (subst (λ t. Refuses t none.fault) same none.refused)))
 
 unkept : (code : Vec ℕ Global) → Some code ≡ None → ⊥
 unkept code h = cc
@@ -68,13 +70,13 @@ module _ (files : Held) (limits : Limits) (g : Replayed) (code kept : List ℕ) 
         (λ v said. IsOfAdmitted-kept limits g.hook shapes (AreDifferences g v) code kept a keeps said) h),
   )
 
-pub IsEvaluatedWith-of : (files : Held) (limits : Limits) (hook : Hook) (file capture config : List ℕ) (against : Option (List ℕ)) (report : Report) (m : Material) (packets : List Seen) (r : Result Answer ProgramFault) → IsMaterial files config file capture against m → HoldsPackets m.capture.items packets
-    → IfOk r (AreJudged limits (record { hook = hook; draw = m.setting.draw; config = m.setting.link; packets = packets; report = report }) (option_map (λ o. o.items) m.in_force) m.code.items m.setting.shapes)
+pub IsEvaluatedWith-of : (files : Held) (limits : Limits) (hook : Hook) (file capture config : List ℕ) (against : Option (List ℕ)) (report : Report) (m : Material) (cut : Option CaptureFault) (packets : List Seen) (r : Result Answer ProgramFault) → IsMaterial files config file capture against m → IsCaptured m.capture.items cut packets
+    → IfOk r (AreJudged limits (record { hook = hook; draw = m.setting.draw; config = m.setting.link; packets = packets; cut = cut; report = report }) (option_map (λ o. o.items) m.in_force) m.code.items m.setting.shapes)
     → IfOk r (IsEvaluatedWith files limits hook file capture against report config)
-IsEvaluatedWith-of files limits hook file capture config against report m packets r is held said =
+IsEvaluatedWith-of files limits hook file capture config against report m cut packets r is captured said =
     let s = is.setting in
     let c = s.configuration in
-    let on : ℕ → Config → Replayed = λ d l. record { hook = hook; draw = d; config = l; packets = packets; report = report } in
+    let on : ℕ → Config → Replayed = λ d l. record { hook = hook; draw = d; config = l; packets = packets; cut = cut; report = report } in
     IfOk-weaker r (AreJudged limits (on m.setting.draw m.setting.link) (option_map (λ o. o.items) m.in_force) m.code.items m.setting.shapes) (IsEvaluatedWith files limits hook file capture against report config) (λ a h.
     let whole = judged_whole files limits (on m.setting.draw m.setting.link) is.kept.code m.code.items m.setting.shapes a against m.in_force is.kept.keeps is.in_force h in
     let drawn = subst (λ d. AreJudged limits (on d m.setting.link) whole.0 is.kept.code m.setting.shapes a) s.draw whole.2 in
@@ -87,6 +89,7 @@ IsEvaluatedWith-of files limits hook file capture config against report m packet
       in_force = whole.0;
       held_in_force = whole.1;
       packets = packets;
-      captured = record { bytes = m.capture.items; there = is.there; held = held };
+      cut = cut;
+      captured = record { bytes = m.capture.items; there = is.there; captured = captured };
       said = subst (λ (maps : List Shape). AreJudged limits (on c.draw (link_of c)) whole.0 is.kept.code maps a) s.maps linked;
     }) said

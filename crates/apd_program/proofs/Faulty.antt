@@ -12,7 +12,6 @@ use Rattle.hex.specs.declared.error.FromHexError.TheVariants.{OutOfMemory}
 use Rattle.apd_config.specs.Text.{TellsOfText}
 use Rattle.apd_config.specs.declared.fault.ConfigFault.{ConfigFault}
 use Rattle.apd_config.specs.declared.fault.ConfigFault.TheVariants as config
-use Rattle.capture.specs.Captures.{Refuses}
 use Rattle.capture.specs.declared.fault.CaptureFault.{CaptureFault}
 use Rattle.capture.specs.declared.fault.CaptureFault.TheVariants as capture
 use Rattle.apd_program.specs.declared.fault.ProgramFault.{ProgramFault}
@@ -30,7 +29,7 @@ use Rattle.apd_files.specs.declared.inputs.code.CodeFault.TheVariants as read
 use Rattle.apd_files.specs.Faults.{IsFaultOf}
 use Rattle.apd_files.specs.Held.{Held, Holds, IsNoInput, IsUnread}
 use Rattle.apd_program.specs.Setups.{Configures, IsContext, IsLoaded}
-use Rattle.apd_program.specs.Faults.{IsMemoryOr, IsBadSource, HasBadCode, HasBadDigits, NoFile, NoCode, HasBadConfiguration, NoConfiguration, IsBadConfig, HasBadCapture, NoCapture, IsAtFault, OfConfiguration, OfCode, IsNoFrame, NoDigits, OfFiles, OfWord, IsGiven, HasNoTrial, OfFrame, OfContext, HasNoCertificate, OfOthers, OfCertificate}
+use Rattle.apd_program.specs.Faults.{IsMemoryOr, IsBadSource, HasBadCode, HasBadDigits, NoFile, NoCode, HasBadConfiguration, NoConfiguration, IsBadConfig, IsAtFault, OfConfiguration, OfCode, IsNoFrame, NoDigits, OfFiles, OfWord, IsGiven, HasNoTrial, OfFrame, OfContext, HasNoCertificate, OfOthers, OfCertificate}
 
 pub code_at_fault : (kind : FileKind) (files : Held) (path : List ℕ) (e : CodeFault) (f : ProgramFault) → IsFaultOf kind files path e → (e ≡ read.NoMemory → f ≡ NoMemory) → (f ≡ NoMemory) ⊎ HasBadDigits kind files path
 code_at_fault kind files path read.NoMemory f h m = inl (m refl)
@@ -77,16 +76,6 @@ known_capture (capture.CutRecord count) = inr (λ h. cc)
 known_capture (capture.Resolution resolution) = inr (λ h. cc)
 known_capture (capture.CutBlock place) = inr (λ h. cc)
 known_capture (capture.BadBlock place) = inr (λ h. cc)
-
-capture_by : (files : Held) (path text slice : List ℕ) (e : CaptureFault) (f : ProgramFault) → Holds files path text → slice ≡ text → Refuses slice e → (e ≡ capture.NoMemory → f ≡ NoMemory) → (e ≡ capture.NoMemory) ⊎ (e ≢ capture.NoMemory)
-    → (f ≡ NoMemory) ⊎ HasBadCapture files path
-capture_by files path text slice e f there same refuses m (inl memory) = inl (m memory)
-capture_by files path text slice e f there same refuses m (inr other) =
-    inr (NoCapture text e there other (let P : List ℕ → Type 0 = λ t. Refuses t e in subst P same refuses))
-
-pub capture_at_fault : (files : Held) (path text slice : List ℕ) (e : CaptureFault) (f : ProgramFault) → Holds files path text → slice ≡ text → Refuses slice e → (e ≡ capture.NoMemory → f ≡ NoMemory)
-    → (f ≡ NoMemory) ⊎ HasBadCapture files path
-capture_at_fault files path text slice e f there same refuses m = capture_by files path text slice e f there same refuses m (known_capture e)
 
 pub configuration_at_fault : (files : Held) (path text slice : List ℕ) (e : ConfigFault) (f : ProgramFault) → Holds files path text → slice ≡ text → TellsOfText slice e → (e ≡ config.NoMemory → f ≡ NoMemory)
     → (f ≡ NoMemory) ⊎ HasBadConfiguration files path

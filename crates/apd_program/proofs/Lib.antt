@@ -5,6 +5,7 @@ pub mod Slots
 pub mod Said
 pub mod Performing
 pub mod Repeated
+pub mod Fronts
 pub mod Scripted
 pub mod Delivering
 pub mod Admits

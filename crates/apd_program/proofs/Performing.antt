@@ -7,7 +7,7 @@ use Rattle.apd_words.specs.Reads.{TellsOf}
 use Rattle.apd_words.specs.declared.Told.{Told}
 use Rattle.apd_words.specs.declared.Told.TheVariants as told
 use Rattle.apd_program.specs.declared.answer.Answer.{Answer}
-use Rattle.apd_program.specs.declared.answer.Answer.TheVariants.{Accepted, Code, Instructions, RefusedGraph, Run, Verdicts, Differences, Page, Script, CutScript, Tested, Help, Fault, Refused, LineFault, Certificate, Unaccepted}
+use Rattle.apd_program.specs.declared.answer.Answer.TheVariants.{Accepted, Code, Instructions, RefusedGraph, Run, Verdicts, Differences, CutVerdicts, Page, Script, CutScript, Tested, Help, Fault, Refused, LineFault, Certificate, Unaccepted}
 use Rattle.apd_program.specs.declared.fault.ProgramFault.{ProgramFault}
 use Rattle.apd_program.specs.declared.fault.ProgramFault.TheVariants as fault
 use Rattle.apd_program.specs.Lines.{status_of}
@@ -76,7 +76,7 @@ complained files a output o (fault.Cases path line why) (inr h) = Refrained h (K
 pub Performs-complained : (files : Held) (a : Asked) (output o : Option (List ℕ)) (f : ProgramFault) (status : ℕ) → (f ≡ fault.NoMemory) ⊎ HasNoAnswer files a → status ≡ fault_status f → Performs files a output o o status
 Performs-complained files a output o f status h is = rw is (complained files a output o f h)
 
-status_within : (answer : Answer) → status_of answer ≤ 1
+status_within : (answer : Answer) → status_of answer ≤ 2
 status_within (Accepted budget) = omega arith
 status_within (Code code) = omega arith
 status_within (Instructions text) = omega arith
@@ -85,6 +85,7 @@ status_within (Run text) = omega arith
 status_within (Verdicts text) = omega arith
 status_within (Differences text true) = omega arith
 status_within (Differences text false) = omega arith
+status_within (CutVerdicts text f) = omega arith
 status_within (Page text) = omega arith
 status_within (Script text) = omega arith
 status_within (CutScript text f) = omega arith
@@ -99,7 +100,7 @@ status_within (Unaccepted e) = omega arith
 
 Performs-status : (files : Held) (a : Asked) (output old new : Option (List ℕ)) (status : ℕ) → Performs files a output old new status → status ≤ 3
 Performs-status files a output old new status (Wrote answer is goes written) = omega (arith, status_within answer)
-Performs-status files a output old new status (Saved answer is stored kept) = omega arith
+Performs-status files a output old new status (Saved answer is stored kept) = omega (arith, status_within answer)
 Performs-status files a output old new status (Stopped answer is written) = omega arith
 Performs-status files a output old new status (Unsaved answer is stored kept) = omega arith
 Performs-status files a output old new status (Refrained h kept) = omega arith

@@ -6,12 +6,13 @@ use Rattle.bpf_regions.specs.declared.hooks.Hook.{Hook}
 use Rattle.bpf_regions.specs.declared.maps.Shape.{Shape}
 use Rattle.bpf_verifier.specs.declared.limit.Limits.{Limits}
 use Rattle.capture.specs.Packets.{Seen}
-use Rattle.capture.specs.Captures.{Holds as HoldsPackets}
+use Rattle.capture.specs.declared.fault.CaptureFault.{CaptureFault}
 use Rattle.ap_model.specs.Readings.{Config}
 use Rattle.apd_files.specs.Held.{Held}
 use Rattle.apd_words.specs.Asked.{text_of}
 use Rattle.apd_words.specs.declared.Report.{Report}
 use Rattle.apd_program.specs.Admitting.{IsOfAdmitted}
+use Rattle.apd_program.specs.Captured.{IsCaptured}
 use Rattle.apd_program.specs.Evaluating.{Replayed, IsMaterial, HasNoEvaluation, link_of}
 use Rattle.apd_program.specs.Repeating.{AreTimed, IsRepeatedWith, HasNoRepetition, OfTwo, OfOne}
 use Rattle.apd_program.specs.Faults.{IsMemoryOr}
@@ -28,13 +29,13 @@ pub of_one : (files : Held) (file capture : List ℕ) (against config : Option (
 of_one files file capture against config e (inl memory) = inl memory
 of_one files file capture against config e (inr none) = inr (OfOne none)
 
-pub IsRepeatedWith-of : (files : Held) (limits : Limits) (hook : Hook) (file capture config : List ℕ) (against : Option (List ℕ)) (report : Report) (times : ℕ) (m : Material) (packets : List Seen) (r : Result Answer ProgramFault) → IsMaterial files config file capture against m → HoldsPackets m.capture.items packets
-    → IfOk r (IsOfAdmitted limits hook (AreTimed (record { hook = hook; draw = m.setting.draw; config = m.setting.link; packets = packets; report = report }) times) m.code.items m.setting.shapes)
+pub IsRepeatedWith-of : (files : Held) (limits : Limits) (hook : Hook) (file capture config : List ℕ) (against : Option (List ℕ)) (report : Report) (times : ℕ) (m : Material) (cut : Option CaptureFault) (packets : List Seen) (r : Result Answer ProgramFault) → IsMaterial files config file capture against m → IsCaptured m.capture.items cut packets
+    → IfOk r (IsOfAdmitted limits hook (AreTimed (record { hook = hook; draw = m.setting.draw; config = m.setting.link; packets = packets; cut = cut; report = report }) times) m.code.items m.setting.shapes)
     → IfOk r (IsRepeatedWith files limits hook file capture report times config)
-IsRepeatedWith-of files limits hook file capture config against report times m packets r is held said =
+IsRepeatedWith-of files limits hook file capture config against report times m cut packets r is captured said =
     let s = is.setting in
     let c = s.configuration in
-    let on : ℕ → Config → Replayed = λ d l. record { hook = hook; draw = d; config = l; packets = packets; report = report } in
+    let on : ℕ → Config → Replayed = λ d l. record { hook = hook; draw = d; config = l; packets = packets; cut = cut; report = report } in
     IfOk-weaker r (IsOfAdmitted limits hook (AreTimed (on m.setting.draw m.setting.link) times) m.code.items m.setting.shapes) (IsRepeatedWith files limits hook file capture report times config) (λ a h.
     let whole = IsOfAdmitted-kept limits hook m.setting.shapes (AreTimed (on m.setting.draw m.setting.link) times) is.kept.code m.code.items a is.kept.keeps h in
     let drawn = subst (λ d. IsOfAdmitted limits hook (AreTimed (on d m.setting.link) times) is.kept.code m.setting.shapes a) s.draw whole in
@@ -45,6 +46,7 @@ IsRepeatedWith-of files limits hook file capture config against report times m p
       code = is.kept.code;
       held = is.kept.held;
       packets = packets;
-      captured = record { bytes = m.capture.items; there = is.there; held = held };
+      cut = cut;
+      captured = record { bytes = m.capture.items; there = is.there; captured = captured };
       said = subst (λ (maps : List Shape). IsOfAdmitted limits hook (AreTimed (on c.draw (link_of c)) times) is.kept.code maps a) s.maps linked;
     }) said

@@ -21,7 +21,7 @@ use Rattle.bpf_cert.specs.declared.limit.WithinFault.{WithinFault}
 use Rattle.bpf_cert.specs.declared.limit.WithinFault.TheVariants as within
 use Rattle.apd_text.specs.Trace.{IsTrace}
 use Rattle.apd_program.specs.declared.answer.Answer.{Answer}
-use Rattle.apd_program.specs.declared.answer.Answer.TheVariants.{Accepted, Code, Instructions, RefusedGraph, Run, Verdicts, Differences, Page, Script, CutScript, Tested, Help, Fault, Refused, LineFault, Certificate, Unaccepted}
+use Rattle.apd_program.specs.declared.answer.Answer.TheVariants.{Accepted, Code, Instructions, RefusedGraph, Run, Verdicts, Differences, CutVerdicts, Page, Script, CutScript, Tested, Help, Fault, Refused, LineFault, Certificate, Unaccepted}
 use Rattle.apd_program.specs.declared.fault.ProgramFault.{ProgramFault}
 use Rattle.apd_program.specs.Programs.{IsOfProgram, Undecoded, Decoded}
 use Rattle.apd_program.specs.Refusing.{IsUndecoded, IsRefused, IsUnaccepted}
@@ -89,6 +89,7 @@ IsAssembly-broken text front (RefusedGraph graph e) bad same breaks = absurd bre
 IsAssembly-broken text front (Run lines) bad same breaks = absurd breaks
 IsAssembly-broken text front (Verdicts lines) bad same breaks = absurd breaks
 IsAssembly-broken text front (Differences lines differs) bad same breaks = absurd breaks
+IsAssembly-broken text front (CutVerdicts lines f) bad same breaks = absurd breaks
 IsAssembly-broken text front (Page lines) bad same breaks = absurd breaks
 IsAssembly-broken text front (Script lines) bad same breaks = absurd breaks
 IsAssembly-broken text front (CutScript lines f) bad same breaks = absurd breaks

@@ -1,27 +1,20 @@
 -- Scripts of captures, from their parts.
-use Rattle.std.proofs.Common.{◌≡◌, ◌≢◌, ◌⊎◌, ◌++◌, ◌∷◌, ◌∙◌, ◌<◌, ◌≤◌, ℕ, Bool, false, List, [], length, take, drop, slice_index_or, Option, Some, None, Result, Ok, Err, inl, inr, refl, sym, ap, subst, arith}
-use Rattle.std.proofs.lemmas.List.{take-append-drop}
+use Rattle.std.proofs.Common.{◌≡◌, ◌∷◌, ◌∙◌, ◌<◌, ◌≤◌, ℕ, Bool, false, List, [], length, slice_index_or, Option, Some, None, Ok, inl, inr, refl, sym, ap, subst, arith}
 use Rattle.std.specs.Borrow.{Bor}
 use Rattle.hex.specs.Hex.{decode_of}
 use Rattle.capture.specs.Packets.{Seen}
-use Rattle.capture.specs.Captures.{Holds as HoldsPackets, Refuses}
 use Rattle.capture.specs.declared.fault.CaptureFault.{CaptureFault}
-use Rattle.capture.specs.declared.fault.CaptureFault.TheVariants as capture
 use Rattle.apd_files.specs.Held.{Held, Holds, Lacks}
 use Rattle.apd_files.specs.declared.inputs.files.FileKind.TheVariants.{Capture}
 use Rattle.apd_words.specs.Asked.{text_of}
 use Rattle.apd_program.specs.Answers.{IsOfText}
+use Rattle.apd_program.specs.Captured.{IsCaptured, IsNoCapture}
 use Rattle.apd_program.specs.Faults.{IsMemoryOr}
 use Rattle.apd_program.specs.Scripts.{IsAddress, IsChoice, GivenChosen, OnlyChosen, NoAddress, IsUnclear, IsChosenScript, IsScript, IsUnscripted, NoCapture, Unclear, HasNoScript, NoFile, NoScript}
 use Rattle.apd_program.specs.declared.answer.Answer.{Answer}
 use Rattle.apd_program.specs.declared.fault.ProgramFault.{ProgramFault}
-use Rattle.apd_program.specs.declared.fault.ProgramFault.TheVariants.{NoMemory}
 use Rattle.apd_program.specs.declared.framing.Choice.{Choice}
 use Rattle.apd_program.specs.declared.framing.Choice.TheVariants as choice
-use Rattle.apd_program.proofs.Faulty.{known_capture}
-
-pub joined : (xs front back : List ℕ) (n : ℕ) → front ≡ take n xs → back ≡ drop n xs → xs ≡ front ++ back
-joined xs front back n before after = rw (before, after) (sym (take-append-drop n xs))
 
 -- six bytes, one by one
 six : (xs : List ℕ) → 6 ≤ length xs → length xs < 7 → xs ≡ slice_index_or xs 0 0 ∷ slice_index_or xs 1 0 ∷ slice_index_or xs 2 0 ∷ slice_index_or xs 3 0 ∷ slice_index_or xs 4 0 ∷ slice_index_or xs 5 0 ∷ []
@@ -49,18 +42,15 @@ pub no_address : (files : Held) (path : List ℕ) (given : Option (Bor (List ℕ
 no_address files path given all word e is (inl memory) = inl memory
 no_address files path given all word e is (inr none) = inr (NoAddress word.now (ap text_of is) none)
 
-unscripted_by : (c : Choice) (file : List ℕ) (e : CaptureFault) (f : ProgramFault) → Refuses file e → (e ≡ capture.NoMemory → f ≡ NoMemory) → (e ≡ capture.NoMemory) ⊎ (e ≢ capture.NoMemory) → IsMemoryOr (IsUnscripted c file) f
-unscripted_by c file e f refuses m (inl memory) = inl (m memory)
-unscripted_by c file e f refuses m (inr other) = inr (NoCapture e other refuses)
-
 -- a file that isn't a capture has no script
-pub capture_unscripted : (c : Choice) (file : List ℕ) (e : CaptureFault) (f : ProgramFault) → Refuses file e → (e ≡ capture.NoMemory → f ≡ NoMemory) → IsMemoryOr (IsUnscripted c file) f
-capture_unscripted c file e f refuses m = unscripted_by c file e f refuses m (known_capture e)
+pub capture_unscripted : (c : Choice) (file : List ℕ) (f : ProgramFault) → IsMemoryOr (IsNoCapture file) f → IsMemoryOr (IsUnscripted c file) f
+capture_unscripted c file f (inl memory) = inl memory
+capture_unscripted c file f (inr none) = inr (NoCapture none)
 
 -- nor has one with packets of several access points
-pub unclear_unscripted : (c : Choice) (file front rest : List ℕ) (packets : List Seen) (f : ProgramFault) → file ≡ front ++ rest → HoldsPackets front packets → IsMemoryOr (IsUnclear c packets) f → IsMemoryOr (IsUnscripted c file) f
-unclear_unscripted c file front rest packets f cut held (inl memory) = inl memory
-unclear_unscripted c file front rest packets f cut held (inr unclear) = inr (Unclear (record { front = front; rest = rest; cut = cut; packets = packets; held = held; unclear = unclear }))
+pub unclear_unscripted : (c : Choice) (file : List ℕ) (cut : Option CaptureFault) (packets : List Seen) (f : ProgramFault) → IsCaptured file cut packets → IsMemoryOr (IsUnclear c packets) f → IsMemoryOr (IsUnscripted c file) f
+unclear_unscripted c file cut packets f captured (inl memory) = inl memory
+unclear_unscripted c file cut packets f captured (inr unclear) = inr (Unclear (record { cut = cut; packets = packets; captured = captured; unclear = unclear }))
 
 module _ (files : Held) (path : List ℕ) (given : Option (List ℕ)) (all : Bool) where
   pub no_file : (f : ProgramFault) → IsMemoryOr (Lacks Capture files path) f → IsMemoryOr (HasNoScript files path given all) f

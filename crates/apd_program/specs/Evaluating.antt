@@ -6,7 +6,7 @@ use Rattle.bpf_regions.specs.declared.maps.Shape.{Shape}
 use Rattle.bpf_machine.specs.Verified.{Verified}
 use Rattle.bpf_verifier.specs.declared.limit.Limits.{Limits}
 use Rattle.capture.specs.Packets.{Seen, seen_of}
-use Rattle.capture.specs.Captures.{Holds as HoldsPackets}
+use Rattle.capture.specs.declared.fault.CaptureFault.{CaptureFault}
 use Rattle.ap_model.specs.Readings.{Config}
 use Rattle.apd_config.specs.Text.{IsTextOf}
 use Rattle.apd_config.specs.declared.configuration.Configuration.{Configuration}
@@ -19,8 +19,9 @@ use Rattle.apd_words.specs.declared.Report.TheVariants as report
 use Rattle.apd_files.specs.Held.{Held, Holds, HoldsCode, HoldsKept}
 use Rattle.apd_program.specs.Faults.{HasBadConfiguration, HasBadCode, HasBadCapture}
 use Rattle.apd_program.specs.Admitting.{IsOfAdmitted}
+use Rattle.apd_program.specs.Captured.{IsCaptured}
 use Rattle.apd_program.specs.declared.answer.Answer.{Answer}
-use Rattle.apd_program.specs.declared.answer.Answer.TheVariants.{Verdicts, Differences}
+use Rattle.apd_program.specs.declared.answer.Answer.TheVariants.{Verdicts, Differences, CutVerdicts}
 use Rattle.apd_program.specs.declared.evaluating.Exam.{Exam}
 use Rattle.apd_program.specs.declared.evaluating.Material.{Material}
 use Rattle.apd_program.specs.declared.evaluating.Setting.{Setting}
@@ -56,18 +57,19 @@ pub record IsMaterial (files : Held) (config file capture : List ℕ) (against :
   pub there : Holds files capture m.capture.items
   pub in_force : IsKept files against m.in_force
 
--- the file is a capture of these packets
-pub record HoldsCapture (files : Held) (path : List ℕ) (packets : List Seen) : Type 0 where
+-- the file is a capture of these packets, or of these before a fault
+pub record HoldsCapture (files : Held) (path : List ℕ) (cut : Option CaptureFault) (packets : List Seen) : Type 0 where
   pub bytes : List ℕ
   pub there : Holds files path bytes
-  pub held : HoldsPackets bytes packets
+  pub captured : IsCaptured bytes cut packets
 
--- on what programs are judged, and what is printed of that
+-- on what programs are judged, and what is printed of that; the capture may be cut after the packets
 pub record Replayed : Type 0 where
   pub hook : Hook
   pub draw : ℕ
   pub config : Config
   pub packets : List Seen
+  pub cut : Option CaptureFault
   pub report : Report
 
 abbrev pub replayed_by : Exam → Replayed
@@ -76,6 +78,7 @@ replayed_by e = record {
   draw = e.replay.draw;
   config = e.replay.link.now;
   packets = map seen_of e.replay.packets.now;
+  cut = e.cut;
   report = e.report;
 }
 
@@ -87,10 +90,23 @@ IsReport report.Profile v draw config packets text = IsProfile v draw config pac
 IsReport report.ProfileJson v draw config packets text = IsProfile v draw config packets form.Json text
 IsReport report.ProfileGraph v draw config packets text = IsProfile v draw config packets form.Graph text
 
+-- the answer has this text; it is for a capture that is cut at a fault, or for a whole one
+abbrev pub IsShown : Option CaptureFault → List ℕ → Answer → Type 0
+IsShown None text (Verdicts t) = string_bytes t ≡ text
+IsShown (Some fault) text (CutVerdicts t f) = (f ≡ fault) × (string_bytes t ≡ text)
+IsShown cut text _ = ⊥
+
+-- the same of two programs; of a whole capture, it also says whether verdicts differ
+abbrev pub IsContrasted : Option CaptureFault → List ℕ → Bool → Answer → Type 0
+IsContrasted None text differs (Differences t d) = (string_bytes t ≡ text) × (d ≡ differs)
+IsContrasted (Some fault) text differs (CutVerdicts t f) = (f ≡ fault) × (string_bytes t ≡ text)
+IsContrasted cut text differs _ = ⊥
+
 -- what is printed of a program
-abbrev pub AreVerdicts : Replayed → Verified → Answer → Type 0
-AreVerdicts g v (Verdicts text) = IsReport g.report v g.draw g.config g.packets (string_bytes text)
-AreVerdicts g v _ = ⊥
+pub record AreVerdicts (g : Replayed) (v : Verified) (a : Answer) : Type 0 where
+  pub text : List ℕ
+  pub shown : IsShown g.cut text a
+  pub is : IsReport g.report v g.draw g.config g.packets text
 
 -- whether lines of JSON are asked for
 abbrev pub is_json : Report → Bool
@@ -101,10 +117,11 @@ is_json report.ProfileJson = true
 is_json report.ProfileGraph = false
 
 -- the verdicts of a program that differ from those of the one in force, which the link follows
-abbrev pub AreDifferences : Replayed → Verified → Verified → Answer → Type 0
-AreDifferences g in_force v (Differences text differs) =
-    IsComparison in_force v g.draw g.config g.packets (is_json g.report) (string_bytes text) differs
-AreDifferences g in_force v _ = ⊥
+pub record AreDifferences (g : Replayed) (in_force v : Verified) (a : Answer) : Type 0 where
+  pub text : List ℕ
+  pub differs : Bool
+  pub shown : IsContrasted g.cut text differs a
+  pub is : IsComparison in_force v g.draw g.config g.packets (is_json g.report) text differs
 
 -- the verdicts of the program that code spells; or, with the code in force, those that differ. That is verified first.
 abbrev pub AreJudged : Limits → Replayed → Option (List ℕ) → List ℕ → List Shape → Answer → Type 0
@@ -128,8 +145,9 @@ pub record IsEvaluatedWith (files : Held) (limits : Limits) (hook : Hook) (file 
   pub in_force : Option (List ℕ)
   pub held_in_force : HoldsIfAny files against in_force
   pub packets : List Seen
-  pub captured : HoldsCapture files capture packets
-  pub said : AreJudged limits (record { hook = hook; draw = configuration.draw; config = link_of configuration; packets = packets; report = asked }) in_force code configuration.maps a
+  pub cut : Option CaptureFault
+  pub captured : HoldsCapture files capture cut packets
+  pub said : AreJudged limits (record { hook = hook; draw = configuration.draw; config = link_of configuration; packets = packets; cut = cut; report = asked }) in_force code configuration.maps a
 
 -- the same; there has to be a configuration
 abbrev pub IsEvaluatedFile : Held → Limits → Hook → List ℕ → List ℕ → Option (List ℕ) → Report → Option (List ℕ) → Answer → Type 0

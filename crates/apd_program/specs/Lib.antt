@@ -10,6 +10,7 @@ pub mod Admitting
 pub mod Texts
 pub mod Drawings
 pub mod Pages
+pub mod Captured
 pub mod Scripts
 pub mod Evaluating
 pub mod Repeating

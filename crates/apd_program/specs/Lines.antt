@@ -1,5 +1,5 @@
 -- What is printed for an answer, and its status.
-use Rattle.std.specs.Prelude.{ℕ, ◌/◌, List, ◌++◌, length, codes, decimal, string_bytes, if◌then◌else◌}
+use Rattle.std.specs.Prelude.{ℕ, ◌/◌, Bool, true, false, List, ◌++◌, length, codes, decimal, string_bytes, if◌then◌else◌}
 use Rattle.bpf_decode.specs.Answer.{fault_text}
 use Rattle.bpf_verifier.specs.Refusals.{refusal_text}
 use Rattle.bpf_text.specs.Refusals as line
@@ -7,7 +7,7 @@ use Rattle.bpf_cert.specs.Limits as certificate
 use Rattle.hex.specs.Hex.{encode_lower}
 use Rattle.apd_program.specs.Slots.{line_of, slot_lines}
 use Rattle.apd_program.specs.declared.answer.Answer.{Answer}
-use Rattle.apd_program.specs.declared.answer.Answer.TheVariants.{Accepted, Code, Instructions, RefusedGraph, Run, Verdicts, Differences, Page, Script, CutScript, Tested, Help, Fault, Refused, LineFault, Certificate, Unaccepted}
+use Rattle.apd_program.specs.declared.answer.Answer.TheVariants.{Accepted, Code, Instructions, RefusedGraph, Run, Verdicts, Differences, CutVerdicts, Page, Script, CutScript, Tested, Help, Fault, Refused, LineFault, Certificate, Unaccepted}
 
 -- the printed text of an answer
 abbrev pub printed : Answer → List ℕ
@@ -18,6 +18,7 @@ printed (RefusedGraph text e) = string_bytes text
 printed (Run text) = string_bytes text
 printed (Verdicts text) = string_bytes text
 printed (Differences text differs) = string_bytes text
+printed (CutVerdicts text fault) = string_bytes text
 printed (Page text) = string_bytes text
 printed (Script text) = string_bytes text
 printed (CutScript text fault) = string_bytes text
@@ -29,7 +30,8 @@ printed (LineFault e) = line_of (line.text_of e)
 printed (Certificate bytes) = line_of (encode_lower bytes.items)
 printed (Unaccepted e) = line_of (codes "certificate " ++ decimal (certificate.number_within e))
 
--- 0 for a success, 1 for a refusal, a failed case, verdicts that differ or a cut capture
+-- 0 for a success, 1 for a refusal, a failed case, verdicts that differ or the script of a cut capture, 2 for verdicts on
+-- a cut capture
 abbrev pub status_of : Answer → ℕ
 status_of (Accepted budget) = 0
 status_of (Code code) = 0
@@ -38,6 +40,7 @@ status_of (RefusedGraph text e) = 1
 status_of (Run text) = 0
 status_of (Verdicts text) = 0
 status_of (Differences text differs) = (if differs then 1 else 0)
+status_of (CutVerdicts text fault) = 2
 status_of (Page text) = 0
 status_of (Script text) = 0
 status_of (CutScript text fault) = 1
@@ -48,3 +51,11 @@ status_of (Refused e) = 1
 status_of (LineFault e) = 1
 status_of (Certificate bytes) = 0
 status_of (Unaccepted e) = 1
+
+-- it is what was asked for, whatever its status, and not a refusal
+abbrev pub is_output : Answer → Bool
+is_output (Fault e) = false
+is_output (Refused e) = false
+is_output (LineFault e) = false
+is_output (Unaccepted e) = false
+is_output _ = true

@@ -10,7 +10,7 @@ use Rattle.apd_words.specs.declared.Told.{Told}
 use Rattle.apd_words.specs.declared.Told.TheVariants as told
 use Rattle.apd_program.specs.declared.answer.Answer as answers
 use Rattle.apd_files.specs.Held.{Held}
-use Rattle.apd_program.specs.Lines.{printed, status_of}
+use Rattle.apd_program.specs.Lines.{printed, status_of, is_output}
 use Rattle.apd_program.specs.Answers.{IsAnswer, HasNoAnswer}
 use Rattle.apd_program.specs.Delivered.{GoesOut, IsForFile}
 use Rattle.apd_program.specs.Printed.{PrintsText}
@@ -18,10 +18,10 @@ use Rattle.apd_program.specs.Printed.{PrintsText}
 -- What is written to standard output for a question, with a file for the answer or without, and the status. Lack of
 -- memory, faulty files and words, and an answer for a file leave it unchanged; a failed write leaves a prefix.
 pub data Performs (files : Held) (a : Asked) (output old new : Option (List ℕ)) : ℕ → Type 0 where
-  Wrote : (answer : answers.Answer) → IsAnswer files a answer → GoesOut output (status_of answer) → Appends old new (printed answer) → Performs files a output old new (status_of answer)
-  Saved : (answer : answers.Answer) → IsAnswer files a answer → IsForFile output (status_of answer) → Keeps old new → Performs files a output old new 0
+  Wrote : (answer : answers.Answer) → IsAnswer files a answer → GoesOut output (is_output answer) → Appends old new (printed answer) → Performs files a output old new (status_of answer)
+  Saved : (answer : answers.Answer) → IsAnswer files a answer → IsForFile output (is_output answer) → Keeps old new → Performs files a output old new (status_of answer)
   Stopped : (answer : answers.Answer) → IsAnswer files a answer → AppendsBeginning old new (printed answer) → Performs files a output old new 2
-  Unsaved : (answer : answers.Answer) → IsAnswer files a answer → IsForFile output (status_of answer) → Keeps old new → Performs files a output old new 2
+  Unsaved : (answer : answers.Answer) → IsAnswer files a answer → IsForFile output (is_output answer) → Keeps old new → Performs files a output old new 2
   Refrained : HasNoAnswer files a → Keeps old new → Performs files a output old new 2
   Exhausted : Keeps old new → Performs files a output old new 3
 

@@ -1,15 +1,14 @@
 -- The answer of `frames` for a capture.
-use Rattle.std.specs.Prelude.{◌≡◌, ◌≢◌, ℕ, Bool, true, false, List, ◌++◌, length, string_bytes, Option, Some, None, Ok}
+use Rattle.std.specs.Prelude.{◌≡◌, ℕ, Bool, true, false, List, length, string_bytes, Option, Some, None, Ok}
 use Rattle.hex.specs.Hex.{decode_of}
 use Rattle.capture.specs.Packets.{Seen}
-use Rattle.capture.specs.Captures as capture
 use Rattle.capture.specs.declared.fault.CaptureFault.{CaptureFault}
-use Rattle.capture.specs.declared.fault.CaptureFault.TheVariants.{NoMemory}
 use Rattle.apd_files.specs.Held.{Held, Holds, Lacks}
 use Rattle.apd_files.specs.declared.inputs.files.FileKind.TheVariants.{Capture}
 use Rattle.apd_policies.specs.Chosen.{AreNamed, points_of}
 use Rattle.apd_policies.specs.Script.{script_of}
 use Rattle.apd_policies.specs.declared.frames.chosen.Named.TheVariants.{NoOne, One, Several}
+use Rattle.apd_program.specs.Captured.{IsCaptured, IsNoCapture}
 use Rattle.apd_program.specs.declared.answer.Answer.{Answer}
 use Rattle.apd_program.specs.declared.answer.Answer.TheVariants.{Script, CutScript}
 use Rattle.apd_program.specs.declared.framing.Choice.{Choice}
@@ -44,24 +43,16 @@ pub record IsUnclear (c : Choice) (packets : List Seen) : Type 0 where
   pub only : c ≡ choice.Only
   pub named : AreNamed (points_of packets) Several
 
--- the text is the script of the file's packets
-pub record IsScriptOf (ticks : Bool) (c : Choice) (file text : List ℕ) : Type 0 where
+-- the text is the script of the file's packets, or of those before a fault
+pub record IsScriptOf (ticks : Bool) (c : Choice) (file : List ℕ) (cut : Option CaptureFault) (text : List ℕ) : Type 0 where
   pub packets : List Seen
-  pub held : capture.Holds file packets
+  pub captured : IsCaptured file cut packets
   pub is : IsScriptFor ticks c packets text
-
--- the file has the fault, and the text is the script of some prefix of the file
-pub record IsCutScriptOf (ticks : Bool) (c : Choice) (file text : List ℕ) (fault : CaptureFault) : Type 0 where
-  pub refused : capture.Refuses file fault
-  pub front : List ℕ
-  pub rest : List ℕ
-  pub cut : file ≡ front ++ rest
-  pub script : IsScriptOf ticks c front text
 
 -- the script, with the frames that are chosen
 abbrev pub IsChosenScript : Bool → Choice → List ℕ → Answer → Type 0
-IsChosenScript ticks c file (Script text) = IsScriptOf ticks c file (string_bytes text)
-IsChosenScript ticks c file (CutScript text fault) = IsCutScriptOf ticks c file (string_bytes text) fault
+IsChosenScript ticks c file (Script text) = IsScriptOf ticks c file None (string_bytes text)
+IsChosenScript ticks c file (CutScript text fault) = IsScriptOf ticks c file (Some fault) (string_bytes text)
 IsChosenScript ticks c file _ = ⊥
 
 -- `frames`: the script
@@ -70,18 +61,16 @@ pub record IsScript (ticks : Bool) (given : Option (List ℕ)) (all : Bool) (fil
   pub chosen : IsChoice given all choice
   pub script : IsChosenScript ticks choice file a
 
--- packets of the file, or of some prefix of it, name several access points, and none is chosen
+-- the packets of the file, or those before a fault, name several access points, and none is chosen
 pub record IsUnclearIn (c : Choice) (file : List ℕ) : Type 0 where
-  pub front : List ℕ
-  pub rest : List ℕ
-  pub cut : file ≡ front ++ rest
+  pub cut : Option CaptureFault
   pub packets : List Seen
-  pub held : capture.Holds front packets
+  pub captured : IsCaptured file cut packets
   pub unclear : IsUnclear c packets
 
 -- the bytes aren't a capture, or its access point isn't clear
 pub data IsUnscripted (c : Choice) (file : List ℕ) : Type 0 where
-  NoCapture : (e : CaptureFault) → e ≢ NoMemory → capture.Refuses file e → IsUnscripted c file
+  NoCapture : IsNoCapture file → IsUnscripted c file
   Unclear : IsUnclearIn c file → IsUnscripted c file
 
 -- the word spells no address, or the file can't be read, or this is so of its bytes

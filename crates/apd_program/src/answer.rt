@@ -29,6 +29,8 @@ pub enum Answer {
     Verdicts(String),
     /// The verdicts that differ between two programs; `differs` if there are any.
     Differences { text: String, differs: bool },
+    /// The verdicts, or those that differ, on the packets before the fault of a cut capture.
+    CutVerdicts { text: String, fault: CaptureFault },
     /// The page on a refusal's number, or the list of all numbers.
     Page(String),
     /// The frames of a capture as a script.
@@ -52,10 +54,10 @@ pub enum Answer {
 }
 
 impl Answer {
-    ghost use Rattle.apd_program.specs.Lines.{status_of, printed};
+    ghost use Rattle.apd_program.specs.Lines.{status_of, is_output, printed};
 
-    /// The exit status for the answer: 0 for a success; 1 for a refusal, a failed case, verdicts that differ or a cut
-    /// capture.
+    /// The exit status for the answer: 0 for a success; 1 for a refusal, a failed case, verdicts that differ or the
+    /// script of a cut capture; 2 for verdicts on a cut capture.
     pub fn status(&self) -> u8
         ensures is { result ≡ status_of self.now }
     {
@@ -69,10 +71,21 @@ impl Answer {
             Answer::Fault(_) | Answer::Refused(_) | Answer::LineFault(_) | Answer::Unaccepted(_) =>
                 1,
             Answer::CutScript { .. } => 1,
+            Answer::CutVerdicts { .. } => 2,
             Answer::RefusedGraph { .. } => 1,
             Answer::Tested { is_good, .. } => { if *is_good { 0 } else { 1 } }
             Answer::Differences { differs, .. } => { if *differs { 1 } else { 0 } }
         }
+    }
+
+    /// Whether the answer is what was asked for, whatever its status, and not a refusal.
+    pub fn is_output(&self) -> bool
+        ensures is { result ≡ is_output self.now }
+    {
+        !matches!(
+            self,
+            Answer::Fault(_) | Answer::Refused(_) | Answer::LineFault(_) | Answer::Unaccepted(_)
+        )
     }
 
     /// The text that is printed for the answer, with its line feeds.
@@ -86,6 +99,7 @@ impl Answer {
             Answer::Page(text) | Answer::Script(text) | Answer::Help(text) => Ok(text),
             Answer::Verdicts(text) => Ok(text),
             Answer::CutScript { text, .. } | Answer::RefusedGraph { text, .. } => Ok(text),
+            Answer::CutVerdicts { text, .. } => Ok(text),
             Answer::Tested { text, .. } | Answer::Differences { text, .. } => Ok(text),
             Answer::Fault(fault) => format!(in alloc; "{fault}\n"),
             Answer::Refused(refusal) => format!(in alloc; "{refusal}\n"),

@@ -5,23 +5,24 @@ ghost use Rattle.capture.specs.Packets.{seen_of};
 ghost use Rattle.apd_words.specs.Asked.{asked_evaluation, text_of};
 ghost use Rattle.apd_program.specs.Admitting.{IsOfAdmitted};
 ghost use Rattle.apd_program.specs.Answers.{IsAnswer, HasNoAnswer};
-ghost use Rattle.apd_program.specs.Evaluating.{HoldsSetting, AreVerdicts, AreDifferences, AreJudged, IsReport, is_json, replayed_by, IsKept, IsMaterial, IsEvaluatedWith, HasBadCodeInForce, HasNoEvaluation, link_of};
+ghost use Rattle.apd_program.specs.Evaluating.{HoldsSetting, IsShown, IsContrasted, AreVerdicts, AreDifferences, AreJudged, IsReport, is_json, replayed_by, IsKept, IsMaterial, IsEvaluatedWith, HasBadCodeInForce, HasNoEvaluation, link_of};
 ghost use Rattle.apd_program.specs.Faults.{IsMemoryOr, HasBadConfiguration};
 ghost use Rattle.apd_program.specs.Verifying.{within};
 
 use crate::admission::{Admission, admit_code};
 use crate::answer::Answer;
+use crate::capturing::{Captured, read_packets};
 use crate::explaining::Reason;
-use crate::fault::{ProgramFault, of_capture, of_configuration};
+use crate::fault::{ProgramFault, of_configuration};
 use crate::reading::{code, read};
 use ap_model::{LinkConfig, Octets};
 use apd_config::{Configuration, read_configuration};
-use apd_eval::{ProfileForm, Replay, compare, evaluation_text, profile_text};
+use apd_eval::{Comparison, ProfileForm, Replay, compare, evaluation_text, profile_text};
 use apd_files::{FileKind, Files};
 use apd_words::{Evaluation, Report, Terms};
 use bpf_machine::Accepted;
 use bpf_regions::Shapes;
-use capture::read_capture;
+use capture::CaptureFault;
 use mac_types::Address;
 use std::alloc::{AllocError, Global};
 
@@ -52,6 +53,8 @@ pub(crate) struct Exam<'a> {
     pub terms: Terms,
     pub shapes: &'a Shapes,
     pub replay: Replay<'a>,
+    /// The fault at which the capture is cut, if it is.
+    pub cut: Option<CaptureFault>,
     pub report: Report,
 }
 
@@ -120,6 +123,27 @@ pub(crate) fn is_json(report: Report) -> bool
     }
 }
 
+/// The answer with this text, for a capture that is cut at a fault, or for a whole one.
+pub(crate) fn verdicts(text: String, cut: Option<CaptureFault>) -> Answer
+    ensures shown { IsShown cut (string_bytes text) result }
+{
+    match cut {
+        None => Answer::Verdicts(text),
+        Some(fault) => Answer::CutVerdicts { text, fault },
+    }
+}
+
+/// The same of two programs.
+fn differences(found: Comparison, cut: Option<CaptureFault>) -> Answer
+    ensures shown { IsContrasted cut (string_bytes found.text) found.differs result }
+{
+    let Comparison { text, differs } = found;
+    match cut {
+        None => Answer::Differences { text, differs },
+        Some(fault) => Answer::CutVerdicts { text, fault },
+    }
+}
+
 /// What is printed of the program that the code spells, if it is accepted.
 fn examine(
     alloc: Global,
@@ -136,7 +160,7 @@ fn examine(
     match admission {
         Admission::Admitted(accepted) => {
             let text = report_text(alloc, accepted, exam.replay, exam.report)?;
-            return Ok(Answer::Verdicts(text));
+            return Ok(verdicts(text, exam.cut));
         }
         Admission::Answered(answer) => return Ok(answer),
     }
@@ -159,10 +183,7 @@ fn contrast(
     match admission {
         Admission::Admitted(tried) => {
             let found = compare(alloc, in_force, tried, exam.replay, is_json(exam.report))?;
-            return Ok(Answer::Differences {
-                text: found.text,
-                differs: found.differs,
-            });
+            return Ok(differences(found, exam.cut));
         }
         Admission::Answered(answer) => return Ok(answer),
     }
@@ -280,24 +301,21 @@ fn evaluated<F: Files>(
         capture,
         in_force,
     } = gather(alloc, config, evaluation, files)?;
-    match read_capture(alloc, capture.as_slice()) {
-        Ok(packets) => {
-            let Setting { link, shapes, draw } = setting;
-            let replay = Replay {
-                link: &link,
-                draw,
-                packets: packets.as_slice(),
-            };
-            let exam = Exam {
-                terms: evaluation.subject.terms,
-                shapes: &shapes,
-                replay,
-                report: evaluation.report,
-            };
-            return judge(alloc, &in_force, code.as_slice(), exam, reason);
-        }
-        Err(fault) => return Err(of_capture(alloc, evaluation.capture, fault)),
-    }
+    let Captured { packets, cut } = read_packets(alloc, evaluation.capture, capture.as_slice())?;
+    let Setting { link, shapes, draw } = setting;
+    let replay = Replay {
+        link: &link,
+        draw,
+        packets: packets.as_slice(),
+    };
+    let exam = Exam {
+        terms: evaluation.subject.terms,
+        shapes: &shapes,
+        replay,
+        cut,
+        report: evaluation.report,
+    };
+    judge(alloc, &in_force, code.as_slice(), exam, reason)
 }
 
 /// Judges the frames of a capture by the program in a file.

@@ -1,7 +1,6 @@
 //! A capture as a script: the command `frames`.
 
-ghost use Rattle.std.specs.Prelude.{◌≡◌, ◌++◌, ℕ, List, IfOk, IfErr, IfSome, map, string_bytes};
-ghost use Rattle.capture.specs.Captures.{Refuses};
+ghost use Rattle.std.specs.Prelude.{◌≡◌, ℕ, List, IfOk, IfErr, map, string_bytes};
 ghost use Rattle.capture.specs.Packets.{seen_of};
 ghost use Rattle.apd_files.specs.Held.{Held};
 ghost use Rattle.apd_words.specs.Asked.{text_of};
@@ -10,12 +9,13 @@ ghost use Rattle.apd_program.specs.Faults.{IsMemoryOr};
 ghost use Rattle.apd_program.specs.Scripts.{IsAddress, IsChoice, IsFor, IsScriptFor, IsUnclear, IsChosenScript, IsUnscripted, IsScript, HasNoScript};
 
 use crate::answer::Answer;
-use crate::fault::{ProgramFault, of_capture, of_several};
+use crate::capturing::{Captured, read_packets};
+use crate::fault::{ProgramFault, of_several};
 use crate::reading::read;
 use apd_files::{FileKind, Files};
 use apd_policies::{Bssid, Manner, Named, access_points, script_text};
 use apd_words::Conversion;
-use capture::{CaptureFault, Packet, read_capture};
+use capture::Packet;
 use hex::FromHexError;
 use std::alloc::Global;
 
@@ -113,51 +113,16 @@ fn script(
     Ok(text)
 }
 
-/// What comes before the record or block that is cut; `None` for another fault.
-fn front_of(file: &[u8], fault: CaptureFault) -> Option<&[u8]>
-    ensures is { IfSome result (λ front. (rest : List ℕ) × (file.now ≡ front.now ++ rest)) }
-{
-    let end = cut_at(file, fault)?;
-    let (front, _) = file.split_at_checked(end)?;
-    Some(front)
-}
-
-/// The script of a capture with this fault, if it is cut: what comes before.
-fn cut_script(
-    alloc: Global,
-    path: &str,
-    plan: Plan,
-    file: &[u8],
-    fault: CaptureFault,
-) -> Result<Answer, ProgramFault>
-    requires refused { Refuses file.now fault }
-    ensures script { IfOk result (IsChosenScript plan.ticks plan.choice file.now) }
-    ensures fault { IfErr result (IsMemoryOr (IsUnscripted plan.choice file.now)) }
-{
-    let Some(front) = front_of(file, fault) else {
-        return Err(of_capture(alloc, path, fault));
-    };
-    match read_capture(alloc, front) {
-        Ok(packets) => {
-            let text = script(alloc, path, plan, packets.as_slice())?;
-            return Ok(Answer::CutScript { text, fault });
-        }
-        Err(CaptureFault::NoMemory) => return Err(ProgramFault::NoMemory),
-        Err(_) => return Err(of_capture(alloc, path, fault)),
-    }
-}
-
 /// The script of a capture's bytes; of a cut capture, it has what is before the cut.
 fn convert(alloc: Global, path: &str, plan: Plan, file: &[u8]) -> Result<Answer, ProgramFault>
     ensures script { IfOk result (IsChosenScript plan.ticks plan.choice file.now) }
     ensures fault { IfErr result (IsMemoryOr (IsUnscripted plan.choice file.now)) }
 {
-    match read_capture(alloc, file) {
-        Ok(packets) => {
-            let text = script(alloc, path, plan, packets.as_slice())?;
-            return Ok(Answer::Script(text));
-        }
-        Err(fault) => return cut_script(alloc, path, plan, file, fault),
+    let Captured { packets, cut } = read_packets(alloc, path, file)?;
+    let text = script(alloc, path, plan, packets.as_slice())?;
+    match cut {
+        None => return Ok(Answer::Script(text)),
+        Some(fault) => return Ok(Answer::CutScript { text, fault }),
     }
 }
 
@@ -180,39 +145,4 @@ pub(crate) fn frames<F: Files>(
     let file = read(alloc, asked.capture, FileKind::Capture, files)?;
     let answer = convert(alloc, asked.capture, plan, file.as_slice())?;
     Ok(answer)
-}
-
-/// The bytes before the record or block that is cut; `None` for another fault.
-fn cut_at(file: &[u8], fault: CaptureFault) -> Option<usize> {
-    match fault {
-        CaptureFault::CutRecord(records) => end_of_records(file, records),
-        CaptureFault::CutBlock(place) => usize::try_from(place).ok(),
-        _ => None,
-    }
-}
-
-/// The bytes of a classic capture's header.
-const HEADER: usize = 24;
-
-/// The bytes of a record's header.
-const RECORD: usize = 16;
-
-/// Where the first `records` records of a classic capture end.
-fn end_of_records(file: &[u8], records: u64) -> Option<usize> {
-    let mut end = HEADER;
-    for _ in 0..records {
-        let length = length_at(file, end.checked_add(8)?)?;
-        end = end.checked_add(RECORD)?.checked_add(length)?;
-    }
-    Some(end)
-}
-
-/// The captured bytes of a packet, as four bytes of its record say in the file's byte order.
-fn length_at(file: &[u8], place: usize) -> Option<usize> {
-    let (bytes, _) = file.get(place..)?.split_first_chunk::<4>()?;
-    let length = match file.first()? {
-        0xd4 | 0x4d => u32::from_le_bytes(*bytes),
-        _ => u32::from_be_bytes(*bytes),
-    };
-    Some(length as usize)
 }

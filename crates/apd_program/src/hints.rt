@@ -3,6 +3,7 @@
 use crate::answer::Answer;
 use apd_files::shown;
 use apd_words::Question;
+use capture::CaptureFault;
 use std::alloc::{AllocError, Global};
 
 /// The number of the fault of a missing map.
@@ -22,12 +23,29 @@ pub(crate) fn of(
             )?;
             Ok(Some(text))
         }
+        (Question::Evaluate(evaluation), Answer::CutVerdicts { fault, .. }) => {
+            cut_hint(alloc, evaluation.capture, *fault)
+        }
+        (Question::Repeat(repetition), Answer::CutVerdicts { fault, .. }) => {
+            cut_hint(alloc, repetition.evaluation.capture, *fault)
+        }
         (_, Answer::Fault(fault)) if fault.number() == NO_MAP && !has_config(question) => {
             let text = "apd: no --config was given, so there are no maps\n";
             Ok(Some(String::from_str(alloc, text)?))
         }
         _ => Ok(None),
     }
+}
+
+/// What is said of verdicts on a capture that is cut.
+fn cut_hint(
+    alloc: Global,
+    capture: &str,
+    fault: CaptureFault,
+) -> Result<Option<String>, AllocError> {
+    let capture = shown(alloc, capture)?;
+    let text = format!(in alloc; "apd: {capture}: {fault}; what is before that was judged\n")?;
+    Ok(Some(text))
 }
 
 /// Whether the question names a configuration, or takes none.

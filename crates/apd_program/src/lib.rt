@@ -6,6 +6,7 @@
 
 mod admission;
 mod answer;
+mod capturing;
 mod certifying;
 mod drawing;
 mod evaluating;

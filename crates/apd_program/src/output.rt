@@ -1,6 +1,6 @@
-//! Delivering an answer: to standard output, or to the file named for it if it is a success.
+//! Delivering an answer: to standard output, or to the file named for it, unless it is a refusal.
 
-ghost use Rattle.std.specs.Prelude.{◌≡◌, ◌==◌, None, if◌then◌else◌};
+ghost use Rattle.std.specs.Prelude.{◌≡◌, None, if◌then◌else◌};
 ghost use Rattle.apd_words.specs.Asked.{text_of};
 ghost use Rattle.apd_program.specs.Delivered.{Delivers, Stores, status_after};
 
@@ -20,11 +20,11 @@ pub(crate) enum Undelivered {
     Unsaved(ErrorKind),
 }
 
-/// The file for an answer with this status: the named one, if the answer is a success.
-fn file_for<'a>(output: Option<&'a str>, status: u8) -> Option<&'a str>
-    ensures is { text_of result ≡ (if status == 0 then text_of output.entry else None) }
+/// The file for an answer: the named one, if the answer is an output.
+fn file_for<'a>(output: Option<&'a str>, is_output: bool) -> Option<&'a str>
+    ensures is { text_of result ≡ (if is_output then text_of output.entry else None) }
 {
-    if status == 0 { output } else { None }
+    if is_output { output } else { None }
 }
 
 /// Writes an answer, and returns its status.
@@ -41,12 +41,13 @@ pub(crate) fn deliver<F: Files, W: Write>(
         (F.saved files.old) (F.saved files.new) result }
 {
     let status = answer.status();
+    let is_output = answer.is_output();
     let Ok(text) = answer.printed(alloc) else {
         return Err(Undelivered::NoMemory);
     };
-    match file_for(output, status) {
+    match file_for(output, is_output) {
         Some(path) => match files.save(path, text.as_bytes()) {
-            Ok(()) => return Ok(0),
+            Ok(()) => return Ok(status),
             Err(Unwritten(why)) => return Err(Undelivered::Unsaved(why)),
         },
         None => match write_whole(out, text.as_bytes()) {

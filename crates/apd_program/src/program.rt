@@ -53,10 +53,10 @@ impl Clock for NoClock {
 }
 
 /// Does what the words ask for; the first is the program's own name. Returns the exit status: 0 for success; 1 if
-/// something was refused or a capture is cut; 2 for a fault of the words, a configuration, a file or a write; 3 for
-/// lack of memory. An answer goes to `out`, or, if it is a success, to the file named for it; all messages go to
-/// `err`. No script runs, nor lines as they come, since that takes threads (`perform`): the status is 2. No clock tells
-/// how long the runs of `eval --repeat` take.
+/// something was refused or the capture of `frames` is cut; 2 for a fault of the words, a configuration, a file or a
+/// write, or if the capture of `eval` is cut; 3 for lack of memory. An answer goes to `out`, or, unless it is a refusal,
+/// to the file named for it; all messages go to `err`. No script runs, nor lines as they come, since that takes threads
+/// (`perform`): the status is 2. No clock tells how long the runs of `eval --repeat` take.
 pub fn apd_main<'a, F: Files, O: Write, E: Write>(
     alloc: Global,
     words: &'a [&'a str],

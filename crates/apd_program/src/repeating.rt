@@ -11,13 +11,13 @@ ghost use Rattle.apd_program.specs.Verifying.{within};
 
 use crate::admission::{Admission, admit_code};
 use crate::answer::Answer;
-use crate::evaluating::{Exam, Material, Setting, gather, is_json};
+use crate::capturing::{Captured, read_packets};
+use crate::evaluating::{Exam, Material, Setting, gather, is_json, verdicts};
 use crate::explaining::Reason;
-use crate::fault::{ProgramFault, of_capture};
+use crate::fault::ProgramFault;
 use apd_eval::{Replay, Rounds, repeated_text};
 use apd_files::Files;
 use apd_words::Repetition;
-use capture::read_capture;
 use std::alloc::Global;
 use std::time::Clock;
 
@@ -45,7 +45,7 @@ fn examine<C: Clock>(
     match admission {
         Admission::Admitted(accepted) => {
             let text = repeated_text(alloc, accepted, exam.replay, rounds, is_json(exam.report))?;
-            return Ok(Answer::Verdicts(text));
+            return Ok(verdicts(text, exam.cut));
         }
         Admission::Answered(answer) => return Ok(answer),
     }
@@ -79,28 +79,25 @@ fn repeated<C: Clock, F: Files>(
         capture,
         ..
     } = gather(alloc, config, evaluation, files)?;
-    match read_capture(alloc, capture.as_slice()) {
-        Ok(packets) => {
-            let Setting { link, shapes, draw } = setting;
-            let replay = Replay {
-                link: &link,
-                draw,
-                packets: packets.as_slice(),
-            };
-            let exam = Exam {
-                terms: evaluation.subject.terms,
-                shapes: &shapes,
-                replay,
-                report: evaluation.report,
-            };
-            let rounds = Rounds {
-                clock: timed.clock,
-                count: timed.repetition.times,
-            };
-            return examine(alloc, code.as_slice(), exam, &rounds, reason);
-        }
-        Err(fault) => return Err(of_capture(alloc, evaluation.capture, fault)),
-    }
+    let Captured { packets, cut } = read_packets(alloc, evaluation.capture, capture.as_slice())?;
+    let Setting { link, shapes, draw } = setting;
+    let replay = Replay {
+        link: &link,
+        draw,
+        packets: packets.as_slice(),
+    };
+    let exam = Exam {
+        terms: evaluation.subject.terms,
+        shapes: &shapes,
+        replay,
+        cut,
+        report: evaluation.report,
+    };
+    let rounds = Rounds {
+        clock: timed.clock,
+        count: timed.repetition.times,
+    };
+    examine(alloc, code.as_slice(), exam, &rounds, reason)
 }
 
 /// Judges the frames of a capture by the program in a file, again and again, and tells by the clock how long a run takes.

@@ -1,8 +1,11 @@
 //! Verdicts on a capture.
 
-use crate::answers::folder_of;
+use crate::answers::{Folder, folder_of};
+use crate::same::same;
 use crate::told::{answer, tells};
+use apd_files::{FileFault, Files, Unwritten};
 use std::alloc::Global;
+use std::io::ErrorKind;
 use std::process::Abort;
 
 /// The policy `voice`, as clang compiled it.
@@ -63,7 +66,8 @@ const ALONE: &[u8] = &[
 /// Fails if `apd eval` with these words has another result.
 pub fn judges(rt: &impl Abort, alloc: Global, words: &[&str], status: u8, out: &str, err: &str) {
     let capture = hex::decode(alloc, CAPTURE).ok().expect(rt, "a capture");
-    let files: [(&str, &[u8]); 9] = [
+    let cut = capture.as_slice().get(..200).expect(rt, "200 bytes");
+    let files: [(&str, &[u8]); 10] = [
         ("voice.hex", VOICE),
         ("refuses.hex", REFUSES),
         ("exits.hex", EXITS),
@@ -73,6 +77,7 @@ pub fn judges(rt: &impl Abort, alloc: Global, words: &[&str], status: u8, out: &
         ("other.toml", OTHER),
         ("voice.pcap", capture.as_slice()),
         ("alone.pcap", ALONE),
+        ("cut.pcap", cut),
     ];
     let told = answer(alloc, words, &mut folder_of(&files, alloc));
     tells(rt, &told, status, out, err);
@@ -167,6 +172,121 @@ fn a_capture_without_an_association_leads_to_no_query(rt: HostRuntime) {
         judged 0 of 2 packets: 1 encrypted, 1 refused before any program\n\
         no station associates in this capture, and frames of a station that is not associated come to no program\n";
     judges(&rt, rt.alloc(), &words, 0, table, "");
+}
+
+/// The table of the capture that is cut in its fourth record.
+const CUT_TABLE: &str = "packet  station            verdict       steps\n\
+    3       02:00:00:00:00:0a  drop          2\n\
+    judged 1 of 3 packets: pass 0 (0 marked), drop 1; steps at most 2 of budget 2\n\
+    not judged: 2 not data\n";
+
+/// Words about this capture, and the output.
+const CUT: &[(&[&str], &str)] = &[
+    (&["--config", "lab.toml"], CUT_TABLE),
+    (
+        &["--config", "lab.toml", "--against", "voice.hex"],
+        "packet  station            verdict\n\
+        3       02:00:00:00:00:0a  pass mark 46 -> drop\n\
+        judged 1 of 3 packets by both: 1 verdicts differ\n\
+        not judged: 2 not data\n",
+    ),
+    (
+        &["--config", "lab.toml", "--repeat", "2"],
+        "packet  station            verdict       steps\n\
+        3       02:00:00:00:00:0a  drop          2\n\
+        judged 1 of 3 packets: pass 0 (0 marked), drop 1; steps at most 2 of budget 2\n\
+        not judged: 2 not data\n\
+        repeated 2 times: no clock tells how long a run takes\n",
+    ),
+];
+
+#[test]
+fn what_is_before_a_cut_is_judged(rt: HostRuntime) {
+    let alloc = rt.alloc();
+    let why = "apd: cut.pcap: the file is cut after 3 records; what is before that was judged\n";
+    for (more, out) in CUT {
+        let first = ["apd", "eval", "data", "drops.hex", "cut.pcap"];
+        let mut words = Vec::from_slice(alloc, first.as_slice()).expect(&rt, "memory");
+        words.extend_from_slice(more).expect(&rt, "memory");
+        judges(&rt, alloc, words.as_slice(), 2, out, why);
+    }
+}
+
+/// Files in memory, and what was written to one of them.
+#[derive(Drop)]
+struct Desk<'a> {
+    folder: Folder<'a>,
+    saved: Vec<u8>,
+}
+
+impl Files for Desk<'_> {
+    fn open(&mut self, path: &str) -> Result<(), FileFault> {
+        self.folder.open(path)
+    }
+
+    fn next_block(&mut self) -> Result<Vec<u8>, FileFault> {
+        self.folder.next_block()
+    }
+
+    fn save(&mut self, _path: &str, bytes: &[u8]) -> Result<(), Unwritten> {
+        match self.saved.extend_from_slice(bytes) {
+            Ok(()) => Ok(()),
+            Err(_) => Err(Unwritten(ErrorKind::OutOfMemory)),
+        }
+    }
+}
+
+/// Fails if `apd eval data drops.hex` with these words has another status or error, or writes anything but this to a file.
+fn saves(rt: &impl Abort, alloc: Global, words: &[&str], told: (u8, &str, &str)) {
+    let capture = hex::decode(alloc, CAPTURE).ok().expect(rt, "a capture");
+    let cut = capture.as_slice().get(..200).expect(rt, "200 bytes");
+    let files: [(&str, &[u8]); 5] = [
+        ("voice.hex", VOICE),
+        ("drops.hex", DROPS),
+        ("lab.toml", LAB),
+        ("voice.pcap", capture.as_slice()),
+        ("cut.pcap", cut),
+    ];
+    let mut desk = Desk {
+        folder: folder_of(&files, alloc),
+        saved: Vec::new(alloc),
+    };
+    let (status, text, err) = told;
+    let found = answer(alloc, words, &mut desk);
+    tells(rt, &found, status, "", err);
+    same(rt, desk.saved.as_slice(), text.as_bytes(), "what is saved");
+}
+
+#[test]
+fn an_output_goes_into_its_file_whatever_its_status(rt: HostRuntime) {
+    let alloc = rt.alloc();
+    let words = [
+        "apd",
+        "eval",
+        "data",
+        "drops.hex",
+        "cut.pcap",
+        "--config",
+        "lab.toml",
+        "-o",
+        "saved",
+    ];
+    let why = "apd: cut.pcap: the file is cut after 3 records; what is before that was judged\n";
+    saves(&rt, alloc, &words, (2, CUT_TABLE, why));
+    let words = [
+        "apd",
+        "eval",
+        "data",
+        "drops.hex",
+        "voice.pcap",
+        "--config",
+        "lab.toml",
+        "--against",
+        "voice.hex",
+        "-o",
+        "saved",
+    ];
+    saves(&rt, alloc, &words, (1, DROPPED, ""));
 }
 
 #[test]

@@ -9,7 +9,9 @@ use Rattle.apd_program.proofs.evaluating.contrast.Goals as goal
 
 pub returns-in-Admitted-clause-verdicts : goal.returns-in-Admitted-clause-verdicts
 returns-in-Admitted-clause-verdicts c =
+    let found = c.in_ok-found-in-Admitted.found in
     let P : Admission → Type 0 = IsAdmission (within c.args.exam.terms.states c.args.exam.terms.work) c.args.exam.terms.hook c.args.code.now c.args.exam.shapes.now in
     let Q : Bool → Type 0 = λ json. IsComparison c.args.in_force c.in-Admitted.tried c.args.exam.replay.draw c.args.exam.replay.link.now (map seen_of c.args.exam.replay.packets.now) json
-    (string_bytes c.in_ok-found-in-Admitted.found.text) c.in_ok-found-in-Admitted.found.differs in
-    Accepted c.in-Admitted.tried (subst P c.in-Admitted.is c.in_ok-admission.ensures.admission) (subst Q c.is_json.ensures.is c.in_ok-found-in-Admitted.ensures.is)
+    (string_bytes found.text) found.differs in
+    Accepted c.in-Admitted.tried (subst P c.in-Admitted.is c.in_ok-admission.ensures.admission)
+    (record { text = string_bytes found.text; differs = found.differs; shown = c.differences.ensures.shown; is = subst Q c.is_json.ensures.is c.in_ok-found-in-Admitted.ensures.is })

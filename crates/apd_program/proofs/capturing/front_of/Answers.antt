@@ -1,5 +1,5 @@
-use Rattle.apd_program.proofs.Scripted.{joined}
-use Rattle.apd_program.proofs.framing.front_of.Goals as goal
+use Rattle.apd_program.proofs.Fronts.{joined}
+use Rattle.apd_program.proofs.capturing.front_of.Goals as goal
 
 pub returns : goal.returns
 returns c =
