@@ -9,4 +9,4 @@ returns-clause-refused c =
 pub returns-clause-earned : goal.returns-clause-earned
 returns-clause-earned c =
     let v = c.verify_counted in
-    found_within (λ a. a.budget) c.args.limits _ v.result (rw (c.within-work.ensures.is, c.units.ensures.is) at v.ensures.spent) v.ensures.counted (rw (c.within-work.ensures.is, c.units.ensures.is) at v.ensures.earned)
+    found_within (λ a. a.budget) c.args.limits _ v.result (rw (c.within-work.ensures.is, c.units.ensures.is) at v.ensures.spent) v.ensures.counted (rw c.within-work.ensures.is at v.ensures.earned)

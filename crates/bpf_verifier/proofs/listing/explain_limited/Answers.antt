@@ -20,4 +20,4 @@ pub returns-clause-earned : goal.returns-clause-earned
 returns-clause-earned c =
     let v = c.observed_budget-verdict in
     rw c.in_ok-explanation.ensures.verdict
-    (found_within (λ b. b) c.args.limits _ v.result (rw (c.within-work.ensures.is, c.units.ensures.is) at v.ensures.spent) (record { allowed = c.known.ensures.allowed; all = c.known.ensures.counted }) (rw (c.within-work.ensures.is, c.units.ensures.is) at v.ensures.earned))
+    (found_within (λ b. b) c.args.limits _ v.result (rw (c.within-work.ensures.is, c.units.ensures.is) at v.ensures.spent) (record { allowed = c.known.ensures.allowed; all = c.known.ensures.counted }) (rw c.within-work.ensures.is at v.ensures.earned))

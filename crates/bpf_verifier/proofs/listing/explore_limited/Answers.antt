@@ -9,4 +9,4 @@ returns-clause-refused c =
 pub returns-clause-budget : goal.returns-clause-budget
 returns-clause-budget c =
     let v = c.explore_counted in
-    explored_within c.args.program.now c.args.limits _ v.result (rw (c.within-work.ensures.is, c.units.ensures.is) at v.ensures.spent) v.ensures.counted (rw (c.within-work.ensures.is, c.units.ensures.is) at v.ensures.budget)
+    explored_within c.args.program.now c.args.limits _ v.result (rw (c.within-work.ensures.is, c.units.ensures.is) at v.ensures.spent) v.ensures.counted (rw c.within-work.ensures.is at v.ensures.budget)
