@@ -1,2 +1,3 @@
+mod Blaming
 mod Leading
 mod Starting

@@ -1,7 +1,8 @@
 //! Following a file of cases, line by line.
 
-ghost use Rattle.std.specs.Prelude.{◌≡◌, ◌∷◌, ◌++◌, [], ℕ, List, None, IsSome, IfSome, IfOk, OnOk};
+ghost use Rattle.std.specs.Prelude.{◌≡◌, ◌∷◌, ◌++◌, [], ℕ, List, None, IsSome, IfSome, IfOk, IfErr, OnOk};
 ghost use Rattle.apd_files.specs.Held.{Held};
+ghost use Rattle.apd_trials.specs.Blamed.{IsBlamedIn};
 ghost use Rattle.apd_trials.specs.Rows.{IsRow, Leads, AreRows};
 ghost use Rattle.apd_trials.specs.Running.{stands, IsBench};
 ghost use Rattle.apd_cases.specs.Said.{Said, said_of, numbered_of, lines_said};
@@ -133,7 +134,7 @@ impl<'a> Bench<'a> {
 }
 
 /// Follows the lines, and judges each expectation: a row for each, in order. The files of policies and configurations
-/// are read when an expectation needs them.
+/// are read when an expectation needs them. A fault is at the line that is to blame.
 pub fn run_cases<F: Files>(
     alloc: Global,
     lines: &[Numbered<'_>],
@@ -141,6 +142,7 @@ pub fn run_cases<F: Files>(
 ) -> Result<Vec<Row>, CaseFault>
     ensures rows { IfOk result
         (λ rows. AreRows (F.held files.old) (lines_said lines.entry.now) rows.items) }
+    ensures blamed { IfErr result (IsBlamedIn (lines_said lines.entry.now)) }
     ensures files { F.held files.new ≡ F.held files.old }
 {
     let mut bench = Bench::start(alloc);

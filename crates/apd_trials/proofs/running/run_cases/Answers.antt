@@ -1,6 +1,7 @@
 use Rattle.std.proofs.Common.{[], refl, sym, subst}
 use Rattle.apd_trials.specs.Rows.{Leads, NoLine}
 use Rattle.apd_trials.specs.Running.{stands}
+use Rattle.apd_trials.proofs.Blaming.{blamed_in}
 use Rattle.apd_trials.proofs.Leading.{unasked}
 use Rattle.apd_trials.proofs.running.run_cases.Goals as goal
 
@@ -13,3 +14,6 @@ loop-numbered-init g c =
           (subst (λ s. Leads files [] s []) (sym c.start-bench.ensures.start) NoLine);
       files = refl;
     }
+
+pub returns-in-Err-clause-blamed : goal.returns-in-Err-clause-blamed
+returns-in-Err-clause-blamed g c = blamed_in _ _ _ _ c.loop-numbered-test.true c.blamed_line-line.ensures.is
