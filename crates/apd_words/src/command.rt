@@ -436,7 +436,7 @@ fn output<'a>(alloc: Global) -> Arg<'a>
         .short('o')
         .value_name("FILE")
         .action(ArgAction::Set)
-        .help("Write to this file, and only if the command succeeds")
+        .help("Write the output to this file, unless something is refused")
 }
 
 fn bssid<'a>(alloc: Global) -> Arg<'a>
