@@ -1,5 +1,5 @@
 -- Blame after one more line.
-use Rattle.std.proofs.Common.{◌≡◌, ◌↔◌, ◌∙◌, Bool, true, false, IsTrue, ℕ, zero, suc, ◌+◌, ◌<◌, ◌≤◌, List, [], ◌∷◌, ◌++◌, length, get_or, take, map, refl, ap, subst, sym, append_assoc, arith}
+use Rattle.std.proofs.Common.{◌≡◌, ◌↔◌, ◌∙◌, Bool, false, IsTrue, ℕ, zero, suc, ◌+◌, ◌<◌, ◌≤◌, List, [], ◌∷◌, ◌++◌, length, get_or, take, refl, ap, subst, sym, append_assoc, arith}
 use Rattle.std.specs.List.{All}
 use Rattle.std.proofs.lemmas.List.Elements.{All-append, All-nil}
 use Rattle.std.proofs.lemmas.List.{take_more, map-append, length-map, get_or-map}
@@ -42,37 +42,40 @@ untrue : (b : Bool) → b ≡ false → IsTrue b → ⊥
 untrue b is other = cc
 
 -- one more of the lines that are read
-module _ (lines : List Numbered) (i : ℕ) (at : ℕ) (t : Trouble) (blamed next : ℕ) (d : Numbered) (low : i < length lines) where
-  more : (b : ℕ) → next ≡ b → IsBlamed (lines_said (take i lines) ++ numbered_of (get_or lines i d) ∷ []) at t b → IsBlamed (lines_said (take (i + 1) lines)) at t next
-  more b is h =
-      rw is
-      (subst (λ (ls : List (ℕ × Said)). IsBlamed ls at t b) (sym (ap lines_said (take_more lines i d low) ∙ map-append numbered_of (take i lines) (get_or lines i d ∷ []))) h)
+module _ (lines : List Numbered) (i : ℕ) (at : ℕ) (t : Trouble) (blamed next : ℕ) (line : Numbered) (low : i < length lines) (here : line ≡ get_or lines i line) where
+  lengthened : lines_said (take (i + 1) lines) ≡ lines_said (take i lines) ++ numbered_of line ∷ []
+  lengthened =
+      ap lines_said (take_more lines i line low) ∙
+      (map-append numbered_of (take i lines) (get_or lines i line ∷ []) ∙ ap (λ (x : Numbered). lines_said (take i lines) ++ numbered_of x ∷ []) (sym here))
 
-  pub leads_more : (get_or lines i d).number < at → next ≡ (get_or lines i d).number → LeadsTo (said_of (get_or lines i d).line) t → IsBlamed (lines_said (take (i + 1) lines)) at t next
+  more : (b : ℕ) → next ≡ b → IsBlamed (lines_said (take i lines) ++ numbered_of line ∷ []) at t b → IsBlamed (lines_said (take (i + 1) lines)) at t next
+  more b is h = rw is (subst (λ (ls : List (ℕ × Said)). IsBlamed ls at t b) (sym lengthened) h)
+
+  pub leads_more : line.number < at → next ≡ line.number → LeadsTo (said_of line.line) t → IsBlamed (lines_said (take (i + 1) lines)) at t next
   leads_more earlier is leading = more _ is (leads (lines_said (take i lines)) at t _ _ earlier leading)
 
-  pub ends_more : (get_or lines i d).number < at → next ≡ at → EndsWords (said_of (get_or lines i d).line) t → IsBlamed (lines_said (take (i + 1) lines)) at t next
+  pub ends_more : line.number < at → next ≡ at → EndsWords (said_of line.line) t → IsBlamed (lines_said (take (i + 1) lines)) at t next
   ends_more earlier is ending = more _ is (ends (lines_said (take i lines)) at t _ _ earlier ending)
 
-  other_more : next ≡ blamed → IsBlamed (lines_said (take i lines)) at t blamed → IsIdle at t (numbered_of (get_or lines i d)) → IsBlamed (lines_said (take (i + 1) lines)) at t next
+  other_more : next ≡ blamed → IsBlamed (lines_said (take i lines)) at t blamed → IsIdle at t (numbered_of line) → IsBlamed (lines_said (take (i + 1) lines)) at t next
   other_more is h idles = more _ is (idle (lines_said (take i lines)) at t _ _ blamed idles h)
 
-  pub idle_more : (get_or lines i d).number < at → next ≡ blamed → IsBlamed (lines_said (take i lines)) at t blamed → (leading ending : Bool)
-      → leading ≡ false → ending ≡ false → (IsTrue leading ↔ LeadsTo (said_of (get_or lines i d).line) t) → (IsTrue ending ↔ EndsWords (said_of (get_or lines i d).line) t)
+  pub idle_more : line.number < at → next ≡ blamed → IsBlamed (lines_said (take i lines)) at t blamed → (leading ending : Bool)
+      → leading ≡ false → ending ≡ false → (IsTrue leading ↔ LeadsTo (said_of line.line) t) → (IsTrue ending ↔ EndsWords (said_of line.line) t)
       → IsBlamed (lines_said (take (i + 1) lines)) at t next
   idle_more earlier is h leading ending neither nor leads_if ends_if =
       other_more is h (λ low leads. untrue leading neither (leads_if.1 leads), λ low ends. untrue ending nor (ends_if.1 ends))
 
-  pub later_more : at ≤ (get_or lines i d).number → next ≡ blamed → IsBlamed (lines_said (take i lines)) at t blamed → IsBlamed (lines_said (take (i + 1) lines)) at t next
+  pub later_more : at ≤ line.number → next ≡ blamed → IsBlamed (lines_said (take i lines)) at t blamed → IsBlamed (lines_said (take (i + 1) lines)) at t next
   later_more later is h = other_more is h (λ low leads. omega (arith, low, later), λ low ends. omega (arith, low, later))
 
 -- the fault of a line that is read
-pub blamed_in : (lines : List Numbered) (i : ℕ) (d : Numbered) (fault : CaseFault) → i < length lines → IsBlamed (lines_said lines) (get_or lines i d).number fault.trouble fault.line
-    → IsBlamedIn (lines_said lines) fault
-blamed_in lines i d fault low blamed =
-    let x = numbered_of (get_or lines i d) in
+pub blamed_in : (lines : List Numbered) (i : ℕ) (line : Numbered) (fault : CaseFault) → i < length lines → line ≡ get_or lines i line
+    → IsBlamed (lines_said lines) line.number fault.trouble fault.line → IsBlamedIn (lines_said lines) fault
+blamed_in lines i line fault low here blamed =
+    let x = numbered_of line in
     record {
       line = x;
-      there = (i, rw (length-map lines numbered_of) low, get_or-map numbered_of lines i d x low);
+      there = (i, rw (length-map lines numbered_of) low, get_or-map numbered_of lines i line x low ∙ ap numbered_of (sym here));
       blamed = blamed;
     }

@@ -11,9 +11,9 @@ pub loop-numbered-preserved : goal.loop-numbered-preserved
 loop-numbered-preserved c =
     let l = c.loop-numbered in
     elim c.if-numbered-at.branch [
-      | then-numbered-at+then-leads_to w ↦ leads_more _ _ _ _ l.blamed _ _ c.loop-numbered-test.true w.if-numbered-at.true w.blamed-is (w.leads_to.ensures.is.0 w.if-leads_to.true)
-      | then-numbered-at+else-leads_to+then-ends_words w ↦ ends_more _ _ _ _ l.blamed _ _ c.loop-numbered-test.true w.if-numbered-at.true w.blamed-is (w.ends_words.ensures.is.0 w.if-ends_words.true)
+      | then-numbered-at+then-leads_to w ↦ leads_more _ _ _ _ l.blamed _ c.numbered-item.result c.loop-numbered-test.true c.numbered-item.is w.if-numbered-at.true w.blamed-is (w.leads_to.ensures.is.0 w.if-leads_to.true)
+      | then-numbered-at+else-leads_to+then-ends_words w ↦ ends_more _ _ _ _ l.blamed _ c.numbered-item.result c.loop-numbered-test.true c.numbered-item.is w.if-numbered-at.true w.blamed-is (w.ends_words.ensures.is.0 w.if-ends_words.true)
       | then-numbered-at+else-leads_to+else-ends_words w ↦
-          idle_more _ _ _ _ l.blamed _ _ c.loop-numbered-test.true w.if-numbered-at.true w.blamed-is l.invariant _ _ w.if-leads_to.false w.if-ends_words.false w.leads_to.ensures.is w.ends_words.ensures.is
-      | else-numbered-at w ↦ later_more _ _ _ _ l.blamed _ _ c.loop-numbered-test.true w.if-numbered-at.false w.blamed-is l.invariant
+          idle_more _ _ _ _ l.blamed _ c.numbered-item.result c.loop-numbered-test.true c.numbered-item.is w.if-numbered-at.true w.blamed-is l.invariant _ _ w.if-leads_to.false w.if-ends_words.false w.leads_to.ensures.is w.ends_words.ensures.is
+      | else-numbered-at w ↦ later_more _ _ _ _ l.blamed _ c.numbered-item.result c.loop-numbered-test.true c.numbered-item.is w.if-numbered-at.false w.blamed-is l.invariant
     ]

@@ -16,4 +16,4 @@ loop-numbered-init g c =
     }
 
 pub returns-in-Err-clause-blamed : goal.returns-in-Err-clause-blamed
-returns-in-Err-clause-blamed g c = blamed_in _ _ _ _ c.loop-numbered-test.true c.blamed_line-line.ensures.is
+returns-in-Err-clause-blamed g c = blamed_in _ _ c.numbered-item.result _ c.loop-numbered-test.true c.numbered-item.is c.blamed_line-line.ensures.is
