@@ -1,4 +1,4 @@
-use Rattle.std.proofs.Common.{rules, ◌≡◌, length}
+use Rattle.std.proofs.Common.{rules, ◌≡◌, length, refl}
 use Rattle.apd_program.proofs.Fronts.{before_seen, no_capture}
 use Rattle.apd_program.proofs.capturing.read_front.Goals as goal
 
@@ -10,15 +10,14 @@ returns-in-Err-clause-fault c = no_capture c.args.file.now c.args.fault _ c.requ
 
 pub returns-then-is_before-clause-captured : goal.returns-then-is_before-clause-captured
 returns-then-is_before-clause-captured c =
-    let long : c.len.result ≡ length c.in-Some.front.now = search rules in
-    let many : c.len-2.result ≡ length c.in-Ok.packets.items = search rules in
+    let many : c.len.result ≡ length c.in-Ok.packets.items = search rules in
     record {
       refused = c.requires.refused;
       front = c.in-Some.front.now;
       rest = c.in-Some.ensures.is.0;
       cut = c.in-Some.ensures.is.1;
       held = c.in-Ok.ensures.packets;
-      before = before_seen c.args.fault _ _ c.in-Some.front.now c.in-Ok.packets.items c.is_before.result c.is_before.ensures.is long many c.if-is_before.true;
+      before = before_seen c.args.fault _ _ c.in-Some.front.now c.in-Ok.packets.items c.is_before.result c.is_before.ensures.is refl many c.if-is_before.true;
     }
 
 pub returns-clause-fault : goal.returns-clause-fault
