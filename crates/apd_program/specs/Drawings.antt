@@ -1,5 +1,5 @@
 -- The answer of `disasm --dot` for a program.
-use Rattle.std.specs.Prelude.{◌≡◌, ◌≢◌, ℕ, Bool, true, false, List, None, string_bytes}
+use Rattle.std.specs.Prelude.{◌≢◌, ℕ, Bool, true, false, List, None, string_bytes}
 use Rattle.bpf_decode.specs.Program.{Code}
 use Rattle.bpf_rules.specs.declared.fault.Fault.TheVariants.{NoMemory}
 use Rattle.bpf_verifier.specs.Admission.{IsSafeBudget, IsRefusalWithin}
