@@ -9,20 +9,20 @@ fn of_code(number: u32) -> &'static str
     ensures { IsSentence number result.now }
 {
     match number {
-        1 => return "the code is cut within a slot",
-        2 => return "there is no code",
-        3 => return "the code is too long",
-        10 => return "no such operation",
-        11 => return "no such register",
-        12 => return "a field that is not used is not zero",
-        13 => return "a field has a value that means nothing",
-        14 => return "a wide instruction is not whole",
-        15 => return "a jump leads astray",
-        16 => return "the code can be left at its end",
-        17 => return "r10 is written",
-        18 => return "no such helper",
-        19 => return "no such map, or no such byte in it",
-        _ => return "",
+        1 => "the code is cut within a slot",
+        2 => "there is no code",
+        3 => "the code is too long",
+        10 => "no such operation",
+        11 => "no such register",
+        12 => "a field that is not used is not zero",
+        13 => "a field has a value that means nothing",
+        14 => "a wide instruction is not whole",
+        15 => "a jump leads astray",
+        16 => "the code can be left at its end",
+        17 => "r10 is written",
+        18 => "no such helper",
+        19 => "no such map, or no such byte in it",
+        _ => "",
     }
 }
 
@@ -31,17 +31,17 @@ fn of_verifier(number: u32) -> &'static str
     ensures { IsSentence number result.now }
 {
     match number {
-        30 => return "something unset is read",
-        31 => return "the operation does not take such a value",
-        32 => return "an access may leave its region",
-        33 => return "the access has another width, or is not aligned",
-        34 => return "a lookup was not tested",
-        35 => return "calls go too deep",
-        36 => return "the verifier gives up",
-        37 => return "a pointer to the stack is stored elsewhere",
-        38 => return "the verdict is no number",
-        40 => return "memory ran out",
-        _ => return "",
+        30 => "something unset is read",
+        31 => "the operation does not take such a value",
+        32 => "an access may leave its region",
+        33 => "the access has another width, or is not aligned",
+        34 => "a lookup was not tested",
+        35 => "calls go too deep",
+        36 => "the verifier gives up",
+        37 => "a pointer to the stack is stored elsewhere",
+        38 => "the verdict is no number",
+        40 => "memory ran out",
+        _ => "",
     }
 }
 
@@ -50,16 +50,16 @@ fn of_event(number: u32) -> &'static str
     ensures { IsSentence number result.now }
 {
     match number {
-        50 => return "the frame is too short",
-        51 => return "the frame has another version",
-        52 => return "the frame is of a kind that is not handled",
-        53 => return "a field of the frame has a value that is reserved or not handled",
-        54 => return "an element is cut",
-        55 => return "the frame has the wrong length",
-        56 => return "the frame is not for this access point",
-        62 => return "all are given out",
-        63 => return "the station is unknown",
-        _ => return "",
+        50 => "the frame is too short",
+        51 => "the frame has another version",
+        52 => "the frame is of a kind that is not handled",
+        53 => "a field of the frame has a value that is reserved or not handled",
+        54 => "an element is cut",
+        55 => "the frame has the wrong length",
+        56 => "the frame is not for this access point",
+        62 => "all are given out",
+        63 => "the station is unknown",
+        _ => "",
     }
 }
 
@@ -68,16 +68,16 @@ fn of_call(number: u32) -> &'static str
     ensures { IsSentence number result.now }
 {
     match number {
-        70 => return "the certificate is malformed",
-        71 => return "the certificate is of another program",
-        72 => return "the certificate does not show that the program is safe",
-        90 => return "an argument is out of its limits",
-        91 => return "a handle holds nothing, or another value than the call asks for",
-        92 => return "the handle that is to be filled is not empty",
-        93 => return "the program is for maps of other shapes",
-        94 => return "a pointer is NULL, or one handle is passed twice",
-        95 => return "the program is for another hook",
-        _ => return "",
+        70 => "the certificate is malformed",
+        71 => "the certificate is of another program",
+        72 => "the certificate does not show that the program is safe",
+        90 => "an argument is out of its limits",
+        91 => "a handle holds nothing, or another value than the call asks for",
+        92 => "the handle that is to be filled is not empty",
+        93 => "the program is for maps of other shapes",
+        94 => "a pointer is NULL, or one handle is passed twice",
+        95 => "the program is for another hook",
+        _ => "",
     }
 }
 
@@ -86,10 +86,10 @@ fn sentence(number: u32) -> &'static str
     ensures { IsSentence number result.now }
 {
     match number {
-        0..=19 => return of_code(number),
-        20..=49 => return of_verifier(number),
-        50..=69 => return of_event(number),
-        _ => return of_call(number),
+        0..=19 => of_code(number),
+        20..=49 => of_verifier(number),
+        50..=69 => of_event(number),
+        _ => of_call(number),
     }
 }
 
