@@ -1,5 +1,5 @@
 -- Verdicts on code.
-use Rattle.std.specs.Prelude.{◌≡◌, ◌≢◌, ◌≤◌, ◌^◌, ◌⊎◌, ◌==◌, if◌then◌else◌, ℕ, List, map, Option, Some, None}
+use Rattle.std.specs.Prelude.{◌≡◌, ◌≢◌, ◌≤◌, ◌*◌, ◌^◌, ◌⊎◌, ◌==◌, if◌then◌else◌, ℕ, List, map, Option, Some, None}
 use Rattle.bpf_regions.specs.declared.hooks.Hook.{Hook}
 use Rattle.bpf_regions.specs.declared.maps.Shape.{Shape}
 use Rattle.bpf_regions.specs.Hooks.{number_of}
@@ -81,6 +81,10 @@ IsRefused bytes shapes limit work answer = IsUndecoded bytes shapes answer ⊎ I
 abbrev pub HoldsAdmitted : ℕ → List ℕ → List MapShape → ℕ → Option Content → Type 0
 HoldsAdmitted hook bytes shapes limit o =
     (a : Verified) × (h : Hook) × (o ≡ Some (content.Code a)) × (hook ≡ number_of h) × IsAdmitted h bytes (map shape_of shapes) limit a
+
+-- with a limit of work, the budget is at most an 80th of it, since each of its steps is earned by a state that is examined
+abbrev pub IsEarned : Option ℕ → ℕ → Type 0
+IsEarned work budget = (most : ℕ) → work ≡ Some most → 80 * budget ≤ most
 
 -- the program that is held
 abbrev pub code_of : Option Content → Option Verified

@@ -5,7 +5,7 @@ ghost use Rattle.bpf_regions.specs.declared.hooks.Hook.{Hook as AHook};
 ghost use Rattle.bpf_regions.specs.Hooks.{number_of};
 ghost use Rattle.apd_c.specs.Held.{held};
 ghost use Rattle.apd_c.specs.Given.{IsAskable, IsHook, shape_of};
-ghost use Rattle.apd_c.specs.Code.{IsAdmitted, IsRefused, IsUnsafe, HoldsAdmitted, IsVerdict, budget_of, limit_of, work_limit};
+ghost use Rattle.apd_c.specs.Code.{IsAdmitted, IsRefused, IsUnsafe, HoldsAdmitted, IsEarned, IsVerdict, budget_of, limit_of, work_limit};
 ghost use Rattle.bpf_verifier.specs.Admission.{IsSafeBudget};
 
 use crate::answer::{Answer, NO_MEMORY, NOT_EMPTY, OUT_OF_LIMITS};
@@ -58,10 +58,11 @@ fn verified(
     ensures hook { IfOk result (λ accepted. accepted.hook ≡ hook) }
     ensures budget { IfOk result (λ accepted. IsSafeBudget program limits.states accepted.budget) }
     ensures refused { IfErr result (IsUnsafe program limits.states limits.work) }
+    ensures earned { IfOk result (λ accepted. IsEarned limits.work accepted.budget) }
 {
     match limits.work {
-        None => return verify_within(alloc, program, hook, limits.states),
-        Some(_) => return verify_limited(alloc, program, hook, limits),
+        None => verify_within(alloc, program, hook, limits.states),
+        Some(_) => verify_limited(alloc, program, hook, limits),
     }
 }
 
@@ -76,22 +77,19 @@ fn admitted(
     ensures ok { IfOk result (IsAdmitted hook bytes.now shapes limits.states) }
     ensures err { IfErr result (IsRefused bytes.now shapes limits.states limits.work) }
     ensures some { IfErr result (λ e. e.number ≢ 0) }
+    ensures earned { IfOk result (λ accepted. IsEarned limits.work accepted.budget) }
 {
     match decode(alloc, bytes, shapes) {
-        Err(fault) => {
-            return Err(Answer {
-                number: u32::from(fault.number()),
-                slot: fault.slot(),
-            });
-        }
+        Err(fault) => Err(Answer {
+            number: u32::from(fault.number()),
+            slot: fault.slot(),
+        }),
         Ok(program) => match verified(alloc, program, hook, limits) {
-            Err(refusal) => {
-                return Err(Answer {
-                    number: u32::from(refusal.number()),
-                    slot: refusal.pc,
-                });
-            }
-            Ok(accepted) => return Ok(accepted),
+            Err(refusal) => Err(Answer {
+                number: u32::from(refusal.number()),
+                slot: refusal.pc,
+            }),
+            Ok(accepted) => Ok(accepted),
         },
     }
 }
@@ -109,21 +107,22 @@ fn asked(
     ensures some { IfErr result (λ e. e.number ≢ 0) }
     ensures within { OnOk result (IsAskable hook shapes.now) }
     ensures err { IfErr result (IsVerdict hook bytes.now shapes.now limits.states limits.work None) }
+    ensures earned { IfOk result (λ a. IsEarned limits.work a.budget) }
 {
     let Some(hook) = hook_of(hook) else {
         return Err(Answer::of(OUT_OF_LIMITS));
     };
     match shapes_from(alloc, shapes) {
-        Err(_) => return Err(Answer::of(NO_MEMORY)),
-        Ok(None) => return Err(Answer::of(OUT_OF_LIMITS)),
-        Ok(Some(shapes)) => return admitted(alloc, hook, bytes, shapes, limits),
+        Err(_) => Err(Answer::of(NO_MEMORY)),
+        Ok(None) => Err(Answer::of(OUT_OF_LIMITS)),
+        Ok(Some(shapes)) => admitted(alloc, hook, bytes, shapes, limits),
     }
 }
 
 /// Verifies code for a hook (1 association, 2 ADDBA, 3 data) and maps of these shapes, and fills an empty handle with
 /// the program. The verifier examines at most `states` states, so the budget is at most that. 0 and larger numbers
 /// stand for its own limit of 4194304. It does at most `work` units of work, as `bpf_verifier::verify_limited` counts
-/// them; 0 is for no limit.
+/// them, so the budget is at most an 80th of that; 0 is for no limit.
 ///
 /// 0: the handle holds it. 1 to 3 and 10 to 19: the bytes aren't well-formed code. 30 to 38: the verifier refuses it,
 /// with 36 if it has more states, or needs more work. 40: an allocation failed. 90: there is no such hook, or the
@@ -141,6 +140,7 @@ pub extern "C" fn apd_c_verify_limited(
     ensures admitted { result.number ≡ 0 →
         HoldsAdmitted hook bytes.now shapes.now (limit_of states) (held code.new) }
     ensures kept { result.number ≢ 0 → held code.new ≡ held code.old }
+    ensures earned { result.number ≡ 0 → IsEarned (work_limit work) (budget_of (held code.new)) }
     ensures why { IsVerdict hook bytes.now shapes.now (limit_of states) (work_limit work)
         (held code.old) result }
 {
@@ -153,11 +153,8 @@ pub extern "C" fn apd_c_verify_limited(
         work: work_limit(work),
     };
     match asked(alloc, hook, bytes, shapes, limits) {
-        Err(answer) => return answer,
-        Ok(accepted) => {
-            let answer = code.fill(alloc, Content::Code(accepted));
-            return answer;
-        }
+        Err(answer) => answer,
+        Ok(accepted) => code.fill(alloc, Content::Code(accepted)),
     }
 }
 
@@ -203,11 +200,11 @@ pub extern "C" fn apd_c_budget(alloc: Global, code: &mut Handle) -> u32
     ensures kept { held code.new ≡ held code.old }
 {
     match code.take(alloc) {
-        None => return 0,
+        None => 0,
         Some(content) => {
             let budget = budget(&content);
             code.put(content);
-            return budget;
+            budget
         }
     }
 }

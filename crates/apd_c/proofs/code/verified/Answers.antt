@@ -1,11 +1,12 @@
-use Rattle.std.proofs.Common.{◌≡◌, ℕ, Result, Ok, Err, IfErr, Option, Some, None, inl, inr, ap, sym, subst, ◌∙◌}
+use Rattle.std.proofs.Common.{◌≡◌, ◌≤◌, ◌*◌, ℕ, Result, Ok, Err, IfOk, IfErr, Option, Some, None, inl, inr, ap, sym, subst, ◌∙◌}
 use Rattle.bpf_decode.specs.Program.{Code}
+use Rattle.bpf_machine.specs.Verified.{Verified}
 use Rattle.bpf_verifier.specs.Admission.{IsRefusal, IsRefusalWithin}
 use Rattle.bpf_verifier.specs.Limits.{units_of}
-use Rattle.bpf_verifier.specs.Spent.{IsMemoryOrPassed}
+use Rattle.bpf_verifier.specs.Spent.{IsMemoryOrPassed, IsWithin}
 use Rattle.bpf_verifier.specs.declared.limit.Limits.{Limits}
 use Rattle.bpf_verifier.specs.declared.refusal.Refusal.{Refusal}
-use Rattle.apd_c.specs.Code.{IsUnsafe, IsMemoryOrWork}
+use Rattle.apd_c.specs.Code.{IsEarned, IsUnsafe, IsMemoryOrWork}
 use Rattle.apd_c.proofs.code.verified.Goals as goal
 
 -- without a limit of work only memory may be lacking
@@ -31,3 +32,21 @@ returns-in-None-clause-refused c = unlimited c.args.program c.args.limits.states
 
 pub returns-in-Some-clause-refused : goal.returns-in-Some-clause-refused
 returns-in-Some-clause-refused c = limited c.args.program c.args.limits _ _ c.in-Some.is c.verify_limited.ensures.refused
+
+-- without a limit of work nothing is to be shown
+free : (work : Option ℕ) (budget most : ℕ) → work ≡ None → work ≡ Some most → 80 * budget ≤ most
+free work budget most none some = absurd (cc)
+
+unbounded : (work : Option ℕ) (r : Result Verified Refusal) → work ≡ None → IfOk r (λ a. IsEarned work a.budget)
+unbounded work (Ok a) none = λ most some. free work a.budget most none some
+unbounded work (Err e) none = tt
+
+earned : (limits : Limits) (r : Result Verified Refusal) → IfOk r (λ a. IsWithin limits a.budget) → IfOk r (λ a. IsEarned limits.work a.budget)
+earned limits (Ok a) h = λ most some. subst (λ (w : Option ℕ). 80 * a.budget ≤ units_of w) some h
+earned limits (Err e) h = h
+
+pub returns-in-None-clause-earned : goal.returns-in-None-clause-earned
+returns-in-None-clause-earned c = unbounded c.args.limits.work _ c.in-None.is
+
+pub returns-in-Some-clause-earned : goal.returns-in-Some-clause-earned
+returns-in-Some-clause-earned c = earned c.args.limits _ c.verify_limited.ensures.earned
