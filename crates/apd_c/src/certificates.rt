@@ -27,15 +27,13 @@ fn certified(alloc: Global, content: &Content) -> Result<Vec<u8>, Answer>
 {
     match content {
         Content::Code(accepted) => match certificate(alloc, accepted) {
-            Ok(bytes) => return Ok(bytes),
-            Err(refusal) => {
-                return Err(Answer {
-                    number: u32::from(refusal.number()),
-                    slot: refusal.pc,
-                });
-            }
+            Ok(bytes) => Ok(bytes),
+            Err(refusal) => Err(Answer {
+                number: u32::from(refusal.number()),
+                slot: refusal.pc,
+            }),
         },
-        _ => return Err(Answer::of(OTHER_VALUE)),
+        _ => Err(Answer::of(OTHER_VALUE)),
     }
 }
 
@@ -47,11 +45,11 @@ fn certificate_of(alloc: Global, code: &mut Handle) -> Result<Vec<u8>, Answer>
     ensures kept { held code.new ≡ held code.old }
 {
     match code.take(alloc) {
-        None => return Err(Answer::of(OTHER_VALUE)),
+        None => Err(Answer::of(OTHER_VALUE)),
         Some(content) => {
             let made = certified(alloc, &content);
             code.put(content);
-            return made;
+            made
         }
     }
 }
@@ -77,11 +75,8 @@ pub extern "C" fn apd_c_certify(
         return Answer::of(NOT_EMPTY);
     }
     match certificate_of(alloc, code) {
-        Err(answer) => return answer,
-        Ok(bytes) => {
-            let answer = certificate.fill(alloc, Content::Bytes(bytes));
-            return answer;
-        }
+        Err(answer) => answer,
+        Ok(bytes) => certificate.fill(alloc, Content::Bytes(bytes)),
     }
 }
 
@@ -107,12 +102,10 @@ fn shown(
         ⊎ IsTooMuchWork certificate.entry.most e) }
 {
     match decode(alloc, bytes, shapes) {
-        Err(fault) => {
-            return Err(Answer {
-                number: u32::from(fault.number()),
-                slot: fault.slot(),
-            });
-        }
+        Err(fault) => Err(Answer {
+            number: u32::from(fault.number()),
+            slot: fault.slot(),
+        }),
         Ok(program) => {
             let Certificate {
                 bytes: spelled,
@@ -120,14 +113,12 @@ fn shown(
             } = certificate;
             match check_within(alloc, program, hook, spelled, most) {
                 Err(fault) => match fault {
-                    WithinFault::Refused(fault) => {
-                        return Err(Answer::of(u32::from(fault.number())));
-                    }
-                    WithinFault::TooMuchWork => return Err(Answer::of(TOO_MUCH_WORK)),
+                    WithinFault::Refused(fault) => Err(Answer::of(u32::from(fault.number()))),
+                    WithinFault::TooMuchWork => Err(Answer::of(TOO_MUCH_WORK)),
                 },
                 Ok(accepted) => {
                     let _safe = accepted.program();
-                    return Ok(accepted);
+                    Ok(accepted)
                 }
             }
         }
@@ -153,12 +144,9 @@ fn shown_for(
         return Err(Answer::of(OUT_OF_LIMITS));
     };
     match shapes_from(alloc, shapes) {
-        Err(_) => return Err(Answer::of(NO_MEMORY)),
-        Ok(None) => return Err(Answer::of(OUT_OF_LIMITS)),
-        Ok(Some(shapes)) => {
-            let answer = shown(alloc, hook, bytes, shapes, certificate);
-            return answer;
-        }
+        Err(_) => Err(Answer::of(NO_MEMORY)),
+        Ok(None) => Err(Answer::of(OUT_OF_LIMITS)),
+        Ok(Some(shapes)) => shown(alloc, hook, bytes, shapes, certificate),
     }
 }
 
@@ -195,11 +183,8 @@ pub extern "C" fn apd_c_check_within(
         most: work_limit(work),
     };
     match shown_for(alloc, hook, bytes, shapes, certificate) {
-        Err(answer) => return answer,
-        Ok(accepted) => {
-            let answer = code.fill(alloc, Content::Code(accepted));
-            return answer;
-        }
+        Err(answer) => answer,
+        Ok(accepted) => code.fill(alloc, Content::Code(accepted)),
     }
 }
 
@@ -240,9 +225,9 @@ fn read(content: &Content, into: &mut [u8]) -> usize
     match content {
         Content::Bytes(bytes) => {
             copied(bytes.as_slice(), into);
-            return bytes.len();
+            bytes.len()
         }
-        _ => return 0,
+        _ => 0,
     }
 }
 
@@ -255,11 +240,11 @@ pub extern "C" fn apd_c_read(alloc: Global, bytes: &mut Handle, into: &mut [u8])
     ensures kept { held bytes.new ≡ held bytes.old }
 {
     match bytes.take(alloc) {
-        None => return 0,
+        None => 0,
         Some(content) => {
             let count = read(&content, into);
             bytes.put(content);
-            return count;
+            count
         }
     }
 }

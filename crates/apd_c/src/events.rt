@@ -51,8 +51,8 @@ fn lead(
         return Err(OTHER_MAPS);
     }
     match access_point.handle(alloc, event, maps.tables.maps(), &mut maps.state) {
-        None => return Err(NO_MEMORY),
-        Some(outs) => return Ok(outs),
+        None => Err(NO_MEMORY),
+        Some(outs) => Ok(outs),
     }
 }
 
@@ -72,11 +72,8 @@ fn lead_in(
         (number_in result) }
 {
     match content {
-        Content::Link(access_point) => {
-            let led = lead(alloc, access_point, maps, event);
-            return led;
-        }
-        _ => return Err(OTHER_VALUE),
+        Content::Link(access_point) => lead(alloc, access_point, maps, event),
+        _ => Err(OTHER_VALUE),
     }
 }
 
@@ -91,11 +88,11 @@ fn lead_at(alloc: Global, link: &mut Handle, maps: &mut Maps, event: Event) -> R
         (number_in result) }
 {
     match link.take(alloc) {
-        None => return Err(OTHER_VALUE),
+        None => Err(OTHER_VALUE),
         Some(mut content) => {
             let led = lead_in(alloc, &mut content, maps, event);
             link.put(content);
-            return led;
+            led
         }
     }
 }
@@ -115,11 +112,8 @@ fn lead_on(
     ensures number { IsNumberAt (held link.old) (Some content.old) (number_in result) }
 {
     match content {
-        Content::Maps(maps) => {
-            let led = lead_at(alloc, link, maps, event);
-            return led;
-        }
-        _ => return Err(OTHER_VALUE),
+        Content::Maps(maps) => lead_at(alloc, link, maps, event),
+        _ => Err(OTHER_VALUE),
     }
 }
 
@@ -138,11 +132,11 @@ fn lead_over(
     ensures number { IsNumberAt (held link.old) (held maps.old) (number_in result) }
 {
     match maps.take(alloc) {
-        None => return Err(OTHER_VALUE),
+        None => Err(OTHER_VALUE),
         Some(mut content) => {
             let led = lead_on(alloc, link, &mut content, event);
             maps.put(content);
-            return led;
+            led
         }
     }
 }
@@ -166,14 +160,14 @@ fn lead_to(
         return NOT_EMPTY;
     }
     match Box::new(alloc, Content::Nothing) {
-        Err(_) => return NO_MEMORY,
+        Err(_) => NO_MEMORY,
         Ok(mut boxed) => match lead_over(alloc, link, maps, event) {
-            Err(number) => return number,
+            Err(number) => number,
             Ok(list) => {
                 // (what stood there owns nothing)
                 forget(Box::replace(&mut boxed, Content::Outs(Outputs { user, list })));
                 outs.put(boxed);
-                return 0;
+                0
             }
         },
     }
@@ -204,14 +198,13 @@ pub extern "C" fn apd_c_link_frame(
         return OUT_OF_LIMITS;
     }
     match Octets::copy(alloc, bytes) {
-        Err(_) => return NO_MEMORY,
+        Err(_) => NO_MEMORY,
         Ok(octets) => {
             let given = UserEvent {
                 event: Event::Frame(octets),
                 user,
             };
-            let number = lead_to(alloc, link, maps, outs, given);
-            return number;
+            lead_to(alloc, link, maps, outs, given)
         }
     }
 }

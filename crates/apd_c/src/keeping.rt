@@ -38,10 +38,10 @@ impl Handle {
         ensures number { (result ≡ answer 0) ⊎ (result ≡ answer 40) }
     {
         match Box::new(alloc, content) {
-            Err(_) => return Answer::of(NO_MEMORY),
+            Err(_) => Answer::of(NO_MEMORY),
             Ok(boxed) => {
                 self.put(boxed);
-                return Answer::of(0);
+                Answer::of(0)
             }
         }
     }

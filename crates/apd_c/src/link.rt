@@ -47,16 +47,16 @@ fn made(alloc: Global, network: &Network, shapes: &[MapShape]) -> Result<Box<Acc
     ensures number { IsNewNumber network.now shapes.now (number_in result) }
 {
     match config_from(alloc, network) {
-        Err(_) => return Err(NO_MEMORY),
-        Ok(None) => return Err(OUT_OF_LIMITS),
+        Err(_) => Err(NO_MEMORY),
+        Ok(None) => Err(OUT_OF_LIMITS),
         Ok(Some(config)) => match shapes_from(alloc, shapes) {
-            Err(_) => return Err(NO_MEMORY),
-            Ok(None) => return Err(OUT_OF_LIMITS),
+            Err(_) => Err(NO_MEMORY),
+            Ok(None) => Err(OUT_OF_LIMITS),
             Ok(Some(shapes)) => match AccessPoint::new(alloc, &config, shapes) {
-                Err(_) => return Err(NO_MEMORY),
+                Err(_) => Err(NO_MEMORY),
                 Ok(made) => match Box::new(alloc, made) {
-                    Err(_) => return Err(NO_MEMORY),
-                    Ok(boxed) => return Ok(boxed),
+                    Err(_) => Err(NO_MEMORY),
+                    Ok(boxed) => Ok(boxed),
                 },
             },
         },
@@ -83,10 +83,7 @@ pub extern "C" fn apd_c_link(
         return NOT_EMPTY;
     }
     match made(alloc, network, shapes) {
-        Err(number) => return number,
-        Ok(boxed) => {
-            let answer = link.fill(alloc, Content::Link(boxed));
-            return answer.number;
-        }
+        Err(number) => number,
+        Ok(boxed) => link.fill(alloc, Content::Link(boxed)).number,
     }
 }

@@ -46,10 +46,10 @@ fn stations_in(alloc: Global, content: &Content) -> Result<Vec<KnownStation>, u3
 {
     match content {
         Content::Link(access_point) => match access_point.known_stations(alloc) {
-            Err(_) => return Err(NO_MEMORY),
-            Ok(rows) => return Ok(rows),
+            Err(_) => Err(NO_MEMORY),
+            Ok(rows) => Ok(rows),
         },
-        _ => return Err(OTHER_VALUE),
+        _ => Err(OTHER_VALUE),
     }
 }
 
@@ -61,11 +61,11 @@ fn stations_at(alloc: Global, link: &mut Handle) -> Result<Vec<KnownStation>, u3
     ensures kept { held link.new ≡ held link.old }
 {
     match link.take(alloc) {
-        None => return Err(OTHER_VALUE),
+        None => Err(OTHER_VALUE),
         Some(content) => {
             let listed = stations_in(alloc, &content);
             link.put(content);
-            return listed;
+            listed
         }
     }
 }
@@ -90,11 +90,8 @@ pub extern "C" fn apd_c_link_stations(
         return NOT_EMPTY;
     }
     match stations_at(alloc, link) {
-        Err(number) => return number,
-        Ok(rows) => {
-            let answer = stations.fill(alloc, Content::Stations(rows));
-            return answer.number;
-        }
+        Err(number) => number,
+        Ok(rows) => stations.fill(alloc, Content::Stations(rows)).number,
     }
 }
 
@@ -106,10 +103,10 @@ fn agreements_in(alloc: Global, content: &Content) -> Result<Vec<AgreementInForc
 {
     match content {
         Content::Link(access_point) => match access_point.agreements(alloc) {
-            Err(_) => return Err(NO_MEMORY),
-            Ok(rows) => return Ok(rows),
+            Err(_) => Err(NO_MEMORY),
+            Ok(rows) => Ok(rows),
         },
-        _ => return Err(OTHER_VALUE),
+        _ => Err(OTHER_VALUE),
     }
 }
 
@@ -121,11 +118,11 @@ fn agreements_at(alloc: Global, link: &mut Handle) -> Result<Vec<AgreementInForc
     ensures kept { held link.new ≡ held link.old }
 {
     match link.take(alloc) {
-        None => return Err(OTHER_VALUE),
+        None => Err(OTHER_VALUE),
         Some(content) => {
             let listed = agreements_in(alloc, &content);
             link.put(content);
-            return listed;
+            listed
         }
     }
 }
@@ -151,11 +148,8 @@ pub extern "C" fn apd_c_link_agreements(
         return NOT_EMPTY;
     }
     match agreements_at(alloc, link) {
-        Err(number) => return number,
-        Ok(rows) => {
-            let answer = agreements.fill(alloc, Content::Agreements(rows));
-            return answer.number;
-        }
+        Err(number) => number,
+        Ok(rows) => agreements.fill(alloc, Content::Agreements(rows)).number,
     }
 }
 
@@ -236,11 +230,11 @@ pub extern "C" fn apd_c_stations(alloc: Global, list: &mut Handle) -> usize
     ensures kept { held list.new ≡ held list.old }
 {
     match list.take(alloc) {
-        None => return 0,
+        None => 0,
         Some(content) => {
             let count = stations(&content).len();
             list.put(content);
-            return count;
+            count
         }
     }
 }
@@ -252,11 +246,11 @@ pub extern "C" fn apd_c_station(alloc: Global, list: &mut Handle, at: usize) -> 
     ensures kept { held list.new ≡ held list.old }
 {
     match list.take(alloc) {
-        None => return station_in(&[], at),
+        None => station_in(&[], at),
         Some(content) => {
             let row = station_in(stations(&content), at);
             list.put(content);
-            return row;
+            row
         }
     }
 }
@@ -268,11 +262,11 @@ pub extern "C" fn apd_c_agreements(alloc: Global, list: &mut Handle) -> usize
     ensures kept { held list.new ≡ held list.old }
 {
     match list.take(alloc) {
-        None => return 0,
+        None => 0,
         Some(content) => {
             let count = agreements(&content).len();
             list.put(content);
-            return count;
+            count
         }
     }
 }
@@ -284,11 +278,11 @@ pub extern "C" fn apd_c_agreement(alloc: Global, list: &mut Handle, at: usize) -
     ensures kept { held list.new ≡ held list.old }
 {
     match list.take(alloc) {
-        None => return agreement_in(&[], at),
+        None => agreement_in(&[], at),
         Some(content) => {
             let row = agreement_in(agreements(&content), at);
             list.put(content);
-            return row;
+            row
         }
     }
 }

@@ -28,13 +28,13 @@ fn take_code(alloc: Global, handle: &mut Handle) -> Option<(Box<Content>, Accept
     ensures code { option_map (λ t. t.1) result ≡ code_of (held handle.old) }
 {
     match handle.take(alloc) {
-        None => return None,
+        None => None,
         Some(mut boxed) => match Box::replace(&mut boxed, Content::Nothing) {
-            Content::Code(accepted) => return Some((boxed, accepted)),
+            Content::Code(accepted) => Some((boxed, accepted)),
             other => {
                 drop(Box::replace(&mut boxed, other));
                 handle.put(boxed);
-                return None;
+                None
             }
         },
     }
@@ -61,7 +61,7 @@ fn put(
         return Err((OTHER_MAPS, accepted));
     }
     access_point.put(hook, Some(accepted));
-    return Ok(());
+    Ok(())
 }
 
 /// The same if a content is an access point.
@@ -74,11 +74,8 @@ fn put_in(content: &mut Content, hook: Hook, accepted: Accepted) -> Result<(), (
         (number_with result) }
 {
     match content {
-        Content::Link(access_point) => {
-            let done = put(access_point, hook, accepted);
-            return done;
-        }
-        _ => return Err((OTHER_VALUE, accepted)),
+        Content::Link(access_point) => put(access_point, hook, accepted),
+        _ => Err((OTHER_VALUE, accepted)),
     }
 }
 
@@ -99,11 +96,11 @@ fn put_at(
         return Err((OUT_OF_LIMITS, accepted));
     };
     match link.take(alloc) {
-        None => return Err((OTHER_VALUE, accepted)),
+        None => Err((OTHER_VALUE, accepted)),
         Some(mut content) => {
             let done = put_in(&mut content, hook, accepted);
             link.put(content);
-            return done;
+            done
         }
     }
 }
@@ -129,14 +126,14 @@ pub extern "C" fn apd_c_link_load(
     ensures number { IsLoadNumber hook (held code.old) (held link.old) result }
 {
     match take_code(alloc, code) {
-        None => return OTHER_VALUE,
+        None => OTHER_VALUE,
         Some((boxed, accepted)) => match put_at(alloc, link, hook, accepted) {
-            Ok(()) => return 0,
+            Ok(()) => 0,
             Err((number, accepted)) => {
                 let mut boxed = boxed;
                 drop(Box::replace(&mut boxed, Content::Code(accepted)));
                 code.put(boxed);
-                return number;
+                number
             }
         },
     }
@@ -151,9 +148,9 @@ fn unload_in(content: &mut Content, hook: Hook) -> u32
     match content {
         Content::Link(access_point) => {
             access_point.put(hook, None);
-            return 0;
+            0
         }
-        _ => return OTHER_VALUE,
+        _ => OTHER_VALUE,
     }
 }
 
@@ -173,11 +170,11 @@ pub extern "C" fn apd_c_link_unload(alloc: Global, link: &mut Handle, hook: u32)
         return OUT_OF_LIMITS;
     };
     match link.take(alloc) {
-        None => return OTHER_VALUE,
+        None => OTHER_VALUE,
         Some(mut content) => {
             let number = unload_in(&mut content, hook);
             link.put(content);
-            return number;
+            number
         }
     }
 }

@@ -78,22 +78,22 @@ fn head_in(user: u64, outs: &[Out], at: usize) -> OutHead
     ensures { result ≡ head_of user (slice_get outs.now at) }
 {
     match outs.get(at) {
-        None => return nothing(),
+        None => nothing(),
         Some(out) => match out {
             Out::Send(bytes) => {
                 let mut head = nothing();
                 head.kind = 1;
                 head.length = bytes.bytes().len();
                 head.user = user;
-                return head;
+                head
             }
-            Out::Up(up) => return head_of_up(user, up),
+            Out::Up(up) => head_of_up(user, up),
             Out::Note(number) => {
                 let mut head = nothing();
                 head.kind = 3;
                 head.user = user;
                 head.note = *number;
-                return head;
+                head
             }
         },
     }
@@ -140,11 +140,11 @@ pub extern "C" fn apd_c_outs(alloc: Global, outs: &mut Handle) -> usize
     ensures kept { held outs.new ≡ held outs.old }
 {
     match outs.take(alloc) {
-        None => return 0,
+        None => 0,
         Some(content) => {
             let count = list(&content).len();
             outs.put(content);
-            return count;
+            count
         }
     }
 }
@@ -157,11 +157,11 @@ pub extern "C" fn apd_c_out(alloc: Global, outs: &mut Handle, at: usize) -> OutH
     ensures kept { held outs.new ≡ held outs.old }
 {
     match outs.take(alloc) {
-        None => return nothing(),
+        None => nothing(),
         Some(content) => {
             let head = head_in(user(&content), list(&content), at);
             outs.put(content);
-            return head;
+            head
         }
     }
 }
@@ -180,13 +180,13 @@ pub extern "C" fn apd_c_out_bytes(
     ensures kept { held outs.new ≡ held outs.old }
 {
     match outs.take(alloc) {
-        None => return 0,
+        None => 0,
         Some(content) => {
             let body = body_in(list(&content), at);
             copied(body, into);
             let count = body.len();
             outs.put(content);
-            return count;
+            count
         }
     }
 }

@@ -117,7 +117,7 @@ fn run_on(
         return OTHER_HOOK;
     }
     run_over(accepted, maps, &frame, given, report);
-    return 0;
+    0
 }
 
 /// The same for contents.
@@ -135,13 +135,10 @@ fn run_contents(
 {
     match program {
         Content::Code(accepted) => match words {
-            Content::Maps(maps) => {
-                let number = run_on(accepted, maps, frame, given, report);
-                return number;
-            }
-            _ => return OTHER_VALUE,
+            Content::Maps(maps) => run_on(accepted, maps, frame, given, report),
+            _ => OTHER_VALUE,
         },
-        _ => return OTHER_VALUE,
+        _ => OTHER_VALUE,
     }
 }
 

@@ -22,13 +22,13 @@ fn found(
 ) -> Result<String, AllocError> {
     let known = Vec::from_slice(alloc, shapes.as_slice())?;
     match decode(alloc, bytes, shapes) {
-        Err(DecodeFault::NoMemory) => return Err(AllocError),
-        Err(fault) => return fault_text(alloc, bytes, known.as_slice(), fault),
+        Err(DecodeFault::NoMemory) => Err(AllocError),
+        Err(fault) => fault_text(alloc, bytes, known.as_slice(), fault),
         Ok(program) => {
             let explanation = explain_within(alloc, &program, limit)?;
             match explanation.verdict {
-                Err(refusal) if refusal.fault == Fault::NoMemory => return Err(AllocError),
-                _ => return reason_text(alloc, &program, &explanation),
+                Err(refusal) if refusal.fault == Fault::NoMemory => Err(AllocError),
+                _ => reason_text(alloc, &program, &explanation),
             }
         }
     }
@@ -59,11 +59,11 @@ pub extern "C" fn apd_c_why(
         return 0;
     };
     match found(alloc, bytes, shapes, limit_of(states)) {
-        Err(_) => return 0,
+        Err(_) => 0,
         Ok(text) => {
             let told = text.as_str().as_bytes();
             copied(told, into);
-            return told.len();
+            told.len()
         }
     }
 }

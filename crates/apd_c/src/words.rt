@@ -76,7 +76,7 @@ fn access(maps: &mut Maps, at: u32, word: u32, operation: MapOp) -> Loaded
         return Loaded::refused(OUT_OF_LIMITS);
     }
     let value = ask(&maps.tables, &mut maps.hand, at, word, operation);
-    return Loaded { number: 0, value };
+    Loaded { number: 0, value }
 }
 
 /// The same if a content is maps.
@@ -84,11 +84,8 @@ fn access_in(content: &mut Content, map: u32, word: u32, operation: MapOp) -> Lo
     ensures { Operates (Some content.old) map word operation result (Some content.new) }
 {
     match content {
-        Content::Maps(maps) => {
-            let loaded = access(maps, map, word, operation);
-            return loaded;
-        }
-        _ => return Loaded::refused(OTHER_VALUE),
+        Content::Maps(maps) => access(maps, map, word, operation),
+        _ => Loaded::refused(OTHER_VALUE),
     }
 }
 
@@ -103,11 +100,11 @@ pub(crate) fn access_at(
     ensures { Operates (held maps.old) map word operation result (held maps.new) }
 {
     match maps.take(alloc) {
-        None => return Loaded::refused(OTHER_VALUE),
+        None => Loaded::refused(OTHER_VALUE),
         Some(mut content) => {
             let loaded = access_in(&mut content, map, word, operation);
             maps.put(content);
-            return loaded;
+            loaded
         }
     }
 }
@@ -120,11 +117,11 @@ fn made(alloc: Global, shapes: &[MapShape], draw: u64) -> Result<Maps, u32>
     ensures number { IsMakingNumber shapes.now (number_in result) }
 {
     match shapes_from(alloc, shapes) {
-        Err(_) => return Err(NO_MEMORY),
-        Ok(None) => return Err(OUT_OF_LIMITS),
+        Err(_) => Err(NO_MEMORY),
+        Ok(None) => Err(OUT_OF_LIMITS),
         Ok(Some(shapes)) => match Maps::new(alloc, shapes, draw) {
-            Err(fault) => return Err(u32::from(fault.number())),
-            Ok(maps) => return Ok(maps),
+            Err(fault) => Err(u32::from(fault.number())),
+            Ok(maps) => Ok(maps),
         },
     }
 }
@@ -149,11 +146,8 @@ pub extern "C" fn apd_c_maps(
         return NOT_EMPTY;
     }
     match made(alloc, shapes, draw) {
-        Err(number) => return number,
-        Ok(words) => {
-            let answer = maps.fill(alloc, Content::Maps(words));
-            return answer.number;
-        }
+        Err(number) => number,
+        Ok(words) => maps.fill(alloc, Content::Maps(words)).number,
     }
 }
 

@@ -5,4 +5,4 @@ use Rattle.apd_c.proofs.events.lead_in.Goals as goal
 
 pub returns-in-Link-clause-kept : goal.returns-in-Link-clause-kept
 returns-in-Link-clause-kept c =
-    on_err_weaker c.lead-led.result (λ h. (like c.deref_mut.result.now c.lead-led.new.access_point (search rules) (search rules) h.0, h.1)) c.lead-led.ensures.kept
+    on_err_weaker c.lead.result (λ h. (like c.deref_mut.result.now c.lead.new.access_point (search rules) (search rules) h.0, h.1)) c.lead.ensures.kept

@@ -7,8 +7,8 @@ use Rattle.apd_c.proofs.events.lead_on.Goals as goal
 
 pub returns-in-Maps-clause-ok : goal.returns-in-Maps-clause-ok
 returns-in-Maps-clause-ok c =
-    IfOk-weaker c.lead_at-led.result _ _ (λ outs h. (c.in-Maps.maps, c.lead_at-led.new.maps, ap (λ (x : Content). Some x) c.in-Maps.is, refl, h)) c.lead_at-led.ensures.ok
+    IfOk-weaker c.lead_at.result _ _ (λ outs h. (c.in-Maps.maps, c.lead_at.new.maps, ap (λ (x : Content). Some x) c.in-Maps.is, refl, h)) c.lead_at.ensures.ok
 
 pub returns-in-Maps-clause-kept : goal.returns-in-Maps-clause-kept
 returns-in-Maps-clause-kept c =
-    on_err_weaker c.lead_at-led.result (λ h. (h.0, kept c.in-Maps.maps c.lead_at-led.new.maps (ap (λ (x : Content). Some x) c.in-Maps.is) refl h.1)) c.lead_at-led.ensures.kept
+    on_err_weaker c.lead_at.result (λ h. (h.0, kept c.in-Maps.maps c.lead_at.new.maps (ap (λ (x : Content). Some x) c.in-Maps.is) refl h.1)) c.lead_at.ensures.kept

@@ -7,6 +7,6 @@ use Rattle.apd_c.proofs.loads.put_in.Goals as goal
 
 pub returns-in-Link-clause-err : goal.returns-in-Link-clause-err
 returns-in-Link-clause-err c =
-    on_err_weaker c.put-done.result
+    on_err_weaker c.put.result
     (λ same. ap (λ (a : Parts). content.Link (with_value c.in-Link.access_point a)) (same ∙ c.deref_mut.ensures.value) ∙ sym c.in-Link.is)
-    c.put-done.ensures.err
+    c.put.ensures.err
