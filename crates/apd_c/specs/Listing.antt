@@ -9,6 +9,8 @@ use Rattle.ap_single.specs.Leading.{Parts}
 use Rattle.apd_c.specs.declared.handle.Content.{Content}
 use Rattle.apd_c.specs.declared.handle.Content.TheVariants as content
 use Rattle.apd_c.specs.declared.listing.AgreementRow.{AgreementRow}
+use Rattle.apd_c.specs.declared.listing.Rows.{Rows}
+use Rattle.apd_c.specs.declared.listing.Rows.TheVariants as kind
 use Rattle.apd_c.specs.declared.listing.StationRow.{StationRow}
 use Rattle.apd_c.specs.Answers.{IsDone, Perhaps, UnlessNone, UnlessSome}
 use Rattle.apd_c.specs.Link.{link_of}
@@ -31,6 +33,11 @@ KnowsStations link rows = (a : Parts) × (link_of link ≡ Some a) × MergesStat
 -- the content is an access point, and the list has the agreements of its shards' readings, each once, by address and TID
 abbrev pub KeepsAgreements : Option Content → List AgreementInForce → Type 0
 KeepsAgreements link rows = (a : Parts) × (link_of link ≡ Some a) × MergesAgreements (map reads a.shards) rows
+
+-- the first content is an access point, and the other its list of these rows
+abbrev pub HasListed : Rows → Option Content → Option Content → Type 0
+HasListed kind.Stations link o = KnowsStations link (stations_of o)
+HasListed kind.Agreements link o = KeepsAgreements link (agreements_of o)
 
 -- 91 exactly if the content is no access point; otherwise perhaps 40; otherwise 0
 abbrev pub IsListedNumber : Option Content → ℕ → Type 0

@@ -3,7 +3,7 @@
 ghost use Rattle.std.specs.Prelude.{◌≡◌, ◌≢◌, Some, IfOk, IfErr, length, slice_get};
 ghost use Rattle.apd_c.specs.Held.{held};
 ghost use Rattle.apd_c.specs.Answers.{number_in};
-ghost use Rattle.apd_c.specs.Listing.{IsListNumber, IsListedNumber, KeepsAgreements, KnowsStations, agreement_row, agreements_of, station_row, stations_of};
+ghost use Rattle.apd_c.specs.Listing.{HasListed, IsListNumber, IsListedNumber, KeepsAgreements, KnowsStations, agreement_row, agreements_of, station_row, stations_of};
 
 use crate::answer::{NO_MEMORY, NOT_EMPTY, OTHER_VALUE};
 use crate::events::Station;
@@ -38,24 +38,37 @@ pub struct AgreementRow {
     pub held: usize,
 }
 
-/// The known stations, if a content is an access point.
-fn stations_in(alloc: Global, content: &Content) -> Result<Vec<KnownStation>, u32>
-    ensures ok { IfOk result (λ rows. KnowsStations (Some content.now) rows.items) }
+/// Which rows of an access point are listed.
+#[derive(Clone, Copy)]
+enum Rows {
+    Stations,
+    Agreements,
+}
+
+/// A list of an access point, if a content is one.
+fn listed_in(alloc: Global, content: &Content, rows: Rows) -> Result<Content, u32>
+    ensures ok { IfOk result (λ list. HasListed rows (Some content.now) (Some list)) }
     ensures err { IfErr result (λ number. number ≢ 0) }
     ensures number { IsListedNumber (Some content.now) (number_in result) }
 {
-    match content {
-        Content::Link(access_point) => match access_point.known_stations(alloc) {
+    let Content::Link(access_point) = content else {
+        return Err(OTHER_VALUE);
+    };
+    match rows {
+        Rows::Stations => match access_point.known_stations(alloc) {
             Err(_) => Err(NO_MEMORY),
-            Ok(rows) => Ok(rows),
+            Ok(list) => Ok(Content::Stations(list)),
         },
-        _ => Err(OTHER_VALUE),
+        Rows::Agreements => match access_point.agreements(alloc) {
+            Err(_) => Err(NO_MEMORY),
+            Ok(list) => Ok(Content::Agreements(list)),
+        },
     }
 }
 
 /// The same if a handle holds an access point.
-fn stations_at(alloc: Global, link: &mut Handle) -> Result<Vec<KnownStation>, u32>
-    ensures ok { IfOk result (λ rows. KnowsStations (held link.old) rows.items) }
+fn listed_at(alloc: Global, link: &mut Handle, rows: Rows) -> Result<Content, u32>
+    ensures ok { IfOk result (λ list. HasListed rows (held link.old) (Some list)) }
     ensures err { IfErr result (λ number. number ≢ 0) }
     ensures number { IsListedNumber (held link.old) (number_in result) }
     ensures kept { held link.new ≡ held link.old }
@@ -63,10 +76,27 @@ fn stations_at(alloc: Global, link: &mut Handle) -> Result<Vec<KnownStation>, u3
     match link.take(alloc) {
         None => Err(OTHER_VALUE),
         Some(content) => {
-            let listed = stations_in(alloc, &content);
+            let listed = listed_in(alloc, &content, rows);
             link.put(content);
             listed
         }
+    }
+}
+
+/// Fills an empty handle with a list of an access point.
+fn fill_listed(alloc: Global, link: &mut Handle, list: &mut Handle, rows: Rows) -> u32
+    ensures listed { result ≡ 0 → HasListed rows (held link.old) (held list.new) }
+    ensures kept { result ≢ 0 → held list.new ≡ held list.old }
+    ensures link { held link.new ≡ held link.old }
+    ensures number { IsListNumber (held link.old) (held list.old) result }
+{
+    if let Some(content) = list.take(alloc) {
+        list.put(content);
+        return NOT_EMPTY;
+    }
+    match listed_at(alloc, link, rows) {
+        Err(number) => number,
+        Ok(listed) => list.fill(alloc, listed).number,
     }
 }
 
@@ -85,46 +115,7 @@ pub extern "C" fn apd_c_link_stations(
     ensures link { held link.new ≡ held link.old }
     ensures number { IsListNumber (held link.old) (held stations.old) result }
 {
-    if let Some(content) = stations.take(alloc) {
-        stations.put(content);
-        return NOT_EMPTY;
-    }
-    match stations_at(alloc, link) {
-        Err(number) => number,
-        Ok(rows) => stations.fill(alloc, Content::Stations(rows)).number,
-    }
-}
-
-/// The agreements in force, if a content is an access point.
-fn agreements_in(alloc: Global, content: &Content) -> Result<Vec<AgreementInForce>, u32>
-    ensures ok { IfOk result (λ rows. KeepsAgreements (Some content.now) rows.items) }
-    ensures err { IfErr result (λ number. number ≢ 0) }
-    ensures number { IsListedNumber (Some content.now) (number_in result) }
-{
-    match content {
-        Content::Link(access_point) => match access_point.agreements(alloc) {
-            Err(_) => Err(NO_MEMORY),
-            Ok(rows) => Ok(rows),
-        },
-        _ => Err(OTHER_VALUE),
-    }
-}
-
-/// The same if a handle holds an access point.
-fn agreements_at(alloc: Global, link: &mut Handle) -> Result<Vec<AgreementInForce>, u32>
-    ensures ok { IfOk result (λ rows. KeepsAgreements (held link.old) rows.items) }
-    ensures err { IfErr result (λ number. number ≢ 0) }
-    ensures number { IsListedNumber (held link.old) (number_in result) }
-    ensures kept { held link.new ≡ held link.old }
-{
-    match link.take(alloc) {
-        None => Err(OTHER_VALUE),
-        Some(content) => {
-            let listed = agreements_in(alloc, &content);
-            link.put(content);
-            listed
-        }
-    }
+    fill_listed(alloc, link, stations, Rows::Stations)
 }
 
 /// Fills an empty handle with the agreements of an access point, by increasing addresses and TIDs.
@@ -143,14 +134,7 @@ pub extern "C" fn apd_c_link_agreements(
     ensures link { held link.new ≡ held link.old }
     ensures number { IsListNumber (held link.old) (held agreements.old) result }
 {
-    if let Some(content) = agreements.take(alloc) {
-        agreements.put(content);
-        return NOT_EMPTY;
-    }
-    match agreements_at(alloc, link) {
-        Err(number) => number,
-        Ok(rows) => agreements.fill(alloc, Content::Agreements(rows)).number,
-    }
+    fill_listed(alloc, link, agreements, Rows::Agreements)
 }
 
 /// The stations that a content is; none if it is something else.
