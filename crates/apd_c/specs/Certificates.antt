@@ -1,5 +1,5 @@
 -- Certificates, as C sees them.
-use Rattle.std.specs.Prelude.{◌≡◌, ◌⊎◌, ℕ, List, [], map, Option, Some, None}
+use Rattle.std.specs.Prelude.{◌≡◌, ◌⊎◌, ℕ, List, [], map, Option, Some}
 use Rattle.bpf_regions.specs.declared.hooks.Hook.{Hook}
 use Rattle.bpf_regions.specs.declared.maps.Shape.{Shape}
 use Rattle.bpf_regions.specs.Hooks.{number_of}
