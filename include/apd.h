@@ -255,7 +255,7 @@ APD_INLINE apd_answer apd_verify_within(apd_handle *code, uint32_t hook, const u
 
 /* The same within a limit of work, too, which bounds what a stranger's program costs more closely than states do. A unit is
    a part of a state that is examined, made again, or compared with a finished one: a register or a slot of the stack. A
-   program that needs more is refused with 36. 0 is for no limit. */
+   program that needs more is refused with 36; a budget is at most an 80th of the limit. 0 is for no limit. */
 APD_INLINE apd_answer apd_verify_limited(apd_handle *code, uint32_t hook, const uint8_t *bytes, size_t length,
                                          const apd_shape *shapes, size_t maps, uint32_t states, uint64_t work)
 {
