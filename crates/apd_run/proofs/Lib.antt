@@ -5,6 +5,7 @@ pub mod Served
 pub mod Keeping
 pub mod Operated
 pub mod NewRuns
+pub mod Captured
 pub mod Loading
 pub mod OneByOne
 pub mod Counted

@@ -7,6 +7,7 @@ pub mod Listing
 pub mod Work
 pub mod Hands
 pub mod NewRuns
+pub mod Captured
 pub mod Dealing
 pub mod Statuses
 pub use Rattle.ap_shards.specs.Opening

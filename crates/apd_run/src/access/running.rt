@@ -10,6 +10,7 @@ ghost use Rattle.ap_shards.specs.Opening.{AreNamed};
 ghost use Rattle.ap_shards.specs.Pages.{HasPages};
 ghost use Rattle.apd_run.specs.Dealing.{AreHands, IsNewOperator, IsNewWorker};
 ghost use Rattle.apd_run.specs.Hands.{crew_of};
+ghost use Rattle.apd_driver.specs.Captures.{KeepsWhole};
 ghost use Rattle.apd_driver.specs.Shows.{IsBroken};
 ghost use Rattle.apd_run.specs.NewRuns.{IsNewCrew, RunsNew};
 
@@ -175,6 +176,9 @@ where
     requires no_loads { equipment.loads.loads ≡ [] }
     ensures runs { RunsNew (F.held supplies.entry.files.now) supplies.entry.limits
         (P.manner writer) (S.script lines) (P.contents writer) (P.contents result.0) result.1 }
+    ensures keeps { result.1 < 2 → KeepsWhole (P.manner writer).form (S.script lines)
+        (P.contents writer) (P.contents result.0)
+        (P.recorded writer) (P.recorded result.0) }
 {
     let Supplies {
         files,
@@ -230,6 +234,9 @@ where
     requires shares { B.shares ≡ parts_in_all }
     ensures runs { RunsNew (F.held supplies.entry.files.now) supplies.entry.limits
         (P.manner writer) (S.script lines) (P.contents writer) (P.contents result.0) result.1 }
+    ensures keeps { result.1 < 2 → KeepsWhole (P.manner writer).form (S.script lines)
+        (P.contents writer) (P.contents result.0)
+        (P.recorded writer) (P.recorded result.0) }
 {
     let Opening {
         settings,

@@ -1,7 +1,10 @@
 //! The commands `apd run` and `apd live`.
 
-ghost use Rattle.std.specs.Prelude.{◌≡◌, ◌≤◌, None, IfErr};
+ghost use Rattle.std.specs.Prelude.{◌≡◌, ◌<◌, ◌≤◌, None, IfErr, OnOk};
+ghost use Rattle.apd_driver.specs.Captures.{KeepsWhole};
+ghost use Rattle.apd_driver.specs.Capturing.{AreKnown, Begins};
 ghost use Rattle.apd_driver.specs.Shows.{IsBroken};
+ghost use Rattle.apd_run.specs.Captured.{KeepsCapture, KeepsScript};
 ghost use Rattle.apd_run.specs.NewRuns.{RunsNew, RunsScript};
 
 use crate::access::{NewShards, Opening, Supplies, run_live};
@@ -96,6 +99,9 @@ where
     ensures runs { RunsNew (F.held supplies.entry.files.now) supplies.entry.limits
         (P.manner writer) (L.script task.lines)
         (P.contents writer) (P.contents result.0) result.1 }
+    ensures keeps { result.1 < 2 → KeepsWhole (P.manner writer).form (L.script task.lines)
+        (P.contents writer) (P.contents result.0)
+        (P.recorded writer) (P.recorded result.0) }
 {
     let Task {
         configuration,
@@ -121,6 +127,8 @@ fn begun<P: Recording, E: Write>(
 ) -> Result<(), u8>
     ensures output { P.contents out.new ≡ P.contents out.old }
     ensures broken { IfErr result IsBroken }
+    ensures heading { OnOk result (AreKnown P.recorded
+        → Begins (P.recorded out.old) (P.recorded out.new)) }
 {
     match out.begin() {
         Ok(()) => return Ok(()),
@@ -148,6 +156,9 @@ where
     ensures runs { RunsNew (F.held supplies.entry.files.now) supplies.entry.limits
         words.entry.manner (L.script task.lines)
         (P.contents out) (P.contents result.out) result.status }
+    ensures keeps { result.status < 2 → KeepsWhole words.entry.manner.form (L.script task.lines)
+        (P.contents out) (P.contents result.out)
+        (P.recorded out) (P.recorded result.out) }
 {
     let RunWords {
         script,
@@ -206,6 +217,10 @@ where
     ensures runs { RunsScript (F.held supplies.entry.files.now) supplies.entry.limits
         words.entry.script.now words.entry.manner
         (P.contents out) (P.contents result.0) result.1 }
+    ensures keeps { result.1 < 2 → KeepsScript (F.held supplies.entry.files.now)
+        words.entry.script.now (AreKnown P.recorded) words.entry.manner.form
+        (P.contents out) (P.contents result.0)
+        (P.recorded out) (P.recorded result.0) }
 {
     let mut out = out;
     let mut supplies = supplies;
@@ -273,6 +288,9 @@ where
     E: Write,
     ensures runs { RunsNew (F.held supplies.entry.files.now) supplies.entry.limits
         words.entry.manner None (P.contents streams.out) (P.contents result.0) result.1 }
+    ensures keeps { result.1 < 2 → KeepsCapture (AreKnown P.recorded) words.entry.manner.form None
+        (P.contents streams.out) (P.contents result.0)
+        (P.recorded streams.out) (P.recorded result.0) }
 {
     let Streams { input, mut out, .. } = streams;
     let mut supplies = supplies;

@@ -1,9 +1,17 @@
 use Rattle.apd_run.specs.NewRuns.{NotBegun}
+use Rattle.apd_run.proofs.Captured.{if_low}
 use Rattle.apd_run.proofs.access.running.run_live.Goals as goal
 
 pub returns-in_default : goal.returns-in_default
-returns-in_default g c = record { runs = NotBegun _ c.without_memory.ensures.same c.without_memory.ensures.broken }
+returns-in_default g c =
+    record {
+      runs = NotBegun _ c.without_memory.ensures.same c.without_memory.ensures.broken;
+      keeps = if_low _ c.without_memory.ensures.broken;
+    }
 
 pub returns-in_default-deal : goal.returns-in_default-deal
 returns-in_default-deal g c =
-    record { runs = NotBegun _ c.without_memory-in_default-deal.ensures.same c.without_memory-in_default-deal.ensures.broken }
+    record {
+      runs = NotBegun _ c.without_memory-in_default-deal.ensures.same c.without_memory-in_default-deal.ensures.broken;
+      keeps = if_low _ c.without_memory-in_default-deal.ensures.broken;
+    }
