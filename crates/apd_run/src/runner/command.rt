@@ -10,7 +10,7 @@ ghost use Rattle.apd_run.specs.NewRuns.{RunsNew, RunsScript};
 use crate::access::{NewShards, Opening, Supplies, run_live};
 use crate::progress::Watcher;
 use crate::runner::fault::{
-    RunFault, complain, of_script, say_if_group, say_why, say_why_live, uncaptured, unreadable,
+    Origin, RunFault, complain, of_script, say_if_group, say_why, uncaptured, unreadable,
 };
 use crate::runner::setup::{configuration, read, settings};
 use apd_config::Configuration;
@@ -50,19 +50,12 @@ pub struct Streams<S: Drop, P: Drop> {
     pub shown: bool,
 }
 
-/// The configuration of an access point, and the lines that it does.
+/// The configuration of an access point, the lines that it does, and where they come from.
 #[derive(Drop)]
 struct Task<L: Drop> {
     configuration: Configuration,
     lines: L,
-}
-
-/// The end of a run: its writer, its exit status, and whether it broke off since nobody reads any more what it writes.
-#[derive(Drop)]
-struct Ended<P: Drop> {
-    out: P,
-    status: u8,
-    reader_left: bool,
+    origin: Origin,
 }
 
 /// The number of parts of each ledger.
@@ -106,6 +99,7 @@ where
     let Task {
         configuration,
         lines,
+        ..
     } = task;
     let Ok(shapes) = configuration.maps.clone() else {
         return (writer, 3);
@@ -131,12 +125,13 @@ fn begun<P: Recording, E: Write>(
         → Begins (P.recorded out.old) (P.recorded out.new)) }
 {
     match out.begin() {
-        Ok(()) => return Ok(()),
-        Err(why) => return Err(complain(alloc, &uncaptured(alloc, path, why), err)),
+        Ok(()) => Ok(()),
+        Err(why) => Err(complain(alloc, &uncaptured(alloc, path, why), err)),
     }
 }
 
-/// Runs lines on a new access point. Messages on `err` say what a hook keeps after a refused load.
+/// Runs lines on a new access point. Messages on `err` say what a hook keeps after a refused load, and what a status
+/// other than 0 means, unless nobody reads any more what is written.
 fn run_told<R, F, G, L, P, E>(
     rt: &R,
     alloc: Global,
@@ -145,7 +140,7 @@ fn run_told<R, F, G, L, P, E>(
     supplies: Supplies<'_, F, G>,
     out: P,
     err: &mut E,
-) -> Ended<P>
+) -> (P, u8)
 where
     R: Threads + Wait + Sync,
     F: Files,
@@ -155,10 +150,10 @@ where
     E: Write,
     ensures runs { RunsNew (F.held supplies.entry.files.now) supplies.entry.limits
         words.entry.manner (L.script task.lines)
-        (P.contents out) (P.contents result.out) result.status }
-    ensures keeps { result.status < 2 → KeepsWhole words.entry.manner.form (L.script task.lines)
-        (P.contents out) (P.contents result.out)
-        (P.recorded out) (P.recorded result.out) }
+        (P.contents out) (P.contents result.0) result.1 }
+    ensures keeps { result.1 < 2 → KeepsWhole words.entry.manner.form (L.script task.lines)
+        (P.contents out) (P.contents result.0)
+        (P.recorded out) (P.recorded result.0) }
 {
     let RunWords {
         script,
@@ -168,12 +163,10 @@ where
         prompts,
         ..
     } = words;
+    let origin = task.origin;
     let Ok(notes) = Notes::new(alloc, script, &task.configuration.maps, verbose) else {
-        return Ended {
-            out,
-            status: 3,
-            reader_left: false,
-        };
+        say_why(3, origin, err);
+        return (out, 3);
     };
     let console = Terminal {
         out,
@@ -187,11 +180,11 @@ where
     let workers = workers.max(1).min(8);
     let (console, status) = run_task(rt, alloc, task, workers, supplies, console);
     let reader_left = console.reader_left;
-    Ended {
-        out: console.end(),
-        status,
-        reader_left,
+    let out = console.end();
+    if !reader_left {
+        say_why(status, origin, err);
     }
+    (out, status)
 }
 
 /// Runs the script in a file: the operator follows its lines one after another, each once, or a prefix of them if the run
@@ -250,17 +243,9 @@ where
     let task = Task {
         configuration,
         lines,
+        origin: Origin::Script,
     };
-    let ended = run_told(rt, alloc, words, task, supplies, out, err);
-    let Ended {
-        out,
-        status,
-        reader_left,
-    } = ended;
-    if !reader_left {
-        say_why(status, err);
-    }
-    (out, status)
+    run_told(rt, alloc, words, task, supplies, out, err)
 }
 
 /// Runs the lines of an input as they come, and returns `out` and the exit status. Whenever what was read of the input
@@ -313,17 +298,9 @@ where
     let task = Task {
         configuration,
         lines,
+        origin: Origin::Input,
     };
-    let ended = run_told(rt, alloc, words, task, supplies, out, err);
-    let Ended {
-        out,
-        status,
-        reader_left,
-    } = ended;
-    if !reader_left {
-        say_why_live(status, err);
-    }
-    (out, status)
+    run_told(rt, alloc, words, task, supplies, out, err)
 }
 
 /// The configuration of `apd live`, which takes standard input for its lines: no other file may be that.

@@ -188,28 +188,22 @@ pub(crate) fn complain<W: Write>(alloc: Global, fault: &RunFault, err: &mut W) -
     status_of(fault)
 }
 
-/// Writes what the status of a run of lines as they come means, if it has begun, unless the status is 0.
-pub(crate) fn say_why_live<W: Write>(status: u8, err: &mut W) {
-    match status {
-        0 => {}
-        1 => say(
-            "apd: a line was malformed, or was refused (--strict)\n",
-            err,
-        ),
-        2 => say("apd: cannot read the input, or cannot write\n", err),
-        _ => say("apd: out of memory\n", err),
-    }
+/// Where the lines of a run come from.
+#[derive(Clone, Copy)]
+pub(crate) enum Origin {
+    Script,
+    Input,
 }
 
 /// Writes what the status of a run that has begun means, unless it is 0.
-pub(crate) fn say_why<W: Write>(status: u8, err: &mut W) {
-    match status {
-        0 => {}
-        1 => say(
-            "apd: a line was refused, and the run ended with it (--strict)\n",
-            err,
-        ),
-        2 => say("apd: cannot write\n", err),
-        _ => say("apd: out of memory\n", err),
-    }
+pub(crate) fn say_why<W: Write>(status: u8, origin: Origin, err: &mut W) {
+    let text = match (status, origin) {
+        (0, _) => return,
+        (1, Origin::Script) => "apd: a line was refused, and the run ended with it (--strict)\n",
+        (1, Origin::Input) => "apd: a line was malformed, or was refused (--strict)\n",
+        (2, Origin::Script) => "apd: cannot write\n",
+        (2, Origin::Input) => "apd: cannot read the input, or cannot write\n",
+        _ => "apd: out of memory\n",
+    };
+    say(text, err);
 }

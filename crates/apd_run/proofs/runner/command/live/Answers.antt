@@ -18,6 +18,6 @@ returns-in-Err-begun g c =
 pub returns : goal.returns
 returns g c =
     record {
-      runs = runs_same _ c.live_configuration.ensures.same c.begun.ensures.output c.run_told-ended.ensures.runs;
-      keeps = λ low. keeps_capture c.begun.ensures.output c.in_default-begun.ensures.heading (c.run_told-ended.ensures.keeps low);
+      runs = runs_same _ c.live_configuration.ensures.same c.begun.ensures.output c.run_told.ensures.runs;
+      keeps = λ low. keeps_capture c.begun.ensures.output c.in_default-begun.ensures.heading (c.run_told.ensures.keeps low);
     }
