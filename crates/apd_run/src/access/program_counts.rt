@@ -66,14 +66,10 @@ fn add_row(
     ensures added { OnOk result
         (map row_shown rows.new.items ≡ map row_shown rows.old.items ++ row_if hook counts.now) }
 {
-    match counts {
-        Some(counts) => {
-            let row = row_of(alloc, hook, counts)?;
-            rows.push(row)?;
-            return Ok(());
-        }
-        None => return Ok(()),
+    if let Some(counts) = counts {
+        rows.push(row_of(alloc, hook, counts)?)?;
     }
+    Ok(())
 }
 
 impl ProgramCounts {

@@ -36,10 +36,10 @@ fn told_of(event: &Event, fate: Fate) -> Option<Told>
     match fate {
         Fate::Decided { outs, dropped } => {
             let dropped = dropped_in(event, dropped);
-            return Some(Told::Handled { outs, dropped });
+            Some(Told::Handled { outs, dropped })
         }
-        Fate::Refused => return Some(Told::Memory),
-        Fate::NotHandled => return None,
+        Fate::Refused => Some(Told::Memory),
+        Fate::NotHandled => None,
     }
 }
 
@@ -49,17 +49,14 @@ fn report(all: &mut Vec<Report>, tagged: Tagged) -> Result<(), AllocError>
     ensures { OnOk result (all.new.items ≡ all.old.items ++ reports_of tagged) }
 {
     let Tagged { item, fate } = tagged;
-    match told_of(&item.event, fate) {
-        Some(told) => {
-            all.push(Report {
-                line: item.call,
-                shard: item.shard,
-                told,
-            })?;
-            return Ok(());
-        }
-        None => return Ok(()),
+    if let Some(told) = told_of(&item.event, fate) {
+        all.push(Report {
+            line: item.call,
+            shard: item.shard,
+            told,
+        })?;
     }
+    Ok(())
 }
 
 /// Appends the reports on a worker's list of events, in order.
