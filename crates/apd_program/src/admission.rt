@@ -38,12 +38,12 @@ fn admit_program(
     ensures memory { IfErr result (λ e. e ≡ ProgramFault.NoMemory) }
 {
     match admit(alloc, program, terms, reason) {
-        Ok(accepted) => return Ok(Admission::Admitted(accepted)),
+        Ok(accepted) => Ok(Admission::Admitted(accepted)),
         Err(refusal) => {
             let answer = refused(refusal);
             reason.points_at(alloc, code, &answer);
             let answer = answer?;
-            return Ok(Admission::Answered(answer));
+            Ok(Admission::Answered(answer))
         }
     }
 }
@@ -63,10 +63,10 @@ pub(crate) fn admit_code(
 {
     let shapes = copied_shapes(alloc, shapes)?;
     match decode(alloc, code, shapes) {
-        Ok(program) => return admit_program(alloc, program, code, terms, reason),
+        Ok(program) => admit_program(alloc, program, code, terms, reason),
         Err(fault) => {
             let answer = undecoded(fault)?;
-            return Ok(Admission::Answered(answer));
+            Ok(Admission::Answered(answer))
         }
     }
 }

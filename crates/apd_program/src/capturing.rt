@@ -110,7 +110,7 @@ pub(crate) fn read_packets<'a>(
     ensures fault { IfErr result (IsMemoryOr (IsNoCapture file.entry.now)) }
 {
     match read_capture(alloc, file) {
-        Ok(packets) => return Ok(Captured { packets, cut: None }),
-        Err(fault) => return read_front(alloc, path, file, fault),
+        Ok(packets) => Ok(Captured { packets, cut: None }),
+        Err(fault) => read_front(alloc, path, file, fault),
     }
 }

@@ -160,9 +160,9 @@ fn examine(
     match admission {
         Admission::Admitted(accepted) => {
             let text = report_text(alloc, accepted, exam.replay, exam.report)?;
-            return Ok(verdicts(text, exam.cut));
+            Ok(verdicts(text, exam.cut))
         }
-        Admission::Answered(answer) => return Ok(answer),
+        Admission::Answered(answer) => Ok(answer),
     }
 }
 
@@ -183,9 +183,9 @@ fn contrast(
     match admission {
         Admission::Admitted(tried) => {
             let found = compare(alloc, in_force, tried, exam.replay, is_json(exam.report))?;
-            return Ok(differences(found, exam.cut));
+            Ok(differences(found, exam.cut))
         }
-        Admission::Answered(answer) => return Ok(answer),
+        Admission::Answered(answer) => Ok(answer),
     }
 }
 
@@ -205,10 +205,10 @@ fn examine_against(
 {
     let admission = admit_code(alloc, in_force, exam.shapes, exam.terms, reason)?;
     match admission {
-        Admission::Admitted(in_force) => return contrast(alloc, in_force, code, exam, reason),
+        Admission::Admitted(in_force) => contrast(alloc, in_force, code, exam, reason),
         Admission::Answered(answer) => {
             reason.blames_code_in_force(alloc);
-            return Ok(answer);
+            Ok(answer)
         }
     }
 }
@@ -227,8 +227,8 @@ fn judge(
     ensures memory { IfErr result (λ e. e ≡ ProgramFault.NoMemory) }
 {
     match in_force {
-        Some(in_force) => return examine_against(alloc, in_force.as_slice(), code, exam, reason),
-        None => return examine(alloc, code, exam, reason),
+        Some(in_force) => examine_against(alloc, in_force.as_slice(), code, exam, reason),
+        None => examine(alloc, code, exam, reason),
     }
 }
 
@@ -246,9 +246,9 @@ fn code_if_any<F: Files>(
     match path {
         Some(path) => {
             let code = code(alloc, path, files)?;
-            return Ok(Some(code));
+            Ok(Some(code))
         }
-        None => return Ok(None),
+        None => Ok(None),
     }
 }
 
@@ -331,7 +331,7 @@ pub(crate) fn evaluate<F: Files>(
         (IsMemoryOr (HasNoAnswer (F.held files.old) (asked_evaluation evaluation.entry))) }
 {
     match evaluation.subject.source.config {
-        Some(config) => return evaluated(alloc, config, evaluation, files, reason),
-        None => return Err(ProgramFault::NoConfig),
+        Some(config) => evaluated(alloc, config, evaluation, files, reason),
+        None => Err(ProgramFault::NoConfig),
     }
 }

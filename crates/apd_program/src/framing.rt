@@ -47,8 +47,8 @@ fn address(alloc: Global, word: &str) -> Result<Bssid, ProgramFault>
         Err(_) => return Err(ProgramFault::NoAddress),
     };
     match bytes.as_slice() {
-        [a, b, c, d, e, f] => return Ok([*a, *b, *c, *d, *e, *f]),
-        _ => return Err(ProgramFault::NoAddress),
+        [a, b, c, d, e, f] => Ok([*a, *b, *c, *d, *e, *f]),
+        _ => Err(ProgramFault::NoAddress),
     }
 }
 
@@ -64,9 +64,9 @@ fn chosen(alloc: Global, asked: Conversion<'_>) -> Result<Choice, ProgramFault>
     match asked.bssid {
         Some(word) => {
             let address = address(alloc, word)?;
-            return Ok(Choice::Given(address));
+            Ok(Choice::Given(address))
         }
-        None => return Ok(Choice::Only),
+        None => Ok(Choice::Only),
     }
 }
 
@@ -82,12 +82,12 @@ fn bssid(
     ensures unclear { IfErr result (IsMemoryOr (IsUnclear choice (map seen_of packets.now))) }
 {
     match choice {
-        Choice::All => return Ok(None),
-        Choice::Given(bssid) => return Ok(Some(bssid)),
+        Choice::All => Ok(None),
+        Choice::Given(bssid) => Ok(Some(bssid)),
         Choice::Only => match access_points(packets) {
-            Named::NoOne => return Ok(None),
-            Named::One(bssid) => return Ok(Some(bssid)),
-            Named::Several => return Err(of_several(alloc, path)),
+            Named::NoOne => Ok(None),
+            Named::One(bssid) => Ok(Some(bssid)),
+            Named::Several => Err(of_several(alloc, path)),
         },
     }
 }
@@ -121,8 +121,8 @@ fn convert(alloc: Global, path: &str, plan: Plan, file: &[u8]) -> Result<Answer,
     let Captured { packets, cut } = read_packets(alloc, path, file)?;
     let text = script(alloc, path, plan, packets.as_slice())?;
     match cut {
-        None => return Ok(Answer::Script(text)),
-        Some(fault) => return Ok(Answer::CutScript { text, fault }),
+        None => Ok(Answer::Script(text)),
+        Some(fault) => Ok(Answer::CutScript { text, fault }),
     }
 }
 

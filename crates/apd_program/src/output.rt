@@ -47,12 +47,12 @@ pub(crate) fn deliver<F: Files, W: Write>(
     };
     match file_for(output, is_output) {
         Some(path) => match files.save(path, text.as_bytes()) {
-            Ok(()) => return Ok(status),
-            Err(Unwritten(why)) => return Err(Undelivered::Unsaved(why)),
+            Ok(()) => Ok(status),
+            Err(Unwritten(why)) => Err(Undelivered::Unsaved(why)),
         },
         None => match write_whole(out, text.as_bytes()) {
-            Ok(()) => return Ok(status),
-            Err(Unwritten(why)) => return Err(Undelivered::Unwritten(why)),
+            Ok(()) => Ok(status),
+            Err(Unwritten(why)) => Err(Undelivered::Unwritten(why)),
         },
     }
 }
@@ -68,12 +68,12 @@ pub(crate) fn conclude<E: Write>(
     ensures is { result ≡ status_after delivered }
 {
     match delivered {
-        Ok(status) => return status,
+        Ok(status) => status,
         Err(Undelivered::NoMemory) => {
             say(NO_MEMORY, err);
-            return 3;
+            3
         }
-        Err(Undelivered::Unwritten(why)) => return unwritten(alloc, why, err),
-        Err(Undelivered::Unsaved(why)) => return unsaved(alloc, output.unwrap_or("-"), why, err),
+        Err(Undelivered::Unwritten(why)) => unwritten(alloc, why, err),
+        Err(Undelivered::Unsaved(why)) => unsaved(alloc, output.unwrap_or("-"), why, err),
     }
 }

@@ -78,13 +78,13 @@ pub fn complain<W: Write>(alloc: Global, fault: &ProgramFault, err: &mut W) -> u
     match fault {
         ProgramFault::NoMemory => {
             say(NO_MEMORY, err);
-            return 3;
+            3
         }
         _ => {
             if let Ok(text) = format!(in alloc; "{fault}\n") {
                 say(text.as_str(), err);
             }
-            return 2;
+            2
         }
     }
 }

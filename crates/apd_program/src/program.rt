@@ -121,9 +121,9 @@ pub fn respond<C: Clock, F: Files, O: Write, E: Write>(
             say_if_any(&sentence, err);
             say_if_any(&hint, err);
             say_if_any(reason.text(), err);
-            return status;
+            status
         }
-        Err(fault) => return complain(alloc, &fault, err),
+        Err(fault) => complain(alloc, &fault, err),
     }
 }
 

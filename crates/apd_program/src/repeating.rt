@@ -45,9 +45,9 @@ fn examine<C: Clock>(
     match admission {
         Admission::Admitted(accepted) => {
             let text = repeated_text(alloc, accepted, exam.replay, rounds, is_json(exam.report))?;
-            return Ok(verdicts(text, exam.cut));
+            Ok(verdicts(text, exam.cut))
         }
-        Admission::Answered(answer) => return Ok(answer),
+        Admission::Answered(answer) => Ok(answer),
     }
 }
 
@@ -119,8 +119,8 @@ pub(crate) fn repeat<C: Clock, F: Files>(
     match repetition.evaluation.subject.source.config {
         Some(config) => {
             let timed = Timed { repetition, clock };
-            return repeated(alloc, config, &timed, files, reason);
+            repeated(alloc, config, &timed, files, reason)
         }
-        None => return Err(ProgramFault::NoConfig),
+        None => Err(ProgramFault::NoConfig),
     }
 }

@@ -111,8 +111,8 @@ pub fn judge_cases<F: Files, O: Write, E: Write>(
     match test(alloc, paths, files) {
         Ok(answer) => {
             let delivered = deliver(alloc, answer, None, files, out);
-            return conclude(alloc, delivered, None, err);
+            conclude(alloc, delivered, None, err)
         }
-        Err(fault) => return complain(alloc, &fault, err),
+        Err(fault) => complain(alloc, &fault, err),
     }
 }

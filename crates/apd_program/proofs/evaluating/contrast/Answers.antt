@@ -7,8 +7,8 @@ use Rattle.apd_program.specs.declared.admission.Admission.{Admission}
 use Rattle.apd_program.specs.Verifying.{within}
 use Rattle.apd_program.proofs.evaluating.contrast.Goals as goal
 
-pub returns-in-Admitted-clause-verdicts : goal.returns-in-Admitted-clause-verdicts
-returns-in-Admitted-clause-verdicts c =
+pub returns-in_ok-found-in-Admitted-clause-verdicts : goal.returns-in_ok-found-in-Admitted-clause-verdicts
+returns-in_ok-found-in-Admitted-clause-verdicts c =
     let found = c.in_ok-found-in-Admitted.found in
     let P : Admission → Type 0 = IsAdmission (within c.args.exam.terms.states c.args.exam.terms.work) c.args.exam.terms.hook c.args.code.now c.args.exam.shapes.now in
     let Q : Bool → Type 0 = λ json. IsComparison c.args.in_force c.in-Admitted.tried c.args.exam.replay.draw c.args.exam.replay.link.now (map seen_of c.args.exam.replay.packets.now) json

@@ -17,8 +17,8 @@ returns-in_err-address-in-Some-clause-fault c = λ files.
     let bad : IfErr c.from_residual.result (IsMemoryOr ((a : List ℕ) → IsAddress c.in-Some.word.now a → ⊥)) = search rules in
     IfErr-weaker c.from_residual.result _ _ (λ e h. no_address files c.args.asked.capture.now c.args.asked.bssid c.args.asked.all c.in-Some.word e c.in-Some.is h) bad
 
-pub returns-in-Some-clause-choice : goal.returns-in-Some-clause-choice
-returns-in-Some-clause-choice c = chosen_given c.args.asked.bssid c.args.asked.all c.in-Some.word _ c.in-Some.is c.if-asked.false c.in_ok-address-in-Some.ensures.address
+pub returns-in_ok-address-in-Some-clause-choice : goal.returns-in_ok-address-in-Some-clause-choice
+returns-in_ok-address-in-Some-clause-choice c = chosen_given c.args.asked.bssid c.args.asked.all c.in-Some.word _ c.in-Some.is c.if-asked.false c.in_ok-address-in-Some.ensures.address
 
 pub returns-in-None-clause-choice : goal.returns-in-None-clause-choice
 returns-in-None-clause-choice c = chosen_only c.args.asked.bssid c.args.asked.all c.in-None.is c.if-asked.false

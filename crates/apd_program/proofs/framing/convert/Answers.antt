@@ -28,8 +28,8 @@ returns-in-None-clause-script c =
       is = rw c.as_slice.ensures.value at c.in_ok-text.ensures.script;
     }
 
-pub returns-in-Some-clause-script : goal.returns-in-Some-clause-script
-returns-in-Some-clause-script c =
+pub returns-clause-script : goal.returns-clause-script
+returns-clause-script c =
     let P : Option CaptureFault → Type 0 = λ cut. IsCaptured c.args.file.now cut (map seen_of c.in_ok-packets.field-0.packets.items) in
     record {
       packets = map seen_of c.in_ok-packets.field-0.packets.items;

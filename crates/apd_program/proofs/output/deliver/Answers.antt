@@ -17,11 +17,11 @@ returns-in-Ok-save-clause-saved g c =
     OneFile c.in-Some.path.now (is_named _ _ _ named) (goes _ _ _ named)
     (rw c.in-Ok.ensures.is at (rw c.as_bytes.ensures.value at c.in-Ok-save.ensures.saved))
 
-pub returns-in-Err-clause-out : goal.returns-in-Err-clause-out
-returns-in-Err-clause-out g c = Unstored _ (λ e. cc) (for_file _ _ _ (rw c.is_output-is_output.ensures.is at c.in-Some.ensures.is)) (Keeps-same _)
+pub returns-in-Some-clause-out : goal.returns-in-Some-clause-out
+returns-in-Some-clause-out g c = Unstored _ (λ e. cc) (for_file _ _ _ (rw c.is_output-is_output.ensures.is at c.in-Some.ensures.is)) (Keeps-same _)
 
-pub returns-in-Err-clause-saved : goal.returns-in-Err-clause-saved
-returns-in-Err-clause-saved g c = BrokenFile _ refl (for_file _ _ _ (rw c.is_output-is_output.ensures.is at c.in-Some.ensures.is))
+pub returns-in-Some-clause-saved : goal.returns-in-Some-clause-saved
+returns-in-Some-clause-saved g c = BrokenFile _ refl (for_file _ _ _ (rw c.is_output-is_output.ensures.is at c.in-Some.ensures.is))
 
 pub returns-in-Ok-write_whole-clause-out : goal.returns-in-Ok-write_whole-clause-out
 returns-in-Ok-write_whole-clause-out g c =
@@ -29,6 +29,6 @@ returns-in-Ok-write_whole-clause-out g c =
     (Printed (goes_out _ _ (rw c.is_output-is_output.ensures.is at c.in-None.ensures.is))
     (rw c.in-Ok.ensures.is at (rw c.as_bytes-in-None.ensures.value at c.in-Ok-write_whole.ensures.whole)))
 
-pub returns-in-Err-write_whole-clause-out : goal.returns-in-Err-write_whole-clause-out
-returns-in-Err-write_whole-clause-out g c =
+pub returns-clause-out : goal.returns-clause-out
+returns-clause-out g c =
     Begun _ (λ e. cc) (rw c.in-Ok.ensures.is at (rw c.as_bytes-in-None.ensures.value at c.write_whole.ensures.beginning))
